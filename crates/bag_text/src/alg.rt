@@ -1,0 +1,50 @@
+//! The checksum algorithms.
+ghost use Rattle.std.specs.Prelude.{◌≡◌};
+ghost use Rattle.bag_text.specs.Alg as spec;
+
+/// A checksum algorithm (RFC 8493, 2.4).
+#[derive(Clone, Copy, Debug, PartialEq, Eq, PartialOrd, Ord)]
+pub enum Alg {
+    Md5,
+    Sha1,
+    Sha256,
+    Sha512,
+}
+
+impl Alg {
+    /// The name in the names of manifests: ASCII, in lower case, without a hyphen.
+    pub fn name(self) -> &'static str
+        ensures { result.now ≡ spec.name self }
+    {
+        match self {
+            Alg::Md5 => "md5",
+            Alg::Sha1 => "sha1",
+            Alg::Sha256 => "sha256",
+            Alg::Sha512 => "sha512",
+        }
+    }
+
+    /// How many hex digits a digest has.
+    pub fn hex_len(self) -> usize
+        ensures { result ≡ spec.hex_len self }
+    {
+        match self {
+            Alg::Md5 => 32,
+            Alg::Sha1 => 40,
+            Alg::Sha256 => 64,
+            Alg::Sha512 => 128,
+        }
+    }
+
+    /// The place in the order of algorithms, from 1.
+    pub fn rank(self) -> u8
+        ensures { result ≡ spec.rank self }
+    {
+        match self {
+            Alg::Md5 => 1,
+            Alg::Sha1 => 2,
+            Alg::Sha256 => 3,
+            Alg::Sha512 => 4,
+        }
+    }
+}
