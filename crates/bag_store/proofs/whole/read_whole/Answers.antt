@@ -1,0 +1,38 @@
+use Rattle.std.proofs.Common.{rules, inr, ◌∙◌, ◌≡◌, ◌++◌, take, arith, vec_len, sym, subst, IsTrue, List, ℕ, Option}
+use Rattle.std.proofs.lemmas.Grind.{common_steps}
+use Rattle.bag_store.specs.Whole.{HasRead}
+use Rattle.bag_store.proofs.Reading.{read_all, read_more}
+use Rattle.bag_store.proofs.whole.read_whole.Goals as goal
+
+pub loop-bytes-preserved : goal.loop-bytes-preserved
+loop-bytes-preserved g c = record {
+  keeps = search rules;
+  opened = c.read.ensures.openings ∙ c.loop-bytes.invariant.opened;
+  within = grind (arith, common_steps);
+  honest = λ h.
+    let still : IsTrue (g.T.Tree.state c.loop-bytes.tree).honest = subst IsTrue (sym c.loop-bytes.invariant.keeps.honest) h in
+    rw c.in_ok-extend_from_slice.ensures.items (read_more _ _ _ _ _ _ (c.loop-bytes.invariant.honest h) (c.in_ok-count.ensures.honest still));
+}
+
+pub returns-then-len-entry-clause-whole : goal.returns-then-len-entry-clause-whole
+returns-then-len-entry-clause-whole g c h =
+    let still : IsTrue (g.T.Tree.state c.loop-bytes.tree).honest = subst IsTrue (sym c.loop-bytes.invariant.keeps.honest) h in
+    read_all _ _ _ _ _ (c.loop-bytes.invariant.honest h) (rw c.if-count-eq0.true at (c.in_ok-count.ensures.honest still))
+
+pub returns-in_err-count-clause-opens : goal.returns-in_err-count-clause-opens
+returns-in_err-count-clause-opens g c = inr (c.read.ensures.openings ∙ c.loop-bytes.invariant.opened)
+
+pub returns-then-entry-len-clause-opens : goal.returns-then-entry-len-clause-opens
+returns-then-entry-len-clause-opens g c = inr (c.read.ensures.openings ∙ c.loop-bytes.invariant.opened)
+
+pub returns-in_err-extend_from_slice-clause-opens : goal.returns-in_err-extend_from_slice-clause-opens
+returns-in_err-extend_from_slice-clause-opens g c = inr (c.read.ensures.openings ∙ c.loop-bytes.invariant.opened)
+
+pub returns-then-len-entry-clause-opens : goal.returns-then-len-entry-clause-opens
+returns-then-len-entry-clause-opens g c = inr (c.read.ensures.openings ∙ c.loop-bytes.invariant.opened)
+
+pub returns-else-len-entry-clause-opens : goal.returns-else-len-entry-clause-opens
+returns-else-len-entry-clause-opens g c = inr (c.read.ensures.openings ∙ c.loop-bytes.invariant.opened)
+
+pub returns-then-len-entry-clause-opened : goal.returns-then-len-entry-clause-opened
+returns-then-len-entry-clause-opened g c = c.read.ensures.openings ∙ c.loop-bytes.invariant.opened

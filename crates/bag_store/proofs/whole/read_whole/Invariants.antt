@@ -1,0 +1,18 @@
+use Rattle.std.proofs.Common.{◌≡◌, ◌∷◌, ◌++◌, [], Some, IsTrue, vec_len, List, ℕ, ◌-◌, ◌≤◌}
+use Rattle.bag_store.specs.Bag.{file}
+use Rattle.bag_store.specs.Tree.{Keeps}
+use Rattle.bag_store.specs.Whole.{HasRead}
+use Rattle.bag_store.proofs.whole.read_whole.Given as goal
+
+abbrev pub invariant-loop-bytes : goal.invariant-loop-bytes
+invariant-loop-bytes g l =
+    let state = g.T.Tree.state in
+    record {
+      keeps : Keeps (state l.fn.tree) (state l.tree);
+      opened : (state l.tree).openings ≡ (state l.fn.tree).openings ++ l.entry.path ∷ [];
+      within : vec_len l.bytes ≤ l.entry.size;
+      honest : IsTrue (state l.fn.tree).honest → HasRead (file (state l.fn.tree).bag l.entry.path) l.bytes.items (state l.tree).rest;
+    }
+
+abbrev pub decreases-loop-bytes : goal.decreases-loop-bytes
+decreases-loop-bytes g l = l.entry.size - vec_len l.bytes

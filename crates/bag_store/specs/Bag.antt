@@ -1,0 +1,60 @@
+-- A bag: files by their paths, and the folders of its base folder (RFC 8493, 2).
+use Rattle.std.specs.Prelude.{ℕ, ◌<◌, ◌≡◌, Bool, true, false, List, ◌++◌, length, Option, Some, map, filter, sum_by, All, IsTrue, IsUtf8, codes, decimal}
+use Rattle.std.specs.FinMap as map
+use Rattle.std.specs.FinSet as set
+use Rattle.bag_text.specs.Text.{text_cmp}
+use Rattle.bag_text.specs.Path.{is_path, is_payload_path, is_base_name, under}
+
+pub record Bag : Type 0 where
+  -- the bytes of each file
+  pub files : map.FinMap text_cmp (List ℕ)
+  -- the names of the folders in the base folder
+  pub folders : set.FinSet text_cmp
+
+abbrev pub file : Bag → List ℕ → Option (List ℕ)
+file bag path = map.get bag.files path
+
+abbrev pub has_file : Bag → List ℕ → Bool
+has_file bag path = map.contains_key bag.files path
+
+abbrev pub HasFile : Bag → List ℕ → Type 0
+HasFile bag path = has_file bag path ≡ true
+
+abbrev pub LacksFile : Bag → List ℕ → Type 0
+LacksFile bag path = has_file bag path ≡ false
+
+abbrev pub has_folder : Bag → List ℕ → Bool
+has_folder bag name = set.contains bag.folders name
+
+-- the files in path order, each with its bytes
+abbrev pub files_of : Bag → List (List ℕ × List ℕ)
+files_of bag = map.entries bag.files
+
+abbrev pub payload : Bag → List (List ℕ × List ℕ)
+payload bag = filter (λ e. is_payload_path e.0) (files_of bag)
+
+-- a file of the payload
+abbrev pub IsPayloadFile : Bag → List ℕ → Type 0
+IsPayloadFile bag path = (is_payload_path path ≡ true) × HasFile bag path
+
+-- a file that isn't of the payload
+abbrev pub IsTagFile : Bag → List ℕ → Type 0
+IsTagFile bag path = (is_payload_path path ≡ false) × HasFile bag path
+
+-- the total bytes of files, and their number (RFC 8493, 2.2.2: Payload-Oxum)
+abbrev pub oxum_of_files : List (List ℕ × List ℕ) → ℕ × ℕ
+oxum_of_files files = (sum_by (λ e. length e.1) files, length files)
+
+abbrev pub oxum : Bag → ℕ × ℕ
+oxum bag = oxum_of_files (payload bag)
+
+-- `OCTETS.STREAMS`
+abbrev pub oxum_text : ℕ × ℕ → List ℕ
+oxum_text sums = decimal sums.0 ++ codes "." ++ decimal sums.1
+
+-- what every tree's bag is: paths that are texts, and the folders that they need
+pub record IsBag (bag : Bag) : Type 0 where
+  pub paths : (path : List ℕ) → HasFile bag path → IsTrue (is_path path) × IsUtf8 path
+  pub names : (name : List ℕ) → has_folder bag name ≡ true → IsTrue (is_base_name name) × IsUtf8 name
+  pub parents : (top rest : List ℕ) → IsTrue (is_base_name top) → HasFile bag (under top rest) → has_folder bag top ≡ true
+  pub bytes : (path content : List ℕ) → file bag path ≡ Some content → All (λ b. b < 256) content

@@ -1,0 +1,72 @@
+//! Why a tree refused a call.
+ghost use Rattle.std.specs.Prelude.{◌≡◌};
+ghost use Rattle.bag_store.specs.declared.fault.TreeFault.TheVariants.{Memory};
+ghost use Rattle.bag_store.specs.Cause as spec;
+
+use bag_text::Text;
+use std::alloc::{AllocError, AllocFailed};
+
+/// Why a tree refused a call.
+#[derive(Clone, Copy, Debug, PartialEq, Eq)]
+pub enum TreeFault {
+    /// The system refused: a folder, a file or a read.
+    Device,
+    /// A symbolic link, a socket, a pipe or a device stands in the tree.
+    Special,
+    /// A name isn't UTF-8.
+    Name,
+    /// There is no such file.
+    NotFound,
+    /// There are more than 16,777,216 files and folders.
+    TooMany,
+    /// A file has more or fewer bytes than were listed.
+    Changed,
+    /// A read without an open file.
+    NoneOpen,
+    /// A growth was refused.
+    Memory,
+    /// What was to be made is there.
+    Exists,
+}
+
+impl TreeFault {
+    /// The word for this cause in the closing lines: ASCII, in lower case, with hyphens.
+    pub fn word(self) -> &'static str
+        ensures { result.now ≡ spec.word self }
+    {
+        match self {
+            TreeFault::Device => "device",
+            TreeFault::Special => "special",
+            TreeFault::Name => "name",
+            TreeFault::NotFound => "not-found",
+            TreeFault::TooMany => "too-many",
+            TreeFault::Changed => "changed",
+            TreeFault::NoneOpen => "none-open",
+            TreeFault::Memory => "memory",
+            TreeFault::Exists => "exists",
+        }
+    }
+}
+
+impl From<AllocError> for TreeFault {
+    ghost from_gives = { λ _ e. e ≡ Memory };
+
+    fn from(_: AllocError) -> Self {
+        TreeFault::Memory
+    }
+}
+
+impl<T: Drop> From<AllocFailed<T>> for TreeFault {
+    ghost from_gives = { λ _ e. e ≡ Memory };
+
+    fn from(_: AllocFailed<T>) -> Self {
+        TreeFault::Memory
+    }
+}
+
+/// A refusal, and the file that it is about. The path is empty for a listing and for want of memory.
+#[derive(Debug, Drop)]
+pub struct Stop {
+    pub cause: TreeFault,
+    pub path: Text,
+}

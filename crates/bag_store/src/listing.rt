@@ -1,0 +1,18 @@
+//! What a tree holds.
+use bag_text::{Items, Text};
+
+/// A file of a tree.
+#[derive(Debug, Drop)]
+pub struct FileEntry {
+    /// The path from the base folder, its components joined by `/`.
+    pub path: Text,
+    /// The size in bytes.
+    pub size: u64,
+}
+
+/// The files of a tree in the order of their paths, and whether its base folder has the folder `data`.
+#[derive(Debug, Drop)]
+pub struct Listing {
+    pub files: Items<FileEntry>,
+    pub has_data: bool,
+}
