@@ -1,0 +1,4 @@
+pub mod Declaration
+pub mod LineFault
+pub mod Manifest
+pub mod ManifestName

@@ -1,0 +1,15 @@
+-- The order of the faults of one tag file: by line, code and detail.
+use Rattle.std.specs.Prelude.{List}
+use Rattle.std.specs.declared.cmp.Ordering.{Ordering}
+use Rattle.std.specs.Ordering.{nat_cmp, on, then_cmp}
+use Rattle.bag_text.specs.Text.{text_cmp}
+use Rattle.bag_text.specs.Code.{number}
+use Rattle.bag_text.specs.Order.{IsListOf}
+use Rattle.bag_tags.specs.declared.fault.LineFault.{LineFault}
+
+abbrev pub line_fault_cmp : LineFault → LineFault → Ordering
+line_fault_cmp = then_cmp (then_cmp (on (λ f. f.line) nat_cmp) (on (λ f. number f.code) nat_cmp)) (on (λ f. f.detail) text_cmp)
+
+-- the faults of a file that are exactly these, in line order
+abbrev pub AreFaults : (LineFault → Type 0) → List LineFault → Type 0
+AreFaults IsWrong faults = IsListOf line_fault_cmp IsWrong faults
