@@ -88,11 +88,12 @@ module _ {A : Type 0} {R : A → A → Ordering} (total : IsTotalOrder R) where
   one_of x y Greater tied e = inr (inr (total.antisymm y x ∙ ap ordering_reverse e))
 
   pub one_of_three : ((x y : A) → R x y ≡ Equal → x ≡ y) → (x y : A) → OneOfThree (R x y ≡ Less) (x ≡ y) (R y x ≡ Less)
-  one_of_three tied x y =
-      (one_of x y (R x y) (tied x y) refl,
-      (λ h. not_less_than_itself x y h.1 h.0),
-      (λ h. not_both x y h.0 h.1),
-      (λ h. not_less_than_itself y x (sym h.0) h.1))
+  one_of_three tied x y = (
+    one_of x y (R x y) (tied x y) refl,
+    (λ h. not_less_than_itself x y h.1 h.0),
+    (λ h. not_both x y h.0 h.1),
+    (λ h. not_less_than_itself y x (sym h.0) h.1),
+  )
 
   pub equal_is_one : ((x y : A) → R x y ≡ Equal → x ≡ y) → (x y : A) → (eq_by_cmp R x y ≡ true) ↔ (x ≡ y)
   equal_is_one tied x y = (λ h. tied x y (tie_is (R x y) h), λ same. ap is_eq (subst (λ z. R x z ≡ Equal) same (self_ties x)))

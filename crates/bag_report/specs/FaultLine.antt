@@ -42,3 +42,8 @@ fault_line f =
 -- the law: different faults have different lines
 abbrev pub LinesTellFaultsApart : Type 0
 LinesTellFaultsApart = (f g : Fault) → IsFault f → IsFault g → fault_line f ≡ fault_line g → f ≡ g
+
+-- the text is the line of this fault
+pub record IsLineOf (line : List ℕ) (f : Fault) : Type 0 where
+  pub fault : IsFault f
+  pub text : fault_line f ≡ line

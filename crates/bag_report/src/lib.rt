@@ -2,7 +2,9 @@
 #![tactic(auto)]
 
 mod fault;
+mod from_line;
 pub mod laws;
 mod line;
 
 pub use fault::Fault;
+pub use from_line::CursorFault;

@@ -10,5 +10,5 @@ returns-clause-ok c =
     let text = c.args.text.now in
     c.in_ok-append_to.ensures.ok
     ∙ ap (λ (more : List ℕ). string_bytes c.args.out.now ++ more)
-        (c.percent_encode.ensures.text ∙ ap (percent_encode ESCAPED) c.as_bytes.ensures.value ∙ same_escapes text
-        ∙ sym (other_field text (nonempty text (sym c.is_empty.ensures ∙ c.if-is_empty.false)) (sym c.eq.ensures ∙ c.if-eq.false)))
+    (c.percent_encode.ensures.text ∙ ap (percent_encode ESCAPED) c.as_bytes.ensures.value ∙ same_escapes text
+    ∙ sym (other_field text (nonempty text (sym c.is_empty.ensures ∙ c.if-is_empty.false)) (sym c.eq.ensures ∙ c.if-eq.false)))
