@@ -1,0 +1,9 @@
+pub mod Ascending
+pub mod Bytes
+pub mod Codes
+pub mod Cut
+pub mod Escapes
+pub mod Lines
+pub mod Ordered
+pub mod Pieces
+pub mod Spaces

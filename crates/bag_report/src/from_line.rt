@@ -1,0 +1,158 @@
+//! Faults read back from their lines.
+ghost use Rattle.std.specs.Prelude.{◌≡◌, ◌<◌, ◌^◌, ◌++◌, ◌∷◌, Option, List, ℕ, IfOk, MatchResult, IsUtf8, decimal};
+ghost use Rattle.bag_text.specs.Code.{number};
+ghost use Rattle.bag_text.specs.declared.alg.Alg.{Alg};
+ghost use Rattle.bag_text.specs.declared.code.Code.{Code};
+ghost use Rattle.bag_report.specs.FaultLine as spec;
+ghost use Rattle.bag_report.specs.FaultOrder.{IsFault};
+ghost use Rattle.bag_report.specs.LineFields.{AreFields, HasNoSpace};
+ghost use Rattle.bag_report.specs.declared.fault.Fault.{Fault};
+
+use crate::Fault;
+use bag_text::{Alg, Code, Text};
+use percent_encoding::{DecodeError, percent_decode};
+use std::alloc::{AllocError, Global};
+use thiserror::Error;
+
+/// Why a text gave no fault.
+#[derive(Clone, Copy, Debug, PartialEq, Eq, Error)]
+pub enum CursorFault {
+    /// The text is the line of no fault.
+    #[error("not a fault line")]
+    NotALine,
+    /// Memory ran out before this was known.
+    #[error("out of memory")]
+    Memory,
+}
+
+impl From<AllocError> for CursorFault {
+    ghost use Rattle.bag_report.specs.declared.from_line.CursorFault.TheVariants.{Memory};
+
+    ghost from_gives = { λ _ e. e ≡ Memory };
+
+    fn from(_: AllocError) -> CursorFault {
+        CursorFault::Memory
+    }
+}
+
+impl Fault {
+    /// The fault whose line this is, without the line's end. Every other text is refused: what `to_line` doesn't
+    /// write isn't read, such as an escape that isn't needed or lower-case hex. Takes time in proportion to the text.
+    pub fn from_line(alloc: Global, line: &str) -> Result<Fault, CursorFault>
+        ensures ok { IfOk result (spec.IsLineOf line.now) }
+        ensures refused { result ≡ Err CursorFault.NotALine → (fault : Fault) → ¬ (spec.IsLineOf line.now fault) }
+    {
+        let fault = read(alloc, line)?;
+        let written = fault.to_line(alloc)?;
+        if written.as_str() == line {
+            Ok(fault)
+        } else {
+            Err(CursorFault::NotALine)
+        }
+    }
+}
+
+/// The fault whose line this is, or some other where the text is no line.
+fn read(alloc: Global, line: &str) -> Result<Fault, CursorFault>
+    ensures fault { IfOk result IsFault }
+    ensures reads { (fault : Fault) → spec.IsLineOf line.now fault → MatchResult result (λ read. read ≡ fault) (λ e. e ≡ CursorFault.Memory) }
+{
+    let fields = Fields::of(line)?;
+    let code = read_code(fields.code)?;
+    let alg = read_alg(fields.alg)?;
+    let line = read_line_number(fields.line)?;
+    let path = read_text(alloc, fields.path)?;
+    let detail = read_text(alloc, fields.detail)?;
+    Ok(Fault {
+        code,
+        path,
+        alg,
+        line,
+        detail,
+    })
+}
+
+/// The fields of a line, but for the word.
+#[derive(Clone, Copy)]
+struct Fields<'a> {
+    code: &'a str,
+    path: &'a str,
+    alg: &'a str,
+    line: &'a str,
+    detail: &'a str,
+}
+
+impl<'a> Fields<'a> {
+    /// The fields before the first five spaces, and what stands behind these.
+    fn of(text: &'a str) -> Result<Fields<'a>, CursorFault>
+        ensures { (fault : Fault) → spec.IsLineOf text.now fault → MatchResult result (AreFields fault) (λ e. ⊥) }
+    {
+        let (code, rest) = cut(text)?;
+        let (_, rest) = cut(rest)?;
+        let (path, rest) = cut(rest)?;
+        let (alg, rest) = cut(rest)?;
+        let (line, detail) = cut(rest)?;
+        Ok(Fields {
+            code,
+            path,
+            alg,
+            line,
+            detail,
+        })
+    }
+}
+
+/// What stands before the first space, and what behind it.
+fn cut(text: &str) -> Result<(&str, &str), CursorFault>
+    ensures { (front rest : List ℕ) → HasNoSpace front → front ++ 32 ∷ rest ≡ text.now → MatchResult result (λ parts. (parts.0.now ≡ front) × (parts.1.now ≡ rest)) (λ e. ⊥) }
+{
+    text.split_once(' ').ok_or(CursorFault::NotALine)
+}
+
+fn read_code(field: &str) -> Result<Code, CursorFault>
+    ensures { (code : Code) → decimal (number code) ≡ field.now → result ≡ Ok code }
+{
+    match field.parse::<u16>() {
+        Ok(number) => Code::from_number(number).ok_or(CursorFault::NotALine),
+        Err(_) => Err(CursorFault::NotALine),
+    }
+}
+
+fn read_alg(field: &str) -> Result<Option<Alg>, CursorFault>
+    ensures { (alg : Option Alg) → spec.alg_field alg ≡ field.now → result ≡ Ok alg }
+{
+    match field {
+        "-" => Ok(None),
+        "md5" => Ok(Some(Alg::Md5)),
+        "sha1" => Ok(Some(Alg::Sha1)),
+        "sha256" => Ok(Some(Alg::Sha256)),
+        "sha512" => Ok(Some(Alg::Sha512)),
+        _ => Err(CursorFault::NotALine),
+    }
+}
+
+fn read_line_number(field: &str) -> Result<u64, CursorFault>
+    ensures { (line : ℕ) → line < 2 ^ 64 → spec.line_field line ≡ field.now → result ≡ Ok line }
+{
+    if field == "-" {
+        return Ok(0);
+    }
+    match field.parse() {
+        Ok(line) => Ok(line),
+        Err(_) => Err(CursorFault::NotALine),
+    }
+}
+
+fn read_text(alloc: Global, field: &str) -> Result<Text, CursorFault>
+    ensures text { IfOk result (λ text. IsUtf8 text) }
+    ensures reads { (text : List ℕ) → IsUtf8 text → spec.field text ≡ field.now → MatchResult result (λ read. read ≡ text) (λ e. e ≡ CursorFault.Memory) }
+{
+    if field == "-" {
+        return Ok(Text::empty(alloc));
+    }
+    match percent_decode(field.as_bytes()).decode_utf8(alloc) {
+        Ok(text) => Ok(Text::from_string(text.into_owned(alloc)?)),
+        Err(DecodeError::Utf8(_)) => Err(CursorFault::NotALine),
+        Err(DecodeError::OutOfMemory) => Err(CursorFault::Memory),
+    }
+}
