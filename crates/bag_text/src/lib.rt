@@ -7,7 +7,10 @@ mod code;
 mod items;
 pub mod laws;
 mod line_cut;
+mod path;
 mod read_text;
+#[cfg(test)]
+mod tests;
 mod text;
 
 pub use alg::Alg;
@@ -15,5 +18,6 @@ pub use alg_set::AlgSet;
 pub use code::Code;
 pub use items::Items;
 pub use line_cut::Lines;
+pub use path::{Unsafe, check_path, is_payload};
 pub use read_text::{NotUtf8, lines, text_of};
 pub use text::Text;
