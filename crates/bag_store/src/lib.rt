@@ -2,13 +2,17 @@
 #![tactic(auto)]
 
 mod fault;
+mod file_map;
+mod folder_set;
 mod listing;
+mod memory_tree;
 mod out;
 mod tree;
 mod whole;
 
 pub use fault::{Stop, TreeFault};
 pub use listing::{FileEntry, Listing};
+pub use memory_tree::MemoryTree;
 pub use out::{Out, Refused, WriterOut};
 pub use tree::Tree;
 pub use whole::read_whole;
