@@ -47,7 +47,7 @@ listed_is_ordered es names ascending passes = record {
   paths = listed_paths es (λ path has. (and_parts _ _ (passes.paths path (ap is_some (get-from_entries nat_list_cmp_total es path) ∙ has))).0);
 }
 
-same_test : (p q : List ℕ) → bytes_eq p q ≡ is_at (text_cmp q) p
+pub same_test : (p q : List ℕ) → bytes_eq p q ≡ is_at (text_cmp q) p
 same_test p q = sym (same_from_slice_cmp nat_cmp is_eq (λ xs ys. bytes_eq ys xs) refl (λ _ _. refl) (λ _ _. refl) (λ x y xs ys o h. grind (arith, nat_tests)) q p (text_cmp q p) refl)
 
 one_more : (b : Bool) (e : List ℕ × List ℕ) (rest : Option FileEntry) (others : Option (List ℕ)) → option_map (λ x. x.size) rest ≡ option_map length others

@@ -4,6 +4,7 @@
 mod fault;
 mod file_map;
 mod folder_set;
+mod laws;
 mod listing;
 mod memory_tree;
 mod out;
@@ -11,6 +12,7 @@ mod tree;
 mod whole;
 
 pub use fault::{Stop, TreeFault};
+pub use laws::listings_are_of_the_bag;
 pub use listing::{FileEntry, Listing};
 pub use memory_tree::MemoryTree;
 pub use out::{Out, Refused, WriterOut};
