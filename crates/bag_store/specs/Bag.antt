@@ -1,5 +1,5 @@
 -- A bag: files by their paths, and the folders of its base folder (RFC 8493, 2).
-use Rattle.std.specs.Prelude.{ℕ, ◌<◌, ◌≡◌, Bool, true, false, List, ◌++◌, length, Option, Some, map, filter, sum_by, All, IsTrue, IsUtf8, codes, decimal}
+use Rattle.std.specs.Prelude.{ℕ, ◌<◌, ◌≡◌, Bool, true, false, List, ◌++◌, length, Option, Some, filter, sum_by, All, IsTrue, IsUtf8, codes, decimal}
 use Rattle.std.specs.FinMap as map
 use Rattle.std.specs.FinSet as set
 use Rattle.bag_text.specs.Text.{text_cmp}

@@ -1,6 +1,9 @@
 pub mod Bag
 pub mod Cause
 pub mod Listing
+pub mod Memory
+pub mod MemoryLaw
+pub mod MemoryView
 pub mod Out
 pub mod Tree
 pub mod Whole

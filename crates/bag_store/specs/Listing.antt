@@ -1,5 +1,5 @@
 -- What a listing of a bag says.
-use Rattle.std.specs.Prelude.{ℕ, ◌≡◌, List, length, map, Option, Some, None, codes, IsTrue, All}
+use Rattle.std.specs.Prelude.{ℕ, ◌≡◌, List, length, map, Option, codes, IsTrue, All}
 use Rattle.std.specs.Option.{option_map}
 use Rattle.std.specs.List.{find}
 use Rattle.std.specs.List.Sorted.{IsStrictlySortedBy}

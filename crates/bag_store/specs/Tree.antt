@@ -1,5 +1,5 @@
 -- What the calls of a tree answer, and what they change.
-use Rattle.std.specs.Prelude.{◌≡◌, ℕ, ◌<◌, ◌≤◌, ◌↔◌, ◌⊎◌, Bool, IsTrue, List, [], ◌∷◌, ◌++◌, length, take, drop, Option, None, Some}
+use Rattle.std.specs.Prelude.{◌≡◌, ℕ, ◌<◌, ◌≤◌, ◌↔◌, ◌⊎◌, Bool, IsTrue, List, [], ◌∷◌, ◌++◌, length, take, drop, Option, Some}
 use Rattle.std.specs.Option.{option_map}
 use Rattle.bag_store.specs.Bag.{Bag, file}
 use Rattle.bag_store.specs.declared.listing.FileEntry.{FileEntry}

@@ -2,13 +2,19 @@
 #![tactic(auto)]
 
 mod fault;
+mod file_map;
+mod folder_set;
+mod laws;
 mod listing;
+mod memory_tree;
 mod out;
 mod tree;
 mod whole;
 
 pub use fault::{Stop, TreeFault};
+pub use laws::listings_are_of_the_bag;
 pub use listing::{FileEntry, Listing};
+pub use memory_tree::MemoryTree;
 pub use out::{Out, Refused, WriterOut};
 pub use tree::Tree;
 pub use whole::read_whole;

@@ -8,7 +8,11 @@ use crate::{FileEntry, Tree, TreeFault};
 use std::alloc::Global;
 
 /// The bytes of a listed file, which is opened once at most. More or fewer bytes than it was listed with are `Changed`.
-pub fn read_whole<T: Tree>(alloc: Global, tree: &mut T, entry: &FileEntry) -> Result<Vec<u8>, TreeFault>
+pub fn read_whole<T: Tree>(
+    alloc: Global,
+    tree: &mut T,
+    entry: &FileEntry,
+) -> Result<Vec<u8>, TreeFault>
     ensures keeps { Keeps (T.state tree.old) (T.state tree.new) }
     ensures opens { OpensAtMost (T.state tree.old) (T.state tree.new) entry.now.path }
     ensures opened { OnOk result ((T.state tree.new).openings ≡ (T.state tree.old).openings ++ entry.now.path ∷ []) }

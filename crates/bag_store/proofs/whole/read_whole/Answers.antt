@@ -1,6 +1,5 @@
-use Rattle.std.proofs.Common.{rules, inr, ◌∙◌, ◌≡◌, ◌++◌, take, arith, vec_len, sym, subst, IsTrue, List, ℕ, Option}
+use Rattle.std.proofs.Common.{rules, inr, ◌∙◌, arith, sym, subst, IsTrue}
 use Rattle.std.proofs.lemmas.Grind.{common_steps}
-use Rattle.bag_store.specs.Whole.{HasRead}
 use Rattle.bag_store.proofs.Reading.{read_all, read_more}
 use Rattle.bag_store.proofs.whole.read_whole.Goals as goal
 
@@ -10,8 +9,8 @@ loop-bytes-preserved g c = record {
   opened = c.read.ensures.openings ∙ c.loop-bytes.invariant.opened;
   within = grind (arith, common_steps);
   honest = λ h.
-    let still : IsTrue (g.T.Tree.state c.loop-bytes.tree).honest = subst IsTrue (sym c.loop-bytes.invariant.keeps.honest) h in
-    rw c.in_ok-extend_from_slice.ensures.items (read_more _ _ _ _ _ _ (c.loop-bytes.invariant.honest h) (c.in_ok-count.ensures.honest still));
+      let still : IsTrue (g.T.Tree.state c.loop-bytes.tree).honest = subst IsTrue (sym c.loop-bytes.invariant.keeps.honest) h in
+      rw c.in_ok-extend_from_slice.ensures.items (read_more _ _ _ _ _ _ (c.loop-bytes.invariant.honest h) (c.in_ok-count.ensures.honest still));
 }
 
 pub returns-then-len-entry-clause-whole : goal.returns-then-len-entry-clause-whole

@@ -1,4 +1,4 @@
-use Rattle.std.proofs.Common.{◌≡◌, ◌∷◌, ◌++◌, [], Some, IsTrue, vec_len, List, ℕ, ◌-◌, ◌≤◌}
+use Rattle.std.proofs.Common.{◌≡◌, ◌∷◌, ◌++◌, [], IsTrue, vec_len, ◌-◌, ◌≤◌}
 use Rattle.bag_store.specs.Bag.{file}
 use Rattle.bag_store.specs.Tree.{Keeps}
 use Rattle.bag_store.specs.Whole.{HasRead}
