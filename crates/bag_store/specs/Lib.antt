@@ -1,6 +1,9 @@
 pub mod Bag
 pub mod Cause
+pub mod FileTree
 pub mod Listing
 pub mod Out
+pub mod Place
+pub mod Refusal
 pub mod Tree
 pub mod Whole
