@@ -1,9 +1,12 @@
 pub mod Bag
 pub mod Cause
+pub mod FileTree
 pub mod Listing
 pub mod Memory
 pub mod MemoryLaw
 pub mod MemoryView
 pub mod Out
+pub mod Place
+pub mod Refusal
 pub mod Tree
 pub mod Whole

@@ -3,15 +3,21 @@
 
 mod fault;
 mod file_map;
+mod file_tree;
 mod folder_set;
+mod folder_walk;
 mod laws;
 mod listing;
 mod memory_tree;
 mod out;
+mod path_order;
+mod place;
+mod refusal;
 mod tree;
 mod whole;
 
 pub use fault::{Stop, TreeFault};
+pub use file_tree::FileTree;
 pub use laws::listings_are_of_the_bag;
 pub use listing::{FileEntry, Listing};
 pub use memory_tree::MemoryTree;

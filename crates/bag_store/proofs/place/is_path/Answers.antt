@@ -1,0 +1,11 @@
+use Rattle.std.proofs.Common.{lit<, rules}
+use Rattle.std.proofs.lemmas.Iterator.Search.{all_from_yields_List}
+use Rattle.std.proofs.lemmas.Iterator.Splits.{YieldsList-from_str_split}
+use Rattle.bag_text.specs.Path.{is_component}
+use Rattle.bag_store.proofs.place.is_path.Goals as goal
+
+pub returns : goal.returns
+returns c =
+    all_from_yields_List is_component _ _ c.all.result c.all.ensures.ran
+    (YieldsList-from_str_split 47 c.args.text.now (lit< tt) c.split.ensures.text c.split.ensures.has_more c.split.ensures.pattern)
+    (λ x b q k. search rules)
