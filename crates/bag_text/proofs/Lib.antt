@@ -1,4 +1,5 @@
 pub mod FirstLine
 pub mod LineLaws
+pub mod ListOf
 pub mod Numbered
 pub mod Utf8
