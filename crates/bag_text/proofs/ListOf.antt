@@ -1,6 +1,6 @@
 -- Ascending lists of sets: of nothing, of one, of two sets of which one lies below the other, and that there is one.
-use Rattle.std.proofs.Common.{◌≡◌, ℕ, zero, suc, ◌<◌, ◌⊎◌, inl, inr, List, [], ◌∷◌, ◌++◌, length, refl, ap, sym, ◌∙◌, subst, arith, Option, None, Some}
-use Rattle.std.specs.Prelude.{Contains, ◌↔◌}
+use Rattle.std.proofs.Common.{◌≡◌, zero, suc, ◌⊎◌, inl, inr, List, [], ◌∷◌, ◌++◌, refl, ap, sym, ◌∙◌, subst, arith, Option, None, Some}
+use Rattle.std.specs.Prelude.{Contains}
 use Rattle.std.specs.Option.{option_to_list}
 use Rattle.std.specs.List.{AllByRecursion}
 use Rattle.std.specs.List.Sorted.{IsStrictlySortedBy}
@@ -52,6 +52,11 @@ each_from_members P (x ∷ xs) h = (h x (contains_first x xs), each_from_members
 pub member_has : {A : Type 0} (P : A → Type 0) (xs : List A) (x : A) → AllByRecursion P xs → Contains xs x → P x
 member_has P [] x a c = absurd (contains_nothing x c)
 member_has P (y ∷ xs) x a c = elim (contains_cases y xs x c) [ inl e ↦ subst P e a.0 | inr d ↦ member_has P xs x a.1 d ]
+
+-- a set whose members are the values of an option
+pub only_from_some : {A : Type 0} (Member : A → Type 0) (o : Option A) → ((x : A) → o ≡ Some x → Member x) → ((x : A) → Member x → o ≡ Some x) → IsOnly Member o
+only_from_some Member None to from = λ x m. let clash : None ≡ Some x = from x m in cc
+only_from_some Member (Some x) to from = (to x refl, λ y m. let e : Some x ≡ Some y = from y m in cc)
 
 module _ {A : Type 0} (cmp : A → A → Ordering) where
   -- two ascending lists, one below the other, are one
