@@ -1,3 +1,4 @@
+pub mod AlgSets
 pub mod FirstLine
 pub mod LineLaws
 pub mod ListOf

@@ -8,6 +8,8 @@ mod items;
 pub mod laws;
 mod line_cut;
 mod read_text;
+#[cfg(test)]
+mod tests;
 mod text;
 
 pub use alg::Alg;

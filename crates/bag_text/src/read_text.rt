@@ -8,9 +8,11 @@ ghost use Rattle.bag_text.specs.Text as spec;
 
 use super::line_cut::Lines;
 use std::str;
+use thiserror::Error;
 
 /// The bytes aren't UTF-8.
-#[derive(Clone, Copy, Debug, PartialEq, Eq)]
+#[derive(Clone, Copy, Debug, PartialEq, Eq, Error)]
+#[error("not UTF-8")]
 pub struct NotUtf8;
 
 /// The text of a tag file's bytes, without one leading byte order mark (RFC 8493, 2.1.1 and 2.2).
