@@ -1,0 +1,5 @@
+pub mod DeclarationFaults
+pub mod FaultOrder
+pub mod Heads
+pub mod Texts
+pub mod Utf8

@@ -1,4 +1,5 @@
 pub mod Declaration
+pub mod DeclarationFaults
 pub mod LineFault
 pub mod Manifest
 pub mod ManifestName

@@ -2,11 +2,14 @@
 #![tactic(auto)]
 
 mod declaration;
+mod declaration_faults;
+mod declared;
 mod fault;
 mod kind;
 mod manifest;
+mod prefix;
 
-pub use declaration::Declaration;
+pub use declaration::{Declaration, read_declaration};
 pub use fault::{LineFault, Parsed};
 pub use kind::Kind;
 pub use manifest::ManifestEntry;

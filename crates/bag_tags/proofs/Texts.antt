@@ -1,0 +1,38 @@
+-- Tests of texts and prefixes.
+use Rattle.std.proofs.Common.{◌≡◌, ◌≢◌, ℕ, ◌<◌, Bool, true, false, ◌&&◌, List, [], ◌∷◌, ◌++◌, length, drop, refl, ap, sym, ◌∙◌, arith, Option, Some, None, MatchOption, bytes_eq, nat_eq}
+use Rattle.std.specs.Str.{all_ascii_digits}
+use Rattle.std.specs.Char.{is_ascii_digit}
+use Rattle.std.specs.List.{list_all, starts_with}
+use Rattle.std.specs.Option.{option_copied}
+use Rattle.std.specs.Borrow.{Bor}
+use Rattle.std.specs.Str.Pattern.{StripsPrefix, FindsTextPrefix}
+use Rattle.std.proofs.lemmas.Slice.Eq.{starts_is}
+use Rattle.std.proofs.lemmas.Bool.Decides.{Decides-eqb}
+use Rattle.bag_text.specs.Text.{after_prefix}
+
+pub all_digits : (t : List ℕ) → all_ascii_digits t ≡ list_all is_ascii_digit t
+all_digits [] = refl
+all_digits (c ∷ t) = ap (λ b. is_ascii_digit c && b) (all_digits t)
+
+pub no_text : (t : List ℕ) → length t ≡ 0 → bytes_eq t [] ≡ true
+no_text [] e = refl
+no_text (c ∷ t) e = absurd (omega arith)
+
+pub some_text : (t : List ℕ) → 0 < length t → bytes_eq t [] ≡ false
+some_text [] l = absurd (omega arith)
+some_text (c ∷ t) l = refl
+
+prefix_test : (p t : List ℕ) → (starts_with nat_eq t p ≡ true → t ≡ p ++ drop (length p) t) × ((rest : List ℕ) → t ≡ p ++ rest → starts_with nat_eq t p ≡ true)
+prefix_test p t = starts_is Decides-eqb t p (starts_with nat_eq t p) refl
+
+after_lacking : (p t : List ℕ) (b : Bool) → starts_with nat_eq t p ≡ b → ((rest : List ℕ) → drop 0 t ≢ p ++ rest) → after_prefix p t ≡ None
+after_lacking p t true e h = absurd (h (drop (length p) t) ((prefix_test p t).0 e))
+after_lacking p t false e h = rw e refl
+
+-- what `strip_prefix` tells
+pub strip_is_after : (p t : List ℕ) (r : Option (Bor (List ℕ))) → MatchOption r (FindsTextPrefix p t None) (λ x. StripsPrefix (FindsTextPrefix p) t x.now) → option_copied r ≡ after_prefix p t
+strip_is_after p t None h = sym (after_lacking p t _ refl h)
+strip_is_after p t (Some x) (n, (long, front, cut), rest, room) =
+    let there : starts_with nat_eq t p ≡ true = (prefix_test p t).1 (drop n t) front in
+    let same : x.now ≡ drop (length p) t = rest ∙ ap (λ k. drop k t) long in
+    rw (there, same) refl

@@ -1,0 +1,18 @@
+-- Bytes that are UTF-8, and bytes that aren't.
+use Rattle.std.proofs.Common.{◌≡◌, ℕ, Bool, true, false, List, refl, Some, None, cond}
+use Rattle.std.specs.Str.{is_utf8}
+use Rattle.bag_text.specs.Text.{text_of, IsText, IsNoText, without_mark}
+
+text_test : (bytes t : List ℕ) (b : Bool) → is_utf8 bytes ≡ b → cond b (Some (without_mark bytes)) None ≡ Some t → IsText bytes
+text_test bytes t true e h = e
+text_test bytes t false e h = cc
+
+pub is_text : (bytes t : List ℕ) → text_of bytes ≡ Some t → IsText bytes
+is_text bytes t h = text_test bytes t (is_utf8 bytes) refl h
+
+no_text_test : (bytes : List ℕ) (b : Bool) → is_utf8 bytes ≡ b → cond b (Some (without_mark bytes)) None ≡ None → IsNoText bytes
+no_text_test bytes true e h = cc
+no_text_test bytes false e h = e
+
+pub is_no_text : (bytes : List ℕ) → text_of bytes ≡ None → IsNoText bytes
+is_no_text bytes h = no_text_test bytes (is_utf8 bytes) refl h

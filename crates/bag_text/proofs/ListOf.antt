@@ -1,0 +1,143 @@
+-- Ascending lists of sets: of nothing, of one, of two sets of which one lies below the other, and that there is one.
+use Rattle.std.proofs.Common.{◌≡◌, zero, suc, ◌⊎◌, inl, inr, List, [], ◌∷◌, ◌++◌, refl, ap, sym, ◌∙◌, subst, arith, Option, None, Some}
+use Rattle.std.specs.Prelude.{Contains}
+use Rattle.std.specs.Option.{option_to_list}
+use Rattle.std.specs.List.{AllByRecursion}
+use Rattle.std.specs.List.Sorted.{IsStrictlySortedBy}
+use Rattle.std.specs.Cmp.{IsTotalOrder}
+use Rattle.std.specs.declared.cmp.Ordering.{Ordering}
+use Rattle.std.specs.declared.cmp.Ordering.TheVariants.{Less, Greater}
+use Rattle.std.specs.Ordering.{ordering_reverse}
+use Rattle.bag_text.specs.Order.{IsListOf, IsOnly}
+
+-- a member of a list is its first or stands behind it
+pub contains_cases : {A : Type 0} (x : A) (xs : List A) (y : A) → Contains (x ∷ xs) y → (x ≡ y) ⊎ Contains xs y
+contains_cases x xs y (zero, h, e) = inl e
+contains_cases x xs y (suc k, h, e) = inr (k, omega arith, e)
+
+pub contains_first : {A : Type 0} (x : A) (xs : List A) → Contains (x ∷ xs) x
+contains_first x xs = (0, omega arith, refl)
+
+pub contains_behind : {A : Type 0} (x : A) (xs : List A) (y : A) → Contains xs y → Contains (x ∷ xs) y
+contains_behind x xs y (k, h, e) = (suc k, omega arith, e)
+
+pub contains_nothing : {A : Type 0} (y : A) → Contains {X = A} [] y → ⊥
+contains_nothing y (k, h, e) = absurd (omega arith)
+
+pub contains_front : {A : Type 0} (xs ys : List A) (x : A) → Contains xs x → Contains (xs ++ ys) x
+contains_front [] ys x c = absurd (contains_nothing x c)
+contains_front (y ∷ xs) ys x c =
+    elim (contains_cases y xs x c) [
+      | inl e ↦ subst (Contains (y ∷ (xs ++ ys))) e (contains_first y (xs ++ ys))
+      | inr d ↦ contains_behind y (xs ++ ys) x (contains_front xs ys x d)
+    ]
+
+pub contains_back : {A : Type 0} (xs ys : List A) (x : A) → Contains ys x → Contains (xs ++ ys) x
+contains_back [] ys x c = c
+contains_back (y ∷ xs) ys x c = contains_behind y (xs ++ ys) x (contains_back xs ys x c)
+
+pub contains_either : {A : Type 0} (xs ys : List A) (x : A) → Contains (xs ++ ys) x → Contains xs x ⊎ Contains ys x
+contains_either [] ys x c = inr c
+contains_either (y ∷ xs) ys x c =
+    elim (contains_cases y (xs ++ ys) x c) [
+      | inl e ↦ inl (subst (Contains (y ∷ xs)) e (contains_first y xs))
+      | inr d ↦ elim (contains_either xs ys x d) [ inl a ↦ inl (contains_behind y xs x a) | inr b ↦ inr b ]
+    ]
+
+-- what holds of each member holds along the list, and the other way round
+pub each_from_members : {A : Type 0} (P : A → Type 0) (xs : List A) → ((x : A) → Contains xs x → P x) → AllByRecursion P xs
+each_from_members P [] h = tt
+each_from_members P (x ∷ xs) h = (h x (contains_first x xs), each_from_members P xs (λ y c. h y (contains_behind x xs y c)))
+
+pub member_has : {A : Type 0} (P : A → Type 0) (xs : List A) (x : A) → AllByRecursion P xs → Contains xs x → P x
+member_has P [] x a c = absurd (contains_nothing x c)
+member_has P (y ∷ xs) x a c = elim (contains_cases y xs x c) [ inl e ↦ subst P e a.0 | inr d ↦ member_has P xs x a.1 d ]
+
+-- a set whose members are the values of an option
+pub only_from_some : {A : Type 0} (Member : A → Type 0) (o : Option A) → ((x : A) → o ≡ Some x → Member x) → ((x : A) → Member x → o ≡ Some x) → IsOnly Member o
+only_from_some Member None to from = λ x m. let clash : None ≡ Some x = from x m in cc
+only_from_some Member (Some x) to from = (to x refl, λ y m. let e : Some x ≡ Some y = from y m in cc)
+
+module _ {A : Type 0} (cmp : A → A → Ordering) where
+  -- two ascending lists, one below the other, are one
+  pub ascending_joined : (xs ys : List A) → IsStrictlySortedBy cmp xs → IsStrictlySortedBy cmp ys → ((x y : A) → Contains xs x → Contains ys y → cmp x y ≡ Less) → IsStrictlySortedBy cmp (xs ++ ys)
+  unfolding IsStrictlySortedBy
+  ascending_joined [] ys p q less = q
+  ascending_joined (x ∷ xs) ys p q less = (
+    each_from_members _ (xs ++ ys) (λ y c. elim (contains_either xs ys y c) [ inl a ↦ member_has _ xs y p.0 a | inr b ↦ less x y (contains_first x xs) b ]),
+    ascending_joined xs ys p.1 q (λ y z c d. less y z (contains_behind x xs y c) d),
+  )
+
+  -- the list of no members
+  pub nothing_listed : (Member : A → Type 0) → ((x : A) → ¬ (Member x)) → IsListOf cmp Member []
+  unfolding IsStrictlySortedBy
+  nothing_listed Member none = record { ascending = tt; members = λ x. (λ c. absurd (contains_nothing x c), λ m. absurd (none x m)) }
+
+  -- the list of one member
+  pub one_listed : (Member : A → Type 0) (x : A) → Member x → ((y : A) → Member y → y ≡ x) → IsListOf cmp Member (x ∷ [])
+  unfolding IsStrictlySortedBy
+  one_listed Member x is only = record {
+    ascending = (tt, tt);
+    members = λ y. (
+      λ c. elim (contains_cases x [] y c) [ inl e ↦ subst Member e is | inr d ↦ absurd (contains_nothing y d) ],
+      λ m. subst (Contains (x ∷ [])) (sym (only y m)) (contains_first x []),
+    );
+  }
+
+  -- the list of a set of one member at most
+  pub only_listed : (Member : A → Type 0) (o : Option A) → IsOnly Member o → IsListOf cmp Member (option_to_list o)
+  only_listed Member None only = nothing_listed Member only
+  only_listed Member (Some x) only = one_listed Member x only.0 only.1
+
+  -- the list of two sets, of which one lies below the other
+  pub joined : (P Q : A → Type 0) (xs ys : List A) → IsListOf cmp P xs → IsListOf cmp Q ys → ((x y : A) → P x → Q y → cmp x y ≡ Less) → IsListOf cmp (λ x. P x ⊎ Q x) (xs ++ ys)
+  joined P Q xs ys p q less = record {
+    ascending = ascending_joined xs ys p.ascending q.ascending (λ x y c d. less x y ((p.members x).0 c) ((q.members y).0 d));
+    members = λ x. (
+      λ c. elim (contains_either xs ys x c) [ inl a ↦ inl ((p.members x).0 a) | inr b ↦ inr ((q.members x).0 b) ],
+      λ m. elim m [ inl a ↦ contains_front xs ys x ((p.members x).1 a) | inr b ↦ contains_back xs ys x ((q.members x).1 b) ],
+    );
+  }
+
+  -- one more member, if there is one, above all others
+  pub one_more : (P Q : A → Type 0) (xs : List A) (o : Option A) → IsListOf cmp P xs → IsOnly Q o → ((x y : A) → P x → Q y → cmp x y ≡ Less) → IsListOf cmp (λ x. P x ⊎ Q x) (xs ++ option_to_list o)
+  one_more P Q xs o p q less = joined P Q xs (option_to_list o) p (only_listed Q o q) less
+
+  -- the same members in other words
+  pub same_members : (P Q : A → Type 0) (xs : List A) → ((x : A) → P x → Q x) → ((x : A) → Q x → P x) → IsListOf cmp P xs → IsListOf cmp Q xs
+  same_members P Q xs to from p = record { ascending = p.ascending; members = λ x. (λ c. to x ((p.members x).0 c), λ q. (p.members x).1 (from x q)) }
+
+  module _ (total : IsTotalOrder cmp) where
+    never_both : (x y : A) → cmp x y ≡ Less → cmp y x ≡ Less → ⊥
+    never_both x y p q = let e : Less ≡ Greater = sym p ∙ total.antisymm x y ∙ ap ordering_reverse q in cc
+
+    never_itself : (x y : A) → x ≡ y → cmp x y ≡ Less → ⊥
+    never_itself x y e p = let self : cmp x x ≡ Less = subst (λ z. cmp x z ≡ Less) (sym e) p in never_both x x self self
+
+    same_first : (x y : A) (xs ys : List A) → IsStrictlySortedBy cmp (x ∷ xs) → IsStrictlySortedBy cmp (y ∷ ys) → Contains (y ∷ ys) x → Contains (x ∷ xs) y → x ≡ y
+    unfolding IsStrictlySortedBy
+    same_first x y xs ys p q c d =
+        elim (contains_cases y ys x c) [
+          | inl e ↦ sym e
+          | inr u ↦ elim (contains_cases x xs y d) [ inl e ↦ e | inr v ↦ absurd (never_both x y (member_has _ xs y p.0 v) (member_has _ ys x q.0 u)) ]
+        ]
+
+    -- a member behind the first of one list stands behind the same first of the other
+    behind_too : (x y : A) (xs ys : List A) → x ≡ y → AllByRecursion (λ z. cmp x z ≡ Less) xs → ((z : A) → Contains (x ∷ xs) z → Contains (y ∷ ys) z) → (z : A) → Contains xs z → Contains ys z
+    behind_too x y xs ys e less to z c =
+        elim (contains_cases y ys z (to z (contains_behind x xs z c))) [ inl h ↦ absurd (never_itself x z (e ∙ h) (member_has _ xs z less c)) | inr d ↦ d ]
+
+    -- two ascending lists with the same members are one
+    pub same_lists : (xs ys : List A) → IsStrictlySortedBy cmp xs → IsStrictlySortedBy cmp ys → ((z : A) → Contains xs z → Contains ys z) → ((z : A) → Contains ys z → Contains xs z) → xs ≡ ys
+    unfolding IsStrictlySortedBy
+    same_lists [] [] p q to from = refl
+    same_lists [] (y ∷ ys) p q to from = absurd (contains_nothing y (from y (contains_first y ys)))
+    same_lists (x ∷ xs) [] p q to from = absurd (contains_nothing x (to x (contains_first x xs)))
+    same_lists (x ∷ xs) (y ∷ ys) p q to from =
+        let e : x ≡ y = same_first x y xs ys p q (to x (contains_first x xs)) (from y (contains_first y ys)) in
+        let rest : xs ≡ ys = same_lists xs ys p.1 q.1 (behind_too x y xs ys e p.0 to) (behind_too y x ys xs (sym e) q.0 from) in
+        λ i. e i ∷ rest i
+
+    -- there is one list of a set
+    pub one_list : (Member : A → Type 0) (xs ys : List A) → IsListOf cmp Member xs → IsListOf cmp Member ys → xs ≡ ys
+    one_list Member xs ys p q = same_lists xs ys p.ascending q.ascending (λ z c. (q.members z).1 ((p.members z).0 c)) (λ z c. (p.members z).1 ((q.members z).0 c))
