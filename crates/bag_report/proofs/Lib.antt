@@ -7,3 +7,8 @@ pub mod Lines
 pub mod Ordered
 pub mod Pieces
 pub mod Spaces
+pub mod FieldPieces
+pub mod InFile
+pub mod Opens
+pub mod Reading
+pub mod StageOne

@@ -1,3 +1,9 @@
+pub mod Facts
 pub mod FaultLine
 pub mod FaultOrder
+pub mod InFile
+pub mod Is
 pub mod LineFields
+pub mod Report
+pub mod Stops
+pub mod TagFiles

@@ -81,7 +81,7 @@ fn append_line_number(line: u64, out: &mut String) -> Result<(), AllocError>
 }
 
 /// The bytes that a field escapes, beside those outside ASCII.
-const ESCAPED: AsciiSet = ascii_set!(CONTROLS.add(b' ').add(b'%'));
+pub(crate) const ESCAPED: AsciiSet = ascii_set!(CONTROLS.add(b' ').add(b'%'));
 
 /// Appends a text as a field of a line.
 fn append_text(text: &str, out: &mut String) -> Result<(), AllocError>

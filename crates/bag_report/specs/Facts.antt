@@ -1,0 +1,62 @@
+-- What is read of a bag, and when it can't be read.
+use Rattle.std.specs.Prelude.{◌≡◌, ◌++◌, ◌⊎◌, ◌<◌, ℕ, List, [], Option, Some, None, IsTrue, All}
+use Rattle.std.specs.List.Sorted.{IsStrictlySortedBy}
+use Rattle.bag_text.specs.Text.{text_cmp}
+use Rattle.bag_store.specs.Bag.{Bag, file, HasFile}
+use Rattle.bag_store.specs.Tree.{TreeState, most_entries}
+use Rattle.bag_store.specs.declared.fault.Stop.{Stop}
+use Rattle.bag_store.specs.declared.fault.TreeFault.{TreeFault}
+use Rattle.bag_store.specs.declared.fault.TreeFault.TheVariants.{Device, Special, Name, NotFound, TooMany, Changed, NoneOpen, Memory, Exists}
+use Rattle.bag_tags.specs.Declaration.{declared_version, declared_encoding, IsDeclarationFault}
+use Rattle.bag_tags.specs.LineFault.{AreFaults}
+use Rattle.bag_tags.specs.declared.declaration.Declaration.{Declaration}
+use Rattle.bag_report.specs.declared.facts.Facts.{Facts}
+use Rattle.bag_report.specs.declared.options.Options.{Options}
+use Rattle.bag_report.specs.TagFiles.{bagit_txt}
+
+-- a declaration is what these bytes declare
+pub record IsDeclarationOf (bytes : List ℕ) (declaration : Declaration) : Type 0 where
+  pub version : declaration.version ≡ declared_version bytes
+  pub encoding : declaration.encoding ≡ declared_encoding bytes
+  pub faults : AreFaults (IsDeclarationFault bytes) declaration.faults
+
+-- what was read of a file is what its bytes say, and nothing was read where it isn't there
+abbrev pub IsReadOf : {A : Type 0} → (List ℕ → A → Type 0) → Option (List ℕ) → Option A → Type 0
+IsReadOf IsOf None None = Unit {0}
+IsReadOf IsOf (Some bytes) (Some x) = IsOf bytes x
+IsReadOf IsOf None (Some x) = ⊥
+IsReadOf IsOf (Some bytes) None = ⊥
+
+-- the facts are those of the bag
+pub record IsFactsOf (bag : Bag) (facts : Facts) : Type 0 where
+  pub declaration : IsReadOf IsDeclarationOf (file bag bagit_txt) facts.declaration
+
+-- a file that is read whole under the options
+abbrev pub IsWanted : Options → List ℕ → Type 0
+IsWanted options path = path ≡ bagit_txt
+
+-- files that are wanted were opened, each once at most and in path order, and no others
+abbrev pub OpensWanted : Options → TreeState → TreeState → Type 0
+OpensWanted options old new =
+    (paths : List (List ℕ)) × (new.openings ≡ old.openings ++ paths)
+    × IsStrictlySortedBy text_cmp paths × All (IsWanted options) paths
+
+-- Why listing a tree and reading its tag files may be refused. Over an honest tree the cause is the device, the
+-- number of its files or want of memory.
+abbrev pub MayRefuseFacts : TreeState → TreeState → TreeFault → Type 0
+MayRefuseFacts old new Device = old.failures < new.failures
+MayRefuseFacts old new Special = old.failures < new.failures
+MayRefuseFacts old new Name = old.failures < new.failures
+MayRefuseFacts old new NotFound = ¬ (IsTrue old.honest)
+MayRefuseFacts old new TooMany = IsTrue old.honest → most_entries < old.entries
+MayRefuseFacts old new Changed = ¬ (IsTrue old.honest)
+MayRefuseFacts old new NoneOpen = ¬ (IsTrue old.honest)
+MayRefuseFacts old new Memory = Unit {0}
+MayRefuseFacts old new Exists = ⊥
+
+-- A stop tells the cause, and the file that was read: one that is wanted, and of an honest tree's bag. It names none
+-- for a listing or for want of memory.
+pub record MayStop (options : Options) (old new : TreeState) (stop : Stop) : Type 0 where
+  pub cause : MayRefuseFacts old new stop.cause
+  pub path : (stop.path ≡ []) ⊎ (IsWanted options stop.path × (IsTrue old.honest → HasFile old.bag stop.path))
+  pub memory : stop.cause ≡ Memory → stop.path ≡ []

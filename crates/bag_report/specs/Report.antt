@@ -1,0 +1,66 @@
+-- The report of a bag: its faults that are asked for, in order.
+use Rattle.std.specs.Prelude.{ℕ, ◌≡◌, ◌≤◌, ◌&&◌, Bool, true, false, List, Option, Some, None, nat_le, filter, take}
+use Rattle.std.specs.Ordering.{is_lt}
+use Rattle.bag_text.specs.Code.{stage}
+use Rattle.bag_text.specs.Order.{IsListOf}
+use Rattle.bag_text.specs.declared.code.Code.{Code}
+use Rattle.bag_text.specs.declared.code.Code.TheVariants.{NoOxum, NameClash}
+use Rattle.bag_store.specs.Bag.{Bag}
+use Rattle.bag_report.specs.declared.fault.Fault.{Fault}
+use Rattle.bag_report.specs.declared.options.Depth.{Depth}
+use Rattle.bag_report.specs.declared.options.Depth.TheVariants.{Declaration, Fast, Complete, Full}
+use Rattle.bag_report.specs.declared.options.Options.{Options}
+use Rattle.bag_report.specs.FaultOrder.{fault_cmp}
+use Rattle.bag_report.specs.Is.{Is}
+
+-- the last stage of a depth
+abbrev pub last_stage : Depth → ℕ
+last_stage Declaration = 1
+last_stage Fast = 3
+last_stage Complete = 6
+last_stage Full = 7
+
+abbrev pub is_fast : Depth → Bool
+is_fast Fast = true
+is_fast other = false
+
+-- whether a stage is looked at
+abbrev pub has_stage : Options → ℕ → Bool
+has_stage options k = nat_le k (last_stage options.depth)
+
+-- whether faults of a code are asked for
+unfoldable pub asks : Options → Code → Bool
+asks options NoOxum = is_fast options.depth
+asks options NameClash = options.clashes && has_stage options (stage NameClash)
+asks options code = has_stage options (stage code)
+
+-- a fault of the bag that is asked for
+abbrev pub IsReported : Bag → Options → Fault → Type 0
+IsReported bag options f = Is bag f × (asks options f.code ≡ true)
+
+-- the ascending list of exactly these
+abbrev pub IsReport : Bag → Options → List Fault → Type 0
+IsReport bag options report = IsListOf fault_cmp (IsReported bag options) report
+
+-- the part of the report that is of one stage
+abbrev pub IsStageOf : Bag → Options → ℕ → List Fault → Type 0
+IsStageOf bag options k faults = IsListOf fault_cmp (λ f. IsReported bag options f × (stage f.code ≡ k)) faults
+
+-- a fault is greater than a cursor; each is where there is none
+abbrev pub is_above : Option Fault → Fault → Bool
+is_above None f = true
+is_above (Some cursor) f = is_lt (fault_cmp cursor f)
+
+-- the faults that are greater than a cursor
+abbrev pub above : Option Fault → List Fault → List Fault
+above after faults = filter (is_above after) faults
+
+-- the first n faults
+abbrev pub first : ℕ → List Fault → List Fault
+first n faults = take n faults
+
+-- the law: a bag has one report
+abbrev pub ReportIsOne : Type 0
+ReportIsOne =
+    (bag : Bag) (options : Options) (one other : List Fault)
+    → IsReport bag options one → IsReport bag options other → one ≡ other

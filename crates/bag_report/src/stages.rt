@@ -1,0 +1,20 @@
+//! The faults of a bag, stage by stage.
+ghost use Rattle.std.specs.Prelude.{◌≡◌, ◌≢◌, [], IfOk};
+ghost use Rattle.bag_store.specs.Bag.{Bag};
+ghost use Rattle.bag_report.specs.Facts.{IsFactsOf};
+ghost use Rattle.bag_report.specs.Report.{IsStageOf};
+
+use crate::stage_declaration::declaration_faults;
+use crate::{Facts, Fault};
+use std::alloc::{AllocError, Global};
+
+/// The faults of one stage that are asked for, in their order; for every number but 1 none yet.
+pub fn stage_faults(alloc: Global, facts: &Facts, stage: u8) -> Result<Vec<Fault>, AllocError>
+    ensures one { stage ≡ 1 → IfOk result (λ faults. (bag : Bag) → IsFactsOf bag facts.now → IsStageOf bag facts.now.options 1 faults.items) }
+    ensures other { stage ≢ 1 → IfOk result (λ faults. faults.items ≡ []) }
+{
+    match stage {
+        1 => declaration_faults(alloc, facts),
+        _ => Ok(Vec::new(alloc)),
+    }
+}
