@@ -1,0 +1,92 @@
+-- A run, by what it has at hand.
+use Rattle.std.proofs.Common.{◌≡◌, ℕ, ◌<◌, ◌≤◌, inl, ◌&&◌, Bool, true, false, List, [], length, take, filter, Option, None, Some, Contains, IsTrue, refl, ap, sym, ◌∙◌, subst, arith}
+use Rattle.std.proofs.lemmas.Grind.{common_steps}
+use Rattle.std.specs.List.{concat}
+use Rattle.std.specs.Io.KnownBytes.{Appends}
+use Rattle.bag_text.specs.Code.{stage}
+use Rattle.bag_text.specs.declared.code.Code.{Code}
+use Rattle.bag_text.specs.declared.code.Code.TheVariants.{NoDeclaration, DeclarationNotUtf8, DeclarationLineCount, DeclarationLine, VersionUnsupported, EncodingUnsupported, NoOxum, NameClash}
+use Rattle.bag_text.proofs.ListOf.{same_members}
+use Rattle.bag_store.specs.Bag.{Bag}
+use Rattle.bag_store.specs.Tree.{TreeState}
+use Rattle.bag_store.specs.declared.fault.Stop.{Stop}
+use Rattle.bag_report.specs.declared.fault.Fault.{Fault}
+use Rattle.bag_report.specs.declared.options.Depth.TheVariants.{Declaration}
+use Rattle.bag_report.specs.declared.options.Options.{Options}
+use Rattle.bag_report.specs.FaultOrder.{fault_cmp}
+use Rattle.bag_report.specs.Facts.{MayStop}
+use Rattle.bag_report.specs.Report.{asks, IsReport, IsStageOf}
+use Rattle.bag_walk.specs.Run.{AreFirst, IsAsked, IsRun, MayEnd, ReachesEnd, Wrote, written, limit_of}
+use Rattle.bag_walk.specs.Runner.{AreAsked}
+use Rattle.bag_walk.specs.Writer.{Closes, WritesReport, IsOutOfMemory}
+use Rattle.bag_walk.specs.declared.outcome.Outcome.{Outcome}
+use Rattle.bag_walk.specs.declared.outcome.Outcome.TheVariants.{Clean, Faults, Stopped, Rest, Unread, Unwritten}
+use Rattle.bag_walk.specs.declared.outcome.Request.{Request}
+use Rattle.bag_walk.proofs.Ending.{take_length, wrote_closed}
+use Rattle.bag_walk.proofs.Shown.{front_is_first, nothing_is_first}
+use Rattle.bag_walk.proofs.Writing.{Appends-nil}
+
+-- at the depth of the declaration only the first stage is asked for
+asks_only_first : (clashes : Bool) (c : Code) → asks (record { depth = Declaration; clashes = clashes }) c ≡ true → stage c ≡ 1
+unfolding asks
+asks_only_first clashes NoDeclaration e = refl
+asks_only_first clashes DeclarationNotUtf8 e = refl
+asks_only_first clashes DeclarationLineCount e = refl
+asks_only_first clashes DeclarationLine e = refl
+asks_only_first clashes VersionUnsupported e = refl
+asks_only_first clashes EncodingUnsupported e = refl
+asks_only_first true NameClash e = let clash : false ≡ true = e in cc
+asks_only_first false NameClash e = let clash : false ≡ true = e in cc
+asks_only_first clashes other e = let clash : false ≡ true = e in cc
+
+first_alone : (options : Options) (c : Code) → options.depth ≡ Declaration → asks options c ≡ true → stage c ≡ 1
+first_alone options c d e =
+    let same : options ≡ record { depth = Declaration; clashes = options.clashes } = λ i. record { depth = d i; clashes = options.clashes } in
+    asks_only_first options.clashes c (subst (λ o. asks o c ≡ true) same e)
+
+-- the first stage is then the whole report
+pub stage_is_report : (bag : Bag) (options : Options) (faults : List Fault) → options.depth ≡ Declaration → IsStageOf bag options 1 faults → IsReport bag options faults
+stage_is_report bag options faults d list =
+    same_members fault_cmp _ _ faults (λ f h. h.0) (λ f h. (h, first_alone options f.code d h.1)) list
+
+-- a stop for want of memory is one that any tree may show
+pub memory_may_stop : (options : Options) (old new : TreeState) (stop : Stop) → IsOutOfMemory stop → MayStop options old new stop
+memory_may_stop options old new stop m = record { cause = rw m.0 tt; path = inl m.1; memory = λ _. m.1 }
+
+wider_end : (request : Request) (n : ℕ) (P Q : Stop → Type 0) (ending : Outcome) → ((stop : Stop) → P stop → Q stop) → MayEnd request n P ending → MayEnd request n Q ending
+wider_end request n P Q Clean more m = m
+wider_end request n P Q (Faults k) more m = m
+wider_end request n P Q (Stopped k) more m = m
+wider_end request n P Q (Rest k) more m = m
+wider_end request n P Q (Unread k stop) more m = (m.0, m.1, more stop m.2)
+wider_end request n P Q (Unwritten k) more m = m
+
+take_whole : (faults : List Fault) (n : ℕ) → n ≡ length faults → take n faults ≡ faults
+take_whole faults n e = grind (arith, common_steps)
+
+module _ (old new : TreeState) (request : Request) (before after : Option (List ℕ)) (refused : Bool) (outcome : Outcome) where
+  -- the faults that are asked for were written
+  pub run_of_report : (faults : List Fault) → (IsTrue old.honest → AreAsked old.bag request faults) → WritesReport request faults IsOutOfMemory before after refused outcome
+      → IsRun old new request before after refused outcome
+  run_of_report faults asked writes = record {
+      shown = take writes.count faults;
+      ending = writes.ending;
+      may_end = subst (λ n. MayEnd request n (MayStop request.options old new) writes.ending) (sym (take_length writes.count faults writes.within))
+        (wider_end request writes.count IsOutOfMemory (MayStop request.options old new) writes.ending (memory_may_stop request.options old new) writes.may_end);
+      wrote = writes.wrote;
+      faults = λ honest. front_is_first (IsAsked old.bag request) writes.count faults (asked honest);
+      all_shown = λ honest reached f is.
+        subst (λ shown. Contains shown f) (sym (take_whole faults writes.count (writes.all reached))) (((asked honest).members f).1 is);
+    }
+
+  -- no fault was looked at
+  pub run_of_close : (ending : Outcome) → MayEnd request 0 (MayStop request.options old new) ending → (ReachesEnd ending → ⊥) → Closes request ending before after refused outcome
+      → IsRun old new request before after refused outcome
+  run_of_close ending m never closes = record {
+      shown = [];
+      ending = ending;
+      may_end = m;
+      wrote = wrote_closed request (MayStop request.options old new) [] before before after refused ending outcome m (Appends-nil before) closes;
+      faults = λ honest. nothing_is_first (IsAsked old.bag request);
+      all_shown = λ honest reached. absurd (never reached);
+    }

@@ -1,0 +1,12 @@
+-- The faults that a run has at hand.
+use Rattle.std.specs.Prelude.{List}
+use Rattle.bag_text.specs.Order.{IsListOf}
+use Rattle.bag_store.specs.Bag.{Bag}
+use Rattle.bag_report.specs.declared.fault.Fault.{Fault}
+use Rattle.bag_report.specs.FaultOrder.{fault_cmp}
+use Rattle.bag_walk.specs.Run.{IsAsked}
+use Rattle.bag_walk.specs.declared.outcome.Request.{Request}
+
+-- all faults of the bag that the request asks for, in their order
+abbrev pub AreAsked : Bag → Request → List Fault → Type 0
+AreAsked bag request faults = IsListOf fault_cmp (IsAsked bag request) faults

@@ -1,0 +1,89 @@
+//! A whole run.
+ghost use Rattle.std.specs.Prelude.{◌≡◌, List, Some, IsTrue, IfOk, IfErr};
+ghost use Rattle.bag_store.specs.Tree.{Keeps};
+ghost use Rattle.bag_report.specs.Facts.{IsFactsOf, MayStop, OpensWanted};
+ghost use Rattle.bag_report.specs.Report.{above, IsStageOf};
+ghost use Rattle.bag_report.specs.declared.fault.Fault.{Fault};
+ghost use Rattle.bag_store.specs.Bag.{Bag};
+ghost use Rattle.std.specs.Option.{option_copied};
+ghost use Rattle.bag_report.specs.declared.options.Depth.TheVariants.{Declaration};
+ghost use Rattle.bag_walk.specs.Run.{IsRun, IsRunByReport};
+ghost use Rattle.bag_walk.specs.Runner.{AreAsked};
+
+use crate::report_writer::{close, out_of_memory, write_report};
+use crate::{Outcome, Request};
+use bag_report::{Facts, Fault, stage_faults};
+use bag_store::{Out, Stop, Tree};
+use std::alloc::{AllocError, Global};
+
+/// Writes the faults of a tree's bag that the request asks for, one line each, and a closing line.
+///
+/// Each line ends in LF. A fault's line is one write where the output takes it whole; the closing line takes no memory.
+/// The tree comes back, with the last file that was read open.
+pub fn run<T: Tree, W: Out>(alloc: Global, tree: T, request: Request, out: &mut W) -> (T, Outcome)
+    requires { request.options.depth ≡ Declaration }
+    ensures keeps { Keeps (T.state tree) (T.state result.0) }
+    ensures opens { OpensWanted request.options (T.state tree) (T.state result.0) }
+    ensures untouched { request.limit ≡ Some 0 → result.0 ≡ tree }
+    ensures run { IsRun (T.state tree) (T.state result.0) request (W.taken out.old) (W.taken out.new) (W.has_refused out.new) result.1 }
+    ensures by_report { IsRunByReport (T.state tree) (T.state result.0) request (W.taken out.old) (W.taken out.new) (W.has_refused out.new) result.1 }
+{
+    let mut tree = tree;
+    let outcome = run_over(alloc, &mut tree, &request, out);
+    (tree, outcome)
+}
+
+/// The run, over a tree that is lent.
+fn run_over<T: Tree, W: Out>(alloc: Global, tree: &mut T, request: &Request, out: &mut W) -> Outcome
+    requires { request.now.options.depth ≡ Declaration }
+    ensures keeps { Keeps (T.state tree.old) (T.state tree.new) }
+    ensures opens { OpensWanted request.now.options (T.state tree.old) (T.state tree.new) }
+    ensures untouched { request.now.limit ≡ Some 0 → tree.new ≡ tree.old }
+    ensures run { IsRun (T.state tree.old) (T.state tree.new) request.now (W.taken out.old) (W.taken out.new) (W.has_refused out.new) result }
+{
+    let limit = request.limit.unwrap_or(u64::MAX);
+    if limit == 0 {
+        return close(request, Outcome::Stopped(0), out);
+    }
+    match faults_asked(alloc, tree, request) {
+        Ok(faults) => write_report(alloc, &faults, request, out),
+        Err(stop) => close(request, Outcome::Unread(0, stop), out),
+    }
+}
+
+/// The faults that are asked for, in their order.
+fn faults_asked<T: Tree>(alloc: Global, tree: &mut T, request: &Request) -> Result<Vec<Fault>, Stop>
+    requires { request.now.options.depth ≡ Declaration }
+    ensures keeps { Keeps (T.state tree.old) (T.state tree.new) }
+    ensures opens { OpensWanted request.now.options (T.state tree.old) (T.state tree.new) }
+    ensures faults { IfOk result (λ faults. IsTrue (T.state tree.old).honest → AreAsked (T.state tree.old).bag request.now faults.items) }
+    ensures stop { IfErr result (MayStop request.now.options (T.state tree.old) (T.state tree.new)) }
+{
+    let facts = Facts::read(alloc, tree, request.options)?;
+    let Ok(faults) = faults_above(alloc, &facts, request.after.as_ref()) else {
+        return Err(out_of_memory(alloc));
+    };
+    Ok(faults)
+}
+
+/// The faults of the declaration that are greater than a cursor.
+fn faults_above(alloc: Global, facts: &Facts, after: Option<&Fault>) -> Result<Vec<Fault>, AllocError>
+    ensures { IfOk result (λ faults. (bag : Bag) → IsFactsOf bag facts.now
+        → (all : List Fault) × IsStageOf bag facts.now.options 1 all × (faults.items ≡ above (option_copied after.entry) all)) }
+{
+    let faults = stage_faults(alloc, facts, 1)?;
+    match after {
+        None => Ok(faults),
+        Some(cursor) => greater(alloc, faults, cursor),
+    }
+}
+
+/// The faults that are greater than a cursor.
+fn greater(alloc: Global, faults: Vec<Fault>, cursor: &Fault) -> Result<Vec<Fault>, AllocError>
+    ensures { IfOk result (λ greater. greater.items ≡ above (Some cursor.now) faults.items) }
+{
+    faults
+        .into_iter()
+        .filter(|fault| cursor.cmp(fault).is_lt())
+        .collect(alloc)
+}
