@@ -1,0 +1,105 @@
+//! Does what a plan says.
+ghost use Rattle.bagit.specs.Status.{IsStatus};
+
+use crate::sample::sample_tree;
+use crate::{Action, Plan};
+use bag_report::{Depth, Options};
+use bag_store::{FileTree, Out, Tree, WriterOut};
+use bag_text::Text;
+use bag_walk::{Outcome, Request, run, status};
+use std::alloc::{AllocError, Global};
+use std::io::Write;
+use std::rt::Files;
+
+/// The exit status where a read, a write or a growth was refused.
+const REFUSED: u8 = 3;
+
+/// Does a plan: writes the reports to `out`, one line each, and what is refused beside them to `err`.
+///
+/// Gives the exit status: 0 where no bag has a fault, 1 where one has, and 3 where a read, a write or a growth was
+/// refused; over several folders the greatest. Where `out` refuses, it stops.
+pub fn perform<R, W, E>(rt: &R, plan: &Plan, out: W, err: E) -> u8
+where
+    R: Files + AllocGlobal + Clone + Drop,
+    W: Write + Drop,
+    E: Write + Drop,
+    ensures { IsStatus result }
+{
+    let mut out = WriterOut::new(out);
+    let mut err = err;
+    let status = match plan.action {
+        Action::Sample => ended(check_sample(rt.alloc(), &mut out), &mut err),
+        Action::Check => check_all(rt, plan.directories.as_slice(), &mut out, &mut err),
+    };
+    let _writer = out.into_inner();
+    status
+}
+
+/// Checks the bags in folders, one after the other.
+fn check_all<R, O, E>(rt: &R, directories: &[Text], out: &mut O, err: &mut E) -> u8
+where
+    R: Files + AllocGlobal + Clone + Drop,
+    O: Out,
+    E: Write,
+    ensures { IsStatus result }
+{
+    let mut greatest = 0;
+    for directory in directories {
+        let checked = check(rt, directory.as_str(), out);
+        let stops = matches!(checked, Ok(Outcome::Unwritten(_)) | Err(_));
+        greatest = greatest.max(ended(checked, err));
+        if stops {
+            break;
+        }
+    }
+    greatest
+}
+
+/// Checks the bag in a folder.
+fn check<R, O>(rt: &R, directory: &str, out: &mut O) -> Result<Outcome, AllocError>
+where
+    R: Files + AllocGlobal + Clone + Drop,
+    O: Out,
+{
+    let tree = FileTree::at(rt.clone()?, rt.alloc(), directory)?;
+    report(rt.alloc(), tree, directory, out)
+}
+
+/// Checks the sample bag.
+fn check_sample<O: Out>(alloc: Global, out: &mut O) -> Result<Outcome, AllocError> {
+    report(alloc, sample_tree(alloc)?, "sample", out)
+}
+
+/// Runs over a tree under a name.
+fn report<T: Tree + Drop, O: Out>(alloc: Global, tree: T, name: &str, out: &mut O) -> Result<Outcome, AllocError> {
+    let request = Request {
+        options: Options {
+            depth: Depth::Declaration,
+            clashes: false,
+        },
+        after: None,
+        limit: None,
+        quiet: false,
+        name: Text::from_str(alloc, name)?,
+    };
+    let (_tree, outcome) = run(alloc, tree, request, out);
+    Ok(outcome)
+}
+
+/// The status of a run, after what is to be said of a refusal beside the report.
+fn ended<E: Write>(checked: Result<Outcome, AllocError>, err: &mut E) -> u8
+    ensures { IsStatus result }
+{
+    match checked {
+        Ok(outcome) => {
+            if let Outcome::Unwritten(_) = outcome {
+                let _ = err.write_all(b"bagit: output refused\n");
+            }
+            status(&outcome)
+        }
+        Err(_) => {
+            let _ = err.write_all(b"bagit: out of memory\n");
+            REFUSED
+        }
+    }
+}

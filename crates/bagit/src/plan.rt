@@ -1,0 +1,50 @@
+//! What the words of a command line ask for.
+ghost use Rattle.std.specs.Prelude.{◌≡◌, MatchResult, Some, map};
+ghost use Rattle.bagit.specs.Plan.{IsRefusalOf, plan_of_words, texts};
+
+use crate::Usage;
+use bag_text::{Items, Text};
+use std::alloc::Global;
+
+/// What is to be done.
+#[derive(Clone, Copy, Debug, PartialEq, Eq)]
+pub enum Action {
+    /// The sample bag is checked.
+    Sample,
+    /// The bags in folders are checked.
+    Check,
+}
+
+/// What the words of a command line ask for.
+#[derive(Debug, Drop)]
+pub struct Plan {
+    pub action: Action,
+    /// The folders in the order of the words.
+    pub directories: Items<Text>,
+}
+
+/// The plan of the words, without the program's name: none for the sample, or `--validate --declaration-only DIR`.
+///
+/// All other words are `Refused`.
+pub fn plan_of(alloc: Global, words: &[&str]) -> Result<Plan, Usage>
+    ensures { MatchResult result (λ plan. plan_of_words (texts words.now) ≡ Some plan) (IsRefusalOf (texts words.now)) }
+{
+    match words {
+        [] => Ok(Plan {
+            action: Action::Sample,
+            directories: Items::new(alloc),
+        }),
+        [first, second, directory] => {
+            if *first != "--validate" || *second != "--declaration-only" {
+                return Err(Usage::Refused);
+            }
+            let mut directories = Items::new(alloc);
+            directories.push(Text::from_str(alloc, directory)?)?;
+            Ok(Plan {
+                action: Action::Check,
+                directories,
+            })
+        }
+        _ => Err(Usage::Refused),
+    }
+}

@@ -1,0 +1,46 @@
+//! Why the words of a command line are refused.
+ghost use Rattle.std.specs.Prelude.{◌≡◌};
+ghost use Rattle.bagit.specs.declared.usage.Usage.TheVariants.{Memory};
+ghost use Rattle.bagit.specs.Plan.{usage_status};
+
+use std::alloc::{AllocError, AllocFailed};
+use thiserror::Error;
+
+/// Why the words of a command line are refused.
+#[derive(Clone, Copy, Debug, PartialEq, Eq, Error)]
+pub enum Usage {
+    /// The program doesn't know the words.
+    #[error("words refused")]
+    Refused,
+    /// A growth was refused.
+    #[error("out of memory")]
+    Memory,
+}
+
+impl Usage {
+    /// The exit status: 3 for want of memory, and else 2.
+    pub fn status(self) -> u8
+        ensures { result ≡ usage_status self }
+    {
+        match self {
+            Usage::Refused => 2,
+            Usage::Memory => 3,
+        }
+    }
+}
+
+impl From<AllocError> for Usage {
+    ghost from_gives = { λ _ usage. usage ≡ Memory };
+
+    fn from(_: AllocError) -> Usage {
+        Usage::Memory
+    }
+}
+
+impl<T: Drop> From<AllocFailed<T>> for Usage {
+    ghost from_gives = { λ _ usage. usage ≡ Memory };
+
+    fn from(_: AllocFailed<T>) -> Usage {
+        Usage::Memory
+    }
+}
