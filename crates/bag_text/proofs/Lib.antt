@@ -4,4 +4,5 @@ pub mod LineLaws
 pub mod Numbered
 pub mod Paths
 pub mod SpellingLaws
+pub mod Spellings
 pub mod Utf8

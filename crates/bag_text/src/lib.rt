@@ -9,6 +9,7 @@ pub mod laws;
 mod line_cut;
 mod path;
 mod read_text;
+mod spelling;
 #[cfg(test)]
 mod tests;
 mod text;
@@ -20,4 +21,5 @@ pub use items::Items;
 pub use line_cut::Lines;
 pub use path::{Unsafe, check_path, is_payload};
 pub use read_text::{NotUtf8, lines, text_of};
+pub use spelling::{PathFault, escape_path, unescape_path};
 pub use text::Text;
