@@ -15,7 +15,7 @@ use thiserror::Error;
 #[error("not UTF-8")]
 pub struct NotUtf8;
 
-/// The text of a tag file's bytes, without one leading byte order mark (RFC 8493, 2.1.1 and 2.2).
+/// The text of a tag file's bytes, without one leading byte order mark (RFC 8493, 2.1.1 and 2.3).
 #[tactic(auto, using(crate::proofs::Utf8::utf8_texts))]
 pub fn text_of(bytes: &[u8]) -> Result<&str, NotUtf8>
     ensures text { MatchResult result (λ text. spec.text_of bytes.now ≡ Some text.now) (λ _. spec.text_of bytes.now ≡ None) }
@@ -28,7 +28,7 @@ pub fn text_of(bytes: &[u8]) -> Result<&str, NotUtf8>
 }
 
 /// The lines of a text with their numbers, from 1. A line ends in LF, CR or CRLF, and characters after the last end
-/// are a line (RFC 8493, 2.1.1). Copies nothing.
+/// are a line (RFC 8493, 2.3). Copies nothing.
 #[tactic(auto, using(crate::proofs::FirstLine::lines_few))]
 pub fn lines(text: &str) -> Lines<'_>
     ensures rest { numbered_rest result ≡ enumerate_from 1 (cut.lines text.now) }
