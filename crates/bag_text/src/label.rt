@@ -49,6 +49,7 @@ fn trailing_blanks(bytes: &[u8]) -> usize
     bytes.iter().rev().take_while(|b| is_blank(**b)).count()
 }
 
+/// Whether a byte is a space or a tab.
 fn is_blank(byte: u8) -> bool
     ensures { result ≡ spec.is_blank byte }
 {

@@ -10,6 +10,8 @@ use super::line_cut::Lines;
 use std::str;
 use thiserror::Error;
 
+const BYTE_ORDER_MARK: &str = "\u{FEFF}";
+
 /// The bytes aren't UTF-8.
 #[derive(Clone, Copy, Debug, PartialEq, Eq, Error)]
 #[error("not UTF-8")]
@@ -22,7 +24,7 @@ pub fn text_of(bytes: &[u8]) -> Result<&str, NotUtf8>
     ensures utf8 { IfOk result (λ text. IsUtf8 text.now) }
 {
     match str::from_utf8(bytes) {
-        Ok(text) => Ok(text.strip_prefix("\u{FEFF}").unwrap_or(text)),
+        Ok(text) => Ok(text.strip_prefix(BYTE_ORDER_MARK).unwrap_or(text)),
         Err(_) => Err(NotUtf8),
     }
 }
@@ -34,6 +36,5 @@ pub fn lines(text: &str) -> Lines<'_>
     ensures rest { numbered_rest result ≡ enumerate_from 1 (cut.lines text.now) }
     ensures few { length (cut.lines text.now) < 2 ^ 64 }
 {
-    let _length = text.len();
     Lines::new(text)
 }
