@@ -1,8 +1,10 @@
 pub mod AlgSets
+pub mod Blanks
 pub mod FirstLine
 pub mod LineLaws
 pub mod ListOf
 pub mod Numbered
 pub mod Paths
 pub mod SpellingLaws
+pub mod Spellings
 pub mod Utf8
