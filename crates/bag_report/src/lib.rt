@@ -8,3 +8,6 @@ mod line;
 
 pub use fault::Fault;
 pub use from_line::CursorFault;
+
+#[cfg(test)]
+mod tests;
