@@ -4,66 +4,6 @@ use bag_text::{Alg, Code, Text};
 use std::alloc::{AllocError, Global};
 use std::test::Fail;
 
-const CODES: [(Code, &str); 48] = [
-    (Code::NoDeclaration, "101 no-declaration"),
-    (Code::DeclarationNotUtf8, "102 declaration-not-utf8"),
-    (Code::DeclarationLineCount, "103 declaration-line-count"),
-    (Code::DeclarationLine, "104 declaration-line"),
-    (Code::VersionUnsupported, "105 version-unsupported"),
-    (Code::EncodingUnsupported, "106 encoding-unsupported"),
-    (Code::NoPayloadFolder, "201 no-payload-folder"),
-    (Code::NoPayloadManifest, "202 no-payload-manifest"),
-    (Code::AlgorithmUnsupported, "203 algorithm-unsupported"),
-    (Code::NotUtf8, "204 not-utf8"),
-    (Code::InfoLine, "301 info-line"),
-    (Code::OxumMalformed, "302 oxum-malformed"),
-    (Code::OxumAgain, "303 oxum-again"),
-    (Code::OxumDiffers, "304 oxum-differs"),
-    (Code::NoOxum, "305 no-oxum"),
-    (Code::FetchLine, "401 fetch-line"),
-    (Code::FetchEscape, "402 fetch-escape"),
-    (Code::FetchUnsafePath, "403 fetch-unsafe-path"),
-    (Code::FetchOutsidePayload, "404 fetch-outside-payload"),
-    (Code::FetchNotInManifest, "405 fetch-not-in-manifest"),
-    (Code::ManifestLine, "501 manifest-line"),
-    (Code::DigestLength, "502 digest-length"),
-    (Code::ManifestEscape, "503 manifest-escape"),
-    (Code::ManifestUnsafePath, "504 manifest-unsafe-path"),
-    (Code::ManifestOutsidePayload, "505 manifest-outside-payload"),
-    (
-        Code::TagmanifestNamesPayload,
-        "506 tagmanifest-names-payload",
-    ),
-    (
-        Code::TagmanifestNamesTagmanifest,
-        "507 tagmanifest-names-tagmanifest",
-    ),
-    (Code::NamedAgain, "508 named-again"),
-    (
-        Code::PayloadManifestNotListed,
-        "509 payload-manifest-not-listed",
-    ),
-    (Code::PayloadFileMissing, "601 payload-file-missing"),
-    (Code::TagFileMissing, "602 tag-file-missing"),
-    (Code::PayloadFileNotListed, "603 payload-file-not-listed"),
-    (Code::NameClash, "604 name-clash"),
-    (Code::PayloadSumDiffers, "701 payload-sum-differs"),
-    (Code::TagSumDiffers, "702 tag-sum-differs"),
-    (Code::ProfileIdentifier, "801 profile-identifier"),
-    (Code::LabelRequired, "802 label-required"),
-    (Code::LabelRepeated, "803 label-repeated"),
-    (Code::ValueNotAllowed, "804 value-not-allowed"),
-    (Code::ManifestRequired, "805 manifest-required"),
-    (Code::ManifestNotAllowed, "806 manifest-not-allowed"),
-    (Code::TagmanifestRequired, "807 tagmanifest-required"),
-    (Code::TagmanifestNotAllowed, "808 tagmanifest-not-allowed"),
-    (Code::TagFileRequired, "809 tag-file-required"),
-    (Code::TagFileNotAllowed, "810 tag-file-not-allowed"),
-    (Code::FetchNotAllowed, "811 fetch-not-allowed"),
-    (Code::VersionNotAccepted, "812 version-not-accepted"),
-    (Code::SerializationRequired, "813 serialization-required"),
-];
-
 fn fault(
     alloc: Global,
     code: Code,
@@ -79,20 +19,6 @@ fn fault(
         line,
         detail: Text::from_str(alloc, detail)?,
     })
-}
-
-#[test]
-fn each_code_is_read_back(rt: HostRuntime) -> Result<(), Fail> {
-    for (code, words) in CODES {
-        let wanted = fault(rt.alloc(), code, "data/a", Some(Alg::Sha256), 7, "x")?;
-        let line = format!(in rt.alloc(); "{words} data/a sha256 7 x")?;
-        assert_eq!(rt; wanted.to_line(rt.alloc())?.as_str(), line.as_str());
-        let read = Fault::from_line(rt.alloc(), line.as_str())?;
-        assert_eq!(rt; read, wanted, "{words}");
-        assert_eq!(rt; read.code, code, "{words}");
-        assert_eq!(rt; read.copy(rt.alloc())?, wanted, "{words}");
-    }
-    Ok(())
 }
 
 const TEXTS: [(&str, &str); 14] = [
@@ -127,35 +53,68 @@ fn each_text_is_encoded_and_read_back(rt: HostRuntime) -> Result<(), Fail> {
     Ok(())
 }
 
-const LINES: [&str; 17] = [
+/// A line of each code.
+const LINES: [&str; 48] = [
     "101 no-declaration bagit.txt - - -",
-    "102 declaration-not-utf8 bagit.txt - - bom",
+    "102 declaration-not-utf8 bagit.txt - - utf8",
     "103 declaration-line-count bagit.txt - - 3",
+    "104 declaration-line bagit.txt - 2 -",
     "105 version-unsupported bagit.txt - 1 0.97",
+    "106 encoding-unsupported bagit.txt - 2 ISO-8859-1",
     "201 no-payload-folder - - - -",
+    "202 no-payload-manifest - - - -",
+    "203 algorithm-unsupported manifest-sha3.txt - - sha3",
+    "204 not-utf8 bag-info.txt - - -",
+    "301 info-line bag-info.txt - 1 -",
+    "302 oxum-malformed bag-info.txt - 2 3",
+    "303 oxum-again bag-info.txt - 4 3.1",
     "304 oxum-differs bag-info.txt - 5 3.1:3.2",
+    "305 no-oxum bag-info.txt - - -",
+    "401 fetch-line fetch.txt - 2 -",
+    "402 fetch-escape fetch.txt - 1 data/%2541",
+    "403 fetch-unsafe-path fetch.txt - 1 data/../x",
+    "404 fetch-outside-payload fetch.txt - 4 bagit.txt",
     "405 fetch-not-in-manifest fetch.txt md5 5 data/e",
-    "501 manifest-line manifest-md5.txt md5 1 -",
     "501 manifest-line manifest-md5.txt md5 18446744073709551615 -",
+    "502 digest-length manifest-sha1.txt sha1 3 d41d8cd98f00b204e9800998ecf8427e",
     "503 manifest-escape manifest-md5.txt md5 1 data/%2541",
     "504 manifest-unsafe-path manifest-md5.txt md5 3 /etc/x",
+    "505 manifest-outside-payload manifest-md5.txt md5 4 data",
+    "506 tagmanifest-names-payload tagmanifest-md5.txt md5 1 data/a",
+    "507 tagmanifest-names-tagmanifest tagmanifest-md5.txt md5 2 tagmanifest-sha1.txt",
+    "508 named-again manifest-md5.txt md5 2 data/a",
+    "509 payload-manifest-not-listed tagmanifest-md5.txt md5 - manifest-md5.txt",
     "601 payload-file-missing data/a md5 - -",
+    "602 tag-file-missing notes.txt md5 - -",
+    "603 payload-file-not-listed data/a sha256 - -",
     "604 name-clash data/%C3%A9 - - data/e%CC%81",
     "701 payload-sum-differs data/x sha1 - 0:1",
     "702 tag-sum-differs notes.txt sha512 - 0:1",
+    "801 profile-identifier bag-info.txt - - urn:p",
+    "802 label-required bag-info.txt - - Source-Organization",
+    "803 label-repeated bag-info.txt - 3 Contact-Name",
     "804 value-not-allowed bag-info.txt - 4 Bag-Count:9%20of%209",
-    "604 name-clash %2D - - %2D",
+    "805 manifest-required manifest-sha512.txt - - -",
+    "806 manifest-not-allowed manifest-md5.txt - - -",
+    "807 tagmanifest-required tagmanifest-sha512.txt - - -",
+    "808 tagmanifest-not-allowed tagmanifest-md5.txt - - -",
+    "809 tag-file-required notes.txt - - -",
+    "810 tag-file-not-allowed notes.txt - - -",
+    "811 fetch-not-allowed fetch.txt - - -",
+    "812 version-not-accepted bagit.txt - 1 0.97",
+    "813 serialization-required - - - -",
 ];
 
 #[test]
-fn lines_are_written_as_they_were_read(rt: HostRuntime) -> Result<(), Fail> {
+fn each_line_is_written_as_it_was_read(rt: HostRuntime) -> Result<(), Fail> {
     let mut buffer = String::new(rt.alloc());
-    for line in LINES {
+    for line in &LINES {
+        let read = Fault::from_line(rt.alloc(), line)?;
+        assert!(rt; read.copy(rt.alloc())? == read, "{line}");
         buffer.clear();
         buffer.push_str("> ")?;
-        Fault::from_line(rt.alloc(), line)?.append_line(&mut buffer)?;
-        let wanted = format!(in rt.alloc(); "> {line}")?;
-        assert_eq!(rt; buffer.as_str(), wanted.as_str());
+        read.append_line(&mut buffer)?;
+        assert_eq!(rt; buffer.strip_prefix("> "), Some(*line));
     }
     Ok(())
 }
@@ -344,7 +303,7 @@ const REFUSED: [(&str, &str); 56] = [
 
 #[test]
 fn other_texts_are_refused(rt: HostRuntime) {
-    for (reason, text) in REFUSED {
+    for (reason, text) in &REFUSED {
         match Fault::from_line(rt.alloc(), text) {
             Ok(read) => panic!(rt; "{reason}: {text} was read as {read:?}"),
             Err(refusal) => assert_eq!(rt; refusal, CursorFault::NotALine, "{reason}"),
