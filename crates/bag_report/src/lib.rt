@@ -19,3 +19,6 @@ pub use field::field_pieces;
 pub use from_line::CursorFault;
 pub use options::{Depth, Options};
 pub use stages::stage_faults;
+
+#[cfg(test)]
+mod tests;
