@@ -8,6 +8,8 @@ mod laws;
 mod listing;
 mod memory_tree;
 mod out;
+#[cfg(test)]
+mod tests;
 mod tree;
 mod whole;
 
