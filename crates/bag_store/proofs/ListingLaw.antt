@@ -76,5 +76,5 @@ listings_are_of_the_bag bag listing ordered is =
     let left = subst T (sym (pairs_sorted listing.files ordered.ascending)) tt in
     let right = subst T (sym (sorted-with_length es)) (entries_sorted bag.files) in
     let pairs : map pair_of listing.files ≡ map with_length es = same_entries text_cmp nat_list_cmp_total exact_texts (map pair_of listing.files) (map with_length es) left right
-      (λ q. find-pairs listing.files q ∙ is.files q ∙ ap (option_map length) (get-entries bag.files q) ∙ sym (find-with_length es q)) in
+    (λ q. find-pairs listing.files q ∙ is.files q ∙ ap (option_map length) (get-entries bag.files q) ∙ sym (find-with_length es q)) in
     sym (entries-pairs listing.files) ∙ ap (map entry_of) pairs ∙ entries-with_length es

@@ -4,5 +4,4 @@ ghost use Rattle.bag_store.specs.Listing.{ListingsAreOfTheBag};
 /// A listing of a bag, in the order of its paths, has the files of the bag and their sizes, and nothing else.
 pub fn listings_are_of_the_bag()
     ensures { ListingsAreOfTheBag }
-{
-}
+{}

@@ -16,6 +16,9 @@ mod refusal;
 mod tree;
 mod whole;
 
+#[cfg(test)]
+mod tests;
+
 pub use fault::{Stop, TreeFault};
 pub use file_tree::FileTree;
 pub use laws::listings_are_of_the_bag;
