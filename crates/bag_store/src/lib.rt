@@ -4,6 +4,7 @@
 mod fault;
 mod file_tree;
 mod folder_walk;
+mod found;
 mod listing;
 mod out;
 mod path_order;
