@@ -1,6 +1,6 @@
 -- What a tree of real files means.
 use Rattle.std.specs.Prelude.{◌≡◌, ℕ, Bool, true, false, List, [], Some, None, is_some, if◌then◌else◌}
-use Rattle.std.proofs.Common.{sym, ap, ◌∙◌}
+use Rattle.std.proofs.Common.{sym, ap, subst, ◌∙◌}
 use Rattle.std.specs.FinMap as map
 use Rattle.std.specs.FinSet as set
 use Rattle.bag_store.specs.Bag.{Bag, IsBag, HasFile, file, has_folder}
@@ -17,14 +17,21 @@ unknown_bag = record { files = map.empty; folders = set.empty }
 abbrev pub disk_state : ℕ → List (List ℕ) → Bool → TreeState
 disk_state failures openings opened = record { bag = unknown_bag; honest = false; entries = 0; failures = failures; openings = openings; rest = if opened then Some [] else None }
 
+abbrev NotTrue : Bool → Type 0
+NotTrue true = ⊥
+NotTrue false = Unit {0}
+
+impossible : {P : Type 0} → false ≡ true → P
+impossible e = absurd (subst NotTrue e tt)
+
 no_file : {P : Type 0} (path : List ℕ) → HasFile unknown_bag path → P
-no_file path e = let none : false ≡ true = sym (ap is_some (map.get-empty text_cmp path)) ∙ e in cc
+no_file path e = impossible (sym (ap is_some (map.get-empty text_cmp path)) ∙ e)
 
 no_folder : {P : Type 0} (name : List ℕ) → has_folder unknown_bag name ≡ true → P
-no_folder name e = let none : false ≡ true = sym (set.contains-empty text_cmp name) ∙ e in cc
+no_folder name e = impossible (sym (set.contains-empty text_cmp name) ∙ e)
 
 no_content : {P : Type 0} (path content : List ℕ) → file unknown_bag path ≡ Some content → P
-no_content path content e = let none : None ≡ Some content = sym (map.get-empty text_cmp path) ∙ e in cc
+no_content path content e = no_file path (ap is_some e)
 
 -- a bag without files and folders is one
 pub unknown_bag_is_a_bag : IsBag unknown_bag

@@ -1,6 +1,7 @@
 pub mod Bag
 pub mod Cause
 pub mod FileTree
+pub mod FolderWalk
 pub mod Listing
 pub mod Memory
 pub mod MemoryLaw

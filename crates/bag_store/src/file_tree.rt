@@ -1,6 +1,11 @@
 //! A tree of real files.
-ghost use Rattle.std.specs.Prelude.{◌≡◌, [], false, is_some, IfOk};
+ghost use Rattle.std.specs.Prelude.{◌≡◌, [], false, is_some, IfOk, IsErrOf};
+ghost use Rattle.bag_text.specs.Path.{is_path};
 ghost use Rattle.bag_store.specs.FileTree.{disk_state, unknown_bag_is_a_bag};
+ghost use Rattle.bag_store.specs.declared.refusal.Refusal.TheVariants.{NotFound};
+
+#[cfg(test)]
+mod tests;
 
 use crate::folder_walk::list_below;
 use crate::place::{is_path, path_in};
@@ -78,12 +83,10 @@ impl<R: Files + AllocGlobal + Clone + Drop> Tree for FileTree<R> {
 }
 
 /// Opens a regular file below the base folder. Links below it aren't followed, and a text that isn't a path has no file.
-fn open_regular<R: Files>(
-    rt: &R,
-    alloc: Global,
-    base: &str,
-    path: &str,
-) -> Result<R::File, Refusal> {
+fn open_regular<R: Files>(rt: &R, alloc: Global, base: &str, path: &str) -> Result<R::File, Refusal>
+    ensures nowhere { base.now ≡ [] → IsErrOf result NotFound }
+    ensures outside { is_path path.now ≡ false → IsErrOf result NotFound }
+{
     if base.is_empty() || !is_path(path) {
         return Err(Refusal::NotFound);
     }

@@ -1,7 +1,11 @@
 //! The files below a folder of the disk.
-ghost use Rattle.std.specs.Prelude.{◌≤◌, ◌+◌, IfOk, OnOk, vec_len};
+ghost use Rattle.std.specs.Prelude.{◌≡◌, ◌≤◌, ◌+◌, ◌⊎◌, [], false, IfErr, IfOk, IsErrOf, OnOk, vec_len};
+ghost use Rattle.bag_store.specs.FolderWalk.{data_with, files_with, folders_with};
 ghost use Rattle.bag_store.specs.Listing.{IsOrdered};
+ghost use Rattle.bag_store.specs.Tree.{most_entries};
+ghost use Rattle.bag_store.specs.declared.refusal.Refusal.TheVariants.{Device, Memory, TooMany};
 
+use crate::found::Found;
 use crate::path_order::{all_differ, are_paths, sort_by_path};
 use crate::place::path_in;
 use crate::refusal::Refusal;
@@ -28,7 +32,12 @@ struct FolderWalk {
 }
 
 impl FolderWalk {
-    fn new(alloc: Global) -> FolderWalk {
+    fn new(alloc: Global) -> FolderWalk
+        ensures files { result.files.items ≡ [] }
+        ensures folders { result.folders.items ≡ [] }
+        ensures has_data { result.has_data ≡ false }
+        ensures room { result.room ≡ most_entries }
+    {
         FolderWalk {
             alloc,
             files: Vec::new(alloc),
@@ -67,39 +76,45 @@ impl FolderWalk {
     fn add<R: Files>(&mut self, folder: &str, entry: &DirEntry<R, Global>) -> Result<(), Refusal>
         ensures { OnOk result (vec_len self.new.folders + self.new.room ≤ vec_len self.old.folders + self.old.room) }
     {
-        if self.room == 0 {
-            return Err(Refusal::TooMany);
-        }
-        self.room -= 1;
         let metadata = match entry.metadata() {
             Ok(metadata) => metadata,
             Err(error) => return Err(Refusal::of_system(&error)),
         };
         let path = path_in(self.alloc, folder, entry.file_name())?;
-        let kind = metadata.file_type();
-        if kind.is_file() {
-            self.files.push(FileEntry {
-                path,
-                size: metadata.len(),
-            })?;
-        } else if kind.is_dir() {
-            if path.as_str() == "data" {
-                self.has_data = true;
+        self.put(path, Found::at(&metadata)?)
+    }
+
+    /// Adds what stands at a path, where there is room for it.
+    fn put(&mut self, path: Text, found: Found) -> Result<(), Refusal>
+        ensures files { OnOk result (self.new.files.items ≡ files_with self.old.files.items path found) }
+        ensures folders { OnOk result (self.new.folders.items ≡ folders_with self.old.folders.items path found) }
+        ensures has_data { OnOk result (self.new.has_data ≡ data_with self.old.has_data path found) }
+        ensures room { OnOk result (self.new.room + 1 ≡ self.old.room) }
+        ensures refused { IfErr result (λ refusal. (refusal ≡ Memory) ⊎ ((refusal ≡ TooMany) × (self.old.room ≡ 0))) }
+    {
+        if self.room == 0 {
+            return Err(Refusal::TooMany);
+        }
+        self.room -= 1;
+        match found {
+            Found::File(size) => self.files.push(FileEntry { path, size })?,
+            Found::Folder => {
+                self.has_data = self.has_data || path.as_str() == "data";
+                self.folders.push(path)?;
             }
-            self.folders.push(path)?;
-        } else {
-            return Err(Refusal::Special);
         }
         Ok(())
     }
 }
 
-/// Finds all that stands below the base folder.
+/// Finds all that stands below the base folder, so that no folder is left that wasn't listed.
 fn walk<R: Files + AllocGlobal + Clone + Drop>(
     rt: &R,
     alloc: Global,
     base: &str,
-) -> Result<FolderWalk, Refusal> {
+) -> Result<FolderWalk, Refusal>
+    ensures { IfOk result (λ walk. walk.folders.items ≡ []) }
+{
     let mut walk = FolderWalk::new(alloc);
     walk.list_folder(rt, base, "")?;
     while let Some(folder) = walk.folders.pop() {
@@ -115,7 +130,8 @@ pub(crate) fn list_below<R: Files + AllocGlobal + Clone + Drop>(
     alloc: Global,
     base: &str,
 ) -> Result<Listing, Refusal>
-    ensures { IfOk result (λ listing. IsOrdered listing.files) }
+    ensures ordered { IfOk result (λ listing. IsOrdered listing.files) }
+    ensures nowhere { base.now ≡ [] → IsErrOf result Device }
 {
     if base.is_empty() {
         return Err(Refusal::Device);

@@ -6,6 +6,7 @@ mod file_map;
 mod file_tree;
 mod folder_set;
 mod folder_walk;
+mod found;
 mod laws;
 mod listing;
 mod memory_tree;
