@@ -21,7 +21,7 @@ use Rattle.bag_text.specs.Path.{is_path}
 use Rattle.bag_store.specs.Listing.{IsOrdered, size_at, entry_at}
 use Rattle.bag_store.specs.Memory.{listed, bag_of, PassesAsBag}
 use Rattle.bag_store.proofs.InMemory.{exact_texts, text_itself}
-use Rattle.bag_store.proofs.Found.{file_at}
+use Rattle.bag_store.proofs.MemoryFiles.{file_at}
 
 paths_listed : (es : List (List ℕ × List ℕ)) → map (λ entry. entry.path) (listed es) ≡ map (λ e. e.0) es
 paths_listed [] = refl

@@ -1,4 +1,4 @@
-use Rattle.bag_store.proofs.Found.{one_put}
+use Rattle.bag_store.proofs.MemoryFiles.{one_put}
 use Rattle.bag_store.proofs.file_map.insert_file.Goals as goal
 
 pub returns-clause-put : goal.returns-clause-put

@@ -1,0 +1,130 @@
+//! The declaration of a bag.
+use crate::checks::{bag_with, checked, request};
+use bag_store::FileTree;
+use std::test::Fail;
+use std::{env, fs, process};
+
+/// A declaration, and what is written of it.
+struct Row {
+    bagit_txt: Option<&'static [u8]>,
+    output: &'static str,
+    status: u8,
+}
+
+const ROWS: [Row; 11] = [
+    Row {
+        bagit_txt: Some(b"BagIt-Version: 1.0\nTag-File-Character-Encoding: UTF-8\n"),
+        output: "d has a good declaration\n",
+        status: 0,
+    },
+    Row {
+        bagit_txt: None,
+        output: "101 no-declaration bagit.txt - - -\nd has faults: 1\n",
+        status: 1,
+    },
+    Row {
+        bagit_txt: Some(b"BagIt-Version: 1.0\nTag-File-Character-Encoding: UTF-8\nx\n"),
+        output: "103 declaration-line-count bagit.txt - - 3\nd has faults: 1\n",
+        status: 1,
+    },
+    Row {
+        bagit_txt: Some(b"BagIt-Version: 0.97\nTag-File-Character-Encoding: UTF-8\n"),
+        output: "105 version-unsupported bagit.txt - 1 0.97\nd has faults: 1\n",
+        status: 1,
+    },
+    Row {
+        bagit_txt: Some(b""),
+        output: "103 declaration-line-count bagit.txt - - 0\nd has faults: 1\n",
+        status: 1,
+    },
+    Row {
+        bagit_txt: Some(b"\xFF"),
+        output: "102 declaration-not-utf8 bagit.txt - - utf8\nd has faults: 1\n",
+        status: 1,
+    },
+    Row {
+        bagit_txt: Some(b"BagIt-Version:1.0\nTag-File-Character-Encoding: utf-8\r"),
+        output: "104 declaration-line bagit.txt - 1 -\nd has faults: 1\n",
+        status: 1,
+    },
+    Row {
+        bagit_txt: Some(b"\xEF\xBB\xBFBagIt-Version: 1.0\nTag-File-Character-Encoding: ISO-8859-1\n"),
+        output: "102 declaration-not-utf8 bagit.txt - - bom\n106 encoding-unsupported bagit.txt - 2 ISO-8859-1\nd has faults: 2\n",
+        status: 1,
+    },
+    Row {
+        bagit_txt: Some(b"BagIt-Version: 1.0\r\nTag-File-Character-Encoding: Utf-8"),
+        output: "d has a good declaration\n",
+        status: 0,
+    },
+    Row {
+        bagit_txt: Some(b"BagIt-Version: 1.x\nTag-File-Character-Encoding: UTF 8\n\n"),
+        output: "103 declaration-line-count bagit.txt - - 3\n104 declaration-line bagit.txt - 1 -\n104 declaration-line bagit.txt - 2 -\nd has faults: 3\n",
+        status: 1,
+    },
+    Row {
+        bagit_txt: Some(b"\xEF\xBB\xBF\xEF\xBB\xBFBagIt-Version: 1.0\nTag-File-Character-Encoding: UTF-8\n"),
+        output: "102 declaration-not-utf8 bagit.txt - - bom\n104 declaration-line bagit.txt - 1 -\nd has faults: 2\n",
+        status: 1,
+    },
+];
+
+#[test]
+fn declarations_in_memory(rt: HostRuntime) -> Result<(), Fail> {
+    for row in ROWS.iter() {
+        let tree = bag_with(rt.alloc(), row.bagit_txt)?;
+        let (output, status) = checked(rt.alloc(), tree, request(rt.alloc(), None, None, false)?);
+        assert_eq!(rt; output.as_slice(), row.output.as_bytes(), "{}", row.output);
+        assert_eq!(rt; status, row.status, "{}", row.output);
+    }
+    Ok(())
+}
+
+/// A fresh folder for one test.
+fn fresh(rt: &HostRuntime, test: &str) -> Result<String, Fail> {
+    let folder = env::temp_dir(rt)?;
+    let id = process::id(rt.process());
+    let path = format!(in rt.alloc(); "{}/rows-{test}-{id}", folder.as_path().display())?;
+    let _ = fs::remove_dir_all(rt, path.as_str());
+    fs::create_dir(rt, path.as_str())?;
+    Ok(path)
+}
+
+#[test]
+fn declarations_on_the_disk(rt: HostRuntime) -> Result<(), Fail> {
+    for row in ROWS.iter() {
+        let base = fresh(&rt, "declarations")?;
+        if let Some(bytes) = row.bagit_txt {
+            fs::write(&rt, format!(in rt.alloc(); "{base}/bagit.txt")?, bytes)?;
+        }
+        let tree = FileTree::at(rt.clone()?, rt.alloc(), base.as_str())?;
+        let (output, status) = checked(rt.alloc(), tree, request(rt.alloc(), None, None, false)?);
+        assert_eq!(rt; output.as_slice(), row.output.as_bytes(), "{}", row.output);
+        assert_eq!(rt; status, row.status, "{}", row.output);
+        fs::remove_dir_all(&rt, base.as_str())?;
+    }
+    Ok(())
+}
+
+#[test]
+fn a_folder_that_is_not_there(rt: HostRuntime) -> Result<(), Fail> {
+    let base = fresh(&rt, "nowhere")?;
+    fs::remove_dir_all(&rt, base.as_str())?;
+    let tree = FileTree::at(rt.clone()?, rt.alloc(), base.as_str())?;
+    let (output, status) = checked(rt.alloc(), tree, request(rt.alloc(), None, None, false)?);
+    assert_eq!(rt; output.as_slice(), b"d unread - device, faults: 0\n".as_slice());
+    assert_eq!(rt; status, 3);
+    Ok(())
+}
+
+#[test]
+fn a_quiet_check_leaves_out_the_good_news_alone(rt: HostRuntime) -> Result<(), Fail> {
+    for row in ROWS.iter() {
+        let tree = bag_with(rt.alloc(), row.bagit_txt)?;
+        let (output, status) = checked(rt.alloc(), tree, request(rt.alloc(), None, None, true)?);
+        let expected = if row.status == 0 { "" } else { row.output };
+        assert_eq!(rt; output.as_slice(), expected.as_bytes(), "{}", row.output);
+        assert_eq!(rt; status, row.status, "{}", row.output);
+    }
+    Ok(())
+}
