@@ -1,5 +1,6 @@
 //! Laws of the definitions, each the contract of a function that does nothing.
 ghost use Rattle.bag_report.specs.FaultLine.{LinesTellFaultsApart};
+ghost use Rattle.bag_report.specs.Report.{ReportIsOne};
 ghost use Rattle.bag_report.specs.FaultOrder.{FaultsAreOrdered, OneOfThreeHolds, EqualFaultsAreOne, AscendingFaultsAreOne};
 
 /// The order of faults is total, and faults that tie are one fault.
@@ -25,4 +26,9 @@ pub fn ascending_faults_are_one()
 /// Different faults have different lines.
 pub fn lines_tell_faults_apart()
     ensures { LinesTellFaultsApart }
+{}
+
+/// A bag has one report.
+pub fn a_bag_has_one_report()
+    ensures { ReportIsOne }
 {}
