@@ -36,8 +36,8 @@ impl From<AllocError> for CursorFault {
 }
 
 impl Fault {
-    /// The fault whose line this is, without the line's end. Every other text is refused: what `to_line` doesn't
-    /// write isn't read, such as an escape that isn't needed or lower-case hex. Takes time in proportion to the text.
+    /// The fault whose line this is. Every text that `to_line` doesn't write is refused, so also one with an end, with
+    /// an escape that isn't needed, with lower-case hex, or with a line 0. Takes time in proportion to the text.
     pub fn from_line(alloc: Global, line: &str) -> Result<Fault, CursorFault>
         ensures ok { IfOk result (spec.IsLineOf line.now) }
         ensures refused { result ≡ Err CursorFault.NotALine → (fault : Fault) → ¬ (spec.IsLineOf line.now fault) }
@@ -109,6 +109,7 @@ fn cut(text: &str) -> Result<(&str, &str), CursorFault>
     text.split_once(' ').ok_or(CursorFault::NotALine)
 }
 
+/// The code whose number is written so, or that of some number written otherwise.
 fn read_code(field: &str) -> Result<Code, CursorFault>
     ensures { (code : Code) → decimal (number code) ≡ field.now → result ≡ Ok code }
 {
@@ -118,6 +119,7 @@ fn read_code(field: &str) -> Result<Code, CursorFault>
     }
 }
 
+/// The algorithm that is written so, or none for a hyphen.
 fn read_alg(field: &str) -> Result<Option<Alg>, CursorFault>
     ensures { (alg : Option Alg) → spec.alg_field alg ≡ field.now → result ≡ Ok alg }
 {
@@ -131,6 +133,7 @@ fn read_alg(field: &str) -> Result<Option<Alg>, CursorFault>
     }
 }
 
+/// The line number that is written so, or some number written otherwise.
 fn read_line_number(field: &str) -> Result<u64, CursorFault>
     ensures { (line : ℕ) → line < 2 ^ 64 → spec.line_field line ≡ field.now → result ≡ Ok line }
 {
@@ -143,6 +146,7 @@ fn read_line_number(field: &str) -> Result<u64, CursorFault>
     }
 }
 
+/// The text that is written so, or some text written otherwise.
 fn read_text(alloc: Global, field: &str) -> Result<Text, CursorFault>
     ensures text { IfOk result (λ text. IsUtf8 text) }
     ensures reads { (text : List ℕ) → IsUtf8 text → spec.field text ≡ field.now → MatchResult result (λ read. read ≡ text) (λ e. e ≡ CursorFault.Memory) }

@@ -1,7 +1,9 @@
-//! Laws of the definitions, each the contract of a function that does nothing.
+//! Laws of the definitions, each the contract of a function that gives nothing.
 ghost use Rattle.bag_report.specs.FaultLine.{LinesTellFaultsApart};
+ghost use Rattle.bag_report.specs.FaultOrder.{FaultsAreOrdered, OneOfThreeHolds, EqualFaultsAreOne, AscendingFaultsAreOne, IsFault};
 ghost use Rattle.bag_report.specs.Report.{ReportIsOne};
-ghost use Rattle.bag_report.specs.FaultOrder.{FaultsAreOrdered, OneOfThreeHolds, EqualFaultsAreOne, AscendingFaultsAreOne};
+
+use crate::Fault;
 
 /// The order of faults is total, and faults that tie are one fault.
 pub fn faults_are_ordered()
@@ -32,3 +34,12 @@ pub fn lines_tell_faults_apart()
 pub fn a_bag_has_one_report()
     ensures { ReportIsOne }
 {}
+
+/// Every fault has UTF-8 texts, and a line number that fits 64 bits.
+pub fn every_fault_is_one(fault: &Fault)
+    ensures { IsFault fault.now }
+{
+    let _path = fault.path.as_str();
+    let _line = fault.line;
+    let _detail = fault.detail.as_str();
+}

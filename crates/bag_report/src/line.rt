@@ -1,4 +1,9 @@
 //! Faults as lines of text.
+//!
+//! A line is `CODE WORD PATH ALG LINE DETAIL`, six fields with one space between, all of it ASCII. CODE is the number of
+//! the code, and WORD its word. ALG is the name of the algorithm, or `-` for none. LINE is in decimal, or `-` for 0. PATH
+//! and DETAIL are `-` where they are empty, and `%2D` where they are the text `-`. In any other text the bytes 0 to 32,
+//! `%`, 127 and those outside ASCII are written as `%` and two upper-case hex digits, and every other byte as itself.
 ghost use Rattle.std.specs.Prelude.{◌≡◌, ◌++◌, IfOk, OnOk, OnErr, string_bytes, string_len, take, decimal};
 ghost use Rattle.bag_report.specs.FaultLine as spec;
 
@@ -9,8 +14,7 @@ use percent_encoding::{AsciiSet, CONTROLS, ascii_set, percent_encode};
 use std::alloc::{AllocError, Global};
 
 impl Fault {
-    /// The fault as a line without its end: code, word, path, algorithm, line and detail with one space between.
-    /// The line is ASCII. Fails only where memory runs out.
+    /// The fault as a line, without an end: `601 payload-file-missing data/a md5 - -`. Fails only where memory runs out.
     pub fn to_line(&self, alloc: Global) -> Result<String, AllocError>
         ensures { IfOk result (λ line. string_bytes line ≡ spec.fault_line self.now) }
     {
@@ -19,7 +23,7 @@ impl Fault {
         Ok(line)
     }
 
-    /// Appends the fault's line without its end to a text. Where memory runs out, the text is as it was.
+    /// Appends the fault as a line, without an end. Fails only where memory runs out, and leaves the text as it was.
     pub fn append_line(&self, out: &mut String) -> Result<(), AllocError>
         ensures ok { OnOk result (string_bytes out.new ≡ string_bytes out.old ++ spec.fault_line self.now) }
         ensures err { OnErr result (string_bytes out.new ≡ string_bytes out.old) }
