@@ -1,6 +1,6 @@
 -- The exit status of the program.
-use Rattle.std.specs.Prelude.{ℕ, ◌≡◌, ◌⊎◌}
+use Rattle.std.specs.Prelude.{ℕ, ◌≤◌, ◌≢◌}
 
 -- 0 where no bag has a fault, 1 where one has, 3 where something was refused
 abbrev pub IsStatus : ℕ → Type 0
-IsStatus n = (n ≡ 0) ⊎ ((n ≡ 1) ⊎ (n ≡ 3))
+IsStatus n = (n ≤ 3) × (n ≢ 2)

@@ -1,6 +1,6 @@
 //! What the words of a command line ask for.
 ghost use Rattle.std.specs.Prelude.{◌≡◌, MatchResult, Some, map};
-ghost use Rattle.bagit.specs.Plan.{IsRefusalOf, plan_of_words, texts};
+ghost use Rattle.bagit.specs.Plan.{IsRefusalOf, asks_for_a_check, plan_of_words, texts};
 
 use crate::Usage;
 use bag_text::{Items, Text};
@@ -35,7 +35,7 @@ pub fn plan_of(alloc: Global, words: &[&str]) -> Result<Plan, Usage>
             directories: Items::new(alloc),
         }),
         [first, second, directory] => {
-            if *first != "--validate" || *second != "--declaration-only" {
+            if !ask_for_a_check(first, second) {
                 return Err(Usage::Refused);
             }
             let mut directories = Items::new(alloc);
@@ -47,4 +47,11 @@ pub fn plan_of(alloc: Global, words: &[&str]) -> Result<Plan, Usage>
         }
         _ => Err(Usage::Refused),
     }
+}
+
+/// Whether the first two words ask for the check of a declaration.
+fn ask_for_a_check(first: &str, second: &str) -> bool
+    ensures { result ≡ asks_for_a_check first.now second.now }
+{
+    first == "--validate" && second == "--declaration-only"
 }

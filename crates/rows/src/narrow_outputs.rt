@@ -4,6 +4,7 @@ use bag_store::WriterOut;
 use bag_walk::{Outcome, run, status};
 use std::alloc::Global;
 use std::io::{self, Write};
+use std::process::Abort;
 use std::test::Fail;
 
 /// Takes at most so many bytes a call until it has no room, and then refuses.
@@ -58,10 +59,10 @@ fn an_output_that_takes_a_byte_at_a_time(rt: HostRuntime) -> Result<(), Fail> {
 }
 
 /// Each room that is too small, with an output that takes so many bytes a call.
-fn refuses_at_each_place(rt: &HostRuntime, most: usize) -> Result<(), Fail> {
-    let text = whole(rt.alloc())?;
+fn refuses_at_each_place(rt: &impl Abort, alloc: Global, most: usize) -> Result<(), Fail> {
+    let text = whole(alloc)?;
     for room in 0..text.len() {
-        let (taken, outcome) = narrowly_checked(rt.alloc(), most, room)?;
+        let (taken, outcome) = narrowly_checked(alloc, most, room)?;
         assert!(rt; text.as_bytes().starts_with(&taken), "room {room}");
         assert_eq!(rt; taken.len(), room);
         let first = MARK_LINE.len();
@@ -77,8 +78,8 @@ fn refuses_at_each_place(rt: &HostRuntime, most: usize) -> Result<(), Fail> {
 
 #[test]
 fn an_output_that_refuses_at_each_place(rt: HostRuntime) -> Result<(), Fail> {
-    refuses_at_each_place(&rt, usize::MAX)?;
-    refuses_at_each_place(&rt, 1)
+    refuses_at_each_place(&rt, rt.alloc(), usize::MAX)?;
+    refuses_at_each_place(&rt, rt.alloc(), 1)
 }
 
 #[test]
