@@ -100,10 +100,10 @@ file_put_passes old new path bytes files folders is are passes =
     let same : with_file old path bytes ≡ new = λ i. record { files = sym files i; folders = sym folders i } in
     subst PassesAsBag same (file_passes old path bytes is are passes)
 
-pub folder_put_passes : {E : Type 0} (r : Result Bool E) (files : List (List ℕ × List ℕ)) (old new : List (List ℕ)) (name : List ℕ)
+pub folder_put_passes : {E : Type 0} (r : Result (Unit {0}) E) (files : List (List ℕ × List ℕ)) (old new : List (List ℕ)) (name : List ℕ)
     → OnOk r (folder_set new ≡ set.insert (folder_set old) name) → OnErr r (folder_set new ≡ folder_set old)
     → is_text_name name ≡ true → PassesAsBag (bag_of files old) → PassesAsBag (bag_of files new)
-folder_put_passes (Ok b) files old new name put refused is passes =
+folder_put_passes (Ok u) files old new name put refused is passes =
     let same : with_folder (bag_of files old) name ≡ bag_of files new = λ i. record { files = file_map files; folders = sym put i } in
     subst PassesAsBag same (folder_passes (bag_of files old) name is passes)
 folder_put_passes (Err e) files old new name put refused is passes =
