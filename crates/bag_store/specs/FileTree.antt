@@ -7,6 +7,11 @@ use Rattle.bag_store.specs.Bag.{Bag, IsBag, HasFile, file, has_folder}
 use Rattle.bag_text.specs.Text.{text_cmp}
 use Rattle.bag_text.specs.Path.{under}
 use Rattle.bag_store.specs.Tree.{TreeState}
+use Rattle.bag_store.specs.declared.file_tree.FileTree.{FileTree}
+
+-- the path of the base folder
+abbrev pub base_of : {R F D : Type 0} → FileTree R F D → List ℕ
+base_of tree = tree.base
 
 -- the bag of a folder of which nothing is known
 abbrev pub unknown_bag : Bag

@@ -1,7 +1,7 @@
 //! A tree of real files.
 ghost use Rattle.std.specs.Prelude.{◌≡◌, [], false, is_some, IfOk, IsErrOf};
 ghost use Rattle.bag_text.specs.Path.{is_path};
-ghost use Rattle.bag_store.specs.FileTree.{disk_state, unknown_bag_is_a_bag};
+ghost use Rattle.bag_store.specs.FileTree.{base_of, disk_state, unknown_bag_is_a_bag};
 ghost use Rattle.bag_store.specs.declared.refusal.Refusal.TheVariants.{NotFound};
 
 #[cfg(test)]
@@ -14,7 +14,7 @@ use crate::{Listing, Tree, TreeFault};
 use bag_text::{Items, Text};
 use std::alloc::{AllocError, Global};
 use std::fs;
-use std::io::{ErrorKind, Read};
+use std::io::Read;
 use std::rt::Files;
 
 /// The files below a base folder of the disk.
@@ -34,7 +34,8 @@ pub struct FileTree<R: Files> {
 impl<R: Files + AllocGlobal + Clone + Drop> FileTree<R> {
     /// The tree below a base folder, at which it doesn't look yet.
     pub fn at(rt: R, alloc: Global, base: &str) -> Result<FileTree<R>, AllocError>
-        ensures { IfOk result (λ tree. ⟦<FileTree<R> as Tree>⟧.state tree ≡ disk_state 0 [] false) }
+        ensures base { IfOk result (λ tree. base_of tree ≡ base.now) }
+        ensures state { IfOk result (λ tree. ⟦<FileTree<R> as Tree>⟧.state tree ≡ disk_state 0 [] false) }
     {
         Ok(FileTree {
             rt,
