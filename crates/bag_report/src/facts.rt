@@ -42,11 +42,18 @@ impl Facts {
             None => None,
             Some(entry) => Some(Facts::read_declaration_of(alloc, tree, entry)?),
         };
-        Ok(Facts { options, declaration })
+        Ok(Facts {
+            options,
+            declaration,
+        })
     }
 
     /// The declaration that a listed file holds.
-    fn read_declaration_of<T: Tree>(alloc: Global, tree: &mut T, entry: &FileEntry) -> Result<Declaration, Stop>
+    fn read_declaration_of<T: Tree>(
+        alloc: Global,
+        tree: &mut T,
+        entry: &FileEntry,
+    ) -> Result<Declaration, Stop>
         ensures keeps { Keeps (T.state tree.old) (T.state tree.new) }
         ensures opens { OpensAtMost (T.state tree.old) (T.state tree.new) entry.now.path }
         ensures declaration { IfOk result (λ declaration. IsTrue (T.state tree.old).honest

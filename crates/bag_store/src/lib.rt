@@ -14,11 +14,10 @@ mod out;
 mod path_order;
 mod place;
 mod refusal;
-mod tree;
-mod whole;
-
 #[cfg(test)]
 mod tests;
+mod tree;
+mod whole;
 
 pub use fault::{Stop, TreeFault};
 pub use file_tree::FileTree;

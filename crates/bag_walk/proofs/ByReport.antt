@@ -17,7 +17,7 @@ run_by_report old new request before after refused outcome run honest report is 
     let asked = above_report old.bag request report is in
     let front = first_is_front (IsAsked old.bag request) run.shown faults (run.faults honest) asked in
     let whole : ReachesEnd run.ending → length run.shown ≡ length faults =
-        λ reached. ap length (all_is_list (IsAsked old.bag request) run.shown faults (run.faults honest) asked (run.all_shown honest reached)) in
+    λ reached. ap length (all_is_list (IsAsked old.bag request) run.shown faults (run.faults honest) asked (run.all_shown honest reached)) in
     record {
       count = length run.shown;
       ending = run.ending;

@@ -51,12 +51,12 @@ module _ (request : Request) (Stops : Stop → Type 0) where
   wrote_closed shown old mid new refused ending result m t (inl c) =
       subst (Wrote request shown ending old new refused) (sym c.0)
       (wrote_all (length shown) shown old new refused ending m
-        (subst (Appends old new) (sym (concat-append_one (written shown) (closing request ending))) (Appends-append old mid new (concat (written shown)) (closing request ending) t c.1)))
+      (subst (Appends old new) (sym (concat-append_one (written shown) (closing request ending))) (Appends-append old mid new (concat (written shown)) (closing request ending) t c.1)))
   wrote_closed shown old mid new refused ending result m t (inr c) =
       let last : List ℕ = closing request ending in
       let at : slice_get (lines_of_run request shown ending) (count_of ending) ≡ Some last = rw (counted (length shown) ending m) (last_of_run last shown) in
       let before : Appends old mid (concat (take (count_of ending) (lines_of_run request shown ending))) =
-          rw (counted (length shown) ending m, all_of_run last shown) t in
+      rw (counted (length shown) ending m, all_of_run last shown) t in
       subst (Wrote request shown ending old new refused) (sym c.0) (c.1, cut_at (lines_of_run request shown ending) (count_of ending) last old mid new at before c.2)
 
   -- the report was written as far as the ending says
@@ -110,7 +110,7 @@ module _ (request : Request) (Stops : Stop → Type 0) where
       let last : List ℕ = closing request (ideal request faults) in
       let size : length shown ≡ n = take_length n faults (omega arith) in
       let at : slice_get (written shown ++ last ∷ []) i ≡ Some (written_line (get_or faults i d)) =
-          line_of_run last shown i d (omega arith) ∙ ap (λ f. Some (written_line f)) (get_or-take n i faults d (omega arith)) in
+      line_of_run last shown i d (omega arith) ∙ ap (λ f. Some (written_line f)) (get_or-take n i faults d (omega arith)) in
       let front : take i (written shown ++ last ∷ []) ≡ written (take i faults) = front_of_run last shown i (omega arith) ∙ ap written (take-take n i faults (omega arith)) in
       record {
         count = n;

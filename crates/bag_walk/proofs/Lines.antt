@@ -56,6 +56,8 @@ pub cut_at : (lines : List (List ℕ)) (i : ℕ) (line : List ℕ) (old mid new 
     → (bytes : List ℕ) × IsCutAt i lines bytes × Appends old new bytes
 cut_at lines i line old mid new at taken cut =
     let n : ℕ = cut.0 in
-    let whole : slice_get lines i ≡ Some (take n line ++ drop n line) = at ∙ ap Some (sym (take-append-drop n line)) in
-    (concat (take i lines) ++ take n line, (take n line, drop n line, whole, some_left line n cut.1, refl),
-      Appends-append old mid new (concat (take i lines)) (take n line) taken cut.2)
+    let whole : slice_get lines i ≡ Some (take n line ++ drop n line) = at ∙ ap Some (sym (take-append-drop n line)) in (
+      concat (take i lines) ++ take n line,
+      (take n line, drop n line, whole, some_left line n cut.1, refl),
+      Appends-append old mid new (concat (take i lines)) (take n line) taken cut.2,
+    )

@@ -79,12 +79,14 @@ module _ {A : Type 0} where
       front_of_list (x ∷ s) (y ∷ xs) p q inside none =
           let same : x ≡ y = heads_are_one x y s xs p q (inside x (contains_first x s)) none in
           let rest = front_of_list s xs p.1 q.1
-              (λ f c. elim (contains_cases y xs f (inside f (contains_behind x s f c))) [
-                | inl e ↦ absurd (not_less_than_itself total x f (same ∙ e) (member_has _ s f p.0 c))
-                | inr d ↦ d ])
-              (λ f g c d less. elim (contains_cases x s f (none f g (contains_behind y xs f c) (contains_behind x s g d) less)) [
-                | inl e ↦ absurd (not_less_than_itself total y f (sym same ∙ e) (member_has _ xs f q.0 c))
-                | inr h ↦ h ]) in
+          (λ f c. elim (contains_cases y xs f (inside f (contains_behind x s f c))) [
+            | inl e ↦ absurd (not_less_than_itself total x f (same ∙ e) (member_has _ s f p.0 c))
+            | inr d ↦ d
+          ])
+          (λ f g c d less. elim (contains_cases x s f (none f g (contains_behind y xs f c) (contains_behind x s g d) less)) [
+            | inl e ↦ absurd (not_less_than_itself total y f (sym same ∙ e) (member_has _ xs f q.0 c))
+            | inr h ↦ h
+          ]) in
           let shorter : length s ≤ length xs = rest.0 in
           (omega arith, λ i. same i ∷ rest.1 i)
 
@@ -92,9 +94,9 @@ module _ {A : Type 0} where
 kept : {A : Type 0} (p : A → Bool) (y : A) (xs : List A) (x : A) (b : Bool) → p y ≡ b → (Contains (filter p xs) x → Contains xs x × (p x ≡ true))
     → Contains (cond b (y ∷ filter p xs) (filter p xs)) x → Contains (y ∷ xs) x × (p x ≡ true)
 kept p y xs x true e more d = elim (contains_cases y (filter p xs) x d) [
-    | inl same ↦ (subst (Contains (y ∷ xs)) same (contains_first y xs), sym (ap p same) ∙ e)
-    | inr h ↦ (let both = more h in (contains_behind y xs x both.0, both.1))
-  ]
+  | inl same ↦ (subst (Contains (y ∷ xs)) same (contains_first y xs), sym (ap p same) ∙ e)
+  | inr h ↦ (let both = more h in (contains_behind y xs x both.0, both.1))
+]
 kept p y xs x false e more d = let both = more d in (contains_behind y xs x both.0, both.1)
 
 pub contains_filtered : {A : Type 0} (p : A → Bool) (xs : List A) (x : A) → Contains (filter p xs) x → Contains xs x × (p x ≡ true)
@@ -104,13 +106,13 @@ contains_filtered p (y ∷ xs) x c = kept p y xs x (p y) refl (λ d. contains_fi
 keeps : {A : Type 0} (p : A → Bool) (y : A) (xs : List A) (x : A) (b : Bool) → p y ≡ b → p x ≡ true → (Contains xs x → Contains (filter p xs) x)
     → Contains (y ∷ xs) x → Contains (cond b (y ∷ filter p xs) (filter p xs)) x
 keeps p y xs x true e t more c = elim (contains_cases y xs x c) [
-    | inl same ↦ subst (Contains (y ∷ filter p xs)) same (contains_first y (filter p xs))
-    | inr h ↦ contains_behind y (filter p xs) x (more h)
-  ]
+  | inl same ↦ subst (Contains (y ∷ filter p xs)) same (contains_first y (filter p xs))
+  | inr h ↦ contains_behind y (filter p xs) x (more h)
+]
 keeps p y xs x false e t more c = elim (contains_cases y xs x c) [
-    | inl same ↦ (let clash : true ≡ false = sym t ∙ sym (ap p same) ∙ e in cc)
-    | inr h ↦ more h
-  ]
+  | inl same ↦ (let clash : true ≡ false = sym t ∙ sym (ap p same) ∙ e in cc)
+  | inr h ↦ more h
+]
 
 pub filtered_contains : {A : Type 0} (p : A → Bool) (xs : List A) (x : A) → Contains xs x → p x ≡ true → Contains (filter p xs) x
 filtered_contains p [] x c t = absurd (contains_nothing x c)

@@ -11,7 +11,11 @@ use bag_store::{Out, Refused, Stop};
 use itoa::Buffer;
 
 /// Hands the closing line to the output.
-pub(crate) fn put_closing<W: Out>(request: &Request, outcome: &Outcome, out: &mut W) -> Result<(), Refused>
+pub(crate) fn put_closing<W: Out>(
+    request: &Request,
+    outcome: &Outcome,
+    out: &mut W,
+) -> Result<(), Refused>
     ensures { Writes (W.taken out.old) (W.taken out.new) (W.has_refused out.new) (spec.closing request.now outcome.now) result }
 {
     let name = request.name.as_str();
@@ -77,7 +81,16 @@ fn put_cause<W: Out>(stop: &Stop, count: u64, out: &mut W) -> Result<(), Refused
 {
     let mut digits = Buffer::new();
     put_field(stop.path.as_str(), out)?;
-    put_pieces(out, &[" ", stop.cause.word(), ", faults: ", digits.format(count), "\n"])
+    put_pieces(
+        out,
+        &[
+            " ",
+            stop.cause.word(),
+            ", faults: ",
+            digits.format(count),
+            "\n",
+        ],
+    )
 }
 
 /// Hands a text to the output as a field of a line.

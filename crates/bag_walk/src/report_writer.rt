@@ -12,7 +12,12 @@ use bag_text::Text;
 use std::alloc::{AllocError, Global};
 
 /// Writes the lines of the faults up to the limit, and the closing line.
-pub(crate) fn write_report<W: Out>(alloc: Global, faults: &[Fault], request: &Request, out: &mut W) -> Outcome
+pub(crate) fn write_report<W: Out>(
+    alloc: Global,
+    faults: &[Fault],
+    request: &Request,
+    out: &mut W,
+) -> Outcome
     requires { 0 < limit_of request.now }
     ensures { WritesReport request.now faults.now IsOutOfMemory (W.taken out.old) (W.taken out.new) (W.has_refused out.new) result }
 {

@@ -67,7 +67,11 @@ fn faults_asked<T: Tree>(alloc: Global, tree: &mut T, request: &Request) -> Resu
 }
 
 /// The faults of the declaration that are greater than a cursor.
-fn faults_above(alloc: Global, facts: &Facts, after: Option<&Fault>) -> Result<Vec<Fault>, AllocError>
+fn faults_above(
+    alloc: Global,
+    facts: &Facts,
+    after: Option<&Fault>,
+) -> Result<Vec<Fault>, AllocError>
     ensures { IfOk result (λ faults. (bag : Bag) → IsFactsOf bag facts.now
         → (all : List Fault) × IsStageOf bag facts.now.options 1 all × (faults.items ≡ above (option_copied after.entry) all)) }
 {

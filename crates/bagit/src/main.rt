@@ -7,19 +7,17 @@
 mod perform;
 mod plan;
 mod sample;
-mod usage;
-
 #[cfg(test)]
 mod tests;
+mod usage;
 
 pub use perform::perform;
 pub use plan::{Action, Plan, plan_of};
-pub use usage::Usage;
-
 use std::alloc::AllocError;
 use std::env;
 use std::io::{self, ErrorKind, Write};
 use std::process::ExitCode;
+pub use usage::Usage;
 
 fn main(rt: HostRuntime) -> ExitCode {
     let status = match asked_plan(&rt) {

@@ -71,7 +71,12 @@ fn check_sample<O: Out>(alloc: Global, out: &mut O) -> Result<Outcome, AllocErro
 }
 
 /// Runs over a tree under a name.
-fn report<T: Tree + Drop, O: Out>(alloc: Global, tree: T, name: &str, out: &mut O) -> Result<Outcome, AllocError> {
+fn report<T: Tree + Drop, O: Out>(
+    alloc: Global,
+    tree: T,
+    name: &str,
+    out: &mut O,
+) -> Result<Outcome, AllocError> {
     let request = Request {
         options: Options {
             depth: Depth::Declaration,

@@ -41,7 +41,10 @@ fn the_sample_has_a_good_declaration(rt: HostRuntime) -> Result<(), Fail> {
     let mut err = Vec::<u8>::new(rt.alloc());
     let status = perform(&rt, &plan_of(rt.alloc(), &[])?, &mut out, &mut err);
     assert_eq!(rt; status, 0);
-    assert_eq!(rt; out.as_slice(), b"sample has a good declaration\n".as_slice());
+    assert_eq!(rt;
+        out.as_slice(),
+        b"sample has a good declaration\n".as_slice()
+    );
     assert_eq!(rt; err.len(), 0);
     Ok(())
 }
@@ -50,10 +53,16 @@ fn the_sample_has_a_good_declaration(rt: HostRuntime) -> Result<(), Fail> {
 fn a_folder_that_is_not_there_is_unread(rt: HostRuntime) -> Result<(), Fail> {
     let mut out = Vec::<u8>::new(rt.alloc());
     let mut err = Vec::<u8>::new(rt.alloc());
-    let plan = plan_of(rt.alloc(), &["--validate", "--declaration-only", "no such folder"])?;
+    let plan = plan_of(
+        rt.alloc(),
+        &["--validate", "--declaration-only", "no such folder"],
+    )?;
     let status = perform(&rt, &plan, &mut out, &mut err);
     assert_eq!(rt; status, 3);
-    assert_eq!(rt; out.as_slice(), b"no%20such%20folder unread - device, faults: 0\n".as_slice());
+    assert_eq!(rt;
+        out.as_slice(),
+        b"no%20such%20folder unread - device, faults: 0\n".as_slice()
+    );
     assert_eq!(rt; err.len(), 0);
     Ok(())
 }
@@ -62,7 +71,12 @@ fn a_folder_that_is_not_there_is_unread(rt: HostRuntime) -> Result<(), Fail> {
 fn an_output_that_refuses_stops_the_program(rt: HostRuntime) -> Result<(), Fail> {
     let mut err = Vec::<u8>::new(rt.alloc());
     let mut room = [0u8; 10];
-    let status = perform(&rt, &plan_of(rt.alloc(), &[])?, room.as_mut_slice(), &mut err);
+    let status = perform(
+        &rt,
+        &plan_of(rt.alloc(), &[])?,
+        room.as_mut_slice(),
+        &mut err,
+    );
     assert_eq!(rt; status, 3);
     assert_eq!(rt; room.as_slice(), b"sample has".as_slice());
     assert_eq!(rt; err.as_slice(), b"bagit: output refused\n".as_slice());

@@ -24,7 +24,7 @@ returns-in-Err g c =
     let below : i < limit_of c.args.request.now = omega (arith, c.loop-fault.invariant.count, c.loop-fault.invariant.below) in
     rw c.loop-fault.invariant.count
     (cut_report c.args.request.now IsOutOfMemory c.args.faults.now i d _ _ _ _ c.loop-fault-test.true below c.in-Err.ensures.1 c.loop-fault.invariant.taken
-      (subst (λ (text : List ℕ). IsCut (g.W.Out.taken c.loop-fault.out) (g.W.Out.taken c.put_all.new.out) text) line_is c.in-Err.ensures.0))
+    (subst (λ (text : List ℕ). IsCut (g.W.Out.taken c.loop-fault.out) (g.W.Out.taken c.put_all.new.out) text) line_is c.in-Err.ensures.0))
 
 pub returns-then-written-limit : goal.returns-then-written-limit
 returns-then-written-limit g c =
@@ -32,9 +32,9 @@ returns-then-written-limit g c =
     let i = c.loop-fault.fault-index in
     let line_is : c.as_bytes.result.now ≡ written_line (get_or c.args.faults.now i d) = c.as_bytes.ensures.value ∙ c.in-Ok.ensures ∙ ap written_line c.fault-item.is in
     let more : Appends (g.W.Out.taken c.args.out.now) (g.W.Out.taken c.put_all.new.out) (concat (written (take (i + 1) c.args.faults.now))) =
-        rw (written_more c.args.faults.now i d c.loop-fault-test.true)
-        (Appends-append _ _ _ _ _ c.loop-fault.invariant.taken
-          (subst (λ (text : List ℕ). Appends (g.W.Out.taken c.loop-fault.out) (g.W.Out.taken c.put_all.new.out) text) line_is c.in_default-put_all.ensures)) in
+    rw (written_more c.args.faults.now i d c.loop-fault-test.true)
+    (Appends-append _ _ _ _ _ c.loop-fault.invariant.taken
+    (subst (λ (text : List ℕ). Appends (g.W.Out.taken c.loop-fault.out) (g.W.Out.taken c.put_all.new.out) text) line_is c.in_default-put_all.ensures)) in
     closed_report c.args.request.now IsOutOfMemory c.args.faults.now (i + 1) _ _ _ _ (Stopped (c.loop-fault.written + 1)) _
     (omega (arith, c.loop-fault-test.true)) (omega (arith, c.loop-fault.invariant.count), omega (arith, c.loop-fault.invariant.count, c.if-written-limit.true, c.unwrap_or-limit.ensures)) (λ reached. absurd reached) more
     c.close-then-written-limit.ensures
@@ -48,7 +48,7 @@ loop-fault-preserved g c =
       count = omega (arith, c.loop-fault.invariant.count);
       below = omega (arith, c.loop-fault.invariant.below, c.if-written-limit.false, c.unwrap_or-limit.ensures);
       taken = rw (written_more c.args.faults.now i d c.loop-fault-test.true)
-        (Appends-append _ _ _ _ _ c.loop-fault.invariant.taken
+          (Appends-append _ _ _ _ _ c.loop-fault.invariant.taken
           (subst (λ (text : List ℕ). Appends (g.W.Out.taken c.loop-fault.out) (g.W.Out.taken c.put_all.new.out) text) line_is c.in_default-put_all.ensures));
     }
 

@@ -20,5 +20,5 @@ returns-clause-opens g c =
       | in-Some+in_ok-read_declaration_of-in-Some w ↦
           rw w.tree-is
           (opens_one c.args.options (state c.args.tree.now) (state c.list.new.self) (state w.read_declaration_of.new.tree)
-            w.in-Some.entry.now.path w.in-Some.ensures.path c.list.ensures.openings w.read_declaration_of.ensures.opens)
+          w.in-Some.entry.now.path w.in-Some.ensures.path c.list.ensures.openings w.read_declaration_of.ensures.opens)
     ]
