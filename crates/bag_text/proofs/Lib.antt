@@ -3,4 +3,7 @@ pub mod FirstLine
 pub mod LineLaws
 pub mod ListOf
 pub mod Numbered
+pub mod Paths
+pub mod SpellingLaws
+pub mod Spellings
 pub mod Utf8

@@ -7,7 +7,9 @@ mod code;
 mod items;
 pub mod laws;
 mod line_cut;
+mod path;
 mod read_text;
+mod spelling;
 #[cfg(test)]
 mod tests;
 mod text;
@@ -17,5 +19,7 @@ pub use alg_set::AlgSet;
 pub use code::Code;
 pub use items::Items;
 pub use line_cut::Lines;
+pub use path::{Unsafe, check_path, is_payload};
 pub use read_text::{NotUtf8, lines, text_of};
+pub use spelling::{PathFault, escape_path, unescape_path};
 pub use text::Text;

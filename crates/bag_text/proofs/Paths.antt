@@ -1,0 +1,66 @@
+-- Paths and their components.
+use Rattle.std.proofs.Common.{◌≡◌, ◌≢◌, ℕ, Bool, true, false, cond, List, [], ◌∷◌, length, refl, sym, ap, subst, ◌∙◌, eqb, arith, All}
+use Rattle.std.specs.List.{onto_first, AllByRecursion, AllPass, join_with_byte}
+use Rattle.std.proofs.lemmas.Bool.Decides.{nat_tests}
+use Rattle.std.proofs.lemmas.List.Elements.{recursion_from_All, All-from_recursion}
+use Rattle.std.proofs.lemmas.List.Splits.{slice_split_none, slice_split_at, length-slice_split, join_with_byte-slice_split}
+use Rattle.std.proofs.lemmas.List.Sums.{AllPass-from_list_all, list_all-from_AllPass}
+use Rattle.bag_text.specs.Path.{slash, components, is_component, PathsAreJoinedComponents}
+
+abbrev is_slash : ℕ → Bool
+is_slash c = eqb c slash
+
+-- no character of a component is a slash
+abbrev IsClean : List ℕ → Type 0
+IsClean part = All (λ c. c ≢ slash) part
+
+not_slash : (c : ℕ) → c ≢ slash → is_slash c ≡ false
+not_slash c h = grind (arith, nat_tests)
+
+is_no_slash : (c : ℕ) → is_slash c ≡ false → c ≢ slash
+is_no_slash c h e = grind (arith, nat_tests)
+
+clean_fails : (part : List ℕ) → IsClean part → All (λ c. is_slash c ≡ false) part
+clean_fails part clean k d l = not_slash _ (clean k d l)
+
+-- components that are joined are cut again
+split_join : (part : List ℕ) (parts : List (List ℕ)) → AllByRecursion IsClean (part ∷ parts) → components (join_with_byte slash (part ∷ parts)) ≡ part ∷ parts
+split_join part [] clean = slice_split_none is_slash part (clean_fails part clean.0)
+split_join part (next ∷ parts) clean =
+    slice_split_at is_slash part slash (join_with_byte slash (next ∷ parts)) (clean_fails part clean.0) refl
+    ∙ ap (λ more. part ∷ more) (split_join next parts clean.1)
+
+joined_again : (parts : List (List ℕ)) → parts ≢ [] → AllByRecursion IsClean parts → components (join_with_byte slash parts) ≡ parts
+joined_again [] some clean = absurd (some refl)
+joined_again (part ∷ parts) some clean = split_join part parts clean
+
+clean_nil : IsClean []
+clean_nil k d l = absurd (omega arith)
+
+clean_cons : (c : ℕ) (part : List ℕ) → is_slash c ≡ false → IsClean part → IsClean (c ∷ part)
+clean_cons c part e clean = All-from_recursion (λ x. x ≢ slash) (c ∷ part) (is_no_slash c e, recursion_from_All (λ x. x ≢ slash) part clean)
+
+clean_onto : (c : ℕ) (parts : List (List ℕ)) → is_slash c ≡ false → AllByRecursion IsClean parts → AllByRecursion IsClean (onto_first c parts)
+clean_onto c [] e clean = (clean_cons c [] e clean_nil, tt)
+clean_onto c (part ∷ parts) e clean = (clean_cons c part e clean.0, clean.1)
+
+clean_next : (c : ℕ) (parts : List (List ℕ)) (b : Bool) → is_slash c ≡ b → AllByRecursion IsClean parts → AllByRecursion IsClean (cond b ([] ∷ parts) (onto_first c parts))
+clean_next c parts true e clean = (clean_nil, clean)
+clean_next c parts false e clean = clean_onto c parts e clean
+
+-- no component has a slash
+components_clean : (t : List ℕ) → AllByRecursion IsClean (components t)
+components_clean [] = (clean_nil, tt)
+components_clean (c ∷ t) = clean_next c (components t) _ refl (components_clean t)
+
+some_component : (t : List ℕ) → components t ≢ []
+some_component t e = absurd (omega (arith, length-slice_split is_slash t, ap length e))
+
+-- a path is its components with a slash between each two
+pub joined_components : PathsAreJoinedComponents
+joined_components t = (
+  (λ h. (components t, some_component t, AllPass-from_list_all is_component (components t) h, All-from_recursion IsClean (components t) (components_clean t), sym (join_with_byte-slice_split slash t))),
+  (λ (parts, some, good, clean, is).
+      list_all-from_AllPass is_component (components t)
+      (subst (AllPass is_component) (sym (ap components is ∙ joined_again parts some (recursion_from_All IsClean parts clean))) good)),
+)

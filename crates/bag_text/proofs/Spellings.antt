@@ -1,0 +1,104 @@
+-- Reading and writing spellings piece by piece.
+use Rattle.std.proofs.Common.{◌≡◌, ◌≢◌, ℕ, suc, ◌<◌, ◌≤◌, List, [], ◌∷◌, ◌++◌, length, get_or, Option, Some, None, Bool, true, false, ◌&&◌, ◌||◌, refl, sym, ap, ◌∙◌, arith, eqb, append_assoc, append-nil, encode_utf8, nat_lt, lit<}
+use Rattle.std.specs.Char.{to_ascii_lowercase}
+use Rattle.std.specs.Option.{option_map}
+use Rattle.std.specs.Str.{IsUtf8, IsCharBoundary, NoCharPasses, encode_utf8_all, bytes_eq}
+use Rattle.std.proofs.lemmas.Bool.Decides.{nat_tests}
+use Rattle.std.proofs.lemmas.List.Concat.{flat_map-append}
+use Rattle.std.proofs.lemmas.Str.{NoCharPasses-byte, encodes-append, IsCharBoundary-after_ascii}
+use Rattle.bag_text.specs.Spelling.{percent, escaped, both, unescaped, escape_one, escape}
+use Rattle.bag_text.proofs.SpellingLaws.{unescaped_plain}
+
+-- a character that is escaped
+abbrev pub is_escaped : ℕ → Bool
+is_escaped c = eqb c 10 || eqb c 13 || eqb c 37
+
+escape_one_plain : (c : ℕ) → is_escaped c ≡ false → escape_one c ≡ c ∷ []
+escape_one_plain c e = grind (arith, nat_tests)
+
+escape_plain : (t : List ℕ) → ((i : ℕ) → i < length t → is_escaped (get_or t i 0) ≡ false) → escape t ≡ t
+escape_plain [] h = refl
+escape_plain (c ∷ t) h = ap (λ x. x ++ escape t) (escape_one_plain c (h 0 (omega arith))) ∙ ap (λ x. c ∷ x) (escape_plain t (λ i l. h (suc i) (omega arith)))
+
+-- a byte of a character that isn't escaped
+plain_byte : (t : List ℕ) (i : ℕ) → i < length t → (get_or t i 0 < 128 → is_escaped (get_or t i 0) ≡ false) → is_escaped (get_or t i 0) ≡ false
+plain_byte t i l h = grind (arith, nat_tests)
+
+-- a character that isn't escaped is written as itself, whatever its length in UTF-8
+pub escape-encode : (c : ℕ) → is_escaped c ≡ false → escape (encode_utf8 c) ≡ encode_utf8 c
+escape-encode c e =
+    let none : NoCharPasses is_escaped (encode_utf8 c) = (c ∷ [], append-nil (encode_utf8 c), (e, tt)) in
+    escape_plain (encode_utf8 c) (λ i l. plain_byte (encode_utf8 c) i l (NoCharPasses-byte is_escaped (encode_utf8 c) i none l))
+
+-- one more character
+pub escape_more : (cs : List ℕ) (c : ℕ) → escape (encode_utf8_all (cs ++ c ∷ [])) ≡ escape (encode_utf8_all cs) ++ escape (encode_utf8 c)
+escape_more cs c = ap escape (encodes-append cs (c ∷ []) ∙ ap (λ x. encode_utf8_all cs ++ x) (append-nil (encode_utf8 c))) ∙ flat_map-append escape_one (encode_utf8_all cs) (encode_utf8 c)
+
+both_front : (c : ℕ) (front : List ℕ) (o : Option (List ℕ)) → both (Some c) (option_map (λ more. front ++ more) o) ≡ option_map (λ more. c ∷ front ++ more) o
+both_front c front None = refl
+both_front c front (Some more) = refl
+
+map_nothing : (o : Option (List ℕ)) → o ≡ option_map (λ more. [] ++ more) o
+map_nothing None = refl
+map_nothing (Some more) = refl
+
+-- what stands before the first % is read as itself
+pub unescaped_front : (front rest : List ℕ) → ((i : ℕ) → i < length front → get_or front i 0 ≢ percent) → unescaped (front ++ rest) ≡ option_map (λ more. front ++ more) (unescaped rest)
+unescaped_front [] rest h = map_nothing (unescaped rest)
+unescaped_front (c ∷ front) rest h =
+    unescaped_plain c (front ++ rest) (h 0 (omega arith))
+    ∙ ap (both (Some c)) (unescaped_front front rest (λ i l. h (suc i) (omega arith)))
+    ∙ both_front c front (unescaped rest)
+
+pub unescaped_whole : (t : List ℕ) → ((i : ℕ) → i < length t → get_or t i 0 ≢ percent) → unescaped t ≡ Some t
+unescaped_whole t h = ap unescaped (sym (append-nil t)) ∙ unescaped_front t [] h ∙ ap {B = Option (List ℕ)} Some (append-nil t)
+
+-- the path as far as it is read, one more piece and one more character
+pub read_more : (path plain : List ℕ) (c : ℕ) (o : Option (List ℕ)) → option_map (λ more. path ++ more) (option_map (λ more. plain ++ more) (both (Some c) o)) ≡ option_map (λ more. ((path ++ plain) ++ c ∷ []) ++ more) o
+read_more path plain c None = refl
+read_more path plain c (Some more) =
+    ap {B = Option (List ℕ)} Some (sym (append_assoc path plain (c ∷ more)) ∙ sym (append_assoc (path ++ plain) (c ∷ []) more))
+
+lower_large : (c : ℕ) → 128 ≤ c → to_ascii_lowercase c ≡ c
+lower_large c h = grind (arith, nat_tests)
+
+never : (b c : Bool) → c ≡ false → (b && (c && true)) ≡ false
+never true c e = ap (λ x. x && true) e
+never false c e = refl
+
+never_escaped : (d e k : ℕ) → 128 ≤ e → k < 128 → (c : ℕ) → bytes_eq (to_ascii_lowercase d ∷ to_ascii_lowercase e ∷ []) (c ∷ k ∷ []) ≡ false
+never_escaped d e k h l c =
+    let other : eqb e k ≡ false = grind (arith, nat_tests) in
+    rw (lower_large e h) (never (eqb (to_ascii_lowercase d) c) (eqb e k) other)
+
+escaped_large : (d e : ℕ) → 128 ≤ e → escaped d e ≡ None
+escaped_large d e h = rw (never_escaped d e 97 h (lit< tt) 48, never_escaped d e 100 h (lit< tt) 48, never_escaped d e 53 h (lit< tt) 50) refl
+
+second : (d e : ℕ) (s : List ℕ) → IsUtf8 (d ∷ e ∷ s) → ¬ (IsCharBoundary (d ∷ e ∷ s) 2) → (small : Bool) → nat_lt e 128 ≡ small → escaped d e ≡ None
+second d e s u h true b = absurd (h (IsCharBoundary-after_ascii (d ∷ e ∷ s) 1 u (omega arith) (grind (arith, nat_tests))))
+second d e s u h false b = escaped_large d e (grind (arith, nat_tests))
+
+-- where the two characters after a % can't be cut off, they are no escape
+pub cut_escape : (after : List ℕ) → IsUtf8 after → ¬ (IsCharBoundary after 2) → unescaped (percent ∷ after) ≡ None
+cut_escape [] u h = refl
+cut_escape (d ∷ []) u h = refl
+cut_escape (d ∷ e ∷ s) u h = ap (λ o. both o (unescaped s)) (second d e s u h _ refl)
+
+-- a bad escape behind what is read
+pub read_none : (t path rest plain after : List ℕ) → unescaped t ≡ option_map (λ more. path ++ more) (unescaped rest) → rest ≡ plain ++ percent ∷ after
+    → ((i : ℕ) → i < length plain → get_or plain i 0 ≢ percent) → unescaped (percent ∷ after) ≡ None → unescaped t ≡ None
+read_none t path rest plain after read is none bad =
+    read ∙ ap (option_map (λ more. path ++ more)) (ap unescaped is ∙ unescaped_front plain (percent ∷ after) none ∙ ap (option_map (λ more. plain ++ more)) bad)
+
+-- an escape behind what is read
+pub read_escape : (t path rest plain after more new : List ℕ) (c : ℕ) → unescaped t ≡ option_map (λ more. path ++ more) (unescaped rest) → rest ≡ plain ++ percent ∷ after
+    → ((i : ℕ) → i < length plain → get_or plain i 0 ≢ percent) → unescaped (percent ∷ after) ≡ both (Some c) (unescaped more) → new ≡ (path ++ plain) ++ c ∷ []
+    → unescaped t ≡ option_map (λ more. new ++ more) (unescaped more)
+read_escape t path rest plain after more new c read is none here now =
+    read ∙ ap (option_map (λ more. path ++ more)) (ap unescaped is ∙ unescaped_front plain (percent ∷ after) none ∙ ap (option_map (λ more. plain ++ more)) here)
+    ∙ read_more path plain c (unescaped more) ∙ ap (λ n. option_map (λ more. n ++ more) (unescaped more)) (sym now)
+
+-- no escape behind what is read
+pub read_all : (t path rest new : List ℕ) → unescaped t ≡ option_map (λ more. path ++ more) (unescaped rest) → ((i : ℕ) → i < length rest → get_or rest i 0 ≢ percent)
+    → new ≡ path ++ rest → unescaped t ≡ Some new
+read_all t path rest new read none now = read ∙ ap (option_map (λ more. path ++ more)) (unescaped_whole rest none) ∙ ap {B = Option (List ℕ)} Some (sym now)

@@ -1,0 +1,5 @@
+use Rattle.bag_text.proofs.SpellingLaws.{spellings}
+use Rattle.bag_text.proofs.laws.unescaped_is_spelled.Goals as goal
+
+pub returns : goal.returns
+returns c = spellings

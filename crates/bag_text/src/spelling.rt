@@ -1,0 +1,96 @@
+//! How paths are written in manifests and `fetch.txt`.
+ghost use Rattle.std.specs.Prelude.{◌≡◌, ◌<◌, ◌∷◌, length, IfOk, IfSome, IsErrOf, MatchOption, string_bytes, encode_utf8};
+ghost use Rattle.bag_text.specs.Spelling as spec;
+
+use std::alloc::{AllocError, Global};
+use thiserror::Error;
+
+/// Why a written path isn't read.
+#[derive(Clone, Copy, Debug, PartialEq, Eq, Error)]
+pub enum PathFault {
+    /// A `%` that begins no escape of LF, CR or `%`.
+    #[error("a % that begins no escape")]
+    BadEscape,
+    /// Memory ran out.
+    #[error("out of memory")]
+    Memory,
+}
+
+impl From<AllocError> for PathFault {
+    ghost use Rattle.std.specs.Prelude.{◌≡◌};
+    ghost use Rattle.bag_text.specs.declared.spelling.PathFault.TheVariants.{Memory};
+
+    ghost from_gives = { λ _ fault. fault ≡ Memory };
+
+    fn from(_error: AllocError) -> PathFault {
+        PathFault::Memory
+    }
+}
+
+/// A path as it is written: LF, CR and `%` as `%0A`, `%0D` and `%25`, every other character as itself
+/// (RFC 8493, 2.1.3).
+#[tactic(auto, using(crate::proofs::Spellings::escape_more))]
+pub fn escape_path(alloc: Global, path: &str) -> Result<String, AllocError>
+    ensures { IfOk result (λ text. string_bytes text ≡ spec.escape path.now) }
+{
+    let mut text = String::with_capacity(alloc, path.len())?;
+    for c in path.chars() {
+        match escape_of(c) {
+            Some(escape) => text.push_str(escape)?,
+            None => text.push(c)?,
+        }
+    }
+    Ok(text)
+}
+
+/// The path that is written so. Hex digits of either case are read, and no other escapes than those of LF, CR and `%`
+/// (RFC 8493, 2.1.3). Takes memory once.
+pub fn unescape_path(alloc: Global, text: &str) -> Result<String, PathFault>
+    ensures ok { IfOk result (λ path. spec.unescaped text.now ≡ Some (string_bytes path)) }
+    ensures bad_escape { IsErrOf result PathFault.BadEscape → spec.unescaped text.now ≡ None }
+{
+    let mut path = String::with_capacity(alloc, text.len())?;
+    let mut rest = text;
+    while let Some((plain, after)) = rest.split_once('%') {
+        let Some((c, more)) = escaped_char(after) else {
+            return Err(PathFault::BadEscape);
+        };
+        path.push_str(plain)?;
+        path.push(c)?;
+        rest = more;
+    }
+    path.push_str(rest)?;
+    Ok(path)
+}
+
+/// What is written for a character that isn't written as itself.
+fn escape_of(c: char) -> Option<&'static str>
+    ensures { MatchOption result (spec.escape (encode_utf8 c) ≡ encode_utf8 c) (λ text. spec.escape (encode_utf8 c) ≡ text.now) }
+{
+    match c {
+        '\n' => Some("%0A"),
+        '\r' => Some("%0D"),
+        '%' => Some("%25"),
+        _ => None,
+    }
+}
+
+/// The character that the two digits after a `%` stand for, and what follows them.
+fn escaped_char(after: &str) -> Option<(char, &str)>
+    ensures value { MatchOption result (spec.unescaped (spec.percent ∷ after.now) ≡ None) (λ read. spec.unescaped (spec.percent ∷ after.now) ≡ spec.both (Some read.0) (spec.unescaped read.1.now)) }
+    ensures ascii { IfSome result (λ read. read.0 < 128) }
+    ensures shorter { IfSome result (λ read. length read.1.now < length after.now) }
+{
+    let Some((digits, rest)) = after.split_at_checked(2) else {
+        return None;
+    };
+    if digits.eq_ignore_ascii_case("0a") {
+        Some(('\n', rest))
+    } else if digits.eq_ignore_ascii_case("0d") {
+        Some(('\r', rest))
+    } else if digits == "25" {
+        Some(('%', rest))
+    } else {
+        None
+    }
+}
