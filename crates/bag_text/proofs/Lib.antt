@@ -1,4 +1,5 @@
 pub mod AlgSets
+pub mod Blanks
 pub mod FirstLine
 pub mod LineLaws
 pub mod ListOf

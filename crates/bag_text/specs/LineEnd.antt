@@ -1,4 +1,4 @@
--- The ends of lines (RFC 8493, 2.1.1).
+-- The ends of lines (RFC 8493, 2.3).
 use Rattle.std.specs.Prelude.{ℕ, ◌+◌, Bool, ◌==◌, ◌||◌, ◌&&◌, List, if◌then◌else◌, slice_index}
 use Rattle.bag_text.specs.Lines.{line_feed, carriage_return}
 

@@ -19,7 +19,6 @@ impl<'a> Lines<'a> {
     pub(crate) fn new(text: &'a str) -> Lines<'a>
         ensures { numbered_rest result ≡ enumerate_from 1 (lines text.now) }
     {
-        let _length = text.len();
         Lines {
             rest: text,
             number: 1,

@@ -198,3 +198,80 @@ fn keeps_texts_and_items(rt: HostRuntime) -> Result<(), Fail> {
     assert_eq!(rt; items.as_slice()[0].as_str(), "data/\u{e4}");
     Ok(())
 }
+
+#[test]
+fn spells_paths(rt: HostRuntime) -> Result<(), Fail> {
+    for (path, text) in [
+        ("", ""),
+        ("data/a", "data/a"),
+        ("data/a\nb%", "data/a%0Ab%25"),
+        ("\r\n", "%0D%0A"),
+        ("%41 \u{e4}", "%2541 \u{e4}"),
+    ] {
+        assert_eq!(rt; escape_path(rt.alloc(), path)?.as_str(), text);
+        assert_eq!(rt; unescape_path(rt.alloc(), text)?.as_str(), path);
+    }
+    for (text, path) in [
+        ("data/a%0ab%25", "data/a\nb%"),
+        ("%0d%0D", "\r\r"),
+        ("%2525", "%25"),
+    ] {
+        assert_eq!(rt; unescape_path(rt.alloc(), text)?.as_str(), path);
+    }
+    for text in [
+        "data/%41", "%", "%2", "%2g", "a%", "%0\u{e4}", "%\u{e4}", "%%25", "%25%0B",
+    ] {
+        let fault = unescape_path(rt.alloc(), text).err();
+        assert_eq!(rt; fault, Some(PathFault::BadEscape), "{text}");
+    }
+    Ok(())
+}
+
+#[test]
+fn checks_paths(rt: HostRuntime) {
+    for (text, path, payload) in [
+        ("", false, false),
+        (".", false, false),
+        ("..", false, false),
+        ("/", false, false),
+        ("/etc/x", false, false),
+        ("a//b", false, false),
+        ("a/./b", false, false),
+        ("data/../x", false, false),
+        ("data/", false, false),
+        ("data", true, false),
+        ("data/x", true, true),
+        ("data/x/y", true, true),
+        ("Data/x", true, false),
+        ("data2/x", true, false),
+        ("x/data/y", true, false),
+        ("...", true, false),
+        ("~/a b\\c", true, false),
+    ] {
+        assert_eq!(rt; check_path(text).is_ok(), path, "{text}");
+        assert_eq!(rt; is_payload(text), payload, "{text}");
+    }
+}
+
+#[test]
+fn trims_and_compares_labels(rt: HostRuntime) {
+    for (text, want) in [
+        ("", ""),
+        (" \t ", ""),
+        ("a", "a"),
+        ("\t a \tb \t", "a \tb"),
+        ("\u{a0}a\n", "\u{a0}a\n"),
+    ] {
+        assert_eq!(rt; trim(text), want);
+    }
+    for (a, b, same) in [
+        ("", "", true),
+        ("Payload-Oxum", "PAYLOAD-oxum", true),
+        ("a", "ab", false),
+        ("a-b", "a_b", false),
+        ("\u{e4}", "\u{c4}", false),
+        ("[", "{", false),
+    ] {
+        assert_eq!(rt; same_label(a, b), same, "{a}");
+    }
+}
