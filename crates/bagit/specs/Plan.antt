@@ -1,5 +1,5 @@
 -- The plan of a command line.
-use Rattle.std.specs.Prelude.{ℕ, ◌≡◌, ◌&&◌, Bool, List, [], ◌∷◌, Option, Some, None, map, bytes_eq, codes, if◌then◌else◌}
+use Rattle.std.specs.Prelude.{ℕ, ◌≡◌, ◌≢◌, ◌&&◌, Bool, List, [], ◌∷◌, Option, Some, None, map, bytes_eq, codes, if◌then◌else◌}
 use Rattle.std.specs.Borrow.{Bor}
 use Rattle.bagit.specs.declared.plan.Action.TheVariants.{Sample, Check}
 use Rattle.bagit.specs.declared.plan.Plan.{Plan}
@@ -25,10 +25,10 @@ plan_of_words (a ∷ b ∷ directory ∷ []) =
     else None
 plan_of_words (a ∷ b ∷ c ∷ d ∷ rest) = None
 
--- words that have no plan are refused; nothing else is, but for want of memory
+-- words that have no plan are refused; other words are refused for want of memory alone
 abbrev pub IsRefusalOf : List (List ℕ) → Usage → Type 0
 IsRefusalOf words Refused = plan_of_words words ≡ None
-IsRefusalOf words Memory = Unit {0}
+IsRefusalOf words Memory = plan_of_words words ≢ None
 
 abbrev pub usage_status : Usage → ℕ
 usage_status Refused = 2

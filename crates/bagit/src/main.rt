@@ -15,17 +15,14 @@ pub use perform::perform;
 pub use plan::{Action, Plan, plan_of};
 use std::alloc::AllocError;
 use std::env;
-use std::io::{self, ErrorKind, Write};
+use std::io::{self, ErrorKind};
 use std::process::ExitCode;
-pub use usage::Usage;
+pub use usage::{Usage, refuse_words};
 
 fn main(rt: HostRuntime) -> ExitCode {
     let status = match asked_plan(&rt) {
         Ok(plan) => perform(&rt, &plan, io::writer(&rt), rt.stderr()),
-        Err(usage) => {
-            let _ = writeln!(rt.stderr(), "bagit: {usage}");
-            usage.status()
-        }
+        Err(usage) => refuse_words(usage, &mut rt.stderr()),
     };
     ExitCode::from(status)
 }

@@ -1,5 +1,6 @@
 //! Does what a plan says.
-ghost use Rattle.bagit.specs.Status.{IsStatus};
+ghost use Rattle.std.specs.Prelude.{◌≡◌};
+ghost use Rattle.bagit.specs.Status.{IsStatus, status_of_check};
 
 use crate::sample::sample_tree;
 use crate::{Action, Plan};
@@ -28,7 +29,7 @@ where
     let mut out = WriterOut::new(out);
     let mut err = err;
     let status = match plan.action {
-        Action::Sample => ended(check_sample(rt.alloc(), &mut out), &mut err),
+        Action::Sample => report_refusal(&check_sample(rt.alloc(), &mut out), &mut err),
         Action::Check => check_all(rt, plan.directories.as_slice(), &mut out, &mut err),
     };
     let _writer = out.into_inner();
@@ -46,9 +47,8 @@ where
     let mut greatest = 0;
     for directory in directories {
         let checked = check(rt, directory.as_str(), out);
-        let stops = matches!(checked, Ok(Outcome::Unwritten(_)) | Err(_));
-        greatest = greatest.max(ended(checked, err));
-        if stops {
+        greatest = greatest.max(report_refusal(&checked, err));
+        if matches!(checked, Ok(Outcome::Unwritten(_)) | Err(_)) {
             break;
         }
     }
@@ -91,16 +91,16 @@ fn report<T: Tree + Drop, O: Out>(
     Ok(outcome)
 }
 
-/// The status of a run, after what is to be said of a refusal beside the report.
-fn ended<E: Write>(checked: Result<Outcome, AllocError>, err: &mut E) -> u8
-    ensures { IsStatus result }
+/// Says on `err` what was refused beside the report, and gives the status of the check.
+fn report_refusal<E: Write>(checked: &Result<Outcome, AllocError>, err: &mut E) -> u8
+    ensures { result ≡ status_of_check checked.now }
 {
     match checked {
         Ok(outcome) => {
             if let Outcome::Unwritten(_) = outcome {
                 let _ = err.write_all(b"bagit: output refused\n");
             }
-            status(&outcome)
+            status(outcome)
         }
         Err(_) => {
             let _ = err.write_all(b"bagit: out of memory\n");

@@ -1,6 +1,8 @@
 //! The program's plans and what it writes.
-use crate::{Action, Usage, perform, plan_of};
+use crate::{Action, Usage, perform, plan_of, refuse_words};
+use std::os::unix::fs::symlink;
 use std::test::Fail;
+use std::{env, fs, process};
 
 #[test]
 fn no_words_ask_for_the_sample(rt: HostRuntime) -> Result<(), Fail> {
@@ -80,5 +82,70 @@ fn an_output_that_refuses_stops_the_program(rt: HostRuntime) -> Result<(), Fail>
     assert_eq!(rt; status, 3);
     assert_eq!(rt; room.as_slice(), b"sample has".as_slice());
     assert_eq!(rt; err.as_slice(), b"bagit: output refused\n".as_slice());
+    Ok(())
+}
+
+#[test]
+fn refused_words_are_told(rt: HostRuntime) -> Result<(), Fail> {
+    for (usage, text, status) in [(Usage::Refused, "bagit: words refused\n", 2), (Usage::Memory, "bagit: out of memory\n", 3)] {
+        let mut err = Vec::<u8>::new(rt.alloc());
+        assert_eq!(rt; refuse_words(usage, &mut err), status);
+        assert_eq!(rt; err.as_slice(), text.as_bytes());
+    }
+    Ok(())
+}
+
+/// What a folder holds, the end of the report, and the status.
+struct Row {
+    bagit_txt: Option<&'static [u8]>,
+    link: bool,
+    ending: &'static str,
+    status: u8,
+}
+
+const ROWS: [Row; 3] = [
+    Row {
+        bagit_txt: Some(b"BagIt-Version: 1.0\nTag-File-Character-Encoding: UTF-8\n"),
+        link: false,
+        ending: " has a good declaration\n",
+        status: 0,
+    },
+    Row {
+        bagit_txt: None,
+        link: false,
+        ending: " has faults: 1\n",
+        status: 1,
+    },
+    Row {
+        bagit_txt: Some(b"BagIt-Version: 1.0\nTag-File-Character-Encoding: UTF-8\n"),
+        link: true,
+        ending: " unread - special, faults: 0\n",
+        status: 3,
+    },
+];
+
+#[test]
+fn folders_on_the_disk(rt: HostRuntime) -> Result<(), Fail> {
+    for row in ROWS.iter() {
+        let folder = env::temp_dir(&rt)?;
+        let id = process::id(rt.process());
+        let base = format!(in rt.alloc(); "{}/bagit-{id}", folder.as_path().display())?;
+        let _ = fs::remove_dir_all(&rt, base.as_str());
+        fs::create_dir(&rt, base.as_str())?;
+        if let Some(bytes) = row.bagit_txt {
+            fs::write(&rt, format!(in rt.alloc(); "{base}/bagit.txt")?, bytes)?;
+        }
+        if row.link {
+            symlink(&rt, "bagit.txt", format!(in rt.alloc(); "{base}/link")?)?;
+        }
+        let mut out = Vec::<u8>::new(rt.alloc());
+        let mut err = Vec::<u8>::new(rt.alloc());
+        let plan = plan_of(rt.alloc(), &["--validate", "--declaration-only", base.as_str()])?;
+        let status = perform(&rt, &plan, &mut out, &mut err);
+        assert_eq!(rt; status, row.status, "{}", row.ending);
+        assert!(rt; out.as_slice().ends_with(row.ending.as_bytes()), "{}", row.ending);
+        assert_eq!(rt; err.len(), 0);
+        fs::remove_dir_all(&rt, base.as_str())?;
+    }
     Ok(())
 }

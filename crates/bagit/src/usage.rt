@@ -4,6 +4,7 @@ ghost use Rattle.bagit.specs.declared.usage.Usage.TheVariants.{Memory};
 ghost use Rattle.bagit.specs.Plan.{usage_status};
 
 use std::alloc::{AllocError, AllocFailed};
+use std::io::Write;
 use thiserror::Error;
 
 /// Why the words of a command line are refused.
@@ -27,6 +28,14 @@ impl Usage {
             Usage::Memory => 3,
         }
     }
+}
+
+/// Says on `err` why the words are refused, and gives the exit status.
+pub fn refuse_words<E: Write>(usage: Usage, err: &mut E) -> u8
+    ensures { result ≡ usage_status usage }
+{
+    let _ = writeln!(err, "bagit: {usage}");
+    usage.status()
 }
 
 impl From<AllocError> for Usage {

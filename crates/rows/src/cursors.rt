@@ -103,7 +103,7 @@ fn cursors_and_limits(rt: HostRuntime) -> Result<(), Fail> {
 }
 
 #[test]
-fn a_limit_of_none_opens_no_file(rt: HostRuntime) -> Result<(), Fail> {
+fn a_limit_of_no_faults_opens_no_file(rt: HostRuntime) -> Result<(), Fail> {
     let tree = bag_with(rt.alloc(), Some(MARKED_LATIN))?;
     let mut out = bag_store::WriterOut::new(Vec::<u8>::new(rt.alloc()));
     let (tree, _outcome) = bag_walk::run(
