@@ -5,27 +5,37 @@ ghost use Rattle.bag_store.specs.Cause as spec;
 
 use bag_text::Text;
 use std::alloc::{AllocError, AllocFailed};
+use thiserror::Error;
 
 /// Why a tree refused a call.
-#[derive(Clone, Copy, Debug, PartialEq, Eq)]
+#[derive(Clone, Copy, Debug, PartialEq, Eq, Error)]
 pub enum TreeFault {
     /// The system refused: a folder, a file or a read.
+    #[error("the device refused")]
     Device,
     /// A symbolic link, a socket, a pipe or a device stands in the tree.
+    #[error("a link or a special file stands in the tree")]
     Special,
     /// A name isn't UTF-8.
+    #[error("a name isn't UTF-8")]
     Name,
     /// There is no such file.
+    #[error("no such file")]
     NotFound,
     /// There are more than 16,777,216 files and folders.
+    #[error("too many files and folders")]
     TooMany,
     /// A file has more or fewer bytes than were listed.
+    #[error("a file changed")]
     Changed,
     /// A read without an open file.
+    #[error("no file is open")]
     NoneOpen,
     /// A growth was refused.
+    #[error("out of memory")]
     Memory,
     /// What was to be made is there.
+    #[error("it is there already")]
     Exists,
 }
 

@@ -8,7 +8,7 @@ use crate::{Listing, TreeFault};
 
 /// A tree of files, of which one at a time is open.
 ///
-/// Its calls leave the bag as it is. What an honest tree answers is what its bag holds; of another tree nothing is known
+/// Its calls leave the bag as it is, and a call during which the device failed isn't answered Ok. What an honest tree answers is what its bag holds; of another tree nothing is known
 /// but which refusals it answers, and that a listing's paths are paths in order.
 pub trait Tree {
     /// What the tree means: its bag, whether it is honest, how many files and folders it has, how often its device has
@@ -21,6 +21,7 @@ pub trait Tree {
     /// folders. A listing opens no file.
     fn list(&mut self) -> Result<Listing, TreeFault>
         ensures keeps { Keeps (state self.old) (state self.new) }
+        ensures calm { OnOk result ((state self.new).failures ≡ (state self.old).failures) }
         ensures openings { (state self.new).openings ≡ (state self.old).openings }
         ensures ordered { IfOk result (λ listing. IsOrdered listing.files) }
         ensures honest { IfOk result (λ listing. IsTrue (state self.old).honest → IsListingOf (state self.old).bag listing) }
@@ -29,6 +30,7 @@ pub trait Tree {
     /// Opens a file in place of the one that was open. After a refusal nothing is open.
     fn open_file(&mut self, path: &str) -> Result<(), TreeFault>
         ensures keeps { Keeps (state self.old) (state self.new) }
+        ensures calm { OnOk result ((state self.new).failures ≡ (state self.old).failures) }
         ensures opened { OnOk result ((state self.new).openings ≡ (state self.old).openings ++ path.now ∷ []) }
         ensures honest { OnOk result (IsTrue (state self.old).honest → IsOpen (file (state self.old).bag path.now) (state self.new).rest) }
         ensures closed { OnErr result ((state self.new).rest ≡ None) }
@@ -41,6 +43,7 @@ pub trait Tree {
     fn read(&mut self, buffer: &mut [u8]) -> Result<usize, TreeFault>
         requires { 0 < length buffer.old }
         ensures keeps { Keeps (state self.old) (state self.new) }
+        ensures calm { OnOk result ((state self.new).failures ≡ (state self.old).failures) }
         ensures openings { (state self.new).openings ≡ (state self.old).openings }
         ensures within { IfOk result (λ n. n ≤ length buffer.old) }
         ensures honest { IfOk result (λ n. IsTrue (state self.old).honest → Reads (state self.old).rest (state self.new).rest n buffer.new) }

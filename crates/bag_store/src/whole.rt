@@ -14,6 +14,7 @@ pub fn read_whole<T: Tree>(
     entry: &FileEntry,
 ) -> Result<Vec<u8>, TreeFault>
     ensures keeps { Keeps (T.state tree.old) (T.state tree.new) }
+    ensures calm { OnOk result ((T.state tree.new).failures ≡ (T.state tree.old).failures) }
     ensures opens { OpensAtMost (T.state tree.old) (T.state tree.new) entry.now.path }
     ensures opened { OnOk result ((T.state tree.new).openings ≡ (T.state tree.old).openings ++ entry.now.path ∷ []) }
     ensures size { IfOk result (λ bytes. vec_len bytes ≡ entry.now.size) }

@@ -6,6 +6,7 @@ use Rattle.bag_store.proofs.whole.read_whole.Goals as goal
 pub loop-bytes-preserved : goal.loop-bytes-preserved
 loop-bytes-preserved g c = record {
   keeps = search rules;
+  calm = c.in_ok-count.ensures.calm ∙ c.loop-bytes.invariant.calm;
   opened = c.read.ensures.openings ∙ c.loop-bytes.invariant.opened;
   within = grind (arith, common_steps);
   honest = λ h.

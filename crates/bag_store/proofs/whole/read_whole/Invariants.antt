@@ -9,6 +9,7 @@ invariant-loop-bytes g l =
     let state = g.T.Tree.state in
     record {
       keeps : Keeps (state l.fn.tree) (state l.tree);
+      calm : (state l.tree).failures ≡ (state l.fn.tree).failures;
       opened : (state l.tree).openings ≡ (state l.fn.tree).openings ++ l.entry.path ∷ [];
       within : vec_len l.bytes ≤ l.entry.size;
       honest : IsTrue (state l.fn.tree).honest → HasRead (file (state l.fn.tree).bag l.entry.path) l.bytes.items (state l.tree).rest;
