@@ -87,7 +87,10 @@ fn an_output_that_refuses_stops_the_program(rt: HostRuntime) -> Result<(), Fail>
 
 #[test]
 fn refused_words_are_told(rt: HostRuntime) -> Result<(), Fail> {
-    for (usage, text, status) in [(Usage::Refused, "bagit: words refused\n", 2), (Usage::Memory, "bagit: out of memory\n", 3)] {
+    for (usage, text, status) in [
+        (Usage::Refused, "bagit: words refused\n", 2),
+        (Usage::Memory, "bagit: out of memory\n", 3),
+    ] {
         let mut err = Vec::<u8>::new(rt.alloc());
         assert_eq!(rt; refuse_words(usage, &mut err), status);
         assert_eq!(rt; err.as_slice(), text.as_bytes());
@@ -140,10 +143,17 @@ fn folders_on_the_disk(rt: HostRuntime) -> Result<(), Fail> {
         }
         let mut out = Vec::<u8>::new(rt.alloc());
         let mut err = Vec::<u8>::new(rt.alloc());
-        let plan = plan_of(rt.alloc(), &["--validate", "--declaration-only", base.as_str()])?;
+        let plan = plan_of(
+            rt.alloc(),
+            &["--validate", "--declaration-only", base.as_str()],
+        )?;
         let status = perform(&rt, &plan, &mut out, &mut err);
         assert_eq!(rt; status, row.status, "{}", row.ending);
-        assert!(rt; out.as_slice().ends_with(row.ending.as_bytes()), "{}", row.ending);
+        assert!(rt;
+            out.as_slice().ends_with(row.ending.as_bytes()),
+            "{}",
+            row.ending
+        );
         assert_eq!(rt; err.len(), 0);
         fs::remove_dir_all(&rt, base.as_str())?;
     }
