@@ -12,6 +12,8 @@ mod manifest_line;
 mod manifest_name;
 mod prefix;
 mod repeats;
+#[cfg(test)]
+mod tests;
 
 pub use declaration::{Declaration, read_declaration};
 pub use fault::{LineFault, Parsed};
