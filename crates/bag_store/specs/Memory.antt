@@ -15,7 +15,7 @@ use Rattle.bag_store.specs.declared.listing.FileEntry.{FileEntry}
 abbrev pub empty_bag : Bag
 empty_bag = record { files = fin.empty; folders = set.empty }
 
--- whether a path has two or more components, so that it stands in a folder of the base folder
+-- a path of two or more components, which stands in a folder of the base folder
 abbrev pub is_in_folder : List ℕ → Bool
 is_in_folder path = nat_lt 1 (length (components path))
 
@@ -42,9 +42,11 @@ memory_state bag openings rest = record {
   rest = rest;
 }
 
+-- files by their paths
 abbrev pub file_map : List (List ℕ × List ℕ) → fin.FinMap text_cmp (List ℕ)
 file_map files = fin.from_entries files
 
+-- the folders of these names
 abbrev pub folder_set : List (List ℕ) → set.FinSet text_cmp
 folder_set names = set.from_list names
 
@@ -66,16 +68,19 @@ abbrev pub rest_of : Bag → Option (List ℕ) → ℕ → Option (List ℕ)
 rest_of bag None at = None
 rest_of bag (Some path) at = option_map (drop at) (file bag path)
 
+-- a path in UTF-8
 abbrev pub is_text_path : List ℕ → Bool
 is_text_path path = is_path path && is_utf8 path
 
+-- a name in the base folder, in UTF-8
 abbrev pub is_text_name : List ℕ → Bool
 is_text_name name = is_base_name name && is_utf8 name
 
+-- numbers below 256
 abbrev pub are_bytes : List ℕ → Bool
 are_bytes content = list_all (λ b. nat_lt b 256) content
 
--- `IsBag` by tests
+-- what `IsBag` says, by tests, so that it has at most one proof
 pub record PassesAsBag (bag : Bag) : Type 0 where
   pub paths : (path : List ℕ) → has_file bag path ≡ true → is_text_path path ≡ true
   pub names : (name : List ℕ) → has_folder bag name ≡ true → is_text_name name ≡ true
