@@ -1,12 +1,10 @@
 -- The exit status of the program.
-use Rattle.std.specs.Prelude.{ℕ, ◌≡◌, ◌≤◌, ◌≢◌, ◌⊎◌, Result, Ok, Err, AllocError}
+use Rattle.std.specs.Prelude.{ℕ, ◌≤◌, ◌≢◌, Result, Ok, Err}
 use Rattle.bag_walk.specs.Closing.{status}
 use Rattle.bag_walk.specs.declared.outcome.Outcome.{Outcome}
-use Rattle.bagit.specs.declared.plan.Action.{Action}
-use Rattle.bagit.specs.declared.plan.Action.TheVariants.{Sample, Check}
 
 -- the status of one check, where a growth that was refused has the status of a refusal
-abbrev pub status_of_check : Result Outcome AllocError → ℕ
+abbrev pub status_of_check : {E : Type 0} → Result Outcome E → ℕ
 status_of_check (Ok outcome) = status outcome
 status_of_check (Err e) = 3
 
