@@ -22,7 +22,7 @@ pub some_text : (t : List ℕ) → 0 < length t → bytes_eq t [] ≡ false
 some_text [] l = absurd (omega arith)
 some_text (c ∷ t) l = refl
 
-prefix_test : (p t : List ℕ) → (starts_with nat_eq t p ≡ true → t ≡ p ++ drop (length p) t) × ((rest : List ℕ) → t ≡ p ++ rest → starts_with nat_eq t p ≡ true)
+pub prefix_test : (p t : List ℕ) → (starts_with nat_eq t p ≡ true → t ≡ p ++ drop (length p) t) × ((rest : List ℕ) → t ≡ p ++ rest → starts_with nat_eq t p ≡ true)
 prefix_test p t = starts_is Decides-eqb t p (starts_with nat_eq t p) refl
 
 after_lacking : (p t : List ℕ) (b : Bool) → starts_with nat_eq t p ≡ b → ((rest : List ℕ) → drop 0 t ≢ p ++ rest) → after_prefix p t ≡ None

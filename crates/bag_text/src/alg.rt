@@ -24,6 +24,23 @@ impl Alg {
         }
     }
 
+    /// The algorithm of this name, or `None` where it is none of these.
+    pub fn from_name(name: &str) -> Option<Alg>
+        ensures { result ≡ spec.alg_named name.now }
+    {
+        if name == "md5" {
+            Some(Alg::Md5)
+        } else if name == "sha1" {
+            Some(Alg::Sha1)
+        } else if name == "sha256" {
+            Some(Alg::Sha256)
+        } else if name == "sha512" {
+            Some(Alg::Sha512)
+        } else {
+            None
+        }
+    }
+
     /// How many hex digits a digest has.
     pub fn hex_len(self) -> usize
         ensures { result ≡ spec.hex_len self }
