@@ -30,9 +30,9 @@ some_by : (e : FileEntry) (files : List FileEntry) (path : List ℕ) (b : Bool) 
     → Contains (paths_of (e ∷ files)) path → is_some (cond b (Some e) (entry_at files path)) ≡ true
 some_by e files path true same rest c = refl
 some_by e files path false same rest c = elim (contains_cases e.path (paths_of files) path c) [
-    | inl is ↦ let clash : false ≡ true = sym same ∙ (bytes_eq-Decides e.path path).1 is in cc
-    | inr d ↦ rest d
-  ]
+  | inl is ↦ let clash : false ≡ true = sym same ∙ (bytes_eq-Decides e.path path).1 is in cc
+  | inr d ↦ rest d
+]
 
 path_listed : (files : List FileEntry) (path : List ℕ) → Contains (paths_of files) path → is_some (entry_at files path) ≡ true
 path_listed [] path c = absurd (contains_nothing path c)
@@ -88,10 +88,10 @@ unfolding IsStrictlySortedBy
 before_next [] i entry path s lt e c = absurd (omega arith)
 before_next (x ∷ files) zero entry path s lt e c = absurd (contains_nothing path c)
 before_next (x ∷ files) (suc i) entry path s lt e c = elim (contains_cases x.path (paths_of (take i files)) path c) [
-    | inl is ↦ subst (λ p. text_cmp p entry.path ≡ Less) is
-        (member_has _ (paths_of files) entry.path s.0 (mapped_contains (λ (f : FileEntry). f.path) files entry (at_index files i entry (omega arith) e)))
-    | inr d ↦ before_next files i entry path s.1 (omega arith) e d
-  ]
+  | inl is ↦ subst (λ p. text_cmp p entry.path ≡ Less) is
+      (member_has _ (paths_of files) entry.path s.0 (mapped_contains (λ (f : FileEntry). f.path) files entry (at_index files i entry (omega arith) e)))
+  | inr d ↦ before_next files i entry path s.1 (omega arith) e d
+]
 
 pub paths_joined : (xs ys : List FileEntry) → paths_of (xs ++ ys) ≡ paths_of xs ++ paths_of ys
 paths_joined xs ys = map-append (λ (f : FileEntry). f.path) xs ys

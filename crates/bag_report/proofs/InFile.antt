@@ -24,16 +24,16 @@ use Rattle.bag_report.proofs.Ascending.{self_ties}
 pub mapped_contains : {A B : Type 0} (g : A → B) (xs : List A) (x : A) → Contains xs x → Contains (map g xs) (g x)
 mapped_contains g [] x c = absurd (contains_nothing x c)
 mapped_contains g (y ∷ xs) x c = elim (contains_cases y xs x c) [
-    | inl e ↦ subst (Contains (g y ∷ map g xs)) (ap g e) (contains_first (g y) (map g xs))
-    | inr d ↦ contains_behind (g y) (map g xs) (g x) (mapped_contains g xs x d)
-  ]
+  | inl e ↦ subst (Contains (g y ∷ map g xs)) (ap g e) (contains_first (g y) (map g xs))
+  | inr d ↦ contains_behind (g y) (map g xs) (g x) (mapped_contains g xs x d)
+]
 
 pub contains_mapped : {A B : Type 0} (g : A → B) (xs : List A) (y : B) → Contains (map g xs) y → (x : A) × Contains xs x × (g x ≡ y)
 contains_mapped g [] y c = absurd (contains_nothing y c)
 contains_mapped g (x ∷ xs) y c = elim (contains_cases (g x) (map g xs) y c) [
-    | inl e ↦ (x, contains_first x xs, e)
-    | inr d ↦ (let more = contains_mapped g xs y d in (more.0, contains_behind x xs more.0 more.1, more.2))
-  ]
+  | inl e ↦ (x, contains_first x xs, e)
+  | inr d ↦ (let more = contains_mapped g xs y d in (more.0, contains_behind x xs more.0 more.1, more.2))
+]
 
 module _ (path : List ℕ) (alg : Option Alg) where
   -- faults of one stage in one file are ordered as its lines
@@ -54,12 +54,12 @@ module _ (path : List ℕ) (alg : Option Alg) where
   unfolding IsStrictlySortedBy
   ascending_in_file k [] all s = tt
   ascending_in_file k (x ∷ lines) all s = (
-      each_from_members (λ f. fault_cmp (in_file path alg x) f ≡ Less) (map (in_file path alg) lines)
-      (λ f c. let at = contains_mapped (in_file path alg) lines f c in
+    each_from_members (λ f. fault_cmp (in_file path alg x) f ≡ Less) (map (in_file path alg) lines)
+        (λ f c. let at = contains_mapped (in_file path alg) lines f c in
         subst (λ g. fault_cmp (in_file path alg x) g ≡ Less) at.2
         (less_in_file x at.0 (all x (contains_first x lines) ∙ sym (all at.0 (contains_behind x lines at.0 at.1))) (member_has _ lines at.0 s.0 at.1))),
-      ascending_in_file k lines (λ y c. all y (contains_behind x lines y c)) s.1,
-    )
+    ascending_in_file k lines (λ y c. all y (contains_behind x lines y c)) s.1,
+  )
 
   -- a fault of the file is what it says of its line
   pub again_in_file : (f : Fault) → f.path ≡ path → f.alg ≡ alg → in_file path alg (in_line f) ≡ f
@@ -69,11 +69,11 @@ module _ (path : List ℕ) (alg : Option Alg) where
   pub listed_in_file : (k : ℕ) (IsWrong : LineFault → Type 0) (lines : List LineFault) → ((x : LineFault) → IsWrong x → stage x.code ≡ k) → IsListOf line_fault_cmp IsWrong lines
       → IsListOf fault_cmp (λ f. (f.path ≡ path) × (f.alg ≡ alg) × IsWrong (in_line f)) (map (in_file path alg) lines)
   listed_in_file k IsWrong lines stages list = record {
-      ascending = ascending_in_file k lines (λ x c. stages x ((list.members x).0 c)) list.ascending;
-      members = λ f. (
-        (λ c. let at = contains_mapped (in_file path alg) lines f c in
+    ascending = ascending_in_file k lines (λ x c. stages x ((list.members x).0 c)) list.ascending;
+    members = λ f. (
+      (λ c. let at = contains_mapped (in_file path alg) lines f c in
           subst (λ g. (g.path ≡ path) × (g.alg ≡ alg) × IsWrong (in_line g)) at.2 (refl, refl, (list.members at.0).0 at.1)),
-        (λ h. subst (Contains (map (in_file path alg) lines)) (again_in_file f h.0 h.1)
+      (λ h. subst (Contains (map (in_file path alg) lines)) (again_in_file f h.0 h.1)
           (mapped_contains (in_file path alg) lines (in_line f) ((list.members (in_line f)).1 h.2))),
-      );
-    }
+    );
+  }

@@ -143,19 +143,19 @@ unread_manifest path payload tag Tag alg e = tag alg e
 -- nothing is known of a path that isn't read
 pub known_nothing : (bag : Bag) (path : List ℕ) → path ≢ bag_info_txt → path ≢ fetch_txt → ((alg : Alg) → path ≢ manifest_of Payload alg) → ((alg : Alg) → path ≢ manifest_of Tag alg) → IsKnownAt bag path None
 known_nothing bag path info fetch payload tag = λ read. elim read [
-    | inl e ↦ absurd (info e)
-    | inr (inl e) ↦ absurd (fetch e)
-    | inr (inr m) ↦ absurd (unread_manifest path payload tag m.0 m.1 m.2)
-  ]
+  | inl e ↦ absurd (info e)
+  | inr (inl e) ↦ absurd (fetch e)
+  | inr (inr m) ↦ absurd (unread_manifest path payload tag m.0 m.1 m.2)
+]
 
 -- what is known tells whether the file has no text
 pub no_text_known : (bag : Bag) (path : List ℕ) (o : Option Bool) → IsKnownAt bag path o → (o ≡ Some false → HasNoText bag path) × (HasNoText bag path → o ≡ Some false)
 no_text_known bag path None known = (λ e. cc, λ h. let clash : None ≡ Some h.1.0 = sym (known h.0) ∙ h.1.1 in cc)
 no_text_known bag path (Some b) known = (
-    λ e. (known.0, (known.1.0, known.1.1, (let same : b ≡ false = cc in sym known.1.2 ∙ same))),
-    λ h. (let same : known.1.0 ≡ h.1.0 = (let one : Some known.1.0 ≡ Some h.1.0 = sym known.1.1 ∙ h.1.1 in cc) in
+  λ e. (known.0, (known.1.0, known.1.1, (let same : b ≡ false = cc in sym known.1.2 ∙ same))),
+  λ h. (let same : known.1.0 ≡ h.1.0 = (let one : Some known.1.0 ≡ Some h.1.0 = sym known.1.1 ∙ h.1.1 in cc) in
       ap Some (known.1.2 ∙ ap is_utf8 same ∙ h.1.2)),
-  )
+)
 
 pub not_path : (path other : List ℕ) → false ≡ bytes_eq path other → path ≡ other → ⊥
 not_path path other e same = let clash : false ≡ true = e ∙ (bytes_eq-Decides path other).1 same in cc

@@ -72,11 +72,11 @@ module _ (bag : Bag) (options : Options) where
   unfolding Is
   declaration_stage_listed bytes lines faults there list is =
       rw is (same_members fault_cmp _ _ (map (in_file bagit_txt None) lines)
-        (λ f h. ((holds_of_file f f.code bytes h.2 (h.0, h.1, (bytes, there, h.2)), asks_first options f.code (declaration_stage f.code bytes (in_line f) h.2)), declaration_stage f.code bytes (in_line f) h.2))
-        (λ f h. let i = file_of_holds f f.code bytes there h.1 h.0.0 in
-          let same : i.2.0 ≡ bytes = (let e : Some i.2.0 ≡ Some bytes = sym i.2.1 ∙ there in cc) in
-          (i.0, i.1, subst (λ b. IsDeclarationFault b (in_line f)) same i.2.2))
-        (listed_in_file bagit_txt None 1 (IsDeclarationFault bytes) lines (λ x h. declaration_stage x.code bytes x h) list))
+      (λ f h. ((holds_of_file f f.code bytes h.2 (h.0, h.1, (bytes, there, h.2)), asks_first options f.code (declaration_stage f.code bytes (in_line f) h.2)), declaration_stage f.code bytes (in_line f) h.2))
+      (λ f h. let i = file_of_holds f f.code bytes there h.1 h.0.0 in
+      let same : i.2.0 ≡ bytes = (let e : Some i.2.0 ≡ Some bytes = sym i.2.1 ∙ there in cc) in
+      (i.0, i.1, subst (λ b. IsDeclarationFault b (in_line f)) same i.2.2))
+      (listed_in_file bagit_txt None 1 (IsDeclarationFault bytes) lines (λ x h. declaration_stage x.code bytes x h) list))
 
   only_missing : (f : Fault) (c : Code) → f.code ≡ c → file bag bagit_txt ≡ None → stage c ≡ 1 → Holds bag f c → f ≡ no_declaration_fault
   unfolding Holds
@@ -93,5 +93,5 @@ module _ (bag : Bag) (options : Options) where
   unfolding Is Holds
   missing_stage_listed faults none is =
       rw is (one_listed fault_cmp _ no_declaration_fault
-        (((record { path_is = refl; alg_is = refl; line_is = refl; detail_is = refl }, ap is_some none), asks_first options NoDeclaration refl), refl)
-        (λ f h. only_missing f f.code refl none h.1 h.0.0))
+      (((record { path_is = refl; alg_is = refl; line_is = refl; detail_is = refl }, ap is_some none), asks_first options NoDeclaration refl), refl)
+      (λ f h. only_missing f f.code refl none h.1 h.0.0))

@@ -89,17 +89,17 @@ one_file_more bag files i entry faults o s lt e list only =
     let paths : paths_of (take (i + 1) files) ≡ before ++ entry.path ∷ [] = ap paths_of (take_one_more files i entry lt e) ∙ paths_joined (take i files) (entry ∷ []) in
     subst (λ ps. IsListOf fault_cmp (IsFaultAmong bag ps) (faults ++ option_to_list o)) (sym paths)
     (same_members fault_cmp _ _ (faults ++ option_to_list o)
-      (λ f h. elim h [
-        | inl a ↦ (contains_front before (entry.path ∷ []) f.path a.0, a.1)
-        | inr b ↦ (subst (Contains (before ++ entry.path ∷ [])) (sym b.0) (contains_back before (entry.path ∷ []) entry.path (contains_first entry.path [])), b.1)
-      ])
-      (λ f h. elim (contains_either before (entry.path ∷ []) f.path h.0) [
-        | inl a ↦ inl (a, h.1)
-        | inr b ↦ elim (contains_cases entry.path [] f.path b) [ inl same ↦ inr (sym same, h.1) | inr none ↦ absurd (contains_nothing f.path none) ]
-      ])
-      (one_more fault_cmp (IsFaultAmong bag before) (λ f. (f.path ≡ entry.path) × IsFileFault bag f) faults o list only
-        (λ x y a b. less_by_path x y (file_fault_stage bag x a.1 ∙ sym (file_fault_stage bag y b.1))
-          (subst (λ p. text_cmp x.path p ≡ Less) (sym b.0) (before_next files i entry x.path s lt e a.0)))))
+    (λ f h. elim h [
+      | inl a ↦ (contains_front before (entry.path ∷ []) f.path a.0, a.1)
+      | inr b ↦ (subst (Contains (before ++ entry.path ∷ [])) (sym b.0) (contains_back before (entry.path ∷ []) entry.path (contains_first entry.path [])), b.1)
+    ])
+    (λ f h. elim (contains_either before (entry.path ∷ []) f.path h.0) [
+      | inl a ↦ inl (a, h.1)
+      | inr b ↦ elim (contains_cases entry.path [] f.path b) [ inl same ↦ inr (sym same, h.1) | inr none ↦ absurd (contains_nothing f.path none) ]
+    ])
+    (one_more fault_cmp (IsFaultAmong bag before) (λ f. (f.path ≡ entry.path) × IsFileFault bag f) faults o list only
+    (λ x y a b. less_by_path x y (file_fault_stage bag x a.1 ∙ sym (file_fault_stage bag y b.1))
+    (subst (λ p. text_cmp x.path p ≡ Less) (sym b.0) (before_next files i entry x.path s lt e a.0)))))
 
 -- a part that is missing where the test fails
 if_missing : (x : Fault) (has : Bool) → IsListOf fault_cmp (λ f. (f ≡ x) × (has ≡ false)) (if has then [] else x ∷ [])
@@ -165,9 +165,13 @@ module _ (bag : Bag) (f : Fault) where
   file_row : (files : List FileEntry) → AreListed bag files → IsFaultAmong bag (paths_of files) f → Is bag f
   unfolding Is Holds
   file_row files listed (c, inl (e, at, (kind, text, path, none))) =
-      subst (Holds bag f) (sym e)
-      (kind, f.detail, record { path_is = path; alg_is = at.alg_is; line_is = at.line_is; detail_is = refl },
-        (text, subst (HasFile bag) path (listed_file bag files f.path listed c)), none)
+      subst (Holds bag f) (sym e) (
+        kind,
+        f.detail,
+        record { path_is = path; alg_is = at.alg_is; line_is = at.line_is; detail_is = refl },
+        (text, subst (HasFile bag) path (listed_file bag files f.path listed c)),
+        none,
+      )
   file_row files listed (c, inr (e, at, h)) = subst (Holds bag f) (sym e) (at, h.0, h.1)
 
 abbrev IsSecond : List FileEntry → Bool → Bool → Bag → Fault → Type 0
@@ -192,8 +196,11 @@ module _ (bag : Bag) (files : List FileEntry) (has_data has_manifest : Bool) (li
   second_of_holds found f AlgorithmUnsupported e s (kind, alg, at, m, none) =
       inr (
         file_listed bag files f.path listed (subst (HasFile bag) (sym at.path_is) m.1),
-        inl (e, record { path_is = refl; alg_is = at.alg_is; line_is = at.line_is; detail_is = refl },
-          (kind, ap is_alg_text at.detail_is ∙ m.0, at.path_is ∙ ap (manifest_name kind) (sym at.detail_is), ap alg_named at.detail_is ∙ none)),
+        inl (
+          e,
+          record { path_is = refl; alg_is = at.alg_is; line_is = at.line_is; detail_is = refl },
+          (kind, ap is_alg_text at.detail_is ∙ m.0, at.path_is ∙ ap (manifest_name kind) (sym at.detail_is), ap alg_named at.detail_is ∙ none),
+        ),
       )
   second_of_holds found f NotUtf8 e s h = inr (file_listed bag files f.path listed (ap is_some h.2.1), inr (e, h.0, (h.1, h.2)))
   second_of_holds found f other e s h = absurd (omega arith)
@@ -223,9 +230,9 @@ module _ (bag : Bag) (files : List FileEntry) (has_data has_manifest : Bool) (li
       (λ f h. ((second_is tells f h, asks_second options f.code more (second_at f h)), second_at f h))
       (λ f h. second_of_holds found f f.code refl h.1 h.0.0)
       (joined fault_cmp (IsMissing has_data has_manifest) (IsFaultAmong bag (paths_of files)) (missing has_data has_manifest) of_files (missing_listed has_data has_manifest) list
-        (λ x y a b. let at = missing_at has_data has_manifest x a in
-          less_by_path x y (at.1 ∙ sym (file_fault_stage bag y b.1))
-          (subst (λ p. text_cmp p y.path ≡ Less) (sym at.0) (empty_first y.path (path_not_empty files y.path ordered b.0)))))
+      (λ x y a b. let at = missing_at has_data has_manifest x a in
+      less_by_path x y (at.1 ∙ sym (file_fault_stage bag y b.1))
+      (subst (λ p. text_cmp p y.path ≡ Less) (sym at.0) (empty_first y.path (path_not_empty files y.path ordered b.0)))))
 
 -- so the stage is found from the facts
 pub parts_listed : (bag : Bag) (facts : Facts) (files : List FileEntry) (tags : TagFacts) (has_manifest : Bool) (faults of_files all : List Fault) → IsFactsOf bag facts

@@ -90,11 +90,11 @@ ascending (x ∷ xs) e = let two = both (is_below x xs) (ascends xs) e in (below
 
 pub keeps_on : (old mid new : TreeState) → Keeps old mid → Keeps mid new → Keeps old new
 keeps_on old mid new k l = record {
-    bag = l.bag ∙ k.bag;
-    honest = l.honest ∙ k.honest;
-    entries = l.entries ∙ k.entries;
-    failures = omega arith;
-  }
+  bag = l.bag ∙ k.bag;
+  honest = l.honest ∙ k.honest;
+  entries = l.entries ∙ k.entries;
+  failures = omega arith;
+}
 
 pub keeps_itself : (old : TreeState) → Keeps old old
 keeps_itself old = record { bag = refl; honest = refl; entries = refl; failures = omega arith }
@@ -111,13 +111,13 @@ reads_one path old new keeps (inr one) = record { keeps = keeps; opens = (path �
 -- some files were read, and then others
 pub reads_on : (ps qs : List (List ℕ)) (old mid new : TreeState) → ReadsAmong ps old mid → ReadsAmong qs mid new → ReadsAmong (ps ++ qs) old new
 reads_on ps qs old mid new r s = record {
-    keeps = keeps_on old mid new r.keeps s.keeps;
-    opens = (
-      r.opens.0 ++ s.opens.0,
-      s.opens.1 ∙ ap (λ paths. paths ++ s.opens.0) r.opens.1 ∙ append_assoc old.openings r.opens.0 s.opens.0,
-      part_joined r.opens.0 ps s.opens.0 qs r.opens.2 s.opens.2,
-    );
-  }
+  keeps = keeps_on old mid new r.keeps s.keeps;
+  opens = (
+    r.opens.0 ++ s.opens.0,
+    s.opens.1 ∙ ap (λ paths. paths ++ s.opens.0) r.opens.1 ∙ append_assoc old.openings r.opens.0 s.opens.0,
+    part_joined r.opens.0 ps s.opens.0 qs r.opens.2 s.opens.2,
+  );
+}
 
 -- fewer files were read than might be
 pub reads_fewer : (ps qs : List (List ℕ)) (old new : TreeState) → ReadsAmong ps old new → ReadsAmong (ps ++ qs) old new
@@ -141,18 +141,37 @@ pub manifest_wanted : (options : Options) (kind : Kind) (alg : Alg) → AsksMore
 manifest_wanted options kind alg more = inr (more, inr (inr (kind, alg, refl)))
 
 wanted_paths : (options : Options) → AsksMore options → AllByRecursion (IsWanted options) read_paths
-wanted_paths options more =
-    (inr (more, inl refl),
-    (inl refl,
-    (inr (more, inr (inl refl)),
-    (manifest_wanted options Payload Md5 more,
-    (manifest_wanted options Payload Sha1 more,
-    (manifest_wanted options Payload Sha256 more,
-    (manifest_wanted options Payload Sha512 more,
-    (manifest_wanted options Tag Md5 more,
-    (manifest_wanted options Tag Sha1 more,
-    (manifest_wanted options Tag Sha256 more,
-    (manifest_wanted options Tag Sha512 more, tt)))))))))))
+wanted_paths options more = (
+  inr (more, inl refl),
+  (
+    inl refl,
+    (
+      inr (more, inr (inl refl)),
+      (
+        manifest_wanted options Payload Md5 more,
+        (
+          manifest_wanted options Payload Sha1 more,
+          (
+            manifest_wanted options Payload Sha256 more,
+            (
+              manifest_wanted options Payload Sha512 more,
+              (
+                manifest_wanted options Tag Md5 more,
+                (
+                  manifest_wanted options Tag Sha1 more,
+                  (
+                    manifest_wanted options Tag Sha256 more,
+                    (manifest_wanted options Tag Sha512 more, tt),
+                  ),
+                ),
+              ),
+            ),
+          ),
+        ),
+      ),
+    ),
+  ),
+)
 
 pub opens_tag_files : (options : Options) (old mid new : TreeState) → AsksMore options → mid.openings ≡ old.openings → ReadsAmong read_paths mid new → OpensWanted options old new
 opens_tag_files options old mid new more e r =
@@ -172,10 +191,10 @@ later_refusal old mid new Exists k h = h
 -- a later stop is one of the whole
 pub later_stop : (options : Options) (old mid new : TreeState) (stop : Stop) → Keeps old mid → MayStop options mid new stop → MayStop options old new stop
 later_stop options old mid new stop k h = record {
-    cause = later_refusal old mid new stop.cause k h.cause;
-    path = elim h.path [ inl none ↦ inl none | inr at ↦ inr (at.0, λ honest. subst (λ bag. HasFile bag stop.path) k.bag (at.1 (k.honest ∙ honest))) ];
-    memory = h.memory;
-  }
+  cause = later_refusal old mid new stop.cause k h.cause;
+  path = elim h.path [ inl none ↦ inl none | inr at ↦ inr (at.0, λ honest. subst (λ bag. HasFile bag stop.path) k.bag (at.1 (k.honest ∙ honest))) ];
+  memory = h.memory;
+}
 
 pub stops_later : (Asks Wider : Options → Type 0) (files : List FileEntry) (old mid new : TreeState) (stop : Stop) → ((options : Options) → Wider options → Asks options)
     → Keeps old mid → MayStopIf Asks files mid new stop → MayStopIf Wider files old new stop

@@ -63,7 +63,11 @@ impl Facts {
 ghost use Rattle.bag_report.specs.Facts.{IsReadOf, IsDeclarationOf, AreTagFactsOf};
 
 /// All tag files that are read, in path order.
-fn read_tags<T: Tree>(alloc: Global, tree: &mut T, files: &[FileEntry]) -> Result<(Option<Declaration>, TagFacts), Stop>
+fn read_tags<T: Tree>(
+    alloc: Global,
+    tree: &mut T,
+    files: &[FileEntry],
+) -> Result<(Option<Declaration>, TagFacts), Stop>
     ensures reads { ReadsAmong read_paths (T.state tree.old) (T.state tree.new) }
     ensures declaration { IfOk result (λ read. IsTrue (T.state tree.old).honest → AreListed (T.state tree.old).bag files.now
         → IsReadOf IsDeclarationOf (file (T.state tree.old).bag bagit_txt) read.0) }
@@ -85,7 +89,11 @@ fn read_tags<T: Tree>(alloc: Global, tree: &mut T, files: &[FileEntry]) -> Resul
 }
 
 /// The declaration, where `bagit.txt` is listed.
-fn declaration_at<T: Tree>(alloc: Global, tree: &mut T, files: &[FileEntry]) -> Result<Option<Declaration>, Stop>
+fn declaration_at<T: Tree>(
+    alloc: Global,
+    tree: &mut T,
+    files: &[FileEntry],
+) -> Result<Option<Declaration>, Stop>
     ensures reads { ReadsAmong (bagit_txt ∷ []) (T.state tree.old) (T.state tree.new) }
     ensures declaration { IfOk result (λ declaration. IsTrue (T.state tree.old).honest → AreListed (T.state tree.old).bag files.now
         → IsReadOf IsDeclarationOf (file (T.state tree.old).bag bagit_txt) declaration) }

@@ -22,7 +22,12 @@ pub(crate) struct ManifestFacts {
 
 impl ManifestFacts {
     /// Reads the manifests of a kind, in path order.
-    pub(crate) fn read<T: Tree>(alloc: Global, tree: &mut T, files: &[FileEntry], kind: Kind) -> Result<ManifestFacts, Stop>
+    pub(crate) fn read<T: Tree>(
+        alloc: Global,
+        tree: &mut T,
+        files: &[FileEntry],
+        kind: Kind,
+    ) -> Result<ManifestFacts, Stop>
         ensures reads { ReadsAmong (manifest_paths kind) (T.state tree.old) (T.state tree.new) }
         ensures manifests { IfOk result (λ manifests. IsTrue (T.state tree.old).honest → AreListed (T.state tree.old).bag files.now
             → AreManifestsOf (T.state tree.old).bag kind manifests) }

@@ -15,7 +15,12 @@ pub(crate) fn declaration_faults(alloc: Global, facts: &Facts) -> Result<Vec<Fau
     ensures { IfOk result (λ faults. (bag : Bag) → IsFactsOf bag facts.now → IsStageOf bag facts.now.options 1 faults.items) }
 {
     match &facts.declaration {
-        Some(declaration) => faults_in_file(alloc, "bagit.txt", None, declaration.faults.as_slice()),
+        Some(declaration) => faults_in_file(
+            alloc,
+            "bagit.txt",
+            None,
+            declaration.faults.as_slice(),
+        ),
         None => Ok(vec![in alloc; no_declaration(alloc)?]?),
     }
 }

@@ -36,7 +36,11 @@ pub(crate) fn part_faults(alloc: Global, facts: &Facts) -> Result<Vec<Fault>, Al
 }
 
 /// What a bag needs, and isn't there: the payload folder, a payload manifest.
-fn missing_parts(alloc: Global, has_data: bool, has_manifest: bool) -> Result<Vec<Fault>, AllocError>
+fn missing_parts(
+    alloc: Global,
+    has_data: bool,
+    has_manifest: bool,
+) -> Result<Vec<Fault>, AllocError>
     ensures { IfOk result (λ faults. faults.items ≡
         (if has_data then [] else of_bag NoPayloadFolder ∷ []) ++ (if has_manifest then [] else of_bag NoPayloadManifest ∷ [])) }
 {
@@ -77,7 +81,11 @@ fn has_payload_manifest(files: &[FileEntry]) -> bool
 }
 
 /// The faults of listed files.
-fn file_faults(alloc: Global, files: &[FileEntry], tags: &TagFacts) -> Result<Vec<Fault>, AllocError>
+fn file_faults(
+    alloc: Global,
+    files: &[FileEntry],
+    tags: &TagFacts,
+) -> Result<Vec<Fault>, AllocError>
     ensures { IfOk result (λ faults. (bag : Bag) → AreTagFactsOf bag tags.now → IsStrictlySortedBy text_cmp (paths_of files.now)
         → IsListOf fault_cmp (IsFaultAmong bag (paths_of files.now)) faults.items) }
 {

@@ -8,7 +8,12 @@ use bag_text::{Alg, Text};
 use std::alloc::{AllocError, Global};
 
 /// The faults of a tag file's lines as faults of the bag, in their order.
-pub(crate) fn faults_in_file(alloc: Global, path: &str, alg: Option<Alg>, faults: &[LineFault]) -> Result<Vec<Fault>, AllocError>
+pub(crate) fn faults_in_file(
+    alloc: Global,
+    path: &str,
+    alg: Option<Alg>,
+    faults: &[LineFault],
+) -> Result<Vec<Fault>, AllocError>
     ensures { IfOk result (λ all. all.items ≡ map (in_file path.now alg) faults.now) }
 {
     let mut all = Vec::with_capacity(alloc, faults.len())?;
@@ -19,7 +24,12 @@ pub(crate) fn faults_in_file(alloc: Global, path: &str, alg: Option<Alg>, faults
 }
 
 /// A fault of a tag file's line as a fault of the bag.
-fn fault_in_file(alloc: Global, path: &str, alg: Option<Alg>, fault: &LineFault) -> Result<Fault, AllocError>
+fn fault_in_file(
+    alloc: Global,
+    path: &str,
+    alg: Option<Alg>,
+    fault: &LineFault,
+) -> Result<Fault, AllocError>
     ensures { IfOk result (λ one. one ≡ in_file path.now alg fault.now) }
 {
     Ok(Fault {

@@ -12,7 +12,12 @@ use bag_text::text_of;
 use std::alloc::Global;
 
 /// The bytes of a file, where it is listed.
-pub(crate) fn bytes_at<T: Tree>(alloc: Global, tree: &mut T, files: &[FileEntry], path: &str) -> Result<Option<Vec<u8>>, Stop>
+pub(crate) fn bytes_at<T: Tree>(
+    alloc: Global,
+    tree: &mut T,
+    files: &[FileEntry],
+    path: &str,
+) -> Result<Option<Vec<u8>>, Stop>
     ensures reads { ReadsAmong (path.now ∷ []) (T.state tree.old) (T.state tree.new) }
     ensures bytes { IfOk result (λ read. IsTrue (T.state tree.old).honest → AreListed (T.state tree.old).bag files.now
         → MatchOption read (file (T.state tree.old).bag path.now ≡ None) (λ bytes. file (T.state tree.old).bag path.now ≡ Some bytes.items)) }
@@ -28,7 +33,12 @@ pub(crate) fn bytes_at<T: Tree>(alloc: Global, tree: &mut T, files: &[FileEntry]
 }
 
 /// Whether a file is UTF-8, where it is listed.
-pub(crate) fn text_at<T: Tree>(alloc: Global, tree: &mut T, files: &[FileEntry], path: &str) -> Result<Option<bool>, Stop>
+pub(crate) fn text_at<T: Tree>(
+    alloc: Global,
+    tree: &mut T,
+    files: &[FileEntry],
+    path: &str,
+) -> Result<Option<bool>, Stop>
     ensures reads { ReadsAmong (path.now ∷ []) (T.state tree.old) (T.state tree.new) }
     ensures text { IfOk result (λ read. IsTrue (T.state tree.old).honest → AreListed (T.state tree.old).bag files.now
         → IsReadOf IsTextTest (file (T.state tree.old).bag path.now) read) }

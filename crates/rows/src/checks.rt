@@ -9,7 +9,8 @@ use bag_walk::{Request, run, status};
 use std::alloc::{AllocError, Global};
 
 /// A declaration with two faults: a byte order mark, and another encoding than UTF-8.
-pub(crate) const MARKED_LATIN: &[u8] = b"\xEF\xBB\xBFBagIt-Version: 1.0\nTag-File-Character-Encoding: ISO-8859-1\n";
+pub(crate) const MARKED_LATIN: &[u8] =
+    b"\xEF\xBB\xBFBagIt-Version: 1.0\nTag-File-Character-Encoding: ISO-8859-1\n";
 
 /// The line of the first of these faults.
 pub(crate) const MARK_LINE: &str = "102 declaration-not-utf8 bagit.txt - - bom\n";
@@ -18,7 +19,10 @@ pub(crate) const MARK_LINE: &str = "102 declaration-not-utf8 bagit.txt - - bom\n
 pub(crate) const ENCODING_LINE: &str = "106 encoding-unsupported bagit.txt - 2 ISO-8859-1\n";
 
 /// A bag in memory: a payload folder, an empty manifest, and perhaps a declaration.
-pub(crate) fn bag_with(alloc: Global, declaration: Option<&[u8]>) -> Result<MemoryTree, AllocError> {
+pub(crate) fn bag_with(
+    alloc: Global,
+    declaration: Option<&[u8]>,
+) -> Result<MemoryTree, AllocError> {
     let mut tree = MemoryTree::new(alloc);
     if let Some(bytes) = declaration {
         tree.put_file("bagit.txt", bytes)?;
@@ -29,7 +33,12 @@ pub(crate) fn bag_with(alloc: Global, declaration: Option<&[u8]>) -> Result<Memo
 }
 
 /// A request for the faults of the declaration of a bag called `d`.
-pub(crate) fn request(alloc: Global, after: Option<Fault>, limit: Option<u64>, quiet: bool) -> Result<Request, AllocError>
+pub(crate) fn request(
+    alloc: Global,
+    after: Option<Fault>,
+    limit: Option<u64>,
+    quiet: bool,
+) -> Result<Request, AllocError>
     ensures { IfOk result (λ request. request.options.depth ≡ Declaration) }
 {
     Ok(Request {

@@ -86,7 +86,11 @@ fn cursors_and_limits(rt: HostRuntime) -> Result<(), Fail> {
             Some(line) => Some(Fault::from_line(rt.alloc(), line)?),
         };
         let tree = bag_with(rt.alloc(), Some(MARKED_LATIN))?;
-        let (output, status) = checked(rt.alloc(), tree, request(rt.alloc(), after, row.limit, false)?);
+        let (output, status) = checked(
+            rt.alloc(),
+            tree,
+            request(rt.alloc(), after, row.limit, false)?,
+        );
         let mut expected = String::new(rt.alloc());
         for line in row.lines {
             expected.push_str(line)?;
@@ -102,11 +106,21 @@ fn cursors_and_limits(rt: HostRuntime) -> Result<(), Fail> {
 fn a_limit_of_none_opens_no_file(rt: HostRuntime) -> Result<(), Fail> {
     let tree = bag_with(rt.alloc(), Some(MARKED_LATIN))?;
     let mut out = bag_store::WriterOut::new(Vec::<u8>::new(rt.alloc()));
-    let (tree, _outcome) = bag_walk::run(rt.alloc(), tree, request(rt.alloc(), None, Some(0), false)?, &mut out);
+    let (tree, _outcome) = bag_walk::run(
+        rt.alloc(),
+        tree,
+        request(rt.alloc(), None, Some(0), false)?,
+        &mut out,
+    );
     let _bytes = out.into_inner();
     assert_eq!(rt; tree.openings().len(), 0);
     let mut out = bag_store::WriterOut::new(Vec::<u8>::new(rt.alloc()));
-    let (tree, _outcome) = bag_walk::run(rt.alloc(), tree, request(rt.alloc(), None, Some(1), false)?, &mut out);
+    let (tree, _outcome) = bag_walk::run(
+        rt.alloc(),
+        tree,
+        request(rt.alloc(), None, Some(1), false)?,
+        &mut out,
+    );
     let _bytes = out.into_inner();
     assert_eq!(rt; tree.openings().len(), 1);
     Ok(())

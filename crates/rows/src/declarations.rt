@@ -48,7 +48,9 @@ const ROWS: [Row; 11] = [
         status: 1,
     },
     Row {
-        bagit_txt: Some(b"\xEF\xBB\xBFBagIt-Version: 1.0\nTag-File-Character-Encoding: ISO-8859-1\n"),
+        bagit_txt: Some(
+            b"\xEF\xBB\xBFBagIt-Version: 1.0\nTag-File-Character-Encoding: ISO-8859-1\n",
+        ),
         output: "102 declaration-not-utf8 bagit.txt - - bom\n106 encoding-unsupported bagit.txt - 2 ISO-8859-1\nd has faults: 2\n",
         status: 1,
     },
@@ -63,7 +65,9 @@ const ROWS: [Row; 11] = [
         status: 1,
     },
     Row {
-        bagit_txt: Some(b"\xEF\xBB\xBF\xEF\xBB\xBFBagIt-Version: 1.0\nTag-File-Character-Encoding: UTF-8\n"),
+        bagit_txt: Some(
+            b"\xEF\xBB\xBF\xEF\xBB\xBFBagIt-Version: 1.0\nTag-File-Character-Encoding: UTF-8\n",
+        ),
         output: "102 declaration-not-utf8 bagit.txt - - bom\n104 declaration-line bagit.txt - 1 -\nd has faults: 2\n",
         status: 1,
     },
@@ -112,7 +116,10 @@ fn a_folder_that_is_not_there(rt: HostRuntime) -> Result<(), Fail> {
     fs::remove_dir_all(&rt, base.as_str())?;
     let tree = FileTree::at(rt.clone()?, rt.alloc(), base.as_str())?;
     let (output, status) = checked(rt.alloc(), tree, request(rt.alloc(), None, None, false)?);
-    assert_eq!(rt; output.as_slice(), b"d unread - device, faults: 0\n".as_slice());
+    assert_eq!(rt;
+        output.as_slice(),
+        b"d unread - device, faults: 0\n".as_slice()
+    );
     assert_eq!(rt; status, 3);
     Ok(())
 }

@@ -39,7 +39,11 @@ fn narrowly_checked(alloc: Global, most: usize, room: usize) -> Result<(Vec<u8>,
     });
     let tree = bag_with(alloc, Some(MARKED_LATIN))?;
     let (_tree, outcome) = run(alloc, tree, request(alloc, None, None, false)?, &mut out);
-    let Narrow { taken, most: _, room: _ } = out.into_inner();
+    let Narrow {
+        taken,
+        most: _,
+        room: _,
+    } = out.into_inner();
     Ok((taken, outcome))
 }
 
@@ -65,7 +69,8 @@ fn refuses_at_each_place(rt: &HostRuntime, most: usize) -> Result<(), Fail> {
         assert!(rt; text.as_bytes().starts_with(&taken), "room {room}");
         assert_eq!(rt; taken.len(), room);
         let first = MARK_LINE.len();
-        let lines = u64::from(room >= first) + u64::from(room >= first.saturating_add(ENCODING_LINE.len()));
+        let lines = u64::from(room >= first)
+            + u64::from(room >= first.saturating_add(ENCODING_LINE.len()));
         let written = match outcome {
             Outcome::Unwritten(written) => Some(written),
             _ => None,

@@ -1,5 +1,5 @@
 //! The parts of a bag: its payload folder, and which tag files are read.
-use crate::stages::{Bag, has_lines};
+use crate::stages::{Bag, stage_text, text_of_lines};
 use bag_report::Depth;
 use std::test::Fail;
 
@@ -107,8 +107,10 @@ const ROWS: [Row; 9] = [
 #[test]
 fn parts_of_bags(rt: HostRuntime) -> Result<(), Fail> {
     for row in ROWS.iter() {
+        let expected = text_of_lines(rt.alloc(), row.lines)?;
         for depth in [Depth::Fast, Depth::Complete, Depth::Full] {
-            has_lines(&rt, &row.bag, depth, 2, row.lines)?;
+            let text = stage_text(rt.alloc(), &row.bag, depth, 2)?;
+            assert_eq!(rt; text.as_str(), expected.as_str());
         }
     }
     Ok(())
@@ -117,7 +119,8 @@ fn parts_of_bags(rt: HostRuntime) -> Result<(), Fail> {
 #[test]
 fn the_declaration_alone_has_no_other_parts(rt: HostRuntime) -> Result<(), Fail> {
     for row in ROWS.iter() {
-        has_lines(&rt, &row.bag, Depth::Declaration, 2, &[])?;
+        let text = stage_text(rt.alloc(), &row.bag, Depth::Declaration, 2)?;
+        assert_eq!(rt; text.as_str(), "");
     }
     Ok(())
 }

@@ -2,7 +2,6 @@
 use bag_report::{Depth, Facts, Options, stage_faults};
 use bag_store::MemoryTree;
 use std::alloc::{AllocError, Global};
-use std::test::Fail;
 
 /// What a bag holds.
 pub(crate) struct Bag {
@@ -23,20 +22,35 @@ impl Bag {
     }
 }
 
-/// Checks the lines of the faults of one stage.
-pub(crate) fn has_lines(rt: &HostRuntime, bag: &Bag, depth: Depth, stage: u8, lines: &[&str]) -> Result<(), Fail> {
+/// The lines of the faults of one stage, each with its end.
+pub(crate) fn stage_text(
+    alloc: Global,
+    bag: &Bag,
+    depth: Depth,
+    stage: u8,
+) -> Result<String, AllocError> {
     let options = Options {
         depth,
         clashes: false,
     };
-    let mut tree = bag.tree(rt.alloc())?;
-    let Ok(facts) = Facts::read(rt.alloc(), &mut tree, options) else {
-        panic!(rt; "the facts of {lines:?} were not read");
+    let mut tree = bag.tree(alloc)?;
+    let Ok(facts) = Facts::read(alloc, &mut tree, options) else {
+        return String::from_str(alloc, "unread");
     };
-    let faults = stage_faults(rt.alloc(), &facts, stage)?;
-    assert_eq!(rt; faults.len(), lines.len(), "{lines:?}");
-    for (fault, line) in faults.iter().zip(lines) {
-        assert_eq!(rt; fault.to_line(rt.alloc())?.as_str(), *line);
+    let mut text = String::new(alloc);
+    for fault in &stage_faults(alloc, &facts, stage)? {
+        fault.append_line(&mut text)?;
+        text.push('\n')?;
     }
-    Ok(())
+    Ok(text)
+}
+
+/// Lines, each with its end.
+pub(crate) fn text_of_lines(alloc: Global, lines: &[&str]) -> Result<String, AllocError> {
+    let mut text = String::new(alloc);
+    for line in lines {
+        text.push_str(line)?;
+        text.push('\n')?;
+    }
+    Ok(text)
 }

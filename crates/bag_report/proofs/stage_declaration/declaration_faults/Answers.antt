@@ -10,8 +10,8 @@ use Rattle.bag_report.proofs.stage_declaration.declaration_faults.Goals as goal
 pub returns-in-Some : goal.returns-in-Some
 returns-in-Some c = IfOk-weaker c.faults_in_file.result _ _
     (λ all e bag facts.
-      let read = was_read IsDeclarationOf (file bag bagit_txt) c.in-Some.declaration (rw c.in-Some.is at facts.declaration) in
-      declaration_stage_listed bag c.args.facts.now.options read.0 c.in-Some.declaration.faults all.items read.1 read.2.faults (rw c.as_slice.ensures at e))
+    let read = was_read IsDeclarationOf (file bag bagit_txt) c.in-Some.declaration (rw c.in-Some.is at facts.declaration) in
+    declaration_stage_listed bag c.args.facts.now.options read.0 c.in-Some.declaration.faults all.items read.1 read.2.faults (rw c.as_slice.ensures at e))
     c.faults_in_file.ensures
 
 pub returns-in_ok-vec-in-None : goal.returns-in_ok-vec-in-None

@@ -16,12 +16,12 @@ loop-entry-init c = λ bag tags sorted.
 pub loop-entry-preserved : goal.loop-entry-preserved
 loop-entry-preserved c = λ bag tags sorted.
     let more = one_file_more bag c.args.files.now c.loop-entry.entry-index c.entry-item.result c.loop-entry.faults.items c.in_ok-fault.field-0 sorted
-      c.loop-entry-test.true c.entry-item.is (c.loop-entry.invariant bag tags sorted) (c.in_ok-fault.ensures bag tags) in
+    c.loop-entry-test.true c.entry-item.is (c.loop-entry.invariant bag tags sorted) (c.in_ok-fault.ensures bag tags) in
     let now : c.match-branch-2.faults.items ≡ c.loop-entry.faults.items ++ option_to_list c.in_ok-fault.field-0 =
-      elim c.match-branch-2.branch [
-        | in-Some+in_ok-push w ↦ rw (w.faults-is, w.in-Some.is) w.in_ok-push.ensures.items
-        | in_default w ↦ rw (w.faults-is, w.in_default.is) (sym (append-nil c.loop-entry.faults.items))
-      ] in
+    elim c.match-branch-2.branch [
+      | in-Some+in_ok-push w ↦ rw (w.faults-is, w.in-Some.is) w.in_ok-push.ensures.items
+      | in_default w ↦ rw (w.faults-is, w.in_default.is) (sym (append-nil c.loop-entry.faults.items))
+    ] in
     rw now more
 
 pub returns : goal.returns

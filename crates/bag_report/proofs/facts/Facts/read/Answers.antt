@@ -21,7 +21,7 @@ returns-in_err-declaration-clause-stop g c =
     let new = state c.declaration_at.new.tree in
     passed_on c.from_residual.result c.in_err-declaration.field-0.0 (MayStop c.args.options old new) c.from_residual.ensures.1
     (stops_listed (AsksFor bagit_txt) c.args.options c.in-Ok.listing c.as_slice.result.now old (state c.list.new.self) new c.in_err-declaration.field-0.0 (inl refl)
-      c.list.ensures.keeps c.as_slice.ensures c.in-Ok.ensures.honest c.in_err-declaration.ensures.stop)
+    c.list.ensures.keeps c.as_slice.ensures c.in-Ok.ensures.honest c.in_err-declaration.ensures.stop)
 
 pub returns-then-eq-clause-opens : goal.returns-then-eq-clause-opens
 returns-then-eq-clause-opens g c =
@@ -42,7 +42,7 @@ returns-in_err-declaration-2-clause-stop g c =
     let more : AsksMore c.args.options = search rules in
     passed_on c.from_residual-in_err-declaration-2.result c.in_err-declaration-2.field-0.0 (MayStop c.args.options old new) c.from_residual-in_err-declaration-2.ensures.1
     (stops_listed AsksMore c.args.options c.in-Ok.listing c.as_slice-2.result.now old (state c.list.new.self) new c.in_err-declaration-2.field-0.0 more
-      c.list.ensures.keeps c.as_slice-2.ensures c.in-Ok.ensures.honest c.in_err-declaration-2.ensures.stop)
+    c.list.ensures.keeps c.as_slice-2.ensures c.in-Ok.ensures.honest c.in_err-declaration-2.ensures.stop)
 
 pub returns-clause-opens : goal.returns-clause-opens
 returns-clause-opens g c =
