@@ -3,12 +3,15 @@ pub mod Bytes
 pub mod Codes
 pub mod Cut
 pub mod Escapes
+pub mod Files
 pub mod Lines
 pub mod Ordered
+pub mod ManifestPaths
 pub mod Pieces
 pub mod Spaces
 pub mod FieldPieces
 pub mod InFile
-pub mod Opens
 pub mod Reading
 pub mod StageOne
+pub mod StageTwo
+pub mod Steps

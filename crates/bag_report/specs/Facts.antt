@@ -1,8 +1,11 @@
 -- What is read of a bag, and when it can't be read.
-use Rattle.std.specs.Prelude.{◌≡◌, ◌++◌, ◌⊎◌, ◌<◌, ℕ, List, [], Option, Some, None, IsTrue, All}
+use Rattle.std.specs.Prelude.{◌≡◌, ◌≢◌, ◌++◌, ◌⊎◌, ◌<◌, ℕ, Bool, List, [], Option, Some, None, IsTrue, All}
+use Rattle.std.specs.Str.{is_utf8}
 use Rattle.std.specs.List.Sorted.{IsStrictlySortedBy}
 use Rattle.bag_text.specs.Text.{text_cmp}
+use Rattle.bag_text.specs.declared.alg.Alg.TheVariants.{Md5, Sha1, Sha256, Sha512}
 use Rattle.bag_store.specs.Bag.{Bag, file, HasFile}
+use Rattle.bag_store.specs.Listing.{IsOrdered, IsListingOf}
 use Rattle.bag_store.specs.Tree.{TreeState, most_entries}
 use Rattle.bag_store.specs.declared.fault.Stop.{Stop}
 use Rattle.bag_store.specs.declared.fault.TreeFault.{TreeFault}
@@ -10,9 +13,15 @@ use Rattle.bag_store.specs.declared.fault.TreeFault.TheVariants.{Device, Special
 use Rattle.bag_tags.specs.Declaration.{declared_version, declared_encoding, IsDeclarationFault}
 use Rattle.bag_tags.specs.LineFault.{AreFaults}
 use Rattle.bag_tags.specs.declared.declaration.Declaration.{Declaration}
+use Rattle.bag_tags.specs.declared.kind.Kind.{Kind}
+use Rattle.bag_tags.specs.declared.kind.Kind.TheVariants.{Payload, Tag}
 use Rattle.bag_report.specs.declared.facts.Facts.{Facts}
+use Rattle.bag_report.specs.declared.manifest_facts.ManifestFacts.{ManifestFacts}
+use Rattle.bag_report.specs.declared.tag_facts.TagFacts.{TagFacts}
+use Rattle.bag_report.specs.declared.options.Depth.{Depth}
+use Rattle.bag_report.specs.declared.options.Depth.TheVariants as depth_of
 use Rattle.bag_report.specs.declared.options.Options.{Options}
-use Rattle.bag_report.specs.TagFiles.{bagit_txt}
+use Rattle.bag_report.specs.TagFiles.{bagit_txt, bag_info_txt, fetch_txt, manifest_of, IsRead}
 
 -- a declaration is what these bytes declare
 pub record IsDeclarationOf (bytes : List ℕ) (declaration : Declaration) : Type 0 where
@@ -27,13 +36,39 @@ IsReadOf IsOf (Some bytes) (Some x) = IsOf bytes x
 IsReadOf IsOf None (Some x) = ⊥
 IsReadOf IsOf (Some bytes) None = ⊥
 
+-- whether bytes are UTF-8
+abbrev pub IsTextTest : List ℕ → Bool → Type 0
+IsTextTest bytes is_text = is_text ≡ is_utf8 bytes
+
+-- what is known of the manifests of one kind is what their bytes say
+pub record AreManifestsOf (bag : Bag) (kind : Kind) (manifests : ManifestFacts) : Type 0 where
+  pub md5 : IsReadOf IsTextTest (file bag (manifest_of kind Md5)) manifests.md5
+  pub sha1 : IsReadOf IsTextTest (file bag (manifest_of kind Sha1)) manifests.sha1
+  pub sha256 : IsReadOf IsTextTest (file bag (manifest_of kind Sha256)) manifests.sha256
+  pub sha512 : IsReadOf IsTextTest (file bag (manifest_of kind Sha512)) manifests.sha512
+
+-- what is known of the tag files but bagit.txt is what their bytes say
+pub record AreTagFactsOf (bag : Bag) (tags : TagFacts) : Type 0 where
+  pub info : IsReadOf IsTextTest (file bag bag_info_txt) tags.info
+  pub fetch : IsReadOf IsTextTest (file bag fetch_txt) tags.fetch
+  pub payload : AreManifestsOf bag Payload tags.payload
+  pub tag : AreManifestsOf bag Tag tags.tag
+
+-- where bagit.txt alone is checked, nothing is known of the other tag files
+abbrev pub AreTagFactsAt : Depth → Bag → Option TagFacts → Type 0
+AreTagFactsAt depth bag None = depth ≡ depth_of.Declaration
+AreTagFactsAt depth bag (Some tags) = (depth ≢ depth_of.Declaration) × AreTagFactsOf bag tags
+
 -- the facts are those of the bag
 pub record IsFactsOf (bag : Bag) (facts : Facts) : Type 0 where
+  pub ordered : IsOrdered facts.listing.files
+  pub listing : IsListingOf bag facts.listing
   pub declaration : IsReadOf IsDeclarationOf (file bag bagit_txt) facts.declaration
+  pub tags : AreTagFactsAt facts.options.depth bag facts.tags
 
 -- a file that is read whole under the options
 abbrev pub IsWanted : Options → List ℕ → Type 0
-IsWanted options path = path ≡ bagit_txt
+IsWanted options path = (path ≡ bagit_txt) ⊎ ((options.depth ≢ depth_of.Declaration) × IsRead path)
 
 -- files that are wanted were opened, each once at most and in path order, and no others
 abbrev pub OpensWanted : Options → TreeState → TreeState → Type 0

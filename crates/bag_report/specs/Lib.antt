@@ -4,6 +4,8 @@ pub mod FaultOrder
 pub mod InFile
 pub mod Is
 pub mod LineFields
+pub mod Parts
 pub mod Report
+pub mod Steps
 pub mod Stops
 pub mod TagFiles

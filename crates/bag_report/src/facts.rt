@@ -1,30 +1,33 @@
 //! What is read of a bag.
-ghost use Rattle.std.specs.Prelude.{◌≡◌, ℕ, List, Some, IsTrue, IfOk, IfErr, IfSome};
-ghost use Rattle.std.specs.Option.{option_copied};
+ghost use Rattle.std.specs.Prelude.{◌≡◌, ◌∷◌, [], None, IsTrue, IfOk, IfErr};
 ghost use Rattle.bag_store.specs.Bag.{file};
-ghost use Rattle.bag_store.specs.Listing.{entry_at};
-ghost use Rattle.bag_store.specs.Tree.{Keeps, OpensAtMost};
-ghost use Rattle.bag_report.specs.Stops.{MayStopAt};
+ghost use Rattle.bag_store.specs.Tree.{Keeps};
+ghost use Rattle.bag_report.specs.Steps.{ReadsAmong, AreListed, MayStopIf, AsksFor, AsksMore, read_paths};
+ghost use Rattle.bag_report.specs.TagFiles.{bagit_txt};
 
-use crate::Options;
-use crate::fact_stop::{stop_at, stop_without_path};
-use bag_store::{FileEntry, Stop, Tree, TreeFault, read_whole};
-use bag_tags::{Declaration, read_declaration};
+use crate::fact_stop::stop_without_path;
+use crate::manifest_facts::ManifestFacts;
+use crate::tag_facts::TagFacts;
+use crate::tag_reader::{bytes_at, text_at};
+use crate::{Depth, Options};
+use bag_store::{FileEntry, Listing, Stop, Tree, TreeFault};
+use bag_tags::{Declaration, Kind, read_declaration};
 use std::alloc::Global;
 
-const DECLARATION: &str = "bagit.txt";
-
-/// What the checks need to know of a bag: its tag files, parsed once.
+/// What the checks need to know of a bag: its files, and its tag files, parsed once.
 #[derive(Debug, Drop)]
 pub struct Facts {
     options: Options,
+    pub(crate) listing: Listing,
     pub(crate) declaration: Option<Declaration>,
+    pub(crate) tags: Option<TagFacts>,
 }
 
 impl Facts {
-    ghost use Rattle.bag_report.specs.Facts.{IsFactsOf, OpensWanted, MayStop, IsDeclarationOf};
+    ghost use Rattle.bag_report.specs.Facts.{IsFactsOf, OpensWanted, MayStop};
 
-    /// Lists the tree, and reads its tag files whole, in path order and each once: at every depth `bagit.txt`.
+    /// Lists the tree, and reads its tag files whole, in path order and each once: at every depth `bagit.txt`, and at
+    /// the depths above `Declaration` also `bag-info.txt`, `fetch.txt` and the manifests of supported algorithms.
     ///
     /// The stop of a refusal names the file that was read; it names none for the listing and for want of memory.
     pub fn read<T: Tree>(alloc: Global, tree: &mut T, options: Options) -> Result<Facts, Stop>
@@ -38,42 +41,69 @@ impl Facts {
             Ok(listing) => listing,
             Err(cause) => return Err(stop_without_path(alloc, cause)),
         };
-        let declaration = match entry_of(listing.files.as_slice(), DECLARATION) {
-            None => None,
-            Some(entry) => Some(Facts::read_declaration_of(alloc, tree, entry)?),
-        };
+        if options.depth == Depth::Declaration {
+            let declaration = declaration_at(alloc, tree, listing.files.as_slice())?;
+            return Ok(Facts {
+                options,
+                listing,
+                declaration,
+                tags: None,
+            });
+        }
+        let (declaration, tags) = read_tags(alloc, tree, listing.files.as_slice())?;
         Ok(Facts {
             options,
+            listing,
             declaration,
+            tags: Some(tags),
         })
-    }
-
-    /// The declaration that a listed file holds.
-    fn read_declaration_of<T: Tree>(
-        alloc: Global,
-        tree: &mut T,
-        entry: &FileEntry,
-    ) -> Result<Declaration, Stop>
-        ensures keeps { Keeps (T.state tree.old) (T.state tree.new) }
-        ensures opens { OpensAtMost (T.state tree.old) (T.state tree.new) entry.now.path }
-        ensures declaration { IfOk result (λ declaration. IsTrue (T.state tree.old).honest
-            → (bytes : List ℕ) × (file (T.state tree.old).bag entry.now.path ≡ Some bytes) × IsDeclarationOf bytes declaration) }
-        ensures stop { IfErr result (MayStopAt (T.state tree.old) (T.state tree.new) entry.now) }
-    {
-        match read_whole(alloc, tree, entry) {
-            Err(cause) => Err(stop_at(alloc, cause, &entry.path)),
-            Ok(bytes) => match read_declaration(alloc, &bytes) {
-                Err(_) => Err(stop_without_path(alloc, TreeFault::Memory)),
-                Ok(declaration) => Ok(declaration),
-            },
-        }
     }
 }
 
-/// The entry of a path, if it is listed.
-fn entry_of<'a>(files: &'a [FileEntry], path: &str) -> Option<&'a FileEntry>
-    ensures entry { option_copied result ≡ entry_at files.now path.now }
-    ensures path { IfSome result (λ entry. entry.now.path ≡ path.now) }
+ghost use Rattle.bag_report.specs.Facts.{IsReadOf, IsDeclarationOf, AreTagFactsOf};
+
+/// All tag files that are read, in path order.
+fn read_tags<T: Tree>(
+    alloc: Global,
+    tree: &mut T,
+    files: &[FileEntry],
+) -> Result<(Option<Declaration>, TagFacts), Stop>
+    ensures reads { ReadsAmong read_paths (T.state tree.old) (T.state tree.new) }
+    ensures declaration { IfOk result (λ read. IsTrue (T.state tree.old).honest → AreListed (T.state tree.old).bag files.now
+        → IsReadOf IsDeclarationOf (file (T.state tree.old).bag bagit_txt) read.0) }
+    ensures tags { IfOk result (λ read. IsTrue (T.state tree.old).honest → AreListed (T.state tree.old).bag files.now → AreTagFactsOf (T.state tree.old).bag read.1) }
+    ensures stop { IfErr result (MayStopIf AsksMore files.now (T.state tree.old) (T.state tree.new)) }
 {
-    files.iter().find(|entry| entry.path.as_str() == path)
+    let info = text_at(alloc, tree, files, "bag-info.txt")?;
+    let declaration = declaration_at(alloc, tree, files)?;
+    let fetch = text_at(alloc, tree, files, "fetch.txt")?;
+    let payload = ManifestFacts::read(alloc, tree, files, Kind::Payload)?;
+    let tag = ManifestFacts::read(alloc, tree, files, Kind::Tag)?;
+    let tags = TagFacts {
+        info,
+        fetch,
+        payload,
+        tag,
+    };
+    Ok((declaration, tags))
+}
+
+/// The declaration, where `bagit.txt` is listed.
+fn declaration_at<T: Tree>(
+    alloc: Global,
+    tree: &mut T,
+    files: &[FileEntry],
+) -> Result<Option<Declaration>, Stop>
+    ensures reads { ReadsAmong (bagit_txt ∷ []) (T.state tree.old) (T.state tree.new) }
+    ensures declaration { IfOk result (λ declaration. IsTrue (T.state tree.old).honest → AreListed (T.state tree.old).bag files.now
+        → IsReadOf IsDeclarationOf (file (T.state tree.old).bag bagit_txt) declaration) }
+    ensures stop { IfErr result (MayStopIf (AsksFor bagit_txt) files.now (T.state tree.old) (T.state tree.new)) }
+{
+    match bytes_at(alloc, tree, files, "bagit.txt")? {
+        None => Ok(None),
+        Some(bytes) => match read_declaration(alloc, &bytes) {
+            Ok(declaration) => Ok(Some(declaration)),
+            Err(_) => Err(stop_without_path(alloc, TreeFault::Memory)),
+        },
+    }
 }

@@ -8,10 +8,14 @@ mod field;
 mod from_line;
 pub mod laws;
 mod line;
+mod manifest_facts;
 mod options;
 mod stage_declaration;
+mod stage_parts;
 mod stages;
+mod tag_facts;
 mod tag_file;
+mod tag_reader;
 
 pub use facts::Facts;
 pub use fault::Fault;
