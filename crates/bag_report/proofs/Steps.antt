@@ -129,10 +129,6 @@ opens_wanted : (options : Options) (paths : List (List ℕ)) (old mid new : Tree
 opens_wanted options paths old mid new e o s w =
     (o.0, o.1 ∙ ap (λ before. before ++ o.0) e, part_ascending o.0 paths o.2 s, all_along (IsWanted options) o.0 (part_each (IsWanted options) o.0 paths o.2 w))
 
-pub opens_none : (options : Options) (old new : TreeState) → new.openings ≡ old.openings → OpensWanted options old new
-unfolding IsStrictlySortedBy
-opens_none options old new e = ([], e ∙ sym (append-nil old.openings), tt, All-nil (IsWanted options))
-
 pub opens_declaration : (options : Options) (old mid new : TreeState) → mid.openings ≡ old.openings → ReadsAmong (bagit_txt ∷ []) mid new → OpensWanted options old new
 opens_declaration options old mid new e r = opens_wanted options (bagit_txt ∷ []) old mid new e r.opens (ascending (bagit_txt ∷ []) refl) (inl refl, tt)
 
