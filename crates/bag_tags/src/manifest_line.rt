@@ -67,7 +67,7 @@ fn check_digest<'a>(alg: Alg, digest: &'a str, rest: &str) -> Result<(), (Code, 
         (λ _. spec.checked_digest alg digest.now rest.now ≡ Ok (str_to_ascii_lowercase digest.now))
         (λ why. spec.checked_digest alg digest.now rest.now ≡ Err (why.0, why.1.now)) }
 {
-    if digest.is_empty() || !is_hex(digest) || rest.is_empty() {
+    if digest.is_empty() || !is_hex(digest.as_bytes()) || rest.is_empty() {
         return Err((Code::ManifestLine, ""));
     }
     if digest.len() != alg.hex_len() {
@@ -76,17 +76,21 @@ fn check_digest<'a>(alg: Alg, digest: &'a str, rest: &str) -> Result<(), (Code, 
     Ok(())
 }
 
-fn is_hex(text: &str) -> bool
-    ensures { result ≡ list_all is_ascii_hexdigit text.now }
+/// Whether all bytes are hex digits. It takes no branch for a byte, as none could be foretold in a digest.
+fn is_hex(bytes: &[u8]) -> bool
+    ensures { result ≡ list_all is_ascii_hexdigit bytes.now }
 {
-    text.as_bytes().iter().all(|b| is_hex_digit(*b))
+    let mut all = true;
+    for b in bytes {
+        all &= is_hex_digit(*b);
+    }
+    all
 }
 
-/// Whether a byte is a hex digit. Takes no branch, as none could be foretold among the digits of a digest.
 fn is_hex_digit(b: u8) -> bool
     ensures { result ≡ is_ascii_hexdigit b }
 {
-    b.is_ascii_digit() | ((b >= b'a') & (b <= b'f')) | ((b >= b'A') & (b <= b'F'))
+    b.is_ascii_digit() | ((b >= b'A') & (b <= b'F')) | ((b >= b'a') & (b <= b'f'))
 }
 
 /// The rest of a line without what may be written before a path: one `*`, as `md5sum -b` has it, and then one `./`.
