@@ -13,10 +13,10 @@ use Rattle.bag_tags.specs.DeclarationFaults.{line_fault}
 pub is_fault : (f : LineFault) (line : ℕ) (code : Code) (detail : List ℕ) → f.line ≡ line → f.code ≡ code → f.detail ≡ detail → f ≡ line_fault line code detail
 is_fault f line code detail l c d = λ i. record { line = l i; code = c i; detail = d i }
 
-less : (m n : ℕ) → m < n → nat_cmp m n ≡ Less
+pub less : (m n : ℕ) → m < n → nat_cmp m n ≡ Less
 less m n h = sym (nat_cmp_is m n Less h)
 
-same : (m n : ℕ) → m ≡ n → nat_cmp m n ≡ Equal
+pub same : (m n : ℕ) → m ≡ n → nat_cmp m n ≡ Equal
 same m n h = sym (nat_cmp_is m n Equal h)
 
 -- a fault of an earlier line

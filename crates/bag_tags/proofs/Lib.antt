@@ -1,6 +1,14 @@
+pub mod BlankRuns
 pub mod DeclarationFaults
 pub mod FaultOrder
+pub mod Followers
 pub mod Heads
+pub mod JudgedLines
+pub mod ManifestFaults
+pub mod ManifestLine
 pub mod ManifestName
+pub mod Marked
+pub mod PickedOut
+pub mod SortedPlaces
 pub mod Texts
 pub mod Utf8

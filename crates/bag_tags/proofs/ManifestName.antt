@@ -1,5 +1,5 @@
 -- The names of manifests.
-use Rattle.std.proofs.Common.{◌≡◌, ◌≢◌, ℕ, ◌-◌, Bool, true, false, ◌&&◌, cond, List, [], ◌∷◌, ◌++◌, length, take, drop, refl, ap, sym, ◌∙◌, codes, Option, Some, None, MatchOption, nat_eq, bytes_eq, append_assoc, arith, length-append}
+use Rattle.std.proofs.Common.{◌≡◌, ◌≢◌, ℕ, ◌-◌, Bool, true, false, cond, List, [], ◌∷◌, ◌++◌, length, take, drop, refl, ap, sym, ◌∙◌, codes, Option, Some, None, MatchOption, nat_eq, bytes_eq, append_assoc, arith, length-append}
 use Rattle.std.specs.Prelude.{IsTrue}
 use Rattle.std.specs.Borrow.{Bor}
 use Rattle.std.specs.List.{starts_with}
@@ -8,6 +8,7 @@ use Rattle.std.proofs.lemmas.Slice.Eq.{bytes_eq-Decides}
 use Rattle.bag_text.specs.Text.{after_prefix, without_prefix}
 use Rattle.bag_tags.specs.declared.kind.Kind.{Kind}
 use Rattle.bag_tags.specs.ManifestName.{prefix, manifest_name, is_alg_text, is_manifest_name}
+use Rattle.bag_tags.proofs.PickedOut.{both_true}
 use Rattle.bag_tags.proofs.Texts.{prefix_test}
 
 after_test : (p t rest : List ℕ) (b : Bool) → starts_with nat_eq t p ≡ b → cond b (Some (drop (length p) t)) None ≡ Some rest → t ≡ p ++ rest
@@ -36,11 +37,6 @@ take_front (x ∷ xs) ys = ap (λ zs. x ∷ zs) (take_front xs ys)
 
 pub without_is : (p rest : List ℕ) → without_prefix p (p ++ rest) ≡ rest
 without_is p rest = rw ((prefix_test p (p ++ rest)).1 rest refl) (drop_front p rest)
-
-both_true : (a b : Bool) → (a && b) ≡ true → (a ≡ true) × (b ≡ true)
-both_true true true e = (refl, refl)
-both_true true false e = cc
-both_true false b e = cc
 
 abbrev pub IsNamed : Kind → List ℕ → List ℕ → Type 0
 IsNamed kind name alg = IsTrue (is_alg_text alg) × (name ≡ manifest_name kind alg)

@@ -1,5 +1,7 @@
 pub mod Declaration
 pub mod DeclarationFaults
+pub mod Judged
 pub mod LineFault
 pub mod Manifest
 pub mod ManifestName
+pub mod Repeats

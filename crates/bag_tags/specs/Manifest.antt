@@ -26,17 +26,24 @@ abbrev pub ◌>>=◌ : {A B : Type 0} → Result A Reason → (A → Result B Re
 (Ok x) >>= f = f x
 (Err reason) >>= f = Err reason
 
--- the digest at the front, in lower case
-abbrev pub digest_of : Alg → List ℕ → Result (List ℕ) Reason
-digest_of alg line =
-    let digest = before_blank line in
-    if bytes_eq digest [] || not (list_all is_ascii_hexdigit digest) || bytes_eq (after_blanks line) [] then Err (ManifestLine, [])
+-- the digest in lower case, where it is hex, has the algorithm's length, and something follows it
+abbrev pub checked_digest : Alg → List ℕ → List ℕ → Result (List ℕ) Reason
+checked_digest alg digest rest =
+    if bytes_eq digest [] || not (list_all is_ascii_hexdigit digest) || bytes_eq rest [] then Err (ManifestLine, [])
     else if not (length digest == hex_len alg) then Err (DigestLength, digest)
     else Ok (str_to_ascii_lowercase digest)
 
--- what may be written before a path: one *, as md5sum -b has it, and then one ./
+-- the digest at the front of a line
+abbrev pub digest_of : Alg → List ℕ → Result (List ℕ) Reason
+digest_of alg line = checked_digest alg (before_blank line) (after_blanks line)
+
+-- what may be written before a path is dropped: one *, as md5sum -b has it, and then one ./
+abbrev pub without_marks : List ℕ → List ℕ
+without_marks rest = without_prefix (codes "./") (without_prefix (codes "*") rest)
+
+-- the path as it is written, after the digest and the blanks
 abbrev pub spelled_path : List ℕ → List ℕ
-spelled_path line = without_prefix (codes "./") (without_prefix (codes "*") (after_blanks line))
+spelled_path line = without_marks (after_blanks line)
 
 abbrev pub decoded_or : Option (List ℕ) → List ℕ → Result (List ℕ) Reason
 decoded_or None spelling = Err (ManifestEscape, spelling)

@@ -1,5 +1,20 @@
-//! Manifests.
-use bag_text::Text;
+//! Manifests (RFC 8493, 2.1.3 and 2.2.1).
+ghost use Rattle.std.specs.Prelude.{◌≡◌, ◌∷◌, ◌++◌, [], IfOk, OnOk, filter_map};
+ghost use Rattle.std.specs.List.{enumerate_from};
+ghost use Rattle.std.specs.Option.{option_to_list};
+ghost use Rattle.std.specs.Ordering.{nat_cmp, on};
+ghost use Rattle.bag_text.specs.Lines as cut;
+ghost use Rattle.bag_text.specs.Order.{IsListOf};
+ghost use Rattle.bag_tags.specs.Judged.{judged_all, settled_all, entry_of, fault_of, not_utf8};
+ghost use Rattle.bag_tags.specs.LineFault.{AreFaults};
+ghost use Rattle.bag_tags.specs.Manifest.{IsEntry, IsManifestFault};
+
+use crate::blanks::is_blank_line;
+use crate::manifest_line::{Judged, judge};
+use crate::repeats::mark_repeats;
+use crate::{Kind, LineFault, Parsed};
+use bag_text::{Alg, Code, Items, Text, lines, text_of};
+use std::alloc::{AllocError, Global};
 
 /// A line of a manifest that reads: the digest in lower case, and the path that is named.
 #[derive(Debug, Drop)]
@@ -7,4 +22,109 @@ pub struct ManifestEntry {
     pub line: u64,
     pub digest: Text,
     pub path: Text,
+}
+
+/// Reads the bytes of a manifest of an algorithm (RFC 8493, 2.1.3 and 2.2.1). Each line that isn't blank is an entry or
+/// has one fault; a path that is named again is a fault of the later line, and its first entry counts. Bytes that
+/// aren't UTF-8 name nothing and have the one fault `NotUtf8`. Takes time n log n in the number of lines. An error
+/// only for want of memory.
+pub fn read_manifest(
+    alloc: Global,
+    kind: Kind,
+    alg: Alg,
+    bytes: &[u8],
+) -> Result<Parsed<ManifestEntry>, AllocError>
+    ensures items { IfOk result (λ parsed. IsListOf (on (λ e. e.line) nat_cmp) (IsEntry kind alg (cut.lines_of_file bytes.now)) parsed.items) }
+    ensures faults { IfOk result (λ parsed. AreFaults (IsManifestFault kind alg bytes.now) parsed.faults) }
+{
+    match text_of(bytes) {
+        Ok(text) => read_text(alloc, kind, alg, text),
+        Err(_) => unread(alloc),
+    }
+}
+
+/// Nothing is named in bytes that aren't UTF-8.
+fn unread(alloc: Global) -> Result<Parsed<ManifestEntry>, AllocError>
+    ensures items { IfOk result (λ parsed. parsed.items ≡ []) }
+    ensures faults { IfOk result (λ parsed. parsed.faults ≡ not_utf8 ∷ []) }
+{
+    let mut faults = Items::new(alloc);
+    faults.push(LineFault {
+        line: 0,
+        code: Code::NotUtf8,
+        detail: Text::empty(alloc),
+    })?;
+    Ok(Parsed {
+        items: Items::new(alloc),
+        faults,
+    })
+}
+
+fn read_text(
+    alloc: Global,
+    kind: Kind,
+    alg: Alg,
+    text: &str,
+) -> Result<Parsed<ManifestEntry>, AllocError>
+    ensures items { IfOk result (λ parsed. parsed.items ≡ filter_map entry_of (settled_all kind alg (cut.lines text.now))) }
+    ensures faults { IfOk result (λ parsed. parsed.faults ≡ filter_map fault_of (settled_all kind alg (cut.lines text.now))) }
+{
+    let mut all = judge_all(alloc, kind, alg, text)?;
+    mark_repeats(alloc, &mut all)?;
+    part(alloc, all)
+}
+
+/// Judges each line that isn't blank.
+fn judge_all(alloc: Global, kind: Kind, alg: Alg, text: &str) -> Result<Vec<Judged>, AllocError>
+    ensures { IfOk result (λ all. all.items ≡ judged_all kind alg (enumerate_from 1 (cut.lines text.now))) }
+{
+    let mut all = Vec::new(alloc);
+    for (number, line) in lines(text) {
+        if !is_blank_line(line) {
+            all.push(judge(alloc, kind, alg, number, line)?)?;
+        }
+    }
+    Ok(all)
+}
+
+/// Parts the lines into entries and faults.
+fn part(alloc: Global, all: Vec<Judged>) -> Result<Parsed<ManifestEntry>, AllocError>
+    ensures items { IfOk result (λ parsed. parsed.items ≡ filter_map entry_of all.items) }
+    ensures faults { IfOk result (λ parsed. parsed.faults ≡ filter_map fault_of all.items) }
+{
+    let mut items = Items::new(alloc);
+    let mut faults = Items::new(alloc);
+    for judged in all {
+        put(judged, &mut items, &mut faults)?;
+    }
+    Ok(Parsed { items, faults })
+}
+
+/// Puts a line where it belongs.
+fn put(
+    judged: Judged,
+    items: &mut Items<ManifestEntry>,
+    faults: &mut Items<LineFault>,
+) -> Result<(), AllocError>
+    ensures items { OnOk result (items.new ≡ items.old ++ option_to_list (entry_of judged)) }
+    ensures faults { OnOk result (faults.new ≡ faults.old ++ option_to_list (fault_of judged)) }
+{
+    let Judged {
+        line,
+        digest,
+        text,
+        wrong,
+    } = judged;
+    match wrong {
+        None => items.push(ManifestEntry {
+            line,
+            digest,
+            path: text,
+        }),
+        Some(code) => faults.push(LineFault {
+            line,
+            code,
+            detail: text,
+        }),
+    }
 }

@@ -16,3 +16,13 @@ pub(crate) fn before_suffix<'a>(text: &'a str, suffix: &str) -> Option<&'a str>
 {
     text.strip_suffix(suffix)
 }
+
+/// The text without a prefix, where it has it.
+pub(crate) fn without_prefix<'a>(text: &'a str, prefix: &str) -> &'a str
+    ensures { result.now ≡ spec.without_prefix prefix.now text.now }
+{
+    match after_prefix(text, prefix) {
+        Some(rest) => rest,
+        None => text,
+    }
+}

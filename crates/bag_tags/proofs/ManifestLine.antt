@@ -1,0 +1,69 @@
+-- One line of a manifest.
+use Rattle.std.proofs.Common.{◌≡◌, ℕ, Bool, true, false, not, ◌||◌, ◌==◌, cond, [], length, bytes_eq, List, subst, refl, Option, Some, None, Result, Ok, Err}
+use Rattle.bag_text.specs.Text.{before_blank, after_blanks}
+use Rattle.std.specs.Char.{is_ascii_hexdigit}
+use Rattle.std.specs.List.{list_all}
+use Rattle.std.specs.Str.{str_to_ascii_lowercase}
+use Rattle.bag_text.specs.Alg.{hex_len}
+use Rattle.bag_text.specs.Spelling.{unescaped}
+use Rattle.bag_text.specs.Path.{is_payload_path, is_path}
+use Rattle.bag_text.specs.declared.alg.Alg.{Alg}
+use Rattle.bag_text.specs.declared.code.Code.{Code}
+use Rattle.bag_text.specs.declared.code.Code.TheVariants.{NotUtf8, NamedAgain, ManifestLine, DigestLength, ManifestOutsidePayload, ManifestUnsafePath, TagmanifestNamesPayload, TagmanifestNamesTagmanifest}
+use Rattle.bag_tags.specs.ManifestName.{is_manifest_name}
+use Rattle.bag_tags.specs.declared.kind.Kind.{Kind}
+use Rattle.bag_tags.specs.declared.kind.Kind.TheVariants.{Payload, Tag}
+use Rattle.bag_tags.specs.Judged.{judged_as, judged_by_spelling}
+use Rattle.bag_tags.specs.Manifest.{Reason, ◌>>=◌, digest_of, decoded_or, spelled_path, placed, named_path, checked_digest, without_marks, manifest_line}
+
+pub line_of_bad_digest : (kind : Kind) (alg : Alg) (line : List ℕ) (reason : Reason) → checked_digest alg (before_blank line) (after_blanks line) ≡ Err reason → manifest_line kind alg line ≡ Err reason
+unfolding manifest_line
+line_of_bad_digest kind alg line reason e = rw e refl
+
+pub line_of_good_digest : (kind : Kind) (alg : Alg) (n : ℕ) (line digest : List ℕ) → checked_digest alg (before_blank line) (after_blanks line) ≡ Ok digest → judged_by_spelling kind n digest (without_marks (after_blanks line)) ≡ judged_as n (manifest_line kind alg line)
+unfolding manifest_line
+line_of_good_digest kind alg n line digest e = rw e refl
+
+-- the codes of the reasons why a line doesn't read
+abbrev pub IsReasonCode : Code → Type 0
+IsReasonCode NotUtf8 = ⊥
+IsReasonCode NamedAgain = ⊥
+IsReasonCode other = Unit {0}
+
+abbrev IsReasonOf : {A : Type 0} → Result A Reason → Type 0
+IsReasonOf (Ok x) = Unit {0}
+IsReasonOf (Err reason) = IsReasonCode reason.0
+
+then_reason : {A B : Type 0} (r : Result A Reason) (f : A → Result B Reason) → IsReasonOf r → ((x : A) → IsReasonOf (f x)) → IsReasonOf (r >>= f)
+then_reason (Ok x) f h k = k x
+then_reason (Err reason) f h k = h
+
+chosen : {A : Type 0} (b : Bool) (r s : Result A Reason) → IsReasonOf r → IsReasonOf s → IsReasonOf (cond b r s)
+chosen true r s h k = h
+chosen false r s h k = k
+
+decoded_reason : (o : Option (List ℕ)) (spelling : List ℕ) → IsReasonOf (decoded_or o spelling)
+decoded_reason None spelling = tt
+decoded_reason (Some path) spelling = tt
+
+placed_reason : (kind : Kind) (path : List ℕ) → IsReasonOf (placed kind path)
+placed_reason Payload path = chosen (is_payload_path path) (Ok path) (Err (ManifestOutsidePayload, path)) tt tt
+placed_reason Tag path =
+    chosen (is_payload_path path) (Err (TagmanifestNamesPayload, path)) _ tt
+    (chosen (is_manifest_name Tag path) (Err (TagmanifestNamesTagmanifest, path)) (Ok path) tt tt)
+
+digest_reason : (alg : Alg) (digest rest : List ℕ) → IsReasonOf (checked_digest alg digest rest)
+digest_reason alg digest rest =
+    chosen (bytes_eq digest [] || not (list_all is_ascii_hexdigit digest) || bytes_eq rest []) (Err (ManifestLine, [])) _ tt
+    (chosen (not (length digest == hex_len alg)) (Err (DigestLength, digest)) (Ok (str_to_ascii_lowercase digest)) tt tt)
+
+line_reason : (kind : Kind) (alg : Alg) (line : List ℕ) → IsReasonOf (manifest_line kind alg line)
+unfolding manifest_line
+line_reason kind alg line =
+    then_reason (digest_of alg line) _ (digest_reason alg (before_blank line) (after_blanks line))
+    (λ digest. then_reason (decoded_or (unescaped (spelled_path line)) (spelled_path line)) _ (decoded_reason (unescaped (spelled_path line)) (spelled_path line))
+    (λ path. then_reason (named_path kind path) _ (chosen (is_path path) (placed kind path) (Err (ManifestUnsafePath, path)) (placed_reason kind path) tt)
+    (λ named. tt)))
+
+pub reason_code : (kind : Kind) (alg : Alg) (line : List ℕ) (reason : Reason) → manifest_line kind alg line ≡ Err reason → IsReasonCode reason.0
+reason_code kind alg line reason e = subst IsReasonOf e (line_reason kind alg line)

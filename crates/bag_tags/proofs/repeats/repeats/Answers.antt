@@ -1,0 +1,24 @@
+use Rattle.std.proofs.Common.{map, subst}
+use Rattle.std.specs.Prelude.{Contains, ◌↔◌}
+use Rattle.std.specs.List.Sorted.{IsPermutation, IsSortedBy}
+use Rattle.std.specs.Ordering.{is_lt}
+use Rattle.std.proofs.lemmas.Result.{IfOk-weaker}
+use Rattle.std.proofs.lemmas.List.Sorted.{IsPermutation-map}
+use Rattle.bag_tags.specs.Repeats.{pair_of, places_from, FollowsSame}
+use Rattle.bag_tags.proofs.SortedPlaces.{sorted_map, follows_is_repeat, repeat_follows, pair_cmp}
+use Rattle.bag_tags.proofs.repeats.repeats.Goals as goal
+
+pub returns : goal.returns
+returns c =
+    let all = c.args.all.now in
+    let sorted = c.sort_unstable.new.self.items in
+    let named = map pair_of sorted in
+    let perm : IsPermutation (places_from 0 all) named = subst (λ e. IsPermutation e named) c.in_ok-named.ensures (IsPermutation-map pair_of _ sorted c.sort_unstable.ensures.permutation) in
+    let up : IsSortedBy (λ x y. is_lt (pair_cmp x y)) named = sorted_map pair_of (λ x y. is_lt (pair_cmp x y)) sorted c.sort_unstable.ensures.sorted in
+    let to = follows_is_repeat all c.requires named perm up in
+    let from = repeat_follows all c.requires named perm up in
+    IfOk-weaker c.followers.result _ _
+    (λ places h i.
+    let are : Contains places.items i ↔ FollowsSame named i = rw c.as_slice.ensures.value at (h i) in
+    (λ d. to i (are.0 d), λ r. are.1 (from i r)))
+    c.followers.ensures

@@ -1,0 +1,45 @@
+-- Lines of a manifest that name a path again (RFC 8493, 2.1.3).
+use Rattle.std.specs.Prelude.{ℕ, ◌≡◌, ◌+◌, ◌<◌, ◌++◌, List, [], ◌∷◌, length, Some, if◌then◌else◌, slice_get, IsTrue, Contains}
+use Rattle.std.specs.Borrow.{Bor}
+use Rattle.std.specs.Option.{is_none}
+use Rattle.std.specs.declared.cmp.Ordering.{Ordering}
+use Rattle.std.specs.Ordering.{nat_cmp, on}
+use Rattle.bag_text.specs.declared.code.Code.TheVariants.{NamedAgain}
+use Rattle.bag_tags.specs.declared.manifest_line.Judged.{Judged}
+use Rattle.bag_tags.specs.Judged.{is_repeat}
+
+-- the order of lines
+abbrev pub line_cmp : Judged → Judged → Ordering
+line_cmp = on (λ j. j.line) nat_cmp
+
+-- the line at this place names the path of an earlier line
+abbrev pub IsRepeatAt : List Judged → ℕ → Type 0
+IsRepeatAt all i = (j : Judged) × (slice_get all i ≡ Some j) × IsTrue (is_repeat all j)
+
+-- a line that names a path again
+abbrev pub as_repeat : Judged → Judged
+as_repeat j = record j { wrong = Some NamedAgain }
+
+-- the lines at these places are marked, and the others stay
+pub record IsMarked (places : List ℕ) (old new : List Judged) : Type 0 where
+  pub same_length : length new ≡ length old
+  pub marked : (i : ℕ) (j : Judged) → Contains places i → slice_get old i ≡ Some j → slice_get new i ≡ Some (as_repeat j)
+  pub same_but : (i : ℕ) (j k : Judged) → slice_get old i ≡ Some j → slice_get new i ≡ Some k → as_repeat k ≡ as_repeat j
+  pub others : (i : ℕ) → ¬ (Contains places i) → slice_get new i ≡ slice_get old i
+
+abbrev pub pair_of : Bor (List ℕ) × ℕ → List ℕ × ℕ
+pair_of x = (x.0.now, x.1)
+
+-- the path of each line that reads, with the line's place
+abbrev pub places_from : ℕ → List Judged → List (List ℕ × ℕ)
+places_from n [] = []
+places_from n (j ∷ js) = (if is_none j.wrong then (j.text, n) ∷ [] else []) ++ places_from (n + 1) js
+
+-- the place stands behind another of the same path, among the first so many pairs
+abbrev pub FollowsBelow : List (List ℕ × ℕ) → ℕ → ℕ → Type 0
+FollowsBelow named high i =
+    (k : ℕ) × (path : List ℕ) × (j : ℕ)
+    × (k + 1 < high) × (slice_get named k ≡ Some (path, j)) × (slice_get named (k + 1) ≡ Some (path, i))
+
+abbrev pub FollowsSame : List (List ℕ × ℕ) → ℕ → Type 0
+FollowsSame named i = FollowsBelow named (length named) i
