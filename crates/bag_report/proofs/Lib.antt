@@ -11,6 +11,7 @@ pub mod Pieces
 pub mod Spaces
 pub mod FieldPieces
 pub mod InFile
+pub mod Opens
 pub mod Reading
 pub mod StageOne
 pub mod StageTwo

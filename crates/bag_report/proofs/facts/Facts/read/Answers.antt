@@ -2,7 +2,8 @@ use Rattle.std.proofs.Common.{◌≡◌, ◌⊎◌, inl, inr, refl, rules}
 use Rattle.bag_report.specs.Facts.{MayStop}
 use Rattle.bag_report.specs.Steps.{AsksFor, AsksMore}
 use Rattle.bag_report.specs.TagFiles.{bagit_txt}
-use Rattle.bag_report.proofs.Steps.{opens_none, opens_declaration, opens_tag_files, stops_listed, passed_on}
+use Rattle.bag_report.proofs.Opens.{opens_none}
+use Rattle.bag_report.proofs.Steps.{opens_declaration, opens_tag_files, stops_listed, passed_on}
 use Rattle.bag_report.proofs.facts.Facts.read.Goals as goal
 
 pub returns-in-Err-clause-opens : goal.returns-in-Err-clause-opens
