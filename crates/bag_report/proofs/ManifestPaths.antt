@@ -1,6 +1,7 @@
 -- The paths of manifests, and the algorithms in them.
 use Rattle.std.proofs.Common.{◌≡◌, ◌≢◌, ◌⊎◌, inl, inr, ◌++◌, ◌∷◌, ℕ, List, [], Option, None, Some, Bool, true, false, refl, sym, ap, ◌∙◌, subst, cond, arith, append_assoc, is_some, MatchOption, codes, bytes_eq}
 use Rattle.std.specs.Prelude.{IsTrue}
+use Rattle.std.specs.Option.{option_map}
 use Rattle.std.specs.Str.{is_utf8}
 use Rattle.std.proofs.lemmas.Slice.Eq.{bytes_eq-Decides}
 use Rattle.bag_text.specs.Alg.{name, alg_named}
@@ -11,9 +12,10 @@ use Rattle.bag_tags.specs.declared.kind.Kind.TheVariants.{Payload, Tag}
 use Rattle.bag_tags.specs.ManifestName.{manifest_name, is_alg_text, prefix}
 use Rattle.bag_tags.proofs.ManifestName.{same_alg}
 use Rattle.bag_store.specs.Bag.{Bag, file}
-use Rattle.bag_report.specs.Facts.{IsReadOf, IsTextTest, AreManifestsOf, AreTagFactsOf}
+use Rattle.bag_report.specs.Facts.{IsReadOf, IsTextTest, IsManifestOf, AreManifestsOf}
 use Rattle.bag_report.specs.Parts.{known_of, IsUnsupported, HasNoText, IsKnownAt}
 use Rattle.bag_report.specs.TagFiles.{manifest_of, IsRead, bag_info_txt, fetch_txt}
+use Rattle.bag_report.specs.declared.manifest_facts.Manifest.{Manifest}
 use Rattle.bag_report.specs.declared.manifest_facts.ManifestFacts.{ManifestFacts}
 
 abbrev pub first_byte : List ℕ → ℕ
@@ -129,12 +131,28 @@ known_by bag path (Some b) (Some bytes) e r h = (r, (bytes, e, h))
 pub known_read : (bag : Bag) (path : List ℕ) (o : Option Bool) → IsRead path → IsReadOf IsTextTest (file bag path) o → IsKnownAt bag path o
 known_read bag path o r h = known_by bag path o (file bag path) refl r h
 
+text_by : (bag : Bag) (kind : Kind) (alg : Alg) (path : List ℕ) (o : Option Manifest) (content : Option (List ℕ)) → file bag path ≡ content → IsRead path
+    → IsReadOf (IsManifestOf kind alg) content o → IsKnownAt bag path (option_map (λ m. m.is_text) o)
+text_by bag kind alg path None None e r h = λ _. e
+text_by bag kind alg path None (Some bytes) e r h = absurd h
+text_by bag kind alg path (Some m) None e r h = absurd h
+text_by bag kind alg path (Some m) (Some bytes) e r h = (r, (bytes, e, h.text))
+
+text_known : (bag : Bag) (kind : Kind) (alg : Alg) (o : Option Manifest) → IsReadOf (IsManifestOf kind alg) (file bag (manifest_of kind alg)) o
+    → IsKnownAt bag (manifest_of kind alg) (option_map (λ m. m.is_text) o)
+text_known bag kind alg o h = text_by bag kind alg (manifest_of kind alg) o (file bag (manifest_of kind alg)) refl (inr (inr (kind, alg, refl))) h
+
+manifest_facts : (bag : Bag) (kind : Kind) (manifests : ManifestFacts) (alg : Alg) → AreManifestsOf bag kind manifests
+    → IsReadOf (IsManifestOf kind alg) (file bag (manifest_of kind alg)) (known_of manifests alg)
+manifest_facts bag kind manifests Md5 facts = facts.md5
+manifest_facts bag kind manifests Sha1 facts = facts.sha1
+manifest_facts bag kind manifests Sha256 facts = facts.sha256
+manifest_facts bag kind manifests Sha512 facts = facts.sha512
+
 pub known_manifest : (bag : Bag) (kind : Kind) (manifests : ManifestFacts) (alg : Alg) (path : List ℕ) (o : Option Bool) → AreManifestsOf bag kind manifests → path ≡ manifest_of kind alg
-    → o ≡ known_of manifests alg → IsKnownAt bag path o
-known_manifest bag kind manifests Md5 path o facts at e = rw (at, e) (known_read bag (manifest_of kind Md5) manifests.md5 (inr (inr (kind, Md5, refl))) facts.md5)
-known_manifest bag kind manifests Sha1 path o facts at e = rw (at, e) (known_read bag (manifest_of kind Sha1) manifests.sha1 (inr (inr (kind, Sha1, refl))) facts.sha1)
-known_manifest bag kind manifests Sha256 path o facts at e = rw (at, e) (known_read bag (manifest_of kind Sha256) manifests.sha256 (inr (inr (kind, Sha256, refl))) facts.sha256)
-known_manifest bag kind manifests Sha512 path o facts at e = rw (at, e) (known_read bag (manifest_of kind Sha512) manifests.sha512 (inr (inr (kind, Sha512, refl))) facts.sha512)
+    → o ≡ option_map (λ m. m.is_text) (known_of manifests alg) → IsKnownAt bag path o
+known_manifest bag kind manifests alg path o facts at e =
+    rw (at, e) (text_known bag kind alg (known_of manifests alg) (manifest_facts bag kind manifests alg facts))
 
 unread_manifest : (path : List ℕ) → ((alg : Alg) → path ≢ manifest_of Payload alg) → ((alg : Alg) → path ≢ manifest_of Tag alg) → (kind : Kind) (alg : Alg) → path ≡ manifest_of kind alg → ⊥
 unread_manifest path payload tag Payload alg e = payload alg e

@@ -213,12 +213,7 @@ pub passed_on : {T E : Type 0} (r : Result T E) (x : E) (Q : E → Type 0) → I
 passed_on (Ok y) x Q h q = tt
 passed_on (Err e) x Q h q = subst Q (sym h) q
 
--- one supported manifest after others
-pub one_manifest_more : (kind : Kind) (alg : Alg) (before : List (List ℕ)) (path : List ℕ) (old mid new : TreeState) → path ≡ manifest_of kind alg
-    → ReadsAmong before old mid → ReadsAmong (path ∷ []) mid new → ReadsAmong (before ++ manifest_of kind alg ∷ []) old new
-one_manifest_more kind alg before path old mid new e r s =
-    reads_on before (manifest_of kind alg ∷ []) old mid new r (reads_at path (manifest_of kind alg) mid new e s)
-
+-- reading a supported manifest may stop so
 pub manifest_stops : (kind : Kind) (alg : Alg) (path : List ℕ) (files : List FileEntry) (old mid new : TreeState) (stop : Stop) → path ≡ manifest_of kind alg → Keeps old mid
     → MayStopIf (AsksFor path) files mid new stop → MayStopIf AsksMore files old new stop
 manifest_stops kind alg path files old mid new stop e k h =

@@ -1,8 +1,12 @@
 -- What is read of a bag, and when it can't be read.
 use Rattle.std.specs.Prelude.{◌≡◌, ◌≢◌, ◌++◌, ◌⊎◌, ◌<◌, ℕ, Bool, List, [], Option, Some, None, IsTrue, All}
+use Rattle.std.specs.Ordering.{nat_cmp, on}
 use Rattle.std.specs.Str.{is_utf8}
 use Rattle.std.specs.List.Sorted.{IsStrictlySortedBy}
 use Rattle.bag_text.specs.Text.{text_cmp}
+use Rattle.bag_text.specs.Lines.{lines_of_file}
+use Rattle.bag_text.specs.Order.{IsListOf}
+use Rattle.bag_text.specs.declared.alg.Alg.{Alg}
 use Rattle.bag_text.specs.declared.alg.Alg.TheVariants.{Md5, Sha1, Sha256, Sha512}
 use Rattle.bag_store.specs.Bag.{Bag, file, HasFile}
 use Rattle.bag_store.specs.Listing.{IsOrdered, IsListingOf}
@@ -12,10 +16,12 @@ use Rattle.bag_store.specs.declared.fault.TreeFault.{TreeFault}
 use Rattle.bag_store.specs.declared.fault.TreeFault.TheVariants.{Device, Special, Name, NotFound, TooMany, Changed, NoneOpen, Memory, Exists}
 use Rattle.bag_tags.specs.Declaration.{declared_version, declared_encoding, IsDeclarationFault}
 use Rattle.bag_tags.specs.LineFault.{AreFaults}
+use Rattle.bag_tags.specs.Manifest.{IsEntry, IsManifestFault}
 use Rattle.bag_tags.specs.declared.declaration.Declaration.{Declaration}
 use Rattle.bag_tags.specs.declared.kind.Kind.{Kind}
 use Rattle.bag_tags.specs.declared.kind.Kind.TheVariants.{Payload, Tag}
 use Rattle.bag_report.specs.declared.facts.Facts.{Facts}
+use Rattle.bag_report.specs.declared.manifest_facts.Manifest.{Manifest}
 use Rattle.bag_report.specs.declared.manifest_facts.ManifestFacts.{ManifestFacts}
 use Rattle.bag_report.specs.declared.tag_facts.TagFacts.{TagFacts}
 use Rattle.bag_report.specs.declared.options.Depth.{Depth}
@@ -40,12 +46,18 @@ IsReadOf IsOf (Some bytes) None = ⊥
 abbrev pub IsTextTest : List ℕ → Bool → Type 0
 IsTextTest bytes is_text = is_text ≡ is_utf8 bytes
 
+-- what is known of a manifest is what its bytes say
+pub record IsManifestOf (kind : Kind) (alg : Alg) (bytes : List ℕ) (manifest : Manifest) : Type 0 where
+  pub text : manifest.is_text ≡ is_utf8 bytes
+  pub entries : IsListOf (on (λ e. e.line) nat_cmp) (IsEntry kind alg (lines_of_file bytes)) manifest.parsed.items
+  pub faults : AreFaults (IsManifestFault kind alg bytes) manifest.parsed.faults
+
 -- what is known of the manifests of one kind is what their bytes say
 pub record AreManifestsOf (bag : Bag) (kind : Kind) (manifests : ManifestFacts) : Type 0 where
-  pub md5 : IsReadOf IsTextTest (file bag (manifest_of kind Md5)) manifests.md5
-  pub sha1 : IsReadOf IsTextTest (file bag (manifest_of kind Sha1)) manifests.sha1
-  pub sha256 : IsReadOf IsTextTest (file bag (manifest_of kind Sha256)) manifests.sha256
-  pub sha512 : IsReadOf IsTextTest (file bag (manifest_of kind Sha512)) manifests.sha512
+  pub md5 : IsReadOf (IsManifestOf kind Md5) (file bag (manifest_of kind Md5)) manifests.md5
+  pub sha1 : IsReadOf (IsManifestOf kind Sha1) (file bag (manifest_of kind Sha1)) manifests.sha1
+  pub sha256 : IsReadOf (IsManifestOf kind Sha256) (file bag (manifest_of kind Sha256)) manifests.sha256
+  pub sha512 : IsReadOf (IsManifestOf kind Sha512) (file bag (manifest_of kind Sha512)) manifests.sha512
 
 -- what is known of the tag files but bagit.txt is what their bytes say
 pub record AreTagFactsOf (bag : Bag) (tags : TagFacts) : Type 0 where

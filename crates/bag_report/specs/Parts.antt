@@ -12,12 +12,13 @@ use Rattle.bag_tags.specs.ManifestName.{manifest_name, is_alg_text}
 use Rattle.bag_store.specs.Bag.{Bag, file}
 use Rattle.bag_store.specs.declared.listing.FileEntry.{FileEntry}
 use Rattle.bag_report.specs.declared.fault.Fault.{Fault}
+use Rattle.bag_report.specs.declared.manifest_facts.Manifest.{Manifest}
 use Rattle.bag_report.specs.declared.manifest_facts.ManifestFacts.{ManifestFacts}
 use Rattle.bag_report.specs.Is.{At}
 use Rattle.bag_report.specs.TagFiles.{IsRead}
 
 -- what is known of the manifest of an algorithm
-abbrev pub known_of : ManifestFacts → Alg → Option Bool
+abbrev pub known_of : ManifestFacts → Alg → Option Manifest
 known_of manifests Md5 = manifests.md5
 known_of manifests Sha1 = manifests.sha1
 known_of manifests Sha256 = manifests.sha256

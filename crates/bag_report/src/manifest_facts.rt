@@ -1,23 +1,35 @@
 //! What is known of the manifests of one kind.
-ghost use Rattle.std.specs.Prelude.{◌≡◌, IsTrue, IfOk, IfErr};
-ghost use Rattle.bag_report.specs.Facts.{AreManifestsOf};
+ghost use Rattle.std.specs.Prelude.{◌≡◌, ◌∷◌, [], IsTrue, IfOk, IfErr};
+ghost use Rattle.std.specs.Option.{option_copied};
+ghost use Rattle.bag_store.specs.Bag.{file};
+ghost use Rattle.bag_report.specs.Facts.{IsReadOf, IsManifestOf, AreManifestsOf};
 ghost use Rattle.bag_report.specs.Parts.{known_of};
 ghost use Rattle.bag_report.specs.Steps.{ReadsAmong, AreListed, MayStopIf, AsksMore, manifest_paths};
 ghost use Rattle.bag_report.specs.TagFiles.{manifest_of};
 
-use crate::tag_reader::text_at;
-use bag_store::{FileEntry, Stop, Tree};
-use bag_tags::Kind;
-use bag_text::Alg;
-use std::alloc::Global;
+use crate::fact_stop::stop_without_path;
+use crate::tag_reader::bytes_at;
+use bag_store::{FileEntry, Stop, Tree, TreeFault};
+use bag_tags::{Kind, ManifestEntry, Parsed, read_manifest};
+use bag_text::{Alg, text_of};
+use std::alloc::{AllocError, Global};
 
-/// For each algorithm whether its manifest is UTF-8, where it is there.
+/// What is known of one manifest.
+#[derive(Debug, Drop)]
+pub(crate) struct Manifest {
+    /// Whether it is UTF-8.
+    pub(crate) is_text: bool,
+    /// Its entries, and the faults of its lines.
+    pub(crate) parsed: Parsed<ManifestEntry>,
+}
+
+/// The manifest of each algorithm, where it is there.
 #[derive(Debug, Drop)]
 pub(crate) struct ManifestFacts {
-    pub(crate) md5: Option<bool>,
-    pub(crate) sha1: Option<bool>,
-    pub(crate) sha256: Option<bool>,
-    pub(crate) sha512: Option<bool>,
+    pub(crate) md5: Option<Manifest>,
+    pub(crate) sha1: Option<Manifest>,
+    pub(crate) sha256: Option<Manifest>,
+    pub(crate) sha512: Option<Manifest>,
 }
 
 impl ManifestFacts {
@@ -33,10 +45,10 @@ impl ManifestFacts {
             → AreManifestsOf (T.state tree.old).bag kind manifests) }
         ensures stop { IfErr result (MayStopIf AsksMore files.now (T.state tree.old) (T.state tree.new)) }
     {
-        let md5 = text_at(alloc, tree, files, manifest_path(kind, Alg::Md5))?;
-        let sha1 = text_at(alloc, tree, files, manifest_path(kind, Alg::Sha1))?;
-        let sha256 = text_at(alloc, tree, files, manifest_path(kind, Alg::Sha256))?;
-        let sha512 = text_at(alloc, tree, files, manifest_path(kind, Alg::Sha512))?;
+        let md5 = manifest_at(alloc, tree, files, kind, Alg::Md5)?;
+        let sha1 = manifest_at(alloc, tree, files, kind, Alg::Sha1)?;
+        let sha256 = manifest_at(alloc, tree, files, kind, Alg::Sha256)?;
+        let sha512 = manifest_at(alloc, tree, files, kind, Alg::Sha512)?;
         Ok(ManifestFacts {
             md5,
             sha1,
@@ -45,17 +57,49 @@ impl ManifestFacts {
         })
     }
 
-    /// Whether the manifest of an algorithm is UTF-8, where it is there.
-    pub(crate) fn of(&self, alg: Alg) -> Option<bool>
-        ensures { result ≡ known_of self.now alg }
+    /// The manifest of an algorithm, where it is there.
+    pub(crate) fn of(&self, alg: Alg) -> Option<&Manifest>
+        ensures { option_copied result ≡ known_of self.now alg }
     {
         match alg {
-            Alg::Md5 => self.md5,
-            Alg::Sha1 => self.sha1,
-            Alg::Sha256 => self.sha256,
-            Alg::Sha512 => self.sha512,
+            Alg::Md5 => self.md5.as_ref(),
+            Alg::Sha1 => self.sha1.as_ref(),
+            Alg::Sha256 => self.sha256.as_ref(),
+            Alg::Sha512 => self.sha512.as_ref(),
         }
     }
+}
+
+/// A manifest, where it is listed.
+fn manifest_at<T: Tree>(
+    alloc: Global,
+    tree: &mut T,
+    files: &[FileEntry],
+    kind: Kind,
+    alg: Alg,
+) -> Result<Option<Manifest>, Stop>
+    ensures reads { ReadsAmong (manifest_of kind alg ∷ []) (T.state tree.old) (T.state tree.new) }
+    ensures manifest { IfOk result (λ read. IsTrue (T.state tree.old).honest → AreListed (T.state tree.old).bag files.now
+        → IsReadOf (IsManifestOf kind alg) (file (T.state tree.old).bag (manifest_of kind alg)) read) }
+    ensures stop { IfErr result (MayStopIf AsksMore files.now (T.state tree.old) (T.state tree.new)) }
+{
+    match bytes_at(alloc, tree, files, manifest_path(kind, alg))? {
+        None => Ok(None),
+        Some(bytes) => match parse(alloc, kind, alg, &bytes) {
+            Ok(manifest) => Ok(Some(manifest)),
+            Err(_) => Err(stop_without_path(alloc, TreeFault::Memory)),
+        },
+    }
+}
+
+/// What the bytes of a manifest say.
+fn parse(alloc: Global, kind: Kind, alg: Alg, bytes: &[u8]) -> Result<Manifest, AllocError>
+    ensures { IfOk result (IsManifestOf kind alg bytes.now) }
+{
+    Ok(Manifest {
+        is_text: text_of(bytes).is_ok(),
+        parsed: read_manifest(alloc, kind, alg, bytes)?,
+    })
 }
 
 /// The path of a manifest.

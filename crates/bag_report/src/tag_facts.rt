@@ -7,11 +7,11 @@ ghost use Rattle.bag_report.specs.Facts.{AreTagFactsOf};
 ghost use Rattle.bag_report.specs.Parts.{HasNoText};
 ghost use Rattle.bag_report.specs.TagFiles.{manifest_of};
 
-use crate::manifest_facts::ManifestFacts;
+use crate::manifest_facts::{Manifest, ManifestFacts};
 use bag_tags::{Kind, manifest_alg};
 use bag_text::Alg;
 
-/// Whether the tag files that are read are UTF-8, for each where it is there.
+/// Whether `bag-info.txt` and `fetch.txt` are UTF-8, and the manifests, for each where it is there.
 #[derive(Debug, Drop)]
 pub(crate) struct TagFacts {
     pub(crate) info: Option<bool>,
@@ -39,16 +39,27 @@ impl TagFacts {
             return self.fetch;
         }
         if let Some(alg) = supported(Kind::Payload, path) {
-            return self.payload.of(alg);
+            return is_text_of(self.payload.of(alg));
         }
         if let Some(alg) = supported(Kind::Tag, path) {
-            return self.tag.of(alg);
+            return is_text_of(self.tag.of(alg));
         }
         None
     }
 }
 
+ghost use Rattle.std.specs.Option.{option_copied, option_map};
 ghost use Rattle.bag_report.specs.Parts.{IsKnownAt};
+
+/// Whether a manifest is UTF-8, where it is there.
+fn is_text_of(manifest: Option<&Manifest>) -> Option<bool>
+    ensures { result ≡ option_map (λ m. m.is_text) (option_copied manifest.entry) }
+{
+    match manifest {
+        Some(manifest) => Some(manifest.is_text),
+        None => None,
+    }
+}
 
 /// The algorithm of whose manifest this is the name.
 fn supported(kind: Kind, path: &str) -> Option<Alg>
