@@ -127,35 +127,45 @@ const ROWS: [Row; 3] = [
     },
 ];
 
+/// What a check of a fresh folder writes, what it says on the standard error, and its status.
+fn checked_folder(
+    rt: &HostRuntime,
+    bagit_txt: Option<&[u8]>,
+    link: bool,
+) -> Result<(Vec<u8>, usize, u8), Fail> {
+    let folder = env::temp_dir(rt)?;
+    let id = process::id(rt.process());
+    let base = format!(in rt.alloc(); "{}/bagit-{id}", folder.as_path().display())?;
+    let _ = fs::remove_dir_all(rt, base.as_str());
+    fs::create_dir(rt, base.as_str())?;
+    if let Some(bytes) = bagit_txt {
+        fs::write(rt, format!(in rt.alloc(); "{base}/bagit.txt")?, bytes)?;
+    }
+    if link {
+        symlink(rt, "bagit.txt", format!(in rt.alloc(); "{base}/link")?)?;
+    }
+    let mut out = Vec::<u8>::new(rt.alloc());
+    let mut err = Vec::<u8>::new(rt.alloc());
+    let plan = plan_of(
+        rt.alloc(),
+        &["--validate", "--declaration-only", base.as_str()],
+    )?;
+    let status = perform(rt, &plan, &mut out, &mut err);
+    fs::remove_dir_all(rt, base.as_str())?;
+    Ok((out, err.len(), status))
+}
+
+fn ends_so(out: &[u8], ending: &str) -> bool {
+    out.ends_with(ending.as_bytes())
+}
+
 #[test]
 fn folders_on_the_disk(rt: HostRuntime) -> Result<(), Fail> {
-    for row in ROWS.iter() {
-        let folder = env::temp_dir(&rt)?;
-        let id = process::id(rt.process());
-        let base = format!(in rt.alloc(); "{}/bagit-{id}", folder.as_path().display())?;
-        let _ = fs::remove_dir_all(&rt, base.as_str());
-        fs::create_dir(&rt, base.as_str())?;
-        if let Some(bytes) = row.bagit_txt {
-            fs::write(&rt, format!(in rt.alloc(); "{base}/bagit.txt")?, bytes)?;
-        }
-        if row.link {
-            symlink(&rt, "bagit.txt", format!(in rt.alloc(); "{base}/link")?)?;
-        }
-        let mut out = Vec::<u8>::new(rt.alloc());
-        let mut err = Vec::<u8>::new(rt.alloc());
-        let plan = plan_of(
-            rt.alloc(),
-            &["--validate", "--declaration-only", base.as_str()],
-        )?;
-        let status = perform(&rt, &plan, &mut out, &mut err);
-        assert_eq!(rt; status, row.status, "{}", row.ending);
-        assert!(rt;
-            out.as_slice().ends_with(row.ending.as_bytes()),
-            "{}",
-            row.ending
-        );
-        assert_eq!(rt; err.len(), 0);
-        fs::remove_dir_all(&rt, base.as_str())?;
+    for (place, row) in ROWS.iter().enumerate() {
+        let (out, told, status) = checked_folder(&rt, row.bagit_txt, row.link)?;
+        assert_eq!(rt; status, row.status, "row {place}");
+        assert!(rt; ends_so(&out, row.ending), "row {place}");
+        assert_eq!(rt; told, 0);
     }
     Ok(())
 }

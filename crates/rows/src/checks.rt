@@ -61,3 +61,8 @@ pub(crate) fn checked<T: Tree + Drop>(alloc: Global, tree: T, request: Request) 
     let (_tree, outcome) = run(alloc, tree, request, &mut out);
     (out.into_inner(), status(&outcome))
 }
+
+/// Whether this text was written, with this status.
+pub(crate) fn is_written(written: &(Vec<u8>, u8), output: &str, status: u8) -> bool {
+    written.0.as_slice() == output.as_bytes() && written.1 == status
+}

@@ -1,6 +1,9 @@
 //! Cursors and limits, on a bag whose declaration has two faults.
-use crate::checks::{ENCODING_LINE, MARK_LINE, MARKED_LATIN, bag_with, checked, request};
+use crate::checks::{
+    ENCODING_LINE, MARK_LINE, MARKED_LATIN, bag_with, checked, is_written, request,
+};
 use bag_report::Fault;
+use std::alloc::Global;
 use std::test::Fail;
 
 /// What is asked for, and what is written after the fault lines.
@@ -78,26 +81,39 @@ const ROWS: [Row; 9] = [
     },
 ];
 
+/// The fault of a line.
+fn cursor(alloc: Global, line: Option<&str>) -> Result<Option<Fault>, Fail> {
+    match line {
+        None => Ok(None),
+        Some(line) => Ok(Some(Fault::from_line(alloc, line)?)),
+    }
+}
+
+/// The lines and the closing line, one after the other.
+fn whole(alloc: Global, lines: &[&str], closing: &str) -> Result<String, Fail> {
+    let mut text = String::new(alloc);
+    for line in lines {
+        text.push_str(line)?;
+    }
+    text.push_str(closing)?;
+    Ok(text)
+}
+
 #[test]
 fn cursors_and_limits(rt: HostRuntime) -> Result<(), Fail> {
-    for row in ROWS.iter() {
-        let after = match row.after {
-            None => None,
-            Some(line) => Some(Fault::from_line(rt.alloc(), line)?),
-        };
+    for (place, row) in ROWS.iter().enumerate() {
+        let after = cursor(rt.alloc(), row.after)?;
         let tree = bag_with(rt.alloc(), Some(MARKED_LATIN))?;
-        let (output, status) = checked(
+        let written = checked(
             rt.alloc(),
             tree,
             request(rt.alloc(), after, row.limit, false)?,
         );
-        let mut expected = String::new(rt.alloc());
-        for line in row.lines {
-            expected.push_str(line)?;
-        }
-        expected.push_str(row.closing)?;
-        assert_eq!(rt; output.as_slice(), expected.as_bytes(), "{}", row.closing);
-        assert_eq!(rt; status, row.status, "{}", row.closing);
+        let expected = whole(rt.alloc(), row.lines, row.closing)?;
+        assert!(rt;
+            is_written(&written, expected.as_str(), row.status),
+            "row {place}"
+        );
     }
     Ok(())
 }
