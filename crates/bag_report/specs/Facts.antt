@@ -1,6 +1,6 @@
 -- What is read of a bag, and when it can't be read.
 use Rattle.std.specs.Prelude.{◌≡◌, ◌≢◌, ◌++◌, ◌⊎◌, ◌<◌, ℕ, Bool, List, [], Option, Some, None, IsTrue, All}
-use Rattle.std.specs.Ordering.{nat_cmp, on}
+use Rattle.std.specs.Ordering.{on}
 use Rattle.std.specs.Str.{is_utf8}
 use Rattle.std.specs.List.Sorted.{IsStrictlySortedBy}
 use Rattle.bag_text.specs.Text.{text_cmp}
@@ -49,8 +49,8 @@ IsTextTest bytes is_text = is_text ≡ is_utf8 bytes
 -- what is known of a manifest is what its bytes say
 pub record IsManifestOf (kind : Kind) (alg : Alg) (bytes : List ℕ) (manifest : Manifest) : Type 0 where
   pub text : manifest.is_text ≡ is_utf8 bytes
-  pub entries : IsListOf (on (λ e. e.line) nat_cmp) (IsEntry kind alg (lines_of_file bytes)) manifest.parsed.items
-  pub faults : AreFaults (IsManifestFault kind alg bytes) manifest.parsed.faults
+  pub entries : IsListOf (on (λ e. e.path) text_cmp) (IsEntry kind alg (lines_of_file bytes)) manifest.entries
+  pub faults : AreFaults (IsManifestFault kind alg bytes) manifest.faults
 
 -- what is known of the manifests of one kind is what their bytes say
 pub record AreManifestsOf (bag : Bag) (kind : Kind) (manifests : ManifestFacts) : Type 0 where

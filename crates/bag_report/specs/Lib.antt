@@ -4,6 +4,7 @@ pub mod FaultOrder
 pub mod InFile
 pub mod Is
 pub mod LineFields
+pub mod Manifests
 pub mod Parts
 pub mod Report
 pub mod Steps

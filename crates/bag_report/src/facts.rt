@@ -17,7 +17,7 @@ use std::alloc::Global;
 /// What the checks need to know of a bag: its files, and its tag files, parsed once.
 #[derive(Debug, Drop)]
 pub struct Facts {
-    options: Options,
+    pub(crate) options: Options,
     pub(crate) listing: Listing,
     pub(crate) declaration: Option<Declaration>,
     pub(crate) tags: Option<TagFacts>,

@@ -11,6 +11,7 @@ mod line;
 mod manifest_facts;
 mod options;
 mod stage_declaration;
+mod stage_manifests;
 mod stage_parts;
 mod stages;
 mod tag_facts;

@@ -1,8 +1,11 @@
 //! What is known of the manifests of one kind.
-ghost use Rattle.std.specs.Prelude.{◌≡◌, ◌∷◌, [], IsTrue, IfOk, IfErr};
+ghost use Rattle.std.specs.Prelude.{◌≡◌, ◌↔◌, ◌∷◌, [], IsTrue, IfOk, IfErr, Contains};
+ghost use Rattle.std.specs.List.Sorted.{IsPermutation, IsSortedByKey};
 ghost use Rattle.std.specs.Option.{option_copied};
+ghost use Rattle.bag_text.specs.Text.{text_cmp};
 ghost use Rattle.bag_store.specs.Bag.{file};
 ghost use Rattle.bag_report.specs.Facts.{IsReadOf, IsManifestOf, AreManifestsOf};
+ghost use Rattle.bag_report.specs.Manifests.{AreByPath, entry_paths};
 ghost use Rattle.bag_report.specs.Parts.{known_of};
 ghost use Rattle.bag_report.specs.Steps.{ReadsAmong, AreListed, MayStopIf, AsksMore, manifest_paths};
 ghost use Rattle.bag_report.specs.TagFiles.{manifest_of};
@@ -10,8 +13,8 @@ ghost use Rattle.bag_report.specs.TagFiles.{manifest_of};
 use crate::fact_stop::stop_without_path;
 use crate::tag_reader::bytes_at;
 use bag_store::{FileEntry, Stop, Tree, TreeFault};
-use bag_tags::{Kind, ManifestEntry, Parsed, read_manifest};
-use bag_text::{Alg, text_of};
+use bag_tags::{Kind, LineFault, ManifestEntry, Parsed, read_manifest};
+use bag_text::{Alg, Items, text_of};
 use std::alloc::{AllocError, Global};
 
 /// What is known of one manifest.
@@ -19,8 +22,34 @@ use std::alloc::{AllocError, Global};
 pub(crate) struct Manifest {
     /// Whether it is UTF-8.
     pub(crate) is_text: bool,
-    /// Its entries, and the faults of its lines.
-    pub(crate) parsed: Parsed<ManifestEntry>,
+    /// Its entries, in the order of their paths.
+    pub(crate) entries: Items<ManifestEntry>,
+    /// The faults of its lines.
+    pub(crate) faults: Items<LineFault>,
+}
+
+impl Manifest {
+    /// What the bytes of a manifest say.
+    fn parse(alloc: Global, kind: Kind, alg: Alg, bytes: &[u8]) -> Result<Manifest, AllocError>
+        ensures { IfOk result (IsManifestOf kind alg bytes.now) }
+    {
+        let Parsed { items, faults } = read_manifest(alloc, kind, alg, bytes)?;
+        Ok(Manifest {
+            is_text: text_of(bytes).is_ok(),
+            entries: sorted_by_path(items),
+            faults,
+        })
+    }
+
+    /// Whether it names a path.
+    pub(crate) fn names(&self, path: &str) -> bool
+        ensures { AreByPath self.now.entries → IsTrue result ↔ Contains (entry_paths self.now.entries) path.now }
+    {
+        self.entries
+            .as_slice()
+            .binary_search_by(|entry| entry.path.as_str().cmp(path))
+            .is_ok()
+    }
 }
 
 /// The manifest of each algorithm, where it is there.
@@ -85,25 +114,25 @@ fn manifest_at<T: Tree>(
 {
     match bytes_at(alloc, tree, files, manifest_path(kind, alg))? {
         None => Ok(None),
-        Some(bytes) => match parse(alloc, kind, alg, &bytes) {
+        Some(bytes) => match Manifest::parse(alloc, kind, alg, &bytes) {
             Ok(manifest) => Ok(Some(manifest)),
             Err(_) => Err(stop_without_path(alloc, TreeFault::Memory)),
         },
     }
 }
 
-/// What the bytes of a manifest say.
-fn parse(alloc: Global, kind: Kind, alg: Alg, bytes: &[u8]) -> Result<Manifest, AllocError>
-    ensures { IfOk result (IsManifestOf kind alg bytes.now) }
+/// Entries in the order of their paths.
+fn sorted_by_path(entries: Items<ManifestEntry>) -> Items<ManifestEntry>
+    ensures sorted { IsSortedByKey (λ entry. entry.path) text_cmp result }
+    ensures permutation { IsPermutation entries result }
 {
-    Ok(Manifest {
-        is_text: text_of(bytes).is_ok(),
-        parsed: read_manifest(alloc, kind, alg, bytes)?,
-    })
+    let mut entries = entries.into_vec();
+    entries.sort_unstable_by(|a, b| a.path.cmp(&b.path));
+    Items::from_vec(entries)
 }
 
 /// The path of a manifest.
-fn manifest_path(kind: Kind, alg: Alg) -> &'static str
+pub(crate) fn manifest_path(kind: Kind, alg: Alg) -> &'static str
     ensures { result.now ≡ manifest_of kind alg }
 {
     match kind {
