@@ -115,13 +115,13 @@ module _ (kind : Kind) (alg : Alg) where
           ]
 
   -- the path that a line names
-  abbrev path_of : List ℕ → Option (List ℕ)
+  abbrev pub path_of : List ℕ → Option (List ℕ)
   path_of line = cond (is_blank_line line) None (path_read (manifest_line kind alg line))
 
-  path_of_reads : (line digest path : List ℕ) → Reads kind alg line digest path → path_of line ≡ Some path
+  pub path_of_reads : (line digest path : List ℕ) → Reads kind alg line digest path → path_of line ≡ Some path
   path_of_reads line digest path (some, e) = rw (some, e) refl
 
-  reads_path : (line path : List ℕ) (b : Bool) (r : Result (List ℕ × List ℕ) Reason) → is_blank_line line ≡ b → manifest_line kind alg line ≡ r → cond b None (path_read r) ≡ Some path → (digest : List ℕ) × Reads kind alg line digest path
+  pub reads_path : (line path : List ℕ) (b : Bool) (r : Result (List ℕ × List ℕ) Reason) → is_blank_line line ≡ b → manifest_line kind alg line ≡ r → cond b None (path_read r) ≡ Some path → (digest : List ℕ) × Reads kind alg line digest path
   reads_path line path true r e f h = cc
   reads_path line path false (Ok x) e f h =
       let same : x.1 ≡ path = cc in
@@ -158,7 +158,7 @@ module _ (kind : Kind) (alg : Alg) (all : List (List ℕ)) where
   pub is_judged : (j : Judged) (line : List ℕ) → IsLine all j.line line → judged kind alg j.line line ≡ Some j → Contains js j
   is_judged j line at h = ((judged_from kind alg 1 all).members j).1 (line, line_is_numbered all j.line line at, h)
 
-  abbrev NamedEarlier : ℕ → List ℕ → Type 0
+  abbrev pub NamedEarlier : ℕ → List ℕ → Type 0
   NamedEarlier n path = (k : ℕ) × (line digest : List ℕ) × (k < n) × IsLine all k line × Reads kind alg line digest path
 
   named_earlier : (n : ℕ) (path : List ℕ) → Contains (named_before kind alg all n) path → NamedEarlier n path
@@ -170,7 +170,7 @@ module _ (kind : Kind) (alg : Alg) (all : List (List ℕ)) where
       let step : at.0 ≡ at.0 + 1 - 1 = omega arith in
       (at.0 + 1, p.0, r.0, omega arith, (omega arith, ap (slice_get all) (sym step) ∙ at.2), r.1)
 
-  earlier_named : (n : ℕ) (path : List ℕ) → NamedEarlier n path → Contains (named_before kind alg all n) path
+  pub earlier_named : (n : ℕ) (path : List ℕ) → NamedEarlier n path → Contains (named_before kind alg all n) path
   earlier_named n path (k, line, digest, l, (some, e), r) =
       is_picked (path_of kind alg) (take (n - 1) all) line path (has_take (n - 1) all line (k - 1) (omega arith) e) (path_of_reads kind alg line digest path r)
 

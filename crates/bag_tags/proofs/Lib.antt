@@ -4,6 +4,8 @@ pub mod FaultOrder
 pub mod Followers
 pub mod Heads
 pub mod JudgedLines
+pub mod ManifestCodes
+pub mod ManifestEntries
 pub mod ManifestFaults
 pub mod ManifestLine
 pub mod ManifestName

@@ -9,7 +9,7 @@ use Rattle.bag_text.specs.Spelling.{unescaped}
 use Rattle.bag_text.specs.Path.{is_payload_path, is_path}
 use Rattle.bag_text.specs.declared.alg.Alg.{Alg}
 use Rattle.bag_text.specs.declared.code.Code.{Code}
-use Rattle.bag_text.specs.declared.code.Code.TheVariants.{NotUtf8, NamedAgain, ManifestLine, DigestLength, ManifestOutsidePayload, ManifestUnsafePath, TagmanifestNamesPayload, TagmanifestNamesTagmanifest}
+use Rattle.bag_text.specs.declared.code.Code.TheVariants.{ManifestLine, DigestLength, ManifestEscape, ManifestOutsidePayload, ManifestUnsafePath, TagmanifestNamesPayload, TagmanifestNamesTagmanifest}
 use Rattle.bag_tags.specs.ManifestName.{is_manifest_name}
 use Rattle.bag_tags.specs.declared.kind.Kind.{Kind}
 use Rattle.bag_tags.specs.declared.kind.Kind.TheVariants.{Payload, Tag}
@@ -26,9 +26,14 @@ line_of_good_digest kind alg n line digest e = rw e refl
 
 -- the codes of the reasons why a line doesn't read
 abbrev pub IsReasonCode : Code → Type 0
-IsReasonCode NotUtf8 = ⊥
-IsReasonCode NamedAgain = ⊥
-IsReasonCode other = Unit {0}
+IsReasonCode ManifestLine = Unit {0}
+IsReasonCode DigestLength = Unit {0}
+IsReasonCode ManifestEscape = Unit {0}
+IsReasonCode ManifestUnsafePath = Unit {0}
+IsReasonCode ManifestOutsidePayload = Unit {0}
+IsReasonCode TagmanifestNamesPayload = Unit {0}
+IsReasonCode TagmanifestNamesTagmanifest = Unit {0}
+IsReasonCode other = ⊥
 
 abbrev IsReasonOf : {A : Type 0} → Result A Reason → Type 0
 IsReasonOf (Ok x) = Unit {0}
