@@ -37,7 +37,7 @@ contains_mapped g (x ∷ xs) y c = elim (contains_cases (g x) (map g xs) y c) [
 
 module _ (path : List ℕ) (alg : Option Alg) where
   -- faults of one stage in one file are ordered as its lines
-  less_in_file : (x y : LineFault) → stage x.code ≡ stage y.code → line_fault_cmp x y ≡ Less → fault_cmp (in_file path alg x) (in_file path alg y) ≡ Less
+  pub less_in_file : (x y : LineFault) → stage x.code ≡ stage y.code → line_fault_cmp x y ≡ Less → fault_cmp (in_file path alg x) (in_file path alg y) ≡ Less
   less_in_file x y same less =
       let lines : Ordering = nat_cmp x.line y.line in
       let numbers : Ordering = nat_cmp (number x.code) (number y.code) in

@@ -1,5 +1,7 @@
 pub mod Ascending
 pub mod Bytes
+pub mod ByFile
+pub mod ByPath
 pub mod Codes
 pub mod Cut
 pub mod Escapes
@@ -15,4 +17,5 @@ pub mod Opens
 pub mod Reading
 pub mod StageOne
 pub mod StageTwo
+pub mod StageFive
 pub mod Steps

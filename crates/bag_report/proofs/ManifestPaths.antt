@@ -142,7 +142,8 @@ text_known : (bag : Bag) (kind : Kind) (alg : Alg) (o : Option Manifest) → IsR
     → IsKnownAt bag (manifest_of kind alg) (option_map (λ m. m.is_text) o)
 text_known bag kind alg o h = text_by bag kind alg (manifest_of kind alg) o (file bag (manifest_of kind alg)) refl (inr (inr (kind, alg, refl))) h
 
-manifest_facts : (bag : Bag) (kind : Kind) (manifests : ManifestFacts) (alg : Alg) → AreManifestsOf bag kind manifests
+-- what is known of the manifest of an algorithm is what its bytes say
+pub manifest_facts : (bag : Bag) (kind : Kind) (manifests : ManifestFacts) (alg : Alg) → AreManifestsOf bag kind manifests
     → IsReadOf (IsManifestOf kind alg) (file bag (manifest_of kind alg)) (known_of manifests alg)
 manifest_facts bag kind manifests Md5 facts = facts.md5
 manifest_facts bag kind manifests Sha1 facts = facts.sha1

@@ -80,26 +80,9 @@ pub no_file_fault : (bag : Bag) (path one two : List ℕ) → one ≡ path → t
 no_file_fault bag path one two p q supported text f (at, inl h) = supported f.detail (subst (λ r. IsUnsupported r f.detail) (at ∙ sym p) h.2)
 no_file_fault bag path one two p q supported text f (at, inr h) = text (subst (HasNoText bag) (at ∙ sym q) h.2)
 
--- the faults of the first files, and those of the next
-pub one_file_more : (bag : Bag) (files : List FileEntry) (i : ℕ) (entry : FileEntry) (faults : List Fault) (o : Option Fault) → IsStrictlySortedBy text_cmp (paths_of files)
-    → i < length files → entry ≡ get_or files i entry → IsListOf fault_cmp (IsFaultAmong bag (paths_of (take i files))) faults
-    → IsOnly (λ f. (f.path ≡ entry.path) × IsFileFault bag f) o → IsListOf fault_cmp (IsFaultAmong bag (paths_of (take (i + 1) files))) (faults ++ option_to_list o)
-one_file_more bag files i entry faults o s lt e list only =
-    let before : List (List ℕ) = paths_of (take i files) in
-    let paths : paths_of (take (i + 1) files) ≡ before ++ entry.path ∷ [] = ap paths_of (take_one_more files i entry lt e) ∙ paths_joined (take i files) (entry ∷ []) in
-    subst (λ ps. IsListOf fault_cmp (IsFaultAmong bag ps) (faults ++ option_to_list o)) (sym paths)
-    (same_members fault_cmp _ _ (faults ++ option_to_list o)
-    (λ f h. elim h [
-      | inl a ↦ (contains_front before (entry.path ∷ []) f.path a.0, a.1)
-      | inr b ↦ (subst (Contains (before ++ entry.path ∷ [])) (sym b.0) (contains_back before (entry.path ∷ []) entry.path (contains_first entry.path [])), b.1)
-    ])
-    (λ f h. elim (contains_either before (entry.path ∷ []) f.path h.0) [
-      | inl a ↦ inl (a, h.1)
-      | inr b ↦ elim (contains_cases entry.path [] f.path b) [ inl same ↦ inr (sym same, h.1) | inr none ↦ absurd (contains_nothing f.path none) ]
-    ])
-    (one_more fault_cmp (IsFaultAmong bag before) (λ f. (f.path ≡ entry.path) × IsFileFault bag f) faults o list only
-    (λ x y a b. less_by_path x y (file_fault_stage bag x a.1 ∙ sym (file_fault_stage bag y b.1))
-    (subst (λ p. text_cmp x.path p ≡ Less) (sym b.0) (before_next files i entry x.path s lt e a.0)))))
+-- faults of files are ordered as their files
+pub less_by_file : (bag : Bag) (x y : Fault) → IsFileFault bag x → IsFileFault bag y → text_cmp x.path y.path ≡ Less → fault_cmp x y ≡ Less
+less_by_file bag x y a b less = less_by_path x y (file_fault_stage bag x a ∙ sym (file_fault_stage bag y b)) less
 
 -- a part that is missing where the test fails
 if_missing : (x : Fault) (has : Bool) → IsListOf fault_cmp (λ f. (f ≡ x) × (has ≡ false)) (if has then [] else x ∷ [])

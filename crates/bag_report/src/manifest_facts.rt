@@ -14,7 +14,7 @@ use crate::fact_stop::stop_without_path;
 use crate::tag_reader::bytes_at;
 use bag_store::{FileEntry, Stop, Tree, TreeFault};
 use bag_tags::{Kind, LineFault, ManifestEntry, Parsed, read_manifest};
-use bag_text::{Alg, Items, text_of};
+use bag_text::{Alg, Items, Text, text_of};
 use std::alloc::{AllocError, Global};
 
 /// What is known of one manifest.
@@ -42,12 +42,12 @@ impl Manifest {
     }
 
     /// Whether it names a path.
-    pub(crate) fn names(&self, path: &str) -> bool
+    pub(crate) fn names(&self, path: &Text) -> bool
         ensures { AreByPath self.now.entries → IsTrue result ↔ Contains (entry_paths self.now.entries) path.now }
     {
         self.entries
             .as_slice()
-            .binary_search_by(|entry| entry.path.as_str().cmp(path))
+            .binary_search_by(|entry| entry.path.cmp(path))
             .is_ok()
     }
 }

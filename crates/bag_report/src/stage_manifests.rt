@@ -1,7 +1,6 @@
 //! Stage 5: manifests.
 ghost use Rattle.std.specs.Prelude.{◌≡◌, [], Some, IfOk};
 ghost use Rattle.std.specs.List.Sorted.{IsStrictlySortedBy};
-ghost use Rattle.std.specs.Option.{option_copied};
 ghost use Rattle.bag_text.specs.Order.{IsListOf, IsOnly};
 ghost use Rattle.bag_text.specs.Text.{text_cmp};
 ghost use Rattle.bag_tags.specs.declared.kind.Kind.TheVariants.{Tag};
@@ -49,29 +48,28 @@ fn faults_of_kind(
     ensures { IfOk result (λ faults. (bag : Bag) → AreListed bag files.now → IsStrictlySortedBy text_cmp (paths_of files.now)
         → AreManifestsOf bag kind manifests.now → IsListOf fault_cmp (IsOfKind bag kind) faults.items) }
 {
-    let mut faults = faults_of(alloc, files, kind, Alg::Md5, manifests.md5.as_ref())?;
-    let mut of_sha1 = faults_of(alloc, files, kind, Alg::Sha1, manifests.sha1.as_ref())?;
-    let mut of_sha256 = faults_of(alloc, files, kind, Alg::Sha256, manifests.sha256.as_ref())?;
-    let mut of_sha512 = faults_of(alloc, files, kind, Alg::Sha512, manifests.sha512.as_ref())?;
+    let mut faults = faults_of(alloc, files, kind, Alg::Md5, manifests)?;
+    let mut of_sha1 = faults_of(alloc, files, kind, Alg::Sha1, manifests)?;
+    let mut of_sha256 = faults_of(alloc, files, kind, Alg::Sha256, manifests)?;
+    let mut of_sha512 = faults_of(alloc, files, kind, Alg::Sha512, manifests)?;
     faults.append(&mut of_sha1)?;
     faults.append(&mut of_sha256)?;
     faults.append(&mut of_sha512)?;
     Ok(faults)
 }
 
-/// The faults of one manifest: what it doesn't name stands before the faults of its lines.
+/// The faults of one manifest, where it is there: what it doesn't name stands before the faults of its lines.
 fn faults_of(
     alloc: Global,
     files: &[FileEntry],
     kind: Kind,
     alg: Alg,
-    manifest: Option<&Manifest>,
+    manifests: &ManifestFacts,
 ) -> Result<Vec<Fault>, AllocError>
     ensures { IfOk result (λ faults. (bag : Bag) → AreListed bag files.now → IsStrictlySortedBy text_cmp (paths_of files.now)
-        → IsReadOf (IsManifestOf kind alg) (file bag (manifest_of kind alg)) (option_copied manifest.entry)
-        → IsListOf fault_cmp (IsOfManifest bag kind alg) faults.items) }
+        → AreManifestsOf bag kind manifests.now → IsListOf fault_cmp (IsOfManifest bag kind alg) faults.items) }
 {
-    let Some(manifest) = manifest else {
+    let Some(manifest) = manifests.of(alg) else {
         return Ok(Vec::new(alloc));
     };
     let mut of_lines = line_faults(alloc, kind, alg, manifest)?;
@@ -135,7 +133,7 @@ fn unnamed_fault(
     ensures { IfOk result (λ fault. AreByPath manifest.now.entries
         → IsOnly (λ f. (f.detail ≡ path.now) × IsUnnamedFault alg manifest.now.entries f) fault) }
 {
-    if manifest_alg(Kind::Payload, path.as_str()).is_none() || manifest.names(path.as_str()) {
+    if manifest_alg(Kind::Payload, path.as_str()).is_none() || manifest.names(path) {
         return Ok(None);
     }
     Ok(Some(not_listed(alloc, alg, path)?))

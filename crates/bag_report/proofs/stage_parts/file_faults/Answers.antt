@@ -3,9 +3,10 @@ use Rattle.std.specs.Option.{option_to_list}
 use Rattle.bag_text.specs.Order.{IsListOf}
 use Rattle.bag_text.proofs.ListOf.{nothing_listed, contains_nothing}
 use Rattle.bag_report.specs.FaultOrder.{fault_cmp}
-use Rattle.bag_report.specs.Parts.{paths_of, IsFaultAmong}
+use Rattle.bag_report.specs.Parts.{paths_of, IsFileFault, IsFaultAmong}
 use Rattle.bag_report.proofs.Files.{take_whole}
-use Rattle.bag_report.proofs.StageTwo.{one_file_more}
+use Rattle.bag_report.proofs.ByFile.{one_file_more}
+use Rattle.bag_report.proofs.StageTwo.{less_by_file}
 use Rattle.bag_report.proofs.stage_parts.file_faults.Goals as goal
 use Rattle.bag_report.proofs.stage_parts.file_faults.Goals.{in-Some+in_ok-push, in_default}
 
@@ -15,7 +16,7 @@ loop-entry-init c = λ bag tags sorted.
 
 pub loop-entry-preserved : goal.loop-entry-preserved
 loop-entry-preserved c = λ bag tags sorted.
-    let more = one_file_more bag c.args.files.now c.loop-entry.entry-index c.entry-item.result c.loop-entry.faults.items c.in_ok-fault.field-0 sorted
+    let more = one_file_more (λ f. f.path) (IsFileFault bag) (less_by_file bag) c.args.files.now c.loop-entry.entry-index c.entry-item.result c.loop-entry.faults.items c.in_ok-fault.field-0 sorted
     c.loop-entry-test.true c.entry-item.is (c.loop-entry.invariant bag tags sorted) (c.in_ok-fault.ensures bag tags) in
     let now : c.match-branch-2.faults.items ≡ c.loop-entry.faults.items ++ option_to_list c.in_ok-fault.field-0 =
     elim c.match-branch-2.branch [
