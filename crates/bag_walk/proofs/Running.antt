@@ -64,29 +64,29 @@ wider_end request n P Q (Unwritten k) more m = m
 take_whole : (faults : List Fault) (n : ℕ) → n ≡ length faults → take n faults ≡ faults
 take_whole faults n e = grind (arith, common_steps)
 
-module _ (old new : TreeState) (request : Request) (before after : Option (List ℕ)) (refused : Bool) (outcome : Outcome) where
+module _ (old new : TreeState) (asking : Request) (before after : Option (List ℕ)) (refused : Bool) (outcome : Outcome) where
   -- the faults that are asked for were written
-  pub run_of_report : (faults : List Fault) → (IsTrue old.honest → AreAsked old.bag request faults) → WritesReport request faults IsOutOfMemory before after refused outcome
-      → IsRun old new request before after refused outcome
+  pub run_of_report : (faults : List Fault) → (IsTrue old.honest → AreAsked old.bag asking faults) → WritesReport asking faults IsOutOfMemory before after refused outcome
+      → IsRun old new asking before after refused outcome
   run_of_report faults asked writes = record {
     shown = take writes.count faults;
     ending = writes.ending;
-    may_end = subst (λ n. MayEnd request n (MayStop request.options old new) writes.ending) (sym (take_length writes.count faults writes.within))
-        (wider_end request writes.count IsOutOfMemory (MayStop request.options old new) writes.ending (memory_may_stop request.options old new) writes.may_end);
+    may_end = subst (λ n. MayEnd asking n (MayStop asking.options old new) writes.ending) (sym (take_length writes.count faults writes.within))
+        (wider_end asking writes.count IsOutOfMemory (MayStop asking.options old new) writes.ending (memory_may_stop asking.options old new) writes.may_end);
     wrote = writes.wrote;
-    faults = λ honest. front_is_first (IsAsked old.bag request) writes.count faults (asked honest);
+    faults = λ honest. front_is_first (IsAsked old.bag asking) writes.count faults (asked honest);
     all_shown = λ honest reached f is.
         subst (λ shown. Contains shown f) (sym (take_whole faults writes.count (writes.all reached))) (((asked honest).members f).1 is);
   }
 
   -- no fault was looked at
-  pub run_of_close : (ending : Outcome) → MayEnd request 0 (MayStop request.options old new) ending → (ReachesEnd ending → ⊥) → Closes request ending before after refused outcome
-      → IsRun old new request before after refused outcome
+  pub run_of_close : (ending : Outcome) → MayEnd asking 0 (MayStop asking.options old new) ending → (ReachesEnd ending → ⊥) → Closes asking ending before after refused outcome
+      → IsRun old new asking before after refused outcome
   run_of_close ending m never closes = record {
     shown = [];
     ending = ending;
     may_end = m;
-    wrote = wrote_closed request (MayStop request.options old new) [] before before after refused ending outcome m (Appends-nil before) closes;
-    faults = λ honest. nothing_is_first (IsAsked old.bag request);
+    wrote = wrote_closed asking (MayStop asking.options old new) [] before before after refused ending outcome m (Appends-nil before) closes;
+    faults = λ honest. nothing_is_first (IsAsked old.bag asking);
     all_shown = λ honest reached. absurd (never reached);
   }

@@ -1,6 +1,8 @@
 //! The program's plans and what it writes.
 use crate::{Action, Usage, perform, plan_of, refuse_words};
+use std::os::unix::fs::symlink;
 use std::test::Fail;
+use std::{env, fs, process};
 
 #[test]
 fn no_words_ask_for_the_sample(rt: HostRuntime) -> Result<(), Fail> {
@@ -92,6 +94,78 @@ fn refused_words_are_told(rt: HostRuntime) -> Result<(), Fail> {
         let mut err = Vec::<u8>::new(rt.alloc());
         assert_eq!(rt; refuse_words(usage, &mut err), status);
         assert_eq!(rt; err.as_slice(), text.as_bytes());
+    }
+    Ok(())
+}
+
+/// What a folder holds, the end of the report, and the status.
+struct Row {
+    bagit_txt: Option<&'static [u8]>,
+    link: bool,
+    ending: &'static str,
+    status: u8,
+}
+
+const ROWS: [Row; 3] = [
+    Row {
+        bagit_txt: Some(b"BagIt-Version: 1.0\nTag-File-Character-Encoding: UTF-8\n"),
+        link: false,
+        ending: " has a good declaration\n",
+        status: 0,
+    },
+    Row {
+        bagit_txt: None,
+        link: false,
+        ending: " has faults: 1\n",
+        status: 1,
+    },
+    Row {
+        bagit_txt: Some(b"BagIt-Version: 1.0\nTag-File-Character-Encoding: UTF-8\n"),
+        link: true,
+        ending: " unread - special, faults: 0\n",
+        status: 3,
+    },
+];
+
+/// What a check of a fresh folder writes, what it says on the standard error, and its status.
+fn checked_folder(
+    rt: &HostRuntime,
+    bagit_txt: Option<&[u8]>,
+    link: bool,
+) -> Result<(Vec<u8>, usize, u8), Fail> {
+    let folder = env::temp_dir(rt)?;
+    let id = process::id(rt.process());
+    let base = format!(in rt.alloc(); "{}/bagit-{id}", folder.as_path().display())?;
+    let _ = fs::remove_dir_all(rt, base.as_str());
+    fs::create_dir(rt, base.as_str())?;
+    if let Some(bytes) = bagit_txt {
+        fs::write(rt, format!(in rt.alloc(); "{base}/bagit.txt")?, bytes)?;
+    }
+    if link {
+        symlink(rt, "bagit.txt", format!(in rt.alloc(); "{base}/link")?)?;
+    }
+    let mut out = Vec::<u8>::new(rt.alloc());
+    let mut err = Vec::<u8>::new(rt.alloc());
+    let plan = plan_of(
+        rt.alloc(),
+        &["--validate", "--declaration-only", base.as_str()],
+    )?;
+    let status = perform(rt, &plan, &mut out, &mut err);
+    fs::remove_dir_all(rt, base.as_str())?;
+    Ok((out, err.len(), status))
+}
+
+fn ends_so(out: &[u8], ending: &str) -> bool {
+    out.ends_with(ending.as_bytes())
+}
+
+#[test]
+fn folders_on_the_disk(rt: HostRuntime) -> Result<(), Fail> {
+    for (place, row) in ROWS.iter().enumerate() {
+        let (out, told, status) = checked_folder(&rt, row.bagit_txt, row.link)?;
+        assert_eq!(rt; status, row.status, "row {place}");
+        assert!(rt; ends_so(&out, row.ending), "row {place}");
+        assert_eq!(rt; told, 0);
     }
     Ok(())
 }

@@ -11,3 +11,7 @@ mod cursors;
 mod declarations;
 #[cfg(test)]
 mod narrow_outputs;
+#[cfg(test)]
+mod parts;
+#[cfg(test)]
+mod stages;

@@ -1,0 +1,60 @@
+//! The faults of one stage of a bag in memory.
+use bag_report::{Depth, Facts, Options, stage_faults};
+use bag_store::MemoryTree;
+use bag_text::check_path;
+use std::alloc::{AllocError, Global};
+use std::test::Fail;
+
+/// What a bag holds.
+pub(crate) struct Bag {
+    pub(crate) has_data: bool,
+    pub(crate) files: &'static [(&'static str, &'static [u8])],
+}
+
+impl Bag {
+    fn tree(&self, alloc: Global) -> Result<MemoryTree, Fail> {
+        let mut tree = MemoryTree::new(alloc);
+        if self.has_data {
+            tree.put_folder("data")?;
+        }
+        for (path, bytes) in self.files {
+            check_path(path)?;
+            tree.put_file(path, bytes)?;
+        }
+        Ok(tree)
+    }
+}
+
+/// The lines of the faults of one stage, each with its end.
+pub(crate) fn stage_text(
+    alloc: Global,
+    bag: &Bag,
+    depth: Depth,
+    stage: u8,
+) -> Result<String, Fail> {
+    let options = Options {
+        depth,
+        clashes: false,
+    };
+    let mut tree = bag.tree(alloc)?;
+    let facts = match Facts::read(alloc, &mut tree, options) {
+        Ok(facts) => facts,
+        Err(stop) => return Err(Fail::from(stop.cause)),
+    };
+    let mut text = String::new(alloc);
+    for fault in &stage_faults(alloc, &facts, stage)? {
+        fault.append_line(&mut text)?;
+        text.push('\n')?;
+    }
+    Ok(text)
+}
+
+/// Lines, each with its end.
+pub(crate) fn text_of_lines(alloc: Global, lines: &[&str]) -> Result<String, AllocError> {
+    let mut text = String::new(alloc);
+    for line in lines {
+        text.push_str(line)?;
+        text.push('\n')?;
+    }
+    Ok(text)
+}
