@@ -1,13 +1,7 @@
 //! The parts of a bag: its payload folder, and which tag files are read.
-use crate::stages::{Bag, stage_text, text_of_lines};
+use crate::stages::{Bag, Row, stage_text, text_of_lines};
 use bag_report::Depth;
 use std::test::Fail;
-
-/// A bag, and the lines of its second stage.
-struct Row {
-    bag: Bag,
-    lines: &'static [&'static str],
-}
 
 const ROWS: [Row; 9] = [
     Row {

@@ -11,6 +11,12 @@ pub(crate) struct Bag {
     pub(crate) files: &'static [(&'static str, &'static [u8])],
 }
 
+/// A bag, and the lines of one of its stages.
+pub(crate) struct Row {
+    pub(crate) bag: Bag,
+    pub(crate) lines: &'static [&'static str],
+}
+
 impl Bag {
     fn tree(&self, alloc: Global) -> Result<MemoryTree, Fail> {
         let mut tree = MemoryTree::new(alloc);
