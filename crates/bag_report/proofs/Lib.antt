@@ -13,6 +13,7 @@ pub mod FieldPieces
 pub mod InFile
 pub mod Opens
 pub mod Reading
+pub mod Seen
 pub mod StageOne
 pub mod StageTwo
 pub mod Steps
