@@ -12,12 +12,11 @@ use Rattle.bag_text.specs.Text.{text_cmp}
 use Rattle.bag_text.specs.declared.alg.Alg.TheVariants.{Md5, Sha1, Sha256, Sha512}
 use Rattle.bag_tags.specs.declared.declaration.Declaration.{Declaration}
 use Rattle.bag_tags.specs.declared.kind.Kind.TheVariants.{Payload, Tag}
-use Rattle.bag_store.specs.Bag.{Bag, file, has_folder}
+use Rattle.bag_store.specs.Bag.{Bag, file}
 use Rattle.bag_store.specs.Listing.{IsOrdered, IsListingOf, entry_at, size_at}
 use Rattle.bag_store.specs.declared.listing.FileEntry.{FileEntry}
 use Rattle.bag_store.specs.declared.listing.Listing.{Listing}
 use Rattle.bag_store.proofs.Listed.{same_test}
-use Rattle.bag_report.specs.declared.facts.Facts.{Facts}
 use Rattle.bag_report.specs.declared.options.Depth.TheVariants as depth_of
 use Rattle.bag_report.specs.declared.options.Options.{Options}
 use Rattle.bag_report.specs.declared.tag_facts.TagFacts.{TagFacts}
@@ -134,13 +133,15 @@ pub declaration_seen : (options : Options) (listing : Listing) (declaration : Op
     → (bag : Bag) × IsFactsOf bag (record { options = options; listing = listing; declaration = declaration; tags = None })
 declaration_seen options listing declaration depth ordered seen =
     let c = some_content IsDeclarationOf listing.files bagit_txt declaration seen in
-    let reads : List (List ℕ × Option (List ℕ)) = (bagit_txt, c.0) ∷ [] in
-    (seen_bag reads listing, record {
-      ordered = ordered;
-      listing = listing_seen reads listing (c.1, tt);
-      declaration = seen_read IsDeclarationOf reads listing bagit_txt declaration c refl;
-      tags = depth;
-    })
+    let reads : List (List ℕ × Option (List ℕ)) = (bagit_txt, c.0) ∷ [] in (
+      seen_bag reads listing,
+      record {
+        ordered = ordered;
+        listing = listing_seen reads listing (c.1, tt);
+        declaration = seen_read IsDeclarationOf reads listing bagit_txt declaration c refl;
+        tags = depth;
+      },
+    )
 
 -- the facts of all tag files are those of a bag
 pub tag_files_seen : (options : Options) (listing : Listing) (declaration : Option Declaration) (tags : TagFacts) → options.depth ≢ depth_of.Declaration → IsOrdered listing.files
@@ -162,25 +163,30 @@ tag_files_seen options listing declaration tags more ordered seen known =
     let reads : List (List ℕ × Option (List ℕ)) =
     (bag_info_txt, c0.0) ∷ (bagit_txt, c1.0) ∷ (fetch_txt, c2.0)
     ∷ (manifest_of Payload Md5, p1.0) ∷ (manifest_of Payload Sha1, p2.0) ∷ (manifest_of Payload Sha256, p3.0) ∷ (manifest_of Payload Sha512, p4.0)
-    ∷ (manifest_of Tag Md5, t1.0) ∷ (manifest_of Tag Sha1, t2.0) ∷ (manifest_of Tag Sha256, t3.0) ∷ (manifest_of Tag Sha512, t4.0) ∷ [] in
-    (seen_bag reads listing, record {
-      ordered = ordered;
-      listing = listing_seen reads listing (c0.1, (c1.1, (c2.1, (p1.1, (p2.1, (p3.1, (p4.1, (t1.1, (t2.1, (t3.1, (t4.1, tt)))))))))));
-      declaration = seen_read IsDeclarationOf reads listing bagit_txt declaration c1 refl;
-      tags = (more, record {
-        info = seen_read IsTextTest reads listing bag_info_txt tags.info c0 refl;
-        fetch = seen_read IsTextTest reads listing fetch_txt tags.fetch c2 refl;
-        payload = record {
-          md5 = seen_read (IsManifestOf Payload Md5) reads listing (manifest_of Payload Md5) tags.payload.md5 p1 refl;
-          sha1 = seen_read (IsManifestOf Payload Sha1) reads listing (manifest_of Payload Sha1) tags.payload.sha1 p2 refl;
-          sha256 = seen_read (IsManifestOf Payload Sha256) reads listing (manifest_of Payload Sha256) tags.payload.sha256 p3 refl;
-          sha512 = seen_read (IsManifestOf Payload Sha512) reads listing (manifest_of Payload Sha512) tags.payload.sha512 p4 refl;
-        };
-        tag = record {
-          md5 = seen_read (IsManifestOf Tag Md5) reads listing (manifest_of Tag Md5) tags.tag.md5 t1 refl;
-          sha1 = seen_read (IsManifestOf Tag Sha1) reads listing (manifest_of Tag Sha1) tags.tag.sha1 t2 refl;
-          sha256 = seen_read (IsManifestOf Tag Sha256) reads listing (manifest_of Tag Sha256) tags.tag.sha256 t3 refl;
-          sha512 = seen_read (IsManifestOf Tag Sha512) reads listing (manifest_of Tag Sha512) tags.tag.sha512 t4 refl;
-        };
-      });
-    })
+    ∷ (manifest_of Tag Md5, t1.0) ∷ (manifest_of Tag Sha1, t2.0) ∷ (manifest_of Tag Sha256, t3.0) ∷ (manifest_of Tag Sha512, t4.0) ∷ [] in (
+      seen_bag reads listing,
+      record {
+        ordered = ordered;
+        listing = listing_seen reads listing (c0.1, (c1.1, (c2.1, (p1.1, (p2.1, (p3.1, (p4.1, (t1.1, (t2.1, (t3.1, (t4.1, tt)))))))))));
+        declaration = seen_read IsDeclarationOf reads listing bagit_txt declaration c1 refl;
+        tags = (
+          more,
+          record {
+            info = seen_read IsTextTest reads listing bag_info_txt tags.info c0 refl;
+            fetch = seen_read IsTextTest reads listing fetch_txt tags.fetch c2 refl;
+            payload = record {
+              md5 = seen_read (IsManifestOf Payload Md5) reads listing (manifest_of Payload Md5) tags.payload.md5 p1 refl;
+              sha1 = seen_read (IsManifestOf Payload Sha1) reads listing (manifest_of Payload Sha1) tags.payload.sha1 p2 refl;
+              sha256 = seen_read (IsManifestOf Payload Sha256) reads listing (manifest_of Payload Sha256) tags.payload.sha256 p3 refl;
+              sha512 = seen_read (IsManifestOf Payload Sha512) reads listing (manifest_of Payload Sha512) tags.payload.sha512 p4 refl;
+            };
+            tag = record {
+              md5 = seen_read (IsManifestOf Tag Md5) reads listing (manifest_of Tag Md5) tags.tag.md5 t1 refl;
+              sha1 = seen_read (IsManifestOf Tag Sha1) reads listing (manifest_of Tag Sha1) tags.tag.sha1 t2 refl;
+              sha256 = seen_read (IsManifestOf Tag Sha256) reads listing (manifest_of Tag Sha256) tags.tag.sha256 t3 refl;
+              sha512 = seen_read (IsManifestOf Tag Sha512) reads listing (manifest_of Tag Sha512) tags.tag.sha512 t4 refl;
+            };
+          },
+        );
+      },
+    )

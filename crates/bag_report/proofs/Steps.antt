@@ -1,5 +1,5 @@
 -- Reading tag files one after another.
-use Rattle.std.proofs.Common.{◌≡◌, ◌≢◌, ◌⊎◌, inl, inr, ◌++◌, ◌∷◌, ◌≤◌, ℕ, List, [], Option, None, Some, Result, Ok, Err, Bool, true, false, ◌&&◌, refl, sym, ap, ◌∙◌, subst, arith, append-nil, append_assoc}
+use Rattle.std.proofs.Common.{◌≡◌, inl, inr, ◌++◌, ◌∷◌, ℕ, List, [], Result, Ok, Err, Bool, true, false, ◌&&◌, refl, sym, ap, ◌∙◌, subst, arith, append-nil, append_assoc}
 use Rattle.std.specs.Prelude.{IsTrue, All}
 use Rattle.std.specs.Result.{IfErr, IsErrAnd}
 use Rattle.std.proofs.lemmas.List.Elements.{All-nil, All-cons}
@@ -22,7 +22,7 @@ use Rattle.bag_store.specs.declared.fault.Stop.{Stop}
 use Rattle.bag_store.specs.declared.fault.TreeFault.{TreeFault}
 use Rattle.bag_store.specs.declared.fault.TreeFault.TheVariants.{Device, Special, Name, NotFound, TooMany, Changed, NoneOpen, Memory, Exists}
 use Rattle.bag_report.specs.declared.options.Options.{Options}
-use Rattle.bag_report.specs.Facts.{IsWanted, IsOfFile, OpensWanted, MayStop, MayRefuseFacts}
+use Rattle.bag_report.specs.Facts.{IsWanted, OpensWanted, MayStop, MayRefuseFacts}
 use Rattle.bag_report.specs.Steps.{IsPartOf, OpensAmong, ReadsAmong, AreListed, StopsReading, MayStopIf, AsksMore, AsksFor, read_paths}
 use Rattle.bag_report.specs.TagFiles.{bagit_txt, manifest_of}
 

@@ -11,11 +11,10 @@ use Rattle.bag_text.specs.declared.alg.Alg.TheVariants.{Md5, Sha1, Sha256, Sha51
 use Rattle.bag_tags.specs.declared.kind.Kind.{Kind}
 use Rattle.bag_tags.specs.declared.kind.Kind.TheVariants.{Payload, Tag}
 use Rattle.bag_report.specs.declared.manifest_facts.ManifestFacts.{ManifestFacts}
-use Rattle.bag_report.specs.declared.options.Depth.{Depth}
 use Rattle.bag_report.specs.declared.options.Depth.TheVariants.{Declaration}
 use Rattle.bag_report.specs.declared.tag_facts.TagFacts.{TagFacts}
 use Rattle.bag_report.specs.declared.options.Options.{Options}
-use Rattle.bag_report.specs.Facts.{IsReadOf, IsDeclarationOf, IsTextTest, IsManifestOf, IsWanted, IsOfFile, MayRefuseFacts}
+use Rattle.bag_report.specs.Facts.{IsTextTest, IsManifestOf, IsWanted, IsOfFile, MayRefuseFacts}
 use Rattle.bag_report.specs.Stops.{IsOutOfMemory}
 use Rattle.bag_report.specs.TagFiles.{bagit_txt, bag_info_txt, fetch_txt, manifest_of}
 

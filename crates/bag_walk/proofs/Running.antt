@@ -17,7 +17,7 @@ use Rattle.bag_report.specs.FaultOrder.{fault_cmp}
 use Rattle.bag_report.specs.Facts.{MayStop}
 use Rattle.bag_report.specs.Report.{asks, IsReport, IsStageOf}
 use Rattle.bag_walk.specs.Run.{AreFirst, IsAsked, IsAnswered, IsRun, MayEnd, ReachesEnd, Wrote, written, limit_of}
-use Rattle.bag_walk.specs.Runner.{AreAsked, AreAskedOf}
+use Rattle.bag_walk.specs.Runner.{AreAskedOf}
 use Rattle.bag_walk.specs.Writer.{Closes, WritesReport, IsOutOfMemory}
 use Rattle.bag_walk.specs.declared.outcome.Outcome.{Outcome}
 use Rattle.bag_walk.specs.declared.outcome.Outcome.TheVariants.{Clean, Faults, Stopped, Rest, Unread, Unwritten}

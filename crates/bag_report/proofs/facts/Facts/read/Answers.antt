@@ -1,4 +1,4 @@
-use Rattle.std.proofs.Common.{◌≡◌, ◌⊎◌, inl, inr, refl, rules, subst}
+use Rattle.std.proofs.Common.{◌≡◌, inl, refl, rules, subst}
 use Rattle.bag_report.specs.declared.options.Depth.TheVariants.{Declaration}
 use Rattle.bag_report.specs.Facts.{IsDeclarationOf, MayStop}
 use Rattle.bag_report.specs.Steps.{AsksFor, AsksMore, IsSeenAt, AreTagFactsSeen}
