@@ -15,6 +15,7 @@ pub mod FieldPieces
 pub mod InFile
 pub mod Opens
 pub mod Reading
+pub mod Seen
 pub mod StageOne
 pub mod StageTwo
 pub mod StageFive

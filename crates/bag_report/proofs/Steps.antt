@@ -1,5 +1,5 @@
 -- Reading tag files one after another.
-use Rattle.std.proofs.Common.{◌≡◌, ◌≢◌, ◌⊎◌, inl, inr, ◌++◌, ◌∷◌, ◌≤◌, ℕ, List, [], Option, None, Some, Result, Ok, Err, Bool, true, false, ◌&&◌, refl, sym, ap, ◌∙◌, subst, arith, append-nil, append_assoc}
+use Rattle.std.proofs.Common.{◌≡◌, inl, inr, ◌++◌, ◌∷◌, ℕ, List, [], Result, Ok, Err, Bool, true, false, ◌&&◌, refl, sym, ap, ◌∙◌, subst, arith, append-nil, append_assoc}
 use Rattle.std.specs.Prelude.{IsTrue, All}
 use Rattle.std.specs.Result.{IfErr, IsErrAnd}
 use Rattle.std.proofs.lemmas.List.Elements.{All-nil, All-cons}
@@ -23,7 +23,7 @@ use Rattle.bag_store.specs.declared.fault.TreeFault.{TreeFault}
 use Rattle.bag_store.specs.declared.fault.TreeFault.TheVariants.{Device, Special, Name, NotFound, TooMany, Changed, NoneOpen, Memory, Exists}
 use Rattle.bag_report.specs.declared.options.Options.{Options}
 use Rattle.bag_report.specs.Facts.{IsWanted, OpensWanted, MayStop, MayRefuseFacts}
-use Rattle.bag_report.specs.Steps.{IsPartOf, OpensAmong, ReadsAmong, AreListed, MayStopIf, AsksMore, AsksFor, read_paths}
+use Rattle.bag_report.specs.Steps.{IsPartOf, OpensAmong, ReadsAmong, AreListed, StopsReading, MayStopIf, AsksMore, AsksFor, read_paths}
 use Rattle.bag_report.specs.TagFiles.{bagit_txt, manifest_of}
 
 part_widened : {A : Type 0} (xs ps qs : List A) → IsPartOf xs ps → IsPartOf xs (ps ++ qs)
@@ -185,10 +185,18 @@ later_refusal old mid new Memory k h = tt
 later_refusal old mid new Exists k h = h
 
 -- a later stop is one of the whole
-pub later_stop : (options : Options) (old mid new : TreeState) (stop : Stop) → Keeps old mid → MayStop options mid new stop → MayStop options old new stop
+pub later_stop : (options : Options) (old mid new : TreeState) (stop : Stop) → Keeps old mid → StopsReading options mid new stop → StopsReading options old new stop
 later_stop options old mid new stop k h = record {
   cause = later_refusal old mid new stop.cause k h.cause;
   path = elim h.path [ inl none ↦ inl none | inr at ↦ inr (at.0, λ honest. subst (λ bag. HasFile bag stop.path) k.bag (at.1 (k.honest ∙ honest))) ];
+  memory = h.memory;
+}
+
+-- a stop of reading is one of reading the facts
+facts_stop : (options : Options) (old new : TreeState) (stop : Stop) → StopsReading options old new stop → MayStop options old new stop
+facts_stop options old new stop h = record {
+  cause = h.cause;
+  path = elim h.path [ inl none ↦ inl none | inr at ↦ inr (inr at) ];
   memory = h.memory;
 }
 
@@ -223,5 +231,6 @@ manifest_stops kind alg path files old mid new stop e k h =
 pub stops_listed : (Asks : Options → Type 0) (options : Options) (listing : Listing) (files : List FileEntry) (old mid new : TreeState) (stop : Stop) → Asks options → Keeps old mid
     → files ≡ listing.files → (IsTrue old.honest → IsListingOf old.bag listing) → MayStopIf Asks files mid new stop → MayStop options old new stop
 stops_listed Asks options listing files old mid new stop asks k e listed h =
-    later_stop options old mid new stop k
-    (h options asks (λ honest. subst (λ fs. AreListed mid.bag fs) (sym e) (subst (λ bag. AreListed bag listing.files) (sym k.bag) (listed (sym k.honest ∙ honest)).files)))
+    facts_stop options old new stop
+    (later_stop options old mid new stop k
+    (h options asks (λ honest. subst (λ fs. AreListed mid.bag fs) (sym e) (subst (λ bag. AreListed bag listing.files) (sym k.bag) (listed (sym k.honest ∙ honest)).files))))

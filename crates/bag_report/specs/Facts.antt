@@ -10,7 +10,7 @@ use Rattle.bag_text.specs.declared.alg.Alg.{Alg}
 use Rattle.bag_text.specs.declared.alg.Alg.TheVariants.{Md5, Sha1, Sha256, Sha512}
 use Rattle.bag_store.specs.Bag.{Bag, file, HasFile}
 use Rattle.bag_store.specs.Listing.{IsOrdered, IsListingOf}
-use Rattle.bag_store.specs.Tree.{TreeState, most_entries}
+use Rattle.bag_store.specs.Tree.{TreeState, MayRefuse, most_entries}
 use Rattle.bag_store.specs.declared.fault.Stop.{Stop}
 use Rattle.bag_store.specs.declared.fault.TreeFault.{TreeFault}
 use Rattle.bag_store.specs.declared.fault.TreeFault.TheVariants.{Device, Special, Name, NotFound, TooMany, Changed, NoneOpen, Memory, Exists}
@@ -27,6 +27,7 @@ use Rattle.bag_report.specs.declared.tag_facts.TagFacts.{TagFacts}
 use Rattle.bag_report.specs.declared.options.Depth.{Depth}
 use Rattle.bag_report.specs.declared.options.Depth.TheVariants as depth_of
 use Rattle.bag_report.specs.declared.options.Options.{Options}
+use Rattle.bag_report.specs.Stops.{IsOutOfMemory}
 use Rattle.bag_report.specs.TagFiles.{bagit_txt, bag_info_txt, fetch_txt, manifest_of, IsRead}
 
 -- a declaration is what these bytes declare
@@ -101,9 +102,17 @@ MayRefuseFacts old new NoneOpen = ¬ (IsTrue old.honest)
 MayRefuseFacts old new Memory = Unit {0}
 MayRefuseFacts old new Exists = ⊥
 
--- A stop tells the cause, and the file that was read: one that is wanted, and of an honest tree's bag. It names none
--- for a listing or for want of memory.
+-- the listing was refused: no file is named, and none was opened
+abbrev pub IsOfListing : TreeState → TreeState → Stop → Type 0
+IsOfListing old new stop = (stop.path ≡ []) × (new.openings ≡ old.openings) × MayRefuse ⊥ ⊥ old new stop.cause
+
+-- a file was refused: one that is wanted, and of an honest tree's bag
+abbrev pub IsOfFile : Options → TreeState → Stop → Type 0
+IsOfFile options old stop = IsWanted options stop.path × (IsTrue old.honest → HasFile old.bag stop.path)
+
+-- A stop tells the cause, and the file that was refused. It names none for want of memory, and where it was the listing
+-- that was refused.
 pub record MayStop (options : Options) (old new : TreeState) (stop : Stop) : Type 0 where
   pub cause : MayRefuseFacts old new stop.cause
-  pub path : (stop.path ≡ []) ⊎ (IsWanted options stop.path × (IsTrue old.honest → HasFile old.bag stop.path))
+  pub path : IsOutOfMemory stop ⊎ IsOfListing old new stop ⊎ IsOfFile options old stop
   pub memory : stop.cause ≡ Memory → stop.path ≡ []

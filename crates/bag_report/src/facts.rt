@@ -1,8 +1,8 @@
 //! What is read of a bag.
-ghost use Rattle.std.specs.Prelude.{◌≡◌, ◌∷◌, [], None, IsTrue, IfOk, IfErr};
-ghost use Rattle.bag_store.specs.Bag.{file};
+ghost use Rattle.std.specs.Prelude.{◌≡◌, ◌∷◌, [], None, IsTrue, IfOk, IfErr, OnOk};
+ghost use Rattle.bag_store.specs.Bag.{Bag, file};
 ghost use Rattle.bag_store.specs.Tree.{Keeps};
-ghost use Rattle.bag_report.specs.Steps.{ReadsAmong, AreListed, MayStopIf, AsksFor, AsksMore, read_paths};
+ghost use Rattle.bag_report.specs.Steps.{ReadsAmong, AreListed, IsSeenAt, AreTagFactsSeen, MayStopIf, AsksFor, AsksMore, read_paths};
 ghost use Rattle.bag_report.specs.TagFiles.{bagit_txt};
 
 use crate::fact_stop::stop_without_path;
@@ -29,12 +29,15 @@ impl Facts {
     /// Lists the tree, and reads its tag files whole, in path order and each once: at every depth `bagit.txt`, and at
     /// the depths above `Declaration` also `bag-info.txt`, `fetch.txt` and the manifests of supported algorithms.
     ///
-    /// The stop of a refusal names the file that was read; it names none for the listing and for want of memory.
+    /// The stop of a refusal names the file that was read; it names none for the listing and for want of memory. The
+    /// facts are those of an honest tree's bag. Of any other tree they are those of some bag that has the listed files.
     pub fn read<T: Tree>(alloc: Global, tree: &mut T, options: Options) -> Result<Facts, Stop>
         ensures keeps { Keeps (T.state tree.old) (T.state tree.new) }
+        ensures calm { OnOk result ((T.state tree.new).failures ≡ (T.state tree.old).failures) }
         ensures opens { OpensWanted options (T.state tree.old) (T.state tree.new) }
         ensures options { IfOk result (λ facts. facts.options ≡ options) }
         ensures facts { IfOk result (λ facts. IsTrue (T.state tree.old).honest → IsFactsOf (T.state tree.old).bag facts) }
+        ensures seen { IfOk result (λ facts. (bag : Bag) × IsFactsOf bag facts) }
         ensures stop { IfErr result (MayStop options (T.state tree.old) (T.state tree.new)) }
     {
         let listing = match tree.list() {
@@ -69,6 +72,8 @@ fn read_tags<T: Tree>(
     files: &[FileEntry],
 ) -> Result<(Option<Declaration>, TagFacts), Stop>
     ensures reads { ReadsAmong read_paths (T.state tree.old) (T.state tree.new) }
+    ensures calm { OnOk result ((T.state tree.new).failures ≡ (T.state tree.old).failures) }
+    ensures seen { IfOk result (λ read. IsSeenAt IsDeclarationOf files.now bagit_txt read.0 × AreTagFactsSeen files.now read.1) }
     ensures declaration { IfOk result (λ read. IsTrue (T.state tree.old).honest → AreListed (T.state tree.old).bag files.now
         → IsReadOf IsDeclarationOf (file (T.state tree.old).bag bagit_txt) read.0) }
     ensures tags { IfOk result (λ read. IsTrue (T.state tree.old).honest → AreListed (T.state tree.old).bag files.now → AreTagFactsOf (T.state tree.old).bag read.1) }
@@ -95,6 +100,8 @@ fn declaration_at<T: Tree>(
     files: &[FileEntry],
 ) -> Result<Option<Declaration>, Stop>
     ensures reads { ReadsAmong (bagit_txt ∷ []) (T.state tree.old) (T.state tree.new) }
+    ensures calm { OnOk result ((T.state tree.new).failures ≡ (T.state tree.old).failures) }
+    ensures seen { IfOk result (IsSeenAt IsDeclarationOf files.now bagit_txt) }
     ensures declaration { IfOk result (λ declaration. IsTrue (T.state tree.old).honest → AreListed (T.state tree.old).bag files.now
         → IsReadOf IsDeclarationOf (file (T.state tree.old).bag bagit_txt) declaration) }
     ensures stop { IfErr result (MayStopIf (AsksFor bagit_txt) files.now (T.state tree.old) (T.state tree.new)) }

@@ -1,5 +1,5 @@
 //! What is known of the manifests of one kind.
-ghost use Rattle.std.specs.Prelude.{◌≡◌, ◌↔◌, ◌∷◌, [], IsTrue, IfOk, IfErr, Contains};
+ghost use Rattle.std.specs.Prelude.{◌≡◌, ◌↔◌, ◌∷◌, [], IsTrue, IfOk, IfErr, OnOk, Contains};
 ghost use Rattle.std.specs.List.Sorted.{IsPermutation, IsSortedByKey};
 ghost use Rattle.std.specs.Option.{option_copied};
 ghost use Rattle.bag_text.specs.Text.{text_cmp};
@@ -7,7 +7,7 @@ ghost use Rattle.bag_store.specs.Bag.{file};
 ghost use Rattle.bag_report.specs.Facts.{IsReadOf, IsManifestOf, AreManifestsOf};
 ghost use Rattle.bag_report.specs.Manifests.{AreByPath, entry_paths};
 ghost use Rattle.bag_report.specs.Parts.{known_of};
-ghost use Rattle.bag_report.specs.Steps.{ReadsAmong, AreListed, MayStopIf, AsksMore, manifest_paths};
+ghost use Rattle.bag_report.specs.Steps.{ReadsAmong, AreListed, IsSeenAt, AreManifestsSeen, MayStopIf, AsksMore, manifest_paths};
 ghost use Rattle.bag_report.specs.TagFiles.{manifest_of};
 
 use crate::fact_stop::stop_without_path;
@@ -70,6 +70,8 @@ impl ManifestFacts {
         kind: Kind,
     ) -> Result<ManifestFacts, Stop>
         ensures reads { ReadsAmong (manifest_paths kind) (T.state tree.old) (T.state tree.new) }
+        ensures calm { OnOk result ((T.state tree.new).failures ≡ (T.state tree.old).failures) }
+        ensures seen { IfOk result (AreManifestsSeen files.now kind) }
         ensures manifests { IfOk result (λ manifests. IsTrue (T.state tree.old).honest → AreListed (T.state tree.old).bag files.now
             → AreManifestsOf (T.state tree.old).bag kind manifests) }
         ensures stop { IfErr result (MayStopIf AsksMore files.now (T.state tree.old) (T.state tree.new)) }
@@ -108,6 +110,8 @@ fn manifest_at<T: Tree>(
     alg: Alg,
 ) -> Result<Option<Manifest>, Stop>
     ensures reads { ReadsAmong (manifest_of kind alg ∷ []) (T.state tree.old) (T.state tree.new) }
+    ensures calm { OnOk result ((T.state tree.new).failures ≡ (T.state tree.old).failures) }
+    ensures seen { IfOk result (IsSeenAt (IsManifestOf kind alg) files.now (manifest_of kind alg)) }
     ensures manifest { IfOk result (λ read. IsTrue (T.state tree.old).honest → AreListed (T.state tree.old).bag files.now
         → IsReadOf (IsManifestOf kind alg) (file (T.state tree.old).bag (manifest_of kind alg)) read) }
     ensures stop { IfErr result (MayStopIf AsksMore files.now (T.state tree.old) (T.state tree.new)) }

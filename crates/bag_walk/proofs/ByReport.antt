@@ -14,10 +14,11 @@ pub run_by_report : (old new : TreeState) (request : Request) (before after : Op
     → IsRun old new request before after refused outcome → IsRunByReport old new request before after refused outcome
 run_by_report old new request before after refused outcome run honest report is =
     let faults : List Fault = above request.after report in
-    let asked = above_report old.bag request report is in
-    let front = first_is_front (IsAsked old.bag request) run.shown faults (run.faults honest) asked in
+    let same : run.seen ≡ old.bag = run.honest honest in
+    let asked = above_report run.seen request report (subst (λ bag. IsReport bag request.options report) (sym same) is) in
+    let front = first_is_front (IsAsked run.seen request) run.shown faults run.faults asked in
     let whole : ReachesEnd run.ending → length run.shown ≡ length faults =
-    λ reached. ap length (all_is_list (IsAsked old.bag request) run.shown faults (run.faults honest) asked (run.all_shown honest reached)) in
+    λ reached. ap length (all_is_list (IsAsked run.seen request) run.shown faults run.faults asked (run.all_shown reached)) in
     record {
       count = length run.shown;
       ending = run.ending;

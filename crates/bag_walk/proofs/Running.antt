@@ -1,5 +1,5 @@
 -- A run, by what it has at hand.
-use Rattle.std.proofs.Common.{◌≡◌, ℕ, ◌<◌, ◌≤◌, inl, ◌&&◌, Bool, true, false, List, [], length, take, filter, Option, None, Some, Contains, IsTrue, refl, ap, sym, ◌∙◌, subst, arith}
+use Rattle.std.proofs.Common.{◌≡◌, ℕ, ◌<◌, ◌≤◌, inl, ◌&&◌, Bool, true, false, true≢false, List, [], length, take, filter, Option, None, Some, Contains, IsTrue, refl, ap, sym, ◌∙◌, subst, arith}
 use Rattle.std.proofs.lemmas.Grind.{common_steps}
 use Rattle.std.specs.List.{concat}
 use Rattle.std.specs.Io.KnownBytes.{Appends}
@@ -16,8 +16,8 @@ use Rattle.bag_report.specs.declared.options.Options.{Options}
 use Rattle.bag_report.specs.FaultOrder.{fault_cmp}
 use Rattle.bag_report.specs.Facts.{MayStop}
 use Rattle.bag_report.specs.Report.{asks, IsReport, IsStageOf}
-use Rattle.bag_walk.specs.Run.{AreFirst, IsAsked, IsRun, MayEnd, ReachesEnd, Wrote, written, limit_of}
-use Rattle.bag_walk.specs.Runner.{AreAsked}
+use Rattle.bag_walk.specs.Run.{AreFirst, IsAsked, IsAnswered, IsRun, MayEnd, ReachesEnd, Wrote, written, limit_of}
+use Rattle.bag_walk.specs.Runner.{AreAskedOf}
 use Rattle.bag_walk.specs.Writer.{Closes, WritesReport, IsOutOfMemory}
 use Rattle.bag_walk.specs.declared.outcome.Outcome.{Outcome}
 use Rattle.bag_walk.specs.declared.outcome.Outcome.TheVariants.{Clean, Faults, Stopped, Rest, Unread, Unwritten}
@@ -51,7 +51,7 @@ stage_is_report bag options faults d list =
 
 -- a stop for want of memory is one that any tree may show
 pub memory_may_stop : (options : Options) (old new : TreeState) (stop : Stop) → IsOutOfMemory stop → MayStop options old new stop
-memory_may_stop options old new stop m = record { cause = rw m.0 tt; path = inl m.1; memory = λ _. m.1 }
+memory_may_stop options old new stop m = record { cause = rw m.0 tt; path = inl m; memory = λ _. m.1 }
 
 wider_end : (request : Request) (n : ℕ) (P Q : Stop → Type 0) (ending : Outcome) → ((stop : Stop) → P stop → Q stop) → MayEnd request n P ending → MayEnd request n Q ending
 wider_end request n P Q Clean more m = m
@@ -66,27 +66,38 @@ take_whole faults n e = grind (arith, common_steps)
 
 module _ (old new : TreeState) (asking : Request) (before after : Option (List ℕ)) (refused : Bool) (outcome : Outcome) where
   -- the faults that are asked for were written
-  pub run_of_report : (faults : List Fault) → (IsTrue old.honest → AreAsked old.bag asking faults) → WritesReport asking faults IsOutOfMemory before after refused outcome
+  pub run_of_report : (faults : List Fault) → new.failures ≡ old.failures → AreAskedOf old asking faults → WritesReport asking faults IsOutOfMemory before after refused outcome
       → IsRun old new asking before after refused outcome
-  run_of_report faults asked writes = record {
+  run_of_report faults calm asked writes = record {
+    seen = asked.seen;
+    honest = asked.honest;
     shown = take writes.count faults;
     ending = writes.ending;
     may_end = subst (λ n. MayEnd asking n (MayStop asking.options old new) writes.ending) (sym (take_length writes.count faults writes.within))
         (wider_end asking writes.count IsOutOfMemory (MayStop asking.options old new) writes.ending (memory_may_stop asking.options old new) writes.may_end);
+    calm = λ answered. calm;
     wrote = writes.wrote;
-    faults = λ honest. front_is_first (IsAsked old.bag asking) writes.count faults (asked honest);
-    all_shown = λ honest reached f is.
-        subst (λ shown. Contains shown f) (sym (take_whole faults writes.count (writes.all reached))) (((asked honest).members f).1 is);
+    faults = front_is_first (IsAsked asked.seen asking) writes.count faults asked.asked;
+    all_shown = λ reached f is.
+        subst (λ shown. Contains shown f) (sym (take_whole faults writes.count (writes.all reached))) ((asked.asked.members f).1 is);
   }
 
   -- no fault was looked at
-  pub run_of_close : (ending : Outcome) → MayEnd asking 0 (MayStop asking.options old new) ending → (ReachesEnd ending → ⊥) → Closes asking ending before after refused outcome
-      → IsRun old new asking before after refused outcome
-  run_of_close ending m never closes = record {
+  pub run_of_close : (ending : Outcome) → MayEnd asking 0 (MayStop asking.options old new) ending → (ReachesEnd ending → ⊥) → (IsAnswered ending → new.failures ≡ old.failures)
+      → Closes asking ending before after refused outcome → IsRun old new asking before after refused outcome
+  run_of_close ending m never calm closes = record {
+    seen = old.bag;
+    honest = λ is. refl;
     shown = [];
     ending = ending;
     may_end = m;
+    calm = calm;
     wrote = wrote_closed asking (MayStop asking.options old new) [] before before after refused ending outcome m (Appends-nil before) closes;
-    faults = λ honest. nothing_is_first (IsAsked old.bag asking);
-    all_shown = λ honest reached. absurd (never reached);
+    faults = nothing_is_first (IsAsked old.bag asking);
+    all_shown = λ reached. absurd (never reached);
   }
+
+-- an honest tree's bag, or another one
+pub seen_of : (P : Bag → Type 0) (honest : Bool) (held : Bag) → (IsTrue honest → P held) → ((bag : Bag) × P bag) → (bag : Bag) × (IsTrue honest → bag ≡ held) × P bag
+seen_of P true held of_held other = (held, (λ is. refl), of_held refl)
+seen_of P false held of_held other = (other.0, (λ is. absurd (true≢false (sym is))), other.1)

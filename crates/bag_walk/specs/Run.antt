@@ -74,16 +74,29 @@ ReachesEnd (Stopped n) = ⊥
 ReachesEnd (Unread n stop) = ⊥
 ReachesEnd (Unwritten n) = ⊥
 
--- The run theorem. Whatever the tree, a run shows some faults and ends in a way that the request and the refusals
--- allow, and what it writes is their lines and its closing line, or where the output refuses a proper prefix of that.
--- Over an honest tree those faults are the first ones that are asked for, and where the end is reached they are all.
+-- the tree refused nothing that the run asked of it
+abbrev pub IsAnswered : Outcome → Type 0
+IsAnswered Clean = ⊤
+IsAnswered (Faults n) = ⊤
+IsAnswered (Stopped n) = ⊤
+IsAnswered (Rest n) = ⊤
+IsAnswered (Unread n stop) = ⊥
+IsAnswered (Unwritten n) = ⊥
+
+-- The run theorem. Whatever the tree, a run sees a bag, which is an honest tree's bag. It shows the first faults of that
+-- bag that are asked for, and where the end is reached they are all. It ends in a way that the request and the refusals
+-- allow, at a refused read where the device failed. What it writes is the lines of those faults and its closing line, or
+-- where the output refuses a proper prefix of that.
 pub record IsRun (old new : TreeState) (request : Request) (before after : Option (List ℕ)) (refused : Bool) (outcome : Outcome) : Type 0 where
+  pub seen : Bag
+  pub honest : IsTrue old.honest → seen ≡ old.bag
   pub shown : List Fault
   pub ending : Outcome
   pub may_end : MayEnd request (length shown) (MayStop request.options old new) ending
+  pub calm : IsAnswered ending → new.failures ≡ old.failures
   pub wrote : Wrote request shown ending before after refused outcome
-  pub faults : IsTrue old.honest → AreFirst (IsAsked old.bag request) shown
-  pub all_shown : IsTrue old.honest → ReachesEnd ending → (f : Fault) → IsAsked old.bag request f → Contains shown f
+  pub faults : AreFirst (IsAsked seen request) shown
+  pub all_shown : ReachesEnd ending → (f : Fault) → IsAsked seen request f → Contains shown f
 
 -- the outcome at the end of the report
 abbrev pub ended : Option Fault → ℕ → Outcome

@@ -1,7 +1,8 @@
 -- The faults that a run has at hand.
-use Rattle.std.specs.Prelude.{List}
+use Rattle.std.specs.Prelude.{◌≡◌, IsTrue, List}
 use Rattle.bag_text.specs.Order.{IsListOf}
 use Rattle.bag_store.specs.Bag.{Bag}
+use Rattle.bag_store.specs.Tree.{TreeState}
 use Rattle.bag_report.specs.declared.fault.Fault.{Fault}
 use Rattle.bag_report.specs.FaultOrder.{fault_cmp}
 use Rattle.bag_walk.specs.Run.{IsAsked}
@@ -10,3 +11,9 @@ use Rattle.bag_walk.specs.declared.outcome.Request.{Request}
 -- all faults of the bag that the request asks for, in their order
 abbrev pub AreAsked : Bag → Request → List Fault → Type 0
 AreAsked bag request faults = IsListOf fault_cmp (IsAsked bag request) faults
+
+-- all faults that the request asks for of a bag: an honest tree's bag, and of any other tree some bag
+pub record AreAskedOf (old : TreeState) (request : Request) (faults : List Fault) : Type 0 where
+  pub seen : Bag
+  pub honest : IsTrue old.honest → seen ≡ old.bag
+  pub asked : AreAsked seen request faults

@@ -1,5 +1,5 @@
 //! A whole run.
-ghost use Rattle.std.specs.Prelude.{◌≡◌, List, Some, IsTrue, IfOk, IfErr};
+ghost use Rattle.std.specs.Prelude.{◌≡◌, List, Some, IfOk, IfErr, OnOk};
 ghost use Rattle.bag_store.specs.Tree.{Keeps};
 ghost use Rattle.bag_report.specs.Facts.{IsFactsOf, MayStop, OpensWanted};
 ghost use Rattle.bag_report.specs.Report.{above, IsStageOf};
@@ -8,7 +8,7 @@ ghost use Rattle.bag_store.specs.Bag.{Bag};
 ghost use Rattle.std.specs.Option.{option_copied};
 ghost use Rattle.bag_report.specs.declared.options.Depth.TheVariants.{Declaration};
 ghost use Rattle.bag_walk.specs.Run.{IsRun, IsRunByReport};
-ghost use Rattle.bag_walk.specs.Runner.{AreAsked};
+ghost use Rattle.bag_walk.specs.Runner.{AreAskedOf};
 
 use crate::report_writer::{close, out_of_memory, write_report};
 use crate::{Outcome, Request};
@@ -56,7 +56,8 @@ fn faults_asked<T: Tree>(alloc: Global, tree: &mut T, request: &Request) -> Resu
     requires { request.now.options.depth ≡ Declaration }
     ensures keeps { Keeps (T.state tree.old) (T.state tree.new) }
     ensures opens { OpensWanted request.now.options (T.state tree.old) (T.state tree.new) }
-    ensures faults { IfOk result (λ faults. IsTrue (T.state tree.old).honest → AreAsked (T.state tree.old).bag request.now faults.items) }
+    ensures calm { OnOk result ((T.state tree.new).failures ≡ (T.state tree.old).failures) }
+    ensures faults { IfOk result (λ faults. AreAskedOf (T.state tree.old) request.now faults.items) }
     ensures stop { IfErr result (MayStop request.now.options (T.state tree.old) (T.state tree.new)) }
 {
     let facts = Facts::read(alloc, tree, request.options)?;

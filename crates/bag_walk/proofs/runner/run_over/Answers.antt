@@ -12,13 +12,13 @@ returns-then-limit-eq0-clause-opens g c =
 pub returns-then-limit-eq0-clause-run : goal.returns-then-limit-eq0-clause-run
 returns-then-limit-eq0-clause-run g c =
     let limit : limit_of c.args.request.now ≡ 0 = sym c.unwrap_or-limit.ensures ∙ c.if-limit-eq0.true in
-    run_of_close _ _ c.args.request.now _ _ _ _ (Stopped 0) (refl, sym limit) (λ reached. reached) c.close.ensures
+    run_of_close _ _ c.args.request.now _ _ _ _ (Stopped 0) (refl, sym limit) (λ reached. reached) (λ answered. refl) c.close.ensures
 
 pub returns-in-Ok-clause-run : goal.returns-in-Ok-clause-run
 returns-in-Ok-clause-run g c =
-    run_of_report _ _ c.args.request.now _ _ _ _ c.in-Ok.faults.items c.in-Ok.ensures.faults (rw c.deref.ensures.value at c.write_report.ensures)
+    run_of_report _ _ c.args.request.now _ _ _ _ c.in-Ok.faults.items c.in-Ok.ensures.calm c.in-Ok.ensures.faults (rw c.deref.ensures.value at c.write_report.ensures)
 
 pub returns-in-Err-clause-run : goal.returns-in-Err-clause-run
 returns-in-Err-clause-run g c =
     let some : 0 < limit_of c.args.request.now = omega (arith, c.unwrap_or-limit.ensures, c.if-limit-eq0.false) in
-    run_of_close _ _ c.args.request.now _ _ _ _ (Unread 0 c.in-Err.stop) (refl, some, c.in-Err.ensures.stop) (λ reached. reached) c.close-in-Err.ensures
+    run_of_close _ _ c.args.request.now _ _ _ _ (Unread 0 c.in-Err.stop) (refl, some, c.in-Err.ensures.stop) (λ reached. reached) (λ answered. absurd answered) c.close-in-Err.ensures

@@ -1,9 +1,11 @@
-use Rattle.std.proofs.Common.{◌≡◌, ◌⊎◌, inl, inr, refl, rules}
-use Rattle.bag_report.specs.Facts.{MayStop}
-use Rattle.bag_report.specs.Steps.{AsksFor, AsksMore}
+use Rattle.std.proofs.Common.{◌≡◌, inl, refl, rules, subst}
+use Rattle.bag_report.specs.declared.options.Depth.TheVariants.{Declaration}
+use Rattle.bag_report.specs.Facts.{IsDeclarationOf, MayStop}
+use Rattle.bag_report.specs.Steps.{AsksFor, AsksMore, IsSeenAt, AreTagFactsSeen}
 use Rattle.bag_report.specs.TagFiles.{bagit_txt}
 use Rattle.bag_report.proofs.Opens.{opens_none}
 use Rattle.bag_report.proofs.Steps.{opens_declaration, opens_tag_files, stops_listed, passed_on}
+use Rattle.bag_report.proofs.Seen.{declaration_seen, tag_files_seen}
 use Rattle.bag_report.proofs.facts.Facts.read.Goals as goal
 
 pub returns-in-Err-clause-opens : goal.returns-in-Err-clause-opens
@@ -50,3 +52,19 @@ returns-clause-opens g c =
     let state = g.T.Tree.state in
     let more : AsksMore c.args.options = search rules in
     opens_tag_files c.args.options (state c.args.tree.now) (state c.list.new.self) (state c.read_tags.new.tree) more c.list.ensures.openings c.read_tags.ensures.reads
+
+pub returns-then-eq-clause-seen : goal.returns-then-eq-clause-seen
+returns-then-eq-clause-seen g c =
+    let listing = c.in-Ok.listing in
+    let depth : c.args.options.depth ≡ Declaration = search rules in
+    declaration_seen c.args.options listing c.in_ok-declaration.declaration depth c.in-Ok.ensures.ordered
+    (subst (λ files. IsSeenAt IsDeclarationOf files bagit_txt c.in_ok-declaration.declaration) c.as_slice.ensures c.in_ok-declaration.ensures.seen)
+
+pub returns-clause-seen : goal.returns-clause-seen
+returns-clause-seen g c =
+    let listing = c.in-Ok.listing in
+    let more : AsksMore c.args.options = search rules in
+    let read = c.in_ok-declaration-2 in
+    tag_files_seen c.args.options listing read.declaration read.tags more c.in-Ok.ensures.ordered
+    (subst (λ files. IsSeenAt IsDeclarationOf files bagit_txt read.declaration) c.as_slice-2.ensures read.ensures.seen.0)
+    (subst (λ files. AreTagFactsSeen files read.tags) c.as_slice-2.ensures read.ensures.seen.1)
