@@ -1,6 +1,6 @@
 -- Sorting the places of lines by the paths that they name finds those that name a path again.
 use Rattle.std.proofs.Common.{◌≡◌, ◌≢◌, ℕ, zero, suc, ◌+◌, ◌-◌, ◌<◌, ◌≤◌, inl, inr, Bool, true, false, ◌&&◌, cond, List, [], ◌∷◌, length, get_or, map, refl, ap, sym, ◌∙◌, subst, Some, bytes_eq, nat_lt, arith, rules}
-use Rattle.std.specs.Prelude.{Contains}
+use Rattle.std.specs.Prelude.{All, Contains}
 use Rattle.std.specs.Option.{is_none}
 use Rattle.std.specs.List.{slice_get, list_any}
 use Rattle.std.specs.List.Sorted.{IsPermutation, IsSortedBy, IsStrictlySortedBy}
@@ -23,7 +23,8 @@ use Rattle.std.proofs.lemmas.Slice.Eq.{bytes_eq-Decides}
 use Rattle.bag_text.specs.Text.{text_cmp}
 use Rattle.bag_text.proofs.ListOf.{contains_cases, contains_nothing, contains_front, contains_back, contains_either, ascending_joined}
 use Rattle.bag_tags.specs.declared.manifest_line.Judged.{Judged}
-use Rattle.bag_tags.specs.Repeats.{line_cmp, places_from, IsRepeatAt, FollowsSame}
+use Rattle.bag_tags.specs.Fingerprint.{fingerprint}
+use Rattle.bag_tags.specs.Repeats.{line_cmp, Place, HasFingerprint, pair_of, places_from, IsRepeatAt, FollowsSame}
 use Rattle.bag_tags.proofs.PickedOut.{any_from, from_any, both_true}
 
 -- the line at this place reads and names this path
@@ -97,31 +98,42 @@ places_ascend n (j ∷ js) =
     let behind = back.1 in
     less x.1 y.1 (omega arith))
 
+-- the order of paths: by fingerprint, then by text
+abbrev path_cmp : List ℕ → List ℕ → Ordering
+path_cmp = then_cmp (on fingerprint nat_cmp) text_cmp
+
 -- the order of pairs: by path, then by place
 abbrev pub pair_cmp : List ℕ × ℕ → List ℕ × ℕ → Ordering
-pair_cmp = then_cmp (on (λ x. x.0) text_cmp) (on (λ x. x.1) nat_cmp)
+pair_cmp = then_cmp (on (λ x. x.0) path_cmp) (on (λ x. x.1) nat_cmp)
 
 pair_total : IsTotalOrder pair_cmp
 pair_total = search (comparing, rules)
 
-text_total : IsTotalOrder text_cmp
-text_total = search (comparing, rules)
+path_total : IsTotalOrder path_cmp
+path_total = search (comparing, rules)
 
-pub sorted_map : {X Y : Type 0} (f : X → Y) (lt : Y → Y → Bool) (xs : List X) → IsSortedBy (λ x y. lt (f x) (f y)) xs → IsSortedBy lt (map f xs)
-sorted_map f lt [] up = λ k d low high. absurd (omega arith)
-sorted_map f lt (x ∷ xs) up = λ k d low high.
-    let within : k + 1 < length (x ∷ xs) = omega (arith, length-map (x ∷ xs) f) in
-    let here = get_or-map f (x ∷ xs) k x d (omega arith) in
-    let next = get_or-map f (x ∷ xs) (k + 1) x d within in
-    rw (next, here) (up k x low within)
+-- the order of places: by what they hold, one after the other
+abbrev pub place_cmp : Place → Place → Ordering
+place_cmp = then_cmp (then_cmp (on (λ x. x.0) nat_cmp) (on (λ x. x.1.now) text_cmp)) (on (λ x. x.2) nat_cmp)
+
+-- where each place has its path's fingerprint, sorted places are sorted pairs
+pub sorted_places : (xs : List Place) → All HasFingerprint xs → IsSortedBy (λ x y. is_lt (place_cmp x y)) xs → IsSortedBy (λ x y. is_lt (pair_cmp x y)) (map pair_of xs)
+sorted_places [] has up = λ k d low high. absurd (omega arith)
+sorted_places (x ∷ xs) has up = λ k d low high.
+    let within : k + 1 < length (x ∷ xs) = omega (arith, length-map (x ∷ xs) pair_of) in
+    let here = get_or-map pair_of (x ∷ xs) k x d (omega arith) in
+    let next = get_or-map pair_of (x ∷ xs) (k + 1) x d within in
+    let one = has k x (omega arith) in
+    let two = has (k + 1) x within in
+    rw (next, here) (rw (one, two) at (up k x low within))
 
 same_order : (o : Ordering) → o ≡ ordering_reverse o → o ≡ Equal
 same_order Less e = cc
 same_order Equal e = refl
 same_order Greater e = cc
 
-itself : (path : List ℕ) → text_cmp path path ≡ Equal
-itself path = same_order (text_cmp path path) (text_total.antisymm path path)
+itself : (path : List ℕ) → path_cmp path path ≡ Equal
+itself path = same_order (path_cmp path path) (path_total.antisymm path path)
 
 no_less : (o : Ordering) → is_lt o ≡ false → o ≢ Less
 no_less Less e h = cc
@@ -142,6 +154,14 @@ neither_less Greater Greater h k e = cc
 
 text_same : (xs ys : List ℕ) → text_cmp xs ys ≡ Equal → xs ≡ ys
 text_same xs ys e = (bytes_eq-Decides xs ys).0 (sym (is_eq-slice_cmp xs ys) ∙ ap is_eq e)
+
+second_equal : (o p : Ordering) → ordering_then o p ≡ Equal → p ≡ Equal
+second_equal Less p e = cc
+second_equal Equal p e = e
+second_equal Greater p e = cc
+
+path_same : (xs ys : List ℕ) → path_cmp xs ys ≡ Equal → xs ≡ ys
+path_same xs ys e = text_same xs ys (second_equal (nat_cmp (fingerprint xs) (fingerprint ys)) (text_cmp xs ys) e)
 
 -- a line is lower than another just where the order says so
 pub lower : (m n : ℕ) → nat_cmp m n ≡ Less → m < n
@@ -171,6 +191,24 @@ test_lt m n e = grind (arith, nat_tests)
 
 get_or_default : (xs : List (List ℕ × ℕ)) (k : ℕ) (x d : List ℕ × ℕ) → k < length xs → get_or xs k x ≡ x → get_or xs k d ≡ x
 get_or_default xs k x d w e = get_or_from_slice_get xs k x d (slice_get-get_or xs k x w ∙ ap Some e)
+
+module _ (all : List Judged) (up : IsStrictlySortedBy line_cmp all) where
+  -- lines stand in their order
+  pub line_below : (i j : ℕ) (x y : Judged) → i < j → slice_get all i ≡ Some x → slice_get all j ≡ Some y → x.line < y.line
+  line_below i j x y h e f =
+      let first = get_or_from_slice_get all i x x e in
+      let next = get_or_from_slice_get all j y x f in
+      lower x.line y.line (rw (first, next) at (Less-from_sorted line_cmp all i j x up h (slice_get_within all j y f)))
+
+  pub first_place_of : (i m : ℕ) (j x : Judged) → slice_get all i ≡ Some j → slice_get all m ≡ Some x → x.line < j.line → m < i
+  first_place_of i m j x e f low =
+      elim (cases_lt m i) [
+        | inl l ↦ l
+        | inr g ↦ elim (eq-or-lt_of_le g) [
+          | inl s ↦ (let same_line : Some x ≡ Some j = sym f ∙ ap (slice_get all) (sym s) ∙ e in let is : x ≡ j = cc in absurd (omega (arith, ap (λ (y : Judged). y.line) is)))
+          | inr l ↦ (let above = line_below i m j x l e f in absurd (omega arith))
+        ]
+      ]
 
 module _ (all : List Judged) (up : IsStrictlySortedBy line_cmp all) (named : List (List ℕ × ℕ)) (perm : IsPermutation (places_from 0 all) named) (sorted : IsSortedBy (λ x y. is_lt (pair_cmp x y)) named) where
   abbrev pairs : List (List ℕ × ℕ)
@@ -204,12 +242,6 @@ module _ (all : List Judged) (up : IsStrictlySortedBy line_cmp all) (named : Lis
   not_before : (path : List ℕ) (i j : ℕ) → is_lt (pair_cmp (path, i) (path, j)) ≡ false → i < j → ⊥
   not_before path i j e h = let clash : true ≡ false = sym (rw (itself path, less i j h) refl) ∙ e in cc
 
-  line_below : (i j : ℕ) (x y : Judged) → i < j → slice_get all i ≡ Some x → slice_get all j ≡ Some y → x.line < y.line
-  line_below i j x y h e f =
-      let first = get_or_from_slice_get all i x x e in
-      let next = get_or_from_slice_get all j y x f in
-      lower x.line y.line (rw (first, next) at (Less-from_sorted line_cmp all i j x up h (slice_get_within all j y f)))
-
   earlier : (k i j : ℕ) (path : List ℕ) → k + 1 < length named → slice_get named k ≡ Some (path, j) → slice_get named (k + 1) ≡ Some (path, i) → j < i
   earlier k i j path h e f =
       let here = get_or_from_slice_get named k (path, j) (path, i) e in
@@ -226,21 +258,11 @@ module _ (all : List Judged) (up : IsStrictlySortedBy line_cmp all) (named : Lis
   follows_is_repeat i (k, path, j, h, e, f) =
       let first = pair_names (path, j) (at_place k (path, j) e) in
       let later = pair_names (path, i) (at_place (k + 1) (path, i) f) in
-      let low = line_below j i first.0 later.0 (earlier k i j path h e f) first.1 later.1 in
+      let low = line_below all up j i first.0 later.0 (earlier k i j path h e f) first.1 later.1 in
       let test : names_before later.0 first.0 ≡ true =
       rw (first.2, lt_test first.0.line later.0.line low) ((bytes_eq-Decides first.0.text later.0.text).1 (first.3 ∙ sym later.3)) in
       let there : Contains all first.0 = (j, slice_get_within all j first.0 first.1, get_or_from_slice_get all j first.0 first.0 first.1) in
       (later.0, later.1, rw later.2 (any_from (names_before later.0) all first.0 there test))
-
-  first_place_of : (i m : ℕ) (j x : Judged) → slice_get all i ≡ Some j → slice_get all m ≡ Some x → x.line < j.line → m < i
-  first_place_of i m j x e f low =
-      elim (cases_lt m i) [
-        | inl l ↦ l
-        | inr g ↦ elim (eq-or-lt_of_le g) [
-          | inl s ↦ (let same_line : Some x ≡ Some j = sym f ∙ ap (slice_get all) (sym s) ∙ e in let is : x ≡ j = cc in absurd (omega (arith, ap (λ (y : Judged). y.line) is)))
-          | inr l ↦ (let above = line_below i m j x l e f in absurd (omega arith))
-        ]
-      ]
 
   far : (a b : ℕ) (d : List ℕ × ℕ) → a ≤ b → b < length named → is_lt (pair_cmp (get_or named b d) (get_or named a d)) ≡ false
   far a b d h w = sorted_far (λ x y. is_lt (pair_cmp x y)) (ranks_by pair_total (λ x. x)) named sorted a b d h w
@@ -257,8 +279,8 @@ module _ (all : List Judged) (up : IsStrictlySortedBy line_cmp all) (named : Lis
       let wp : p < length named = omega arith in
       let one = rw ea at (far a p d h wp) in
       let two = rw eb at (far p b d (omega arith) wb) in
-      let equal = neither_less (text_cmp q.0 path) (text_cmp path q.0) (first_no_less _ _ one) (first_no_less _ _ two) (text_total.antisymm q.0 path) in
-      let is : q.0 ≡ path = text_same q.0 path equal in
+      let equal = neither_less (path_cmp q.0 path) (path_cmp path q.0) (first_no_less _ _ one) (first_no_less _ _ two) (path_total.antisymm q.0 path) in
+      let is : q.0 ≡ path = path_same q.0 path equal in
       let pair : ◌≡◌ {A = List ℕ × ℕ} q (path, q.1) = λ t. (is t, q.1) in
       let after : slice_get named b ≡ Some (path, i) = slice_get-get_or named b d wb ∙ ap Some eb in
       (p, path, q.1, omega arith, slice_get-get_or named p d wp ∙ ap Some pair, ap (slice_get named) step ∙ after)
@@ -273,7 +295,7 @@ module _ (all : List Judged) (up : IsStrictlySortedBy line_cmp all) (named : Lis
       let inner = both_true (is_none x.wrong) (nat_lt x.line j.line) outer.0 in
       let m = some.1.0 in
       let at : slice_get all m ≡ Some x = slice_get-get_or all m x some.1.1 ∙ ap Some some.1.2 in
-      let h = first_place_of i m j x e at (test_lt x.line j.line inner.1) in
+      let h = first_place_of all up i m j x e at (test_lt x.line j.line inner.1) in
       let first = names_pair m j.text (x, at, inner.0, (bytes_eq-Decides x.text j.text).0 outer.1) in
       let later = names_pair i j.text (j, e, two.0, refl) in
       let d : List ℕ × ℕ = (j.text, i) in

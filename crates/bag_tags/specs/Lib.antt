@@ -1,5 +1,6 @@
 pub mod Declaration
 pub mod DeclarationFaults
+pub mod Fingerprint
 pub mod Judged
 pub mod LineFault
 pub mod Manifest

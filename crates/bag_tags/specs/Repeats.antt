@@ -1,11 +1,14 @@
 -- Lines of a manifest that name a path again (RFC 8493, 2.1.3).
-use Rattle.std.specs.Prelude.{ℕ, ◌≡◌, ◌+◌, ◌<◌, ◌++◌, List, [], ◌∷◌, length, Some, if◌then◌else◌, slice_get, IsTrue, Contains}
+use Rattle.std.specs.Prelude.{ℕ, ◌≡◌, ◌+◌, ◌<◌, ◌++◌, List, [], ◌∷◌, length, Some, if◌then◌else◌, slice_get, slice_index_or, IsTrue, Contains}
 use Rattle.std.specs.Borrow.{Bor}
 use Rattle.std.specs.Option.{is_none}
 use Rattle.std.specs.declared.cmp.Ordering.{Ordering}
+use Rattle.std.specs.declared.cmp.Ordering.TheVariants.{Less}
 use Rattle.std.specs.Ordering.{nat_cmp, on}
+use Rattle.bag_text.specs.Text.{text_cmp}
 use Rattle.bag_text.specs.declared.code.Code.TheVariants.{NamedAgain}
 use Rattle.bag_tags.specs.declared.manifest_line.Judged.{Judged}
+use Rattle.bag_tags.specs.Fingerprint.{fingerprint}
 use Rattle.bag_tags.specs.Judged.{is_repeat}
 
 -- the order of lines
@@ -27,8 +30,19 @@ pub record IsMarked (places : List ℕ) (old new : List Judged) : Type 0 where
   pub same_but : (i : ℕ) (j k : Judged) → slice_get old i ≡ Some j → slice_get new i ≡ Some k → as_repeat k ≡ as_repeat j
   pub others : (i : ℕ) → ¬ (Contains places i) → slice_get new i ≡ slice_get old i
 
-abbrev pub pair_of : Bor (List ℕ) × ℕ → List ℕ × ℕ
-pair_of x = (x.0.now, x.1)
+-- the texts ascend, so that no two are the same
+abbrev pub AreAscending : List Judged → Type 0
+AreAscending all = (k : ℕ) (d : Judged) → k + 1 < length all → text_cmp (slice_index_or all k d).text (slice_index_or all (k + 1) d).text ≡ Less
+
+-- a path with its fingerprint and its place
+abbrev pub Place : Type 0
+Place = ℕ × Bor (List ℕ) × ℕ
+
+abbrev pub HasFingerprint : Place → Type 0
+HasFingerprint x = x.0 ≡ fingerprint x.1.now
+
+abbrev pub pair_of : Place → List ℕ × ℕ
+pair_of x = (x.1.now, x.2)
 
 -- the path of each line that reads, with the line's place
 abbrev pub places_from : ℕ → List Judged → List (List ℕ × ℕ)

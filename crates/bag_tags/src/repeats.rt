@@ -1,12 +1,14 @@
 //! Lines of a manifest that name a path again.
-ghost use Rattle.std.specs.Prelude.{◌≡◌, ◌↔◌, ◌+◌, ◌<◌, ℕ, IfOk, OnOk, Contains, length, map};
+ghost use Rattle.std.specs.Prelude.{◌≡◌, ◌↔◌, ◌+◌, ◌<◌, ℕ, IfOk, OnOk, All, Contains, IsTrue, bytes_eq, length, map};
 ghost use Rattle.std.specs.List.Sorted.{IsStrictlySortedBy};
 ghost use Rattle.bag_tags.specs.Judged.{settled};
-ghost use Rattle.bag_tags.specs.Repeats.{line_cmp, pair_of, places_from, IsRepeatAt, IsMarked, FollowsSame};
+ghost use Rattle.bag_tags.specs.Fingerprint.{fingerprint};
+ghost use Rattle.bag_tags.specs.Repeats.{line_cmp, pair_of, places_from, IsRepeatAt, IsMarked, AreAscending, FollowsSame, HasFingerprint};
 
 use crate::manifest_line::Judged;
 use bag_text::Code;
 use std::alloc::{AllocError, Global};
+use std::hash::{FoldHasher, Hasher};
 
 /// Marks each line that names the path of an earlier line. Takes time n log n in the number of lines.
 pub(crate) fn mark_repeats(alloc: Global, all: &mut Vec<Judged>) -> Result<(), AllocError>
@@ -33,35 +35,70 @@ fn repeats(alloc: Global, all: &[Judged]) -> Result<Vec<usize>, AllocError>
     requires { IsStrictlySortedBy line_cmp all.now }
     ensures { IfOk result (λ places. (i : ℕ) → Contains places.items i ↔ IsRepeatAt all.now i) }
 {
+    if is_ascending(all) {
+        return Ok(Vec::new(alloc));
+    }
     let mut named = named_places(alloc, all)?;
     named.sort_unstable();
     followers(alloc, named.as_slice())
 }
 
-/// The path of each line that reads, with the line's place.
-fn named_places(alloc: Global, all: &[Judged]) -> Result<Vec<(&str, usize)>, AllocError>
-    ensures { IfOk result (λ named. map pair_of named.items ≡ places_from 0 all.now) }
+/// Whether the paths ascend, so that none is named again. Most programs write them so.
+fn is_ascending(all: &[Judged]) -> bool
+    ensures { IsTrue result → AreAscending all.now }
+{
+    for k in 1..all.len() {
+        let before = all[k - 1].text.as_str();
+        if !before.cmp(all[k].text.as_str()).is_lt() {
+            return false;
+        }
+    }
+    true
+}
+
+/// The path of each line that reads, with its fingerprint and the line's place.
+fn named_places(alloc: Global, all: &[Judged]) -> Result<Vec<(u64, &str, usize)>, AllocError>
+    ensures places { IfOk result (λ named. map pair_of named.items ≡ places_from 0 all.now) }
+    ensures fingerprints { IfOk result (λ named. All HasFingerprint named.items) }
 {
     let mut named = Vec::new(alloc);
     for (place, judged) in all.iter().enumerate() {
         if judged.wrong.is_none() {
-            named.push((judged.text.as_str(), place))?;
+            let path = judged.text.as_str();
+            named.push((fingerprint(path), path, place))?;
         }
     }
     Ok(named)
 }
 
+/// A number of a path, which most often tells it from other paths.
+#[tactic(auto, unfolding(crate::specs::Fingerprint::fingerprint))]
+fn fingerprint(path: &str) -> u64
+    ensures { result ≡ fingerprint path.now }
+{
+    let mut hasher = FoldHasher::default();
+    hasher.write(path.as_bytes());
+    hasher.finish()
+}
+
 /// The places that stand behind another of the same path.
-fn followers(alloc: Global, named: &[(&str, usize)]) -> Result<Vec<usize>, AllocError>
+fn followers(alloc: Global, named: &[(u64, &str, usize)]) -> Result<Vec<usize>, AllocError>
+    requires { All HasFingerprint named.now }
     ensures { IfOk result (λ places. (i : ℕ) → Contains places.items i ↔ FollowsSame (map pair_of named.now) i) }
 {
     let mut places = Vec::new(alloc);
     for k in 1..named.len() {
-        let (before, _) = named[k - 1];
-        let (path, place) = named[k];
-        if before == path {
-            places.push(place)?;
+        if is_same_path(&named[k - 1], &named[k]) {
+            places.push(named[k].2)?;
         }
     }
     Ok(places)
+}
+
+/// Whether the paths are the same: most often their fingerprints tell.
+fn is_same_path(before: &(u64, &str, usize), after: &(u64, &str, usize)) -> bool
+    requires { HasFingerprint before.now × HasFingerprint after.now }
+    ensures { result ≡ bytes_eq before.now.1.now after.now.1.now }
+{
+    before.0 == after.0 && before.1 == after.1
 }

@@ -1,20 +1,36 @@
-use Rattle.std.proofs.Common.{map, subst}
-use Rattle.std.specs.Prelude.{Contains, ◌↔◌}
+use Rattle.std.proofs.Common.{map, sym, subst}
+use Rattle.std.specs.Prelude.{All, Contains, ◌↔◌}
 use Rattle.std.specs.List.Sorted.{IsPermutation, IsSortedBy}
 use Rattle.std.specs.Ordering.{is_lt}
 use Rattle.std.proofs.lemmas.Result.{IfOk-weaker}
-use Rattle.std.proofs.lemmas.List.Sorted.{IsPermutation-map}
-use Rattle.bag_tags.specs.Repeats.{pair_of, places_from, FollowsSame}
-use Rattle.bag_tags.proofs.SortedPlaces.{sorted_map, follows_is_repeat, repeat_follows, pair_cmp}
+use Rattle.std.proofs.lemmas.List.Sorted.{IsPermutation-map, All-permutation}
+use Rattle.bag_tags.specs.Repeats.{pair_of, places_from, HasFingerprint, AreAscending, FollowsSame}
+use Rattle.bag_text.proofs.ListOf.{contains_nothing}
+use Rattle.bag_tags.proofs.Ascending.{none_again}
+use Rattle.bag_tags.proofs.SortedPlaces.{sorted_places, follows_is_repeat, repeat_follows, pair_cmp}
 use Rattle.bag_tags.proofs.repeats.repeats.Goals as goal
+
+pub followers-requires : goal.followers-requires
+followers-requires c =
+    let has = All-permutation HasFingerprint _ c.sort_unstable.new.self.items c.sort_unstable.ensures.permutation c.in_ok-named.ensures.fingerprints in
+    subst (All HasFingerprint) (sym c.as_slice.ensures.value) has
+
+pub returns-then-is_ascending : goal.returns-then-is_ascending
+returns-then-is_ascending c =
+    let up : AreAscending c.args.all.now = c.is_ascending.ensures c.if-is_ascending.true in
+    λ i. (
+      λ d. absurd (contains_nothing i (subst (λ xs. Contains xs i) c.new.ensures.items d)),
+      λ r. absurd (none_again c.args.all.now up c.requires i r),
+    )
 
 pub returns : goal.returns
 returns c =
     let all = c.args.all.now in
     let sorted = c.sort_unstable.new.self.items in
     let named = map pair_of sorted in
-    let perm : IsPermutation (places_from 0 all) named = subst (λ e. IsPermutation e named) c.in_ok-named.ensures (IsPermutation-map pair_of _ sorted c.sort_unstable.ensures.permutation) in
-    let up : IsSortedBy (λ x y. is_lt (pair_cmp x y)) named = sorted_map pair_of (λ x y. is_lt (pair_cmp x y)) sorted c.sort_unstable.ensures.sorted in
+    let perm : IsPermutation (places_from 0 all) named = subst (λ e. IsPermutation e named) c.in_ok-named.ensures.places (IsPermutation-map pair_of _ sorted c.sort_unstable.ensures.permutation) in
+    let has : All HasFingerprint sorted = All-permutation HasFingerprint _ sorted c.sort_unstable.ensures.permutation c.in_ok-named.ensures.fingerprints in
+    let up : IsSortedBy (λ x y. is_lt (pair_cmp x y)) named = sorted_places sorted has c.sort_unstable.ensures.sorted in
     let to = follows_is_repeat all c.requires named perm up in
     let from = repeat_follows all c.requires named perm up in
     IfOk-weaker c.followers.result _ _
