@@ -2,7 +2,7 @@
 ghost use Rattle.std.specs.Prelude.{◌≡◌, ◌<◌, ◌≤◌, ◌∷◌, ◌++◌, [], None, IsTrue, IfOk, IfErr, OnOk, OnErr, length};
 ghost use Rattle.bag_store.specs.Bag.{IsBag, file};
 ghost use Rattle.bag_store.specs.Listing.{IsOrdered, IsListingOf};
-ghost use Rattle.bag_store.specs.Tree.{TreeState, Keeps, MayRefuse, IsOpen, Reads};
+ghost use Rattle.bag_store.specs.Tree.{TreeState, Keeps, MayRefuse, HasOpen, IsOpen, Reads};
 
 use crate::{Listing, TreeFault};
 
@@ -18,11 +18,12 @@ pub trait Tree {
     /// Lists all files with their sizes.
     ///
     /// `Device`, `Special` and `Name` come from the device, `TooMany` where there are more than 16,777,216 files and
-    /// folders. A listing opens no file.
+    /// folders. A listing opens no file, and leaves the one that is open.
     fn list(&mut self) -> Result<Listing, TreeFault>
         ensures keeps { Keeps (state self.old) (state self.new) }
         ensures calm { OnOk result ((state self.new).failures ≡ (state self.old).failures) }
         ensures openings { (state self.new).openings ≡ (state self.old).openings }
+        ensures rest { (state self.new).rest ≡ (state self.old).rest }
         ensures ordered { IfOk result (λ listing. IsOrdered listing.files) }
         ensures honest { IfOk result (λ listing. IsTrue (state self.old).honest → IsListingOf (state self.old).bag listing) }
         ensures refused { IfErr result (MayRefuse ⊥ ⊥ (state self.old) (state self.new)) };
@@ -32,6 +33,7 @@ pub trait Tree {
         ensures keeps { Keeps (state self.old) (state self.new) }
         ensures calm { OnOk result ((state self.new).failures ≡ (state self.old).failures) }
         ensures opened { OnOk result ((state self.new).openings ≡ (state self.old).openings ++ path.now ∷ []) }
+        ensures file_open { OnOk result (HasOpen (state self.new)) }
         ensures honest { OnOk result (IsTrue (state self.old).honest → IsOpen (file (state self.old).bag path.now) (state self.new).rest) }
         ensures closed { OnErr result ((state self.new).rest ≡ None) }
         ensures not_opened { OnErr result ((state self.new).openings ≡ (state self.old).openings) }
@@ -45,6 +47,7 @@ pub trait Tree {
         ensures keeps { Keeps (state self.old) (state self.new) }
         ensures calm { OnOk result ((state self.new).failures ≡ (state self.old).failures) }
         ensures openings { (state self.new).openings ≡ (state self.old).openings }
+        ensures file_open { OnOk result (HasOpen (state self.old) × HasOpen (state self.new)) }
         ensures within { IfOk result (λ n. n ≤ length buffer.old) }
         ensures honest { IfOk result (λ n. IsTrue (state self.old).honest → Reads (state self.old).rest (state self.new).rest n buffer.new) }
         ensures same { OnErr result ((state self.new).rest ≡ (state self.old).rest) }
