@@ -5,8 +5,10 @@ use Rattle.std.specs.Cmp.Lexicographic.{nat_list_cmp_total}
 use Rattle.std.specs.Cmp.{eq_by_cmp_equiv}
 use Rattle.std.proofs.lemmas.Grind.{common_steps}
 use Rattle.std.specs.Map.{lookup}
+use Rattle.std.specs.Option.{option_map}
 use Rattle.std.specs.BTreeMap.{is_at}
 use Rattle.bag_text.specs.Text.{text_cmp}
+use Rattle.bag_store.specs.Memory.{rest_of, bag_of}
 use Rattle.bag_store.specs.Tree.{Reads}
 use Rattle.bag_store.proofs.InMemory.{exact_texts}
 
@@ -17,6 +19,12 @@ find_lookup (e ∷ es) q = ap (cond (is_at (text_cmp q) e.0) (Some e.1)) (find_l
 -- the bytes at a path
 pub file_at : (es : List (List ℕ × List ℕ)) (q : List ℕ) → get (from_entries {R = text_cmp} es) q ≡ lookup (is_at (text_cmp q)) es
 file_at es q = get-from_entries nat_list_cmp_total es q ∙ find_lookup es q
+
+-- the rest of the open file
+pub rest_at : (files : List (List ℕ × List ℕ)) (folders : List (List ℕ)) (file : Option (List ℕ)) (path content : List ℕ) (at : ℕ)
+    → file ≡ Some path → lookup (is_at (text_cmp path)) files ≡ Some content → rest_of (bag_of files folders) file at ≡ Some (drop at content)
+rest_at files folders file path content at is place =
+    ap (λ path. rest_of (bag_of files folders) path at) is ∙ ap (option_map (drop at)) (file_at files path ∙ place)
 
 -- entries that differ at one path make maps that differ there
 pub one_put : (es fs : List (List ℕ × List ℕ)) (k v : List ℕ)

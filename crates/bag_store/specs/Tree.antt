@@ -1,5 +1,5 @@
 -- What the calls of a tree answer, and what they change.
-use Rattle.std.specs.Prelude.{◌≡◌, ℕ, ◌<◌, ◌≤◌, ◌↔◌, ◌⊎◌, Bool, IsTrue, List, [], ◌∷◌, ◌++◌, length, take, drop, Option, Some}
+use Rattle.std.specs.Prelude.{◌≡◌, ℕ, ◌<◌, ◌≤◌, ◌↔◌, ◌⊎◌, Bool, true, IsTrue, List, [], ◌∷◌, ◌++◌, length, take, drop, Option, Some, is_some}
 use Rattle.std.specs.Option.{option_map}
 use Rattle.bag_store.specs.Bag.{Bag, file}
 use Rattle.bag_store.specs.declared.listing.FileEntry.{FileEntry}
@@ -43,6 +43,10 @@ MayRefuse absent closed old new Changed = ⊥
 MayRefuse absent closed old new NoneOpen = closed
 MayRefuse absent closed old new Memory = Unit {0}
 MayRefuse absent closed old new Exists = ⊥
+
+-- a file is open
+abbrev pub HasOpen : TreeState → Type 0
+HasOpen state = is_some state.rest ≡ true
 
 -- the file that was opened is one of the bag's, and all of it is left
 abbrev pub IsOpen : Option (List ℕ) → Option (List ℕ) → Type 0

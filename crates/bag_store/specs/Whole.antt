@@ -1,16 +1,15 @@
 -- When a whole file is refused.
 use Rattle.std.specs.Prelude.{◌≡◌, IsTrue, None, Some, Option, List, ℕ, ◌++◌}
-use Rattle.bag_store.specs.Bag.{file}
+use Rattle.bag_store.specs.Bag.{file, HasFile}
 use Rattle.bag_store.specs.Tree.{TreeState, MayRefuse, IsEntryOf}
 use Rattle.bag_store.specs.declared.listing.FileEntry.{FileEntry}
 use Rattle.bag_store.specs.declared.fault.TreeFault.{TreeFault}
-use Rattle.bag_store.specs.declared.fault.TreeFault.TheVariants.{Changed, NoneOpen}
+use Rattle.bag_store.specs.declared.fault.TreeFault.TheVariants.{Changed}
 
--- More or fewer bytes are Changed, which an honest tree never shows for a file of its bag. No open file is lost by an
--- honest tree.
+-- More or fewer bytes are Changed, which an honest tree shows only for a file of its bag that is listed with another
+-- length. The file that was opened stays open.
 abbrev pub MayRefuseWhole : TreeState → TreeState → FileEntry → TreeFault → Type 0
-MayRefuseWhole old new entry Changed = IsTrue old.honest → IsEntryOf old.bag entry → ⊥
-MayRefuseWhole old new entry NoneOpen = IsTrue old.honest → ⊥
+MayRefuseWhole old new entry Changed = IsTrue old.honest → HasFile old.bag entry.path × (IsEntryOf old.bag entry → ⊥)
 MayRefuseWhole old new entry fault = MayRefuse (file old.bag entry.path ≡ None) ⊥ old new fault
 
 -- these bytes of the file were read, and the rest follows

@@ -1,5 +1,5 @@
 //! A tree of real files.
-ghost use Rattle.std.specs.Prelude.{◌≡◌, [], false, is_some, IfOk, IsErrOf};
+ghost use Rattle.std.specs.Prelude.{◌≡◌, [], false, is_some, IfOk, OnOk, IsErrOf, IsTrue};
 ghost use Rattle.bag_text.specs.Path.{is_path};
 ghost use Rattle.bag_store.specs.FileTree.{base_of, disk_state, unknown_bag_is_a_bag};
 ghost use Rattle.bag_store.specs.declared.refusal.Refusal.TheVariants.{NotFound};
@@ -87,6 +87,7 @@ impl<R: Files + AllocGlobal + Clone + Drop> Tree for FileTree<R> {
 fn open_regular<R: Files>(rt: &R, alloc: Global, base: &str, path: &str) -> Result<R::File, Refusal>
     ensures nowhere { base.now ≡ [] → IsErrOf result NotFound }
     ensures outside { is_path path.now ≡ false → IsErrOf result NotFound }
+    ensures only_paths { OnOk result (IsTrue (is_path path.now)) }
 {
     if base.is_empty() || !is_path(path) {
         return Err(Refusal::NotFound);

@@ -8,6 +8,7 @@ loop-bytes-preserved g c = record {
   keeps = search rules;
   calm = c.in_ok-count.ensures.calm ∙ c.loop-bytes.invariant.calm;
   opened = c.read.ensures.openings ∙ c.loop-bytes.invariant.opened;
+  file_open = c.in_ok-count.ensures.file_open.1;
   within = grind (arith, common_steps);
   honest = λ h.
       let still : IsTrue (g.T.Tree.state c.loop-bytes.tree).honest = subst IsTrue (sym c.loop-bytes.invariant.keeps.honest) h in

@@ -1,6 +1,6 @@
 use Rattle.std.proofs.Common.{◌≡◌, ◌∷◌, ◌++◌, [], IsTrue, vec_len, ◌-◌, ◌≤◌}
 use Rattle.bag_store.specs.Bag.{file}
-use Rattle.bag_store.specs.Tree.{Keeps}
+use Rattle.bag_store.specs.Tree.{Keeps, HasOpen}
 use Rattle.bag_store.specs.Whole.{HasRead}
 use Rattle.bag_store.proofs.whole.read_whole.Given as goal
 
@@ -11,6 +11,7 @@ invariant-loop-bytes g l =
       keeps : Keeps (state l.fn.tree) (state l.tree);
       calm : (state l.tree).failures ≡ (state l.fn.tree).failures;
       opened : (state l.tree).openings ≡ (state l.fn.tree).openings ++ l.entry.path ∷ [];
+      file_open : HasOpen (state l.tree);
       within : vec_len l.bytes ≤ l.entry.size;
       honest : IsTrue (state l.fn.tree).honest → HasRead (file (state l.fn.tree).bag l.entry.path) l.bytes.items (state l.tree).rest;
     }
