@@ -48,7 +48,7 @@ module _ (bag : Bag) (f : Fault) where
   Holds DeclarationLine = InDeclaration
   Holds VersionUnsupported = InDeclaration
   Holds EncodingUnsupported = InDeclaration
-  -- the parts of a bag (2.1 and 2.4)
+  -- the parts of a bag (2.1, 2.3 and 2.4)
   Holds NoPayloadFolder = At f [] None 0 [] × (has_folder bag (codes "data") ≡ false)
   Holds NoPayloadManifest = At f [] None 0 [] × ((alg : List ℕ) → ¬ (HasManifest bag Payload alg))
   Holds AlgorithmUnsupported =

@@ -21,7 +21,7 @@ use bag_tags::{Kind, manifest_alg};
 use bag_text::{Alg, Code, Text};
 use std::alloc::{AllocError, Global};
 
-/// The faults of the bag's parts (RFC 8493, 2.1 and 2.4), where more than the declaration is checked.
+/// The faults of the bag's parts (RFC 8493, 2.1, 2.3 and 2.4), where more than the declaration is checked.
 pub(crate) fn part_faults(alloc: Global, facts: &Facts) -> Result<Vec<Fault>, AllocError>
     ensures { IfOk result (λ faults. (bag : Bag) → IsFactsOf bag facts.now → IsStageOf bag facts.now.options 2 faults.items) }
 {

@@ -6,7 +6,7 @@ ghost use Rattle.bag_text.specs.Path as spec;
 use bag_text::{Text, check_path};
 use std::alloc::{AllocError, Global};
 
-/// Whether a text is a path (RFC 8493, 2.1.3).
+/// Whether a text is a path (RFC 8493, 2 and 5.1).
 pub(crate) fn is_path(text: &str) -> bool
     ensures { result ≡ spec.is_path text.now }
 {

@@ -163,20 +163,19 @@ fn lists_deep_folders(rt: HostRuntime) -> Result<(), Fail> {
 fn refuses_paths_that_the_system_finds_too_long(rt: HostRuntime) -> Result<(), Fail> {
     let base = fresh(&rt, "long")?;
     let base = base.as_str();
-    let tail = place(&rt, base, "tail")?;
     make_folders(&rt, base, &["bag", "tail"])?;
-    make_deep(&rt, place(&rt, base, "bag")?.as_str())?;
+    let bag = place(&rt, base, "bag")?;
+    let tail = place(&rt, base, "tail")?;
+    make_deep(&rt, bag.as_str())?;
     make_deep(&rt, tail.as_str())?;
-    make_files(&rt, tail.as_str(), &["x"])?;
-    let joint = place(&rt, deep(&rt, place(&rt, base, "bag")?.as_str(), DEPTH)?.as_str(), "tail")?;
+    let joint = place(&rt, deep(&rt, bag.as_str(), DEPTH)?.as_str(), "tail")?;
     fs::rename(&rt, tail.as_str(), joint.as_str())?;
-    let found = listed(&rt, place(&rt, base, "bag")?.as_str())?;
+    let found = listed(&rt, bag.as_str())?;
     let path = place(&rt, deep(&rt, joint.as_str(), DEPTH)?.as_str(), "x")?;
     let opened = read(&rt, base, path.get(base.len() + 1..).unwrap_or(""), 1)?;
     fs::rename(&rt, joint.as_str(), tail.as_str())?;
-    fs::remove_file(&rt, place(&rt, tail.as_str(), "x")?)?;
     remove_deep(&rt, tail.as_str())?;
-    remove_deep(&rt, place(&rt, base, "bag")?.as_str())?;
+    remove_deep(&rt, bag.as_str())?;
     fs::remove_dir(&rt, base)?;
     assert_eq!(rt; found.as_str(), "device");
     assert!(rt; opened.is_err_and(|fault| fault == TreeFault::Device));
