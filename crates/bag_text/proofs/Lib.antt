@@ -1,5 +1,6 @@
 pub mod AlgSets
 pub mod Blanks
+pub mod FirstByte
 pub mod FirstLine
 pub mod LineLaws
 pub mod ListOf

@@ -5,6 +5,8 @@ ghost use Rattle.std.specs.List.{enumerate_from};
 ghost use Rattle.bag_text.specs.LineEnd.{is_line_end, end_len};
 ghost use Rattle.bag_text.specs.Lines.{lines};
 
+use memchr::memchr2;
+
 /// The lines of a text that are left, and the number of the first of them.
 #[derive(Clone, Copy, Debug)]
 pub struct Lines<'a> {
@@ -67,7 +69,7 @@ fn line_end(bytes: &[u8]) -> Option<usize>
     ensures found { result ≡ position is_line_end bytes.now }
     ensures none { IfNone result (All (λ b. is_line_end b ≡ false) bytes.now) }
 {
-    bytes.iter().position(|b| *b == b'\n' || *b == b'\r')
+    memchr2(b'\n', b'\r', bytes)
 }
 
 /// Where the next line begins, after the end that begins at this place.

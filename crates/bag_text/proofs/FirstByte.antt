@@ -1,0 +1,39 @@
+-- The first byte that passes a test, by a search of bytes.
+use Rattle.std.proofs.Common.{◌≡◌, ℕ, zero, suc, ◌<◌, Bool, true, false, not, List, [], ◌∷◌, length, get_or, refl, arith, Option, None, Some, position}
+use Rattle.std.specs.Prelude.{All, IfNone}
+use Rattle.std.specs.List.{prefix_len}
+use Rattle.std.proofs.lemmas.Bool.Decides.{nat_tests}
+use Rattle.std.proofs.lemmas.List.{get_or_default}
+use Rattle.memchr.specs.Find.{IsFirstByte}
+
+abbrev fails : (ℕ → Bool) → ℕ → Bool
+fails p = λ x. not (p x)
+
+place_len : (p : ℕ → Bool) (xs : List ℕ) (k : ℕ) → k < length xs → p (get_or xs k 0) ≡ true → ((i : ℕ) → i < k → p (get_or xs i 0) ≡ false) → prefix_len (fails p) xs ≡ k
+place_len p [] k l e n = absurd (omega arith)
+place_len p (x ∷ xs) zero l e n = rw e refl
+place_len p (x ∷ xs) (suc k) l e n =
+    let more : prefix_len (fails p) xs ≡ k = place_len p xs k (omega arith) e (λ i h. n (suc i) (omega arith)) in
+    rw (n 0 (omega arith)) (omega arith)
+
+no_place_len : (p : ℕ → Bool) (xs : List ℕ) → ((i : ℕ) → i < length xs → p (get_or xs i 0) ≡ false) → prefix_len (fails p) xs ≡ length xs
+no_place_len p [] n = refl
+no_place_len p (x ∷ xs) n =
+    let more : prefix_len (fails p) xs ≡ length xs = no_place_len p xs (λ i h. n (suc i) (omega arith)) in
+    rw (n 0 (omega arith)) (omega arith)
+
+not_true : (b : Bool) → ¬ (b ≡ true) → b ≡ false
+not_true true h = absurd (h refl)
+not_true false h = refl
+
+-- what a search for a byte found is where the first one is
+pub first_byte : (p : ℕ → Bool) (xs : List ℕ) (r : Option ℕ) → IsFirstByte p xs r → r ≡ position p xs
+first_byte p xs None h = rw (no_place_len p xs (λ i l. not_true _ (h i (omega arith) l))) (grind (arith, nat_tests))
+first_byte p xs (Some k) h =
+    let l : k < length xs = h.0.high in
+    rw (place_len p xs k l h.1 (λ i b. not_true _ (h.0.before i (omega arith) b))) (grind (arith, nat_tests, l))
+
+-- and where there is none, no byte passes
+pub no_byte : (p : ℕ → Bool) (xs : List ℕ) (r : Option ℕ) → IsFirstByte p xs r → IfNone r (All (λ b. p b ≡ false) xs)
+no_byte p xs None h = λ k d l. rw (get_or_default xs k d 0 l) (not_true _ (h k (omega arith) l))
+no_byte p xs (Some k) h = tt
