@@ -1,5 +1,6 @@
 //! The program's plans and what it writes.
 use crate::{Action, Usage, perform, plan_of, refuse_words};
+use bag_store::WriterOut;
 use std::test::Fail;
 
 #[test]
@@ -37,12 +38,12 @@ fn other_words_are_refused(rt: HostRuntime) {
 
 #[test]
 fn the_sample_has_a_good_declaration(rt: HostRuntime) -> Result<(), Fail> {
-    let mut out = Vec::<u8>::new(rt.alloc());
+    let mut out = WriterOut::new(Vec::<u8>::new(rt.alloc()));
     let mut err = Vec::<u8>::new(rt.alloc());
     let status = perform(&rt, &plan_of(rt.alloc(), &[])?, &mut out, &mut err);
     assert_eq!(rt; status, 0);
     assert_eq!(rt;
-        out.as_slice(),
+        out.into_inner().as_slice(),
         b"sample has a good declaration\n".as_slice()
     );
     assert_eq!(rt; err.len(), 0);
@@ -51,7 +52,7 @@ fn the_sample_has_a_good_declaration(rt: HostRuntime) -> Result<(), Fail> {
 
 #[test]
 fn a_folder_that_is_not_there_is_unread(rt: HostRuntime) -> Result<(), Fail> {
-    let mut out = Vec::<u8>::new(rt.alloc());
+    let mut out = WriterOut::new(Vec::<u8>::new(rt.alloc()));
     let mut err = Vec::<u8>::new(rt.alloc());
     let plan = plan_of(
         rt.alloc(),
@@ -60,7 +61,7 @@ fn a_folder_that_is_not_there_is_unread(rt: HostRuntime) -> Result<(), Fail> {
     let status = perform(&rt, &plan, &mut out, &mut err);
     assert_eq!(rt; status, 3);
     assert_eq!(rt;
-        out.as_slice(),
+        out.into_inner().as_slice(),
         b"no%20such%20folder unread - device, faults: 0\n".as_slice()
     );
     assert_eq!(rt; err.len(), 0);
@@ -74,7 +75,7 @@ fn an_output_that_refuses_stops_the_program(rt: HostRuntime) -> Result<(), Fail>
     let status = perform(
         &rt,
         &plan_of(rt.alloc(), &[])?,
-        room.as_mut_slice(),
+        &mut WriterOut::new(room.as_mut_slice()),
         &mut err,
     );
     assert_eq!(rt; status, 3);
