@@ -1,2 +1,3 @@
+pub mod Performed
 pub mod Plan
 pub mod Status

@@ -11,6 +11,7 @@ mod sample;
 mod tests;
 mod usage;
 
+use bag_store::WriterOut;
 pub use perform::perform;
 pub use plan::{Action, Plan, plan_of};
 use std::alloc::AllocError;
@@ -21,7 +22,12 @@ pub use usage::{Usage, refuse_words};
 
 fn main(rt: HostRuntime) -> ExitCode {
     let status = match asked_plan(&rt) {
-        Ok(plan) => perform(&rt, &plan, io::writer(&rt), rt.stderr()),
+        Ok(plan) => perform(
+            &rt,
+            &plan,
+            &mut WriterOut::new(io::writer(&rt)),
+            &mut rt.stderr(),
+        ),
         Err(usage) => refuse_words(usage, &mut rt.stderr()),
     };
     ExitCode::from(status)

@@ -1,11 +1,12 @@
 //! Does what a plan says.
-ghost use Rattle.std.specs.Prelude.{◌≡◌};
+ghost use Rattle.std.specs.Prelude.{◌≡◌, ◌⊎◌, ◌∷◌, [], codes};
+ghost use Rattle.bagit.specs.Performed.{IsCheckOf, IsPerformed, names_of};
 ghost use Rattle.bagit.specs.Status.{IsStatus, status_of_check};
 
 use crate::sample::sample_tree;
 use crate::{Action, Plan};
 use bag_report::{Depth, Options};
-use bag_store::{FileTree, Out, Tree, WriterOut};
+use bag_store::{FileTree, Out, Tree};
 use bag_text::Text;
 use bag_walk::{Outcome, Request, run, status};
 use std::alloc::{AllocError, Global};
@@ -18,22 +19,29 @@ const REFUSED: u8 = 3;
 /// Does a plan: writes the reports to `out`, one line each, and what is refused beside them to `err`.
 ///
 /// Gives the exit status: 0 where no bag has a fault, 1 where one has, and 3 where a read, a write or a growth was
-/// refused; over several folders the greatest. Where `out` refuses, it stops.
-pub fn perform<R, W, E>(rt: &R, plan: &Plan, out: W, err: E) -> u8
+/// refused; over several folders the greatest. Where `out` refuses, it stops. Unless the status is 3, `out` took a whole
+/// report for each bag of the plan.
+pub fn perform<R, O, E>(rt: &R, plan: &Plan, out: &mut O, err: &mut E) -> u8
 where
     R: Files + AllocGlobal + Clone + Drop,
-    W: Write + Drop,
-    E: Write + Drop,
-    ensures { IsStatus result }
+    O: Out,
+    E: Write,
+    ensures status { IsStatus result }
+    ensures performed { IsPerformed (names_of plan.now.action plan.now.directories) (O.taken out.old) (O.taken out.new) result }
 {
-    let mut out = WriterOut::new(out);
-    let mut err = err;
-    let status = match plan.action {
-        Action::Sample => report_refusal(&check_sample(rt.alloc(), &mut out), &mut err),
-        Action::Check => check_all(rt, plan.directories.as_slice(), &mut out, &mut err),
-    };
-    let _writer = out.into_inner();
-    status
+    match plan.action {
+        Action::Sample => report_sample(rt.alloc(), out, err),
+        Action::Check => check_all(rt, plan.directories.as_slice(), out, err),
+    }
+}
+
+/// Checks the sample bag, and says on `err` what was refused beside the report.
+#[tactic(auto, using(crate::proofs::Checks::checked_one))]
+fn report_sample<O: Out, E: Write>(alloc: Global, out: &mut O, err: &mut E) -> u8
+    ensures status { IsStatus result }
+    ensures performed { IsPerformed (codes "sample" ∷ []) (O.taken out.old) (O.taken out.new) result }
+{
+    report_refusal(&check_sample(alloc, out), err)
 }
 
 /// Checks the bags in folders, one after the other.
@@ -42,7 +50,8 @@ where
     R: Files + AllocGlobal + Clone + Drop,
     O: Out,
     E: Write,
-    ensures { IsStatus result }
+    ensures status { IsStatus result }
+    ensures performed { IsPerformed directories.now (O.taken out.old) (O.taken out.new) result }
 {
     let mut greatest = 0;
     for directory in directories {
@@ -60,13 +69,16 @@ fn check<R, O>(rt: &R, directory: &str, out: &mut O) -> Result<Outcome, AllocErr
 where
     R: Files + AllocGlobal + Clone + Drop,
     O: Out,
+    ensures { (status_of_check result ≡ 3) ⊎ IsCheckOf directory.now (O.taken out.old) (O.taken out.new) (status_of_check result) }
 {
     let tree = FileTree::at(rt.clone()?, rt.alloc(), directory)?;
     report(rt.alloc(), tree, directory, out)
 }
 
 /// Checks the sample bag.
-fn check_sample<O: Out>(alloc: Global, out: &mut O) -> Result<Outcome, AllocError> {
+fn check_sample<O: Out>(alloc: Global, out: &mut O) -> Result<Outcome, AllocError>
+    ensures { (status_of_check result ≡ 3) ⊎ IsCheckOf (codes "sample") (O.taken out.old) (O.taken out.new) (status_of_check result) }
+{
     report(alloc, sample_tree(alloc)?, "sample", out)
 }
 
@@ -76,7 +88,9 @@ fn report<T: Tree + Drop, O: Out>(
     tree: T,
     name: &str,
     out: &mut O,
-) -> Result<Outcome, AllocError> {
+) -> Result<Outcome, AllocError>
+    ensures { (status_of_check result ≡ 3) ⊎ IsCheckOf name.now (O.taken out.old) (O.taken out.new) (status_of_check result) }
+{
     let request = Request {
         options: Options {
             depth: Depth::Declaration,

@@ -1,5 +1,6 @@
 //! The program's plans and what it writes.
 use crate::{Action, Usage, perform, plan_of, refuse_words};
+use bag_store::WriterOut;
 use std::os::unix::fs::symlink;
 use std::test::Fail;
 use std::{env, fs, process};
@@ -39,12 +40,12 @@ fn other_words_are_refused(rt: HostRuntime) {
 
 #[test]
 fn the_sample_has_a_good_declaration(rt: HostRuntime) -> Result<(), Fail> {
-    let mut out = Vec::<u8>::new(rt.alloc());
+    let mut out = WriterOut::new(Vec::<u8>::new(rt.alloc()));
     let mut err = Vec::<u8>::new(rt.alloc());
     let status = perform(&rt, &plan_of(rt.alloc(), &[])?, &mut out, &mut err);
     assert_eq!(rt; status, 0);
     assert_eq!(rt;
-        out.as_slice(),
+        out.into_inner().as_slice(),
         b"sample has a good declaration\n".as_slice()
     );
     assert_eq!(rt; err.len(), 0);
@@ -53,7 +54,7 @@ fn the_sample_has_a_good_declaration(rt: HostRuntime) -> Result<(), Fail> {
 
 #[test]
 fn a_folder_that_is_not_there_is_unread(rt: HostRuntime) -> Result<(), Fail> {
-    let mut out = Vec::<u8>::new(rt.alloc());
+    let mut out = WriterOut::new(Vec::<u8>::new(rt.alloc()));
     let mut err = Vec::<u8>::new(rt.alloc());
     let plan = plan_of(
         rt.alloc(),
@@ -62,7 +63,7 @@ fn a_folder_that_is_not_there_is_unread(rt: HostRuntime) -> Result<(), Fail> {
     let status = perform(&rt, &plan, &mut out, &mut err);
     assert_eq!(rt; status, 3);
     assert_eq!(rt;
-        out.as_slice(),
+        out.into_inner().as_slice(),
         b"no%20such%20folder unread - device, faults: 0\n".as_slice()
     );
     assert_eq!(rt; err.len(), 0);
@@ -76,7 +77,7 @@ fn an_output_that_refuses_stops_the_program(rt: HostRuntime) -> Result<(), Fail>
     let status = perform(
         &rt,
         &plan_of(rt.alloc(), &[])?,
-        room.as_mut_slice(),
+        &mut WriterOut::new(room.as_mut_slice()),
         &mut err,
     );
     assert_eq!(rt; status, 3);
@@ -98,10 +99,11 @@ fn refused_words_are_told(rt: HostRuntime) -> Result<(), Fail> {
     Ok(())
 }
 
-/// What a folder holds, the end of the report, and the status.
+/// What a folder holds, the lines of its faults, how the report ends behind its name, and the status.
 struct Row {
     bagit_txt: Option<&'static [u8]>,
     link: bool,
+    lines: &'static str,
     ending: &'static str,
     status: u8,
 }
@@ -110,62 +112,58 @@ const ROWS: [Row; 3] = [
     Row {
         bagit_txt: Some(b"BagIt-Version: 1.0\nTag-File-Character-Encoding: UTF-8\n"),
         link: false,
+        lines: "",
         ending: " has a good declaration\n",
         status: 0,
     },
     Row {
         bagit_txt: None,
         link: false,
+        lines: "101 no-declaration bagit.txt - - -\n",
         ending: " has faults: 1\n",
         status: 1,
     },
     Row {
         bagit_txt: Some(b"BagIt-Version: 1.0\nTag-File-Character-Encoding: UTF-8\n"),
         link: true,
+        lines: "",
         ending: " unread - special, faults: 0\n",
         status: 3,
     },
 ];
 
-/// What a check of a fresh folder writes, what it says on the standard error, and its status.
-fn checked_folder(
-    rt: &HostRuntime,
-    bagit_txt: Option<&[u8]>,
-    link: bool,
-) -> Result<(Vec<u8>, usize, u8), Fail> {
+/// Makes a fresh folder of a row, and gives its path.
+fn make_folder(rt: &HostRuntime, row: &Row) -> Result<String, Fail> {
     let folder = env::temp_dir(rt)?;
     let id = process::id(rt.process());
     let base = format!(in rt.alloc(); "{}/bagit-{id}", folder.as_path().display())?;
     let _ = fs::remove_dir_all(rt, base.as_str());
     fs::create_dir(rt, base.as_str())?;
-    if let Some(bytes) = bagit_txt {
+    if let Some(bytes) = row.bagit_txt {
         fs::write(rt, format!(in rt.alloc(); "{base}/bagit.txt")?, bytes)?;
     }
-    if link {
+    if row.link {
         symlink(rt, "bagit.txt", format!(in rt.alloc(); "{base}/link")?)?;
     }
-    let mut out = Vec::<u8>::new(rt.alloc());
-    let mut err = Vec::<u8>::new(rt.alloc());
-    let plan = plan_of(
-        rt.alloc(),
-        &["--validate", "--declaration-only", base.as_str()],
-    )?;
-    let status = perform(rt, &plan, &mut out, &mut err);
-    fs::remove_dir_all(rt, base.as_str())?;
-    Ok((out, err.len(), status))
-}
-
-fn ends_so(out: &[u8], ending: &str) -> bool {
-    out.ends_with(ending.as_bytes())
+    Ok(base)
 }
 
 #[test]
 fn folders_on_the_disk(rt: HostRuntime) -> Result<(), Fail> {
-    for (place, row) in ROWS.iter().enumerate() {
-        let (out, told, status) = checked_folder(&rt, row.bagit_txt, row.link)?;
-        assert_eq!(rt; status, row.status, "row {place}");
-        assert!(rt; ends_so(&out, row.ending), "row {place}");
-        assert_eq!(rt; told, 0);
+    for row in ROWS.iter() {
+        let base = make_folder(&rt, row)?;
+        let plan = plan_of(
+            rt.alloc(),
+            &["--validate", "--declaration-only", base.as_str()],
+        )?;
+        let mut out = WriterOut::new(Vec::<u8>::new(rt.alloc()));
+        let mut err = Vec::<u8>::new(rt.alloc());
+        let status = perform(&rt, &plan, &mut out, &mut err);
+        fs::remove_dir_all(&rt, base.as_str())?;
+        let expected = format!(in rt.alloc(); "{}{base}{}", row.lines, row.ending)?;
+        assert_eq!(rt; out.into_inner().as_slice(), expected.as_bytes());
+        assert_eq!(rt; status, row.status);
+        assert_eq!(rt; err.len(), 0);
     }
     Ok(())
 }

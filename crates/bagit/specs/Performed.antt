@@ -1,0 +1,41 @@
+-- What the program writes, and its exit status.
+use Rattle.std.specs.Prelude.{ℕ, ◌≡◌, ◌⊎◌, ⊤, List, [], ◌∷◌, Option, None, codes, length, max, false}
+use Rattle.std.specs.List.{concat}
+use Rattle.std.specs.Io.KnownBytes.{Appends}
+use Rattle.bag_report.specs.declared.fault.Fault.{Fault}
+use Rattle.bag_report.specs.declared.options.Depth.TheVariants.{Declaration}
+use Rattle.bag_walk.specs.Closing.{status}
+use Rattle.bag_walk.specs.Run.{MayEnd, lines_of_run}
+use Rattle.bag_walk.specs.declared.outcome.Outcome.{Outcome}
+use Rattle.bag_walk.specs.declared.outcome.Request.{Request}
+use Rattle.bagit.specs.declared.plan.Action.{Action}
+use Rattle.bagit.specs.declared.plan.Action.TheVariants.{Sample, Check}
+use Rattle.bagit.specs.declared.plan.Plan.{Plan}
+
+-- what a check of the bag of this name asks for
+abbrev pub request_of : List ℕ → Request
+request_of name = record { options = record { depth = Declaration; clashes = false }; after = None; limit = None; quiet = false; name = name }
+
+-- A check wrote the lines of some faults and the closing line of how it ended, and has the status of that.
+pub record IsCheckOf (name : List ℕ) (before after : Option (List ℕ)) (n : ℕ) : Type 0 where
+  pub shown : List Fault
+  pub ending : Outcome
+  pub may_end : MayEnd (request_of name) (length shown) (λ _. ⊤) ending
+  pub wrote : Appends before after (concat (lines_of_run (request_of name) shown ending))
+  pub status_is : n ≡ status ending
+
+-- the checks of the bags of these names, one after the other, and the greatest of their statuses
+abbrev pub AreChecksOf : List (List ℕ) → Option (List ℕ) → Option (List ℕ) → ℕ → Type 0
+AreChecksOf [] before after n = (n ≡ 0) × Appends before after []
+AreChecksOf (name ∷ names) before after n =
+    (mid : Option (List ℕ)) × (first rest : ℕ)
+    × IsCheckOf name before mid first × AreChecksOf names mid after rest × (n ≡ max first rest)
+
+-- the bags that a plan checks, by their names in the report
+abbrev pub names_of : Action → List (List ℕ) → List (List ℕ)
+names_of Sample directories = codes "sample" ∷ []
+names_of Check directories = directories
+
+-- all bags were checked, or something was refused
+abbrev pub IsPerformed : List (List ℕ) → Option (List ℕ) → Option (List ℕ) → ℕ → Type 0
+IsPerformed names before after n = (n ≡ 3) ⊎ AreChecksOf names before after n
