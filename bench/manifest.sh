@@ -1,8 +1,8 @@
 #!/usr/bin/env bash
 # How long `read_manifest` takes for 1,000,000 lines, against `sort -u` on their paths, and how much longer it takes for
 # twice as many lines. The lines are of SHA-256 and have paths of 60 bytes: random ones, the same in ascending order, and
-# ones of folders that begin alike, scattered. Counted is the processor time that the programs take themselves (user
-# time), the reading of the file included, and the least of several runs.
+# ones of folders that begin alike, scattered. Counted is the processor time that the programs take, their own and the
+# system's, the reading of the file included, and the least of several runs.
 #
 # usage: bench/manifest.sh [PROGRAM] [RUNS]
 #
@@ -44,11 +44,11 @@ scattered_manifest() {
         }'
 }
 
-# The milliseconds of processor time that a command takes itself.
+# The milliseconds of processor time that a command takes.
 milliseconds() {
-    local TIMEFORMAT=%3U
+    local TIMEFORMAT='%3U %3S'
     { time "$@" >"$work/output"; } 2>"$work/time"
-    echo $((10#$(tr -d . <"$work/time")))
+    awk '{ printf "%d\n", ($1 + $2) * 1000 }' "$work/time"
 }
 
 least() {

@@ -10,6 +10,8 @@ mod cursors;
 #[cfg(test)]
 mod declarations;
 #[cfg(test)]
+mod judged;
+#[cfg(test)]
 mod manifests;
 #[cfg(test)]
 mod narrow_outputs;

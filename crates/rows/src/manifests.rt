@@ -1,9 +1,7 @@
 //! Manifests: the faults of their lines, and payload manifests that a tag manifest doesn't name.
-use crate::stages::{Bag, Row, stage_text, text_of_lines};
-use bag_report::Depth;
-use std::test::Fail;
+use crate::stages::{Bag, Row};
 
-const ROWS: [Row; 7] = [
+pub(crate) const ROWS: [Row; 13] = [
     Row {
         bag: Bag {
             has_data: true,
@@ -15,7 +13,8 @@ const ROWS: [Row; 7] = [
                   d41d8cd98f00b204e9800998ecf8427e  data\n",
             )],
         },
-        lines: &[
+        parts: &[],
+        manifests: &[
             "503 manifest-escape manifest-md5.txt md5 1 data/%2541",
             "504 manifest-unsafe-path manifest-md5.txt md5 2 data/../x",
             "504 manifest-unsafe-path manifest-md5.txt md5 3 /etc/x",
@@ -32,7 +31,8 @@ const ROWS: [Row; 7] = [
                   d41d8cd98f00b204e9800998ecf8427e  data/a\n",
             )],
         },
-        lines: &[
+        parts: &[],
+        manifests: &[
             "508 named-again manifest-md5.txt md5 2 data/a",
             "508 named-again manifest-md5.txt md5 3 data/a",
         ],
@@ -50,7 +50,8 @@ const ROWS: [Row; 7] = [
                 ),
             ],
         },
-        lines: &[
+        parts: &[],
+        manifests: &[
             "509 payload-manifest-not-listed tagmanifest-md5.txt md5 - manifest-md5.txt",
             "506 tagmanifest-names-payload tagmanifest-md5.txt md5 1 data/a",
             "507 tagmanifest-names-tagmanifest tagmanifest-md5.txt md5 2 tagmanifest-sha1.txt",
@@ -72,7 +73,12 @@ const ROWS: [Row; 7] = [
                 ("tagmanifest-zip.txt", b"x"),
             ],
         },
-        lines: &[
+        parts: &[
+            "203 algorithm-unsupported manifest-b2.txt - - b2",
+            "204 not-utf8 tagmanifest-sha512.txt - - -",
+            "203 algorithm-unsupported tagmanifest-zip.txt - - zip",
+        ],
+        manifests: &[
             "501 manifest-line manifest-md5.txt md5 1 -",
             "501 manifest-line manifest-sha1.txt sha1 1 -",
             "509 payload-manifest-not-listed tagmanifest-md5.txt md5 - manifest-b2.txt",
@@ -87,7 +93,8 @@ const ROWS: [Row; 7] = [
             has_data: true,
             files: &[("manifest-md5.txt", b"\xFF\xFE")],
         },
-        lines: &[],
+        parts: &["204 not-utf8 manifest-md5.txt - - -"],
+        manifests: &[],
     },
     Row {
         bag: Bag {
@@ -97,7 +104,8 @@ const ROWS: [Row; 7] = [
                 b"d41d8cd98f00b204e9800998ecf8427e  data\n",
             )],
         },
-        lines: &[],
+        parts: &["202 no-payload-manifest - - - -"],
+        manifests: &[],
     },
     Row {
         bag: Bag {
@@ -109,32 +117,73 @@ const ROWS: [Row; 7] = [
                   DA39A3EE5E6B4B0D3255BFEF95601890AFD80709\t./data/a",
             )],
         },
-        lines: &[
+        parts: &[],
+        manifests: &[
             "502 digest-length manifest-sha1.txt sha1 1 d41d8cd98f00b204e9800998ecf8427e",
             "508 named-again manifest-sha1.txt sha1 4 data/a",
         ],
     },
+    Row {
+        bag: Bag {
+            has_data: true,
+            files: &[("manifest-md5.txt", b"# made by hand\n")],
+        },
+        parts: &[],
+        manifests: &["501 manifest-line manifest-md5.txt md5 1 -"],
+    },
+    Row {
+        bag: Bag {
+            has_data: true,
+            files: &[(
+                "manifest-md5.txt",
+                b" d41d8cd98f00b204e9800998ecf8427e data/a\n",
+            )],
+        },
+        parts: &[],
+        manifests: &["501 manifest-line manifest-md5.txt md5 1 -"],
+    },
+    Row {
+        bag: Bag {
+            has_data: true,
+            files: &[(
+                "manifest-sha1.txt",
+                b"d41d8cd98f00b204e9800998ecf8427e  data/a\n",
+            )],
+        },
+        parts: &[],
+        manifests: &["502 digest-length manifest-sha1.txt sha1 1 d41d8cd98f00b204e9800998ecf8427e"],
+    },
+    Row {
+        bag: Bag {
+            has_data: true,
+            files: &[(
+                "manifest-md5.txt",
+                b"d41d8cd98f00b204e9800998ecf8427e *./data/a\n",
+            )],
+        },
+        parts: &[],
+        manifests: &[],
+    },
+    Row {
+        bag: Bag {
+            has_data: true,
+            files: &[(
+                "manifest-md5.txt",
+                b"d41d8cd98f00b204e9800998ecf8427e ./*data/a\n",
+            )],
+        },
+        parts: &[],
+        manifests: &["505 manifest-outside-payload manifest-md5.txt md5 1 *data/a"],
+    },
+    Row {
+        bag: Bag {
+            has_data: true,
+            files: &[(
+                "manifest-md5.txt",
+                b"d41d8cd98f00b204e9800998ecf8427e ././data/a\n",
+            )],
+        },
+        parts: &[],
+        manifests: &["504 manifest-unsafe-path manifest-md5.txt md5 1 ./data/a"],
+    },
 ];
-
-#[test]
-fn manifests_of_bags(rt: HostRuntime) -> Result<(), Fail> {
-    for row in ROWS.iter() {
-        let expected = text_of_lines(rt.alloc(), row.lines)?;
-        for depth in [Depth::Complete, Depth::Full] {
-            let text = stage_text(rt.alloc(), &row.bag, depth, 5)?;
-            assert_eq!(rt; text.as_str(), expected.as_str());
-        }
-    }
-    Ok(())
-}
-
-#[test]
-fn a_fast_check_leaves_manifests_alone(rt: HostRuntime) -> Result<(), Fail> {
-    for row in ROWS.iter() {
-        for depth in [Depth::Declaration, Depth::Fast] {
-            let text = stage_text(rt.alloc(), &row.bag, depth, 5)?;
-            assert_eq!(rt; text.as_str(), "");
-        }
-    }
-    Ok(())
-}

@@ -1,49 +1,52 @@
 //! The parts of a bag: its payload folder, and which tag files are read.
-use crate::stages::{Bag, Row, stage_text, text_of_lines};
-use bag_report::Depth;
-use std::test::Fail;
+use crate::stages::{Bag, Row};
 
-const ROWS: [Row; 9] = [
+pub(crate) const ROWS: [Row; 9] = [
     Row {
         bag: Bag {
             has_data: false,
             files: &[],
         },
-        lines: &[
+        parts: &[
             "201 no-payload-folder - - - -",
             "202 no-payload-manifest - - - -",
         ],
+        manifests: &[],
     },
     Row {
         bag: Bag {
             has_data: true,
             files: &[("manifest-sha256.txt", b"")],
         },
-        lines: &[],
+        parts: &[],
+        manifests: &[],
     },
     Row {
         bag: Bag {
             has_data: true,
             files: &[("manifest-SHA1.txt", b"")],
         },
-        lines: &["202 no-payload-manifest - - - -"],
+        parts: &["202 no-payload-manifest - - - -"],
+        manifests: &[],
     },
     Row {
         bag: Bag {
             has_data: true,
             files: &[("manifest-sha3256.txt", b"\xFF")],
         },
-        lines: &["203 algorithm-unsupported manifest-sha3256.txt - - sha3256"],
+        parts: &["203 algorithm-unsupported manifest-sha3256.txt - - sha3256"],
+        manifests: &[],
     },
     Row {
         bag: Bag {
             has_data: true,
             files: &[("tagmanifest-crc32.txt", b""), ("tagmanifest-md5.txt", b"")],
         },
-        lines: &[
+        parts: &[
             "202 no-payload-manifest - - - -",
             "203 algorithm-unsupported tagmanifest-crc32.txt - - crc32",
         ],
+        manifests: &[],
     },
     Row {
         bag: Bag {
@@ -59,13 +62,18 @@ const ROWS: [Row; 9] = [
                 ("tagmanifest-sha256.txt", b"\xED\xA0\x80"),
             ],
         },
-        lines: &[
+        parts: &[
             "204 not-utf8 bag-info.txt - - -",
             "204 not-utf8 fetch.txt - - -",
             "203 algorithm-unsupported manifest-b2.txt - - b2",
             "204 not-utf8 manifest-md5.txt - - -",
             "204 not-utf8 manifest-sha512.txt - - -",
             "204 not-utf8 tagmanifest-sha256.txt - - -",
+        ],
+        manifests: &[
+            "509 payload-manifest-not-listed tagmanifest-sha256.txt sha256 - manifest-b2.txt",
+            "509 payload-manifest-not-listed tagmanifest-sha256.txt sha256 - manifest-md5.txt",
+            "509 payload-manifest-not-listed tagmanifest-sha256.txt sha256 - manifest-sha512.txt",
         ],
     },
     Row {
@@ -77,44 +85,26 @@ const ROWS: [Row; 9] = [
                 ("manifest-sha1.txt", b"\xC3\xA9"),
             ],
         },
-        lines: &[],
+        parts: &[],
+        manifests: &["501 manifest-line manifest-sha1.txt sha1 1 -"],
     },
     Row {
         bag: Bag {
             has_data: true,
             files: &[("manifest-.txt", b""), ("manifest-md5.txt.txt", b"")],
         },
-        lines: &["202 no-payload-manifest - - - -"],
+        parts: &["202 no-payload-manifest - - - -"],
+        manifests: &[],
     },
     Row {
         bag: Bag {
             has_data: false,
             files: &[("Manifest-md5.txt", b""), ("manifest-sha-1.txt", b"")],
         },
-        lines: &[
+        parts: &[
             "201 no-payload-folder - - - -",
             "202 no-payload-manifest - - - -",
         ],
+        manifests: &[],
     },
 ];
-
-#[test]
-fn parts_of_bags(rt: HostRuntime) -> Result<(), Fail> {
-    for row in ROWS.iter() {
-        let expected = text_of_lines(rt.alloc(), row.lines)?;
-        for depth in [Depth::Fast, Depth::Complete, Depth::Full] {
-            let text = stage_text(rt.alloc(), &row.bag, depth, 2)?;
-            assert_eq!(rt; text.as_str(), expected.as_str());
-        }
-    }
-    Ok(())
-}
-
-#[test]
-fn the_declaration_alone_has_no_other_parts(rt: HostRuntime) -> Result<(), Fail> {
-    for row in ROWS.iter() {
-        let text = stage_text(rt.alloc(), &row.bag, Depth::Declaration, 2)?;
-        assert_eq!(rt; text.as_str(), "");
-    }
-    Ok(())
-}

@@ -11,10 +11,11 @@ pub(crate) struct Bag {
     pub(crate) files: &'static [(&'static str, &'static [u8])],
 }
 
-/// A bag, and the lines of one of its stages.
+/// A bag, and the lines of its faults: those of its parts, and those of its manifests.
 pub(crate) struct Row {
     pub(crate) bag: Bag,
-    pub(crate) lines: &'static [&'static str],
+    pub(crate) parts: &'static [&'static str],
+    pub(crate) manifests: &'static [&'static str],
 }
 
 impl Bag {
