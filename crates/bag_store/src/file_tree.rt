@@ -9,7 +9,7 @@ ghost use Rattle.bag_store.specs.declared.refusal.Refusal.TheVariants.{NotFound}
 mod tests;
 
 use crate::folder_walk::list_below;
-use crate::found::Found;
+use crate::found::check_file;
 use crate::place::{OpenFile, Place, is_path};
 use crate::refusal::{Failures, Refusal};
 use crate::{Listing, Tree, TreeFault};
@@ -102,12 +102,9 @@ fn open_regular<R: Files>(
     }
     check_folders(rt, alloc, base, path)?;
     let place = Place::below(alloc, base, path)?;
-    let metadata = match place.metadata(rt) {
-        Ok(metadata) => metadata,
+    match place.metadata(rt) {
+        Ok(metadata) => check_file(&metadata)?,
         Err(error) => return Err(Refusal::of_opening(&error)),
-    };
-    if let Found::Folder = Found::at(&metadata)? {
-        return Err(Refusal::NotFound);
     }
     match place.open(rt) {
         Ok(file) => Ok(file),
