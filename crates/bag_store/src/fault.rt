@@ -75,7 +75,8 @@ impl<T: Drop> From<AllocFailed<T>> for TreeFault {
 }
 
 /// A refusal, and the file that it is about. The path is empty for a listing and for want of memory.
-#[derive(Debug, Drop)]
+#[derive(Debug, Drop, Error)]
+#[error("{cause}: '{path}'")]
 pub struct Stop {
     pub cause: TreeFault,
     pub path: Text,

@@ -2,18 +2,19 @@
 ghost use Rattle.std.specs.Prelude.{◌≡◌, [], false, is_some, IfOk, OnOk, IsErrOf, IsTrue};
 ghost use Rattle.bag_text.specs.Path.{is_path};
 ghost use Rattle.bag_store.specs.FileTree.{base_of, disk_state, unknown_bag_is_a_bag};
+ghost use Rattle.bag_store.specs.Place.{path_in};
 ghost use Rattle.bag_store.specs.declared.refusal.Refusal.TheVariants.{NotFound};
 
 #[cfg(test)]
 mod tests;
 
 use crate::folder_walk::list_below;
-use crate::place::{is_path, path_in};
+use crate::found::check_file;
+use crate::place::{OpenFile, Place, is_path};
 use crate::refusal::{Failures, Refusal};
 use crate::{Listing, Tree, TreeFault};
 use bag_text::{Items, Text};
 use std::alloc::{AllocError, Global};
-use std::fs;
 use std::io::Read;
 use std::rt::Files;
 
@@ -63,7 +64,7 @@ impl<R: Files + AllocGlobal + Clone + Drop> Tree for FileTree<R> {
         match open_regular(&self.rt, self.alloc, self.base.as_str(), path) {
             Ok(file) => {
                 self.openings.push(Text::from_str(self.alloc, path)?)?;
-                self.opened = Some(file);
+                self.opened = Some(file.into_file());
                 Ok(())
             }
             Err(refusal) => Err(self.failures.fault_of(refusal)),
@@ -83,23 +84,29 @@ impl<R: Files + AllocGlobal + Clone + Drop> Tree for FileTree<R> {
     ghost is_bag = { λ _. unknown_bag_is_a_bag };
 }
 
-/// Opens a regular file below the base folder. Links below it aren't followed, and a text that isn't a path has no file.
-fn open_regular<R: Files>(rt: &R, alloc: Global, base: &str, path: &str) -> Result<R::File, Refusal>
+/// Opens a regular file below the base folder. Links below it aren't followed, and neither a text that isn't a path nor a
+/// folder has a file.
+fn open_regular<R: Files>(
+    rt: &R,
+    alloc: Global,
+    base: &str,
+    path: &str,
+) -> Result<OpenFile<R::File>, Refusal>
     ensures nowhere { base.now ≡ [] → IsErrOf result NotFound }
     ensures outside { is_path path.now ≡ false → IsErrOf result NotFound }
     ensures only_paths { OnOk result (IsTrue (is_path path.now)) }
+    ensures place { IfOk result (λ opened. opened.place.text ≡ path_in base.now path.now) }
 {
     if base.is_empty() || !is_path(path) {
         return Err(Refusal::NotFound);
     }
     check_folders(rt, alloc, base, path)?;
-    let place = path_in(alloc, base, path)?;
-    match fs::symlink_metadata(rt, place.as_str()) {
-        Ok(metadata) if metadata.is_file() => {}
-        Ok(_) => return Err(Refusal::Special),
+    let place = Place::below(alloc, base, path)?;
+    match place.metadata(rt) {
+        Ok(metadata) => check_file(&metadata)?,
         Err(error) => return Err(Refusal::of_opening(&error)),
     }
-    match fs::open(rt, place.as_str()) {
+    match place.open(rt) {
         Ok(file) => Ok(file),
         Err(error) => Err(Refusal::of_opening(&error)),
     }
@@ -108,8 +115,8 @@ fn open_regular<R: Files>(rt: &R, alloc: Global, base: &str, path: &str) -> Resu
 /// Refuses a path that leads through a link.
 fn check_folders<R: Files>(rt: &R, alloc: Global, base: &str, path: &str) -> Result<(), Refusal> {
     for (end, _) in path.match_indices('/') {
-        let folder = path_in(alloc, base, path.get(..end).unwrap_or(path))?;
-        match fs::symlink_metadata(rt, folder.as_str()) {
+        let folder = Place::below(alloc, base, path.get(..end).unwrap_or(path))?;
+        match folder.metadata(rt) {
             Ok(metadata) if metadata.is_symlink() => return Err(Refusal::Special),
             Ok(_) => {}
             Err(error) => return Err(Refusal::of_opening(&error)),

@@ -1,5 +1,6 @@
 //! The files below a folder of the disk.
 ghost use Rattle.std.specs.Prelude.{◌≡◌, ◌≤◌, ◌+◌, ◌⊎◌, [], false, IfErr, IfOk, IsErrOf, OnOk, vec_len};
+ghost use Rattle.std.specs.List.Sorted.{IsPermutation};
 ghost use Rattle.bag_store.specs.FolderWalk.{data_with, files_with, folders_with};
 ghost use Rattle.bag_store.specs.Listing.{IsOrdered};
 ghost use Rattle.bag_store.specs.Tree.{most_entries};
@@ -124,6 +125,29 @@ fn walk<R: Files + AllocGlobal + Clone + Drop>(
     Ok(walk)
 }
 
+/// The listing of what was found: its files sorted, where all are paths and no two have the same.
+fn listing_of(walk: FolderWalk) -> Result<Listing, Refusal>
+    ensures ordered { IfOk result (λ listing. IsOrdered listing.files) }
+    ensures files { IfOk result (λ listing. IsPermutation walk.files.items listing.files) }
+    ensures has_data { IfOk result (λ listing. listing.has_data ≡ walk.has_data) }
+    ensures refused { IfErr result (λ refusal. refusal ≡ Device) }
+{
+    let FolderWalk {
+        files,
+        has_data,
+        ..
+    } = walk;
+    let mut files = files;
+    sort_by_path(&mut files);
+    if !are_paths(files.as_slice()) || !all_differ(files.as_slice()) {
+        return Err(Refusal::Device);
+    }
+    Ok(Listing {
+        files: Items::from_vec(files),
+        has_data,
+    })
+}
+
 /// Lists the files below the base folder. It follows no link in it, and opens no file.
 pub(crate) fn list_below<R: Files + AllocGlobal + Clone + Drop>(
     rt: &R,
@@ -136,18 +160,5 @@ pub(crate) fn list_below<R: Files + AllocGlobal + Clone + Drop>(
     if base.is_empty() {
         return Err(Refusal::Device);
     }
-    let FolderWalk {
-        files,
-        has_data,
-        ..
-    } = walk(rt, alloc, base)?;
-    let mut files = files;
-    sort_by_path(&mut files);
-    if !are_paths(files.as_slice()) || !all_differ(files.as_slice()) {
-        return Err(Refusal::Device);
-    }
-    Ok(Listing {
-        files: Items::from_vec(files),
-        has_data,
-    })
+    listing_of(walk(rt, alloc, base)?)
 }

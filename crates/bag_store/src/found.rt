@@ -2,7 +2,7 @@
 ghost use Rattle.std.specs.Prelude.{◌≡◌};
 ghost use Rattle.std.specs.Fs.{IsDir, IsFile, file_type, metadata_len};
 ghost use Rattle.bag_store.specs.declared.found.Found.TheVariants.{File, Folder};
-ghost use Rattle.bag_store.specs.declared.refusal.Refusal.TheVariants.{Special};
+ghost use Rattle.bag_store.specs.declared.refusal.Refusal.TheVariants.{NotFound, Special};
 
 use crate::refusal::Refusal;
 use std::fs::Metadata;
@@ -29,5 +29,17 @@ impl Found {
         } else {
             Err(Refusal::Special)
         }
+    }
+}
+
+/// Refuses what metadata that follows no link says is no regular file. A folder is no file, so `NotFound`.
+pub(crate) fn check_file(metadata: &Metadata) -> Result<(), Refusal>
+    ensures file { IsFile (file_type metadata.now) → result ≡ Ok tt }
+    ensures folder { IsDir (file_type metadata.now) → result ≡ Err NotFound }
+    ensures special { ¬ IsFile (file_type metadata.now) → ¬ IsDir (file_type metadata.now) → result ≡ Err Special }
+{
+    match Found::at(metadata)? {
+        Found::File(_) => Ok(()),
+        Found::Folder => Err(Refusal::NotFound),
     }
 }

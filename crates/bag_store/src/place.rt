@@ -5,6 +5,9 @@ ghost use Rattle.bag_text.specs.Path as spec;
 
 use bag_text::{Text, check_path};
 use std::alloc::{AllocError, Global};
+use std::fs::Metadata;
+use std::rt::Files;
+use std::{fs, io};
 
 /// Whether a text is a path (RFC 8493, 2 and 5.1).
 pub(crate) fn is_path(text: &str) -> bool
@@ -26,4 +29,47 @@ pub(crate) fn path_in(alloc: Global, folder: &str, name: &str) -> Result<Text, A
     path.push('/')?;
     path.push_str(name)?;
     Ok(Text::from_string(path))
+}
+
+/// Where a path below the base folder stands on the disk. Only `Place::below` makes one.
+#[derive(Drop)]
+pub(crate) struct Place {
+    text: Text,
+}
+
+impl Place {
+    pub(crate) fn below(alloc: Global, base: &str, path: &str) -> Result<Place, AllocError>
+        ensures { IfOk result (λ place. place.text ≡ path_in base.now path.now) }
+    {
+        let text = path_in(alloc, base, path)?;
+        Ok(Place { text })
+    }
+
+    /// What stands there, where no link at its end is followed.
+    pub(crate) fn metadata<R: Files>(&self, rt: &R) -> io::Result<Metadata> {
+        fs::symlink_metadata(rt, self.text.as_str())
+    }
+
+    /// Opens what stands there.
+    pub(crate) fn open<R: Files>(self, rt: &R) -> io::Result<OpenFile<R::File>>
+        ensures { IfOk result (λ opened. opened.place.text ≡ self.text) }
+    {
+        let file = fs::open(rt, self.text.as_str())?;
+        Ok(OpenFile { place: self, file })
+    }
+}
+
+/// An open file, and where it was opened. Only `Place::open` makes one.
+#[derive(Drop)]
+pub(crate) struct OpenFile<F> {
+    place: Place,
+    file: F,
+}
+
+impl<F> OpenFile<F> {
+    pub(crate) fn into_file(self) -> F
+        ensures { result ≡ self.file }
+    {
+        self.file
+    }
 }

@@ -110,7 +110,7 @@ fn refuses_what_is_no_file_below_it(rt: HostRuntime) -> Result<(), Fail> {
     for (path, fault) in [
         ("link", TreeFault::Special),
         ("link/data", TreeFault::Special),
-        ("bag", TreeFault::Special),
+        ("bag", TreeFault::NotFound),
         ("bag/../bag/data", TreeFault::NotFound),
         ("bag/none", TreeFault::NotFound),
     ] {
