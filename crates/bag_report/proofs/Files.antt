@@ -1,6 +1,6 @@
 -- The paths of listed files.
-use Rattle.std.proofs.Common.{◌≡◌, ◌≢◌, ◌<◌, ◌≤◌, zero, suc, ◌⊎◌, inl, inr, ◌+◌, ◌++◌, ◌∷◌, ℕ, List, [], length, take, get_or, Option, None, Some, Bool, true, false, cond, refl, sym, ap, ◌∙◌, subst, arith, is_some, map, Contains, bytes_eq, add-one}
-use Rattle.std.specs.Prelude.{IsTrue, All}
+use Rattle.std.proofs.Common.{◌≡◌, ◌≢◌, ◌<◌, ◌≤◌, zero, suc, inl, inr, ◌+◌, ◌++◌, ◌∷◌, ℕ, List, [], length, take, get_or, Option, None, Some, Bool, true, false, cond, refl, sym, ap, ◌∙◌, subst, arith, is_some, Contains, bytes_eq, add-one}
+use Rattle.std.specs.Prelude.{IsTrue}
 use Rattle.std.specs.Option.{option_map}
 use Rattle.std.specs.List.Sorted.{IsStrictlySortedBy}
 use Rattle.std.specs.declared.cmp.Ordering.TheVariants.{Less}
@@ -9,9 +9,9 @@ use Rattle.std.proofs.lemmas.List.Elements.{All-contains}
 use Rattle.std.proofs.lemmas.Slice.Eq.{bytes_eq-Decides}
 use Rattle.bag_text.specs.Text.{text_cmp}
 use Rattle.bag_text.specs.Path.{is_path}
-use Rattle.bag_text.proofs.ListOf.{contains_cases, contains_first, contains_behind, contains_nothing, contains_front, contains_back, contains_either, member_has}
+use Rattle.bag_text.proofs.ListOf.{contains_cases, contains_first, contains_behind, contains_nothing, member_has}
 use Rattle.bag_store.specs.Bag.{Bag, file, HasFile}
-use Rattle.bag_store.specs.Listing.{IsOrdered, entry_at, size_at}
+use Rattle.bag_store.specs.Listing.{IsOrdered, entry_at}
 use Rattle.bag_store.specs.declared.listing.FileEntry.{FileEntry}
 use Rattle.bag_report.specs.Parts.{paths_of}
 use Rattle.bag_report.specs.Steps.{AreListed}

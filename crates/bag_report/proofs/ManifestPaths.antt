@@ -1,5 +1,5 @@
 -- The paths of manifests, and the algorithms in them.
-use Rattle.std.proofs.Common.{◌≡◌, ◌≢◌, ◌⊎◌, inl, inr, ◌++◌, ◌∷◌, ℕ, List, [], Option, None, Some, Bool, true, false, refl, sym, ap, ◌∙◌, subst, cond, arith, append_assoc, is_some, MatchOption, codes, bytes_eq}
+use Rattle.std.proofs.Common.{◌≡◌, ◌≢◌, inl, inr, ◌++◌, ◌∷◌, ℕ, List, [], Option, None, Some, Bool, true, false, refl, sym, ap, ◌∙◌, cond, arith, append_assoc, MatchOption, codes, bytes_eq}
 use Rattle.std.specs.Prelude.{IsTrue}
 use Rattle.std.specs.Option.{option_map}
 use Rattle.std.specs.Str.{is_utf8}

@@ -1,5 +1,5 @@
 -- Where no file was opened.
-use Rattle.std.proofs.Common.{◌≡◌, ◌++◌, [], sym, ◌∙◌, append-nil}
+use Rattle.std.proofs.Common.{◌≡◌, [], sym, ◌∙◌, append-nil}
 use Rattle.std.proofs.lemmas.List.Elements.{All-nil}
 use Rattle.std.specs.List.Sorted.{IsStrictlySortedBy}
 use Rattle.bag_store.specs.Tree.{TreeState}

@@ -1,5 +1,5 @@
 -- The faults of manifests.
-use Rattle.std.proofs.Common.{◌≡◌, ◌≢◌, ◌<◌, ◌≤◌, ◌⊎◌, inl, inr, ◌++◌, ◌∷◌, ℕ, List, [], Option, None, Some, Bool, true, false, refl, sym, ap, ◌∙◌, subst, arith, is_some, map, Contains, nat_le, ◌↔◌, length, IsTrue, Result}
+use Rattle.std.proofs.Common.{◌≡◌, ◌≢◌, ◌<◌, ◌≤◌, ◌⊎◌, inl, inr, ◌++◌, ℕ, List, [], Option, None, Some, Bool, true, false, refl, sym, ap, ◌∙◌, subst, arith, is_some, map, Contains, nat_le, ◌↔◌, length, IsTrue, Result}
 use Rattle.std.specs.Result.{is_ok}
 use Rattle.std.specs.Cmp.{nat_cmp_total}
 use Rattle.std.specs.List.Sorted.{IsPermutation, IsSortedByKey, IsStrictlySortedBy, IsBinarySearchResult, IsSearchInRange}
@@ -36,7 +36,7 @@ use Rattle.bag_report.specs.Facts.{IsReadOf, IsManifestOf}
 use Rattle.bag_report.specs.FaultOrder.{fault_cmp}
 use Rattle.bag_report.specs.InFile.{in_file}
 use Rattle.bag_report.specs.Is.{in_line, Holds, Is, InManifest}
-use Rattle.bag_report.specs.Manifests.{entry_paths, AreByPath, unnamed, IsUnnamed, IsUnnamedFault, IsUnnamedAmong, IsUnlisted, IsLineFault, IsOfManifest, IsOfKind}
+use Rattle.bag_report.specs.Manifests.{entry_paths, AreByPath, unnamed, IsUnnamedFault, IsUnnamedAmong, IsUnlisted, IsLineFault, IsOfManifest, IsOfKind}
 use Rattle.bag_report.specs.Parts.{paths_of}
 use Rattle.bag_report.specs.Report.{asks, last_stage, IsStageOf}
 use Rattle.bag_report.specs.Steps.{AreListed, manifest_paths}

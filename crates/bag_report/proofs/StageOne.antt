@@ -1,11 +1,10 @@
 -- The faults of the declaration.
-use Rattle.std.proofs.Common.{◌≡◌, ℕ, List, [], ◌∷◌, Option, None, Some, true, false, map, refl, ap, sym, ◌∙◌, subst, arith, is_some, nat_le}
+use Rattle.std.proofs.Common.{◌≡◌, ℕ, List, [], ◌∷◌, None, Some, true, false, map, refl, ap, sym, ◌∙◌, subst, arith, is_some, nat_le}
 use Rattle.bag_text.specs.Code.{stage}
-use Rattle.bag_text.specs.Order.{IsListOf}
 use Rattle.bag_text.specs.declared.code.Code.{Code}
 use Rattle.bag_text.specs.declared.code.Code.TheVariants.{NoDeclaration, DeclarationNotUtf8, DeclarationLineCount, DeclarationLine, VersionUnsupported, EncodingUnsupported}
 use Rattle.bag_text.proofs.ListOf.{one_listed, same_members}
-use Rattle.bag_store.specs.Bag.{Bag, file, LacksFile}
+use Rattle.bag_store.specs.Bag.{Bag, file}
 use Rattle.bag_tags.specs.declared.fault.LineFault.{LineFault}
 use Rattle.bag_tags.specs.Declaration.{DeclarationFault, IsDeclarationFault}
 use Rattle.bag_tags.specs.LineFault.{AreFaults}
@@ -15,7 +14,7 @@ use Rattle.bag_report.specs.declared.options.Depth.TheVariants.{Declaration, Fas
 use Rattle.bag_report.specs.declared.options.Options.{Options}
 use Rattle.bag_report.specs.FaultOrder.{fault_cmp}
 use Rattle.bag_report.specs.InFile.{in_file, no_declaration_fault}
-use Rattle.bag_report.specs.Is.{At, in_line, Holds, Is, InDeclaration}
+use Rattle.bag_report.specs.Is.{in_line, Holds, Is, InDeclaration}
 use Rattle.bag_report.specs.Report.{asks, last_stage, IsStageOf}
 use Rattle.bag_report.specs.TagFiles.{bagit_txt}
 use Rattle.bag_report.proofs.InFile.{listed_in_file}

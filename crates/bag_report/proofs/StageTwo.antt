@@ -1,7 +1,6 @@
 -- The faults of a bag's parts.
-use Rattle.std.proofs.Common.{◌≡◌, ◌≢◌, ◌<◌, ◌⊎◌, inl, inr, ◌+◌, ◌++◌, ◌∷◌, ℕ, List, [], length, take, get_or, Option, None, Some, Bool, true, false, cond, refl, sym, ap, ◌∙◌, subst, arith, is_some, map, Contains, nat_le, codes}
+use Rattle.std.proofs.Common.{◌≡◌, ◌≢◌, ◌⊎◌, inl, inr, ◌++◌, ◌∷◌, ℕ, List, [], None, Some, Bool, true, false, refl, sym, ap, ◌∙◌, subst, arith, is_some, nat_le, codes}
 use Rattle.std.specs.Prelude.{if◌then◌else◌}
-use Rattle.std.specs.Option.{option_to_list}
 use Rattle.std.specs.List.Sorted.{IsStrictlySortedBy}
 use Rattle.std.specs.declared.cmp.Ordering.{Ordering}
 use Rattle.std.specs.declared.cmp.Ordering.TheVariants.{Less, Equal}
@@ -10,11 +9,11 @@ use Rattle.std.specs.Cmp.{nat_cmp_total}
 use Rattle.bag_text.specs.Text.{text_cmp}
 use Rattle.bag_text.specs.Alg.{rank_or_zero, alg_named}
 use Rattle.bag_text.specs.Code.{number, stage}
-use Rattle.bag_text.specs.Order.{IsListOf, IsOnly}
+use Rattle.bag_text.specs.Order.{IsListOf}
 use Rattle.bag_text.specs.declared.code.Code.{Code}
 use Rattle.bag_text.specs.declared.code.Code.TheVariants.{NoPayloadFolder, NoPayloadManifest, AlgorithmUnsupported, NotUtf8}
-use Rattle.bag_text.proofs.ListOf.{contains_cases, contains_first, contains_nothing, contains_front, contains_back, contains_either, nothing_listed, one_listed, joined, one_more, same_members}
-use Rattle.bag_store.specs.Bag.{Bag, file, HasFile, has_folder}
+use Rattle.bag_text.proofs.ListOf.{nothing_listed, one_listed, joined, same_members}
+use Rattle.bag_store.specs.Bag.{Bag, HasFile, has_folder}
 use Rattle.bag_store.specs.Listing.{IsOrdered}
 use Rattle.bag_store.specs.declared.listing.FileEntry.{FileEntry}
 use Rattle.bag_tags.specs.declared.kind.Kind.TheVariants.{Payload}
@@ -30,12 +29,12 @@ use Rattle.bag_report.specs.FaultOrder.{fault_cmp}
 use Rattle.bag_report.specs.InFile.{of_bag}
 use Rattle.bag_report.specs.Is.{At, Holds, Is}
 use Rattle.bag_report.specs.Parts.{paths_of, HasListed, IsUnsupported, HasNoText, IsFileFault, IsFaultAmong}
-use Rattle.bag_report.specs.Report.{asks, last_stage, IsReported, IsStageOf}
+use Rattle.bag_report.specs.Report.{asks, last_stage, IsStageOf}
 use Rattle.bag_report.specs.Steps.{AreListed}
 use Rattle.bag_report.specs.TagFiles.{HasManifest, IsRead}
 use Rattle.bag_report.proofs.Ascending.{self_ties}
 use Rattle.bag_report.proofs.ManifestPaths.{unsupported_once, unsupported_unread}
-use Rattle.bag_report.proofs.Files.{file_listed, listed_file, path_not_empty, take_one_more, before_next, paths_joined}
+use Rattle.bag_report.proofs.Files.{file_listed, listed_file, path_not_empty}
 
 -- faults of one stage are ordered by their paths first
 pub less_by_path : (x y : Fault) → stage x.code ≡ stage y.code → text_cmp x.path y.path ≡ Less → fault_cmp x y ≡ Less

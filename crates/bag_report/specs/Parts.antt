@@ -1,13 +1,13 @@
 -- The parts of a bag: its payload folder and its tag files (RFC 8493, 2).
-use Rattle.std.specs.Prelude.{ℕ, ◌≡◌, ◌⊎◌, Bool, true, false, List, [], Option, Some, None, map, Contains}
+use Rattle.std.specs.Prelude.{ℕ, ◌≡◌, ◌⊎◌, Bool, true, List, [], Option, Some, None, map, Contains}
 use Rattle.std.specs.Str.{is_utf8}
 use Rattle.bag_text.specs.Text.{IsNoText}
 use Rattle.bag_text.specs.Alg.{alg_named}
 use Rattle.bag_text.specs.declared.alg.Alg.{Alg}
 use Rattle.bag_text.specs.declared.alg.Alg.TheVariants.{Md5, Sha1, Sha256, Sha512}
-use Rattle.bag_text.specs.declared.code.Code.TheVariants.{NoPayloadFolder, NoPayloadManifest, AlgorithmUnsupported, NotUtf8}
+use Rattle.bag_text.specs.declared.code.Code.TheVariants.{AlgorithmUnsupported, NotUtf8}
 use Rattle.bag_tags.specs.declared.kind.Kind.{Kind}
-use Rattle.bag_tags.specs.declared.kind.Kind.TheVariants.{Payload, Tag}
+use Rattle.bag_tags.specs.declared.kind.Kind.TheVariants.{Payload}
 use Rattle.bag_tags.specs.ManifestName.{manifest_name, is_alg_text}
 use Rattle.bag_store.specs.Bag.{Bag, file}
 use Rattle.bag_store.specs.declared.listing.FileEntry.{FileEntry}

@@ -1,5 +1,5 @@
 -- The report of a bag: its faults that are asked for, in order.
-use Rattle.std.specs.Prelude.{ℕ, ◌≡◌, ◌≤◌, ◌&&◌, Bool, true, false, List, Option, Some, None, nat_le, filter, take}
+use Rattle.std.specs.Prelude.{ℕ, ◌≡◌, ◌&&◌, Bool, true, false, List, Option, Some, None, nat_le, filter, take}
 use Rattle.std.specs.Ordering.{is_lt}
 use Rattle.bag_text.specs.Code.{stage}
 use Rattle.bag_text.specs.Order.{IsListOf}

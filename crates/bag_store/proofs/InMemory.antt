@@ -1,5 +1,5 @@
 -- The bag of a tree in memory is a bag.
-use Rattle.std.proofs.Common.{◌≡◌, ℕ, ◌<◌, ◌||◌, Bool, true, false, cond, List, [], ◌∷◌, Some, is_some, All, IsUtf8, Result, Ok, Err, OnOk, OnErr, Fits, w8, get_or, refl, ap, sym, ◌∙◌, subst, arith}
+use Rattle.std.proofs.Common.{◌≡◌, ℕ, ◌<◌, ◌||◌, true, false, cond, List, [], ◌∷◌, Some, is_some, All, IsUtf8, Result, Ok, Err, OnOk, OnErr, Fits, w8, get_or, refl, ap, sym, ◌∙◌, subst, arith}
 use Rattle.std.specs.FinMap as map
 use Rattle.std.specs.FinMap.{get-insert, get-empty, slice_cmp-IsAntisymmetric, nat_cmp-IsAntisymmetric, IsAntisymmetric}
 use Rattle.std.specs.FinSet as set

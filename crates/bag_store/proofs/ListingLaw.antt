@@ -1,9 +1,8 @@
 -- An ordered listing of a bag is the list of its files.
-use Rattle.std.proofs.Common.{◌≡◌, ℕ, List, [], ◌∷◌, length, Bool, true, false, cond, ◌&&◌, Option, None, Some, refl, ap, sym, ◌∙◌, subst, map, is_lt}
+use Rattle.std.proofs.Common.{◌≡◌, ℕ, List, [], ◌∷◌, length, Bool, true, false, cond, ◌&&◌, Option, Some, refl, ap, sym, ◌∙◌, subst, map, is_lt}
 use Rattle.std.specs.Option.{option_map}
 use Rattle.std.specs.List.{AllByRecursion}
 use Rattle.std.specs.List.Sorted.{IsStrictlySortedBy}
-use Rattle.std.specs.FinMap as fin
 use Rattle.std.specs.FinMap.{find, is_sorted, entries_sorted, get-entries}
 use Rattle.std.specs.FinMap.Entries.{below_all, same_entries}
 use Rattle.std.specs.Ordering.{eq_by_cmp, is_lt}
@@ -12,10 +11,9 @@ use Rattle.std.specs.Cmp.Lexicographic.{nat_list_cmp_total}
 use Rattle.std.proofs.Math.Dec.{T}
 use Rattle.std.proofs.lemmas.Bool.{and_from}
 use Rattle.bag_text.specs.Text.{text_cmp}
-use Rattle.bag_store.specs.Bag.{Bag, files_of}
-use Rattle.bag_store.specs.Listing.{IsOrdered, IsListingOf, ListingsAreOfTheBag, size_at, entry_at}
+use Rattle.bag_store.specs.Bag.{files_of}
+use Rattle.bag_store.specs.Listing.{ListingsAreOfTheBag, size_at, entry_at}
 use Rattle.bag_store.specs.declared.listing.FileEntry.{FileEntry}
-use Rattle.bag_store.specs.declared.listing.Listing.{Listing}
 use Rattle.bag_store.proofs.InMemory.{exact_texts}
 use Rattle.bag_store.proofs.Listed.{same_test}
 

@@ -1,10 +1,10 @@
 -- The run theorem by the report of the bag.
-use Rattle.std.proofs.Common.{◌≡◌, ℕ, ◌≤◌, Bool, List, length, take, Option, IsTrue, ap, sym, ◌∙◌, subst}
+use Rattle.std.proofs.Common.{◌≡◌, ℕ, Bool, List, length, Option, ap, sym, subst}
 use Rattle.bag_store.specs.Tree.{TreeState}
 use Rattle.bag_report.specs.declared.fault.Fault.{Fault}
 use Rattle.bag_report.specs.Facts.{MayStop}
 use Rattle.bag_report.specs.Report.{IsReport, above}
-use Rattle.bag_walk.specs.Run.{IsRun, IsRunByReport, IsRunOf, IsAsked, ReachesEnd, Wrote}
+use Rattle.bag_walk.specs.Run.{IsRun, IsRunByReport, IsAsked, ReachesEnd, Wrote}
 use Rattle.bag_walk.specs.declared.outcome.Outcome.{Outcome}
 use Rattle.bag_walk.specs.declared.outcome.Request.{Request}
 use Rattle.bag_walk.proofs.Shown.{above_report, first_is_front, all_is_list, ends_at}

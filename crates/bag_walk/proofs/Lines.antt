@@ -1,14 +1,10 @@
 -- The lines of a run.
-use Rattle.std.proofs.Common.{◌≡◌, ◌≢◌, ℕ, zero, suc, get_or, ◌∷◌, ◌+◌, ◌<◌, ◌≤◌, ◌++◌, Bool, true, List, [], length, map, take, drop, Option, Some, refl, ap, sym, ◌∙◌, subst, append_assoc, append-nil, take-append-drop, length-drop, codes, add-one, arith, slice_get}
+use Rattle.std.proofs.Common.{◌≡◌, ◌≢◌, ℕ, zero, suc, get_or, ◌∷◌, ◌+◌, ◌<◌, ◌≤◌, ◌++◌, List, [], length, take, drop, Option, Some, refl, ap, sym, ◌∙◌, append_assoc, append-nil, take-append-drop, length-drop, add-one, arith, slice_get}
 use Rattle.std.specs.List.{concat}
 use Rattle.std.specs.Io.KnownBytes.{Appends}
 use Rattle.bag_report.specs.declared.fault.Fault.{Fault}
-use Rattle.bag_walk.specs.Closing.{closing, count_of}
-use Rattle.bag_walk.specs.Run.{written_line, written, lines_of_run, IsCutAt, Wrote}
+use Rattle.bag_walk.specs.Run.{written_line, written, IsCutAt}
 use Rattle.bag_walk.specs.Write.{IsCut}
-use Rattle.bag_walk.specs.declared.outcome.Outcome.{Outcome}
-use Rattle.bag_walk.specs.declared.outcome.Outcome.TheVariants.{Unwritten}
-use Rattle.bag_walk.specs.declared.outcome.Request.{Request}
 use Rattle.bag_walk.proofs.Writing.{Appends-append}
 
 -- lines, and one after them

@@ -1,11 +1,9 @@
 -- A run, by what it has at hand.
-use Rattle.std.proofs.Common.{◌≡◌, ℕ, ◌<◌, ◌≤◌, inl, ◌&&◌, Bool, true, false, true≢false, List, [], length, take, filter, Option, None, Some, Contains, IsTrue, refl, ap, sym, ◌∙◌, subst, arith}
+use Rattle.std.proofs.Common.{◌≡◌, ℕ, inl, Bool, true, false, true≢false, List, [], length, take, Option, Contains, IsTrue, refl, sym, subst, arith}
 use Rattle.std.proofs.lemmas.Grind.{common_steps}
-use Rattle.std.specs.List.{concat}
-use Rattle.std.specs.Io.KnownBytes.{Appends}
 use Rattle.bag_text.specs.Code.{stage}
 use Rattle.bag_text.specs.declared.code.Code.{Code}
-use Rattle.bag_text.specs.declared.code.Code.TheVariants.{NoDeclaration, DeclarationNotUtf8, DeclarationLineCount, DeclarationLine, VersionUnsupported, EncodingUnsupported, NoOxum, NameClash}
+use Rattle.bag_text.specs.declared.code.Code.TheVariants.{NoDeclaration, DeclarationNotUtf8, DeclarationLineCount, DeclarationLine, VersionUnsupported, EncodingUnsupported, NameClash}
 use Rattle.bag_text.proofs.ListOf.{same_members}
 use Rattle.bag_store.specs.Bag.{Bag}
 use Rattle.bag_store.specs.Tree.{TreeState}
@@ -16,7 +14,7 @@ use Rattle.bag_report.specs.declared.options.Options.{Options}
 use Rattle.bag_report.specs.FaultOrder.{fault_cmp}
 use Rattle.bag_report.specs.Facts.{MayStop}
 use Rattle.bag_report.specs.Report.{asks, IsReport, IsStageOf}
-use Rattle.bag_walk.specs.Run.{AreFirst, IsAsked, IsAnswered, IsRun, MayEnd, ReachesEnd, Wrote, written, limit_of}
+use Rattle.bag_walk.specs.Run.{IsAsked, IsAnswered, IsRun, MayEnd, ReachesEnd}
 use Rattle.bag_walk.specs.Runner.{AreAskedOf}
 use Rattle.bag_walk.specs.Writer.{Closes, WritesReport, IsOutOfMemory}
 use Rattle.bag_walk.specs.declared.outcome.Outcome.{Outcome}

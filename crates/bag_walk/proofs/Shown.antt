@@ -1,5 +1,5 @@
 -- The first faults of a set, and the report.
-use Rattle.std.proofs.Common.{◌≡◌, ℕ, zero, suc, ◌+◌, ◌<◌, ◌≤◌, ◌⊎◌, inl, inr, ◌↔◌, Bool, true, false, cond, List, [], ◌∷◌, length, take, min, filter, Option, None, Some, Contains, refl, ap, sym, ◌∙◌, subst, arith, nat_le}
+use Rattle.std.proofs.Common.{◌≡◌, ℕ, zero, suc, ◌<◌, ◌≤◌, inl, inr, Bool, true, false, cond, List, [], ◌∷◌, length, take, min, filter, None, Contains, refl, ap, sym, ◌∙◌, subst, arith, nat_le}
 use Rattle.std.specs.List.{AllByRecursion}
 use Rattle.std.specs.List.Sorted.{IsStrictlySortedBy}
 use Rattle.std.specs.declared.cmp.Ordering.{Ordering}
@@ -16,7 +16,7 @@ use Rattle.bag_report.specs.declared.fault.Fault.{Fault}
 use Rattle.bag_report.specs.FaultOrder.{fault_cmp}
 use Rattle.bag_report.specs.Report.{IsReport, is_above, above}
 use Rattle.bag_report.proofs.Ordered.{fault_cmp_total}
-use Rattle.bag_walk.specs.Run.{AreFirst, IsAsked, MayEnd, ReachesEnd, EndsAt, ideal, ended, limit_of}
+use Rattle.bag_walk.specs.Run.{AreFirst, MayEnd, ReachesEnd, EndsAt, ideal, ended, limit_of}
 use Rattle.bag_walk.specs.Runner.{AreAsked}
 use Rattle.bag_walk.specs.declared.outcome.Outcome.{Outcome}
 use Rattle.bag_walk.specs.declared.outcome.Outcome.TheVariants.{Clean, Faults, Stopped, Rest, Unread, Unwritten}

@@ -1,8 +1,8 @@
-use Rattle.std.proofs.Common.{◌≡◌, ◌⊎◌, inl, inr, ◌∷◌, ◌++◌, ℕ, List, [], refl}
-use Rattle.bag_store.specs.Bag.{Bag, file}
+use Rattle.std.proofs.Common.{inl, inr, ◌∷◌, [], refl}
+use Rattle.bag_store.specs.Bag.{file}
 use Rattle.bag_tags.specs.declared.kind.Kind.TheVariants.{Payload, Tag}
 use Rattle.bag_report.specs.Facts.{IsReadOf, IsTextTest, AreManifestsOf}
-use Rattle.bag_report.specs.Steps.{ReadsAmong, MayStopIf, AsksFor, AsksMore, manifest_paths}
+use Rattle.bag_report.specs.Steps.{MayStopIf, AsksFor, AsksMore, manifest_paths}
 use Rattle.bag_report.specs.TagFiles.{bag_info_txt, bagit_txt, fetch_txt}
 use Rattle.bag_report.proofs.Steps.{reads_on, reads_fewer, reads_nothing, stops_later, passed_on, told_later}
 use Rattle.bag_report.proofs.facts.read_tags.Goals as goal

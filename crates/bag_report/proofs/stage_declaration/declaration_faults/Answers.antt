@@ -1,7 +1,7 @@
-use Rattle.std.proofs.Common.{◌≡◌, ◌∷◌, [], ap, sym, ◌∙◌, subst, Some, None}
+use Rattle.std.proofs.Common.{◌∷◌, [], ap, ◌∙◌}
 use Rattle.std.proofs.lemmas.Result.{IfOk-weaker}
 use Rattle.bag_store.specs.Bag.{file}
-use Rattle.bag_report.specs.Facts.{IsReadOf, IsDeclarationOf}
+use Rattle.bag_report.specs.Facts.{IsDeclarationOf}
 use Rattle.bag_report.specs.TagFiles.{bagit_txt}
 use Rattle.bag_report.proofs.Reading.{was_read, was_not_read}
 use Rattle.bag_report.proofs.StageOne.{declaration_stage_listed, missing_stage_listed}

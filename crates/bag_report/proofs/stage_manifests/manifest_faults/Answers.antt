@@ -1,4 +1,4 @@
-use Rattle.std.proofs.Common.{◌≡◌, Some, sym, ap, ◌∙◌, subst, nat_le, rules}
+use Rattle.std.proofs.Common.{ap, subst, nat_le}
 use Rattle.bag_store.specs.Listing.{IsOrdered}
 use Rattle.bag_report.specs.Facts.{AreTagFactsAt}
 use Rattle.bag_report.specs.Report.{last_stage}

@@ -1,4 +1,4 @@
-use Rattle.std.proofs.Common.{◌≡◌, ◌++◌, ◌∷◌, [], List, sym, ap, ◌∙◌, subst, append-nil}
+use Rattle.std.proofs.Common.{◌≡◌, ◌++◌, [], sym, subst, append-nil}
 use Rattle.std.specs.Option.{option_to_list}
 use Rattle.bag_text.specs.Order.{IsListOf}
 use Rattle.bag_text.proofs.ListOf.{nothing_listed, contains_nothing}

@@ -1,4 +1,4 @@
-use Rattle.std.proofs.Common.{◌≡◌, sym, ◌∙◌}
+use Rattle.std.proofs.Common.{sym, ◌∙◌}
 use Rattle.bag_report.proofs.ManifestPaths.{supported_alone}
 use Rattle.bag_report.proofs.stage_parts.unsupported.Goals as goal
 

@@ -1,7 +1,5 @@
-use Rattle.std.proofs.Common.{◌≡◌, ◌∙◌, ap, refl}
+use Rattle.std.proofs.Common.{refl}
 use Rattle.std.proofs.lemmas.Result.{IfOk-weaker}
-use Rattle.std.specs.Option.{option_copied}
-use Rattle.bag_report.specs.Report.{above}
 use Rattle.bag_walk.proofs.Shown.{all_above}
 use Rattle.bag_walk.proofs.runner.faults_above.Goals as goal
 

@@ -1,7 +1,7 @@
-use Rattle.std.proofs.Common.{◌≡◌, ◌∙◌, ap, subst}
+use Rattle.std.proofs.Common.{◌≡◌, subst}
 use Rattle.std.specs.Option.{option_copied}
 use Rattle.bag_report.specs.Facts.{IsFactsOf}
-use Rattle.bag_report.specs.Report.{IsStageOf, above}
+use Rattle.bag_report.specs.Report.{IsStageOf}
 use Rattle.bag_walk.proofs.Running.{stage_is_report, seen_of}
 use Rattle.bag_walk.proofs.Shown.{above_report}
 use Rattle.bag_walk.proofs.runner.faults_asked.Goals as goal

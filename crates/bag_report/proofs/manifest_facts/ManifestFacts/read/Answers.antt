@@ -1,4 +1,4 @@
-use Rattle.std.proofs.Common.{◌≡◌, ◌∷◌, ◌++◌, List, []}
+use Rattle.std.proofs.Common.{◌∷◌, []}
 use Rattle.bag_text.specs.declared.alg.Alg.TheVariants.{Md5, Sha1, Sha256, Sha512}
 use Rattle.bag_report.specs.Steps.{MayStopIf, AsksMore}
 use Rattle.bag_report.specs.TagFiles.{manifest_of}
