@@ -1,9 +1,10 @@
 -- Codes and algorithms are told apart by their numbers.
-use Rattle.std.proofs.Common.{◌≡◌, ℕ, ◌<◌, Option, Some, None, refl, sym, ap, ◌∙◌, find, unwrap_or, ◌==◌, nat_lt, true, not, arith}
+use Rattle.std.proofs.Common.{◌≡◌, ℕ, ◌<◌, List, [], ◌∷◌, Bool, true, false, cond, subst, Option, Some, None, refl, sym, ap, ◌∙◌, find, unwrap_or, ◌==◌, nat_lt, not, arith}
 use Rattle.std.specs.List.{list_all}
 use Rattle.std.proofs.lemmas.Bool.Decides.{nat_tests}
+use Rattle.bag_tags.proofs.PickedOut.{both_true}
 use Rattle.bag_text.specs.Alg.{rank, rank_or_zero, algs}
-use Rattle.bag_text.specs.Code.{number, word, code_numbered}
+use Rattle.bag_text.specs.Code.{number, word}
 use Rattle.bag_text.specs.declared.alg.Alg.{Alg}
 use Rattle.bag_text.specs.declared.alg.Alg.TheVariants.{Md5, Sha1, Sha256, Sha512}
 use Rattle.bag_text.specs.declared.code.Code.{Code}
@@ -11,6 +12,23 @@ use Rattle.bag_text.specs.declared.code.Code.TheVariants.{NoDeclaration, Declara
 
 pub same_some : {A : Type 0} (x y : A) → Some x ≡ Some y → x ≡ y
 same_some x y e = ap (λ o. unwrap_or o x) e
+
+-- all of them, in the order of their numbers
+abbrev all_codes : List Code
+all_codes =
+    NoDeclaration ∷ DeclarationNotUtf8 ∷ DeclarationLineCount ∷ DeclarationLine ∷ VersionUnsupported ∷
+    EncodingUnsupported ∷ NoPayloadFolder ∷ NoPayloadManifest ∷ AlgorithmUnsupported ∷ NotUtf8 ∷ InfoLine ∷
+    OxumMalformed ∷ OxumAgain ∷ OxumDiffers ∷ NoOxum ∷ FetchLine ∷ FetchEscape ∷ FetchUnsafePath ∷
+    FetchOutsidePayload ∷ FetchNotInManifest ∷ ManifestLine ∷ DigestLength ∷ ManifestEscape ∷
+    ManifestUnsafePath ∷ ManifestOutsidePayload ∷ TagmanifestNamesPayload ∷ TagmanifestNamesTagmanifest ∷
+    NamedAgain ∷ PayloadManifestNotListed ∷ PayloadFileMissing ∷ TagFileMissing ∷ PayloadFileNotListed ∷
+    NameClash ∷ PayloadSumDiffers ∷ TagSumDiffers ∷ ProfileIdentifier ∷ LabelRequired ∷ LabelRepeated ∷
+    ValueNotAllowed ∷ ManifestRequired ∷ ManifestNotAllowed ∷ TagmanifestRequired ∷ TagmanifestNotAllowed ∷
+    TagFileRequired ∷ TagFileNotAllowed ∷ FetchNotAllowed ∷ VersionNotAccepted ∷ SerializationRequired ∷ []
+
+-- the code of this number
+abbrev code_numbered : ℕ → Option Code
+code_numbered n = find (λ code. number code == n) all_codes
 
 numbered_code : (c : Code) → code_numbered (number c) ≡ Some c
 numbered_code NoDeclaration = refl
@@ -62,110 +80,28 @@ numbered_code FetchNotAllowed = refl
 numbered_code VersionNotAccepted = refl
 numbered_code SerializationRequired = refl
 
--- a number has three digits
-small_test : (c : Code) → nat_lt (number c) 1000 ≡ true
-small_test NoDeclaration = refl
-small_test DeclarationNotUtf8 = refl
-small_test DeclarationLineCount = refl
-small_test DeclarationLine = refl
-small_test VersionUnsupported = refl
-small_test EncodingUnsupported = refl
-small_test NoPayloadFolder = refl
-small_test NoPayloadManifest = refl
-small_test AlgorithmUnsupported = refl
-small_test NotUtf8 = refl
-small_test InfoLine = refl
-small_test OxumMalformed = refl
-small_test OxumAgain = refl
-small_test OxumDiffers = refl
-small_test NoOxum = refl
-small_test FetchLine = refl
-small_test FetchEscape = refl
-small_test FetchUnsafePath = refl
-small_test FetchOutsidePayload = refl
-small_test FetchNotInManifest = refl
-small_test ManifestLine = refl
-small_test DigestLength = refl
-small_test ManifestEscape = refl
-small_test ManifestUnsafePath = refl
-small_test ManifestOutsidePayload = refl
-small_test TagmanifestNamesPayload = refl
-small_test TagmanifestNamesTagmanifest = refl
-small_test NamedAgain = refl
-small_test PayloadManifestNotListed = refl
-small_test PayloadFileMissing = refl
-small_test TagFileMissing = refl
-small_test PayloadFileNotListed = refl
-small_test NameClash = refl
-small_test PayloadSumDiffers = refl
-small_test TagSumDiffers = refl
-small_test ProfileIdentifier = refl
-small_test LabelRequired = refl
-small_test LabelRepeated = refl
-small_test ValueNotAllowed = refl
-small_test ManifestRequired = refl
-small_test ManifestNotAllowed = refl
-small_test TagmanifestRequired = refl
-small_test TagmanifestNotAllowed = refl
-small_test TagFileRequired = refl
-small_test TagFileNotAllowed = refl
-small_test FetchNotAllowed = refl
-small_test VersionNotAccepted = refl
-small_test SerializationRequired = refl
+passes_at : {A : Type 0} (test : A → Bool) (is_first : Bool) (first x : A) (later : Option A) → test first ≡ true → (later ≡ Some x → test x ≡ true)
+    → cond is_first (Some first) later ≡ Some x → test x ≡ true
+passes_at test true first x later here there f = subst (λ y. test y ≡ true) (same_some first x f) here
+passes_at test false first x later here there f = there f
 
+-- what is found among those that all pass a test passes it
+found_passes : {A : Type 0} (found test : A → Bool) (xs : List A) (x : A) → find found xs ≡ Some x → list_all test xs ≡ true → test x ≡ true
+found_passes found test [] x f all = cc
+found_passes found test (y ∷ ys) x f all =
+    let two = both_true (test y) (list_all test ys) all in passes_at test (found y) y x (find found ys) two.0 (λ later. found_passes found test ys x later two.1) f
+
+-- what all of the list pass, each code passes
+each_code : (test : Code → Bool) → list_all test all_codes ≡ true → (c : Code) → test c ≡ true
+each_code test all c = found_passes (λ code. number code == number c) test all_codes c (numbered_code c) all
+
+-- a number has three digits
 pub small_number : (c : Code) → number c < 1000
-small_number c = let test = small_test c in grind (arith, nat_tests)
+small_number c = let test = each_code (λ code. nat_lt (number code) 1000) refl c in grind (arith, nat_tests)
 
 -- a word is without a space
 pub word_test : (c : Code) → list_all (λ b. not (b == 32)) (word c) ≡ true
-word_test NoDeclaration = refl
-word_test DeclarationNotUtf8 = refl
-word_test DeclarationLineCount = refl
-word_test DeclarationLine = refl
-word_test VersionUnsupported = refl
-word_test EncodingUnsupported = refl
-word_test NoPayloadFolder = refl
-word_test NoPayloadManifest = refl
-word_test AlgorithmUnsupported = refl
-word_test NotUtf8 = refl
-word_test InfoLine = refl
-word_test OxumMalformed = refl
-word_test OxumAgain = refl
-word_test OxumDiffers = refl
-word_test NoOxum = refl
-word_test FetchLine = refl
-word_test FetchEscape = refl
-word_test FetchUnsafePath = refl
-word_test FetchOutsidePayload = refl
-word_test FetchNotInManifest = refl
-word_test ManifestLine = refl
-word_test DigestLength = refl
-word_test ManifestEscape = refl
-word_test ManifestUnsafePath = refl
-word_test ManifestOutsidePayload = refl
-word_test TagmanifestNamesPayload = refl
-word_test TagmanifestNamesTagmanifest = refl
-word_test NamedAgain = refl
-word_test PayloadManifestNotListed = refl
-word_test PayloadFileMissing = refl
-word_test TagFileMissing = refl
-word_test PayloadFileNotListed = refl
-word_test NameClash = refl
-word_test PayloadSumDiffers = refl
-word_test TagSumDiffers = refl
-word_test ProfileIdentifier = refl
-word_test LabelRequired = refl
-word_test LabelRepeated = refl
-word_test ValueNotAllowed = refl
-word_test ManifestRequired = refl
-word_test ManifestNotAllowed = refl
-word_test TagmanifestRequired = refl
-word_test TagmanifestNotAllowed = refl
-word_test TagFileRequired = refl
-word_test TagFileNotAllowed = refl
-word_test FetchNotAllowed = refl
-word_test VersionNotAccepted = refl
-word_test SerializationRequired = refl
+word_test = each_code (λ code. list_all (λ b. not (b == 32)) (word code)) refl
 
 pub same_code : (c d : Code) → number c ≡ number d → c ≡ d
 same_code c d e = same_some c d (sym (numbered_code c) ∙ ap code_numbered e ∙ numbered_code d)
