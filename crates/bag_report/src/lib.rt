@@ -1,4 +1,15 @@
 //! The faults of a bag: what they are, their order, their lines, and how they are found.
+//!
+//! ```
+//! let facts = Facts::read(alloc, &mut tree, options)?;
+//! for fault in &stage_faults(alloc, &facts, 5)? {
+//!     let line = fault.to_line(alloc)?;
+//!     let same = Fault::from_line(alloc, line.as_str())?;
+//! }
+//! ```
+//!
+//! Of RFC 8493 it keeps what a complete bag has (3): the declaration (2.1.1), the payload folder (2.1.2), and manifests
+//! whose lines are right (2.1.3, 2.2.1).
 #![tactic(auto)]
 
 mod fact_stop;

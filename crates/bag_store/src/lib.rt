@@ -1,4 +1,14 @@
 //! Trees of files that hold a bag, and what takes the output.
+//!
+//! ```
+//! let mut tree = FileTree::at(rt, alloc, "deposit")?;
+//! let listing = tree.list()?;
+//! for entry in listing.files.as_slice() {
+//!     let bytes = read_whole(alloc, &mut tree, entry)?;
+//! }
+//! ```
+//!
+//! Of RFC 8493 it keeps the structure of a bag: files by path, and the payload folder (2, 2.1.2).
 #![tactic(auto)]
 
 mod fault;

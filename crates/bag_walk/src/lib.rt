@@ -1,4 +1,11 @@
 //! Runs of a check: the faults of a bag, one line after the other.
+//!
+//! ```
+//! let (tree, outcome) = run(alloc, tree, request, &mut out);
+//! let exit = status(&outcome);
+//! ```
+//!
+//! What stands in the lines is said by `bag_report`; a run says which of them are written, and how it ended.
 #![tactic(auto)]
 
 mod closing;
