@@ -1,5 +1,4 @@
 pub mod Ascending
-pub mod BlankRuns
 pub mod DeclarationFaults
 pub mod FaultOrder
 pub mod Followers

@@ -5,10 +5,8 @@ ghost use Rattle.bag_tags.specs.DeclarationFaults as place;
 
 use crate::LineFault;
 use crate::declared::{encoding_of, version_of};
-use bag_text::{Code, Items, Text};
+use bag_text::{BYTE_ORDER_MARK, Code, Items, Text};
 use std::alloc::{AllocError, Global};
-
-const BYTE_ORDER_MARK: &[u8] = b"\xEF\xBB\xBF";
 
 /// The fault of bytes that aren't UTF-8.
 pub(crate) fn utf8_faults(alloc: Global) -> Result<Items<LineFault>, AllocError>
@@ -61,7 +59,7 @@ fn fault_of(alloc: Global, line: u64, code: Code, detail: &str) -> Result<LineFa
 fn mark_fault(alloc: Global, bytes: &[u8]) -> Result<Option<LineFault>, AllocError>
     ensures { IfOk result (λ fault. fault ≡ place.mark_fault bytes.now) }
 {
-    if bytes.starts_with(BYTE_ORDER_MARK) {
+    if bytes.starts_with(BYTE_ORDER_MARK.as_bytes()) {
         Ok(Some(fault_of(alloc, 0, Code::DeclarationNotUtf8, "bom")?))
     } else {
         Ok(None)

@@ -1,7 +1,15 @@
-//! Reads the tag files of a bag.
+//! Reads the tag files of a bag: what they say, and what is wrong with them, line by line.
+//!
+//! ```
+//! let manifest = read_manifest(alloc, Kind::Payload, Alg::Sha256, &bytes)?;
+//! for entry in manifest.items.as_slice() {
+//!     let (path, digest) = (entry.path.as_str(), entry.digest.as_str());
+//! }
+//! ```
+//!
+//! Of RFC 8493 it keeps the declaration (2.1.1), payload manifests (2.1.3) and tag manifests (2.2.1).
 #![tactic(auto)]
 
-mod blanks;
 mod declaration;
 mod declaration_faults;
 mod declared;

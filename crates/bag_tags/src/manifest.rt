@@ -9,11 +9,10 @@ ghost use Rattle.bag_tags.specs.Judged.{judged_all, settled_all, entry_of, fault
 ghost use Rattle.bag_tags.specs.LineFault.{AreFaults};
 ghost use Rattle.bag_tags.specs.Manifest.{IsEntry, IsManifestFault};
 
-use crate::blanks::is_blank_line;
 use crate::manifest_line::{Judged, judge};
 use crate::repeats::mark_repeats;
 use crate::{Kind, LineFault, Parsed};
-use bag_text::{Alg, Code, Items, Text, lines, text_of};
+use bag_text::{Alg, Code, Items, Text, is_blank_line, lines, text_of};
 use std::alloc::{AllocError, Global};
 
 /// A line of a manifest that reads: the digest in lower case, and the path that is named.

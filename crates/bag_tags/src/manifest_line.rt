@@ -8,10 +8,11 @@ ghost use Rattle.bag_tags.specs.Manifest as spec;
 ghost use Rattle.bag_text.specs.Text as text;
 
 use crate::Kind;
-use crate::blanks::split_at_blanks;
 use crate::manifest_name::is_manifest_name;
 use crate::prefix::without_prefix;
-use bag_text::{Alg, Code, PathFault, Text, check_path, is_payload, unescape_path};
+use bag_text::{
+    Alg, Code, PathFault, Text, check_path, is_payload, split_at_blanks, unescape_path,
+};
 use std::alloc::{AllocError, Global};
 
 /// A line that isn't blank: what it says, or why it doesn't read.

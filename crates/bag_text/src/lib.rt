@@ -1,8 +1,19 @@
 //! Texts, lines, paths, algorithms and fault codes of bags.
+//!
+//! ```
+//! for (number, line) in lines(text_of(&bytes)?) {
+//!     let path = unescape_path(alloc, line)?;
+//!     let in_payload = is_payload(path.as_str());
+//! }
+//! ```
+//!
+//! Of RFC 8493 it keeps how lines of tag files end (2.3), what a path is (2.1.2, 5.1), how manifests spell it (2.1.3), and
+//! the algorithms (2.4).
 #![tactic(auto)]
 
 mod alg;
 mod alg_set;
+mod blank;
 mod code;
 mod items;
 mod label;
@@ -17,11 +28,12 @@ mod text;
 
 pub use alg::Alg;
 pub use alg_set::AlgSet;
+pub use blank::{is_blank_line, split_at_blanks, trim};
 pub use code::Code;
 pub use items::Items;
-pub use label::{same_label, trim};
+pub use label::same_label;
 pub use line_cut::Lines;
 pub use path::{Unsafe, check_path, is_payload};
-pub use read_text::{NotUtf8, lines, text_of};
+pub use read_text::{BYTE_ORDER_MARK, NotUtf8, lines, text_of};
 pub use spelling::{PathFault, escape_path, unescape_path};
 pub use text::Text;

@@ -10,7 +10,8 @@ use super::line_cut::Lines;
 use std::str;
 use thiserror::Error;
 
-const BYTE_ORDER_MARK: &str = "\u{FEFF}";
+/// The character that may stand at the front of a text to say that it is Unicode: three bytes in UTF-8.
+pub const BYTE_ORDER_MARK: &str = "\u{FEFF}";
 
 /// The bytes aren't UTF-8.
 #[derive(Clone, Copy, Debug, PartialEq, Eq, Error)]
