@@ -1,5 +1,5 @@
 -- Reading tag files one after another.
-use Rattle.std.proofs.Common.{◌≡◌, inl, inr, ◌++◌, ◌∷◌, ℕ, List, [], Result, Ok, Err, Bool, true, false, ◌&&◌, refl, sym, ap, ◌∙◌, subst, arith, append-nil, append_assoc}
+use Rattle.std.proofs.Common.{◌≡◌, inl, inr, ◌++◌, ◌∷◌, ℕ, List, [], Result, Ok, Err, Bool, true, ◌&&◌, refl, sym, ap, ◌∙◌, subst, arith, append-nil, append_assoc}
 use Rattle.std.specs.Prelude.{IsTrue, All}
 use Rattle.std.specs.Result.{IfErr, IsErrAnd}
 use Rattle.std.proofs.lemmas.List.Elements.{All-nil, All-cons}
@@ -21,6 +21,7 @@ use Rattle.bag_store.specs.declared.listing.Listing.{Listing}
 use Rattle.bag_store.specs.declared.fault.Stop.{Stop}
 use Rattle.bag_store.specs.declared.fault.TreeFault.{TreeFault}
 use Rattle.bag_store.specs.declared.fault.TreeFault.TheVariants.{Device, Special, Name, NotFound, TooMany, Changed, NoneOpen, Memory, Exists}
+use Rattle.bag_tags.proofs.PickedOut.{both_true}
 use Rattle.bag_report.specs.declared.options.Options.{Options}
 use Rattle.bag_report.specs.Facts.{IsWanted, OpensWanted, MayStop, MayRefuseFacts}
 use Rattle.bag_report.specs.Steps.{IsPartOf, OpensAmong, ReadsAmong, AreListed, StopsReading, MayStopIf, AsksMore, AsksFor, read_paths}
@@ -74,19 +75,14 @@ less_is Less e = refl
 less_is Equal e = cc
 less_is Greater e = cc
 
-both : (a b : Bool) → (a && b) ≡ true → (a ≡ true) × (b ≡ true)
-both true true e = (refl, refl)
-both true false e = cc
-both false b e = cc
-
 below_each : (x : List ℕ) (ys : List (List ℕ)) → is_below x ys ≡ true → AllByRecursion (λ y. text_cmp x y ≡ Less) ys
 below_each x [] e = tt
-below_each x (y ∷ ys) e = let two = both (is_lt (text_cmp x y)) (is_below x ys) e in (less_is (text_cmp x y) two.0, below_each x ys two.1)
+below_each x (y ∷ ys) e = let two = both_true (is_lt (text_cmp x y)) (is_below x ys) e in (less_is (text_cmp x y) two.0, below_each x ys two.1)
 
 ascending : (xs : List (List ℕ)) → ascends xs ≡ true → IsStrictlySortedBy text_cmp xs
 unfolding IsStrictlySortedBy
 ascending [] e = tt
-ascending (x ∷ xs) e = let two = both (is_below x xs) (ascends xs) e in (below_each x xs two.0, ascending xs two.1)
+ascending (x ∷ xs) e = let two = both_true (is_below x xs) (ascends xs) e in (below_each x xs two.0, ascending xs two.1)
 
 pub keeps_on : (old mid new : TreeState) → Keeps old mid → Keeps mid new → Keeps old new
 keeps_on old mid new k l = record {
@@ -180,7 +176,7 @@ later_refusal old mid new Name k h = omega arith
 later_refusal old mid new NotFound k h = λ honest. h (k.honest ∙ honest)
 later_refusal old mid new TooMany k h = λ honest. rw (← k.entries) (h (k.honest ∙ honest))
 later_refusal old mid new Changed k h = λ honest. h (k.honest ∙ honest)
-later_refusal old mid new NoneOpen k h = λ honest. h (k.honest ∙ honest)
+later_refusal old mid new NoneOpen k h = h
 later_refusal old mid new Memory k h = tt
 later_refusal old mid new Exists k h = h
 

@@ -98,7 +98,7 @@ MayRefuseFacts old new Name = old.failures < new.failures
 MayRefuseFacts old new NotFound = ¬ (IsTrue old.honest)
 MayRefuseFacts old new TooMany = IsTrue old.honest → most_entries < old.entries
 MayRefuseFacts old new Changed = ¬ (IsTrue old.honest)
-MayRefuseFacts old new NoneOpen = ¬ (IsTrue old.honest)
+MayRefuseFacts old new NoneOpen = ⊥
 MayRefuseFacts old new Memory = Unit {0}
 MayRefuseFacts old new Exists = ⊥
 
