@@ -8,6 +8,7 @@
 #
 # PROGRAM is crates/bench_manifest/out/bench_manifest by default, which `rt run` leaves there.
 set -euo pipefail
+source "$(dirname "$0")/time.sh"
 
 program=$(realpath "${1:-$(dirname "$0")/../crates/bench_manifest/out/bench_manifest}")
 runs=${2:-5}
@@ -42,17 +43,6 @@ scattered_manifest() {
                 printf "%064d  data/collections/2021/boxes/box-%04d/images/image-%05d.tiff\n", line, place / 1000, place % 1000
             }
         }'
-}
-
-# The milliseconds of processor time that a command takes.
-milliseconds() {
-    local TIMEFORMAT='%3U %3S'
-    { time "$@" >"$work/output"; } 2>"$work/time"
-    awk '{ printf "%d\n", ($1 + $2) * 1000 }' "$work/time"
-}
-
-least() {
-    if [[ -z $1 || $2 -lt $1 ]]; then echo "$2"; else echo "$1"; fi
 }
 
 # Prints both ratios for a kind of manifest.
