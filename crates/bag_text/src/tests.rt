@@ -263,6 +263,7 @@ fn trims_and_compares_labels(rt: HostRuntime) {
         ("\u{a0}a\n", "\u{a0}a\n"),
     ] {
         assert_eq!(rt; trim(text), want);
+        assert_eq!(rt; is_blank_line(text), want.is_empty());
     }
     for (a, b, same) in [
         ("", "", true),
@@ -273,5 +274,19 @@ fn trims_and_compares_labels(rt: HostRuntime) {
         ("[", "{", false),
     ] {
         assert_eq!(rt; same_label(a, b), same, "{a}");
+    }
+}
+
+#[test]
+fn splits_lines_at_blanks(rt: HostRuntime) {
+    for (line, front, back) in [
+        ("", "", ""),
+        ("a", "a", ""),
+        ("a \t", "a", ""),
+        (" a", "", "a"),
+        ("a\t b c ", "a", "b c "),
+        ("\u{e4}\u{a0} b", "\u{e4}\u{a0}", "b"),
+    ] {
+        assert_eq!(rt; split_at_blanks(line), (front, back));
     }
 }
