@@ -119,6 +119,10 @@ reads_on ps qs old mid new r s = record {
 pub reads_fewer : (ps qs : List (List ℕ)) (old new : TreeState) → ReadsAmong ps old new → ReadsAmong (ps ++ qs) old new
 reads_fewer ps qs old new r = record { keeps = r.keeps; opens = (r.opens.0, r.opens.1, part_widened r.opens.0 ps qs r.opens.2) }
 
+-- the same, where the files and the states are told by what was read
+pub joined : {ps qs : List (List ℕ)} {old mid new : TreeState} → ReadsAmong ps old mid → ReadsAmong qs mid new → ReadsAmong (ps ++ qs) old new
+joined r s = reads_on _ _ _ _ _ r s
+
 -- files that ascend and are wanted were opened
 opens_wanted : (options : Options) (paths : List (List ℕ)) (old mid new : TreeState) → mid.openings ≡ old.openings → OpensAmong paths mid new
     → IsStrictlySortedBy text_cmp paths → AllByRecursion (IsWanted options) paths → OpensWanted options old new
