@@ -11,10 +11,10 @@ use thiserror::Error;
 #[derive(Clone, Copy, Debug, PartialEq, Eq, Error)]
 pub enum Usage {
     /// The program doesn't know the words.
-    #[error("words refused")]
+    #[error("bagit: words refused")]
     Refused,
     /// A growth was refused.
-    #[error("out of memory")]
+    #[error("bagit: out of memory")]
     Memory,
 }
 
@@ -34,7 +34,7 @@ impl Usage {
 pub fn refuse_words<E: Write>(usage: Usage, err: &mut E) -> u8
     ensures { result ≡ usage_status usage }
 {
-    let _ = writeln!(err, "bagit: {usage}");
+    let _ = writeln!(err, "{usage}");
     usage.status()
 }
 
