@@ -1,21 +1,55 @@
 -- Checks one after another.
-use Rattle.std.proofs.Common.{◌≡◌, ◌⊎◌, inl, inr, ◌+◌, ◌++◌, ◌∷◌, ◌≤◌, ◌<◌, ℕ, suc, List, [], Option, refl, sym, ap, ◌∙◌, arith, max, length, take, get_or, add-one}
+use Rattle.std.proofs.Common.{◌≡◌, ◌⊎◌, inl, inr, ◌+◌, ◌++◌, ◌∷◌, ◌≤◌, ◌<◌, ℕ, suc, List, [], Bool, Option, refl, sym, ap, ◌∙◌, arith, max, length, take, get_or, add-one}
+use Rattle.std.specs.Prelude.{⊤}
 use Rattle.std.specs.Io.KnownBytes.{Appends}
+use Rattle.std.specs.List.{concat}
 use Rattle.std.proofs.KnownBytes.{Appends-nil, Appends-trans}
 use Rattle.std.proofs.Math.Seq.{take-suc}
 use Rattle.std.specs.declared.result.Result.{Result}
 use Rattle.std.specs.declared.result.Result.TheVariants.{Ok, Err}
 use Rattle.bag_walk.specs.declared.outcome.Outcome.{Outcome}
 use Rattle.bag_walk.specs.declared.outcome.Outcome.TheVariants.{Clean, Faults, Stopped, Rest, Unread, Unwritten}
+use Rattle.bag_walk.specs.Closing.{status}
+use Rattle.bag_walk.specs.Run.{IsRun, lines_of_run}
+use Rattle.bag_walk.proofs.Running.{wider_end}
+use Rattle.bag_store.specs.Tree.{TreeState}
 use Rattle.bagit.specs.Status.{status_of_check}
-use Rattle.bagit.specs.Performed.{IsCheckOf, AreChecksOf, IsPerformed}
+use Rattle.bagit.specs.Performed.{IsCheckOf, AreChecksOf, IsPerformed, request_of}
+
+-- a run that the output took whole is a check, with the status of how it ended
+taken_whole : (name : List ℕ) (old new : TreeState) (before after : Option (List ℕ)) (refused : Bool) (outcome : Outcome)
+    → (run : IsRun old new (request_of name) before after refused outcome) → outcome ≡ run.ending
+    → Appends before after (concat (lines_of_run (request_of name) run.shown run.ending)) → IsCheckOf name before after (status outcome)
+taken_whole name old new before after refused outcome run same wrote = record {
+  seen = run.seen;
+  shown = run.shown;
+  ending = run.ending;
+  may_end = wider_end (request_of name) (length run.shown) _ (λ _. ⊤) run.ending (λ stop may. tt) run.may_end;
+  faults = run.faults;
+  all_shown = run.all_shown;
+  wrote = wrote;
+  status_is = ap status same;
+}
+
+-- a run is a check, or was refused
+pub check_of_run : (name : List ℕ) (old new : TreeState) (before after : Option (List ℕ)) (refused : Bool) (outcome : Outcome)
+    → IsRun old new (request_of name) before after refused outcome → (status outcome ≡ 3) ⊎ IsCheckOf name before after (status outcome)
+check_of_run name old new before after refused Clean run = inr (taken_whole name old new before after refused Clean run run.wrote.0 run.wrote.1)
+check_of_run name old new before after refused (Faults n) run = inr (taken_whole name old new before after refused (Faults n) run run.wrote.0 run.wrote.1)
+check_of_run name old new before after refused (Stopped n) run = inr (taken_whole name old new before after refused (Stopped n) run run.wrote.0 run.wrote.1)
+check_of_run name old new before after refused (Rest n) run = inr (taken_whole name old new before after refused (Rest n) run run.wrote.0 run.wrote.1)
+check_of_run name old new before after refused (Unread n stop) run = inl refl
+check_of_run name old new before after refused (Unwritten n) run = inl refl
 
 -- a check after nothing was written
 check_after : (name : List ℕ) (a b c : Option (List ℕ)) (n : ℕ) → Appends a b [] → IsCheckOf name b c n → IsCheckOf name a c n
 check_after name a b c n nothing check = record {
+  seen = check.seen;
   shown = check.shown;
   ending = check.ending;
   may_end = check.may_end;
+  faults = check.faults;
+  all_shown = check.all_shown;
   wrote = Appends-trans a b c [] _ nothing check.wrote;
   status_is = check.status_is;
 }

@@ -1,26 +1,30 @@
 -- What the program writes, and its exit status.
-use Rattle.std.specs.Prelude.{ℕ, ◌≡◌, ◌⊎◌, ⊤, List, [], ◌∷◌, Option, None, codes, length, max, false}
+use Rattle.std.specs.Prelude.{ℕ, ◌≡◌, ◌⊎◌, ⊤, List, [], ◌∷◌, Option, None, codes, length, max, false, Contains}
 use Rattle.std.specs.List.{concat}
 use Rattle.std.specs.Io.KnownBytes.{Appends}
+use Rattle.bag_store.specs.Bag.{Bag}
 use Rattle.bag_report.specs.declared.fault.Fault.{Fault}
 use Rattle.bag_report.specs.declared.options.Depth.TheVariants.{Declaration}
 use Rattle.bag_walk.specs.Closing.{status}
-use Rattle.bag_walk.specs.Run.{MayEnd, lines_of_run}
+use Rattle.bag_walk.specs.Run.{AreFirst, IsAsked, MayEnd, ReachesEnd, lines_of_run}
 use Rattle.bag_walk.specs.declared.outcome.Outcome.{Outcome}
 use Rattle.bag_walk.specs.declared.outcome.Request.{Request}
 use Rattle.bagit.specs.declared.plan.Action.{Action}
 use Rattle.bagit.specs.declared.plan.Action.TheVariants.{Sample, Check}
-use Rattle.bagit.specs.declared.plan.Plan.{Plan}
 
 -- what a check of the bag of this name asks for
 abbrev pub request_of : List ℕ → Request
 request_of name = record { options = record { depth = Declaration; clashes = false }; after = None; limit = None; quiet = false; name = name }
 
--- A check wrote the lines of some faults and the closing line of how it ended, and has the status of that.
+-- A check saw a bag, wrote the lines of its first faults and the closing line of how it ended, and has the status of
+-- that. Where it came to the end, these are all of the bag's faults.
 pub record IsCheckOf (name : List ℕ) (before after : Option (List ℕ)) (n : ℕ) : Type 0 where
+  pub seen : Bag
   pub shown : List Fault
   pub ending : Outcome
   pub may_end : MayEnd (request_of name) (length shown) (λ _. ⊤) ending
+  pub faults : AreFirst (IsAsked seen (request_of name)) shown
+  pub all_shown : ReachesEnd ending → (f : Fault) → IsAsked seen (request_of name) f → Contains shown f
   pub wrote : Appends before after (concat (lines_of_run (request_of name) shown ending))
   pub status_is : n ≡ status ending
 

@@ -14,7 +14,6 @@ mod usage;
 use bag_store::WriterOut;
 pub use perform::perform;
 pub use plan::{Action, Plan, plan_of};
-use std::alloc::AllocError;
 use std::env;
 use std::io::{self, ErrorKind};
 use std::process::ExitCode;

@@ -1,6 +1,6 @@
 use Rattle.std.proofs.Common.{rules, ◌≡◌, ◌⊎◌, ◌≤◌, max}
 use Rattle.bagit.specs.Performed.{IsCheckOf}
-use Rattle.bagit.specs.Status.{IsStatus, status_of_check}
+use Rattle.bagit.specs.Status.{IsStatus}
 use Rattle.bagit.proofs.Checks.{checked_more, status_within}
 use Rattle.bagit.proofs.perform.check_all.Goals as goal
 
