@@ -1,9 +1,12 @@
 //! The files below a folder of the disk.
 ghost use Rattle.std.specs.Prelude.{◌≡◌, ◌≤◌, ◌+◌, ◌⊎◌, [], false, IfErr, IfOk, IsErrOf, OnOk, vec_len};
+ghost use Rattle.std.specs.Fs.{dir_entry_name};
 ghost use Rattle.std.specs.List.Sorted.{IsPermutation};
 ghost use Rattle.bag_store.specs.FolderWalk.{data_with, files_with, folders_with};
 ghost use Rattle.bag_store.specs.Listing.{IsOrdered};
+ghost use Rattle.bag_store.specs.Place.{path_in};
 ghost use Rattle.bag_store.specs.Tree.{most_entries};
+ghost use Rattle.bag_store.specs.declared.found.Found.{Found};
 ghost use Rattle.bag_store.specs.declared.refusal.Refusal.TheVariants.{Device, Memory, TooMany};
 
 use crate::found::Found;
@@ -73,9 +76,12 @@ impl FolderWalk {
         Ok(())
     }
 
-    /// Adds what a folder's entry is.
+    /// Adds what a folder's entry is, under its name.
     fn add<R: Files>(&mut self, folder: &str, entry: &DirEntry<R, Global>) -> Result<(), Refusal>
-        ensures { OnOk result (vec_len self.new.folders + self.new.room ≤ vec_len self.old.folders + self.old.room) }
+        ensures found { OnOk result ((found : Found) × (self.new.files.items ≡ files_with self.old.files.items (path_in folder.now (dir_entry_name entry.now)) found)
+            × (self.new.folders.items ≡ folders_with self.old.folders.items (path_in folder.now (dir_entry_name entry.now)) found)
+            × (self.new.has_data ≡ data_with self.old.has_data (path_in folder.now (dir_entry_name entry.now)) found)) }
+        ensures left { OnOk result (vec_len self.new.folders + self.new.room ≤ vec_len self.old.folders + self.old.room) }
     {
         let metadata = match entry.metadata() {
             Ok(metadata) => metadata,

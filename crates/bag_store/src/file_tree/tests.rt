@@ -77,10 +77,14 @@ fn lists_files_by_the_bytes_of_their_paths(rt: HostRuntime) -> Result<(), Fail> 
     make_folders(
         &rt,
         base,
-        &["a", "data", "data/sub", "empty", "empty/empty"],
+        &[".a", "a", "data", "data/sub", "empty", "empty/empty"],
     )?;
-    make_files(&rt, base, &["é", "a/b", "a.b", "a-b", "data/sub/x"])?;
-    let expected = "true, a-b 3, a.b 3, a/b 3, data/sub/x 10, é 2";
+    make_files(
+        &rt,
+        base,
+        &["é", "a/b", "a.b", "a-b", "data/sub/x", ".b", ".a/.c"],
+    )?;
+    let expected = "true, .a/.c 5, .b 2, a-b 3, a.b 3, a/b 3, data/sub/x 10, é 2";
     assert_eq!(rt; listed(&rt, base)?.as_str(), expected);
     assert_eq!(rt;
         read(&rt, base, "data/sub/x", 10)??.as_slice(),
