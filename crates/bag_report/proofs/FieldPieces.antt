@@ -5,7 +5,7 @@ use Rattle.std.specs.Str.{bytes_eq}
 use Rattle.std.specs.List.{flat_map}
 use Rattle.percent_encoding.specs.Percent.{percent_encode, percent_encode_byte}
 use Rattle.percent_encoding.specs.AsciiSet.{should_percent_encode}
-use Rattle.bag_report.specs.declared.line.TheConstants.{ESCAPED}
+use Rattle.bag_report.specs.declared.field.TheConstants.{ESCAPED}
 use Rattle.bag_report.specs.declared.field.TheConstants.{ESCAPED_HYPHEN}
 use Rattle.bag_report.specs.FaultLine.{encoded, field}
 

@@ -10,7 +10,7 @@ use Rattle.bag_text.specs.declared.alg.Alg.{Alg}
 use Rattle.bag_text.specs.declared.alg.Alg.TheVariants.{Md5, Sha1, Sha256, Sha512}
 use Rattle.bag_text.specs.declared.code.Code.{Code}
 use Rattle.bag_text.specs.Code.{number, word}
-use Rattle.bag_report.specs.declared.line.TheConstants.{ESCAPED}
+use Rattle.bag_report.specs.declared.field.TheConstants.{ESCAPED}
 use Rattle.bag_report.specs.FaultLine.{encoded, field, alg_field, line_field, LinesTellFaultsApart}
 use Rattle.bag_report.proofs.Bytes.{utf8_bytes}
 use Rattle.bag_report.proofs.Codes.{small_number, same_code, same_some}

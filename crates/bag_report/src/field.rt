@@ -3,8 +3,10 @@ ghost use Rattle.std.specs.Prelude.{◌≡◌};
 ghost use Rattle.percent_encoding.specs.Iter.{encoded_text};
 ghost use Rattle.bag_report.specs.FaultLine.{field};
 
-use crate::line::ESCAPED;
-use percent_encoding::{AsciiSet, PercentEncode, ascii_set, percent_encode};
+use percent_encoding::{AsciiSet, CONTROLS, PercentEncode, ascii_set, percent_encode};
+
+/// The bytes that a field escapes, beside those outside ASCII.
+const ESCAPED: AsciiSet = ascii_set!(CONTROLS.add(b' ').add(b'%'));
 
 /// What a field escapes, and the hyphen, which alone stands for the empty text.
 const ESCAPED_HYPHEN: AsciiSet = ascii_set!(ESCAPED.add(b'-'));

@@ -7,10 +7,9 @@
 ghost use Rattle.std.specs.Prelude.{◌≡◌, ◌++◌, IfOk, OnOk, OnErr, string_bytes, string_len, take, decimal};
 ghost use Rattle.bag_report.specs.FaultLine as spec;
 
-use crate::Fault;
+use crate::{Fault, field_pieces};
 use bag_text::Alg;
 use itoa::Buffer;
-use percent_encoding::{AsciiSet, CONTROLS, ascii_set, percent_encode};
 use std::alloc::{AllocError, Global};
 
 impl Fault {
@@ -84,20 +83,11 @@ fn append_line_number(line: u64, out: &mut String) -> Result<(), AllocError>
     }
 }
 
-/// The bytes that a field escapes, beside those outside ASCII.
-pub(crate) const ESCAPED: AsciiSet = ascii_set!(CONTROLS.add(b' ').add(b'%'));
-
 /// Appends a text as a field of a line.
 fn append_text(text: &str, out: &mut String) -> Result<(), AllocError>
     ensures ok { OnOk result (string_bytes out.new ≡ string_bytes out.old ++ spec.field text.now) }
     ensures err { OnErr result (string_bytes out.new ≡ string_bytes out.old) }
 {
-    if text.is_empty() {
-        return out.push_str("-");
-    }
-    if text == "-" {
-        return out.push_str("%2D");
-    }
-    percent_encode(text.as_bytes(), ESCAPED).append_to(out)?;
+    field_pieces(text).append_to(out)?;
     Ok(())
 }

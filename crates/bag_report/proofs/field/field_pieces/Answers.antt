@@ -1,6 +1,6 @@
 use Rattle.std.proofs.Common.{sym, ap, ◌∙◌}
 use Rattle.percent_encoding.specs.Percent.{percent_encode}
-use Rattle.bag_report.specs.declared.line.TheConstants.{ESCAPED}
+use Rattle.bag_report.specs.declared.field.TheConstants.{ESCAPED}
 use Rattle.bag_report.proofs.Escapes.{same_escapes, other_field, nonempty}
 use Rattle.bag_report.proofs.FieldPieces.{empty_field, hyphen_field, plain_hyphen, escaped_hyphen}
 use Rattle.bag_report.proofs.field.field_pieces.Goals as goal
