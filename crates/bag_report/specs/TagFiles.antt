@@ -4,9 +4,8 @@ use Rattle.bag_text.specs.Lines.{lines_of_file}
 use Rattle.bag_text.specs.Alg.{name}
 use Rattle.bag_text.specs.declared.alg.Alg.{Alg}
 use Rattle.bag_tags.specs.declared.kind.Kind.{Kind}
-use Rattle.bag_tags.specs.declared.manifest.ManifestEntry.{ManifestEntry}
 use Rattle.bag_tags.specs.ManifestName.{manifest_name, is_alg_text}
-use Rattle.bag_tags.specs.Manifest.{named, IsEntry}
+use Rattle.bag_tags.specs.Manifest.{named}
 use Rattle.bag_store.specs.Bag.{Bag, file, HasFile}
 use Rattle.std.specs.Prelude.{[], Option, Some, None}
 
@@ -38,10 +37,6 @@ manifest_of kind alg = manifest_name kind (name alg)
 -- that manifest is there
 abbrev pub HasSupported : Bag → Kind → Alg → Type 0
 HasSupported bag kind alg = HasFile bag (manifest_of kind alg)
-
--- an entry of that manifest; one that isn't there has none
-abbrev pub HasEntry : Bag → Kind → Alg → ManifestEntry → Type 0
-HasEntry bag kind alg e = IsEntry kind alg (lines_in bag (manifest_of kind alg)) e
 
 -- the paths that the manifest's lines name, in their order
 abbrev pub named_in : Bag → Kind → Alg → List (List ℕ)

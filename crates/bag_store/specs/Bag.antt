@@ -1,9 +1,9 @@
 -- A bag: files by their paths, and the folders of its base folder (RFC 8493, 2).
-use Rattle.std.specs.Prelude.{ℕ, ◌<◌, ◌≡◌, Bool, true, false, List, ◌++◌, length, Option, Some, filter, sum_by, All, IsTrue, IsUtf8, codes, decimal}
+use Rattle.std.specs.Prelude.{ℕ, ◌<◌, ◌≡◌, Bool, true, false, List, Option, Some, All, IsTrue, IsUtf8}
 use Rattle.std.specs.FinMap as map
 use Rattle.std.specs.FinSet as set
 use Rattle.bag_text.specs.Text.{text_cmp}
-use Rattle.bag_text.specs.Path.{is_path, is_payload_path, is_base_name, under}
+use Rattle.bag_text.specs.Path.{is_path, is_base_name, under}
 
 pub record Bag : Type 0 where
   -- the bytes of each file
@@ -29,28 +29,6 @@ has_folder bag name = set.contains bag.folders name
 -- the files in path order, each with its bytes
 abbrev pub files_of : Bag → List (List ℕ × List ℕ)
 files_of bag = map.entries bag.files
-
-abbrev pub payload : Bag → List (List ℕ × List ℕ)
-payload bag = filter (λ e. is_payload_path e.0) (files_of bag)
-
--- a file of the payload
-abbrev pub IsPayloadFile : Bag → List ℕ → Type 0
-IsPayloadFile bag path = (is_payload_path path ≡ true) × HasFile bag path
-
--- a file that isn't of the payload
-abbrev pub IsTagFile : Bag → List ℕ → Type 0
-IsTagFile bag path = (is_payload_path path ≡ false) × HasFile bag path
-
--- the total bytes of files, and their number (RFC 8493, 2.2.2: Payload-Oxum)
-abbrev pub oxum_of_files : List (List ℕ × List ℕ) → ℕ × ℕ
-oxum_of_files files = (sum_by (λ e. length e.1) files, length files)
-
-abbrev pub oxum : Bag → ℕ × ℕ
-oxum bag = oxum_of_files (payload bag)
-
--- `OCTETS.STREAMS`
-abbrev pub oxum_text : ℕ × ℕ → List ℕ
-oxum_text sums = decimal sums.0 ++ codes "." ++ decimal sums.1
 
 -- what every tree's bag is: paths that are texts, and the folders that they need
 pub record IsBag (bag : Bag) : Type 0 where
