@@ -4,10 +4,11 @@ ghost use Rattle.std.specs.Char.{is_ascii_digit};
 ghost use Rattle.std.specs.List.{list_all};
 ghost use Rattle.std.specs.Option.{option_copied};
 ghost use Rattle.bag_text.specs.Number.{is_digits};
-ghost use Rattle.bag_text.specs.Text.{is_blank};
+ghost use Rattle.bag_text.specs.Text as texts;
 ghost use Rattle.bag_tags.specs.Declaration as spec;
 
 use crate::prefix::after_prefix;
+use bag_text::is_blank;
 
 /// The version that line 1 declares, where it reads.
 pub(crate) fn version_of(line: &str) -> Option<&str>
@@ -68,7 +69,7 @@ fn is_encoding(text: &str) -> bool
 }
 
 fn has_no_blank(text: &str) -> bool
-    ensures { result ≡ list_all (λ c. not (is_blank c)) text.now }
+    ensures { result ≡ list_all (λ c. not (texts.is_blank c)) text.now }
 {
-    text.as_bytes().iter().all(|b| *b != b' ' && *b != b'\t')
+    text.as_bytes().iter().all(|b| !is_blank(*b))
 }

@@ -1,11 +1,10 @@
 //! One line of a manifest (RFC 8493, 2.1.3 and 2.2.1).
-ghost use Rattle.std.specs.Prelude.{◌≡◌, Ok, Err, IfOk, MatchOption, MatchResult, string_bytes};
+ghost use Rattle.std.specs.Prelude.{◌≡◌, Ok, Err, IfOk, MatchOption, MatchResult};
 ghost use Rattle.std.specs.Char.{is_ascii_hexdigit};
 ghost use Rattle.std.specs.List.{list_all};
 ghost use Rattle.std.specs.Str.{str_to_ascii_lowercase};
 ghost use Rattle.bag_tags.specs.Judged as judged;
 ghost use Rattle.bag_tags.specs.Manifest as spec;
-ghost use Rattle.bag_text.specs.Text as text;
 
 use crate::Kind;
 use crate::manifest_name::is_manifest_name;

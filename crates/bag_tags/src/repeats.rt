@@ -1,5 +1,5 @@
 //! Lines of a manifest that name a path again.
-ghost use Rattle.std.specs.Prelude.{◌≡◌, ◌↔◌, ◌+◌, ◌<◌, ℕ, IfOk, OnOk, All, Contains, IsTrue, bytes_eq, length, map};
+ghost use Rattle.std.specs.Prelude.{◌≡◌, ◌↔◌, ◌<◌, ℕ, IfOk, OnOk, All, Contains, IsTrue, bytes_eq, length, map};
 ghost use Rattle.std.specs.List.Sorted.{IsStrictlySortedBy};
 ghost use Rattle.bag_tags.specs.Judged.{settled};
 ghost use Rattle.bag_tags.specs.Fingerprint.{fingerprint};

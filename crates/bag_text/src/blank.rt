@@ -68,7 +68,7 @@ fn before_blank(bytes: &[u8]) -> usize
 }
 
 /// Whether a byte is a space or a tab.
-fn is_blank(byte: u8) -> bool
+pub fn is_blank(byte: u8) -> bool
     ensures { result ≡ spec.is_blank byte }
 {
     byte == b' ' || byte == b'\t'

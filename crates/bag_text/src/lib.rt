@@ -2,8 +2,8 @@
 //!
 //! ```
 //! for (number, line) in lines(text_of(&bytes)?) {
-//!     let path = unescape_path(alloc, line)?;
-//!     let in_payload = is_payload(path.as_str());
+//!     let (digest, spelling) = split_at_blanks(line);
+//!     let path = unescape_path(alloc, spelling)?;
 //! }
 //! ```
 //!
@@ -28,7 +28,7 @@ mod text;
 
 pub use alg::Alg;
 pub use alg_set::AlgSet;
-pub use blank::{is_blank_line, split_at_blanks, trim};
+pub use blank::{is_blank, is_blank_line, split_at_blanks, trim};
 pub use code::Code;
 pub use items::Items;
 pub use label::same_label;

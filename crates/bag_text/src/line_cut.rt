@@ -7,6 +7,10 @@ ghost use Rattle.bag_text.specs.Lines.{lines};
 
 use memchr::memchr2;
 
+const LINE_FEED: u8 = b'\n';
+
+const CARRIAGE_RETURN: u8 = b'\r';
+
 /// The lines of a text that are left, and the number of the first of them.
 #[derive(Clone, Copy, Debug)]
 pub struct Lines<'a> {
@@ -69,7 +73,7 @@ fn line_end(bytes: &[u8]) -> Option<usize>
     ensures found { result ≡ position is_line_end bytes.now }
     ensures none { IfNone result (All (λ b. is_line_end b ≡ false) bytes.now) }
 {
-    memchr2(b'\n', b'\r', bytes)
+    memchr2(LINE_FEED, CARRIAGE_RETURN, bytes)
 }
 
 /// Where the next line begins, after the end that begins at this place.
@@ -78,7 +82,7 @@ fn after_end(bytes: &[u8], end: usize) -> usize
     ensures value { result ≡ end + end_len bytes.now end }
     ensures within { result ≤ length bytes.now }
 {
-    if bytes[end] == b'\r' && bytes.get(end + 1) == Some(&b'\n') {
+    if bytes[end] == CARRIAGE_RETURN && bytes.get(end + 1) == Some(&LINE_FEED) {
         end + 2
     } else {
         end + 1
