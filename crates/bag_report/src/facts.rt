@@ -5,7 +5,6 @@ ghost use Rattle.bag_store.specs.Tree.{Keeps};
 ghost use Rattle.bag_report.specs.Steps.{ReadsAmong, AreListed, IsSeenAt, AreTagFactsSeen, MayStopIf, AsksFor, AsksMore, read_paths};
 ghost use Rattle.bag_report.specs.TagFiles.{bagit_txt};
 
-use crate::fact_stop::stop_without_path;
 use crate::manifest_facts::ManifestFacts;
 use crate::tag_facts::TagFacts;
 use crate::tag_reader::{bytes_at, text_at};
@@ -42,7 +41,7 @@ impl Facts {
     {
         let listing = match tree.list() {
             Ok(listing) => listing,
-            Err(cause) => return Err(stop_without_path(alloc, cause)),
+            Err(cause) => return Err(Stop::without_path(alloc, cause)),
         };
         if options.depth == Depth::Declaration {
             let declaration = declaration_at(alloc, tree, listing.files.as_slice())?;
@@ -110,7 +109,7 @@ fn declaration_at<T: Tree>(
         None => Ok(None),
         Some(bytes) => match read_declaration(alloc, &bytes) {
             Ok(declaration) => Ok(Some(declaration)),
-            Err(_) => Err(stop_without_path(alloc, TreeFault::Memory)),
+            Err(_) => Err(Stop::without_path(alloc, TreeFault::Memory)),
         },
     }
 }

@@ -10,7 +10,6 @@ ghost use Rattle.bag_report.specs.Parts.{known_of};
 ghost use Rattle.bag_report.specs.Steps.{ReadsAmong, AreListed, IsSeenAt, AreManifestsSeen, MayStopIf, AsksMore, manifest_paths};
 ghost use Rattle.bag_report.specs.TagFiles.{manifest_of};
 
-use crate::fact_stop::stop_without_path;
 use crate::tag_reader::bytes_at;
 use bag_store::{FileEntry, Stop, Tree, TreeFault};
 use bag_tags::{Kind, LineFault, ManifestEntry, Parsed, read_manifest};
@@ -120,7 +119,7 @@ fn manifest_at<T: Tree>(
         None => Ok(None),
         Some(bytes) => match Manifest::parse(alloc, kind, alg, &bytes) {
             Ok(manifest) => Ok(Some(manifest)),
-            Err(_) => Err(stop_without_path(alloc, TreeFault::Memory)),
+            Err(_) => Err(Stop::without_path(alloc, TreeFault::Memory)),
         },
     }
 }

@@ -1,10 +1,10 @@
 //! Why a tree refused a call.
-ghost use Rattle.std.specs.Prelude.{◌≡◌};
+ghost use Rattle.std.specs.Prelude.{◌≡◌, []};
 ghost use Rattle.bag_store.specs.declared.fault.TreeFault.TheVariants.{Memory};
 ghost use Rattle.bag_store.specs.Cause as spec;
 
 use bag_text::Text;
-use std::alloc::{AllocError, AllocFailed};
+use std::alloc::{AllocError, AllocFailed, Global};
 use thiserror::Error;
 
 /// Why a tree refused a call.
@@ -80,4 +80,17 @@ impl<T: Drop> From<AllocFailed<T>> for TreeFault {
 pub struct Stop {
     pub cause: TreeFault,
     pub path: Text,
+}
+
+impl Stop {
+    /// A refusal that is about no file.
+    pub fn without_path(alloc: Global, cause: TreeFault) -> Stop
+        ensures cause { result.cause ≡ cause }
+        ensures path { result.path ≡ [] }
+    {
+        Stop {
+            cause,
+            path: Text::empty(alloc),
+        }
+    }
 }

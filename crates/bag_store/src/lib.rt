@@ -17,7 +17,7 @@ mod file_tree;
 mod folder_set;
 mod folder_walk;
 mod found;
-mod laws;
+pub mod laws;
 mod listing;
 mod memory_tree;
 mod out;
@@ -31,7 +31,6 @@ mod whole;
 
 pub use fault::{Stop, TreeFault};
 pub use file_tree::FileTree;
-pub use laws::listings_are_of_the_bag;
 pub use listing::{FileEntry, Listing};
 pub use memory_tree::MemoryTree;
 pub use out::{Out, Refused, WriterOut};

@@ -16,7 +16,8 @@ use Rattle.bag_report.specs.Facts.{MayStop}
 use Rattle.bag_report.specs.Report.{asks, IsReport, IsStageOf}
 use Rattle.bag_walk.specs.Run.{IsAsked, IsAnswered, IsRun, MayEnd, ReachesEnd}
 use Rattle.bag_walk.specs.Runner.{AreAskedOf}
-use Rattle.bag_walk.specs.Writer.{Closes, WritesReport, IsOutOfMemory}
+use Rattle.bag_report.specs.Stops.{IsOutOfMemory}
+use Rattle.bag_walk.specs.Writer.{Closes, WritesReport}
 use Rattle.bag_walk.specs.declared.outcome.Outcome.{Outcome}
 use Rattle.bag_walk.specs.declared.outcome.Outcome.TheVariants.{Clean, Faults, Stopped, Rest, Unread, Unwritten}
 use Rattle.bag_walk.specs.declared.outcome.Request.{Request}
@@ -51,7 +52,7 @@ stage_is_report bag options faults d list =
 pub memory_may_stop : (options : Options) (old new : TreeState) (stop : Stop) → IsOutOfMemory stop → MayStop options old new stop
 memory_may_stop options old new stop m = record { cause = rw m.0 tt; path = inl m; memory = λ _. m.1 }
 
-wider_end : (request : Request) (n : ℕ) (P Q : Stop → Type 0) (ending : Outcome) → ((stop : Stop) → P stop → Q stop) → MayEnd request n P ending → MayEnd request n Q ending
+pub wider_end : (request : Request) (n : ℕ) (P Q : Stop → Type 0) (ending : Outcome) → ((stop : Stop) → P stop → Q stop) → MayEnd request n P ending → MayEnd request n Q ending
 wider_end request n P Q Clean more m = m
 wider_end request n P Q (Faults k) more m = m
 wider_end request n P Q (Stopped k) more m = m

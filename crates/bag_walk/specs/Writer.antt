@@ -1,8 +1,7 @@
 -- What is written of a list of faults that is at hand.
-use Rattle.std.specs.Prelude.{ℕ, ◌≡◌, ◌≤◌, ◌⊎◌, Bool, true, List, [], Option, length, take}
+use Rattle.std.specs.Prelude.{ℕ, ◌≡◌, ◌≤◌, ◌⊎◌, Bool, true, List, Option, length, take}
 use Rattle.std.specs.Io.KnownBytes.{Appends}
 use Rattle.bag_store.specs.declared.fault.Stop.{Stop}
-use Rattle.bag_store.specs.declared.fault.TreeFault.TheVariants.{Memory}
 use Rattle.bag_report.specs.declared.fault.Fault.{Fault}
 use Rattle.bag_walk.specs.Closing.{closing, count_of}
 use Rattle.bag_walk.specs.Run.{MayEnd, ReachesEnd, Wrote}
@@ -10,10 +9,6 @@ use Rattle.bag_walk.specs.Write.{IsCut}
 use Rattle.bag_walk.specs.declared.outcome.Outcome.{Outcome}
 use Rattle.bag_walk.specs.declared.outcome.Outcome.TheVariants.{Unwritten}
 use Rattle.bag_walk.specs.declared.outcome.Request.{Request}
-
--- there was no memory
-abbrev pub IsOutOfMemory : Stop → Type 0
-IsOutOfMemory stop = (stop.cause ≡ Memory) × (stop.path ≡ [])
 
 -- the closing line of an outcome was written, or the output refused it
 abbrev pub Closes : Request → Outcome → Option (List ℕ) → Option (List ℕ) → Bool → Outcome → Type 0

@@ -1,14 +1,14 @@
 //! Writes faults one line after the other, and the closing line.
 ghost use Rattle.std.specs.Prelude.{◌≡◌, ◌<◌, OnOk, string_bytes};
 ghost use Rattle.bag_walk.specs.Run.{limit_of, ended, written_line};
-ghost use Rattle.bag_walk.specs.Writer.{Closes, WritesReport, IsOutOfMemory};
+ghost use Rattle.bag_report.specs.Stops.{IsOutOfMemory};
+ghost use Rattle.bag_walk.specs.Writer.{Closes, WritesReport};
 
 use crate::closing::put_closing;
 use crate::write::put_all;
 use crate::{Outcome, Request};
 use bag_report::Fault;
 use bag_store::{Out, Refused, Stop, TreeFault};
-use bag_text::Text;
 use std::alloc::{AllocError, Global};
 
 /// Writes the lines of the faults up to the limit, and the closing line.
@@ -26,7 +26,11 @@ pub(crate) fn write_report<W: Out>(
     let mut written: u64 = 0;
     for fault in faults {
         let Ok(()) = fill_line(&mut line, fault) else {
-            return close(request, Outcome::Unread(written, out_of_memory(alloc)), out);
+            return close(
+                request,
+                Outcome::Unread(written, Stop::without_path(alloc, TreeFault::Memory)),
+                out,
+            );
         };
         if let Err(Refused) = put_all(out, line.as_bytes()) {
             return Outcome::Unwritten(written);
@@ -56,16 +60,6 @@ fn end_of_report(request: &Request, written: u64) -> Outcome
         (Some(_), _) => Outcome::Rest(written),
         (None, 0) => Outcome::Clean,
         (None, _) => Outcome::Faults(written),
-    }
-}
-
-/// There is no memory.
-pub(crate) fn out_of_memory(alloc: Global) -> Stop
-    ensures { IsOutOfMemory result }
-{
-    Stop {
-        cause: TreeFault::Memory,
-        path: Text::empty(alloc),
     }
 }
 

@@ -10,10 +10,10 @@ ghost use Rattle.bag_report.specs.declared.options.Depth.TheVariants.{Declaratio
 ghost use Rattle.bag_walk.specs.Run.{IsRun, IsRunByReport};
 ghost use Rattle.bag_walk.specs.Runner.{AreAskedOf};
 
-use crate::report_writer::{close, out_of_memory, write_report};
+use crate::report_writer::{close, write_report};
 use crate::{Outcome, Request};
 use bag_report::{Facts, Fault, stage_faults};
-use bag_store::{Out, Stop, Tree};
+use bag_store::{Out, Stop, Tree, TreeFault};
 use std::alloc::{AllocError, Global};
 
 /// Writes the faults of a tree's bag that the request asks for, one line each, and a closing line.
@@ -62,7 +62,7 @@ fn faults_asked<T: Tree>(alloc: Global, tree: &mut T, request: &Request) -> Resu
 {
     let facts = Facts::read(alloc, tree, request.options)?;
     let Ok(faults) = faults_above(alloc, &facts, request.after.as_ref()) else {
-        return Err(out_of_memory(alloc));
+        return Err(Stop::without_path(alloc, TreeFault::Memory));
     };
     Ok(faults)
 }

@@ -3,7 +3,7 @@ use Rattle.std.specs.Io.KnownBytes.{Appends}
 use Rattle.std.specs.List.{concat}
 use Rattle.bag_walk.specs.Run.{limit_of, written_line, written}
 use Rattle.bag_walk.specs.Write.{IsCut}
-use Rattle.bag_walk.specs.Writer.{IsOutOfMemory}
+use Rattle.bag_report.specs.Stops.{IsOutOfMemory}
 use Rattle.bag_walk.specs.declared.outcome.Outcome.TheVariants.{Stopped, Unread}
 use Rattle.bag_walk.proofs.Writing.{Appends-append}
 use Rattle.bag_walk.proofs.Lines.{written_more}
@@ -13,8 +13,8 @@ use Rattle.bag_walk.proofs.report_writer.write_report.Goals as goal
 pub returns-in_default : goal.returns-in_default
 returns-in_default g c =
     let count = c.loop-fault.invariant.count in
-    closed_report c.args.request.now IsOutOfMemory c.args.faults.now c.loop-fault.fault-index _ _ _ _ (Unread c.loop-fault.written c.out_of_memory.result) _
-    (omega arith) (count, omega arith, c.out_of_memory.ensures) (λ reached. absurd reached) c.loop-fault.invariant.taken c.close.ensures
+    closed_report c.args.request.now IsOutOfMemory c.args.faults.now c.loop-fault.fault-index _ _ _ _ (Unread c.loop-fault.written c.without_path.result) _
+    (omega arith) (count, omega arith, (c.without_path.ensures.cause, c.without_path.ensures.path)) (λ reached. absurd reached) c.loop-fault.invariant.taken c.close.ensures
 
 pub returns-in-Err : goal.returns-in-Err
 returns-in-Err g c =
