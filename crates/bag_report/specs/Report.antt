@@ -5,20 +5,19 @@ use Rattle.bag_text.specs.Code.{stage}
 use Rattle.bag_text.specs.Order.{IsListOf}
 use Rattle.bag_text.specs.declared.code.Code.{Code}
 use Rattle.bag_text.specs.declared.code.Code.TheVariants.{NoOxum, NameClash}
-use Rattle.bag_store.specs.Bag.{Bag}
-use Rattle.bag_report.specs.declared.fault.Fault.{Fault}
-use Rattle.bag_report.specs.declared.options.Depth.{Depth}
-use Rattle.bag_report.specs.declared.options.Depth.TheVariants.{Declaration, Fast, Complete, Full}
-use Rattle.bag_report.specs.declared.options.Options.{Options}
-use Rattle.bag_report.specs.FaultOrder.{fault_cmp}
+use Rattle.bag_tree.specs.Bag.{Bag}
+use Rattle.bag_fault.specs.FaultOrder.{fault_cmp}
+use Rattle.bag_fault.specs.declared.fault.Fault.{Fault}
+use Rattle.bag_facts.specs.Options.{last_stage}
+use Rattle.bag_facts.specs.declared.options.Depth.{Depth}
+use Rattle.bag_facts.specs.declared.options.Depth.TheVariants.{Fast}
+use Rattle.bag_facts.specs.declared.options.Options.{Options}
 use Rattle.bag_report.specs.Is.{Is}
 
--- the last stage of a depth
-abbrev pub last_stage : Depth → ℕ
-last_stage Declaration = 1
-last_stage Fast = 3
-last_stage Complete = 6
-last_stage Full = 7
+-- what a report is of
+pub record Check : Type 0 where
+  pub bag : Bag
+  pub options : Options
 
 abbrev pub is_fast : Depth → Bool
 is_fast Fast = true
@@ -35,16 +34,16 @@ asks options NameClash = options.clashes && has_stage options (stage NameClash)
 asks options code = has_stage options (stage code)
 
 -- a fault of the bag that is asked for
-abbrev pub IsReported : Bag → Options → Fault → Type 0
-IsReported bag options f = Is bag f × (asks options f.code ≡ true)
+abbrev pub IsReported : Check → Fault → Type 0
+IsReported check f = Is check.bag f × (asks check.options f.code ≡ true)
 
 -- the ascending list of exactly these
-abbrev pub IsReport : Bag → Options → List Fault → Type 0
-IsReport bag options report = IsListOf fault_cmp (IsReported bag options) report
+abbrev pub IsReport : Check → List Fault → Type 0
+IsReport check report = IsListOf fault_cmp (IsReported check) report
 
 -- the part of the report that is of one stage
-abbrev pub IsStageOf : Bag → Options → ℕ → List Fault → Type 0
-IsStageOf bag options k faults = IsListOf fault_cmp (λ f. IsReported bag options f × (stage f.code ≡ k)) faults
+abbrev pub IsStageOf : Check → ℕ → List Fault → Type 0
+IsStageOf check k faults = IsListOf fault_cmp (λ f. IsReported check f × (stage f.code ≡ k)) faults
 
 -- a fault is greater than a cursor; each is where there is none
 abbrev pub is_above : Option Fault → Fault → Bool
@@ -61,6 +60,4 @@ first n faults = take n faults
 
 -- the law: a bag has one report
 abbrev pub ReportIsOne : Type 0
-ReportIsOne =
-    (bag : Bag) (options : Options) (one other : List Fault)
-    → IsReport bag options one → IsReport bag options other → one ≡ other
+ReportIsOne = (check : Check) (one other : List Fault) → IsReport check one → IsReport check other → one ≡ other

@@ -1,45 +1,12 @@
 //! Laws of the definitions, each the contract of a function that gives nothing.
-ghost use Rattle.bag_report.specs.FaultLine.{LinesTellFaultsApart};
-ghost use Rattle.bag_report.specs.FaultOrder.{FaultsAreOrdered, OneOfThreeHolds, EqualFaultsAreOne, AscendingFaultsAreOne, IsFault};
 ghost use Rattle.bag_report.specs.Report.{ReportIsOne};
 
-use crate::Fault;
-
-/// The order of faults is total, and faults that tie are one fault.
-pub fn faults_are_ordered()
-    ensures { FaultsAreOrdered }
-{}
-
-/// Of two faults one is less, or they are one fault, and only one of these holds.
-pub fn one_of_three_holds()
-    ensures { OneOfThreeHolds }
-{}
-
-/// Faults that `==` finds equal are one fault, and no others are.
-pub fn equal_faults_are_one()
-    ensures { EqualFaultsAreOne }
-{}
-
-/// Two ascending lists of faults with the same members are one list.
-pub fn ascending_faults_are_one()
-    ensures { AscendingFaultsAreOne }
-{}
-
-/// Different faults have different lines.
-pub fn lines_tell_faults_apart()
-    ensures { LinesTellFaultsApart }
-{}
+pub use bag_fault::laws::{
+    ascending_faults_are_one, equal_faults_are_one, every_fault_is_one, faults_are_ordered,
+    lines_tell_faults_apart, one_of_three_holds,
+};
 
 /// A bag has one report.
 pub fn a_bag_has_one_report()
     ensures { ReportIsOne }
 {}
-
-/// Every fault has UTF-8 texts, and a line number that fits 64 bits.
-pub fn every_fault_is_one(fault: &Fault)
-    ensures { IsFault fault.now }
-{
-    let _path = fault.path.as_str();
-    let _line = fault.line;
-    let _detail = fault.detail.as_str();
-}

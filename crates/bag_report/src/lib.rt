@@ -1,4 +1,4 @@
-//! The faults of a bag: what they are, their order, their lines, and how they are found.
+//! The report of a bag: what is a fault of it, which faults are asked for, and how they are found, stage by stage.
 //!
 //! ```
 //! let facts = Facts::read(alloc, &mut tree, options)?;
@@ -8,33 +8,13 @@
 //! }
 //! ```
 //!
-//! Of RFC 8493 it keeps what a complete bag has (3): the declaration (2.1.1), the payload folder (2.1.2), and manifests
-//! whose lines are right (2.1.3, 2.2.1).
+//! Of RFC 8493 it keeps what a complete bag has (3). What is read of a bag is in `bag_facts`, faults and their lines are in
+//! `bag_fault`, and the faults of each stage are in `bag_stages`.
 #![tactic(auto)]
 
-mod fact_stop;
-mod facts;
-mod fault;
-mod field;
-mod from_line;
 pub mod laws;
-mod line;
-mod manifest_facts;
-mod options;
-mod stage_declaration;
-mod stage_manifests;
-mod stage_parts;
 mod stages;
-mod tag_facts;
-mod tag_file;
-mod tag_reader;
 
-pub use facts::Facts;
-pub use fault::Fault;
-pub use field::field_pieces;
-pub use from_line::CursorFault;
-pub use options::{Depth, Options};
+pub use bag_facts::{Depth, Facts, Manifest, Options, TagFacts};
+pub use bag_fault::{CursorFault, Fault, field_pieces};
 pub use stages::stage_faults;
-
-#[cfg(test)]
-mod tests;

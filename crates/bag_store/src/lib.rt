@@ -8,31 +8,15 @@
 //! }
 //! ```
 //!
-//! Of RFC 8493 it keeps the structure of a bag: files by path, and the payload folder (2, 2.1.2).
+//! Of RFC 8493 it keeps the structure of a bag: files by path, and the payload folder (2, 2.1.2). What a tree means is in
+//! `bag_tree`; trees in memory are in `bag_memory`, and those of the files on a disk in
+//! `bag_disk`.
 #![tactic(auto)]
 
-mod fault;
-mod file_map;
-mod file_tree;
-mod folder_set;
-mod folder_walk;
-mod found;
 pub mod laws;
-mod listing;
-mod memory_tree;
-mod out;
-mod path_order;
-mod place;
-mod refusal;
-#[cfg(test)]
-mod tests;
-mod tree;
-mod whole;
 
-pub use fault::{Stop, TreeFault};
-pub use file_tree::FileTree;
-pub use listing::{FileEntry, Listing};
-pub use memory_tree::MemoryTree;
-pub use out::{Out, Refused, WriterOut};
-pub use tree::Tree;
-pub use whole::read_whole;
+pub use bag_disk::{Disk, DiskFault, Entry, FileTree, SystemDisk};
+pub use bag_memory::MemoryTree;
+pub use bag_tree::{
+    FileEntry, Listing, Out, Refused, Stop, Tree, TreeFault, WriterOut, read_whole,
+};

@@ -1,6 +1,5 @@
 -- Where the texts of lines ascend, no line names a path again.
 use Rattle.std.proofs.Common.{◌≡◌, ◌≢◌, ℕ, ◌+◌, ◌<◌, ◌&&◌, Bool, false, List, length, get_or, refl, ap, sym, ◌∙◌, subst, Some, bytes_eq, nat_lt, arith, rules}
-use Rattle.std.specs.Option.{is_none}
 use Rattle.std.specs.List.{slice_get, list_any}
 use Rattle.std.specs.List.Sorted.{IsSortedBy, IsStrictlySortedBy}
 use Rattle.std.specs.Cmp.{IsTotalOrder}
@@ -13,6 +12,7 @@ use Rattle.std.proofs.lemmas.Option.{slice_get_within, slice_get-get_or, get_or_
 use Rattle.std.proofs.lemmas.Slice.Eq.{bytes_eq-Decides}
 use Rattle.bag_text.specs.Text.{text_cmp}
 use Rattle.bag_tags.specs.declared.manifest_line.Judged.{Judged}
+use Rattle.bag_tags.specs.Judged.{names_path, text}
 use Rattle.bag_tags.specs.Repeats.{line_cmp, AreAscending, IsRepeatAt}
 use Rattle.bag_tags.proofs.PickedOut.{from_any, both_true}
 use Rattle.bag_tags.proofs.SortedPlaces.{names_before, test_lt, first_place_of}
@@ -25,31 +25,31 @@ less_not_back o p e r = rw (r, e) refl
 
 -- the order of lines by their texts
 abbrev text_lt : Judged → Judged → Bool
-text_lt x y = is_lt (text_cmp x.text y.text)
+text_lt x y = is_lt (text_cmp (text x) (text y))
 
 module _ (all : List Judged) (up : AreAscending all) where
   texts_sorted : IsSortedBy text_lt all
-  texts_sorted = λ k d low high. less_not_back _ _ (up k d high) (text_total.antisymm (get_or all (k + 1) d).text (get_or all k d).text)
+  texts_sorted = λ k d low high. less_not_back _ _ (up k d high) (text_total.antisymm (text (get_or all (k + 1) d)) (text (get_or all k d)))
 
   -- two lines of different places have different texts
-  texts_apart : (i j : ℕ) (d : Judged) → i < j → j < length all → (get_or all i d).text ≢ (get_or all j d).text
+  texts_apart : (i j : ℕ) (d : Judged) → i < j → j < length all → (text (get_or all i d)) ≢ (text (get_or all j d))
   texts_apart i j d h w e =
-      let far : is_lt (text_cmp (get_or all j d).text (get_or all (i + 1) d).text) ≡ false = sorted_far text_lt (ranks_by text_total (λ (x : Judged). x.text)) all texts_sorted (i + 1) j d (omega arith) w in
-      let near : text_cmp (get_or all j d).text (get_or all (i + 1) d).text ≡ Less = subst (λ t. text_cmp t (get_or all (i + 1) d).text ≡ Less) e (up i d (omega arith)) in
+      let far : is_lt (text_cmp (text (get_or all j d)) (text (get_or all (i + 1) d))) ≡ false = sorted_far text_lt (ranks_by text_total text) all texts_sorted (i + 1) j d (omega arith) w in
+      let near : text_cmp (text (get_or all j d)) (text (get_or all (i + 1) d)) ≡ Less = subst (λ t. text_cmp t (text (get_or all (i + 1) d)) ≡ Less) e (up i d (omega arith)) in
       let clash = sym far ∙ ap is_lt near in
       cc
 
   pub none_again : IsStrictlySortedBy line_cmp all → (i : ℕ) → ¬ (IsRepeatAt all i)
   none_again lines i (j, e, r) =
-      let two = both_true (is_none j.wrong) (list_any (names_before j) all) r in
+      let two = both_true (names_path j) (list_any (names_before j) all) r in
       let some = from_any (names_before j) all two.1 in
       let x = some.0 in
-      let outer = both_true (is_none x.wrong && nat_lt x.line j.line) (bytes_eq x.text j.text) some.2 in
-      let inner = both_true (is_none x.wrong) (nat_lt x.line j.line) outer.0 in
+      let outer = both_true (names_path x && nat_lt x.line j.line) (bytes_eq (text x) (text j)) some.2 in
+      let inner = both_true (names_path x) (nat_lt x.line j.line) outer.0 in
       let m = some.1.0 in
       let at : slice_get all m ≡ Some x = slice_get-get_or all m x some.1.1 ∙ ap Some some.1.2 in
       let h = first_place_of all lines i m j x e at (test_lt x.line j.line inner.1) in
       let first = get_or_from_slice_get all m x j at in
       let later = get_or_from_slice_get all i j j e in
-      let same : x.text ≡ j.text = (bytes_eq-Decides x.text j.text).0 outer.1 in
-      texts_apart m i j h (slice_get_within all i j e) (ap (λ (y : Judged). y.text) first ∙ same ∙ sym (ap (λ (y : Judged). y.text) later))
+      let same : (text x) ≡ (text j) = (bytes_eq-Decides (text x) (text j)).0 outer.1 in
+      texts_apart m i j h (slice_get_within all i j e) (ap text first ∙ same ∙ sym (ap text later))

@@ -1,6 +1,6 @@
--- The faults of a declaration, place after place.
-use Rattle.std.proofs.Common.{◌≡◌, ◌≢◌, ℕ, ◌⊎◌, inl, inr, Bool, true, false, ◌==◌, List, [], ◌∷◌, length, refl, ap, sym, ◌∙◌, subst, codes, Some, None, Option, arith, lit<, cond, ◌-◌}
-use Rattle.std.specs.Prelude.{decimal, option_and_then}
+-- The faults of a declaration: first of the whole file, then of each line.
+use Rattle.std.proofs.Common.{◌≡◌, ◌≢◌, ℕ, suc, ◌≤◌, ◌⊎◌, inl, inr, Bool, true, false, ◌==◌, List, [], ◌∷◌, length, refl, ap, sym, ◌∙◌, subst, codes, Some, None, Option, arith, lit<, cond, ◌-◌}
+use Rattle.std.specs.Prelude.{decimal, nat_le, option_and_then}
 use Rattle.std.specs.List.{slice_get}
 use Rattle.std.specs.declared.cmp.Ordering.TheVariants.{Less}
 use Rattle.bag_text.specs.Text.{IsText, IsNoText, has_mark, same_label}
@@ -13,7 +13,7 @@ use Rattle.bag_tags.specs.declared.fault.LineFault.{LineFault}
 use Rattle.bag_tags.specs.LineFault.{AreFaults, line_fault_cmp}
 use Rattle.bag_tags.specs.Declaration.{IsDeclarationFault, DeclarationFault, IsUnread, version_of, encoding_of, declared_version, declared_encoding, is_supported_version}
 use Rattle.bag_tags.proofs.FaultOrder.{is_fault, line_below, code_below}
-use Rattle.bag_tags.specs.DeclarationFaults.{line_fault, utf8_fault, mark_fault, count_fault, fault_of_version, version_fault, fault_of_encoding, encoding_fault, text_faults}
+use Rattle.bag_tags.specs.DeclarationFaults.{line_fault, utf8_fault, mark_fault, count_fault, version_fault, encoding_fault, on_line, text_faults}
 
 other_number : (n m : ℕ) → (n == m) ≡ false → n ≢ m
 other_number n m e same = grind (arith, nat_tests)
@@ -21,11 +21,32 @@ other_number n m e same = grind (arith, nat_tests)
 number_test : (n m : ℕ) → n ≢ m → (n == m) ≡ false
 number_test n m h = grind (arith, nat_tests, h)
 
+-- the fault of a line, where the line is there
+abbrev first_line_fault : Option (List ℕ) → Option LineFault
+first_line_fault None = None
+first_line_fault (Some line) = version_fault (version_of line)
+
+abbrev second_line_fault : Option (List ℕ) → Option LineFault
+second_line_fault None = None
+second_line_fault (Some line) = encoding_fault (encoding_of line)
+
+at_least : (k n : ℕ) → k ≤ n → nat_le k n ≡ true
+at_least k n h = grind (arith, nat_tests)
+
+first_is_there : (all : List (List ℕ)) → on_line 1 (length all) (version_fault (option_and_then version_of (slice_get all 0))) ≡ first_line_fault (slice_get all 0)
+first_is_there [] = refl
+first_is_there (line ∷ more) = rw (at_least 1 (suc (length more)) (omega arith)) refl
+
+second_is_there : (all : List (List ℕ)) → on_line 2 (length all) (encoding_fault (option_and_then encoding_of (slice_get all 1))) ≡ second_line_fault (slice_get all 1)
+second_is_there [] = refl
+second_is_there (line ∷ []) = refl
+second_is_there (first ∷ line ∷ more) = rw (at_least 2 (suc (suc (length more))) (omega arith)) refl
+
 module _ (bytes : List ℕ) (text : IsText bytes) where
   abbrev lines : List (List ℕ)
   lines = lines_of_file bytes
 
-  -- the faults of each place
+  -- the faults of each kind
   abbrev Mark : LineFault → Type 0
   Mark f = (f.code ≡ DeclarationNotUtf8) × IsDeclarationFault bytes f
 
@@ -85,34 +106,34 @@ module _ (bytes : List ℕ) (text : IsText bytes) where
       let same : line_fault 1 VersionUnsupported version ≡ f = cc in
       subst First same (refl, (refl, ap (option_and_then version_of) e ∙ r, s))
 
-  version_read : (line : List ℕ) (o : Option (List ℕ)) (f : LineFault) → slice_get lines 0 ≡ Some line → version_of line ≡ o → fault_of_version o ≡ Some f → First f
+  version_read : (line : List ℕ) (o : Option (List ℕ)) (f : LineFault) → slice_get lines 0 ≡ Some line → version_of line ≡ o → version_fault o ≡ Some f → First f
   version_read line None f e r h = let same : line_fault 1 DeclarationLine [] ≡ f = cc in subst First same (refl, inl (refl, refl, (line, (lit< tt, e), r)))
   version_read line (Some version) f e r h = version_go line version (is_supported_version version) f e r refl h
 
-  version_line : (o : Option (List ℕ)) (f : LineFault) → slice_get lines 0 ≡ o → version_fault o ≡ Some f → First f
+  version_line : (o : Option (List ℕ)) (f : LineFault) → slice_get lines 0 ≡ o → first_line_fault o ≡ Some f → First f
   version_line None f e h = cc
   version_line (Some line) f e h = version_read line (version_of line) f e refl h
 
-  version_is : (f : LineFault) → version_fault (slice_get lines 0) ≡ Some f → First f
+  version_is : (f : LineFault) → first_line_fault (slice_get lines 0) ≡ Some f → First f
   version_is f h = version_line (slice_get lines 0) f refl h
 
-  declares_version : (o : Option (List ℕ)) (version : List ℕ) → option_and_then version_of o ≡ Some version → version_fault o ≡ fault_of_version (Some version)
+  declares_version : (o : Option (List ℕ)) (version : List ℕ) → option_and_then version_of o ≡ Some version → first_line_fault o ≡ version_fault (Some version)
   declares_version None version e = cc
-  declares_version (Some line) version e = ap fault_of_version e
+  declares_version (Some line) version e = ap version_fault e
 
-  first_code : (code : Code) (f : LineFault) → f.code ≡ code → f.line ≡ 1 → DeclarationFault code bytes f → version_fault (slice_get lines 0) ≡ Some f
+  first_code : (code : Code) (f : LineFault) → f.code ≡ code → f.line ≡ 1 → DeclarationFault code bytes f → first_line_fault (slice_get lines 0) ≡ Some f
   first_code DeclarationNotUtf8 f c l (inl x) = absurd (no_text x.2)
   first_code DeclarationNotUtf8 f c l (inr x) = let zero_line = x.0 in absurd (omega arith)
   first_code DeclarationLineCount f c l x = let zero_line = x.0 in absurd (omega arith)
   first_code DeclarationLine f c l (inl (one, d, (line, (some, e), r))) =
-      ap version_fault e ∙ ap fault_of_version r ∙ ap Some (sym (is_fault f 1 DeclarationLine [] l c d))
+      ap first_line_fault e ∙ ap version_fault r ∙ ap Some (sym (is_fault f 1 DeclarationLine [] l c d))
   first_code DeclarationLine f c l (inr x) = let two = x.0 in absurd (omega arith)
   first_code VersionUnsupported f c l (one, d, s) =
       declares_version (slice_get lines 0) f.detail d ∙ rw s (ap Some (sym (is_fault f 1 VersionUnsupported f.detail l c refl)))
   first_code EncodingUnsupported f c l x = let two = x.0 in absurd (omega arith)
   first_code other f c l h = absurd h
 
-  is_version_fault : (f : LineFault) → First f → version_fault (slice_get lines 0) ≡ Some f
+  is_version_fault : (f : LineFault) → First f → first_line_fault (slice_get lines 0) ≡ Some f
   is_version_fault f (l, h) = first_code f.code f refl l h
 
   -- the second line
@@ -122,37 +143,37 @@ module _ (bytes : List ℕ) (text : IsText bytes) where
       let same : line_fault 2 EncodingUnsupported encoding ≡ f = cc in
       subst Second same (refl, (refl, ap (option_and_then encoding_of) e ∙ r, s))
 
-  encoding_read : (line : List ℕ) (o : Option (List ℕ)) (f : LineFault) → slice_get lines 1 ≡ Some line → encoding_of line ≡ o → fault_of_encoding o ≡ Some f → Second f
+  encoding_read : (line : List ℕ) (o : Option (List ℕ)) (f : LineFault) → slice_get lines 1 ≡ Some line → encoding_of line ≡ o → encoding_fault o ≡ Some f → Second f
   encoding_read line None f e r h = let same : line_fault 2 DeclarationLine [] ≡ f = cc in subst Second same (refl, inr (refl, refl, (line, (lit< tt, e), r)))
   encoding_read line (Some encoding) f e r h = encoding_go line encoding (same_label encoding (codes "UTF-8")) f e r refl h
 
-  encoding_line : (o : Option (List ℕ)) (f : LineFault) → slice_get lines 1 ≡ o → encoding_fault o ≡ Some f → Second f
+  encoding_line : (o : Option (List ℕ)) (f : LineFault) → slice_get lines 1 ≡ o → second_line_fault o ≡ Some f → Second f
   encoding_line None f e h = cc
   encoding_line (Some line) f e h = encoding_read line (encoding_of line) f e refl h
 
-  encoding_is : (f : LineFault) → encoding_fault (slice_get lines 1) ≡ Some f → Second f
+  encoding_is : (f : LineFault) → second_line_fault (slice_get lines 1) ≡ Some f → Second f
   encoding_is f h = encoding_line (slice_get lines 1) f refl h
 
-  declares_encoding : (o : Option (List ℕ)) (encoding : List ℕ) → option_and_then encoding_of o ≡ Some encoding → encoding_fault o ≡ fault_of_encoding (Some encoding)
+  declares_encoding : (o : Option (List ℕ)) (encoding : List ℕ) → option_and_then encoding_of o ≡ Some encoding → second_line_fault o ≡ encoding_fault (Some encoding)
   declares_encoding None encoding e = cc
-  declares_encoding (Some line) encoding e = ap fault_of_encoding e
+  declares_encoding (Some line) encoding e = ap encoding_fault e
 
-  second_code : (code : Code) (f : LineFault) → f.code ≡ code → f.line ≡ 2 → DeclarationFault code bytes f → encoding_fault (slice_get lines 1) ≡ Some f
+  second_code : (code : Code) (f : LineFault) → f.code ≡ code → f.line ≡ 2 → DeclarationFault code bytes f → second_line_fault (slice_get lines 1) ≡ Some f
   second_code DeclarationNotUtf8 f c l (inl x) = absurd (no_text x.2)
   second_code DeclarationNotUtf8 f c l (inr x) = let zero_line = x.0 in absurd (omega arith)
   second_code DeclarationLineCount f c l x = let zero_line = x.0 in absurd (omega arith)
   second_code DeclarationLine f c l (inl x) = let one = x.0 in absurd (omega arith)
   second_code DeclarationLine f c l (inr (two, d, (line, (some, e), r))) =
-      ap encoding_fault e ∙ ap fault_of_encoding r ∙ ap Some (sym (is_fault f 2 DeclarationLine [] l c d))
+      ap second_line_fault e ∙ ap encoding_fault r ∙ ap Some (sym (is_fault f 2 DeclarationLine [] l c d))
   second_code VersionUnsupported f c l x = let one = x.0 in absurd (omega arith)
   second_code EncodingUnsupported f c l (two, d, s) =
       declares_encoding (slice_get lines 1) f.detail d ∙ rw s (ap Some (sym (is_fault f 2 EncodingUnsupported f.detail l c refl)))
   second_code other f c l h = absurd h
 
-  is_encoding_fault : (f : LineFault) → Second f → encoding_fault (slice_get lines 1) ≡ Some f
+  is_encoding_fault : (f : LineFault) → Second f → second_line_fault (slice_get lines 1) ≡ Some f
   is_encoding_fault f (l, h) = second_code f.code f refl l h
 
-  -- each place stands below the next
+  -- each kind stands below the next
   mark_count : (f g : LineFault) → Mark f → Count g → line_fault_cmp f g ≡ Less
   mark_count f g h k = code_below f g (mark_line f h ∙ sym (count_line g k)) (rw (h.0, k.0) (lit< tt))
 
@@ -188,9 +209,9 @@ module _ (bytes : List ℕ) (text : IsText bytes) where
   faults_of_text =
       let one = only_listed line_fault_cmp Mark (mark_fault bytes) (only_from_some Mark _ mark_is is_mark) in
       let two = one_more line_fault_cmp Mark Count _ (count_fault (length lines)) one (only_from_some Count _ count_is is_count) mark_count in
-      let three = one_more line_fault_cmp (λ f. Mark f ⊎ Count f) First _ (version_fault (slice_get lines 0)) two (only_from_some First _ version_is is_version_fault) before_first in
-      let four = one_more line_fault_cmp (λ f. (Mark f ⊎ Count f) ⊎ First f) Second _ (encoding_fault (slice_get lines 1)) three (only_from_some Second _ encoding_is is_encoding_fault) before_second in
-      same_members line_fault_cmp _ (IsDeclarationFault bytes) _ to_fault from_fault four
+      let three = one_more line_fault_cmp (λ f. Mark f ⊎ Count f) First _ (first_line_fault (slice_get lines 0)) two (only_from_some First _ version_is is_version_fault) before_first in
+      let four = one_more line_fault_cmp (λ f. (Mark f ⊎ Count f) ⊎ First f) Second _ (second_line_fault (slice_get lines 1)) three (only_from_some Second _ encoding_is is_encoding_fault) before_second in
+      rw (first_is_there lines, second_is_there lines) (same_members line_fault_cmp _ (IsDeclarationFault bytes) _ to_fault from_fault four)
 
 module _ (bytes : List ℕ) (other : IsNoText bytes) where
   is_no_text : IsText bytes → ⊥

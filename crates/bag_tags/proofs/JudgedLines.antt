@@ -1,7 +1,6 @@
 -- The lines of a manifest that aren't blank, each judged.
 use Rattle.std.proofs.Common.{◌≡◌, ℕ, zero, suc, ◌+◌, ◌-◌, ◌<◌, ◌≤◌, ◌⊎◌, inl, inr, Bool, true, false, ◌&&◌, cond, List, [], ◌∷◌, take, refl, ap, sym, ◌∙◌, subst, Option, Some, None, Result, Ok, Err, bytes_eq, nat_lt, arith}
 use Rattle.std.specs.Prelude.{Contains}
-use Rattle.std.specs.Option.{is_none}
 use Rattle.std.specs.List.{enumerate_from, slice_get, list_any}
 use Rattle.std.specs.List.Sorted.{IsStrictlySortedBy}
 use Rattle.std.proofs.lemmas.Slice.Eq.{bytes_eq-Decides}
@@ -9,17 +8,29 @@ use Rattle.bag_text.specs.Lines.{IsLine}
 use Rattle.bag_text.specs.Text.{is_blank_line}
 use Rattle.bag_text.specs.Order.{IsListOf}
 use Rattle.bag_text.specs.declared.alg.Alg.{Alg}
-use Rattle.bag_text.specs.declared.code.Code.{Code}
 use Rattle.bag_text.proofs.ListOf.{contains_cases, contains_first, contains_behind, contains_nothing, nothing_listed, joined, only_listed, only_from_some, same_members}
 use Rattle.bag_text.proofs.Numbered.{numbered_is_line, line_is_numbered}
 use Rattle.bag_tags.specs.declared.kind.Kind.{Kind}
 use Rattle.bag_tags.specs.declared.manifest_line.Judged.{Judged}
-use Rattle.bag_tags.specs.Judged.{judged, judged_as, judged_all}
+use Rattle.bag_tags.specs.declared.manifest_line.Verdict.{Verdict}
+use Rattle.bag_tags.specs.declared.manifest_line.Verdict.TheVariants.{Entry, Fault}
+use Rattle.bag_tags.specs.Judged.{judged, judged_as, judged_all, is_entry_verdict, names_path, text}
 use Rattle.bag_tags.specs.Manifest.{Reason, Reads, HasReason, path_read, named_before, manifest_line}
 use Rattle.bag_tags.specs.Repeats.{line_cmp}
 use Rattle.bag_tags.proofs.FaultOrder.{less}
 use Rattle.bag_tags.proofs.PickedOut.{any_from, from_any, both_true, picked, is_picked}
 use Rattle.bag_tags.proofs.SortedPlaces.{names_before, lt_test, test_lt}
+
+abbrev pub digest_in : Verdict → List ℕ
+digest_in (Entry digest path) = digest
+digest_in (Fault code detail) = []
+
+abbrev reason_or : Reason → Verdict → Reason
+reason_or reason (Entry digest path) = reason
+reason_or reason (Fault code detail) = (code, detail)
+
+reason_in : (x y : Reason) → Fault x.0 x.1 ≡ Fault y.0 y.1 → x ≡ y
+reason_in x y e = ap (reason_or x) e
 
 module _ (kind : Kind) (alg : Alg) where
   abbrev of_line : ℕ → Bool → Result (List ℕ × List ℕ) Reason → Option Judged
@@ -33,42 +44,39 @@ module _ (kind : Kind) (alg : Alg) where
   pub judged_line : (n : ℕ) (line : List ℕ) (j : Judged) → judged kind alg n line ≡ Some j → j.line ≡ n
   judged_line n line j e = line_of n (is_blank_line line) (manifest_line kind alg line) j e
 
-  reads_of : (n : ℕ) (line : List ℕ) (b : Bool) (r : Result (List ℕ × List ℕ) Reason) (j : Judged) → is_blank_line line ≡ b → manifest_line kind alg line ≡ r → of_line n b r ≡ Some j → is_none j.wrong ≡ true → Reads kind alg line j.digest j.text
+  reads_of : (n : ℕ) (line : List ℕ) (b : Bool) (r : Result (List ℕ × List ℕ) Reason) (j : Judged) → is_blank_line line ≡ b → manifest_line kind alg line ≡ r → of_line n b r ≡ Some j → names_path j ≡ true → Reads kind alg line (digest_in j.verdict) (text j)
   reads_of n line true r j e f h w = cc
   reads_of n line false (Ok x) j e f h w =
       let same : judged_as n (Ok x) ≡ j = cc in
-      (e, f ∙ ap (λ (k : Judged). Ok (k.digest, k.text)) same)
+      (e, f ∙ ap (λ (k : Judged). Ok (digest_in k.verdict, text k)) same)
   reads_of n line false (Err x) j e f h w =
       let same : judged_as n (Err x) ≡ j = cc in
-      let clash : false ≡ true = ap (λ (k : Judged). is_none k.wrong) same ∙ w in
+      let clash : false ≡ true = ap names_path same ∙ w in
       cc
 
   -- what a line says that was judged to read
-  pub judged_reads : (n : ℕ) (line : List ℕ) (j : Judged) → judged kind alg n line ≡ Some j → is_none j.wrong ≡ true → Reads kind alg line j.digest j.text
+  pub judged_reads : (n : ℕ) (line : List ℕ) (j : Judged) → judged kind alg n line ≡ Some j → names_path j ≡ true → Reads kind alg line (digest_in j.verdict) (text j)
   judged_reads n line j h w = reads_of n line (is_blank_line line) (manifest_line kind alg line) j refl refl h w
 
-  reason_of : (n : ℕ) (line : List ℕ) (code : Code) (b : Bool) (r : Result (List ℕ × List ℕ) Reason) (j : Judged) → is_blank_line line ≡ b → manifest_line kind alg line ≡ r → of_line n b r ≡ Some j → j.wrong ≡ Some code → HasReason kind alg line (code, j.text)
-  reason_of n line code true r j e f h w = cc
-  reason_of n line code false (Ok x) j e f h w =
+  reason_of : (n : ℕ) (line : List ℕ) (b : Bool) (r : Result (List ℕ × List ℕ) Reason) (reason : Reason) (j : Judged) → is_blank_line line ≡ b → manifest_line kind alg line ≡ r → of_line n b r ≡ Some j → j.verdict ≡ Fault reason.0 reason.1 → HasReason kind alg line reason
+  reason_of n line true r reason j e f h w = cc
+  reason_of n line false (Ok x) reason j e f h w =
       let same : judged_as n (Ok x) ≡ j = cc in
-      let clash : None ≡ Some code = ap (λ (k : Judged). k.wrong) same ∙ w in
+      let clash : true ≡ false = ap names_path same ∙ ap is_entry_verdict w in
       cc
-  reason_of n line code false (Err x) j e f h w =
+  reason_of n line false (Err x) reason j e f h w =
       let same : judged_as n (Err x) ≡ j = cc in
-      let codes_same : Some x.0 ≡ Some code = ap (λ (k : Judged). k.wrong) same ∙ w in
-      let c : x.0 ≡ code = cc in
-      let t : x.1 ≡ j.text = ap (λ (k : Judged). k.text) same in
-      let pair : ◌≡◌ {A = Code × List ℕ} x (code, j.text) = λ i. (c i, t i) in
-      (e, f ∙ ap Err pair)
+      let verdict : Fault x.0 x.1 ≡ Fault reason.0 reason.1 = ap (λ (k : Judged). k.verdict) same ∙ w in
+      (e, f ∙ ap Err (reason_in x reason verdict))
 
-  pub judged_reason : (n : ℕ) (line : List ℕ) (code : Code) (j : Judged) → judged kind alg n line ≡ Some j → j.wrong ≡ Some code → HasReason kind alg line (code, j.text)
-  judged_reason n line code j h w = reason_of n line code (is_blank_line line) (manifest_line kind alg line) j refl refl h w
+  pub judged_reason : (n : ℕ) (line : List ℕ) (reason : Reason) (j : Judged) → judged kind alg n line ≡ Some j → j.verdict ≡ Fault reason.0 reason.1 → HasReason kind alg line reason
+  judged_reason n line reason j h w = reason_of n line (is_blank_line line) (manifest_line kind alg line) reason j refl refl h w
 
   -- what is judged of a line that reads, and of one that doesn't
-  pub reads_judged : (n : ℕ) (line digest path : List ℕ) → Reads kind alg line digest path → judged kind alg n line ≡ Some (record { line = n; digest = digest; text = path; wrong = None })
+  pub reads_judged : (n : ℕ) (line digest path : List ℕ) → Reads kind alg line digest path → judged kind alg n line ≡ Some (record { line = n; verdict = Entry digest path })
   reads_judged n line digest path (some, e) = rw (some, e) refl
 
-  pub reason_judged : (n : ℕ) (line : List ℕ) (reason : Reason) → HasReason kind alg line reason → judged kind alg n line ≡ Some (record { line = n; digest = []; text = reason.1; wrong = Some reason.0 })
+  pub reason_judged : (n : ℕ) (line : List ℕ) (reason : Reason) → HasReason kind alg line reason → judged kind alg n line ≡ Some (record { line = n; verdict = Fault reason.0 reason.1 })
   reason_judged n line reason (some, e) = rw (some, e) refl
 
   abbrev pub IsJudged : List (ℕ × List ℕ) → Judged → Type 0
@@ -175,21 +183,21 @@ module _ (kind : Kind) (alg : Alg) (all : List (List ℕ)) where
       is_picked (path_of kind alg) (take (n - 1) all) line path (has_take (n - 1) all line (k - 1) (omega arith) e) (path_of_reads kind alg line digest path r)
 
   -- a repeat names what an earlier line names
-  pub repeat_named : (j : Judged) → list_any (names_before j) js ≡ true → Contains (named_before kind alg all j.line) j.text
+  pub repeat_named : (j : Judged) → list_any (names_before j) js ≡ true → Contains (named_before kind alg all j.line) (text j)
   repeat_named j r =
       let some = from_any (names_before j) js r in
       let x = some.0 in
-      let outer = both_true (is_none x.wrong && nat_lt x.line j.line) (bytes_eq x.text j.text) some.2 in
-      let inner = both_true (is_none x.wrong) (nat_lt x.line j.line) outer.0 in
+      let outer = both_true (names_path x && nat_lt x.line j.line) (bytes_eq (text x) (text j)) some.2 in
+      let inner = both_true (names_path x) (nat_lt x.line j.line) outer.0 in
       let at = judged_is x some.1 in
-      let same : x.text ≡ j.text = (bytes_eq-Decides x.text j.text).0 outer.1 in
-      let reads = subst (Reads kind alg at.0 x.digest) same (judged_reads kind alg x.line at.0 x at.2 inner.0) in
-      earlier_named j.line j.text (x.line, at.0, x.digest, test_lt x.line j.line inner.1, at.1, reads)
+      let same : (text x) ≡ (text j) = (bytes_eq-Decides (text x) (text j)).0 outer.1 in
+      let reads = subst (Reads kind alg at.0 (digest_in x.verdict)) same (judged_reads kind alg x.line at.0 x at.2 inner.0) in
+      earlier_named j.line (text j) (x.line, at.0, digest_in x.verdict, test_lt x.line j.line inner.1, at.1, reads)
 
   -- and what names such a path is a repeat
-  pub named_repeat : (j : Judged) → Contains (named_before kind alg all j.line) j.text → list_any (names_before j) js ≡ true
+  pub named_repeat : (j : Judged) → Contains (named_before kind alg all j.line) (text j) → list_any (names_before j) js ≡ true
   named_repeat j c =
-      let h = named_earlier j.line j.text c in
-      let x : Judged = record { line = h.0; digest = h.2; text = j.text; wrong = None } in
-      let test : names_before j x ≡ true = rw (lt_test h.0 j.line h.3) ((bytes_eq-Decides j.text j.text).1 refl) in
-      any_from (names_before j) js x (is_judged x h.1 h.4 (reads_judged kind alg h.0 h.1 h.2 j.text h.5)) test
+      let h = named_earlier j.line (text j) c in
+      let x : Judged = record { line = h.0; verdict = Entry h.2 (text j) } in
+      let test : names_before j x ≡ true = rw (lt_test h.0 j.line h.3) ((bytes_eq-Decides (text j) (text j)).1 refl) in
+      any_from (names_before j) js x (is_judged x h.1 h.4 (reads_judged kind alg h.0 h.1 h.2 (text j) h.5)) test

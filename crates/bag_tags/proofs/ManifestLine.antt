@@ -13,16 +13,16 @@ use Rattle.bag_text.specs.declared.code.Code.TheVariants.{ManifestLine, DigestLe
 use Rattle.bag_tags.specs.ManifestName.{is_manifest_name}
 use Rattle.bag_tags.specs.declared.kind.Kind.{Kind}
 use Rattle.bag_tags.specs.declared.kind.Kind.TheVariants.{Payload, Tag}
-use Rattle.bag_tags.specs.Judged.{judged_as, judged_by_spelling}
+use Rattle.bag_tags.specs.Judged.{verdict_of, verdict_by_spelling}
 use Rattle.bag_tags.specs.Manifest.{Reason, ◌>>=◌, digest_of, decoded_or, spelled_path, placed, named_path, checked_digest, without_marks, manifest_line}
 
 pub line_of_bad_digest : (kind : Kind) (alg : Alg) (line : List ℕ) (reason : Reason) → checked_digest alg (before_blank line) (after_blanks line) ≡ Err reason → manifest_line kind alg line ≡ Err reason
 unfolding manifest_line
 line_of_bad_digest kind alg line reason e = rw e refl
 
-pub line_of_good_digest : (kind : Kind) (alg : Alg) (n : ℕ) (line digest : List ℕ) → checked_digest alg (before_blank line) (after_blanks line) ≡ Ok digest → judged_by_spelling kind n digest (without_marks (after_blanks line)) ≡ judged_as n (manifest_line kind alg line)
+pub line_of_good_digest : (kind : Kind) (alg : Alg) (line digest : List ℕ) → checked_digest alg (before_blank line) (after_blanks line) ≡ Ok digest → verdict_by_spelling kind digest (without_marks (after_blanks line)) ≡ verdict_of (manifest_line kind alg line)
 unfolding manifest_line
-line_of_good_digest kind alg n line digest e = rw e refl
+line_of_good_digest kind alg line digest e = rw e refl
 
 -- the codes of the reasons why a line doesn't read
 abbrev pub IsReasonCode : Code → Type 0

@@ -1,5 +1,5 @@
 -- The names of manifests.
-use Rattle.std.proofs.Common.{◌≡◌, ◌≢◌, ℕ, ◌-◌, Bool, true, false, cond, List, [], ◌∷◌, ◌++◌, length, take, drop, refl, ap, sym, ◌∙◌, codes, Option, Some, None, MatchOption, nat_eq, bytes_eq, append_assoc, arith, length-append}
+use Rattle.std.proofs.Common.{◌≡◌, ◌≢◌, ℕ, ◌-◌, Bool, true, false, cond, List, ◌++◌, length, take, drop, refl, ap, sym, ◌∙◌, codes, Option, Some, None, MatchOption, nat_eq, bytes_eq, append_assoc, arith, length-append}
 use Rattle.std.specs.Prelude.{IsTrue}
 use Rattle.std.specs.Borrow.{Bor}
 use Rattle.std.specs.List.{starts_with}
@@ -8,6 +8,7 @@ use Rattle.std.proofs.lemmas.Slice.Eq.{bytes_eq-Decides}
 use Rattle.bag_text.specs.Text.{after_prefix, without_prefix}
 use Rattle.bag_tags.specs.declared.kind.Kind.{Kind}
 use Rattle.bag_tags.specs.ManifestName.{prefix, manifest_name, is_alg_text, is_manifest_name}
+use Rattle.bag_tags.proofs.Fronts.{drop_front, take_front}
 use Rattle.bag_tags.proofs.PickedOut.{both_true}
 use Rattle.bag_tags.proofs.Texts.{prefix_test}
 
@@ -26,14 +27,6 @@ none_test p t rest false e h same = let clash : false ≡ true = sym e ∙ (pref
 
 pub no_prefix : (p t rest : List ℕ) → after_prefix p t ≡ None → t ≢ p ++ rest
 no_prefix p t rest h = none_test p t rest (starts_with nat_eq t p) refl h
-
-drop_front : (xs ys : List ℕ) → drop (length xs) (xs ++ ys) ≡ ys
-drop_front [] ys = refl
-drop_front (x ∷ xs) ys = drop_front xs ys
-
-take_front : (xs ys : List ℕ) → take (length xs) (xs ++ ys) ≡ xs
-take_front [] ys = refl
-take_front (x ∷ xs) ys = ap (λ zs. x ∷ zs) (take_front xs ys)
 
 pub without_is : (p rest : List ℕ) → without_prefix p (p ++ rest) ≡ rest
 without_is p rest = rw ((prefix_test p (p ++ rest)).1 rest refl) (drop_front p rest)
@@ -57,7 +50,7 @@ same_alg kind name rest one two front back e =
     let behind : rest ≡ two ++ codes ".txt" = sym (without_is (prefix kind) rest) ∙ ap (without_prefix (prefix kind)) (sym front ∙ e ∙ append_assoc (prefix kind) two (codes ".txt")) ∙ without_is (prefix kind) (two ++ codes ".txt") in
     sym (alg_between one) ∙ ap (λ r. take (length r - 4) r) (sym back ∙ behind) ∙ alg_between two
 
-named_test : (kind : Kind) (name : List ℕ) (b : Bool) → is_manifest_name kind name ≡ b → ((alg : List ℕ) → IsTrue (is_alg_text alg) → name ≢ manifest_name kind alg) → b ≡ false
+pub named_test : (kind : Kind) (name : List ℕ) (b : Bool) → is_manifest_name kind name ≡ b → ((alg : List ℕ) → IsTrue (is_alg_text alg) → name ≢ manifest_name kind alg) → b ≡ false
 named_test kind name false e h = refl
 named_test kind name true e h =
     let rest = without_prefix (prefix kind) name in

@@ -9,8 +9,17 @@ use Rattle.std.proofs.lemmas.List.Elements.{Contains-append_left, Contains-push,
 use Rattle.std.proofs.lemmas.Option.{slice_get_within, slice_get-get_or, get_or_from_slice_get, slice_get_past}
 use Rattle.bag_text.proofs.ListOf.{contains_nothing}
 use Rattle.bag_tags.specs.declared.manifest_line.Judged.{Judged}
-use Rattle.bag_tags.specs.Judged.{is_repeat, settled}
-use Rattle.bag_tags.specs.Repeats.{as_repeat, IsMarked, IsRepeatAt}
+use Rattle.bag_tags.specs.declared.manifest_line.Verdict.{Verdict}
+use Rattle.bag_tags.specs.declared.manifest_line.Verdict.TheVariants.{Entry, Fault}
+use Rattle.bag_tags.specs.Judged.{as_repeat, is_repeat, repeated, marked_if_repeat}
+use Rattle.bag_tags.specs.Repeats.{IsMarked, IsRepeatAt}
+
+repeated_again : (v : Verdict) → repeated (repeated v) ≡ repeated v
+repeated_again (Entry digest path) = refl
+repeated_again (Fault code detail) = refl
+
+again : (j : Judged) → as_repeat (as_repeat j) ≡ as_repeat j
+again j = ap (λ v. record j { verdict = v }) (repeated_again j.verdict)
 
 -- nothing is marked at first
 pub none_marked : (all : List Judged) → IsMarked [] all all
@@ -59,29 +68,29 @@ one_marked old new places p x y is e same = record {
           | inl at ↦ (
               let both : Some k ≡ Some y = sym g ∙ ap (slice_get (set new p y)) at ∙ here in
               let is_y : k ≡ y = cc in
-              ap as_repeat (is_y ∙ like j (ap (slice_get old) (sym at) ∙ f)))
+              ap as_repeat (is_y ∙ like j (ap (slice_get old) (sym at) ∙ f)) ∙ again j)
           | inr n ↦ is.same_but i j k f (sym (set_there new p i y n) ∙ g)
         ]
 
-settled_at : (all : List Judged) (new : List Judged) (i : ℕ) (j : Judged) (b : Bool) → slice_get all i ≡ Some j → is_repeat all j ≡ b → (b ≡ true → slice_get new i ≡ Some (as_repeat j)) → (b ≡ false → slice_get new i ≡ Some j) → slice_get new i ≡ Some (cond b (as_repeat j) j)
-settled_at all new i j true e r marked other = marked refl
-settled_at all new i j false e r marked other = other refl
+marked_at : (all : List Judged) (new : List Judged) (i : ℕ) (j : Judged) (b : Bool) → slice_get all i ≡ Some j → is_repeat all j ≡ b → (b ≡ true → slice_get new i ≡ Some (as_repeat j)) → (b ≡ false → slice_get new i ≡ Some j) → slice_get new i ≡ Some (cond b (as_repeat j) j)
+marked_at all new i j true e r marked other = marked refl
+marked_at all new i j false e r marked other = other refl
 
--- what is marked at the repeats is settled
-pub marked_settled : (all new : List Judged) (places : List ℕ) → IsMarked places all new → ((i : ℕ) → Contains places i ↔ IsRepeatAt all i) → new ≡ map (settled all) all
-marked_settled all new places is are = same_lists new (map (settled all) all) (is.same_length ∙ sym (length-map all (settled all))) each
+-- the lines, marked at the repeats
+pub marked_lines : (all new : List Judged) (places : List ℕ) → IsMarked places all new → ((i : ℕ) → Contains places i ↔ IsRepeatAt all i) → new ≡ map (marked_if_repeat all) all
+marked_lines all new places is are = same_lists new (map (marked_if_repeat all) all) (is.same_length ∙ sym (length-map all (marked_if_repeat all))) each
   where
-    at : (i : ℕ) (j : Judged) → slice_get all i ≡ Some j → slice_get new i ≡ Some (settled all j)
-    at i j e = settled_at all new i j (is_repeat all j) e refl
+    at : (i : ℕ) (j : Judged) → slice_get all i ≡ Some j → slice_get new i ≡ Some (marked_if_repeat all j)
+    at i j e = marked_at all new i j (is_repeat all j) e refl
         (λ r. is.marked i j ((are i).1 (j, e, r)) e)
         (λ r. is.others i (λ c. let h = (are i).0 c in let same : Some j ≡ Some h.0 = sym e ∙ h.1 in let eq : j ≡ h.0 = cc in let clash : true ≡ false = sym h.2 ∙ ap (is_repeat all) (sym eq) ∙ r in cc) ∙ e)
 
-    each : (k : ℕ) (d : Judged) → k < length new → get_or new k d ≡ get_or (map (settled all) all) k d
+    each : (k : ℕ) (d : Judged) → k < length new → get_or new k d ≡ get_or (map (marked_if_repeat all) all) k d
     each k d w =
         let within : k < length all = omega (arith, is.same_length) in
         let j = get_or all k d in
-        let one = get_or_from_slice_get new k (settled all j) d (at k j (slice_get-get_or all k d within)) in
-        one ∙ sym (get_or-map (settled all) all k d d within)
+        let one = get_or_from_slice_get new k (marked_if_repeat all j) d (at k j (slice_get-get_or all k d within)) in
+        one ∙ sym (get_or-map (marked_if_repeat all) all k d d within)
 
 -- an element of a list
 pub contains_at : (xs : List ℕ) (i d : ℕ) → i < length xs → Contains xs (get_or xs i d)

@@ -1,7 +1,6 @@
 -- Sorting the places of lines by the paths that they name finds those that name a path again.
 use Rattle.std.proofs.Common.{◌≡◌, ◌≢◌, ℕ, zero, suc, ◌+◌, ◌-◌, ◌<◌, ◌≤◌, inl, inr, Bool, true, false, ◌&&◌, cond, List, [], ◌∷◌, length, get_or, map, refl, ap, sym, ◌∙◌, subst, Some, bytes_eq, nat_lt, arith, rules}
 use Rattle.std.specs.Prelude.{All, Contains}
-use Rattle.std.specs.Option.{is_none}
 use Rattle.std.specs.List.{slice_get, list_any}
 use Rattle.std.specs.List.Sorted.{IsPermutation, IsSortedBy, IsStrictlySortedBy}
 use Rattle.std.specs.Cmp.{IsTotalOrder}
@@ -23,20 +22,21 @@ use Rattle.std.proofs.lemmas.Slice.Eq.{bytes_eq-Decides}
 use Rattle.bag_text.specs.Text.{text_cmp}
 use Rattle.bag_text.proofs.ListOf.{contains_cases, contains_nothing, contains_front, contains_back, contains_either, ascending_joined}
 use Rattle.bag_tags.specs.declared.manifest_line.Judged.{Judged}
+use Rattle.bag_tags.specs.Judged.{names_path, text}
 use Rattle.bag_tags.specs.Fingerprint.{fingerprint}
 use Rattle.bag_tags.specs.Repeats.{line_cmp, Place, HasFingerprint, pair_of, places_from, IsRepeatAt, FollowsSame}
 use Rattle.bag_tags.proofs.PickedOut.{any_from, from_any, both_true}
 
 -- the line at this place reads and names this path
 abbrev pub Names : List Judged → ℕ → List ℕ → Type 0
-Names all i path = (j : Judged) × (slice_get all i ≡ Some j) × (is_none j.wrong ≡ true) × (j.text ≡ path)
+Names all i path = (j : Judged) × (slice_get all i ≡ Some j) × (names_path j ≡ true) × ((text j) ≡ path)
 
 abbrev Here : List Judged → ℕ → List ℕ × ℕ → Type 0
 Here all n x = (k : ℕ) × (x.1 ≡ n + k) × Names all k x.0
 
-here_first : (n : ℕ) (j : Judged) (js : List Judged) (x : List ℕ × ℕ) (b : Bool) → is_none j.wrong ≡ b → Contains (cond b ((j.text, n) ∷ []) []) x → Here (j ∷ js) n x
+here_first : (n : ℕ) (j : Judged) (js : List Judged) (x : List ℕ × ℕ) (b : Bool) → names_path j ≡ b → Contains (cond b (((text j), n) ∷ []) []) x → Here (j ∷ js) n x
 here_first n j js x true e c =
-    elim (contains_cases (j.text, n) [] x c) [
+    elim (contains_cases ((text j), n) [] x c) [
       | inl same ↦ (0, sym (ap (λ (y : List ℕ × ℕ). y.1) same) ∙ at_zero n, (j, refl, e, ap (λ (y : List ℕ × ℕ). y.0) same))
       | inr d ↦ absurd (contains_nothing x d)
     ]
@@ -49,20 +49,20 @@ here_first n j js x false e c = absurd (contains_nothing x c)
 place_names : (n : ℕ) (all : List Judged) (x : List ℕ × ℕ) → Contains (places_from n all) x → Here all n x
 place_names n [] x c = absurd (contains_nothing x c)
 place_names n (j ∷ js) x c =
-    elim (contains_either (cond (is_none j.wrong) ((j.text, n) ∷ []) []) (places_from (n + 1) js) x c) [
-      | inl a ↦ here_first n j js x (is_none j.wrong) refl a
+    elim (contains_either (cond (names_path j) (((text j), n) ∷ []) []) (places_from (n + 1) js) x c) [
+      | inl a ↦ here_first n j js x (names_path j) refl a
       | inr b ↦ (let more = place_names (n + 1) js x b in let e = more.1 in (suc more.0, omega arith, more.2))
     ]
 
-first_place : (n : ℕ) (j : Judged) (path : List ℕ) (b : Bool) → b ≡ true → j.text ≡ path → Contains {X = List ℕ × ℕ} (cond b ((j.text, n) ∷ []) []) (path, n + 0)
+first_place : (n : ℕ) (j : Judged) (path : List ℕ) (b : Bool) → b ≡ true → (text j) ≡ path → Contains {X = List ℕ × ℕ} (cond b (((text j), n) ∷ []) []) (path, n + 0)
 first_place n j path b e t =
     let at : n ≡ n + 0 = omega arith in
-    let here : Contains {X = List ℕ × ℕ} ((j.text, n) ∷ []) (path, n + 0) = (0, omega arith, λ i. (t i, at i)) in
+    let here : Contains {X = List ℕ × ℕ} (((text j), n) ∷ []) (path, n + 0) = (0, omega arith, λ i. (t i, at i)) in
     rw e here
 
-only_first : (n : ℕ) (j : Judged) (x : List ℕ × ℕ) (b : Bool) → Contains (cond b ((j.text, n) ∷ []) []) x → x.1 ≡ n
+only_first : (n : ℕ) (j : Judged) (x : List ℕ × ℕ) (b : Bool) → Contains (cond b (((text j), n) ∷ []) []) x → x.1 ≡ n
 only_first n j x true c =
-    elim (contains_cases (j.text, n) [] x c) [ inl same ↦ sym (ap (λ (y : List ℕ × ℕ). y.1) same) | inr d ↦ absurd (contains_nothing x d) ]
+    elim (contains_cases ((text j), n) [] x c) [ inl same ↦ sym (ap (λ (y : List ℕ × ℕ). y.1) same) | inr d ↦ absurd (contains_nothing x d) ]
 only_first n j x false c = absurd (contains_nothing x c)
 
 -- and each line that reads has its pair
@@ -70,15 +70,15 @@ named_place : (n : ℕ) (all : List Judged) (k : ℕ) (path : List ℕ) → Name
 named_place n [] k path (j, e, w, t) = cc
 named_place n (j ∷ js) zero path (i, e, w, t) =
     let same : j ≡ i = cc in
-    contains_front (cond (is_none j.wrong) ((j.text, n) ∷ []) []) (places_from (n + 1) js) _ (first_place n j path (is_none j.wrong) (ap (λ (x : Judged). is_none x.wrong) same ∙ w) (ap (λ (x : Judged). x.text) same ∙ t))
+    contains_front (cond (names_path j) (((text j), n) ∷ []) []) (places_from (n + 1) js) _ (first_place n j path (names_path j) (ap names_path same ∙ w) (ap text same ∙ t))
 named_place n (j ∷ js) (suc k) path h =
     let step : (n + 1) + k ≡ n + suc k = omega arith in
-    contains_back (cond (is_none j.wrong) ((j.text, n) ∷ []) []) (places_from (n + 1) js) _ (subst (λ m. Contains (places_from (n + 1) js) (path, m)) step (named_place (n + 1) js k path h))
+    contains_back (cond (names_path j) (((text j), n) ∷ []) []) (places_from (n + 1) js) _ (subst (λ m. Contains (places_from (n + 1) js) (path, m)) step (named_place (n + 1) js k path h))
 
 abbrev by_place : List ℕ × ℕ → List ℕ × ℕ → Ordering
 by_place = on (λ x. x.1) nat_cmp
 
-one_ascends : (n : ℕ) (j : Judged) (b : Bool) → IsStrictlySortedBy by_place (cond b ((j.text, n) ∷ []) [])
+one_ascends : (n : ℕ) (j : Judged) (b : Bool) → IsStrictlySortedBy by_place (cond b (((text j), n) ∷ []) [])
 unfolding IsStrictlySortedBy
 one_ascends n j true = (tt, tt)
 one_ascends n j false = tt
@@ -91,10 +91,10 @@ no_pairs = tt
 places_ascend : (n : ℕ) (all : List Judged) → IsStrictlySortedBy by_place (places_from n all)
 places_ascend n [] = no_pairs
 places_ascend n (j ∷ js) =
-    ascending_joined by_place (cond (is_none j.wrong) ((j.text, n) ∷ []) []) (places_from (n + 1) js) (one_ascends n j (is_none j.wrong)) (places_ascend (n + 1) js)
+    ascending_joined by_place (cond (names_path j) (((text j), n) ∷ []) []) (places_from (n + 1) js) (one_ascends n j (names_path j)) (places_ascend (n + 1) js)
     (λ x y c d.
     let back = place_names (n + 1) js y d in
-    let first = only_first n j x (is_none j.wrong) c in
+    let first = only_first n j x (names_path j) c in
     let behind = back.1 in
     less x.1 y.1 (omega arith))
 
@@ -181,7 +181,7 @@ reversed Greater = refl
 
 -- a line before another that names its path
 abbrev pub names_before : Judged → Judged → Bool
-names_before j k = is_none k.wrong && nat_lt k.line j.line && bytes_eq k.text j.text
+names_before j k = names_path k && nat_lt k.line j.line && bytes_eq (text k) (text j)
 
 pub lt_test : (m n : ℕ) → m < n → nat_lt m n ≡ true
 lt_test m n h = grind (arith, nat_tests)
@@ -260,7 +260,7 @@ module _ (all : List Judged) (up : IsStrictlySortedBy line_cmp all) (named : Lis
       let later = pair_names (path, i) (at_place (k + 1) (path, i) f) in
       let low = line_below all up j i first.0 later.0 (earlier k i j path h e f) first.1 later.1 in
       let test : names_before later.0 first.0 ≡ true =
-      rw (first.2, lt_test first.0.line later.0.line low) ((bytes_eq-Decides first.0.text later.0.text).1 (first.3 ∙ sym later.3)) in
+      rw (first.2, lt_test first.0.line later.0.line low) ((bytes_eq-Decides (text first.0) (text later.0)).1 (first.3 ∙ sym later.3)) in
       let there : Contains all first.0 = (j, slice_get_within all j first.0 first.1, get_or_from_slice_get all j first.0 first.0 first.1) in
       (later.0, later.1, rw later.2 (any_from (names_before later.0) all first.0 there test))
 
@@ -288,17 +288,17 @@ module _ (all : List Judged) (up : IsStrictlySortedBy line_cmp all) (named : Lis
   -- and a repeat follows another of its path
   pub repeat_follows : (i : ℕ) → IsRepeatAt all i → FollowsSame named i
   repeat_follows i (j, e, r) =
-      let two = both_true (is_none j.wrong) (list_any (names_before j) all) r in
+      let two = both_true (names_path j) (list_any (names_before j) all) r in
       let some = from_any (names_before j) all two.1 in
       let x = some.0 in
-      let outer = both_true (is_none x.wrong && nat_lt x.line j.line) (bytes_eq x.text j.text) some.2 in
-      let inner = both_true (is_none x.wrong) (nat_lt x.line j.line) outer.0 in
+      let outer = both_true (names_path x && nat_lt x.line j.line) (bytes_eq (text x) (text j)) some.2 in
+      let inner = both_true (names_path x) (nat_lt x.line j.line) outer.0 in
       let m = some.1.0 in
       let at : slice_get all m ≡ Some x = slice_get-get_or all m x some.1.1 ∙ ap Some some.1.2 in
       let h = first_place_of all up i m j x e at (test_lt x.line j.line inner.1) in
-      let first = names_pair m j.text (x, at, inner.0, (bytes_eq-Decides x.text j.text).0 outer.1) in
-      let later = names_pair i j.text (j, e, two.0, refl) in
-      let d : List ℕ × ℕ = (j.text, i) in
-      let ea : get_or named first.0 d ≡ (j.text, m) = get_or_default named first.0 (j.text, m) d first.1 first.2 in
-      let ab = between first.0 later.0 m i j.text first.1 later.1 ea later.2 h in
-      follows first.0 later.0 (later.0 - 1) m i j.text later.1 (omega arith) (omega arith) ea later.2
+      let first = names_pair m (text j) (x, at, inner.0, (bytes_eq-Decides (text x) (text j)).0 outer.1) in
+      let later = names_pair i (text j) (j, e, two.0, refl) in
+      let d : List ℕ × ℕ = ((text j), i) in
+      let ea : get_or named first.0 d ≡ ((text j), m) = get_or_default named first.0 ((text j), m) d first.1 first.2 in
+      let ab = between first.0 later.0 m i (text j) first.1 later.1 ea later.2 h in
+      follows first.0 later.0 (later.0 - 1) m i (text j) later.1 (omega arith) (omega arith) ea later.2

@@ -1,30 +1,34 @@
 -- The lines of a manifest, each with what it says or why it doesn't read (RFC 8493, 2.1.3).
-use Rattle.std.specs.Prelude.{ℕ, ◌&&◌, ◌++◌, Bool, List, [], ◌∷◌, Option, Some, None, Result, Ok, Err, if◌then◌else◌, bytes_eq, nat_lt, map}
+use Rattle.std.specs.Prelude.{ℕ, ◌&&◌, ◌++◌, Bool, true, false, List, [], ◌∷◌, Option, Some, None, Result, Ok, Err, if◌then◌else◌, bytes_eq, nat_lt, map}
 use Rattle.std.specs.List.{list_any, enumerate_from}
-use Rattle.std.specs.Option.{is_none, option_to_list}
+use Rattle.std.specs.Option.{option_to_list}
 use Rattle.bag_text.specs.Spelling.{unescaped}
 use Rattle.bag_text.specs.Text.{is_blank_line}
 use Rattle.bag_text.specs.declared.alg.Alg.{Alg}
-use Rattle.bag_text.specs.declared.code.Code.{Code}
 use Rattle.bag_text.specs.declared.code.Code.TheVariants.{NamedAgain, NotUtf8}
 use Rattle.bag_tags.specs.Manifest.{Reason, ◌>>=◌, decoded_or, named_path, manifest_line}
 use Rattle.bag_tags.specs.declared.kind.Kind.{Kind}
 use Rattle.bag_tags.specs.declared.fault.LineFault.{LineFault}
 use Rattle.bag_tags.specs.declared.manifest.ManifestEntry.{ManifestEntry}
 use Rattle.bag_tags.specs.declared.manifest_line.Judged.{Judged}
+use Rattle.bag_tags.specs.declared.manifest_line.Verdict.{Verdict}
+use Rattle.bag_tags.specs.declared.manifest_line.Verdict.TheVariants.{Entry, Fault}
+
+abbrev pub verdict_of : Result (List ℕ × List ℕ) Reason → Verdict
+verdict_of (Ok x) = Entry x.0 x.1
+verdict_of (Err reason) = Fault reason.0 reason.1
+
+-- of a line of which the digest and the path are read, by whether the path may stand there
+abbrev pub verdict_by_path : Kind → List ℕ → List ℕ → Verdict
+verdict_by_path kind digest path = verdict_of (named_path kind path >>= λ named. Ok (digest, named))
+
+-- of a line of which the digest is read, by how the path is written
+abbrev pub verdict_by_spelling : Kind → List ℕ → List ℕ → Verdict
+verdict_by_spelling kind digest spelling =
+    verdict_of (decoded_or (unescaped spelling) spelling >>= λ path. named_path kind path >>= λ named. Ok (digest, named))
 
 abbrev pub judged_as : ℕ → Result (List ℕ × List ℕ) Reason → Judged
-judged_as n (Ok x) = record { line = n; digest = x.0; text = x.1; wrong = None }
-judged_as n (Err reason) = record { line = n; digest = []; text = reason.1; wrong = Some reason.0 }
-
--- a line of which the digest and the path are read, by whether the path may stand there
-abbrev pub judged_by_path : Kind → ℕ → List ℕ → List ℕ → Judged
-judged_by_path kind n digest path = judged_as n (named_path kind path >>= λ named. Ok (digest, named))
-
--- a line of which the digest is read, by how the path is written
-abbrev pub judged_by_spelling : Kind → ℕ → List ℕ → List ℕ → Judged
-judged_by_spelling kind n digest spelling =
-    judged_as n (decoded_or (unescaped spelling) spelling >>= λ path. named_path kind path >>= λ named. Ok (digest, named))
+judged_as n r = record { line = n; verdict = verdict_of r }
 
 -- a line that isn't blank
 abbrev pub judged : Kind → Alg → ℕ → List ℕ → Option Judged
@@ -35,30 +39,58 @@ abbrev pub judged_all : Kind → Alg → List (ℕ × List ℕ) → List Judged
 judged_all kind alg [] = []
 judged_all kind alg (x ∷ xs) = option_to_list (judged kind alg x.0 x.1) ++ judged_all kind alg xs
 
+abbrev pub is_entry_verdict : Verdict → Bool
+is_entry_verdict (Entry digest path) = true
+is_entry_verdict (Fault code detail) = false
+
+abbrev pub text_in : Verdict → List ℕ
+text_in (Entry digest path) = path
+text_in (Fault code detail) = detail
+
+-- whether a line reads
+abbrev pub names_path : Judged → Bool
+names_path j = is_entry_verdict j.verdict
+
+-- the path that a line names, or the detail of its fault
+abbrev pub text : Judged → List ℕ
+text j = text_in j.verdict
+
 -- whether an earlier line names the path that this line names
 abbrev pub is_repeat : List Judged → Judged → Bool
-is_repeat all j = is_none j.wrong && list_any (λ k. is_none k.wrong && nat_lt k.line j.line && bytes_eq k.text j.text) all
+is_repeat all j = names_path j && list_any (λ k. names_path k && nat_lt k.line j.line && bytes_eq (text k) (text j)) all
+
+abbrev pub repeated : Verdict → Verdict
+repeated (Entry digest path) = Fault NamedAgain path
+repeated (Fault code detail) = Fault code detail
+
+-- a line that names a path again
+abbrev pub as_repeat : Judged → Judged
+as_repeat j = record j { verdict = repeated j.verdict }
 
 -- a later line that names a path again is wrong
-abbrev pub settled : List Judged → Judged → Judged
-settled all j = if is_repeat all j then record j { wrong = Some NamedAgain } else j
+abbrev pub marked_if_repeat : List Judged → Judged → Judged
+marked_if_repeat all j = if is_repeat all j then as_repeat j else j
+
+abbrev pub entry_in : ℕ → Verdict → Option ManifestEntry
+entry_in n (Entry digest path) = Some (record { line = n; digest = digest; path = path })
+entry_in n (Fault code detail) = None
+
+abbrev pub fault_in : ℕ → Verdict → Option LineFault
+fault_in n (Entry digest path) = None
+fault_in n (Fault code detail) = Some (record { line = n; code = code; detail = detail })
 
 -- the entry or the fault that a line makes
 abbrev pub entry_of : Judged → Option ManifestEntry
-entry_of j = if is_none j.wrong then Some (record { line = j.line; digest = j.digest; path = j.text }) else None
-
-abbrev pub fault_with : Judged → Option Code → Option LineFault
-fault_with j None = None
-fault_with j (Some code) = Some (record { line = j.line; code = code; detail = j.text })
+entry_of j = entry_in j.line j.verdict
 
 abbrev pub fault_of : Judged → Option LineFault
-fault_of j = fault_with j j.wrong
+fault_of j = fault_in j.line j.verdict
 
--- the lines of a text, settled
-abbrev pub settled_all : Kind → Alg → List (List ℕ) → List Judged
-settled_all kind alg all =
+-- the lines of a text, the repeats marked
+abbrev pub judged_and_marked : Kind → Alg → List (List ℕ) → List Judged
+judged_and_marked kind alg all =
     let js = judged_all kind alg (enumerate_from 1 all) in
-    map (settled js) js
+    map (marked_if_repeat js) js
 
 abbrev pub not_utf8 : LineFault
 not_utf8 = record { line = 0; code = NotUtf8; detail = [] }

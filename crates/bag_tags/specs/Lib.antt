@@ -1,8 +1,11 @@
 pub mod Declaration
 pub mod DeclarationFaults
+pub mod DeclarationLine
 pub mod Fingerprint
 pub mod Judged
 pub mod LineFault
 pub mod Manifest
+pub mod ManifestLine
 pub mod ManifestName
 pub mod Repeats
+pub mod TagName

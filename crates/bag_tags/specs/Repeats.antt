@@ -1,15 +1,13 @@
 -- Lines of a manifest that name a path again (RFC 8493, 2.1.3).
 use Rattle.std.specs.Prelude.{ℕ, ◌≡◌, ◌+◌, ◌<◌, ◌++◌, List, [], ◌∷◌, length, Some, if◌then◌else◌, slice_get, slice_index_or, IsTrue, Contains}
 use Rattle.std.specs.Borrow.{Bor}
-use Rattle.std.specs.Option.{is_none}
 use Rattle.std.specs.declared.cmp.Ordering.{Ordering}
 use Rattle.std.specs.declared.cmp.Ordering.TheVariants.{Less}
 use Rattle.std.specs.Ordering.{nat_cmp, on}
 use Rattle.bag_text.specs.Text.{text_cmp}
-use Rattle.bag_text.specs.declared.code.Code.TheVariants.{NamedAgain}
 use Rattle.bag_tags.specs.declared.manifest_line.Judged.{Judged}
 use Rattle.bag_tags.specs.Fingerprint.{fingerprint}
-use Rattle.bag_tags.specs.Judged.{is_repeat}
+use Rattle.bag_tags.specs.Judged.{names_path, text, is_repeat, as_repeat}
 
 -- the order of lines
 abbrev pub line_cmp : Judged → Judged → Ordering
@@ -18,10 +16,6 @@ line_cmp = on (λ j. j.line) nat_cmp
 -- the line at this place names the path of an earlier line
 abbrev pub IsRepeatAt : List Judged → ℕ → Type 0
 IsRepeatAt all i = (j : Judged) × (slice_get all i ≡ Some j) × IsTrue (is_repeat all j)
-
--- a line that names a path again
-abbrev pub as_repeat : Judged → Judged
-as_repeat j = record j { wrong = Some NamedAgain }
 
 -- the lines at these places are marked, and the others stay
 pub record IsMarked (places : List ℕ) (old new : List Judged) : Type 0 where
@@ -32,7 +26,7 @@ pub record IsMarked (places : List ℕ) (old new : List Judged) : Type 0 where
 
 -- the texts ascend, so that no two are the same
 abbrev pub AreAscending : List Judged → Type 0
-AreAscending all = (k : ℕ) (d : Judged) → k + 1 < length all → text_cmp (slice_index_or all k d).text (slice_index_or all (k + 1) d).text ≡ Less
+AreAscending all = (k : ℕ) (d : Judged) → k + 1 < length all → text_cmp (text (slice_index_or all k d)) (text (slice_index_or all (k + 1) d)) ≡ Less
 
 -- a path with its fingerprint and its place
 abbrev pub Place : Type 0
@@ -47,7 +41,7 @@ pair_of x = (x.1.now, x.2)
 -- the path of each line that reads, with the line's place
 abbrev pub places_from : ℕ → List Judged → List (List ℕ × ℕ)
 places_from n [] = []
-places_from n (j ∷ js) = (if is_none j.wrong then (j.text, n) ∷ [] else []) ++ places_from (n + 1) js
+places_from n (j ∷ js) = (if names_path j then (text j, n) ∷ [] else []) ++ places_from (n + 1) js
 
 -- the place stands behind another of the same path, among the first so many pairs
 abbrev pub FollowsBelow : List (List ℕ × ℕ) → ℕ → ℕ → Type 0

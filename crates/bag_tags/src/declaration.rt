@@ -3,12 +3,12 @@ ghost use Rattle.std.specs.Prelude.{◌≡◌, ◌∷◌, [], IfOk, length, slic
 ghost use Rattle.std.specs.Option.{option_copied};
 ghost use Rattle.bag_text.specs.Lines as cut;
 ghost use Rattle.bag_tags.specs.Declaration as spec;
-ghost use Rattle.bag_tags.specs.DeclarationFaults as place;
+ghost use Rattle.bag_tags.specs.DeclarationFaults.{utf8_fault, text_faults};
 ghost use Rattle.bag_tags.specs.LineFault.{AreFaults};
 
 use crate::LineFault;
 use crate::declaration_faults::{text_faults, utf8_faults};
-use crate::declared::{encoding_of, version_of};
+use crate::declaration_line::{encoding_of, version_of};
 use bag_text::{Items, Text, lines, text_of};
 use std::alloc::{AllocError, Global};
 
@@ -39,7 +39,7 @@ pub fn read_declaration(alloc: Global, bytes: &[u8]) -> Result<Declaration, Allo
 fn unread(alloc: Global) -> Result<Declaration, AllocError>
     ensures version { IfOk result (λ d. d.version ≡ None) }
     ensures encoding { IfOk result (λ d. d.encoding ≡ None) }
-    ensures faults { IfOk result (λ d. d.faults ≡ place.utf8_fault ∷ []) }
+    ensures faults { IfOk result (λ d. d.faults ≡ utf8_fault ∷ []) }
 {
     Ok(Declaration {
         version: None,
@@ -52,35 +52,32 @@ fn unread(alloc: Global) -> Result<Declaration, AllocError>
 fn read_text(alloc: Global, bytes: &[u8], text: &str) -> Result<Declaration, AllocError>
     ensures version { IfOk result (λ d. d.version ≡ option_and_then spec.version_of (slice_get (cut.lines text.now) 0)) }
     ensures encoding { IfOk result (λ d. d.encoding ≡ option_and_then spec.encoding_of (slice_get (cut.lines text.now) 1)) }
-    ensures faults { IfOk result (λ d. d.faults ≡ place.text_faults bytes.now (cut.lines text.now)) }
+    ensures faults { IfOk result (λ d. d.faults ≡ text_faults bytes.now (cut.lines text.now)) }
 {
-    let (first, second) = first_lines(text);
+    let (first, second, count) = first_lines(text);
+    let version = declared_version(first);
+    let encoding = declared_encoding(second);
     Ok(Declaration {
-        version: owned(alloc, declared_version(first))?,
-        encoding: owned(alloc, declared_encoding(second))?,
-        faults: text_faults(alloc, bytes, line_count(text), first, second)?,
+        version: owned(alloc, version)?,
+        encoding: owned(alloc, encoding)?,
+        faults: text_faults(alloc, bytes, count, version, encoding)?,
     })
 }
 
-fn line_count(text: &str) -> usize
-    ensures { result ≡ length (cut.lines text.now) }
-{
-    lines(text).count()
-}
-
-/// The first two lines of a text.
-fn first_lines(text: &str) -> (Option<&str>, Option<&str>)
+/// The first two lines of a text, and how many lines it has.
+fn first_lines(text: &str) -> (Option<&str>, Option<&str>, usize)
     ensures first { option_copied result.0 ≡ slice_get (cut.lines text.now) 0 }
     ensures second { option_copied result.1 ≡ slice_get (cut.lines text.now) 1 }
+    ensures count { result.2 ≡ length (cut.lines text.now) }
 {
     let mut rest = lines(text);
     let Some((_, first)) = rest.next() else {
-        return (None, None);
+        return (None, None, 0);
     };
     let Some((_, second)) = rest.next() else {
-        return (Some(first), None);
+        return (Some(first), None, 1);
     };
-    (Some(first), Some(second))
+    (Some(first), Some(second), 2 + rest.count())
 }
 
 fn declared_version(line: Option<&str>) -> Option<&str>

@@ -1,112 +1,124 @@
-//! What is wrong with the declaration, place after place (RFC 8493, 2.1.1).
+//! What is wrong with the declaration: first of the whole file, then of each line (RFC 8493, 2.1.1).
 ghost use Rattle.std.specs.Prelude.{◌≡◌, ◌∷◌, ◌++◌, [], IfOk, OnOk};
 ghost use Rattle.std.specs.Option.{option_copied, option_to_list};
-ghost use Rattle.bag_tags.specs.DeclarationFaults as place;
+ghost use Rattle.bag_tags.specs.DeclarationFaults as spec;
 
 use crate::LineFault;
-use crate::declared::{encoding_of, version_of};
 use bag_text::{BYTE_ORDER_MARK, Code, Items, Text};
 use std::alloc::{AllocError, Global};
 
 /// The fault of bytes that aren't UTF-8.
 pub(crate) fn utf8_faults(alloc: Global) -> Result<Items<LineFault>, AllocError>
-    ensures { IfOk result (λ faults. faults ≡ place.utf8_fault ∷ []) }
+    ensures { IfOk result (λ faults. faults ≡ spec.utf8_fault ∷ []) }
 {
     let mut faults = Items::new(alloc);
-    faults.push(fault_of(alloc, 0, Code::DeclarationNotUtf8, "utf8")?)?;
+    push(alloc, &mut faults, 0, Code::DeclarationNotUtf8, "utf8")?;
     Ok(faults)
 }
 
-/// The faults of a text with this many lines, of which these are the first two.
+/// The faults of a text with this many lines, of which the first two declare these, where they read.
 pub(crate) fn text_faults(
     alloc: Global,
     bytes: &[u8],
     count: usize,
-    first: Option<&str>,
-    second: Option<&str>,
+    version: Option<&str>,
+    encoding: Option<&str>,
 ) -> Result<Items<LineFault>, AllocError>
-    ensures { IfOk result (λ faults. faults ≡ place.faults_of bytes.now count (option_copied first.entry) (option_copied second.entry)) }
+    ensures { IfOk result (λ faults. faults ≡ spec.faults_of bytes.now count (option_copied version.entry) (option_copied encoding.entry)) }
 {
     let mut faults = Items::new(alloc);
-    push_some(&mut faults, mark_fault(alloc, bytes)?)?;
-    push_some(&mut faults, count_fault(alloc, count)?)?;
-    push_some(&mut faults, version_fault(alloc, first)?)?;
-    push_some(&mut faults, encoding_fault(alloc, second)?)?;
+    push_mark_fault(alloc, &mut faults, bytes)?;
+    push_count_fault(alloc, &mut faults, count)?;
+    if count >= 1 {
+        push_version_fault(alloc, &mut faults, version)?;
+    }
+    if count >= 2 {
+        push_encoding_fault(alloc, &mut faults, encoding)?;
+    }
     Ok(faults)
 }
 
-/// Adds a fault, if there is one.
-fn push_some(faults: &mut Items<LineFault>, fault: Option<LineFault>) -> Result<(), AllocError>
-    ensures { OnOk result (faults.new ≡ faults.old ++ option_to_list fault) }
+fn push(
+    alloc: Global,
+    faults: &mut Items<LineFault>,
+    line: u64,
+    code: Code,
+    detail: &str,
+) -> Result<(), AllocError>
+    ensures { OnOk result (faults.new ≡ faults.old ++ spec.line_fault line code detail.now ∷ []) }
 {
-    if let Some(fault) = fault {
-        faults.push(fault)?;
-    }
-    Ok(())
-}
-
-fn fault_of(alloc: Global, line: u64, code: Code, detail: &str) -> Result<LineFault, AllocError>
-    ensures { IfOk result (λ fault. fault ≡ place.line_fault line code detail.now) }
-{
-    Ok(LineFault {
-        line,
-        code,
-        detail: Text::from_str(alloc, detail)?,
-    })
+    let detail = Text::from_str(alloc, detail)?;
+    faults.push(LineFault { line, code, detail })
 }
 
 /// A byte order mark.
-fn mark_fault(alloc: Global, bytes: &[u8]) -> Result<Option<LineFault>, AllocError>
-    ensures { IfOk result (λ fault. fault ≡ place.mark_fault bytes.now) }
+fn push_mark_fault(
+    alloc: Global,
+    faults: &mut Items<LineFault>,
+    bytes: &[u8],
+) -> Result<(), AllocError>
+    ensures { OnOk result (faults.new ≡ faults.old ++ option_to_list (spec.mark_fault bytes.now)) }
 {
     if bytes.starts_with(BYTE_ORDER_MARK.as_bytes()) {
-        Ok(Some(fault_of(alloc, 0, Code::DeclarationNotUtf8, "bom")?))
+        push(alloc, faults, 0, Code::DeclarationNotUtf8, "bom")
     } else {
-        Ok(None)
+        Ok(())
     }
 }
 
 /// Another number of lines than two.
-fn count_fault(alloc: Global, count: usize) -> Result<Option<LineFault>, AllocError>
-    ensures { IfOk result (λ fault. fault ≡ place.count_fault count) }
+fn push_count_fault(
+    alloc: Global,
+    faults: &mut Items<LineFault>,
+    count: usize,
+) -> Result<(), AllocError>
+    ensures { OnOk result (faults.new ≡ faults.old ++ option_to_list (spec.count_fault count)) }
 {
     if count == 2 {
-        return Ok(None);
+        return Ok(());
     }
     let detail = count.to_string(alloc)?;
-    Ok(Some(fault_of(alloc, 0, Code::DeclarationLineCount, detail.as_str())?))
+    push(
+        alloc,
+        faults,
+        0,
+        Code::DeclarationLineCount,
+        detail.as_str(),
+    )
 }
 
 /// A version that isn't read or isn't supported.
-fn version_fault(alloc: Global, line: Option<&str>) -> Result<Option<LineFault>, AllocError>
-    ensures { IfOk result (λ fault. fault ≡ place.version_fault (option_copied line.entry)) }
+fn push_version_fault(
+    alloc: Global,
+    faults: &mut Items<LineFault>,
+    version: Option<&str>,
+) -> Result<(), AllocError>
+    ensures { OnOk result (faults.new ≡ faults.old ++ option_to_list (spec.version_fault (option_copied version.entry))) }
 {
-    let Some(line) = line else {
-        return Ok(None);
-    };
-    let Some(version) = version_of(line) else {
-        return Ok(Some(fault_of(alloc, 1, Code::DeclarationLine, "")?));
+    let Some(version) = version else {
+        return push(alloc, faults, 1, Code::DeclarationLine, "");
     };
     if version == "1.0" {
-        Ok(None)
+        Ok(())
     } else {
-        Ok(Some(fault_of(alloc, 1, Code::VersionUnsupported, version)?))
+        push(alloc, faults, 1, Code::VersionUnsupported, version)
     }
 }
 
 /// An encoding that isn't read or isn't UTF-8.
-fn encoding_fault(alloc: Global, line: Option<&str>) -> Result<Option<LineFault>, AllocError>
-    ensures { IfOk result (λ fault. fault ≡ place.encoding_fault (option_copied line.entry)) }
+fn push_encoding_fault(
+    alloc: Global,
+    faults: &mut Items<LineFault>,
+    encoding: Option<&str>,
+) -> Result<(), AllocError>
+    ensures { OnOk result (faults.new ≡ faults.old ++ option_to_list (spec.encoding_fault (option_copied encoding.entry))) }
 {
-    let Some(line) = line else {
-        return Ok(None);
-    };
-    let Some(encoding) = encoding_of(line) else {
-        return Ok(Some(fault_of(alloc, 2, Code::DeclarationLine, "")?));
+    let Some(encoding) = encoding else {
+        return push(alloc, faults, 2, Code::DeclarationLine, "");
     };
     if encoding.eq_ignore_ascii_case("UTF-8") {
-        Ok(None)
+        Ok(())
     } else {
-        Ok(Some(fault_of(alloc, 2, Code::EncodingUnsupported, encoding)?))
+        push(alloc, faults, 2, Code::EncodingUnsupported, encoding)
     }
 }

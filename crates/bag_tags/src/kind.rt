@@ -6,3 +6,8 @@ pub enum Kind {
     Payload,
     Tag,
 }
+
+impl Kind {
+    /// Both kinds, in the order of their manifests' paths.
+    pub const ALL: [Kind; 2] = [Kind::Payload, Kind::Tag];
+}

@@ -12,19 +12,20 @@
 
 mod declaration;
 mod declaration_faults;
-mod declared;
+mod declaration_line;
 mod fault;
 mod kind;
+pub mod laws;
 mod manifest;
 mod manifest_line;
 mod manifest_name;
 mod prefix;
 mod repeats;
-#[cfg(test)]
-mod tests;
+mod tag_name;
 
 pub use declaration::{Declaration, read_declaration};
 pub use fault::{LineFault, Parsed};
 pub use kind::Kind;
 pub use manifest::{ManifestEntry, read_manifest};
 pub use manifest_name::manifest_alg;
+pub use tag_name::TagName;

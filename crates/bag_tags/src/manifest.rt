@@ -5,11 +5,11 @@ ghost use Rattle.std.specs.Option.{option_to_list};
 ghost use Rattle.std.specs.Ordering.{nat_cmp, on};
 ghost use Rattle.bag_text.specs.Lines as cut;
 ghost use Rattle.bag_text.specs.Order.{IsListOf};
-ghost use Rattle.bag_tags.specs.Judged.{judged_all, settled_all, entry_of, fault_of, not_utf8};
+ghost use Rattle.bag_tags.specs.Judged.{judged_all, judged_and_marked, entry_of, fault_of, not_utf8};
 ghost use Rattle.bag_tags.specs.LineFault.{AreFaults};
 ghost use Rattle.bag_tags.specs.Manifest.{IsEntry, IsManifestFault};
 
-use crate::manifest_line::{Judged, judge};
+use crate::manifest_line::{Judged, Verdict, judge};
 use crate::repeats::mark_repeats;
 use crate::{Kind, LineFault, Parsed};
 use bag_text::{Alg, Code, Items, Text, is_blank_line, lines, text_of};
@@ -65,8 +65,8 @@ fn read_text(
     alg: Alg,
     text: &str,
 ) -> Result<Parsed<ManifestEntry>, AllocError>
-    ensures items { IfOk result (λ parsed. parsed.items ≡ filter_map entry_of (settled_all kind alg (cut.lines text.now))) }
-    ensures faults { IfOk result (λ parsed. parsed.faults ≡ filter_map fault_of (settled_all kind alg (cut.lines text.now))) }
+    ensures items { IfOk result (λ parsed. parsed.items ≡ filter_map entry_of (judged_and_marked kind alg (cut.lines text.now))) }
+    ensures faults { IfOk result (λ parsed. parsed.faults ≡ filter_map fault_of (judged_and_marked kind alg (cut.lines text.now))) }
 {
     let mut all = judge_all(alloc, kind, alg, text)?;
     mark_repeats(alloc, &mut all)?;
@@ -80,7 +80,11 @@ fn judge_all(alloc: Global, kind: Kind, alg: Alg, text: &str) -> Result<Vec<Judg
     let mut all = Vec::new(alloc);
     for (number, line) in lines(text) {
         if !is_blank_line(line) {
-            all.push(judge(alloc, kind, alg, number, line)?)?;
+            let verdict = judge(alloc, kind, alg, line)?;
+            all.push(Judged {
+                line: number,
+                verdict,
+            })?;
         }
     }
     Ok(all)
@@ -108,22 +112,9 @@ fn put(
     ensures items { OnOk result (items.new ≡ items.old ++ option_to_list (entry_of judged)) }
     ensures faults { OnOk result (faults.new ≡ faults.old ++ option_to_list (fault_of judged)) }
 {
-    let Judged {
-        line,
-        digest,
-        text,
-        wrong,
-    } = judged;
-    match wrong {
-        None => items.push(ManifestEntry {
-            line,
-            digest,
-            path: text,
-        }),
-        Some(code) => faults.push(LineFault {
-            line,
-            code,
-            detail: text,
-        }),
+    let Judged { line, verdict } = judged;
+    match verdict {
+        Verdict::Entry { digest, path } => items.push(ManifestEntry { line, digest, path }),
+        Verdict::Fault { code, detail } => faults.push(LineFault { line, code, detail }),
     }
 }

@@ -1,5 +1,5 @@
 //! One line of a manifest (RFC 8493, 2.1.3 and 2.2.1).
-ghost use Rattle.std.specs.Prelude.{◌≡◌, Ok, Err, IfOk, MatchOption, MatchResult};
+ghost use Rattle.std.specs.Prelude.{◌≡◌, true, false, Ok, Err, IfOk, MatchOption, MatchResult};
 ghost use Rattle.std.specs.Char.{is_ascii_hexdigit};
 ghost use Rattle.std.specs.List.{list_all};
 ghost use Rattle.std.specs.Str.{str_to_ascii_lowercase};
@@ -13,33 +13,57 @@ use bag_text::{
     Alg, Code, PathFault, Text, check_path, is_payload, split_at_blanks, unescape_path,
 };
 use std::alloc::{AllocError, Global};
+use std::mem;
 
-/// A line that isn't blank: what it says, or why it doesn't read.
+/// What a line says, or why it doesn't read.
+#[derive(Debug, Drop)]
+pub(crate) enum Verdict {
+    /// The digest in lower case, and the path that is named.
+    Entry { digest: Text, path: Text },
+    /// What is wrong with the line.
+    Fault { code: Code, detail: Text },
+}
+
+/// A line that isn't blank, judged.
 #[derive(Debug, Drop)]
 pub(crate) struct Judged {
     pub(crate) line: u64,
-    /// The digest in lower case, where the line reads.
-    pub(crate) digest: Text,
-    /// The path that the line names; where it doesn't read, the fault's detail.
-    pub(crate) text: Text,
-    /// What is wrong with the line, if anything is.
-    pub(crate) wrong: Option<Code>,
+    pub(crate) verdict: Verdict,
 }
 
-/// Judges a line that isn't blank: the first reason why it doesn't read, or its digest and its path.
-pub(crate) fn judge(
-    alloc: Global,
-    kind: Kind,
-    alg: Alg,
-    number: u64,
-    line: &str,
-) -> Result<Judged, AllocError>
-    ensures { IfOk result (λ j. j ≡ judged.judged_as number (spec.manifest_line kind alg line.now)) }
+impl Judged {
+    /// The path that the line names, where it reads.
+    pub(crate) fn path(&self) -> Option<&str>
+        ensures { MatchOption result (judged.names_path self.now ≡ false) (λ path. (judged.names_path self.now ≡ true) × (path.now ≡ judged.text self.now)) }
+    {
+        match &self.verdict {
+            Verdict::Entry { path, .. } => Some(path.as_str()),
+            Verdict::Fault { .. } => None,
+        }
+    }
+
+    /// Marks a line that reads as one that names its path again.
+    pub(crate) fn mark_named_again(&mut self, alloc: Global)
+        ensures { self.new ≡ judged.as_repeat self.old }
+    {
+        if let Verdict::Entry { path, .. } = &mut self.verdict {
+            let detail = mem::replace(path, Text::empty(alloc));
+            self.verdict = Verdict::Fault {
+                code: Code::NamedAgain,
+                detail,
+            };
+        }
+    }
+}
+
+/// Judges a line that isn't blank: its digest and its path, or the first reason why it doesn't read.
+pub(crate) fn judge(alloc: Global, kind: Kind, alg: Alg, line: &str) -> Result<Verdict, AllocError>
+    ensures { IfOk result (λ v. v ≡ judged.verdict_of (spec.manifest_line kind alg line.now)) }
 {
     let (digest, rest) = split_at_blanks(line);
     match check_digest(alg, digest, rest) {
-        Ok(()) => judge_spelling(alloc, kind, number, digest, without_marks(rest)),
-        Err((code, detail)) => unread(alloc, number, code, detail),
+        Ok(()) => judge_spelling(alloc, kind, digest, without_marks(rest)),
+        Err((code, detail)) => fault(alloc, code, detail),
     }
 }
 
@@ -47,15 +71,14 @@ pub(crate) fn judge(
 fn judge_spelling(
     alloc: Global,
     kind: Kind,
-    number: u64,
     digest: &str,
     spelling: &str,
-) -> Result<Judged, AllocError>
-    ensures { IfOk result (λ j. j ≡ judged.judged_by_spelling kind number (str_to_ascii_lowercase digest.now) spelling.now) }
+) -> Result<Verdict, AllocError>
+    ensures { IfOk result (λ v. v ≡ judged.verdict_by_spelling kind (str_to_ascii_lowercase digest.now) spelling.now) }
 {
     match unescape_path(alloc, spelling) {
-        Ok(path) => judge_path(alloc, kind, number, digest, Text::from_string(path)),
-        Err(PathFault::BadEscape) => unread(alloc, number, Code::ManifestEscape, spelling),
+        Ok(path) => judge_path(alloc, kind, digest, Text::from_string(path)),
+        Err(PathFault::BadEscape) => fault(alloc, Code::ManifestEscape, spelling),
         Err(PathFault::Memory) => Err(AllocError),
     }
 }
@@ -101,28 +124,15 @@ fn without_marks(rest: &str) -> &str
 }
 
 /// Judges a line by the path that is written in it.
-fn judge_path(
-    alloc: Global,
-    kind: Kind,
-    number: u64,
-    digest: &str,
-    path: Text,
-) -> Result<Judged, AllocError>
-    ensures { IfOk result (λ j. j ≡ judged.judged_by_path kind number (str_to_ascii_lowercase digest.now) path) }
+fn judge_path(alloc: Global, kind: Kind, digest: &str, path: Text) -> Result<Verdict, AllocError>
+    ensures { IfOk result (λ v. v ≡ judged.verdict_by_path kind (str_to_ascii_lowercase digest.now) path) }
 {
     match misplaced(kind, path.as_str()) {
-        None => Ok(Judged {
-            line: number,
+        None => Ok(Verdict::Entry {
             digest: Text::from_string(digest.to_ascii_lowercase(alloc)?),
-            text: path,
-            wrong: None,
+            path,
         }),
-        Some(code) => Ok(Judged {
-            line: number,
-            digest: Text::empty(alloc),
-            text: path,
-            wrong: Some(code),
-        }),
+        Some(code) => Ok(Verdict::Fault { code, detail: path }),
     }
 }
 
@@ -130,19 +140,20 @@ fn judge_path(
 fn misplaced(kind: Kind, path: &str) -> Option<Code>
     ensures { MatchOption result (spec.named_path kind path.now ≡ Ok path.now) (λ code. spec.named_path kind path.now ≡ Err (code, path.now)) }
 {
-    if check_path(path).is_err() {
-        return Some(Code::ManifestUnsafePath);
-    }
     match kind {
         Kind::Payload => {
             if is_payload(path) {
                 None
-            } else {
+            } else if check_path(path).is_ok() {
                 Some(Code::ManifestOutsidePayload)
+            } else {
+                Some(Code::ManifestUnsafePath)
             }
         }
         Kind::Tag => {
-            if is_payload(path) {
+            if check_path(path).is_err() {
+                Some(Code::ManifestUnsafePath)
+            } else if is_payload(path) {
                 Some(Code::TagmanifestNamesPayload)
             } else if is_manifest_name(Kind::Tag, path) {
                 Some(Code::TagmanifestNamesTagmanifest)
@@ -153,14 +164,12 @@ fn misplaced(kind: Kind, path: &str) -> Option<Code>
     }
 }
 
-/// A line that doesn't read.
-fn unread(alloc: Global, number: u64, code: Code, detail: &str) -> Result<Judged, AllocError>
-    ensures { IfOk result (λ j. j ≡ judged.judged_as number (Err (code, detail.now))) }
+/// The verdict on a line that doesn't read.
+fn fault(alloc: Global, code: Code, detail: &str) -> Result<Verdict, AllocError>
+    ensures { IfOk result (λ v. v ≡ judged.verdict_of (Err (code, detail.now))) }
 {
-    Ok(Judged {
-        line: number,
-        digest: Text::empty(alloc),
-        text: Text::from_str(alloc, detail)?,
-        wrong: Some(code),
+    Ok(Verdict::Fault {
+        code,
+        detail: Text::from_str(alloc, detail)?,
     })
 }

@@ -8,6 +8,9 @@ ghost use Rattle.bag_tags.specs.ManifestName as spec;
 use crate::Kind;
 use crate::prefix::{after_prefix, before_suffix};
 
+/// What a manifest's name ends with.
+pub(crate) const SUFFIX: &str = ".txt";
+
 /// The text ALG of `manifest-ALG.txt` (RFC 8493, 2.1.3), or for tag manifests of `tagmanifest-ALG.txt` (2.2.1), where
 /// the name has that form: ALG is one or more of the characters `a` to `z` and `0` to `9`. It may be an algorithm that
 /// isn't known here. `None` for any other name.
@@ -19,7 +22,7 @@ pub fn manifest_alg(kind: Kind, name: &str) -> Option<&str>
     let Some(rest) = after_prefix(name, prefix(kind)) else {
         return None;
     };
-    let Some(alg) = before_suffix(rest, ".txt") else {
+    let Some(alg) = before_suffix(rest, SUFFIX) else {
         return None;
     };
     if is_alg_text(alg) { Some(alg) } else { None }
@@ -32,7 +35,8 @@ pub(crate) fn is_manifest_name(kind: Kind, name: &str) -> bool
     manifest_alg(kind, name).is_some()
 }
 
-fn prefix(kind: Kind) -> &'static str
+/// What the name of a manifest of this kind begins with.
+pub(crate) fn prefix(kind: Kind) -> &'static str
     ensures { result.now ≡ spec.prefix kind }
 {
     match kind {

@@ -1,32 +1,33 @@
 //! Lines of a manifest that name a path again.
 ghost use Rattle.std.specs.Prelude.{◌≡◌, ◌↔◌, ◌<◌, ℕ, IfOk, OnOk, All, Contains, IsTrue, bytes_eq, length, map};
 ghost use Rattle.std.specs.List.Sorted.{IsStrictlySortedBy};
-ghost use Rattle.bag_tags.specs.Judged.{settled};
+ghost use Rattle.std.specs.declared.cmp.Ordering.TheVariants.{Less};
+ghost use Rattle.bag_text.specs.Text.{text_cmp};
+ghost use Rattle.bag_tags.specs.Judged.{marked_if_repeat, text};
 ghost use Rattle.bag_tags.specs.Fingerprint.{fingerprint};
 ghost use Rattle.bag_tags.specs.Repeats.{line_cmp, pair_of, places_from, IsRepeatAt, IsMarked, AreAscending, FollowsSame, HasFingerprint};
 
 use crate::manifest_line::Judged;
-use bag_text::Code;
 use std::alloc::{AllocError, Global};
 use std::hash::{FoldHasher, Hasher};
 
 /// Marks each line that names the path of an earlier line. Takes time n log n in the number of lines.
 pub(crate) fn mark_repeats(alloc: Global, all: &mut Vec<Judged>) -> Result<(), AllocError>
     requires { IsStrictlySortedBy line_cmp all.old.items }
-    ensures { OnOk result (all.new.items ≡ map (settled all.old.items) all.old.items) }
+    ensures { OnOk result (all.new.items ≡ map (marked_if_repeat all.old.items) all.old.items) }
 {
     let places = repeats(alloc, all.as_slice())?;
-    mark(all, places.as_slice());
+    mark(alloc, all, places.as_slice());
     Ok(())
 }
 
 /// Marks the lines at these places.
-fn mark(all: &mut Vec<Judged>, places: &[usize])
+fn mark(alloc: Global, all: &mut Vec<Judged>, places: &[usize])
     requires { (i : ℕ) → Contains places.now i → i < length all.old.items }
     ensures { IsMarked places.now all.old.items all.new.items }
 {
     for place in places {
-        all[*place].wrong = Some(Code::NamedAgain);
+        all[*place].mark_named_again(alloc);
     }
 }
 
@@ -43,17 +44,26 @@ fn repeats(alloc: Global, all: &[Judged]) -> Result<Vec<usize>, AllocError>
     followers(alloc, named.as_slice())
 }
 
-/// Whether the paths ascend, so that none is named again. Most programs write them so.
+/// Whether all lines read and their paths ascend, so that none is named again. Most programs write them so.
 fn is_ascending(all: &[Judged]) -> bool
     ensures { IsTrue result → AreAscending all.now }
 {
     for k in 1..all.len() {
-        let before = all[k - 1].text.as_str();
-        if !before.cmp(all[k].text.as_str()).is_lt() {
+        if !is_below(&all[k - 1], &all[k]) {
             return false;
         }
     }
     true
+}
+
+/// Whether both lines read and the path of the first stands before that of the second.
+fn is_below(first: &Judged, second: &Judged) -> bool
+    ensures { IsTrue result → text_cmp (text first.now) (text second.now) ≡ Less }
+{
+    match (first.path(), second.path()) {
+        (Some(before), Some(after)) => before.cmp(after).is_lt(),
+        _ => false,
+    }
 }
 
 /// The path of each line that reads, with its fingerprint and the line's place.
@@ -63,8 +73,7 @@ fn named_places(alloc: Global, all: &[Judged]) -> Result<Vec<(u64, &str, usize)>
 {
     let mut named = Vec::new(alloc);
     for (place, judged) in all.iter().enumerate() {
-        if judged.wrong.is_none() {
-            let path = judged.text.as_str();
+        if let Some(path) = judged.path() {
             named.push((fingerprint(path), path, place))?;
         }
     }

@@ -1,37 +1,22 @@
 -- Sets of algorithms.
-use Rattle.std.proofs.Common.{◌≡◌, ◌↔◌, ◌⊎◌, inl, inr, ℕ, zero, suc, Bool, true, false, ◌||◌, List, [], ◌∷◌, filter, Contains, IsTrue, refl, sym, ap, subst, ◌∙◌, length, ◌<◌, arith}
-use Rattle.std.specs.List.{slice_index_or}
+use Rattle.std.proofs.Common.{◌≡◌, ◌≢◌, ◌↔◌, ◌⊎◌, inl, inr, ℕ, zero, suc, ◌-◌, ◌<◌, Bool, true, false, not, ◌||◌, List, [], ◌∷◌, filter, map, Contains, IsTrue, refl, sym, ap, subst, ◌∙◌, length, arith, get_or, set, rules}
+use Rattle.std.specs.Bool.{beq}
+use Rattle.std.specs.List.{list_any}
+use Rattle.std.specs.List.Sorted.{IsStrictlySortedBy}
+use Rattle.std.proofs.lemmas.Bool.Decides.{nat_tests}
+use Rattle.std.proofs.lemmas.Grind.{get_or-set_at}
+use Rattle.std.proofs.lemmas.List.{get_or-set_other}
 use Rattle.std.proofs.lemmas.Map.Views.{Contains-from_any}
 use Rattle.bag_text.specs.declared.alg.Alg.{Alg}
-use Rattle.bag_text.specs.declared.alg.Alg.TheVariants.{Md5, Sha1, Sha256, Sha512}
+use Rattle.bag_text.specs.declared.alg.Alg.TheVariants.{Md5}
 use Rattle.bag_text.specs.declared.alg_set.AlgSet.TheInside.{Inside}
-use Rattle.bag_text.specs.Alg.{algs}
+use Rattle.bag_text.specs.Alg.{algs, rank, EachIsListed, ListAscends, NameIsReadAgain, NamesTellApart}
 use Rattle.bag_text.specs.AlgList.{same_alg, has_member, with_member}
-use Rattle.bag_text.specs.AlgSet.{flag, members, flags_of_members}
-
-pub same_alg_same : (a b : Alg) → same_alg a b ≡ true → a ≡ b
-same_alg_same Md5 Md5 e = refl
-same_alg_same Sha1 Sha1 e = refl
-same_alg_same Sha256 Sha256 e = refl
-same_alg_same Sha512 Sha512 e = refl
-same_alg_same Md5 Sha1 e = cc
-same_alg_same Md5 Sha256 e = cc
-same_alg_same Md5 Sha512 e = cc
-same_alg_same Sha1 Md5 e = cc
-same_alg_same Sha1 Sha256 e = cc
-same_alg_same Sha1 Sha512 e = cc
-same_alg_same Sha256 Md5 e = cc
-same_alg_same Sha256 Sha1 e = cc
-same_alg_same Sha256 Sha512 e = cc
-same_alg_same Sha512 Md5 e = cc
-same_alg_same Sha512 Sha1 e = cc
-same_alg_same Sha512 Sha256 e = cc
+use Rattle.bag_text.specs.AlgSet.{IsTable, flag, members}
+use Rattle.bag_text.specs.AlgTable.{same_alg_same, has_each, has_member-filter, flags_are}
 
 pub same_alg_self : (a : Alg) → same_alg a a ≡ true
-same_alg_self Md5 = refl
-same_alg_self Sha1 = refl
-same_alg_self Sha256 = refl
-same_alg_self Sha512 = refl
+same_alg_self a = grind (arith, nat_tests)
 
 -- the test of a list finds its members alone
 pub Contains-from_has_member : (set : List Alg) (alg : Alg) → has_member set alg ≡ true → Contains set alg
@@ -41,7 +26,7 @@ or_right : (b c : Bool) → c ≡ true → (b || c) ≡ true
 or_right true c e = refl
 or_right false c e = e
 
-has_member_at : (set : List Alg) (alg : Alg) (k : ℕ) → k < length set → slice_index_or set k alg ≡ alg → has_member set alg ≡ true
+has_member_at : (set : List Alg) (alg : Alg) (k : ℕ) → k < length set → get_or set k alg ≡ alg → has_member set alg ≡ true
 has_member_at [] alg k l e = absurd (omega arith)
 has_member_at (x ∷ set) alg zero l e = ap (λ b. b || has_member set alg) (ap (same_alg alg) e ∙ same_alg_self alg)
 has_member_at (x ∷ set) alg (suc k) l e = or_right (same_alg alg x) _ (has_member_at set alg k (omega arith) e)
@@ -49,51 +34,87 @@ has_member_at (x ∷ set) alg (suc k) l e = or_right (same_alg alg x) _ (has_mem
 pub has_member-from_Contains : (set : List Alg) (alg : Alg) → Contains set alg → has_member set alg ≡ true
 has_member-from_Contains set alg (k, l, e) = has_member_at set alg k l e
 
--- the members are those whose flag is set
-pub has_member-members : (set : Inside) (alg : Alg) → has_member (members set) alg ≡ flag set alg
-has_member-members set Md5 = ap (λ (s : Inside). s.md5) (flags_of_members set)
-has_member-members set Sha1 = ap (λ (s : Inside). s.sha1) (flags_of_members set)
-has_member-members set Sha256 = ap (λ (s : Inside). s.sha256) (flags_of_members set)
-has_member-members set Sha512 = ap (λ (s : Inside). s.sha512) (flags_of_members set)
-
-abbrev tested : (p : Alg → Bool) → Inside
-tested p = record { md5 = p Md5; sha1 = p Sha1; sha256 = p Sha256; sha512 = p Sha512 }
-
-pub has_member-filter : (p : Alg → Bool) (alg : Alg) → has_member (filter p algs) alg ≡ p alg
-has_member-filter p Md5 = has_member-members (tested p) Md5
-has_member-filter p Sha1 = has_member-members (tested p) Sha1
-has_member-filter p Sha256 = has_member-members (tested p) Sha256
-has_member-filter p Sha512 = has_member-members (tested p) Sha512
-
--- one more member of a set that a test makes
-pub with_member-filter : (p : Alg → Bool) (alg : Alg) → with_member (filter p algs) alg ≡ filter (λ a. same_alg a alg || p a) algs
-with_member-filter p alg = λ i. filter (λ a. same_alg a alg || has_member-filter p a i) algs
-
--- a member is an algorithm whose flag is set
-pub flag_is_member : (s : Inside) (set : List Alg) (alg : Alg) → members s ≡ set → IsTrue (flag s alg) ↔ Contains set alg
-flag_is_member s set alg e =
-    subst (λ x. IsTrue (flag s alg) ↔ Contains x alg) e (
-      (λ h. Contains-from_has_member (members s) alg (has_member-members s alg ∙ h)),
-      (λ h. sym (has_member-members s alg) ∙ has_member-from_Contains (members s) alg h),
-    )
-
-either : (b c : Bool) → (b || c) ≡ true → (b ≡ true) ⊎ (c ≡ true)
-either true c e = inl refl
-either false c e = inr e
-
--- one more flag is one more member
-pub one_more : (s t : Inside) (set : List Alg) (alg : Alg) → members s ≡ set → ((a : Alg) → flag t a ≡ same_alg a alg || flag s a)
-    → (a : Alg) → Contains (members t) a ↔ (Contains set a ⊎ (a ≡ alg))
-one_more s t set alg e more a =
-    let there = flag_is_member s set a e in
-    let here = flag_is_member t (members t) a refl in (
-      (λ h. elim (either (same_alg a alg) (flag s a) (sym (more a) ∙ here.1 h)) [ inl same ↦ inr (same_alg_same a alg same) | inr old ↦ inl (there.0 old) ]),
-      (λ h. here.0 (more a ∙ elim h [ inl old ↦ or_right (same_alg a alg) (flag s a) (there.1 old) | inr same ↦ ap (λ b. b || flag s a) (ap (λ x. same_alg x alg) same ∙ same_alg_self alg) ])),
-    )
-
 -- a set that a test makes
 pub Contains-filter : (p : Alg → Bool) (alg : Alg) → Contains (filter p algs) alg ↔ IsTrue (p alg)
 Contains-filter p alg = (
   (λ h. sym (has_member-filter p alg) ∙ has_member-from_Contains (filter p algs) alg h),
   (λ h. Contains-from_has_member (filter p algs) alg (has_member-filter p alg ∙ h)),
 )
+
+-- one more member of a set that a test makes
+pub with_member-filter : (p : Alg → Bool) (alg : Alg) → with_member (filter p algs) alg ≡ filter (λ a. same_alg a alg || p a) algs
+with_member-filter p alg = λ i. filter (λ a. same_alg a alg || has_member-filter p a i) algs
+
+pub rank_within : (alg : Alg) → rank alg - 1 < length algs
+rank_within Md5 = omega arith
+rank_within _ = omega arith
+
+rank_positive : (alg : Alg) → 0 < rank alg
+rank_positive Md5 = omega arith
+rank_positive _ = omega arith
+
+more_at : (flags : List Bool) (alg a : Alg) (same : Bool) → length flags ≡ length algs → same_alg a alg ≡ same
+    → get_or (set flags (rank alg - 1) true) (rank a - 1) false ≡ (same || get_or flags (rank a - 1) false)
+more_at flags alg a true long s =
+    let at : rank a ≡ rank alg = grind (arith, nat_tests) in
+    get_or-set_at flags (rank alg - 1) (rank a - 1) true false (ap (λ n. n - 1) at) (omega (arith, rank_within alg))
+more_at flags alg a false long s =
+    let other : rank a ≢ rank alg = grind (arith, nat_tests) in
+    get_or-set_other flags (rank alg - 1) (rank a - 1) true false (λ e. other (omega (arith, rank_positive a, rank_positive alg)))
+
+-- one more flag
+flag_more : (s : Inside) (alg a : Alg) → IsTable s → flag (record { flags = set s.flags (rank alg - 1) true }) a ≡ (same_alg a alg || flag s a)
+flag_more s alg a long = more_at s.flags alg a _ long refl
+
+-- one more flag is one more member
+pub members_more : (s : Inside) (alg : Alg) → IsTable s → members (record { flags = set s.flags (rank alg - 1) true }) ≡ with_member (members s) alg
+members_more s alg long = (λ i. filter (λ a. flag_more s alg a long i) algs) ∙ sym (with_member-filter (flag s) alg)
+
+either : (b c : Bool) → (b || c) ≡ true → (b ≡ true) ⊎ (c ≡ true)
+either true c e = inl refl
+either false c e = inr e
+
+-- the members of a set with one more
+pub Contains-with_member : (p : Alg → Bool) (alg a : Alg) → Contains (with_member (filter p algs) alg) a ↔ (Contains (filter p algs) a ⊎ (a ≡ alg))
+Contains-with_member p alg a =
+    let there = Contains-filter p a in
+    let here = Contains-filter (λ x. same_alg x alg || has_member (filter p algs) x) a in (
+      (λ h. elim (either (same_alg a alg) (has_member (filter p algs) a) (here.0 h)) [ inl same ↦ inr (same_alg_same a alg same) | inr old ↦ inl (Contains-from_has_member _ a old) ]),
+      (λ h. here.1 (elim h [ inl old ↦ or_right (same_alg a alg) _ (has_member-from_Contains _ a old) | inr same ↦ ap (λ b. b || has_member (filter p algs) a) (ap (λ x. same_alg x alg) same ∙ same_alg_self alg) ])),
+    )
+
+set_flag : (b c : Bool) → (beq b true || c) ≡ (b || c)
+set_flag true c = refl
+set_flag false c = refl
+
+any_map : (p : Alg → Bool) (xs : List Alg) → list_any (λ b. beq b true) (map p xs) ≡ list_any p xs
+any_map p [] = refl
+any_map p (x ∷ xs) = set_flag (p x) _ ∙ ap (λ b. p x || b) (any_map p xs)
+
+no_member_at : (p : Alg → Bool) (x : Alg) (xs : List Alg) (here : Bool) → p x ≡ here → IsTrue (not (list_any p xs)) ↔ (filter p xs ≡ [])
+    → IsTrue (not (list_any p (x ∷ xs))) ↔ (filter p (x ∷ xs) ≡ [])
+no_member_at p x xs true h more = rw h ((λ e. cc), (λ e. cc))
+no_member_at p x xs false h more = rw h more
+
+no_member : (p : Alg → Bool) (xs : List Alg) → IsTrue (not (list_any p xs)) ↔ (filter p xs ≡ [])
+no_member p [] = (λ _. refl, λ _. refl)
+no_member p (x ∷ xs) = no_member_at p x xs (p x) refl (no_member p xs)
+
+-- no flag is set where there is no member
+pub no_flag : (s : Inside) → IsTable s → IsTrue (not (list_any (λ b. beq b true) s.flags)) ↔ (members s ≡ [])
+no_flag s long = subst (λ b. IsTrue (not b) ↔ (members s ≡ [])) (sym (any_map (flag s) algs) ∙ ap (list_any (λ b. beq b true)) (flags_are s long)) (no_member (flag s) algs)
+
+-- each algorithm is listed
+pub each_is_listed : EachIsListed
+each_is_listed alg = Contains-from_has_member algs alg (has_each alg)
+
+pub list_ascends : ListAscends
+unfolding IsStrictlySortedBy
+list_ascends = search rules
+
+pub name_is_read_again : NameIsReadAgain
+name_is_read_again Md5 = refl
+name_is_read_again _ = refl
+
+pub names_tell_apart : NamesTellApart
+names_tell_apart a b e = cc (name_is_read_again a, name_is_read_again b)

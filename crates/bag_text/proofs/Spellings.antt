@@ -1,5 +1,5 @@
 -- Reading and writing spellings piece by piece.
-use Rattle.std.proofs.Common.{◌≡◌, ◌≢◌, ℕ, suc, ◌<◌, ◌≤◌, List, [], ◌∷◌, ◌++◌, length, get_or, Option, Some, None, Bool, true, false, ◌&&◌, ◌||◌, refl, sym, ap, ◌∙◌, arith, eqb, append_assoc, append-nil, encode_utf8, nat_lt, lit<}
+use Rattle.std.proofs.Common.{◌≡◌, ◌≢◌, ◌↔◌, IsTrue, ℕ, suc, ◌<◌, ◌≤◌, List, [], ◌∷◌, ◌++◌, length, get_or, Option, Some, None, Bool, true, false, ◌&&◌, ◌||◌, refl, sym, ap, ◌∙◌, arith, eqb, append_assoc, append-nil, encode_utf8, nat_lt, lit<}
 use Rattle.std.specs.Char.{to_ascii_lowercase}
 use Rattle.std.specs.Option.{option_map}
 use Rattle.std.specs.Str.{IsUtf8, IsCharBoundary, NoCharPasses, encode_utf8_all, bytes_eq}
@@ -89,6 +89,37 @@ pub read_none : (t path rest plain after : List ℕ) → unescaped t ≡ option_
     → ((i : ℕ) → i < length plain → get_or plain i 0 ≢ percent) → unescaped (percent ∷ after) ≡ None → unescaped t ≡ None
 read_none t path rest plain after read is none bad =
     read ∙ ap (option_map (λ more. path ++ more)) (ap unescaped is ∙ unescaped_front plain (percent ∷ after) none ∙ ap (option_map (λ more. plain ++ more)) bad)
+
+-- text in front, or one character, makes no difference to whether there is a bad escape
+nothing_put : (front : List ℕ) (o : Option (List ℕ)) → (option_map (λ more. front ++ more) o ≡ None) ↔ (o ≡ None)
+nothing_put front None = (λ _. refl, λ _. refl)
+nothing_put front (Some more) = (λ e. cc, λ e. cc)
+
+nothing_behind : (c : ℕ) (o : Option (List ℕ)) → (both (Some c) o ≡ None) ↔ (o ≡ None)
+nothing_behind c None = (λ _. refl, λ _. refl)
+nothing_behind c (Some more) = (λ e. cc, λ e. cc)
+
+-- a bad escape behind what has none
+pub none_before : (rest plain after : List ℕ) → rest ≡ plain ++ percent ∷ after → ((i : ℕ) → i < length plain → get_or plain i 0 ≢ percent)
+    → unescaped (percent ∷ after) ≡ None → unescaped rest ≡ None
+none_before rest plain after is none bad = ap unescaped is ∙ unescaped_front plain (percent ∷ after) none ∙ (nothing_put plain _).1 bad
+
+-- an escape changes nothing
+pub none_behind : (t rest plain after more : List ℕ) (c : ℕ) → (unescaped t ≡ None) ↔ (unescaped rest ≡ None) → rest ≡ plain ++ percent ∷ after
+    → ((i : ℕ) → i < length plain → get_or plain i 0 ≢ percent) → unescaped (percent ∷ after) ≡ both (Some c) (unescaped more)
+    → (unescaped t ≡ None) ↔ (unescaped more ≡ None)
+none_behind t rest plain after more c alike is none here =
+    let read = ap unescaped is ∙ unescaped_front plain (percent ∷ after) none ∙ ap (option_map (λ x. plain ++ x)) here in (
+      (λ e. (nothing_behind c _).0 ((nothing_put plain _).0 (sym read ∙ alike.0 e))),
+      (λ e. alike.1 (read ∙ (nothing_put plain _).1 ((nothing_behind c _).1 e))),
+    )
+
+-- where no % is left, none is bad
+pub none_whole : (t rest : List ℕ) → (unescaped t ≡ None) ↔ (unescaped rest ≡ None) → ((i : ℕ) → i < length rest → get_or rest i 0 ≢ percent)
+    → IsTrue false ↔ (unescaped t ≡ None)
+none_whole t rest alike none =
+    let whole = unescaped_whole rest none in
+    (λ e. cc, λ e. let clash : Some rest ≡ None = sym whole ∙ alike.0 e in cc)
 
 -- an escape behind what is read
 pub read_escape : (t path rest plain after more new : List ℕ) (c : ℕ) → unescaped t ≡ option_map (λ more. path ++ more) (unescaped rest) → rest ≡ plain ++ percent ∷ after

@@ -12,6 +12,9 @@ pub enum Alg {
 }
 
 impl Alg {
+    /// Every algorithm, in the order of the ranks.
+    pub const ALL: [Alg; 4] = [Alg::Md5, Alg::Sha1, Alg::Sha256, Alg::Sha512];
+
     /// The name in the names of manifests: ASCII, in lower case, without a hyphen.
     pub fn name(self) -> &'static str
         ensures { result.now ≡ spec.name self }
@@ -28,17 +31,7 @@ impl Alg {
     pub fn from_name(name: &str) -> Option<Alg>
         ensures { result ≡ spec.alg_named name.now }
     {
-        if name == "md5" {
-            Some(Alg::Md5)
-        } else if name == "sha1" {
-            Some(Alg::Sha1)
-        } else if name == "sha256" {
-            Some(Alg::Sha256)
-        } else if name == "sha512" {
-            Some(Alg::Sha512)
-        } else {
-            None
-        }
+        Alg::ALL.iter().copied().find(|alg| alg.name() == name)
     }
 
     /// How many hex digits a digest has.
@@ -57,11 +50,6 @@ impl Alg {
     pub fn rank(self) -> u8
         ensures { result ≡ spec.rank self }
     {
-        match self {
-            Alg::Md5 => 1,
-            Alg::Sha1 => 2,
-            Alg::Sha256 => 3,
-            Alg::Sha512 => 4,
-        }
+        self as u8 + 1
     }
 }

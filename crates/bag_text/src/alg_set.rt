@@ -1,18 +1,18 @@
 //! Sets of checksum algorithms.
-ghost use Rattle.std.specs.Prelude.{◌≡◌, ◌↔◌, ◌⊎◌, [], Contains, IsTrue};
+ghost use Rattle.std.specs.Prelude.{◌≡◌, ◌↔◌, ◌⊎◌, ◌-◌, ◌<◌, [], Contains, IsTrue, length};
+ghost use Rattle.bag_text.specs.Alg.{algs, rank};
 ghost use Rattle.bag_text.specs.AlgList.{with_member};
 ghost use Rattle.bag_text.specs.declared.alg.Alg.{Alg as Member};
 
 use crate::Alg;
 use std::marker::Model;
 
+const COUNT: usize = Alg::ALL.len();
+
 /// A set of algorithms, which contracts see as the list of its members in their order.
 #[derive(Clone, Copy, Debug)]
 pub struct AlgSet {
-    md5: bool,
-    sha1: bool,
-    sha256: bool,
-    sha512: bool,
+    flags: [bool; COUNT],
 }
 
 impl Model for AlgSet {
@@ -21,13 +21,16 @@ impl Model for AlgSet {
 
     ghost Value = { List Alg };
 
-    ghost use Rattle.bag_text.specs.AlgSet.{members, flags, flags_of_members};
+    ghost use Rattle.bag_text.specs.AlgSet.{members, IsTable, table};
+    ghost use Rattle.bag_text.specs.AlgTable.{table_of_members};
 
     ghost view = { members };
 
-    ghost inverse = { flags };
+    ghost invariant = { IsTable };
 
-    ghost inverse_ok = { λ set _. flags_of_members set };
+    ghost inverse = { table };
+
+    ghost inverse_ok = { table_of_members };
 }
 
 impl AlgSet {
@@ -36,10 +39,7 @@ impl AlgSet {
         ensures { result ≡ [] }
     {
         AlgSet {
-            md5: false,
-            sha1: false,
-            sha256: false,
-            sha512: false,
+            flags: [false; COUNT],
         }
     }
 
@@ -49,12 +49,7 @@ impl AlgSet {
         ensures members { (member : Member) → Contains result member ↔ (Contains self member ⊎ (member ≡ alg)) }
     {
         let mut set = self;
-        match alg {
-            Alg::Md5 => set.md5 = true,
-            Alg::Sha1 => set.sha1 = true,
-            Alg::Sha256 => set.sha256 = true,
-            Alg::Sha512 => set.sha512 = true,
-        }
+        set.flags[flag_index(alg)] = true;
         set
     }
 
@@ -62,18 +57,21 @@ impl AlgSet {
     pub fn has(&self, alg: Alg) -> bool
         ensures { IsTrue result ↔ Contains self.now alg }
     {
-        match alg {
-            Alg::Md5 => self.md5,
-            Alg::Sha1 => self.sha1,
-            Alg::Sha256 => self.sha256,
-            Alg::Sha512 => self.sha512,
-        }
+        self.flags[flag_index(alg)]
     }
 
     /// Whether the set has no member.
     pub fn is_empty(&self) -> bool
         ensures { IsTrue result ↔ (self.now ≡ []) }
     {
-        !(self.md5 || self.sha1 || self.sha256 || self.sha512)
+        !self.flags.contains(&true)
     }
+}
+
+/// Where the flag of an algorithm stands.
+fn flag_index(alg: Alg) -> usize
+    ensures value { result ≡ rank alg - 1 }
+    ensures within { result < length algs }
+{
+    alg as usize
 }

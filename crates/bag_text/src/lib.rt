@@ -22,8 +22,6 @@ mod line_cut;
 mod path;
 mod read_text;
 mod spelling;
-#[cfg(test)]
-mod tests;
 mod text;
 
 pub use alg::Alg;

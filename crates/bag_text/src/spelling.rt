@@ -1,5 +1,5 @@
 //! How paths are written in manifests and `fetch.txt`.
-ghost use Rattle.std.specs.Prelude.{◌≡◌, ◌<◌, ◌∷◌, length, IfOk, IfSome, IsErrOf, MatchOption, string_bytes, encode_utf8};
+ghost use Rattle.std.specs.Prelude.{◌≡◌, ◌≢◌, ◌↔◌, ◌<◌, ◌∷◌, length, IfOk, IfSome, IsErrOf, IsTrue, MatchOption, string_bytes, encode_utf8};
 ghost use Rattle.bag_text.specs.Spelling as spec;
 
 use std::alloc::{AllocError, Global};
@@ -44,16 +44,41 @@ pub fn escape_path(alloc: Global, path: &str) -> Result<String, AllocError>
 }
 
 /// The path that is written so. Hex digits of either case are read, and no other escapes than those of LF, CR and `%`
-/// (RFC 8493, 2.1.3). Takes memory once.
+/// (RFC 8493, 2.1.3). Judges the escapes before it takes memory, which it does once.
 pub fn unescape_path(alloc: Global, text: &str) -> Result<String, PathFault>
     ensures ok { IfOk result (λ path. spec.unescaped text.now ≡ Some (string_bytes path)) }
-    ensures bad_escape { IsErrOf result PathFault.BadEscape → spec.unescaped text.now ≡ None }
+    ensures bad_escape { IsErrOf result PathFault.BadEscape ↔ (spec.unescaped text.now ≡ None) }
+{
+    if has_bad_escape(text) {
+        return Err(PathFault::BadEscape);
+    }
+    Ok(decode(alloc, text)?)
+}
+
+/// Whether a `%` begins no escape.
+fn has_bad_escape(text: &str) -> bool
+    ensures { IsTrue result ↔ (spec.unescaped text.now ≡ None) }
+{
+    let mut rest = text;
+    while let Some((_, after)) = rest.split_once('%') {
+        let Some((_, more)) = escaped_char(after) else {
+            return true;
+        };
+        rest = more;
+    }
+    false
+}
+
+/// The path of a text in which each `%` begins an escape.
+fn decode(alloc: Global, text: &str) -> Result<String, AllocError>
+    requires { spec.unescaped text.now ≢ None }
+    ensures { IfOk result (λ path. spec.unescaped text.now ≡ Some (string_bytes path)) }
 {
     let mut path = String::with_capacity(alloc, text.len())?;
     let mut rest = text;
     while let Some((plain, after)) = rest.split_once('%') {
         let Some((c, more)) = escaped_char(after) else {
-            return Err(PathFault::BadEscape);
+            unreachable!()
         };
         path.push_str(plain)?;
         path.push(c)?;

@@ -1,29 +1,34 @@
 -- A run, by what it has at hand.
-use Rattle.std.proofs.Common.{◌≡◌, ℕ, inl, Bool, true, false, true≢false, List, [], length, take, Option, Contains, IsTrue, refl, sym, subst, arith}
+use Rattle.std.proofs.Common.{◌≡◌, ℕ, inl, Bool, true, false, true≢false, List, [], length, take, Option, Contains, IsTrue, refl, sym, ◌∙◌, subst, append-nil, arith}
 use Rattle.std.proofs.lemmas.Grind.{common_steps}
+use Rattle.std.proofs.lemmas.List.Elements.{All-nil}
+use Rattle.std.specs.List.Sorted.{IsStrictlySortedBy}
 use Rattle.bag_text.specs.Code.{stage}
 use Rattle.bag_text.specs.declared.code.Code.{Code}
 use Rattle.bag_text.specs.declared.code.Code.TheVariants.{NoDeclaration, DeclarationNotUtf8, DeclarationLineCount, DeclarationLine, VersionUnsupported, EncodingUnsupported, NameClash}
 use Rattle.bag_text.proofs.ListOf.{same_members}
-use Rattle.bag_store.specs.Bag.{Bag}
-use Rattle.bag_store.specs.Tree.{TreeState}
-use Rattle.bag_store.specs.declared.fault.Stop.{Stop}
-use Rattle.bag_report.specs.declared.fault.Fault.{Fault}
-use Rattle.bag_report.specs.declared.options.Depth.TheVariants.{Declaration}
-use Rattle.bag_report.specs.declared.options.Options.{Options}
-use Rattle.bag_report.specs.FaultOrder.{fault_cmp}
-use Rattle.bag_report.specs.Facts.{MayStop}
-use Rattle.bag_report.specs.Report.{asks, IsReport, IsStageOf}
-use Rattle.bag_walk.specs.Run.{IsAsked, IsAnswered, IsRun, MayEnd, ReachesEnd}
-use Rattle.bag_walk.specs.Runner.{AreAskedOf}
-use Rattle.bag_report.specs.Stops.{IsOutOfMemory}
-use Rattle.bag_walk.specs.Writer.{Closes, WritesReport}
-use Rattle.bag_walk.specs.declared.outcome.Outcome.{Outcome}
-use Rattle.bag_walk.specs.declared.outcome.Outcome.TheVariants.{Clean, Faults, Stopped, Rest, Unread, Unwritten}
-use Rattle.bag_walk.specs.declared.outcome.Request.{Request}
-use Rattle.bag_walk.proofs.Ending.{take_length, wrote_closed}
-use Rattle.bag_walk.proofs.Shown.{front_is_first, nothing_is_first}
-use Rattle.bag_walk.proofs.Writing.{Appends-nil}
+use Rattle.bag_tree.specs.Bag.{Bag}
+use Rattle.bag_tree.specs.Tree.{TreeState}
+use Rattle.bag_tree.specs.declared.fault.Stop.{Stop}
+use Rattle.bag_fault.specs.FaultOrder.{fault_cmp}
+use Rattle.bag_fault.specs.declared.fault.Fault.{Fault}
+use Rattle.bag_facts.specs.Facts.{IsFactsOf}
+use Rattle.bag_facts.specs.Stops.{IsOutOfMemory, MayStop}
+use Rattle.bag_facts.specs.Wanted.{IsWanted, OpensWanted}
+use Rattle.bag_facts.specs.declared.facts.Facts.{Facts}
+use Rattle.bag_facts.specs.declared.options.Depth.TheVariants.{Declaration}
+use Rattle.bag_facts.specs.declared.options.Options.{Options}
+use Rattle.bag_report.specs.Report.{Check, above, asks, IsReport, IsStageOf}
+use Rattle.bag_output.specs.Ending.{IsAnswered, MayEnd, ReachesEnd}
+use Rattle.bag_output.specs.Writer.{Closes, WritesReport}
+use Rattle.bag_output.specs.declared.outcome.Outcome.{Outcome}
+use Rattle.bag_output.specs.declared.outcome.Outcome.TheVariants.{Clean, Faults, Stopped, Rest, Unread, Unwritten}
+use Rattle.bag_output.specs.declared.outcome.Request.{Request}
+use Rattle.bag_output.proofs.Ending.{take_length, wrote_closed}
+use Rattle.bag_output.proofs.Writing.{Appends-nil}
+use Rattle.bag_walk.specs.Run.{check_of, IsAsked, IsRun}
+use Rattle.bag_walk.specs.Runner.{AreAskedOf, IsReportOf}
+use Rattle.bag_walk.proofs.Shown.{above_report, front_is_first, nothing_is_first}
 
 -- at the depth of the declaration only the first stage is asked for
 asks_only_first : (clashes : Bool) (c : Code) → asks (record { depth = Declaration; clashes = clashes }) c ≡ true → stage c ≡ 1
@@ -44,9 +49,14 @@ first_alone options c d e =
     asks_only_first options.clashes c (subst (λ o. asks o c ≡ true) same e)
 
 -- the first stage is then the whole report
-pub stage_is_report : (bag : Bag) (options : Options) (faults : List Fault) → options.depth ≡ Declaration → IsStageOf bag options 1 faults → IsReport bag options faults
-stage_is_report bag options faults d list =
-    same_members fault_cmp _ _ faults (λ f h. h.0) (λ f h. (h, first_alone options f.code d h.1)) list
+pub stage_is_report : (check : Check) (faults : List Fault) → check.options.depth ≡ Declaration → IsStageOf check 1 faults → IsReport check faults
+stage_is_report check faults d list =
+    same_members fault_cmp _ _ faults (λ f h. h.0) (λ f h. (h, first_alone check.options f.code d h.1)) list
+
+-- where no file was opened, none was that isn't wanted
+pub opens_none : (options : Options) (old new : TreeState) → new.openings ≡ old.openings → OpensWanted options old new
+unfolding IsStrictlySortedBy
+opens_none options old new e = ([], e ∙ sym (append-nil old.openings), tt, All-nil (IsWanted options))
 
 -- a stop for want of memory is one that any tree may show
 pub memory_may_stop : (options : Options) (old new : TreeState) (stop : Stop) → IsOutOfMemory stop → MayStop options old new stop
@@ -100,3 +110,25 @@ module _ (old new : TreeState) (asking : Request) (before after : Option (List �
 pub seen_of : (P : Bag → Type 0) (honest : Bool) (held : Bag) → (IsTrue honest → P held) → ((bag : Bag) × P bag) → (bag : Bag) × (IsTrue honest → bag ≡ held) × P bag
 seen_of P true held of_held other = (held, (λ is. refl), of_held refl)
 seen_of P false held of_held other = (other.0, (λ is. absurd (true≢false (sym is))), other.1)
+
+-- the report of the bag that the facts are of
+pub report_of_facts : (old : TreeState) (request : Request) (facts : Facts) (faults : List Fault) → request.options.depth ≡ Declaration → facts.options ≡ request.options
+    → (IsTrue old.honest → IsFactsOf old.bag facts) → ((bag : Bag) × IsFactsOf bag facts)
+    → ((bag : Bag) → IsFactsOf bag facts → IsStageOf (record { bag = bag; options = facts.options }) 1 faults) → IsReportOf old request faults
+report_of_facts old request facts faults depth same honest other stage =
+    let picked = seen_of (λ bag. IsFactsOf bag facts) old.honest old.bag honest other in
+    let bag : Bag = picked.0 in
+    let first : IsStageOf (check_of bag request) 1 faults = subst (λ options. IsStageOf (record { bag = bag; options = options }) 1 faults) same (stage bag picked.2) in
+    record {
+      seen = bag;
+      honest = picked.1;
+      report = stage_is_report (check_of bag request) faults depth first;
+    }
+
+-- the part of a report above a cursor
+pub asked_of_report : (old : TreeState) (request : Request) (report : List Fault) → IsReportOf old request report → AreAskedOf old request (above request.after report)
+asked_of_report old request report is = record {
+  seen = is.seen;
+  honest = is.honest;
+  asked = above_report is.seen request report is.report;
+}

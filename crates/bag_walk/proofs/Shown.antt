@@ -9,18 +9,19 @@ use Rattle.std.proofs.lemmas.List.Kept.{IsStrictlySortedBy-filter}
 use Rattle.std.proofs.lemmas.Bool.Decides.{nat_tests}
 use Rattle.bag_text.specs.Order.{IsListOf}
 use Rattle.bag_text.proofs.ListOf.{contains_cases, contains_first, contains_behind, contains_nothing, member_has, same_lists}
-use Rattle.bag_report.proofs.Ascending.{not_both, not_less_than_itself}
-use Rattle.bag_store.specs.Bag.{Bag}
-use Rattle.bag_store.specs.declared.fault.Stop.{Stop}
-use Rattle.bag_report.specs.declared.fault.Fault.{Fault}
-use Rattle.bag_report.specs.FaultOrder.{fault_cmp}
+use Rattle.bag_tree.specs.Bag.{Bag}
+use Rattle.bag_tree.specs.declared.fault.Stop.{Stop}
+use Rattle.bag_fault.specs.FaultOrder.{fault_cmp}
+use Rattle.bag_fault.specs.declared.fault.Fault.{Fault}
+use Rattle.bag_fault.proofs.Ascending.{not_both, not_less_than_itself}
+use Rattle.bag_fault.proofs.Ordered.{fault_cmp_total}
 use Rattle.bag_report.specs.Report.{IsReport, is_above, above}
-use Rattle.bag_report.proofs.Ordered.{fault_cmp_total}
-use Rattle.bag_walk.specs.Run.{AreFirst, MayEnd, ReachesEnd, EndsAt, ideal, ended, limit_of}
+use Rattle.bag_output.specs.Ending.{MayEnd, ReachesEnd, ideal, ended, limit_of}
+use Rattle.bag_output.specs.declared.outcome.Outcome.{Outcome}
+use Rattle.bag_output.specs.declared.outcome.Outcome.TheVariants.{Clean, Faults, Stopped, Rest, Unread, Unwritten}
+use Rattle.bag_output.specs.declared.outcome.Request.{Request}
+use Rattle.bag_walk.specs.Run.{AreFirst, EndsAt, check_of}
 use Rattle.bag_walk.specs.Runner.{AreAsked}
-use Rattle.bag_walk.specs.declared.outcome.Outcome.{Outcome}
-use Rattle.bag_walk.specs.declared.outcome.Outcome.TheVariants.{Clean, Faults, Stopped, Rest, Unread, Unwritten}
-use Rattle.bag_walk.specs.declared.outcome.Request.{Request}
 
 module _ {A : Type 0} where
   -- what stands at the front stands in the list
@@ -134,7 +135,7 @@ all_above [] = refl
 all_above (f ∷ faults) = ap (λ rest. f ∷ rest) (all_above faults)
 
 -- the part of a report above the cursor
-pub above_report : (bag : Bag) (request : Request) (report : List Fault) → IsReport bag request.options report → AreAsked bag request (above request.after report)
+pub above_report : (bag : Bag) (request : Request) (report : List Fault) → IsReport (check_of bag request) report → AreAsked bag request (above request.after report)
 above_report bag request report is = filtered_list fault_cmp _ (is_above request.after) report is
 
 -- the front of the list of a set has its first members

@@ -1,6 +1,7 @@
-pub mod Closing
-pub mod Run
-pub mod Write
-pub mod Writer
-pub mod Runner
+pub use Rattle.bag_output.specs.Closing
+pub use Rattle.bag_output.specs.Ending
+pub use Rattle.bag_output.specs.Write
+pub use Rattle.bag_output.specs.Writer
 pub mod Cursor
+pub mod Run
+pub mod Runner

@@ -5,15 +5,12 @@
 //! let exit = status(&outcome);
 //! ```
 //!
-//! What stands in the lines is said by `bag_report`; a run says which of them are written, and how it ended.
+//! What stands in the lines is said by `bag_report`, and how they are written by `bag_output`; a run says which of them
+//! are written, and how it ended.
 #![tactic(auto)]
 
-mod closing;
 pub mod laws;
-mod outcome;
-mod report_writer;
 mod runner;
-mod write;
 
-pub use outcome::{Outcome, Request, status};
+pub use bag_output::{Outcome, Request, status};
 pub use runner::run;

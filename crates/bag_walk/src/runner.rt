@@ -1,19 +1,17 @@
 //! A whole run.
-ghost use Rattle.std.specs.Prelude.{◌≡◌, List, Some, IfOk, IfErr, OnOk};
-ghost use Rattle.bag_store.specs.Tree.{Keeps};
-ghost use Rattle.bag_report.specs.Facts.{IsFactsOf, MayStop, OpensWanted};
-ghost use Rattle.bag_report.specs.Report.{above, IsStageOf};
-ghost use Rattle.bag_report.specs.declared.fault.Fault.{Fault};
-ghost use Rattle.bag_store.specs.Bag.{Bag};
+ghost use Rattle.std.specs.Prelude.{◌≡◌, Some, IfOk, IfErr, OnOk};
 ghost use Rattle.std.specs.Option.{option_copied};
-ghost use Rattle.bag_report.specs.declared.options.Depth.TheVariants.{Declaration};
+ghost use Rattle.bag_tree.specs.Tree.{Keeps};
+ghost use Rattle.bag_facts.specs.Stops.{IsOutOfMemory, MayStop};
+ghost use Rattle.bag_facts.specs.Wanted.{OpensWanted};
+ghost use Rattle.bag_facts.specs.declared.options.Depth.TheVariants.{Declaration};
+ghost use Rattle.bag_report.specs.Report.{above};
 ghost use Rattle.bag_walk.specs.Run.{IsRun, IsRunByReport};
-ghost use Rattle.bag_walk.specs.Runner.{AreAskedOf};
+ghost use Rattle.bag_walk.specs.Runner.{AreAskedOf, IsReportOf};
 
-use crate::report_writer::{close, write_report};
-use crate::{Outcome, Request};
+use bag_output::{Outcome, Request, close, write_report};
 use bag_report::{Facts, Fault, stage_faults};
-use bag_store::{Out, Stop, Tree, TreeFault};
+use bag_tree::{Out, Stop, Tree, TreeFault};
 use std::alloc::{AllocError, Global};
 
 /// Writes the faults of a tree's bag that the request asks for, one line each, and a closing line.
@@ -60,26 +58,40 @@ fn faults_asked<T: Tree>(alloc: Global, tree: &mut T, request: &Request) -> Resu
     ensures faults { IfOk result (λ faults. AreAskedOf (T.state tree.old) request.now faults.items) }
     ensures stop { IfErr result (MayStop request.now.options (T.state tree.old) (T.state tree.new)) }
 {
-    let facts = Facts::read(alloc, tree, request.options)?;
-    let Ok(faults) = faults_above(alloc, &facts, request.after.as_ref()) else {
-        return Err(Stop::without_path(alloc, TreeFault::Memory));
-    };
-    Ok(faults)
+    let report = report_of(alloc, tree, request)?;
+    match above_cursor(alloc, report, request.after.as_ref()) {
+        Ok(faults) => Ok(faults),
+        Err(AllocError) => Err(out_of_memory(alloc)),
+    }
 }
 
-/// The faults of the declaration that are greater than a cursor.
-fn faults_above(
+/// The report of the tree's bag.
+fn report_of<T: Tree>(alloc: Global, tree: &mut T, request: &Request) -> Result<Vec<Fault>, Stop>
+    requires { request.now.options.depth ≡ Declaration }
+    ensures keeps { Keeps (T.state tree.old) (T.state tree.new) }
+    ensures opens { OpensWanted request.now.options (T.state tree.old) (T.state tree.new) }
+    ensures calm { OnOk result ((T.state tree.new).failures ≡ (T.state tree.old).failures) }
+    ensures report { IfOk result (λ faults. IsReportOf (T.state tree.old) request.now faults.items) }
+    ensures stop { IfErr result (MayStop request.now.options (T.state tree.old) (T.state tree.new)) }
+{
+    let facts = Facts::read(alloc, tree, request.options)?;
+    match stage_faults(alloc, &facts, 1) {
+        Ok(faults) => Ok(faults),
+        Err(AllocError) => Err(out_of_memory(alloc)),
+    }
+}
+
+/// The faults of a report that are above a cursor: all where there is none.
+fn above_cursor(
     alloc: Global,
-    facts: &Facts,
+    report: Vec<Fault>,
     after: Option<&Fault>,
 ) -> Result<Vec<Fault>, AllocError>
-    ensures { IfOk result (λ faults. (bag : Bag) → IsFactsOf bag facts.now
-        → (all : List Fault) × IsStageOf bag facts.now.options 1 all × (faults.items ≡ above (option_copied after.entry) all)) }
+    ensures { IfOk result (λ faults. faults.items ≡ above (option_copied after.entry) report.items) }
 {
-    let faults = stage_faults(alloc, facts, 1)?;
     match after {
-        None => Ok(faults),
-        Some(cursor) => greater(alloc, faults, cursor),
+        None => Ok(report),
+        Some(cursor) => greater(alloc, report, cursor),
     }
 }
 
@@ -91,4 +103,11 @@ fn greater(alloc: Global, faults: Vec<Fault>, cursor: &Fault) -> Result<Vec<Faul
         .into_iter()
         .filter(|fault| cursor.cmp(fault).is_lt())
         .collect(alloc)
+}
+
+/// The stop where memory ran out.
+fn out_of_memory(alloc: Global) -> Stop
+    ensures { IsOutOfMemory result }
+{
+    Stop::without_path(alloc, TreeFault::Memory)
 }

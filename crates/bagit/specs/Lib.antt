@@ -1,3 +1,0 @@
-pub mod Performed
-pub mod Plan
-pub mod Status

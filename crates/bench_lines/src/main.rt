@@ -1,7 +1,7 @@
 //! Reads each line of a file as a fault line, and prints how many lines and faults there are: `bench/lines.sh` measures it.
 #![tactic(auto)]
 
-use bag_report::{CursorFault, Fault};
+use bag_fault::{CursorFault, Fault};
 use bag_text::{lines, text_of};
 use std::alloc::{AllocError, Global};
 use std::{env, fs, io};

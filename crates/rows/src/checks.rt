@@ -1,6 +1,6 @@
 //! What the examples share: bags, requests and what a check writes.
 ghost use Rattle.std.specs.Prelude.{◌≡◌, IfOk};
-ghost use Rattle.bag_report.specs.declared.options.Depth.TheVariants.{Declaration};
+ghost use Rattle.bag_facts.specs.declared.options.Depth.TheVariants.{Declaration};
 
 use bag_report::{Depth, Fault, Options};
 use bag_store::{MemoryTree, Tree, WriterOut};

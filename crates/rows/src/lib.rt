@@ -10,6 +10,10 @@ mod cursors;
 #[cfg(test)]
 mod declarations;
 #[cfg(test)]
+mod faults;
+#[cfg(test)]
+mod folders;
+#[cfg(test)]
 mod judged;
 #[cfg(test)]
 mod manifests;
@@ -18,4 +22,8 @@ mod narrow_outputs;
 #[cfg(test)]
 mod parts;
 #[cfg(test)]
+mod program;
+#[cfg(test)]
 mod stages;
+#[cfg(test)]
+mod stores;

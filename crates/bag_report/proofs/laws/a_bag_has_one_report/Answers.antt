@@ -1,8 +1,8 @@
 use Rattle.bag_text.proofs.ListOf.{one_list}
-use Rattle.bag_report.specs.FaultOrder.{fault_cmp}
+use Rattle.bag_fault.proofs.Ordered.{fault_cmp_total}
+use Rattle.bag_fault.specs.FaultOrder.{fault_cmp}
 use Rattle.bag_report.specs.Report.{IsReported}
-use Rattle.bag_report.proofs.Ordered.{fault_cmp_total}
 use Rattle.bag_report.proofs.laws.a_bag_has_one_report.Goals as goal
 
 pub returns : goal.returns
-returns c bag options one other p q = one_list fault_cmp fault_cmp_total (IsReported bag options) one other p q
+returns c check one other p q = one_list fault_cmp fault_cmp_total (IsReported check) one other p q

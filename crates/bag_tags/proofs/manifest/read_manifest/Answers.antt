@@ -5,7 +5,7 @@ use Rattle.std.proofs.lemmas.Result.{IfOk-weaker}
 use Rattle.bag_text.specs.Lines.{lines_of_file, lines_of_text}
 use Rattle.bag_text.specs.Order.{IsListOf}
 use Rattle.bag_text.specs.Text.{text_of}
-use Rattle.bag_tags.specs.Judged.{settled_all, entry_of, fault_of}
+use Rattle.bag_tags.specs.Judged.{judged_and_marked, entry_of, fault_of}
 use Rattle.bag_tags.specs.LineFault.{AreFaults}
 use Rattle.bag_tags.specs.Manifest.{IsEntry, IsManifestFault}
 use Rattle.bag_tags.proofs.ManifestFaults.{entries_of_text, faults_of_text, entries_of_no_text, faults_of_no_text}
@@ -19,7 +19,7 @@ returns-in-Ok-clause-items c =
     let bytes = c.args.bytes.now in
     let text : text_of bytes ≡ Some c.in-Ok.text.now = c.in-Ok.ensures.text in
     let exact = entries_of_text kind alg bytes (is_text bytes _ text) in
-    let these = subst (λ all. IsListOf (on (λ e. e.line) nat_cmp) (IsEntry kind alg (lines_of_file bytes)) (filter_map entry_of (settled_all kind alg all))) (ap lines_of_text text) exact in
+    let these = subst (λ all. IsListOf (on (λ e. e.line) nat_cmp) (IsEntry kind alg (lines_of_file bytes)) (filter_map entry_of (judged_and_marked kind alg all))) (ap lines_of_text text) exact in
     IfOk-weaker c.read_text.result _ _ (λ parsed e. subst (IsListOf (on (λ e. e.line) nat_cmp) (IsEntry kind alg (lines_of_file bytes))) (sym e) these) c.read_text.ensures.items
 
 pub returns-in-Ok-clause-faults : goal.returns-in-Ok-clause-faults
@@ -29,7 +29,7 @@ returns-in-Ok-clause-faults c =
     let bytes = c.args.bytes.now in
     let text : text_of bytes ≡ Some c.in-Ok.text.now = c.in-Ok.ensures.text in
     let exact = faults_of_text kind alg bytes (is_text bytes _ text) in
-    let these = subst (λ all. AreFaults (IsManifestFault kind alg bytes) (filter_map fault_of (settled_all kind alg all))) (ap lines_of_text text) exact in
+    let these = subst (λ all. AreFaults (IsManifestFault kind alg bytes) (filter_map fault_of (judged_and_marked kind alg all))) (ap lines_of_text text) exact in
     IfOk-weaker c.read_text.result _ _ (λ parsed e. subst (AreFaults (IsManifestFault kind alg bytes)) (sym e) these) c.read_text.ensures.faults
 
 pub returns-in-Err-clause-items : goal.returns-in-Err-clause-items

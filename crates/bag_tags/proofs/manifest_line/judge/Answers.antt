@@ -2,7 +2,7 @@ use Rattle.std.proofs.Common.{◌∙◌, sym, ap}
 use Rattle.std.specs.Str.{str_to_ascii_lowercase}
 use Rattle.std.proofs.lemmas.Result.{IfOk-weaker}
 use Rattle.bag_text.specs.Text.{before_blank}
-use Rattle.bag_tags.specs.Judged.{judged_as}
+use Rattle.bag_tags.specs.Judged.{verdict_of}
 use Rattle.bag_tags.proofs.ManifestLine.{line_of_bad_digest, line_of_good_digest}
 use Rattle.bag_tags.proofs.manifest_line.judge.Goals as goal
 
@@ -12,7 +12,7 @@ returns-in-Ok c =
     let front = c.split_at_blanks.ensures.front in
     let back = c.split_at_blanks.ensures.back in
     let spelled = c.without_marks.ensures in
-    let same = line_of_good_digest c.args.kind c.args.alg c.args.number line (str_to_ascii_lowercase (before_blank line)) (rw (front, back) at c.in-Ok.ensures) in
+    let same = line_of_good_digest c.args.kind c.args.alg line (str_to_ascii_lowercase (before_blank line)) (rw (front, back) at c.in-Ok.ensures) in
     IfOk-weaker c.judge_spelling.result _ _ (λ j e. e ∙ rw (spelled, front, back) same) c.judge_spelling.ensures
 
 pub returns-in-Err : goal.returns-in-Err
@@ -20,4 +20,4 @@ returns-in-Err c =
     let front = c.split_at_blanks.ensures.front in
     let back = c.split_at_blanks.ensures.back in
     let same = line_of_bad_digest c.args.kind c.args.alg c.args.line.now _ (rw (front, back) at c.in-Err.ensures) in
-    IfOk-weaker c.unread.result _ _ (λ j e. e ∙ ap (judged_as c.args.number) (sym same)) c.unread.ensures
+    IfOk-weaker c.fault.result _ _ (λ j e. e ∙ ap verdict_of (sym same)) c.fault.ensures

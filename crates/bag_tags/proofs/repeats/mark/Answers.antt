@@ -1,4 +1,4 @@
-use Rattle.std.proofs.Common.{◌≡◌, ◌<◌, length, get_or, take, refl, sym, ap, ◌∙◌, arith, Some}
+use Rattle.std.proofs.Common.{◌≡◌, ◌<◌, length, get_or, take, sym, ap, ◌∙◌, arith, Some}
 use Rattle.std.specs.List.{slice_get}
 use Rattle.std.proofs.lemmas.List.{take_more}
 use Rattle.std.proofs.lemmas.Option.{slice_get-get_or}
@@ -21,5 +21,5 @@ loop-place-preserved c =
     let within = c.requires place (contains_at places index 0 c.loop-place-test.true) in
     let here : place < length all = omega (arith, within, c.loop-place.invariant.same_length) in
     let read : slice_get all place ≡ Some x = slice_get-get_or all place x here ∙ ap Some (sym c.index_mut.ensures.value) in
-    let more = one_marked c.args.all.now.items all (take index places) place x _ c.loop-place.invariant read refl in
+    let more = one_marked c.args.all.now.items all (take index places) place x _ c.loop-place.invariant read c.mark_named_again.ensures in
     rw (take_more places index 0 c.loop-place-test.true) more

@@ -2,7 +2,7 @@ use Rattle.std.proofs.Common.{ℕ, subst}
 use Rattle.std.specs.Prelude.{Contains, ◌↔◌}
 use Rattle.std.proofs.lemmas.Option.{slice_get_within}
 use Rattle.bag_tags.specs.Repeats.{IsRepeatAt}
-use Rattle.bag_tags.proofs.Marked.{marked_settled}
+use Rattle.bag_tags.proofs.Marked.{marked_lines}
 use Rattle.bag_tags.proofs.repeats.mark_repeats.Goals as goal
 
 pub mark-requires : goal.mark-requires
@@ -16,4 +16,4 @@ returns c =
     let all = c.args.all.now.items in
     let places = c.as_slice-2.result.now in
     let are : (i : ℕ) → Contains places i ↔ IsRepeatAt all i = λ i. rw (c.as_slice-2.ensures.value) (rw c.as_slice.ensures.value at (c.in_ok-places.ensures i)) in
-    marked_settled all c.mark.new.all.items places c.mark.ensures are
+    marked_lines all c.mark.new.all.items places c.mark.ensures are

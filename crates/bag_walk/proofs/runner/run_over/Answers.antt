@@ -1,8 +1,7 @@
 use Rattle.std.proofs.Common.{◌≡◌, ◌<◌, ◌∙◌, refl, sym, arith}
-use Rattle.bag_report.proofs.Opens.{opens_none}
-use Rattle.bag_walk.specs.Run.{limit_of}
-use Rattle.bag_walk.specs.declared.outcome.Outcome.TheVariants.{Stopped, Unread}
-use Rattle.bag_walk.proofs.Running.{run_of_report, run_of_close}
+use Rattle.bag_output.specs.Ending.{limit_of}
+use Rattle.bag_output.specs.declared.outcome.Outcome.TheVariants.{Stopped, Unread}
+use Rattle.bag_walk.proofs.Running.{opens_none, run_of_report, run_of_close}
 use Rattle.bag_walk.proofs.runner.run_over.Goals as goal
 
 pub returns-then-limit-eq0-clause-opens : goal.returns-then-limit-eq0-clause-opens

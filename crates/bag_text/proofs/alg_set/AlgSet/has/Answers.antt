@@ -1,15 +1,8 @@
-use Rattle.bag_text.specs.declared.alg.Alg.TheVariants.{Md5, Sha1, Sha256, Sha512}
-use Rattle.bag_text.proofs.AlgSets.{flag_is_member}
+use Rattle.bag_text.specs.AlgSet.{flag}
+use Rattle.bag_text.proofs.AlgSets.{Contains-filter}
 use Rattle.bag_text.proofs.alg_set.AlgSet.has.Goals as goal
 
-pub returns-in-Md5 : goal.returns-in-Md5
-returns-in-Md5 c = rw c.in-Md5.is (flag_is_member c.self.inside c.args.self.now Md5 c.self.view_is)
-
-pub returns-in-Sha1 : goal.returns-in-Sha1
-returns-in-Sha1 c = rw c.in-Sha1.is (flag_is_member c.self.inside c.args.self.now Sha1 c.self.view_is)
-
-pub returns-in-Sha256 : goal.returns-in-Sha256
-returns-in-Sha256 c = rw c.in-Sha256.is (flag_is_member c.self.inside c.args.self.now Sha256 c.self.view_is)
-
-pub returns-in-Sha512 : goal.returns-in-Sha512
-returns-in-Sha512 c = rw c.in-Sha512.is (flag_is_member c.self.inside c.args.self.now Sha512 c.self.view_is)
+pub returns : goal.returns
+returns c =
+    let is = Contains-filter (flag c.self.inside) c.args.alg in
+    rw (c.flag_index.ensures.value, ← c.self.view_is) (is.1, is.0)

@@ -1,0 +1,19 @@
+//! What the command line does: the plan of its words, and each check of that plan.
+//!
+//! ```
+//! let status = run_program(&rt, &mut WriterOut::new(io::writer(&rt)), &mut rt.stderr());
+//! ```
+#![tactic(auto)]
+
+mod all_checks;
+mod check;
+mod disks;
+mod sample;
+mod whole_program;
+mod words;
+
+pub use all_checks::{perform, perform_over};
+pub use bag_plan::{Action, Plan, Usage, plan_of, refuse_words};
+pub use bag_store::WriterOut;
+pub use disks::{Disks, SystemDisks};
+pub use whole_program::{program, run_program};

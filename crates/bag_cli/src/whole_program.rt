@@ -1,0 +1,59 @@
+//! The whole program.
+ghost use Rattle.bag_plan.specs.Plan.{texts};
+ghost use Rattle.bag_cli.specs.Program.{IsProgram, IsSystemProgram};
+
+use crate::all_checks::perform_over;
+use crate::disks::{Disks, SystemDisks};
+use crate::words::{asked_words, texts_of};
+use bag_plan::{plan_of, refuse_words};
+use bag_store::Out;
+use std::alloc::Global;
+use std::io::Write;
+use std::rt::{Env, Files};
+
+/// Does what the words ask for, without the program's name, and gives the exit status.
+///
+/// The status of refused words is 2, and of words for which memory ran out 3, and then nothing is written to `out`; what
+/// `perform` says is that of all others.
+pub fn program<D, O, E>(alloc: Global, disks: &D, words: &[&str], out: &mut O, err: &mut E) -> u8
+where
+    D: Disks,
+    O: Out,
+    E: Write,
+    ensures { IsProgram (D.below disks.now) (texts words.now) (O.taken out.old) (O.taken out.new) result }
+{
+    match plan_of(alloc, words) {
+        Ok(plan) => perform_over(alloc, disks, &plan, out, err),
+        Err(refused) => refuse_words(refused, err),
+    }
+}
+
+/// Does on the system's disks what the words ask for that the program was started with, and gives the exit status.
+///
+/// A word that isn't UTF-8 is refused.
+pub fn run_program<R, O, E>(rt: &R, out: &mut O, err: &mut E) -> u8
+where
+    R: Env + Files + AllocGlobal + Clone + Drop,
+    O: Out,
+    E: Write,
+    ensures { IsSystemProgram (O.taken out.old) (O.taken out.new) result }
+{
+    match asked_words(rt) {
+        Ok(words) => run_words(rt, &words, out, err),
+        Err(usage) => refuse_words(usage, err),
+    }
+}
+
+/// Does on the system's disks what words ask for.
+fn run_words<R, O, E>(rt: &R, words: &[String], out: &mut O, err: &mut E) -> u8
+where
+    R: Files + AllocGlobal + Clone + Drop,
+    O: Out,
+    E: Write,
+    ensures { IsSystemProgram (O.taken out.old) (O.taken out.new) result }
+{
+    match texts_of(rt.alloc(), words) {
+        Ok(texts) => program(rt.alloc(), &SystemDisks::new(rt), &texts, out, err),
+        Err(usage) => refuse_words(usage, err),
+    }
+}

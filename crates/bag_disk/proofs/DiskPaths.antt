@@ -1,0 +1,99 @@
+-- The folders on the way to a path of a disk.
+use Rattle.std.proofs.Common.{◌≡◌, ◌≢◌, ℕ, ◌+◌, ◌<◌, ◌≤◌, List, ◌∷◌, ◌++◌, length, get_or, take, drop, Some, None, is_some, refl, ap, sym, ◌∙◌, subst, false, Err, IsErrOf, ⊎_elim, arith, append_assoc, take-append-drop, length-append}
+use Rattle.std.proofs.lemmas.Grind.{common_steps}
+use Rattle.std.specs.List.{slice_range}
+use Rattle.std.proofs.lemmas.Bool.{cases_lt, false≢true}
+use Rattle.std.proofs.lemmas.List.{length-take}
+use Rattle.std.proofs.Math.Seq.{take-append_seam, get_or-append_seam}
+use Rattle.bag_disk.specs.declared.disk.DiskFault.{DiskFault}
+use Rattle.bag_disk.specs.declared.disk.DiskFault.TheVariants as disk
+use Rattle.bag_disk.specs.declared.refusal.Refusal.{Refusal}
+use Rattle.bag_disk.specs.declared.refusal.Refusal.TheVariants as refusal
+use Rattle.bag_disk.specs.Refusal.{of_path}
+use Rattle.bag_text.specs.Path.{slash, under, is_path}
+use Rattle.bag_disk.specs.Disk.{Nodes, node, IsDisk, IsReached}
+use Rattle.bag_disk.specs.Disk.Node.{Folder}
+use Rattle.bag_disk.specs.FolderWalk.{IsReachedTo}
+
+-- a path at one of its slashes
+pub at_slash : (path folder : List ℕ) (end : ℕ) → end < length path → get_or path end 0 ≡ slash → folder ≡ take end path → path ≡ under folder (drop (end + 1) path)
+at_slash path folder end within is same =
+    sym (take-append-drop end path) ∙ ap (λ t. t ++ drop end path) (sym same) ∙ ap (λ t. folder ++ t) (next_byte path end within ∙ ap (λ c. c ∷ drop (end + 1) path) is)
+  where
+    next_byte : (path : List ℕ) (end : ℕ) → end < length path → drop end path ≡ get_or path end 0 ∷ drop (end + 1) path
+    next_byte path end within = grind (arith, common_steps)
+
+take_under : (folder rest : List ℕ) → take (length folder) (under folder rest) ≡ folder
+take_under folder rest = take-append_seam folder (slash ∷ rest)
+
+get_under : (folder rest : List ℕ) → get_or (under folder rest) (length folder) 0 ≡ slash
+get_under folder rest = get_or-append_seam folder slash rest 0
+
+length_under : (folder rest : List ℕ) → length folder < length (under folder rest)
+length_under folder rest = omega (arith, length-append folder (slash ∷ rest))
+
+-- what leads to a folder on the way is on the way
+pub reached_on_way : (nodes : Nodes) (path folder : List ℕ) (end : ℕ) → end < length path → get_or path end 0 ≡ slash → folder ≡ take end path → IsReachedTo nodes path end → IsReached nodes folder
+reached_on_way nodes path folder end within is same reached f rest e =
+    reached f (rest ++ slash ∷ drop (end + 1) path) (at_slash path folder end within is same ∙ ap (λ t. under t (drop (end + 1) path)) e ∙ append_assoc f (slash ∷ rest) (slash ∷ drop (end + 1) path))
+    (omega (arith, length_under f rest, ap length e, ap length same, length-take end path))
+
+pub more_reached : (nodes : Nodes) (path folder : List ℕ) (end : ℕ) → folder ≡ take end path → node nodes folder ≡ Some Folder → IsReachedTo nodes path end → IsReachedTo nodes path (end + 1)
+more_reached nodes path folder end same is reached f rest e below = ⊎_elim
+    (λ less. reached f rest e less)
+    (λ more. let at : length f ≡ end = omega arith in
+    let one : folder ≡ f = same ∙ ap (λ n. take n path) (sym at) ∙ ap (take (length f)) e ∙ take_under f rest in
+    ap (node nodes) (sym one) ∙ is)
+    (cases_lt (length f) end)
+
+pub none_to_reach : (nodes : Nodes) (path : List ℕ) (end : ℕ) → get_or path end 0 ≢ slash → IsReachedTo nodes path end → IsReachedTo nodes path (end + 1)
+none_to_reach nodes path end other reached f rest e below = ⊎_elim
+    (λ less. reached f rest e less)
+    (λ more. let at : length f ≡ end = omega arith in
+    absurd (other (ap (get_or path end) refl ∙ ap (λ n. get_or path n 0) (sym at) ∙ ap (λ t. get_or t (length f) 0) e ∙ get_under f rest)))
+    (cases_lt (length f) end)
+
+pub all_reached : (nodes : Nodes) (path : List ℕ) (end : ℕ) → length path ≤ end → IsReachedTo nodes path end → IsReached nodes path
+all_reached nodes path end past reached f rest e = reached f rest e (omega (arith, length_under f rest, ap length e))
+
+-- nothing stands below what is no folder
+pub none_below_no_folder : (nodes : Nodes) (path folder rest : List ℕ) → IsDisk nodes → path ≡ under folder rest → (node nodes folder ≡ Some Folder → ⊥) → node nodes path ≡ None
+none_below_no_folder nodes path folder rest disk e none = elim (node nodes path) as (λ o. node nodes path ≡ o → o ≡ None) [
+  | None ↦ λ _. refl
+  | Some n ↦ λ is. absurd (none (disk.folders path (ap is_some is) folder rest e))
+] refl
+
+-- nothing stands at a text that isn't a path
+pub no_path : (nodes : Nodes) (path : List ℕ) → IsDisk nodes → is_path path ≡ false → node nodes path ≡ None
+no_path nodes path disk none = elim (node nodes path) as (λ o. node nodes path ≡ o → o ≡ None) [
+  | None ↦ λ _. refl
+  | Some n ↦ λ is. absurd (false≢true (sym none ∙ (disk.paths path (ap is_some is)).0))
+] refl
+
+pub of_path_absent : {T U : Type 0} (fault : DiskFault) (r : Refusal) → r ≡ of_path fault → IsErrOf {T = T} (Err r) refusal.NotFound → IsErrOf {T = U} (Err fault) disk.NotFound
+of_path_absent disk.NotFound r e is = refl
+of_path_absent disk.Device r e is = cc
+of_path_absent disk.Name r e is = cc
+of_path_absent disk.Memory r e is = cc
+
+pub prefix_is : (t : List ℕ) (end : ℕ) → slice_range t 0 end ≡ take end t
+prefix_is t end = grind (arith, common_steps)
+
+-- a slash was passed, and its folder is one
+pub slash_passed : (nodes : Nodes) (path items folder : List ℕ) (end : ℕ) → items ≡ path → folder ≡ slice_range path 0 end → end < length items → get_or items end 0 ≡ slash
+    → IsReachedTo nodes path end → (IsReached nodes folder → node nodes folder ≡ Some Folder) → IsReachedTo nodes path (end + 1)
+slash_passed nodes path items folder end items_are cut within is reached found =
+    let same : folder ≡ take end path = cut ∙ prefix_is path end in
+    more_reached nodes path folder end same (found (reached_on_way nodes path folder end (subst (λ t. end < length t) items_are within) (ap (λ t. get_or t end 0) (sym items_are) ∙ is) same reached)) reached
+
+pub other_passed : (nodes : Nodes) (path items : List ℕ) (end : ℕ) → items ≡ path → get_or items end 0 ≢ slash → IsReachedTo nodes path end → IsReachedTo nodes path (end + 1)
+other_passed nodes path items end items_are other reached = none_to_reach nodes path end (λ is. other (ap (λ t. get_or t end 0) items_are ∙ is)) reached
+
+-- a slash was met below what is no folder
+pub slash_refused : (nodes : Nodes) (path items folder : List ℕ) (end : ℕ) → IsDisk nodes → items ≡ path → folder ≡ slice_range path 0 end → end < length items → get_or items end 0 ≡ slash
+    → IsReachedTo nodes path end → (IsReached nodes folder → node nodes folder ≡ Some Folder → ⊥) → node nodes path ≡ None
+slash_refused nodes path items folder end disk items_are cut within is reached refused =
+    let same : folder ≡ take end path = cut ∙ prefix_is path end in
+    let inside = subst (λ t. end < length t) items_are within in
+    let here = ap (λ t. get_or t end 0) (sym items_are) ∙ is in
+    none_below_no_folder nodes path folder (drop (end + 1) path) disk (at_slash path folder end inside here same) (refused (reached_on_way nodes path folder end inside here same reached))

@@ -1,0 +1,82 @@
+-- What stands below a base folder of a disk.
+use Rattle.std.specs.Prelude.{ℕ, ◌≡◌, ◌≢◌, ◌<◌, Bool, true, IsTrue, IsUtf8, List, [], ◌∷◌, length, All, Contains, Option, Some, is_some}
+use Rattle.std.specs.FinMap as map
+use Rattle.bag_text.specs.Text.{text_cmp}
+use Rattle.bag_text.specs.Path.{slash, is_path, under}
+use Rattle.bag_disk.specs.Location.{path_in}
+use Rattle.bag_disk.specs.declared.disk.Entry.{Entry}
+use Rattle.bag_disk.specs.declared.disk.Entry.TheVariants as entry
+
+-- what stands at a path: a regular file with its bytes, a folder, or something else, as a link
+pub data Node : Type 0 where
+  File : List ℕ → Node
+  Folder : Node
+  Other : Node
+
+-- what stands at each path below the base folder
+abbrev pub Nodes : Type 0
+Nodes = map.FinMap text_cmp Node
+
+-- what a disk means
+pub record DiskState : Type 0 where
+  pub nodes : Nodes
+  -- nobody alters the nodes, and the calls answer what they are
+  pub honest : Bool
+  -- the paths that were opened
+  pub openings : List (List ℕ)
+  -- the rest of the open file
+  pub rest : Option (List ℕ)
+  -- the names that are left of the folder that was entered
+  pub names : List (List ℕ)
+
+-- a call leaves what stands there, and its honesty
+pub record SameDisk (old new : DiskState) : Type 0 where
+  pub nodes : new.nodes ≡ old.nodes
+  pub honest : new.honest ≡ old.honest
+
+-- a call that looks into a folder leaves all else
+pub record OnlyLooks (old new : DiskState) : Type 0 where
+  pub nodes : new.nodes ≡ old.nodes
+  pub honest : new.honest ≡ old.honest
+  pub openings : new.openings ≡ old.openings
+  pub rest : new.rest ≡ old.rest
+
+abbrev pub node : Nodes → List ℕ → Option Node
+node nodes path = map.get nodes path
+
+abbrev pub Has : Nodes → List ℕ → Type 0
+Has nodes path = is_some (node nodes path) ≡ true
+
+-- the folder is there; the empty path is the base folder
+abbrev pub IsFolder : Nodes → List ℕ → Type 0
+IsFolder nodes [] = Unit {0}
+IsFolder nodes (c ∷ path) = node nodes (c ∷ path) ≡ Some Folder
+
+-- each folder on the way to the path is a folder, and no link
+abbrev pub IsReached : Nodes → List ℕ → Type 0
+IsReached nodes path = (folder rest : List ℕ) → path ≡ under folder rest → node nodes folder ≡ Some Folder
+
+-- what every disk has: paths that are texts, each in a folder, and bytes
+pub record IsDisk (nodes : Nodes) : Type 0 where
+  pub paths : (path : List ℕ) → Has nodes path → IsTrue (is_path path) × IsUtf8 path
+  pub folders : (path : List ℕ) → Has nodes path → IsReached nodes path
+  pub bytes : (path content : List ℕ) → node nodes path ≡ Some (File content) → All (λ b. b < 256) content
+
+-- what is answered of a node
+abbrev pub entry_of : Node → Entry
+entry_of (File bytes) = entry.File (length bytes)
+entry_of Folder = entry.Folder
+entry_of Other = entry.Other
+
+-- a name has no slash
+abbrev pub IsName : List ℕ → Type 0
+IsName name = All (λ c. c ≢ slash) name
+
+-- the names of what stands in a folder
+pub record AreNamesIn (nodes : Nodes) (folder : List ℕ) (names : List (List ℕ)) : Type 0 where
+  pub there : (name : List ℕ) → Contains names name → Has nodes (path_in folder name)
+  pub all : (name : List ℕ) → IsName name → Has nodes (path_in folder name) → Contains names name
+
+-- a regular file with these bytes stands there
+abbrev pub IsFileWith : Nodes → List ℕ → List ℕ → Type 0
+IsFileWith nodes path bytes = node nodes path ≡ Some (File bytes)

@@ -1,0 +1,22 @@
+-- What a tree of the files on a disk means.
+use Rattle.std.specs.Prelude.{ℕ}
+use Rattle.std.specs.FinMap as map
+use Rattle.bag_tree.specs.Tree.{TreeState}
+use Rattle.bag_disk.specs.declared.file_tree.FileTree.{FileTree}
+use Rattle.bag_disk.specs.Disk.{DiskState}
+use Rattle.bag_disk.specs.DiskBag.{bag_of}
+
+-- the disk of a tree
+abbrev pub disk_of : {D : Type 0} → FileTree D → D
+disk_of tree = tree.disk
+
+-- what a tree of the files on a disk means, after so many failures
+abbrev pub tree_state : DiskState → ℕ → TreeState
+tree_state disk failures = record {
+  bag = bag_of disk.nodes;
+  honest = disk.honest;
+  entries = map.len disk.nodes;
+  failures = failures;
+  openings = disk.openings;
+  rest = disk.rest;
+}

@@ -1,0 +1,14 @@
+-- What is known of the system's disk.
+use Rattle.std.specs.Prelude.{ℕ, Bool, false, List, [], Some, None, if◌then◌else◌}
+use Rattle.std.specs.FinMap as map
+use Rattle.bag_disk.specs.Disk.{DiskState}
+use Rattle.bag_disk.specs.declared.system_disk.SystemDisk.{SystemDisk}
+
+-- the path of the base folder
+abbrev pub base_of : {R F D : Type 0} → SystemDisk R F D → List ℕ
+base_of disk = disk.base
+
+-- Nothing is promised of what the system's disk holds: it isn't honest. What was opened and whether a file is open is
+-- known.
+abbrev pub system_state : List (List ℕ) → Bool → DiskState
+system_state openings opened = record { nodes = map.empty; honest = false; openings = openings; rest = if opened then Some [] else None; names = [] }

@@ -1,0 +1,100 @@
+//! The calls of a disk, below a base folder.
+ghost use Rattle.std.specs.Prelude.{◌≡◌, ◌<◌, ◌≤◌, ◌++◌, ◌∷◌, [], List, ℕ, IfOk, OnOk, OnErr, IsErrOf, IsTrue, MatchOption, None, Some, length, is_some};
+ghost use Rattle.std.specs.Option.{option_map};
+ghost use Rattle.bag_text.specs.Path.{is_path};
+ghost use Rattle.bag_disk.specs.Disk.{DiskState, SameDisk, OnlyLooks, Node, IsDisk, IsReached, IsFolder, AreNamesIn, node, entry_of, IsFileWith};
+ghost use Rattle.bag_tree.specs.Tree.{ReadsNext};
+ghost use Rattle.bag_disk.specs.declared.disk.DiskFault.TheVariants.{NotFound};
+
+use bag_text::Text;
+
+/// What stands at a path.
+#[derive(Clone, Copy, Debug, PartialEq, Eq)]
+pub enum Entry {
+    /// A regular file with its size in bytes.
+    File(u64),
+    Folder,
+    /// A link, a socket, a pipe or a device.
+    Other,
+}
+
+/// Why a call of a disk is refused.
+#[derive(Clone, Copy, Debug, PartialEq, Eq)]
+pub enum DiskFault {
+    /// Nothing stands there.
+    NotFound,
+    /// A name isn't UTF-8, or is none for the system.
+    Name,
+    /// A growth was refused.
+    Memory,
+    /// The system refused.
+    Device,
+}
+
+/// The calls of a disk, below a base folder. A path leads from the base folder.
+///
+/// What an honest disk answers is what stands below its base folder, where nobody else alters it. Of a path that leads
+/// through a link nothing is said.
+pub trait Disk {
+    /// What the disk means: what stands at each path, whether it is honest, which files were opened, the rest of the open
+    /// file, and the names that are left of the folder that was entered.
+    ghost state: { Self → DiskState };
+
+    /// What stands at a path. A link at its end isn't followed.
+    fn entry_at(&self, path: &str) -> Result<Entry, DiskFault>
+        requires { IsTrue (is_path path.now) }
+        ensures found { IfOk result (λ entry. IsTrue (state self.now).honest → IsReached (state self.now).nodes path.now
+            → option_map entry_of (node (state self.now).nodes path.now) ≡ Some entry) }
+        ensures absent { IsErrOf result NotFound → IsTrue (state self.now).honest → IsReached (state self.now).nodes path.now
+            → node (state self.now).nodes path.now ≡ None };
+
+    /// Enters a folder in place of the one that was entered, so that its names come next. The empty path is the base
+    /// folder.
+    fn enter(&mut self, folder: &str) -> Result<(), DiskFault>
+        ensures looks { OnlyLooks (state self.old) (state self.new) }
+        ensures honest { OnOk result (IsTrue (state self.old).honest → IsFolder (state self.old).nodes folder.now
+            → AreNamesIn (state self.old).nodes folder.now (state self.new).names) };
+
+    /// The next name of the folder that was entered; none at its end.
+    fn next_name(&mut self) -> Result<Option<Text>, DiskFault>
+        ensures looks { OnlyLooks (state self.old) (state self.new) }
+        ensures honest { IfOk result (λ next. IsTrue (state self.old).honest
+            → MatchOption next ((state self.old).names ≡ []) (λ name. (state self.old).names ≡ name ∷ (state self.new).names)) };
+
+    /// Opens the file at a path in place of the one that was open. After a refusal nothing is open.
+    fn open(&mut self, path: &str) -> Result<(), DiskFault>
+        requires { IsTrue (is_path path.now) }
+        ensures same { SameDisk (state self.old) (state self.new) }
+        ensures opened { OnOk result ((state self.new).openings ≡ (state self.old).openings ++ path.now ∷ []) }
+        ensures file_open { OnOk result (IsTrue (is_some (state self.new).rest)) }
+        ensures honest { OnOk result (IsTrue (state self.old).honest → IsReached (state self.old).nodes path.now
+            → (bytes : List ℕ) → IsFileWith (state self.old).nodes path.now bytes → (state self.new).rest ≡ Some bytes) }
+        ensures absent { IsErrOf result NotFound → IsTrue (state self.old).honest → IsReached (state self.old).nodes path.now
+            → node (state self.old).nodes path.now ≡ None }
+        ensures closed { OnErr result ((state self.new).rest ≡ None) }
+        ensures not_opened { OnErr result ((state self.new).openings ≡ (state self.old).openings) };
+
+    /// Whether a file is open.
+    fn is_open(&self) -> bool
+        ensures { result ≡ is_some (state self.now).rest };
+
+    /// Closes the open file.
+    fn close(&mut self)
+        ensures same { SameDisk (state self.old) (state self.new) }
+        ensures openings { (state self.new).openings ≡ (state self.old).openings }
+        ensures closed { (state self.new).rest ≡ None };
+
+    /// Reads the next bytes of the open file; none at its end. A refusal leaves the rest of the file.
+    fn read(&mut self, buffer: &mut [u8]) -> Result<usize, DiskFault>
+        requires some { 0 < length buffer.old }
+        requires file_open { IsTrue (is_some (state self.old).rest) }
+        ensures same { SameDisk (state self.old) (state self.new) }
+        ensures openings { (state self.new).openings ≡ (state self.old).openings }
+        ensures file_open { OnOk result (IsTrue (is_some (state self.new).rest)) }
+        ensures within { IfOk result (λ n. n ≤ length buffer.old) }
+        ensures honest { IfOk result (λ n. IsTrue (state self.old).honest → ReadsNext (state self.old).rest (state self.new).rest n buffer.new) }
+        ensures unread { OnErr result ((state self.new).rest ≡ (state self.old).rest) };
+
+    /// What stands on a disk stands at paths, each in folders that are there.
+    ghost is_disk: { (disk : Self) → IsDisk (state disk).nodes };
+}

@@ -1,0 +1,117 @@
+//! Why the disk refused, and how often.
+ghost use Rattle.std.specs.Prelude.{◌≡◌};
+ghost use Rattle.bag_disk.specs.Refusal.{at_known, of_name, of_path, fault_of, count_after, failure_or_memory, one_more_failure};
+ghost use Rattle.bag_disk.specs.declared.refusal.Refusal.TheVariants.{Memory};
+
+use crate::disk::DiskFault;
+use bag_tree::TreeFault;
+use std::alloc::{AllocError, AllocFailed};
+
+/// Why the disk refused.
+#[derive(Clone, Copy)]
+pub(crate) enum Refusal {
+    /// The system refused.
+    Device,
+    /// What stands there is neither a folder nor a regular file.
+    Special,
+    /// A name isn't UTF-8.
+    Name,
+    /// There is no such file.
+    NotFound,
+    /// There are more than 16,777,216 files and folders.
+    TooMany,
+    /// A growth was refused.
+    Memory,
+}
+
+impl From<AllocError> for Refusal {
+    ghost from_gives = { λ _ r. r ≡ Memory };
+
+    fn from(_: AllocError) -> Self {
+        Refusal::Memory
+    }
+}
+
+impl<T: Drop> From<AllocFailed<T>> for Refusal {
+    ghost from_gives = { λ _ r. r ≡ Memory };
+
+    fn from(_: AllocFailed<T>) -> Self {
+        Refusal::Memory
+    }
+}
+
+impl Refusal {
+    /// What a fault of the disk means at the path of one file.
+    pub(crate) fn of_path(fault: DiskFault) -> Refusal
+        ensures { result ≡ of_path fault }
+    {
+        match fault {
+            DiskFault::NotFound => Refusal::NotFound,
+            DiskFault::Name | DiskFault::Device => Refusal::Device,
+            DiskFault::Memory => Refusal::Memory,
+        }
+    }
+
+    /// What a fault of the disk means where its own answers named what stands there.
+    pub(crate) fn at_known(fault: DiskFault) -> Refusal
+        ensures { result ≡ at_known fault }
+    {
+        match fault {
+            DiskFault::NotFound | DiskFault::Name | DiskFault::Device => Refusal::Device,
+            DiskFault::Memory => Refusal::Memory,
+        }
+    }
+
+    /// What a fault of the disk means in place of a name.
+    pub(crate) fn of_name(fault: DiskFault) -> Refusal
+        ensures { result ≡ of_name fault }
+    {
+        match fault {
+            DiskFault::Name => Refusal::Name,
+            DiskFault::NotFound | DiskFault::Device => Refusal::Device,
+            DiskFault::Memory => Refusal::Memory,
+        }
+    }
+}
+
+/// How often the device has failed.
+#[derive(Clone, Copy)]
+pub(crate) struct Failures {
+    count: u64,
+}
+
+impl Failures {
+    pub(crate) fn none() -> Failures
+        ensures { result.count ≡ 0 }
+    {
+        Failures { count: 0 }
+    }
+
+    /// The fault that a refusal is answered by. A failure of the device is counted; where no more can be counted, the
+    /// fault is `Memory`.
+    pub(crate) fn fault_of(&mut self, refusal: Refusal) -> TreeFault
+        ensures fault { result ≡ fault_of refusal self.old.count }
+        ensures count { self.new.count ≡ count_after refusal self.old.count }
+    {
+        match refusal {
+            Refusal::Device => self.failure(TreeFault::Device),
+            Refusal::Special => self.failure(TreeFault::Special),
+            Refusal::Name => self.failure(TreeFault::Name),
+            Refusal::NotFound => TreeFault::NotFound,
+            Refusal::TooMany => TreeFault::TooMany,
+            Refusal::Memory => TreeFault::Memory,
+        }
+    }
+
+    /// Counts a failure.
+    fn failure(&mut self, fault: TreeFault) -> TreeFault
+        ensures fault { result ≡ failure_or_memory fault self.old.count }
+        ensures count { self.new.count ≡ one_more_failure self.old.count }
+    {
+        if self.count == u64::MAX {
+            return TreeFault::Memory;
+        }
+        self.count += 1;
+        fault
+    }
+}

@@ -1,0 +1,106 @@
+-- Lists in the order of a text of each item, which no two items share.
+use Rattle.std.proofs.Common.{◌≡◌, ◌≢◌, ℕ, ◌+◌, ◌<◌, ◌↔◌, inl, inr, false, List, length, get_or, map, is_lt, arith, refl, sym, ap, ◌∙◌, subst, Contains, IsTrue, Result, Ok, Err}
+use Rattle.std.specs.Result.{is_ok}
+use Rattle.std.specs.declared.cmp.Ordering.{Ordering}
+use Rattle.std.specs.declared.cmp.Ordering.TheVariants.{Less, Equal, Greater}
+use Rattle.std.specs.Ordering.{on, ordering_reverse, is_eq, eq_by_cmp}
+use Rattle.std.specs.Cmp.Lexicographic.{nat_list_cmp_total}
+use Rattle.std.specs.FinMap.{nat_cmp-IsAntisymmetric, slice_cmp-IsAntisymmetric}
+use Rattle.std.specs.List.Sorted.{IsPermutation, IsSortedByKey, IsStrictlySortedBy, IsBinarySearchResult, IsSearchInRange}
+use Rattle.std.specs.List.{IsDistinct}
+use Rattle.std.proofs.lemmas.Bool.{cases_lt}
+use Rattle.std.proofs.lemmas.Cmp.{on_total}
+use Rattle.std.proofs.lemmas.List.{get_or_default}
+use Rattle.std.proofs.lemmas.List.Sorted.{IsPermutation-sym, Contains-permutation, searchable_from_sorted}
+use Rattle.std.proofs.lemmas.Map.Keys.{IsDistinct-from_apart, IsDistinct-IsPermutation, apart_from_distinct, sorted_from_all_adjacent, Less-from_sorted}
+use Rattle.bag_text.specs.Order.{IsListOf}
+use Rattle.bag_text.specs.Text.{text_cmp}
+use Rattle.std.specs.Cmp.{tied_itself}
+use Rattle.bag_facts.proofs.Mapped.{contains_mapped, mapped_contains}
+
+text_same : (a b : List ℕ) → text_cmp a b ≡ Equal → a ≡ b
+text_same = slice_cmp-IsAntisymmetric nat_cmp-IsAntisymmetric
+
+tie_case : (o : Ordering) → o ≢ Equal → is_eq o ≡ false
+tie_case Less other = refl
+tie_case Equal other = absurd (other refl)
+tie_case Greater other = refl
+
+not_tied : (a b : List ℕ) → a ≢ b → is_eq (text_cmp a b) ≡ false
+not_tied a b other = tie_case (text_cmp a b) (λ e. other (text_same a b e))
+
+reversed : (o : Ordering) → is_eq (ordering_reverse o) ≡ is_eq o
+reversed Less = refl
+reversed Equal = refl
+reversed Greater = refl
+
+less_case : (o : Ordering) → is_lt (ordering_reverse o) ≡ false → is_eq o ≡ false → o ≡ Less
+less_case Less h e = refl
+less_case Equal h e = cc
+less_case Greater h e = cc
+
+not_behind : (o : Ordering) → o ≡ Less → is_lt (ordering_reverse o) ≡ false
+not_behind Less e = refl
+not_behind Equal e = refl
+not_behind Greater e = cc
+
+item_at : {A : Type 0} (xs : List A) (i : ℕ) (d : A) → i < length xs → Contains xs (get_or xs i d)
+item_at xs i d h = (i, h, get_or_default xs i (get_or xs i d) d h)
+
+module _ {A : Type 0} (key : A → List ℕ) where
+  flips : (x y : A) → eq_by_cmp (on key text_cmp) x y ≡ eq_by_cmp (on key text_cmp) y x
+  flips x y = ap is_eq (nat_list_cmp_total.antisymm (key x) (key y)) ∙ reversed (text_cmp (key y) (key x))
+
+  module _ (by : A → A → Ordering) (Member : A → Type 0) (never : (x : A) → by x x ≢ Less) (once : (x y : A) → Member x → Member y → key x ≡ key y → x ≡ y) where
+    other_keys : (x y : A) → Member x → Member y → by x y ≡ Less → key x ≢ key y
+    other_keys x y m n less same = never y (subst (λ z. by z y ≡ Less) (once x y m n same) less)
+
+    all_differ : (xs : List A) → IsListOf by Member xs → IsDistinct (eq_by_cmp (on key text_cmp)) xs
+    all_differ xs list =
+        IsDistinct-from_apart (eq_by_cmp (on key text_cmp)) xs
+        (λ i j d low high.
+        let x : A = get_or xs i d in
+        let y : A = get_or xs j d in
+        not_tied (key x) (key y)
+        (other_keys x y ((list.members x).0 (item_at xs i d (omega arith))) ((list.members y).0 (item_at xs j d high)) (Less-from_sorted by xs i j d list.ascending low high)))
+
+    -- a list sorted by its keys is that of its members in this order
+    pub sorted_once : (xs ys : List A) (d : A) → IsListOf by Member xs → IsPermutation xs ys → IsSortedByKey key text_cmp ys → IsListOf (on key text_cmp) Member ys
+    sorted_once xs ys d list perm sorted =
+        let distinct = IsDistinct-IsPermutation (eq_by_cmp (on key text_cmp)) flips xs ys perm (all_differ xs list) in
+        record {
+          ascending = sorted_from_all_adjacent (on_total key nat_list_cmp_total) ys d
+              (λ k h.
+              let x : A = get_or ys k d in
+              let y : A = get_or ys (k + 1) d in
+              less_case (text_cmp (key x) (key y)) (sym (ap is_lt (nat_list_cmp_total.antisymm (key y) (key x))) ∙ sorted k d (omega arith) h)
+              (apart_from_distinct (eq_by_cmp (on key text_cmp)) ys k (k + 1) d distinct (omega arith) h));
+          members = λ x. (
+            λ c. (list.members x).0 (Contains-permutation ys xs x (IsPermutation-sym xs ys perm) c),
+            λ m. Contains-permutation xs ys x perm ((list.members x).1 m),
+          );
+        }
+
+  -- a search finds a key exactly where it is there
+  pub found : (xs : List A) (d : A) (text : List ℕ) (r : Result ℕ ℕ) → IsStrictlySortedBy (on key text_cmp) xs → IsSearchInRange r (length xs) → IsBinarySearchResult (λ y. text_cmp (key y) text) xs r
+      → IsTrue (is_ok r) ↔ Contains (map key xs) text
+  found xs d text (Ok i) up within at = (
+    λ _. subst (Contains (map key xs)) (text_same (key (get_or xs i d)) text (at d)) (mapped_contains key xs (get_or xs i d) (item_at xs i d within)),
+    λ _. refl,
+  )
+  found xs d text (Err i) up within at = (
+    λ e. cc,
+    λ c.
+        let there = contains_mapped key xs text c in
+        let parts = at (searchable_from_sorted nat_list_cmp_total key xs text
+        (λ k e low high. ap is_lt (nat_list_cmp_total.antisymm (key (get_or xs (k + 1) e)) (key (get_or xs k e)))
+        ∙ not_behind (text_cmp (key (get_or xs k e)) (key (get_or xs (k + 1) e))) (Less-from_sorted (on key text_cmp) xs k (k + 1) e up (omega arith) high))) in
+        let k = there.1.0 in
+        let x : A = get_or xs k there.0 in
+        let tied : text_cmp (key x) text ≡ Equal =
+        subst (λ t. text_cmp t text ≡ Equal) (sym (ap key there.1.2 ∙ there.2)) (tied_itself nat_list_cmp_total text) in
+        elim (cases_lt k i) [
+          | inl low ↦ (let less : text_cmp (key x) text ≡ Less = parts.0 k there.0 (omega arith) low in let clash : Less ≡ Equal = sym less ∙ tied in cc)
+          | inr high ↦ (let greater : text_cmp (key x) text ≡ Greater = parts.1 k there.0 high there.1.1 in let clash : Greater ≡ Equal = sym greater ∙ tied in cc)
+        ],
+  )

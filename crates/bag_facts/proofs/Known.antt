@@ -1,0 +1,60 @@
+-- What was read is what is known of a bag.
+use Rattle.std.proofs.Common.{◌≡◌, List, map, length, Some, sym, ap, ◌∙◌, subst, Contains}
+use Rattle.std.specs.Prelude.{IsTrue}
+use Rattle.bag_text.specs.Text.{text_cmp}
+use Rattle.bag_text.specs.Order.{IsListOf}
+use Rattle.bag_text.proofs.ListOf.{same_members}
+use Rattle.bag_tags.specs.TagName.{tag_path}
+use Rattle.bag_tree.specs.Bag.{Bag, file, HasFile}
+use Rattle.bag_tree.specs.Listing.{IsOrdered, IsListingOf, size_at}
+use Rattle.bag_tree.specs.Tree.{TreeState, Keeps}
+use Rattle.bag_tree.specs.declared.listing.FileEntry.{FileEntry}
+use Rattle.bag_tree.specs.declared.listing.Listing.{Listing}
+use Rattle.bag_facts.specs.Facts.{AreParsed, IsFactsOf}
+use Rattle.bag_facts.specs.TagReader.{IsWhole, read_path}
+use Rattle.bag_facts.specs.Wanted.{IsWanted, AreWanted, paths_of}
+use Rattle.bag_facts.specs.declared.facts.Facts.{Facts}
+use Rattle.bag_facts.specs.declared.options.Options.{Options}
+use Rattle.bag_facts.specs.declared.tag_reader.TagBytes.{TagBytes}
+use Rattle.bag_facts.proofs.ListedFiles.{file_listed, listed_file}
+use Rattle.bag_facts.proofs.Parsed.{same_paths, parsed_from}
+use Rattle.bag_facts.proofs.Seen.{seen_bag, listing_seen, read_seen}
+
+pub known : (bag : Bag) (facts : Facts) (read : List TagBytes) → IsOrdered facts.listing.files → IsListingOf bag facts.listing → AreParsed read facts.tags
+    → AreWanted facts.options facts.listing.files (map read_path read) → ((one : TagBytes) → Contains read one → file bag (read_path one) ≡ Some one.bytes.items) → IsFactsOf bag facts
+known bag facts read ordered listing parsed wanted are =
+    let files = facts.listing.files in record {
+      ordered = ordered;
+      listing = listing;
+      tags = subst (IsListOf text_cmp (λ path. IsWanted facts.options path × HasFile bag path)) (sym (same_paths read facts.tags parsed))
+          (same_members text_cmp (λ path. IsWanted facts.options path × Contains (paths_of files) path) _ (map read_path read)
+          (λ path h. (h.0, listed_file bag files path listing.files h.1)) (λ path h. (h.0, file_listed bag files path listing.files h.1)) wanted);
+      said = λ tag c.
+          let from = parsed_from read facts.tags tag parsed c in
+          (from.0.bytes.items, ap (λ name. file bag (tag_path name)) from.2.name ∙ are from.0 from.1, from.2.says);
+    }
+
+-- the same, where the facts were made of these options and this listing
+module _ (facts : Facts) (options : Options) (listing : Listing) (files : List FileEntry) (read : List TagBytes) (options_are : facts.options ≡ options) (listing_is : facts.listing ≡ listing)
+    (files_are : files ≡ listing.files) (ordered : IsOrdered listing.files) (parsed : AreParsed read facts.tags) (wanted : AreWanted options files (map read_path read)) where
+  pub known_of : (bag : Bag) → IsListingOf bag listing → ((one : TagBytes) → Contains read one → file bag (read_path one) ≡ Some one.bytes.items) → IsFactsOf bag facts
+  known_of bag listed are =
+      known bag facts read (subst (λ (l : Listing). IsOrdered l.files) (sym listing_is) ordered) (subst (IsListingOf bag) (sym listing_is) listed) parsed
+      (subst (λ chosen. AreWanted chosen facts.listing.files (map read_path read)) (sym options_are)
+      (subst (λ some. AreWanted options some (map read_path read)) (files_are ∙ sym (ap (λ (l : Listing). l.files) listing_is)) wanted))
+      are
+
+  -- over an honest tree they are of its bag
+  pub known_honest : (old mid : TreeState) → Keeps old mid → (IsTrue old.honest → IsListingOf old.bag listing) → ((one : TagBytes) → Contains read one → IsWhole files mid one)
+      → IsTrue old.honest → IsFactsOf old.bag facts
+  known_honest old mid k listed whole honest =
+      known_of old.bag (listed honest) (λ one c. subst (λ bag. file bag (read_path one) ≡ Some one.bytes.items) k.bag ((whole one c).bytes (k.honest ∙ honest)))
+
+  -- over any tree they are of some bag
+  pub known_seen : (mid : TreeState) → ((one : TagBytes) → Contains read one → IsWhole files mid one) → (bag : Bag) × IsFactsOf bag facts
+  known_seen mid whole =
+      let sizes : (one : TagBytes) → Contains read one → size_at listing.files (read_path one) ≡ Some (length one.bytes.items) =
+      λ one c. subst (λ some. size_at some (read_path one) ≡ Some (length one.bytes.items)) files_are (whole one c).size in (
+        seen_bag read listing,
+        known_of (seen_bag read listing) (listing_seen read listing ordered.ascending sizes) (read_seen read listing ordered.ascending sizes wanted.ascending),
+      )

@@ -1,0 +1,12 @@
+pub mod ByPath
+pub mod Declared
+pub mod Entries
+pub mod Known
+pub mod ListedFiles
+pub mod Mapped
+pub mod Opens
+pub mod Parsed
+pub mod PassedOn
+pub mod Reading
+pub mod Seen
+pub mod WantedPaths

@@ -1,0 +1,91 @@
+-- The files of a listing.
+use Rattle.std.proofs.Common.{◌≡◌, ◌∷◌, inl, inr, ℕ, List, [], length, Option, None, Some, Bool, true, false, cond, refl, sym, ap, ◌∙◌, subst, is_some, map, Contains, bytes_eq}
+use Rattle.std.specs.Option.{option_map}
+use Rattle.std.specs.List.{find}
+use Rattle.std.specs.List.Sorted.{IsStrictlySortedBy}
+use Rattle.std.specs.Cmp.{tied_itself}
+use Rattle.std.specs.Cmp.Lexicographic.{nat_list_cmp_total}
+use Rattle.std.specs.declared.cmp.Ordering.TheVariants.{Less, Equal}
+use Rattle.std.proofs.lemmas.Slice.Eq.{bytes_eq-Decides}
+use Rattle.bag_text.specs.Text.{text_cmp}
+use Rattle.bag_text.proofs.ListOf.{contains_cases, contains_first, contains_behind, contains_nothing, member_has}
+use Rattle.bag_tree.specs.Bag.{Bag, file, HasFile}
+use Rattle.bag_tree.specs.Listing.{entry_at, size_at}
+use Rattle.bag_tree.specs.declared.listing.FileEntry.{FileEntry}
+use Rattle.bag_facts.specs.TagReader.{AreListed}
+use Rattle.bag_facts.specs.Wanted.{paths_of}
+use Rattle.bag_facts.proofs.Mapped.{mapped_contains}
+
+not_itself : (p q : List ℕ) → text_cmp p q ≡ Less → p ≡ q → ⊥
+not_itself p q less same =
+    let clash : Less ≡ Equal = sym less ∙ sym (ap (text_cmp p) same) ∙ tied_itself nat_list_cmp_total p in cc
+
+-- the first item with this text is the one that has it, where the texts of the items ascend
+module _ {A : Type 0} (key : A → List ℕ) where
+  abbrev pub item_at : List A → List ℕ → Option A
+  item_at xs q = find (λ x. bytes_eq (key x) q) xs
+
+  own_by : (x y : A) (xs : List A) (b : Bool) → bytes_eq (key x) (key y) ≡ b → text_cmp (key x) (key y) ≡ Less → item_at xs (key y) ≡ Some y → cond b (Some x) (item_at xs (key y)) ≡ Some y
+  own_by x y xs true same less rest = absurd (not_itself (key x) (key y) less ((bytes_eq-Decides (key x) (key y)).0 same))
+  own_by x y xs false same less rest = rest
+
+  pub own_item : (xs : List A) (y : A) → IsStrictlySortedBy text_cmp (map key xs) → Contains xs y → item_at xs (key y) ≡ Some y
+  unfolding IsStrictlySortedBy
+  own_item [] y s c = absurd (contains_nothing y c)
+  own_item (x ∷ xs) y s c = elim (contains_cases x xs y c) [
+    | inl e ↦ subst (λ z. item_at (x ∷ xs) (key z) ≡ Some z) e (ap (λ b. cond b (Some x) (item_at xs (key x))) ((bytes_eq-Decides (key x) (key x)).1 refl))
+    | inr d ↦ own_by x y xs (bytes_eq (key x) (key y)) refl (member_has _ (map key xs) (key y) s.0 (mapped_contains key xs y d)) (own_item xs y s.1 d)
+  ]
+
+  found_by : (b : Bool) (x y : A) (xs : List A) (q : List ℕ) → bytes_eq (key x) q ≡ b → (item_at xs q ≡ Some y → Contains xs y × (key y ≡ q)) → cond b (Some x) (item_at xs q) ≡ Some y
+      → Contains (x ∷ xs) y × (key y ≡ q)
+  found_by true x y xs q same rest is =
+      let here : x ≡ y = cc in
+      (subst (Contains (x ∷ xs)) here (contains_first x xs), sym (ap key here) ∙ (bytes_eq-Decides (key x) q).0 same)
+  found_by false x y xs q same rest is = (contains_behind x xs y (rest is).0, (rest is).1)
+
+  -- an item that is found is there, and has the text
+  pub found_item : (xs : List A) (q : List ℕ) (y : A) → item_at xs q ≡ Some y → Contains xs y × (key y ≡ q)
+  found_item [] q y is = cc
+  found_item (x ∷ xs) q y is = found_by (bytes_eq (key x) q) x y xs q refl (found_item xs q y) is
+
+-- the size of a listed file
+pub own_size : (files : List FileEntry) (entry : FileEntry) → IsStrictlySortedBy text_cmp (paths_of files) → Contains files entry → size_at files entry.path ≡ Some entry.size
+own_size files entry s c = ap (option_map (λ (e : FileEntry). e.size)) (own_item (λ (e : FileEntry). e.path) files entry s c)
+
+listed_by : (e : FileEntry) (files : List FileEntry) (path : List ℕ) (b : Bool) → bytes_eq e.path path ≡ b → (is_some (entry_at files path) ≡ true → Contains (paths_of files) path)
+    → is_some (cond b (Some e) (entry_at files path)) ≡ true → Contains (paths_of (e ∷ files)) path
+listed_by e files path true same rest h = subst (Contains (paths_of (e ∷ files))) ((bytes_eq-Decides e.path path).0 same) (contains_first e.path (paths_of files))
+listed_by e files path false same rest h = contains_behind e.path (paths_of files) path (rest h)
+
+listed_path : (files : List FileEntry) (path : List ℕ) → is_some (entry_at files path) ≡ true → Contains (paths_of files) path
+listed_path [] path h = cc
+listed_path (e ∷ files) path h = listed_by e files path (bytes_eq e.path path) refl (listed_path files path) h
+
+some_by : (e : FileEntry) (files : List FileEntry) (path : List ℕ) (b : Bool) → bytes_eq e.path path ≡ b → (Contains (paths_of files) path → is_some (entry_at files path) ≡ true)
+    → Contains (paths_of (e ∷ files)) path → is_some (cond b (Some e) (entry_at files path)) ≡ true
+some_by e files path true same rest c = refl
+some_by e files path false same rest c = elim (contains_cases e.path (paths_of files) path c) [
+  | inl is ↦ let clash : false ≡ true = sym same ∙ (bytes_eq-Decides e.path path).1 is in cc
+  | inr d ↦ rest d
+]
+
+path_listed : (files : List FileEntry) (path : List ℕ) → Contains (paths_of files) path → is_some (entry_at files path) ≡ true
+path_listed [] path c = absurd (contains_nothing path c)
+path_listed (e ∷ files) path c = some_by e files path (bytes_eq e.path path) refl (path_listed files path) c
+
+some_mapped : {A B : Type 0} (f : A → B) (o : Option A) → is_some (option_map f o) ≡ is_some o
+some_mapped f None = refl
+some_mapped f (Some x) = refl
+
+there : (bag : Bag) (files : List FileEntry) → AreListed bag files → (path : List ℕ) → is_some (entry_at files path) ≡ is_some (file bag path)
+there bag files listed path =
+    sym (some_mapped (λ (entry : FileEntry). entry.size) (entry_at files path)) ∙ ap is_some (listed path) ∙ some_mapped length (file bag path)
+
+-- a file of the bag is listed
+pub file_listed : (bag : Bag) (files : List FileEntry) (path : List ℕ) → AreListed bag files → HasFile bag path → Contains (paths_of files) path
+file_listed bag files path listed h = listed_path files path (there bag files listed path ∙ h)
+
+-- and what is listed is a file of the bag
+pub listed_file : (bag : Bag) (files : List FileEntry) (path : List ℕ) → AreListed bag files → Contains (paths_of files) path → HasFile bag path
+listed_file bag files path listed c = sym (there bag files listed path) ∙ path_listed files path c

@@ -1,0 +1,64 @@
+-- Members of a mapped list, of a filtered one, and the first items of a list.
+use Rattle.std.proofs.Common.{◌≡◌, ◌<◌, ◌⊎◌, inl, inr, ℕ, zero, suc, ◌+◌, List, [], ◌∷◌, ◌++◌, map, length, take, get_or, Bool, true, false, Contains, refl, ap, sym, ◌∙◌, subst, cond, arith, add-one}
+use Rattle.std.specs.List.{filter}
+use Rattle.bag_text.proofs.ListOf.{contains_cases, contains_first, contains_behind, contains_nothing, contains_either}
+
+pub mapped_contains : {A B : Type 0} (g : A → B) (xs : List A) (x : A) → Contains xs x → Contains (map g xs) (g x)
+mapped_contains g [] x c = absurd (contains_nothing x c)
+mapped_contains g (y ∷ xs) x c = elim (contains_cases y xs x c) [
+  | inl e ↦ subst (Contains (g y ∷ map g xs)) (ap g e) (contains_first (g y) (map g xs))
+  | inr d ↦ contains_behind (g y) (map g xs) (g x) (mapped_contains g xs x d)
+]
+
+pub contains_mapped : {A B : Type 0} (g : A → B) (xs : List A) (y : B) → Contains (map g xs) y → (x : A) × Contains xs x × (g x ≡ y)
+contains_mapped g [] y c = absurd (contains_nothing y c)
+contains_mapped g (x ∷ xs) y c = elim (contains_cases (g x) (map g xs) y c) [
+  | inl e ↦ (x, contains_first x xs, e)
+  | inr d ↦ (let more = contains_mapped g xs y d in (more.0, contains_behind x xs more.0 more.1, more.2))
+]
+
+module _ {A : Type 0} (p : A → Bool) where
+  kept_by : (b : Bool) (y : A) (xs : List A) (x : A) → p y ≡ b → (Contains (filter p xs) x → (p x ≡ true) × Contains xs x)
+      → Contains (cond b (y ∷ filter p xs) (filter p xs)) x → (p x ≡ true) × Contains (y ∷ xs) x
+  kept_by true y xs x is rest c = elim (contains_cases y (filter p xs) x c) [
+    | inl e ↦ (subst (λ z. p z ≡ true) e is, subst (Contains (y ∷ xs)) e (contains_first y xs))
+    | inr d ↦ ((rest d).0, contains_behind y xs x (rest d).1)
+  ]
+  kept_by false y xs x is rest c = ((rest c).0, contains_behind y xs x (rest c).1)
+
+  -- what a filter keeps passes it, and was there
+  pub kept : (xs : List A) (x : A) → Contains (filter p xs) x → (p x ≡ true) × Contains xs x
+  kept [] x c = absurd (contains_nothing x c)
+  kept (y ∷ xs) x c = kept_by (p y) y xs x refl (kept xs x) c
+
+  passed_by : (b : Bool) (y : A) (xs : List A) (x : A) → p y ≡ b → p x ≡ true → (Contains xs x → Contains (filter p xs) x)
+      → Contains (y ∷ xs) x → Contains (cond b (y ∷ filter p xs) (filter p xs)) x
+  passed_by true y xs x is passes rest c = elim (contains_cases y xs x c) [
+    | inl e ↦ subst (Contains (y ∷ filter p xs)) e (contains_first y (filter p xs))
+    | inr d ↦ contains_behind y (filter p xs) x (rest d)
+  ]
+  passed_by false y xs x is passes rest c = elim (contains_cases y xs x c) [
+    | inl e ↦ (let clash : false ≡ true = sym is ∙ ap p e ∙ passes in cc)
+    | inr d ↦ rest d
+  ]
+
+  -- what was there and passes is kept
+  pub passed : (xs : List A) (x : A) → p x ≡ true → Contains xs x → Contains (filter p xs) x
+  passed [] x passes c = absurd (contains_nothing x c)
+  passed (y ∷ xs) x passes c = passed_by (p y) y xs x refl passes (passed xs x passes) c
+
+take_suc_more : {A : Type 0} (xs : List A) (i : ℕ) (x : A) → i < length xs → x ≡ get_or xs i x → take (suc i) xs ≡ take i xs ++ x ∷ []
+take_suc_more [] i x lt e = absurd (omega arith)
+take_suc_more (y ∷ xs) zero x lt e = ap (λ z. z ∷ []) (sym e)
+take_suc_more (y ∷ xs) (suc i) x lt e = ap (λ ys. y ∷ ys) (take_suc_more xs i x (omega arith) e)
+
+-- the first items, and one more
+pub take_one_more : {A : Type 0} (xs : List A) (i : ℕ) (x : A) → i < length xs → x ≡ get_or xs i x → take (i + 1) xs ≡ take i xs ++ x ∷ []
+take_one_more xs i x lt e = rw add-one (take_suc_more xs i x lt e)
+
+-- a member of them is one of the first, or the one more
+pub taken_cases : {A : Type 0} (xs : List A) (i : ℕ) (x y : A) → i < length xs → x ≡ get_or xs i x → Contains (take (i + 1) xs) y → Contains (take i xs) y ⊎ (x ≡ y)
+taken_cases xs i x y lt e c = elim (contains_either (take i xs) (x ∷ []) y (subst (λ ys. Contains ys y) (take_one_more xs i x lt e) c)) [
+  | inl a ↦ inl a
+  | inr b ↦ elim (contains_cases x [] y b) [ inl same ↦ inr same | inr none ↦ absurd (contains_nothing y none) ]
+]

@@ -1,0 +1,61 @@
+-- The files that were opened.
+use Rattle.std.proofs.Common.{◌≡◌, ◌++◌, ◌∷◌, inl, inr, ℕ, List, [], sym, ap, ◌∙◌, subst, append-nil, append_assoc}
+use Rattle.std.specs.Prelude.{All}
+use Rattle.std.specs.List.{AllByRecursion}
+use Rattle.std.specs.List.Sorted.{IsStrictlySortedBy}
+use Rattle.std.proofs.lemmas.List.Elements.{All-nil, All-cons}
+use Rattle.bag_text.specs.Text.{text_cmp}
+use Rattle.bag_text.proofs.ListOf.{each_from_members, member_has, contains_front}
+use Rattle.bag_tree.specs.Tree.{TreeState}
+use Rattle.bag_tree.specs.declared.listing.FileEntry.{FileEntry}
+use Rattle.bag_facts.specs.Wanted.{IsWanted, AreWanted, OpensAll, OpensFirst, OpensUpTo, OpensWanted}
+use Rattle.bag_facts.specs.declared.options.Options.{Options}
+
+all_along : {A : Type 0} (P : A → Type 0) (xs : List A) → AllByRecursion P xs → All P xs
+all_along P [] h = All-nil P
+all_along P (x ∷ xs) h = All-cons P x xs h.0 (all_along P xs h.1)
+
+front_ascends : (xs ys : List (List ℕ)) → IsStrictlySortedBy text_cmp (xs ++ ys) → IsStrictlySortedBy text_cmp xs
+unfolding IsStrictlySortedBy
+front_ascends [] ys s = tt
+front_ascends (x ∷ xs) ys s = (each_from_members _ xs (λ y c. member_has _ (xs ++ ys) y s.0 (contains_front xs ys y c)), front_ascends xs ys s.1)
+
+pub opens_none : (options : Options) (old new : TreeState) → new.openings ≡ old.openings → OpensWanted options old new
+unfolding IsStrictlySortedBy
+opens_none options old new e = ([], e ∙ sym (append-nil old.openings), tt, All-nil (IsWanted options))
+
+-- the first of the wanted files are wanted files in path order
+pub opens_wanted : (options : Options) (files : List FileEntry) (old new : TreeState) → OpensFirst options files old new → OpensWanted options old new
+opens_wanted options files old new o = (
+  o.0,
+  o.3,
+  front_ascends o.0 o.1 o.2.ascending,
+  all_along (IsWanted options) o.0 (each_from_members (IsWanted options) o.0 (λ path c. ((o.2.members path).0 (contains_front o.0 o.1 path c)).0)),
+)
+
+-- and so are all of them
+pub opens_all_first : (options : Options) (files : List FileEntry) (old new : TreeState) → OpensAll options files old new → OpensFirst options files old new
+opens_all_first options files old new o = (o.0, [], subst (AreWanted options files) (sym (append-nil o.0)) o.1, o.2)
+
+-- a listing opens nothing
+pub opens_later : (options : Options) (files : List FileEntry) (old mid new : TreeState) → mid.openings ≡ old.openings → OpensFirst options files mid new → OpensFirst options files old new
+opens_later options files old mid new e o = (o.0, o.1, o.2, o.3 ∙ ap (λ before. before ++ o.0) e)
+
+pub opens_all_later : (options : Options) (files : List FileEntry) (old mid new : TreeState) (paths : List (List ℕ)) → mid.openings ≡ old.openings → AreWanted options files paths
+    → new.openings ≡ mid.openings ++ paths → OpensAll options files old new
+opens_all_later options files old mid new paths e are o = (paths, are, o ∙ ap (λ before. before ++ paths) e)
+
+pub opens_up_to_later : (options : Options) (files : List FileEntry) (path : List ℕ) (old mid new : TreeState) → mid.openings ≡ old.openings → OpensUpTo options files path mid new
+    → OpensUpTo options files path old new
+opens_up_to_later options files path old mid new e o = (
+  o.0,
+  o.1,
+  o.2,
+  elim o.3 [ inl before ↦ inl (before ∙ ap (λ all. all ++ o.0) e) | inr too ↦ inr (too ∙ ap (λ all. all ++ (o.0 ++ path ∷ [])) e) ],
+)
+
+-- the files up to one of them are the first
+pub up_to_first : (options : Options) (files : List FileEntry) (path : List ℕ) (old new : TreeState) → OpensUpTo options files path old new → OpensFirst options files old new
+up_to_first options files path old new (before, after, are, inl e) = (before, path ∷ after, are, e)
+up_to_first options files path old new (before, after, are, inr e) =
+    (before ++ path ∷ [], after, subst (AreWanted options files) (sym (append_assoc before (path ∷ []) after)) are, e)

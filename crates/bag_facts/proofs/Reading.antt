@@ -1,0 +1,184 @@
+-- Reading listed files one after another.
+use Rattle.std.proofs.Common.{◌≡◌, ◌<◌, ◌≤◌, ◌+◌, ◌++◌, ◌∷◌, inl, inr, ℕ, List, [], length, take, drop, map, get_or, None, Some, refl, sym, ap, ◌∙◌, subst, arith, Contains, append_assoc, append-nil}
+use Rattle.std.specs.Prelude.{IsTrue}
+use Rattle.std.specs.Option.{option_map}
+use Rattle.std.specs.List.Sorted.{IsStrictlySortedBy}
+use Rattle.std.proofs.lemmas.List.{map-append, take-append-drop, take_all}
+use Rattle.bag_text.specs.Text.{text_cmp}
+use Rattle.bag_text.proofs.ListOf.{contains_either, contains_cases, contains_nothing}
+use Rattle.bag_tree.specs.Bag.{HasFile, file}
+use Rattle.bag_tree.specs.Listing.{IsListingOf, size_at}
+use Rattle.bag_tree.specs.Tree.{TreeState, Keeps, OpensAtMost, IsEntryOf}
+use Rattle.bag_tree.specs.declared.listing.FileEntry.{FileEntry}
+use Rattle.bag_tree.specs.declared.listing.Listing.{Listing}
+use Rattle.bag_tree.specs.declared.fault.Stop.{Stop}
+use Rattle.bag_tree.specs.declared.fault.TreeFault.{TreeFault}
+use Rattle.bag_tree.specs.declared.fault.TreeFault.TheVariants.{Device, Special, Name, NotFound, TooMany, Changed, NoneOpen, Memory, Exists}
+use Rattle.bag_facts.specs.Stops.{MayRefuseFacts, MayStop}
+use Rattle.bag_facts.specs.TagReader.{AreListed, IsWhole, ReadsWanted, StopsReading, read_path}
+use Rattle.bag_facts.specs.Wanted.{IsWanted, AreWanted, OpensFirst, OpensUpTo, paths_of}
+use Rattle.bag_facts.specs.declared.options.Options.{Options}
+use Rattle.bag_facts.specs.declared.tag_reader.TagBytes.{TagBytes}
+use Rattle.bag_facts.proofs.ListedFiles.{own_size}
+use Rattle.bag_facts.proofs.Mapped.{take_one_more}
+use Rattle.bag_facts.proofs.WantedPaths.{wanted, are_wanted, none_wanted, wanted_joined, one_wanted, one_unwanted}
+
+pub keeps_on : (old mid new : TreeState) → Keeps old mid → Keeps mid new → Keeps old new
+keeps_on old mid new k l = record {
+  bag = l.bag ∙ k.bag;
+  honest = l.honest ∙ k.honest;
+  entries = l.entries ∙ k.entries;
+  failures = omega arith;
+}
+
+pub keeps_itself : (old : TreeState) → Keeps old old
+keeps_itself old = record { bag = refl; honest = refl; entries = refl; failures = omega arith }
+
+later_refusal : (old mid new : TreeState) (cause : TreeFault) → Keeps old mid → MayRefuseFacts mid new cause → MayRefuseFacts old new cause
+later_refusal old mid new Device k h = omega arith
+later_refusal old mid new Special k h = omega arith
+later_refusal old mid new Name k h = omega arith
+later_refusal old mid new NotFound k h = λ honest. h (k.honest ∙ honest)
+later_refusal old mid new TooMany k h = λ honest. rw (← k.entries) (h (k.honest ∙ honest))
+later_refusal old mid new Changed k h = λ honest. h (k.honest ∙ honest)
+later_refusal old mid new NoneOpen k h = h
+later_refusal old mid new Memory k h = tt
+later_refusal old mid new Exists k h = h
+
+-- a later stop is one of the whole
+pub later_stop : (options : Options) (old mid new : TreeState) (stop : Stop) → Keeps old mid → StopsReading options mid new stop → StopsReading options old new stop
+later_stop options old mid new stop k h = record {
+  cause = later_refusal old mid new stop.cause k h.cause;
+  path = elim h.path [ inl none ↦ inl none | inr there ↦ inr (there.0, λ honest. subst (λ bag. HasFile bag stop.path) k.bag (there.1 (k.honest ∙ honest))) ];
+  memory = h.memory;
+}
+
+-- the wanted files among the first of the listed ones were read
+pub record ReadsSome (options : Options) (files : List FileEntry) (count : ℕ) (old new : TreeState) (read : List TagBytes) : Type 0 where
+  pub keeps : Keeps old new
+  pub calm : new.failures ≡ old.failures
+  pub opened : new.openings ≡ old.openings ++ map read_path read
+  pub paths : map read_path read ≡ wanted options (take count files)
+  pub whole : (one : TagBytes) → Contains read one → IsWhole files old one
+
+pub reads_none : (options : Options) (files : List FileEntry) (old : TreeState) → ReadsSome options files 0 old old []
+reads_none options files old = record {
+  keeps = keeps_itself old;
+  calm = refl;
+  opened = sym (append-nil old.openings);
+  paths = sym (none_wanted options);
+  whole = λ one c. absurd (contains_nothing one c);
+}
+
+module _ (options : Options) (files : List FileEntry) (i : ℕ) (entry : FileEntry) (old mid new : TreeState) (read : List TagBytes)
+    (s : IsStrictlySortedBy text_cmp (paths_of files)) (lt : i < length files) (is : entry ≡ get_or files i entry) (before : ReadsSome options files i old mid read) where
+  listed : Contains files entry
+  listed = (i, lt, sym is)
+
+  next_paths : wanted options (take (i + 1) files) ≡ map read_path read ++ wanted options (entry ∷ [])
+  next_paths =
+      ap (wanted options) (take_one_more files i entry lt is) ∙ wanted_joined options (take i files) (entry ∷ [])
+      ∙ ap (λ paths. paths ++ wanted options (entry ∷ [])) (sym before.paths)
+
+  -- a listed file isn't wanted
+  pub reads_no_more : Keeps mid new → new.failures ≡ mid.failures → ReadsWanted options entry mid new None → ReadsSome options files (i + 1) old new read
+  reads_no_more k calm h = record {
+    keeps = keeps_on old mid new before.keeps k;
+    calm = calm ∙ before.calm;
+    opened = h.1 ∙ before.opened;
+    paths = sym (next_paths ∙ ap (λ paths. map read_path read ++ paths) (one_unwanted options entry h.0) ∙ append-nil (map read_path read));
+    whole = before.whole;
+  }
+
+  module _ (one : TagBytes) (k : Keeps mid new) (calm : new.failures ≡ mid.failures) (h : ReadsWanted options entry mid new (Some one)) where
+    entry_wanted : IsWanted options entry.path
+    entry_wanted = (one.name, h.at, h.wanted)
+
+    pub opened_more : new.openings ≡ old.openings ++ wanted options (take (i + 1) files)
+    opened_more =
+        h.opened ∙ ap (λ paths. paths ++ entry.path ∷ []) before.opened ∙ append_assoc old.openings (map read_path read) (entry.path ∷ [])
+        ∙ ap (λ paths. old.openings ++ paths) (ap (λ paths. map read_path read ++ paths) (sym (one_wanted options entry entry_wanted)) ∙ sym next_paths)
+
+    paths_more : map read_path (read ++ one ∷ []) ≡ wanted options (take (i + 1) files)
+    paths_more =
+        map-append read_path read (one ∷ [])
+        ∙ ap (λ path. map read_path read ++ path ∷ []) h.at
+        ∙ ap (λ paths. map read_path read ++ paths) (sym (one_wanted options entry entry_wanted)) ∙ sym next_paths
+
+    one_whole : IsWhole files old one
+    one_whole = record {
+      size = ap (λ path. size_at files path) h.at ∙ own_size files entry s listed ∙ ap Some (sym h.size);
+      bytes = λ honest. ap (file old.bag) h.at ∙ sym (ap (λ bag. file bag entry.path) before.keeps.bag) ∙ h.bytes (before.keeps.honest ∙ honest);
+    }
+
+    -- one more was read
+    pub reads_one_more : ReadsSome options files (i + 1) old new (read ++ one ∷ [])
+    reads_one_more = record {
+      keeps = keeps_on old mid new before.keeps k;
+      calm = calm ∙ before.calm;
+      opened = opened_more ∙ ap (λ paths. old.openings ++ paths) (sym paths_more);
+      paths = paths_more;
+      whole = λ other c. elim (contains_either read (one ∷ []) other c) [
+        | inl a ↦ before.whole other a
+        | inr b ↦ elim (contains_cases one [] other b) [ inl e ↦ subst (IsWhole files old) e one_whole | inr none ↦ absurd (contains_nothing other none) ]
+      ];
+    }
+
+-- those among the first of the listed files were opened
+pub opens_first : (options : Options) (files : List FileEntry) (count : ℕ) (old new : TreeState) → IsStrictlySortedBy text_cmp (paths_of files)
+    → new.openings ≡ old.openings ++ wanted options (take count files) → OpensFirst options files old new
+opens_first options files count old new s e = (
+  wanted options (take count files),
+  wanted options (drop count files),
+  subst (AreWanted options files) (ap (wanted options) (sym (take-append-drop count files)) ∙ wanted_joined options (take count files) (drop count files))
+      (are_wanted options files s),
+  e,
+)
+
+module _ (options : Options) (files : List FileEntry) (i : ℕ) (entry : FileEntry) (old mid new : TreeState) (read : List TagBytes)
+    (s : IsStrictlySortedBy text_cmp (paths_of files)) (lt : i < length files) (is : entry ≡ get_or files i entry) (before : ReadsSome options files i old mid read) where
+  -- reading stopped at a listed file
+  pub opens_up_to : IsWanted options entry.path → OpensAtMost mid new entry.path → OpensUpTo options files entry.path old new
+  opens_up_to w one = (
+    map read_path read,
+    wanted options (drop (i + 1) files),
+    subst (AreWanted options files)
+        (ap (wanted options) (sym (take-append-drop (i + 1) files)) ∙ wanted_joined options (take (i + 1) files) (drop (i + 1) files)
+        ∙ ap (λ paths. paths ++ wanted options (drop (i + 1) files))
+        (next_paths options files i entry old mid new read s lt is before ∙ ap (λ paths. map read_path read ++ paths) (one_wanted options entry w))
+        ∙ append_assoc (map read_path read) (entry.path ∷ []) (wanted options (drop (i + 1) files)))
+        (are_wanted options files s),
+    elim one [
+      | inl none ↦ inl (none ∙ before.opened)
+      | inr once ↦ inr (once ∙ ap (λ paths. paths ++ entry.path ∷ []) before.opened ∙ append_assoc old.openings (map read_path read) (entry.path ∷ []))
+    ],
+  )
+
+  listed_as_is : (IsTrue old.honest → AreListed old.bag files) → IsTrue mid.honest → IsEntryOf mid.bag entry
+  listed_as_is are honest =
+      ap (λ bag. option_map length (file bag entry.path)) before.keeps.bag
+      ∙ sym (are (sym before.keeps.honest ∙ honest) entry.path) ∙ own_size files entry s (i, lt, sym is)
+
+  -- its refusal is a stop of the whole
+  pub stops_at : (stop : Stop) → ((IsTrue mid.honest → IsEntryOf mid.bag entry) → StopsReading options mid new stop)
+      → (IsTrue old.honest → AreListed old.bag files) → StopsReading options old new stop
+  stops_at stop at are =
+      later_stop options old mid new stop before.keeps (at (listed_as_is are))
+
+-- at the end the wanted files are read
+pub all_wanted : (options : Options) (files : List FileEntry) (count : ℕ) (old new : TreeState) (read : List TagBytes) → IsStrictlySortedBy text_cmp (paths_of files) → length files ≤ count
+    → ReadsSome options files count old new read → AreWanted options files (map read_path read)
+all_wanted options files count old new read s le h =
+    subst (AreWanted options files) (sym (h.paths ∙ ap (wanted options) (take_all count files le))) (are_wanted options files s)
+
+-- what stops reading after a listing stops reading the facts
+pub facts_stop : (options : Options) (listing : Listing) (files : List FileEntry) (old mid new : TreeState) (stop : Stop) → Keeps old mid → files ≡ listing.files
+    → (IsTrue old.honest → IsListingOf old.bag listing) → ((IsTrue mid.honest → AreListed mid.bag files) → StopsReading options mid new stop) → MayStop options old new stop
+facts_stop options listing files old mid new stop k e listed stops =
+    let are : IsTrue mid.honest → AreListed mid.bag files =
+    λ honest. subst (AreListed mid.bag) (sym e) (subst (λ bag. AreListed bag listing.files) (sym k.bag) (listed (sym k.honest ∙ honest)).files) in
+    let h = later_stop options old mid new stop k (stops are) in record {
+      cause = h.cause;
+      path = elim h.path [ inl none ↦ inl none | inr at ↦ inr (inr at) ];
+      memory = h.memory;
+    }

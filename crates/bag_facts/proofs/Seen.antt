@@ -1,0 +1,86 @@
+-- A bag that has the listed files, with the bytes that were read of some.
+use Rattle.std.proofs.Common.{◌≡◌, ℕ, List, [], ◌∷◌, length, map, replicate, Bool, true, false, cond, Option, None, Some, refl, ap, sym, ◌∙◌, bytes_eq, codes, Contains}
+use Rattle.std.specs.Option.{option_map}
+use Rattle.std.specs.List.Sorted.{IsStrictlySortedBy}
+use Rattle.std.specs.FinMap.{find, from_entries, get-from_entries}
+use Rattle.std.specs.FinSet as set
+use Rattle.std.specs.Ordering.{eq_by_cmp}
+use Rattle.std.specs.Cmp.Lexicographic.{nat_list_cmp_total}
+use Rattle.std.proofs.lemmas.List.{length-replicate}
+use Rattle.bag_text.specs.Text.{text_cmp}
+use Rattle.bag_tree.specs.Bag.{Bag, file}
+use Rattle.bag_tree.specs.Listing.{IsListingOf, entry_at, size_at}
+use Rattle.bag_tree.specs.declared.listing.FileEntry.{FileEntry}
+use Rattle.bag_tree.specs.declared.listing.Listing.{Listing}
+use Rattle.bag_tree.proofs.SameText.{same_test}
+use Rattle.bag_facts.specs.TagReader.{read_path}
+use Rattle.bag_facts.specs.Wanted.{paths_of}
+use Rattle.bag_facts.specs.declared.tag_reader.TagBytes.{TagBytes}
+use Rattle.bag_facts.proofs.ListedFiles.{item_at, own_item, found_item, own_size}
+
+map-cond : {A B : Type 0} (f : A → B) (b : Bool) (x : A) (o : Option A) → option_map f (cond b (Some x) o) ≡ cond b (Some (f x)) (option_map f o)
+map-cond f true x o = refl
+map-cond f false x o = refl
+
+find-mapped : (f : FileEntry → List ℕ) (files : List FileEntry) (q : List ℕ) → find text_cmp q (map (λ e. (e.path, f e)) files) ≡ option_map f (entry_at files q)
+find-mapped f [] q = refl
+find-mapped f (e ∷ files) q =
+    ap (cond (eq_by_cmp text_cmp q e.path) (Some (f e))) (find-mapped f files q)
+    ∙ ap (λ b. cond b (Some (f e)) (option_map f (entry_at files q))) (sym (same_test e.path q))
+    ∙ sym (map-cond f (bytes_eq e.path q) e (entry_at files q))
+
+-- the bytes that were read, or as many as were listed
+abbrev bytes_or : Option TagBytes → ℕ → List ℕ
+bytes_or None size = replicate size 0
+bytes_or (Some one) size = one.bytes.items
+
+abbrev bytes_of : List TagBytes → FileEntry → List ℕ
+bytes_of read e = bytes_or (item_at read_path read e.path) e.size
+
+abbrev folders_of : Bool → set.FinSet text_cmp
+folders_of true = set.from_list (codes "data" ∷ [])
+folders_of false = set.empty
+
+-- the bag of the listed files with these bytes
+abbrev pub seen_bag : List TagBytes → Listing → Bag
+seen_bag read listing = record {
+  files = from_entries {R = text_cmp} (map (λ e. (e.path, bytes_of read e)) listing.files);
+  folders = folders_of listing.has_data;
+}
+
+seen_file : (read : List TagBytes) (listing : Listing) (q : List ℕ) → file (seen_bag read listing) q ≡ option_map (bytes_of read) (entry_at listing.files q)
+seen_file read listing q =
+    get-from_entries nat_list_cmp_total (map (λ e. (e.path, bytes_of read e)) listing.files) q ∙ find-mapped (bytes_of read) listing.files q
+
+seen_data : (b : Bool) → b ≡ set.contains (folders_of b) (codes "data")
+seen_data true = sym (set.contains-from_list nat_list_cmp_total (codes "data" ∷ []) (codes "data"))
+seen_data false = sym (set.contains-empty text_cmp (codes "data"))
+
+module _ (read : List TagBytes) (listing : Listing) (s : IsStrictlySortedBy text_cmp (paths_of listing.files))
+    (sizes : (one : TagBytes) → Contains read one → size_at listing.files (read_path one) ≡ Some (length one.bytes.items)) where
+  length_by : (e : FileEntry) (o : Option TagBytes) → Contains listing.files e → item_at read_path read e.path ≡ o → length (bytes_or o e.size) ≡ e.size
+  length_by e None c is = length-replicate e.size 0
+  length_by e (Some one) c is =
+      let found = found_item read_path read e.path one is in
+      let same : Some (length one.bytes.items) ≡ Some e.size = sym (sizes one found.0) ∙ ap (size_at listing.files) found.1 ∙ own_size listing.files e s c in cc
+
+  size_by : (q : List ℕ) (o : Option FileEntry) → entry_at listing.files q ≡ o → option_map (λ (e : FileEntry). e.size) o ≡ option_map length (option_map (bytes_of read) o)
+  size_by q None is = refl
+  size_by q (Some e) is = ap Some (sym (length_by e (item_at read_path read e.path) (found_item (λ (x : FileEntry). x.path) listing.files q e is).0 refl))
+
+  pub listing_seen : IsListingOf (seen_bag read listing) listing
+  listing_seen = record {
+    files = λ path. size_by path (entry_at listing.files path) refl ∙ ap (option_map length) (sym (seen_file read listing path));
+    has_data = seen_data listing.has_data;
+  }
+
+  read_by : (one : TagBytes) (o : Option FileEntry) → IsStrictlySortedBy text_cmp (map read_path read) → Contains read one → entry_at listing.files (read_path one) ≡ o
+      → option_map (bytes_of read) o ≡ Some one.bytes.items
+  read_by one None up c is = let none : None ≡ Some (length one.bytes.items) = sym (ap (option_map (λ (e : FileEntry). e.size)) is) ∙ sizes one c in cc
+  read_by one (Some e) up c is =
+      let at = (found_item (λ (x : FileEntry). x.path) listing.files (read_path one) e is).1 in
+      ap Some (ap (λ path. bytes_or (item_at read_path read path) e.size) at ∙ ap (λ o. bytes_or o e.size) (own_item read_path read one up c))
+
+  -- it has the bytes that were read
+  pub read_seen : IsStrictlySortedBy text_cmp (map read_path read) → (one : TagBytes) → Contains read one → file (seen_bag read listing) (read_path one) ≡ Some one.bytes.items
+  read_seen up one c = seen_file read listing (read_path one) ∙ read_by one (entry_at listing.files (read_path one)) up c refl

@@ -1,0 +1,118 @@
+-- The wanted tag files among listed files.
+use Rattle.std.proofs.Common.{◌≡◌, ◌≢◌, inl, inr, ◌&&◌, ℕ, List, [], ◌∷◌, ◌++◌, Bool, true, false, cond, refl, sym, ap, ◌∙◌, arith, Contains, map, bytes_eq}
+use Rattle.std.specs.List.{filter, list_any}
+use Rattle.std.specs.List.Sorted.{IsStrictlySortedBy}
+use Rattle.std.proofs.lemmas.Bool.{and_from}
+use Rattle.std.proofs.lemmas.List.{map-append}
+use Rattle.std.proofs.lemmas.List.Elements.{filter-append}
+use Rattle.std.proofs.lemmas.List.Kept.{IsStrictlySortedBy-filter}
+use Rattle.std.proofs.lemmas.Slice.Eq.{bytes_eq-Decides}
+use Rattle.bag_text.specs.Text.{text_cmp}
+use Rattle.bag_text.specs.Alg.{algs}
+use Rattle.bag_text.proofs.AlgSets.{each_is_listed}
+use Rattle.bag_text.proofs.ListOf.{contains_behind, contains_front, contains_back}
+use Rattle.bag_tags.specs.TagName.{tag_path}
+use Rattle.bag_tags.specs.declared.kind.Kind.TheVariants.{Payload, Tag}
+use Rattle.bag_tags.specs.declared.tag_name.TagName.{TagName}
+use Rattle.bag_tags.specs.declared.tag_name.TagName.TheVariants.{Declaration, Info, Fetch, Manifest}
+use Rattle.bag_tags.proofs.PickedOut.{any_from, from_any, both_true}
+use Rattle.bag_tree.specs.declared.listing.FileEntry.{FileEntry}
+use Rattle.bag_facts.specs.Wanted.{Wants, IsWanted, AreWanted, paths_of}
+use Rattle.bag_facts.specs.declared.options.Depth.{Depth}
+use Rattle.bag_facts.specs.declared.options.Depth.TheVariants as depth_of
+use Rattle.bag_facts.specs.declared.options.Options.{Options}
+use Rattle.bag_facts.proofs.Mapped.{kept, passed, mapped_contains}
+
+abbrev names : List TagName
+names = Declaration ∷ Info ∷ Fetch ∷ (map (Manifest Payload) algs ++ map (Manifest Tag) algs)
+
+behind_files : (name : TagName) → Contains (map (Manifest Payload) algs ++ map (Manifest Tag) algs) name → Contains names name
+behind_files name c =
+    contains_behind Declaration (Info ∷ Fetch ∷ (map (Manifest Payload) algs ++ map (Manifest Tag) algs)) name
+    (contains_behind Info (Fetch ∷ (map (Manifest Payload) algs ++ map (Manifest Tag) algs)) name
+    (contains_behind Fetch (map (Manifest Payload) algs ++ map (Manifest Tag) algs) name c))
+
+each_name : (name : TagName) → Contains names name
+each_name Declaration = (0, omega arith, refl)
+each_name Info = (1, omega arith, refl)
+each_name Fetch = (2, omega arith, refl)
+each_name (Manifest Payload alg) =
+    behind_files (Manifest Payload alg) (contains_front (map (Manifest Payload) algs) (map (Manifest Tag) algs) (Manifest Payload alg) (mapped_contains (Manifest Payload) algs alg (each_is_listed alg)))
+each_name (Manifest Tag alg) =
+    behind_files (Manifest Tag alg) (contains_back (map (Manifest Payload) algs) (map (Manifest Tag) algs) (Manifest Tag alg) (mapped_contains (Manifest Tag) algs alg (each_is_listed alg)))
+
+abbrev is_deep : Depth → Bool
+is_deep depth_of.Declaration = false
+is_deep other = true
+
+deep : (depth : Depth) → depth ≢ depth_of.Declaration → is_deep depth ≡ true
+deep depth_of.Declaration other = absurd (other refl)
+deep depth_of.Fast other = refl
+deep depth_of.Complete other = refl
+deep depth_of.Full other = refl
+
+deeper : (depth : Depth) → is_deep depth ≡ true → depth ≢ depth_of.Declaration
+deeper depth is same = let clash : true ≡ false = sym is ∙ ap is_deep same in cc
+
+abbrev wants : Options → TagName → Bool
+wants options Declaration = true
+wants options other = is_deep options.depth
+
+to_wants : (options : Options) (name : TagName) → Wants options name → wants options name ≡ true
+to_wants options Declaration h = refl
+to_wants options other (inl e) = cc
+to_wants options other (inr more) = deep options.depth more
+
+from_wants : (options : Options) (name : TagName) → wants options name ≡ true → Wants options name
+from_wants options Declaration h = inl refl
+from_wants options other h = inr (deeper options.depth h)
+
+abbrev pub is_wanted : Options → List ℕ → Bool
+is_wanted options path = list_any (λ name. wants options name && bytes_eq (tag_path name) path) names
+
+pub to_wanted : (options : Options) (path : List ℕ) → IsWanted options path → is_wanted options path ≡ true
+to_wanted options path (name, at, wanted) =
+    any_from (λ other. wants options other && bytes_eq (tag_path other) path) names name (each_name name) (and_from _ _ (to_wants options name wanted) ((bytes_eq-Decides (tag_path name) path).1 at))
+
+pub from_wanted : (options : Options) (path : List ℕ) → is_wanted options path ≡ true → IsWanted options path
+from_wanted options path h =
+    let some = from_any (λ other. wants options other && bytes_eq (tag_path other) path) names h in
+    let two = both_true (wants options some.0) (bytes_eq (tag_path some.0) path) some.2 in
+    (some.0, (bytes_eq-Decides (tag_path some.0) path).0 two.1, from_wants options some.0 two.0)
+
+-- the wanted tag files among files, in their order
+unfoldable pub wanted : Options → List FileEntry → List (List ℕ)
+wanted options files = filter (is_wanted options) (paths_of files)
+
+pub are_wanted : (options : Options) (files : List FileEntry) → IsStrictlySortedBy text_cmp (paths_of files) → AreWanted options files (wanted options files)
+unfolding wanted
+are_wanted options files s = record {
+  ascending = IsStrictlySortedBy-filter text_cmp (is_wanted options) (paths_of files) s;
+  members = λ path. (
+    λ c. let k = kept (is_wanted options) (paths_of files) path c in (from_wanted options path k.0, k.1),
+    λ m. passed (is_wanted options) (paths_of files) path (to_wanted options path m.0) m.1,
+  );
+}
+
+pub none_wanted : (options : Options) → wanted options [] ≡ []
+unfolding wanted
+none_wanted options = refl
+
+pub wanted_joined : (options : Options) (xs ys : List FileEntry) → wanted options (xs ++ ys) ≡ wanted options xs ++ wanted options ys
+unfolding wanted
+wanted_joined options xs ys =
+    ap (filter (is_wanted options)) (map-append (λ (f : FileEntry). f.path) xs ys) ∙ filter-append (is_wanted options) (paths_of xs) (paths_of ys)
+
+one_by : (options : Options) (entry : FileEntry) (b : Bool) → is_wanted options entry.path ≡ b → wanted options (entry ∷ []) ≡ cond b (entry.path ∷ []) []
+unfolding wanted
+one_by options entry b e = ap (λ t. cond t (entry.path ∷ []) []) e
+
+pub one_wanted : (options : Options) (entry : FileEntry) → IsWanted options entry.path → wanted options (entry ∷ []) ≡ entry.path ∷ []
+one_wanted options entry h = one_by options entry true (to_wanted options entry.path h)
+
+unwanted_by : (options : Options) (path : List ℕ) (b : Bool) → is_wanted options path ≡ b → ¬ (IsWanted options path) → b ≡ false
+unwanted_by options path true e other = absurd (other (from_wanted options path e))
+unwanted_by options path false e other = refl
+
+pub one_unwanted : (options : Options) (entry : FileEntry) → ¬ (IsWanted options entry.path) → wanted options (entry ∷ []) ≡ []
+one_unwanted options entry other = one_by options entry false (unwanted_by options entry.path (is_wanted options entry.path) refl other)

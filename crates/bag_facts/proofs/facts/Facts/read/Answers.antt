@@ -1,0 +1,111 @@
+use Rattle.std.proofs.Common.{◌≡◌, ◌≢◌, ◌⊎◌, inr, [], map, sym, subst}
+use Rattle.bag_tree.specs.declared.listing.Listing.{Listing}
+use Rattle.bag_facts.specs.Stops.{MayStop}
+use Rattle.bag_facts.specs.TagReader.{read_path}
+use Rattle.bag_facts.specs.Wanted.{AreWanted, ForListing, OpensAll, OpensFirst, OpensUpTo}
+use Rattle.bag_facts.proofs.Known.{known_honest, known_seen}
+use Rattle.bag_facts.proofs.Opens.{opens_none, opens_wanted, opens_all_first, opens_later, opens_all_later, opens_up_to_later}
+use Rattle.bag_facts.proofs.PassedOn.{passed_on, on_error}
+use Rattle.bag_facts.proofs.Reading.{facts_stop}
+use Rattle.bag_facts.proofs.facts.Facts.read.Goals as goal
+
+pub returns-in-Err-clause-opens : goal.returns-in-Err-clause-opens
+returns-in-Err-clause-opens g c = opens_none c.args.options (g.T.Tree.state c.args.tree.now) (g.T.Tree.state c.list.new.self) c.list.ensures.openings
+
+pub returns-in_err-read-clause-opens : goal.returns-in_err-read-clause-opens
+returns-in_err-read-clause-opens g c =
+    let old = g.T.Tree.state c.args.tree.now in
+    let mid = g.T.Tree.state c.list.new.self in
+    let new = g.T.Tree.state c.read_tag_files.new.tree in
+    opens_wanted c.args.options c.as_slice.result.now old new (opens_later c.args.options c.as_slice.result.now old mid new c.list.ensures.openings c.in_err-read.ensures.opened_first)
+
+pub returns-in_err-read-clause-refused : goal.returns-in_err-read-clause-refused
+returns-in_err-read-clause-refused g c =
+    let old = g.T.Tree.state c.args.tree.now in
+    let mid = g.T.Tree.state c.list.new.self in
+    let new = g.T.Tree.state c.read_tag_files.new.tree in
+    passed_on c.from_residual.result c.in_err-read.field-0.0 (λ stop. stop.path ≢ [] → ForListing old (λ files. OpensUpTo c.args.options files stop.path old new)) c.from_residual.ensures.1
+    (λ named. (
+      c.in-Ok.listing,
+      c.in-Ok.ensures.ordered,
+      c.in-Ok.ensures.honest,
+      opens_up_to_later c.args.options c.in-Ok.listing.files c.in_err-read.field-0.0.path old mid new c.list.ensures.openings
+          (subst (λ files. OpensUpTo c.args.options files c.in_err-read.field-0.0.path mid new) c.as_slice.ensures (c.in_err-read.ensures.refused named)),
+    ))
+
+pub returns-in_err-read-clause-stop : goal.returns-in_err-read-clause-stop
+returns-in_err-read-clause-stop g c =
+    let old = g.T.Tree.state c.args.tree.now in
+    let mid = g.T.Tree.state c.list.new.self in
+    let new = g.T.Tree.state c.read_tag_files.new.tree in
+    passed_on c.from_residual.result c.in_err-read.field-0.0 (MayStop c.args.options old new) c.from_residual.ensures.1
+    (facts_stop c.args.options c.in-Ok.listing c.as_slice.result.now old mid new c.in_err-read.field-0.0 c.list.ensures.keeps c.as_slice.ensures c.in-Ok.ensures.honest c.in_err-read.ensures.stop)
+
+pub returns-in-Ok-of-clause-opens : goal.returns-in-Ok-of-clause-opens
+returns-in-Ok-of-clause-opens g c =
+    let old = g.T.Tree.state c.args.tree.now in
+    let mid = g.T.Tree.state c.list.new.self in
+    let new = g.T.Tree.state c.read_tag_files.new.tree in
+    let files = c.as_slice.result.now in
+    opens_wanted c.args.options files old new
+    (opens_all_first c.args.options files old new
+    (opens_all_later c.args.options files old mid new (map read_path c.in_ok-read.read.items) c.list.ensures.openings c.in_ok-read.ensures.wanted c.in_ok-read.ensures.opened))
+
+pub returns-in-Err-of-clause-opens : goal.returns-in-Err-of-clause-opens
+returns-in-Err-of-clause-opens g c =
+    let old = g.T.Tree.state c.args.tree.now in
+    let mid = g.T.Tree.state c.list.new.self in
+    let new = g.T.Tree.state c.read_tag_files.new.tree in
+    let files = c.as_slice.result.now in
+    opens_wanted c.args.options files old new
+    (opens_all_first c.args.options files old new
+    (opens_all_later c.args.options files old mid new (map read_path c.in_ok-read.read.items) c.list.ensures.openings c.in_ok-read.ensures.wanted c.in_ok-read.ensures.opened))
+
+pub returns-in-Ok-of-clause-facts : goal.returns-in-Ok-of-clause-facts
+returns-in-Ok-of-clause-facts g c =
+    known_honest c.in-Ok-of.facts c.args.options c.in-Ok.listing c.as_slice.result.now c.in_ok-read.read.items c.in-Ok-of.ensures.options c.in-Ok-of.ensures.listing c.as_slice.ensures c.in-Ok.ensures.ordered
+    c.in-Ok-of.ensures.tags c.in_ok-read.ensures.wanted (g.T.Tree.state c.args.tree.now) (g.T.Tree.state c.list.new.self) c.list.ensures.keeps c.in-Ok.ensures.honest c.in_ok-read.ensures.whole
+
+pub returns-in-Ok-of-clause-seen : goal.returns-in-Ok-of-clause-seen
+returns-in-Ok-of-clause-seen g c =
+    known_seen c.in-Ok-of.facts c.args.options c.in-Ok.listing c.as_slice.result.now c.in_ok-read.read.items c.in-Ok-of.ensures.options c.in-Ok-of.ensures.listing c.as_slice.ensures c.in-Ok.ensures.ordered
+    c.in-Ok-of.ensures.tags c.in_ok-read.ensures.wanted (g.T.Tree.state c.list.new.self) c.in_ok-read.ensures.whole
+
+pub returns-in-Ok-of-clause-opened : goal.returns-in-Ok-of-clause-opened
+returns-in-Ok-of-clause-opened g c =
+    let old = g.T.Tree.state c.args.tree.now in
+    let mid = g.T.Tree.state c.list.new.self in
+    let new = g.T.Tree.state c.read_tag_files.new.tree in
+    let paths = map read_path c.in_ok-read.read.items in
+    subst (λ (listing : Listing). OpensAll c.args.options listing.files old new) (sym c.in-Ok-of.ensures.listing)
+    (opens_all_later c.args.options c.in-Ok.listing.files old mid new paths c.list.ensures.openings
+    (subst (λ files. AreWanted c.args.options files paths) c.as_slice.ensures c.in_ok-read.ensures.wanted) c.in_ok-read.ensures.opened)
+
+pub returns-in_err-read-clause-opened_first : goal.returns-in_err-read-clause-opened_first
+returns-in_err-read-clause-opened_first g c =
+    let old = g.T.Tree.state c.args.tree.now in
+    let mid = g.T.Tree.state c.list.new.self in
+    let new = g.T.Tree.state c.read_tag_files.new.tree in
+    on_error c.from_residual.result ((new.openings ≡ old.openings) ⊎ ForListing old (λ files. OpensFirst c.args.options files old new))
+    (inr (
+      c.in-Ok.listing,
+      c.in-Ok.ensures.ordered,
+      c.in-Ok.ensures.honest,
+      subst (λ files. OpensFirst c.args.options files old new) c.as_slice.ensures
+          (opens_later c.args.options c.as_slice.result.now old mid new c.list.ensures.openings c.in_err-read.ensures.opened_first),
+    ))
+
+pub returns-in-Err-of-clause-opened_first : goal.returns-in-Err-of-clause-opened_first
+returns-in-Err-of-clause-opened_first g c =
+    let old = g.T.Tree.state c.args.tree.now in
+    let mid = g.T.Tree.state c.list.new.self in
+    let new = g.T.Tree.state c.read_tag_files.new.tree in
+    let files = c.as_slice.result.now in
+    inr (
+      c.in-Ok.listing,
+      c.in-Ok.ensures.ordered,
+      c.in-Ok.ensures.honest,
+      subst (λ some. OpensFirst c.args.options some old new) c.as_slice.ensures
+          (opens_all_first c.args.options files old new
+          (opens_all_later c.args.options files old mid new (map read_path c.in_ok-read.read.items) c.list.ensures.openings c.in_ok-read.ensures.wanted c.in_ok-read.ensures.opened)),
+    )

@@ -1,0 +1,45 @@
+-- Why listing a tree and reading its tag files may stop.
+use Rattle.std.specs.Prelude.{◌≡◌, ◌⊎◌, ◌<◌, ℕ, List, [], IsTrue}
+use Rattle.bag_tree.specs.Bag.{HasFile}
+use Rattle.bag_tree.specs.Tree.{TreeState, MayRefuse, most_entries}
+use Rattle.bag_tree.specs.declared.fault.Stop.{Stop}
+use Rattle.bag_tree.specs.declared.fault.TreeFault.{TreeFault}
+use Rattle.bag_tree.specs.declared.fault.TreeFault.TheVariants.{Device, Special, Name, NotFound, TooMany, Changed, NoneOpen, Memory, Exists}
+use Rattle.bag_facts.specs.Wanted.{IsWanted}
+use Rattle.bag_facts.specs.declared.options.Options.{Options}
+
+-- there was no memory, and no file is named
+abbrev pub IsOutOfMemory : Stop → Type 0
+IsOutOfMemory stop = (stop.cause ≡ Memory) × (stop.path ≡ [])
+
+-- the stop tells of this refusal of the file, or of want of memory
+abbrev pub IsStopAt : TreeFault → List ℕ → Stop → Type 0
+IsStopAt cause path stop = ((stop.cause ≡ cause) × (stop.path ≡ path) × (cause ≡ Memory → ⊥)) ⊎ IsOutOfMemory stop
+
+-- Why listing a tree and reading its tag files may be refused. Over an honest tree the cause is the device, the
+-- number of its files or want of memory.
+abbrev pub MayRefuseFacts : TreeState → TreeState → TreeFault → Type 0
+MayRefuseFacts old new Device = old.failures < new.failures
+MayRefuseFacts old new Special = old.failures < new.failures
+MayRefuseFacts old new Name = old.failures < new.failures
+MayRefuseFacts old new NotFound = ¬ (IsTrue old.honest)
+MayRefuseFacts old new TooMany = IsTrue old.honest → most_entries < old.entries
+MayRefuseFacts old new Changed = ¬ (IsTrue old.honest)
+MayRefuseFacts old new NoneOpen = ⊥
+MayRefuseFacts old new Memory = Unit {0}
+MayRefuseFacts old new Exists = ⊥
+
+-- the listing was refused: no file is named, and none was opened
+abbrev pub IsOfListing : TreeState → TreeState → Stop → Type 0
+IsOfListing old new stop = (stop.path ≡ []) × (new.openings ≡ old.openings) × MayRefuse ⊥ ⊥ old new stop.cause
+
+-- a file was refused: one that is wanted, and of an honest tree's bag
+abbrev pub IsOfFile : Options → TreeState → Stop → Type 0
+IsOfFile options old stop = IsWanted options stop.path × (IsTrue old.honest → HasFile old.bag stop.path)
+
+-- A stop tells the cause, and the file that was refused. It names none for want of memory, and where it was the listing
+-- that was refused.
+pub record MayStop (options : Options) (old new : TreeState) (stop : Stop) : Type 0 where
+  pub cause : MayRefuseFacts old new stop.cause
+  pub path : IsOutOfMemory stop ⊎ IsOfListing old new stop ⊎ IsOfFile options old stop
+  pub memory : stop.cause ≡ Memory → stop.path ≡ []

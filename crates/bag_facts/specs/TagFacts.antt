@@ -1,0 +1,77 @@
+-- What is known of one tag file is what its bytes say.
+use Rattle.std.specs.Prelude.{◌≡◌, ℕ, Bool, List, Option, None, Some, map}
+use Rattle.std.specs.List.Sorted.{IsStrictlySortedBy}
+use Rattle.std.specs.Ordering.{on}
+use Rattle.std.specs.Str.{is_utf8}
+use Rattle.bag_text.specs.Text.{text_cmp}
+use Rattle.bag_text.specs.Lines.{lines_of_file}
+use Rattle.bag_text.specs.Order.{IsListOf}
+use Rattle.bag_tags.specs.Declaration.{declared_version, declared_encoding, IsDeclarationFault}
+use Rattle.bag_tags.specs.LineFault.{AreFaults}
+use Rattle.bag_tags.specs.Manifest.{IsEntry, IsManifestFault}
+use Rattle.bag_tags.specs.TagName.{tag_path}
+use Rattle.bag_tags.specs.declared.declaration.Declaration.{Declaration}
+use Rattle.bag_tags.specs.declared.manifest.ManifestEntry.{ManifestEntry}
+use Rattle.bag_tags.specs.declared.tag_name.TagName.{TagName}
+use Rattle.bag_tags.specs.declared.tag_name.TagName.TheVariants as name
+use Rattle.bag_facts.specs.declared.tag_facts.Manifest.{Manifest}
+use Rattle.bag_facts.specs.declared.tag_facts.TagFacts.{TagFacts}
+use Rattle.bag_facts.specs.declared.tag_facts.TagFacts.TheVariants as facts
+use Rattle.bag_facts.specs.declared.tag_reader.TagBytes.{TagBytes}
+
+-- a declaration is what these bytes declare
+pub record IsDeclarationOf (bytes : List ℕ) (declaration : Declaration) : Type 0 where
+  pub version : declaration.version ≡ declared_version bytes
+  pub encoding : declaration.encoding ≡ declared_encoding bytes
+  pub faults : AreFaults (IsDeclarationFault bytes) declaration.faults
+
+-- what is known of a manifest is what its bytes say
+pub record IsManifestOf (bytes : List ℕ) (manifest : Manifest) : Type 0 where
+  pub text : manifest.is_text ≡ is_utf8 bytes
+  pub entries : IsListOf (on (λ e. e.path) text_cmp) (IsEntry manifest.kind manifest.alg (lines_of_file bytes)) manifest.entries
+  pub faults : AreFaults (IsManifestFault manifest.kind manifest.alg bytes) manifest.faults
+
+-- the tag file that it is
+abbrev pub name_of : TagFacts → TagName
+name_of (facts.Declaration declaration) = name.Declaration
+name_of (facts.Info is_text) = name.Info
+name_of (facts.Fetch is_text) = name.Fetch
+name_of (facts.Manifest manifest) = name.Manifest manifest.kind manifest.alg
+
+-- the path at which it stands
+abbrev pub path_of : TagFacts → List ℕ
+path_of tag = tag_path (name_of tag)
+
+-- the bytes say what is known
+abbrev pub Says : List ℕ → TagFacts → Type 0
+Says bytes (facts.Declaration declaration) = IsDeclarationOf bytes declaration
+Says bytes (facts.Info is_text) = is_text ≡ is_utf8 bytes
+Says bytes (facts.Fetch is_text) = is_text ≡ is_utf8 bytes
+Says bytes (facts.Manifest manifest) = IsManifestOf bytes manifest
+
+-- what is known of a tag file that was read is what its bytes say
+pub record IsParsed (file : TagBytes) (tag : TagFacts) : Type 0 where
+  pub name : name_of tag ≡ file.name
+  pub says : Says file.bytes.items tag
+
+-- whether it is UTF-8, but for the declaration, of which its faults tell
+abbrev pub text_test : TagFacts → Option Bool
+text_test (facts.Declaration declaration) = None
+text_test (facts.Info is_text) = Some is_text
+text_test (facts.Fetch is_text) = Some is_text
+text_test (facts.Manifest manifest) = Some manifest.is_text
+
+-- what was read of a file is what its bytes say, and nothing was read where it isn't there
+abbrev pub IsReadOf : {A : Type 0} → (List ℕ → A → Type 0) → Option (List ℕ) → Option A → Type 0
+IsReadOf IsOf None None = Unit {0}
+IsReadOf IsOf (Some bytes) (Some x) = IsOf bytes x
+IsReadOf IsOf None (Some x) = ⊥
+IsReadOf IsOf (Some bytes) None = ⊥
+
+-- the paths of entries
+abbrev pub entry_paths : List ManifestEntry → List (List ℕ)
+entry_paths entries = map (λ entry. entry.path) entries
+
+-- entries in the order of their paths, each path once
+abbrev pub AreByPath : List ManifestEntry → Type 0
+AreByPath entries = IsStrictlySortedBy (on (λ entry. entry.path) text_cmp) entries

@@ -1,0 +1,57 @@
+-- The tag files that are read (RFC 8493, 2.1 and 2.2).
+use Rattle.std.specs.Prelude.{◌≡◌, ◌≢◌, ◌++◌, ◌⊎◌, ◌∷◌, ℕ, List, [], All, Contains, map, IsTrue}
+use Rattle.std.specs.List.Sorted.{IsStrictlySortedBy}
+use Rattle.bag_text.specs.Text.{text_cmp}
+use Rattle.bag_text.specs.Order.{IsListOf}
+use Rattle.bag_tags.specs.TagName.{tag_path}
+use Rattle.bag_tags.specs.declared.tag_name.TagName.{TagName}
+use Rattle.bag_tags.specs.declared.tag_name.TagName.TheVariants.{Declaration}
+use Rattle.bag_tree.specs.Listing.{IsOrdered, IsListingOf}
+use Rattle.bag_tree.specs.Tree.{TreeState}
+use Rattle.bag_tree.specs.declared.listing.FileEntry.{FileEntry}
+use Rattle.bag_tree.specs.declared.listing.Listing.{Listing}
+use Rattle.bag_facts.specs.declared.options.Depth.TheVariants as depth_of
+use Rattle.bag_facts.specs.declared.options.Options.{Options}
+
+-- the options ask for a tag file: always for the declaration, and above the depth of the declaration for each
+abbrev pub Wants : Options → TagName → Type 0
+Wants options name = (name ≡ Declaration) ⊎ (options.depth ≢ depth_of.Declaration)
+
+-- a tag file that is read whole under the options
+abbrev pub IsWanted : Options → List ℕ → Type 0
+IsWanted options path = (name : TagName) × (tag_path name ≡ path) × Wants options name
+
+-- the paths of listed files
+abbrev pub paths_of : List FileEntry → List (List ℕ)
+paths_of files = map (λ entry. entry.path) files
+
+-- the wanted tag files among these files, in path order
+abbrev pub AreWanted : Options → List FileEntry → List (List ℕ) → Type 0
+AreWanted options files paths = IsListOf text_cmp (λ path. IsWanted options path × Contains (paths_of files) path) paths
+
+-- each wanted tag file among these files was opened once, in path order, and no other file
+abbrev pub OpensAll : Options → List FileEntry → TreeState → TreeState → Type 0
+OpensAll options files old new =
+    (paths : List (List ℕ)) × AreWanted options files paths × (new.openings ≡ old.openings ++ paths)
+
+-- the first of the wanted tag files among these files were opened, each once and in path order, and no other file
+abbrev pub OpensFirst : Options → List FileEntry → TreeState → TreeState → Type 0
+OpensFirst options files old new =
+    (paths : List (List ℕ)) × (more : List (List ℕ)) × AreWanted options files (paths ++ more)
+    × (new.openings ≡ old.openings ++ paths)
+
+-- files that are wanted were opened, each once at most and in path order, and no others
+abbrev pub OpensWanted : Options → TreeState → TreeState → Type 0
+OpensWanted options old new =
+    (paths : List (List ℕ)) × (new.openings ≡ old.openings ++ paths)
+    × IsStrictlySortedBy text_cmp paths × All (IsWanted options) paths
+
+-- the wanted tag files before this one were opened, each once and in path order, this one once at most, and no other file
+abbrev pub OpensUpTo : Options → List FileEntry → List ℕ → TreeState → TreeState → Type 0
+OpensUpTo options files path old new =
+    (before : List (List ℕ)) × (after : List (List ℕ)) × AreWanted options files (before ++ path ∷ after)
+    × ((new.openings ≡ old.openings ++ before) ⊎ (new.openings ≡ old.openings ++ (before ++ path ∷ [])))
+
+-- so it is for a listing that the tree gave, in an honest tree that of its bag
+abbrev pub ForListing : TreeState → (List FileEntry → Type 0) → Type 0
+ForListing old IsSo = (listing : Listing) × IsOrdered listing.files × (IsTrue old.honest → IsListingOf old.bag listing) × IsSo listing.files

@@ -1,0 +1,102 @@
+//! What is read of a bag.
+ghost use Rattle.std.specs.Prelude.{◌≡◌, ◌≢◌, ◌⊎◌, [], IsTrue, IfOk, IfErr, OnOk, OnErr, codes};
+ghost use Rattle.std.specs.Option.{option_copied};
+ghost use Rattle.bag_tree.specs.Bag.{Bag, file};
+ghost use Rattle.bag_tree.specs.Tree.{Keeps};
+ghost use Rattle.bag_facts.specs.Facts.{AreParsed};
+ghost use Rattle.bag_facts.specs.TagFacts.{IsReadOf, IsDeclarationOf};
+ghost use Rattle.bag_facts.specs.Wanted.{ForListing, OpensAll, OpensFirst, OpensUpTo, OpensWanted};
+ghost use Rattle.bag_facts.specs.Stops.{MayStop};
+
+use crate::tag_reader::{TagBytes, read_tag_files};
+use crate::{Options, TagFacts};
+use bag_tags::Declaration;
+use bag_text::Items;
+use bag_tree::{Listing, Stop, Tree, TreeFault};
+use std::alloc::{AllocError, Global};
+
+/// What the checks need to know of a bag: its files, and its tag files, parsed once.
+#[derive(Debug, Drop)]
+pub struct Facts {
+    /// What the facts were read for.
+    pub options: Options,
+    /// The files of the bag.
+    pub listing: Listing,
+    /// Each tag file that the options ask for and that is there, in the order of their paths.
+    pub tags: Items<TagFacts>,
+}
+
+impl Facts {
+    ghost use Rattle.bag_facts.specs.Facts.{IsFactsOf};
+
+    /// Lists the tree, and reads its tag files whole, in path order and each once: at every depth `bagit.txt`, and at
+    /// the depths above `Declaration` also `bag-info.txt`, `fetch.txt` and the manifests of supported algorithms.
+    ///
+    /// The stop of a refusal names the file that was refused; it names none for the listing and for want of memory. The
+    /// facts are those of an honest tree's bag. Of any other tree they are those of some bag that has the listed files.
+    pub fn read<T: Tree>(alloc: Global, tree: &mut T, options: Options) -> Result<Facts, Stop>
+        ensures keeps { Keeps (T.state tree.old) (T.state tree.new) }
+        ensures calm { OnOk result ((T.state tree.new).failures ≡ (T.state tree.old).failures) }
+        ensures opens { OpensWanted options (T.state tree.old) (T.state tree.new) }
+        ensures opened { IfOk result (λ facts. OpensAll options facts.listing.files (T.state tree.old) (T.state tree.new)) }
+        ensures opened_first { OnErr result (((T.state tree.new).openings ≡ (T.state tree.old).openings)
+            ⊎ ForListing (T.state tree.old) (λ files. OpensFirst options files (T.state tree.old) (T.state tree.new))) }
+        ensures refused { IfErr result (λ stop. stop.path ≢ []
+            → ForListing (T.state tree.old) (λ files. OpensUpTo options files stop.path (T.state tree.old) (T.state tree.new))) }
+        ensures options { IfOk result (λ facts. facts.options ≡ options) }
+        ensures facts { IfOk result (λ facts. IsTrue (T.state tree.old).honest → IsFactsOf (T.state tree.old).bag facts) }
+        ensures seen { IfOk result (λ facts. (bag : Bag) × IsFactsOf bag facts) }
+        ensures stop { IfErr result (MayStop options (T.state tree.old) (T.state tree.new)) }
+    {
+        let listing = match tree.list() {
+            Ok(listing) => listing,
+            Err(cause) => return Err(Stop::without_path(alloc, cause)),
+        };
+        let read = read_tag_files(alloc, tree, listing.files.as_slice(), options)?;
+        match Facts::of(alloc, options, listing, read) {
+            Ok(facts) => Ok(facts),
+            Err(_) => Err(Stop::without_path(alloc, TreeFault::Memory)),
+        }
+    }
+
+    /// What the bytes that were read say.
+    fn of(
+        alloc: Global,
+        options: Options,
+        listing: Listing,
+        read: Vec<TagBytes>,
+    ) -> Result<Facts, AllocError>
+        ensures options { IfOk result (λ facts. facts.options ≡ options) }
+        ensures listing { IfOk result (λ facts. facts.listing ≡ listing) }
+        ensures tags { IfOk result (λ facts. AreParsed read.items facts.tags) }
+    {
+        Ok(Facts {
+            options,
+            listing,
+            tags: parse_all(alloc, read)?,
+        })
+    }
+
+    /// What `bagit.txt` declares, where it is there.
+    pub fn declaration(&self) -> Option<&Declaration>
+        ensures { (bag : Bag) → IsFactsOf bag self.now → IsReadOf IsDeclarationOf (file bag (codes "bagit.txt")) (option_copied result) }
+    {
+        for tag in self.tags.as_slice() {
+            if let TagFacts::Declaration(declaration) = tag {
+                return Some(declaration);
+            }
+        }
+        None
+    }
+}
+
+/// What the bytes of each tag file say, in their order.
+fn parse_all(alloc: Global, read: Vec<TagBytes>) -> Result<Items<TagFacts>, AllocError>
+    ensures { IfOk result (AreParsed read.items) }
+{
+    let mut tags = Items::new(alloc);
+    for file in read {
+        tags.push(TagFacts::parse(alloc, &file)?)?;
+    }
+    Ok(tags)
+}

@@ -1,0 +1,103 @@
+//! Reads the tag files of a listing.
+ghost use Rattle.std.specs.Prelude.{◌≡◌, ◌≢◌, ◌++◌, [], IsTrue, IfOk, IfErr, OnOk, OnErr, MatchOption, Contains, map};
+ghost use Rattle.bag_tags.specs.TagName.{tag_path};
+ghost use Rattle.bag_tree.specs.Listing.{IsOrdered};
+ghost use Rattle.bag_tree.specs.Tree.{Keeps, IsEntryOf, OpensAtMost};
+ghost use Rattle.bag_facts.specs.Stops.{IsStopAt};
+ghost use Rattle.bag_facts.specs.TagReader.{AreListed, IsWhole, ReadsWanted, StopsReading, read_path};
+ghost use Rattle.bag_facts.specs.Wanted.{Wants, IsWanted, AreWanted, OpensFirst, OpensUpTo};
+ghost use Rattle.bag_facts.specs.declared.tag_reader.TagBytes.{TagBytes};
+
+use crate::Options;
+use bag_tags::TagName;
+use bag_text::Text;
+use bag_tree::{FileEntry, Stop, Tree, TreeFault, read_whole};
+use std::alloc::Global;
+
+/// The bytes of a tag file that is there.
+#[derive(Drop)]
+pub(crate) struct TagBytes {
+    pub(crate) name: TagName,
+    pub(crate) bytes: Vec<u8>,
+}
+
+/// Reads each wanted tag file among the listed files whole, in their order.
+pub(crate) fn read_tag_files<T: Tree>(
+    alloc: Global,
+    tree: &mut T,
+    files: &[FileEntry],
+    options: Options,
+) -> Result<Vec<TagBytes>, Stop>
+    requires { IsOrdered files.now }
+    ensures keeps { Keeps (T.state tree.old) (T.state tree.new) }
+    ensures calm { OnOk result ((T.state tree.new).failures ≡ (T.state tree.old).failures) }
+    ensures opened { IfOk result (λ read. (T.state tree.new).openings ≡ (T.state tree.old).openings ++ map read_path read.items) }
+    ensures wanted { IfOk result (λ read. AreWanted options files.now (map read_path read.items)) }
+    ensures whole { IfOk result (λ read. (file : TagBytes) → Contains read.items file → IsWhole files.now (T.state tree.old) file) }
+    ensures opened_first { OnErr result (OpensFirst options files.now (T.state tree.old) (T.state tree.new)) }
+    ensures refused { IfErr result (λ stop. stop.path ≢ [] → OpensUpTo options files.now stop.path (T.state tree.old) (T.state tree.new)) }
+    ensures stop { IfErr result (λ stop. (IsTrue (T.state tree.old).honest → AreListed (T.state tree.old).bag files.now)
+        → StopsReading options (T.state tree.old) (T.state tree.new) stop) }
+{
+    let mut read = Vec::new(alloc);
+    for entry in files {
+        let Some(file) = read_wanted(alloc, tree, entry, options)? else {
+            continue;
+        };
+        if read.push(file).is_err() {
+            return Err(Stop::without_path(alloc, TreeFault::Memory));
+        }
+    }
+    Ok(read)
+}
+
+/// Reads a listed file whole, where it is a wanted tag file.
+fn read_wanted<T: Tree>(
+    alloc: Global,
+    tree: &mut T,
+    entry: &FileEntry,
+    options: Options,
+) -> Result<Option<TagBytes>, Stop>
+    ensures keeps { Keeps (T.state tree.old) (T.state tree.new) }
+    ensures calm { OnOk result ((T.state tree.new).failures ≡ (T.state tree.old).failures) }
+    ensures read { IfOk result (ReadsWanted options entry.now (T.state tree.old) (T.state tree.new)) }
+    ensures opens { OnErr result (IsWanted options entry.now.path × OpensAtMost (T.state tree.old) (T.state tree.new) entry.now.path) }
+    ensures refused { IfErr result (λ stop. stop.path ≢ [] → stop.path ≡ entry.now.path) }
+    ensures stop { IfErr result (λ stop. (IsTrue (T.state tree.old).honest → IsEntryOf (T.state tree.old).bag entry.now)
+        → StopsReading options (T.state tree.old) (T.state tree.new) stop) }
+{
+    let Some(name) = wanted_at(options, entry.path.as_str()) else {
+        return Ok(None);
+    };
+    match read_whole(alloc, tree, entry) {
+        Ok(bytes) => Ok(Some(TagBytes { name, bytes })),
+        Err(cause) => Err(stop_at(alloc, cause, &entry.path)),
+    }
+}
+
+/// The wanted tag file that stands at a path.
+fn wanted_at(options: Options, path: &str) -> Option<TagName>
+    ensures { MatchOption result (¬ (IsWanted options path.now)) (λ name. (tag_path name ≡ path.now) × Wants options name) }
+{
+    let Some(name) = TagName::at(path) else {
+        return None;
+    };
+    if options.wants(name) {
+        Some(name)
+    } else {
+        None
+    }
+}
+
+/// A refusal of a file. Where there is no memory for its path, that is the cause.
+fn stop_at(alloc: Global, cause: TreeFault, path: &Text) -> Stop
+    ensures { IsStopAt cause path.now result }
+{
+    if cause == TreeFault::Memory {
+        return Stop::without_path(alloc, cause);
+    }
+    match path.copy(alloc) {
+        Ok(path) => Stop { cause, path },
+        Err(_) => Stop::without_path(alloc, TreeFault::Memory),
+    }
+}

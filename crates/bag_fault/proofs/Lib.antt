@@ -1,0 +1,12 @@
+pub mod Algs
+pub mod Ascending
+pub mod Bytes
+pub mod Codes
+pub mod Cut
+pub mod Escapes
+pub mod FieldPieces
+pub mod Lines
+pub mod Ordered
+pub mod Parts
+pub mod Pieces
+pub mod Spaces

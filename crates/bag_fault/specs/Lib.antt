@@ -1,0 +1,3 @@
+pub mod FaultLine
+pub mod FaultOrder
+pub mod LineFields

@@ -1,0 +1,82 @@
+-- A listing of files in memory.
+use Rattle.std.proofs.Common.{◌≡◌, ℕ, List, [], ◌∷◌, length, Bool, true, false, cond, ◌||◌, Option, Some, is_some, IsTrue, All, arith, refl, ap, sym, ◌∙◌, subst, map}
+use Rattle.std.specs.Option.{option_map}
+use Rattle.std.specs.List.{list_any}
+use Rattle.std.specs.List.Sorted.{IsStrictlySortedBy}
+use Rattle.std.specs.Map.{lookup}
+use Rattle.std.specs.BTreeMap.{is_at}
+use Rattle.std.specs.Str.{bytes_eq}
+use Rattle.std.specs.FinMap.{get, find, from_entries, get-from_entries}
+use Rattle.bag_tree.specs.declared.listing.FileEntry.{FileEntry}
+use Rattle.std.specs.FinSet as set
+use Rattle.std.specs.Cmp.{eq_by_cmp_equiv}
+use Rattle.std.specs.Cmp.Lexicographic.{nat_list_cmp_total}
+use Rattle.std.specs.Ordering.{nat_cmp, is_eq, eq_by_cmp}
+use Rattle.std.proofs.lemmas.Bool.{and_parts}
+use Rattle.std.proofs.lemmas.List.Elements.{All-nil, All-cons}
+use Rattle.std.proofs.lemmas.Cmp.{same_from_slice_cmp}
+use Rattle.std.proofs.lemmas.Bool.Decides.{nat_tests}
+use Rattle.bag_text.specs.Text.{text_cmp}
+use Rattle.bag_text.specs.Path.{is_path}
+use Rattle.bag_tree.specs.Listing.{IsOrdered, size_at, entry_at}
+use Rattle.bag_memory.specs.Memory.{listed, bag_of, PassesAsBag}
+use Rattle.bag_tree.proofs.SameText.{exact_texts, same_test, text_itself}
+use Rattle.bag_memory.proofs.MemoryFiles.{file_at}
+
+paths_listed : (es : List (List ℕ × List ℕ)) → map (λ entry. entry.path) (listed es) ≡ map (λ e. e.0) es
+paths_listed [] = refl
+paths_listed (e ∷ es) = ap (λ paths. e.0 ∷ paths) (paths_listed es)
+
+pub listed_ascending : (es : List (List ℕ × List ℕ)) → IsStrictlySortedBy text_cmp (map (λ e. e.0) es) → IsStrictlySortedBy text_cmp (map (λ entry. entry.path) (listed es))
+listed_ascending es ascending = subst (IsStrictlySortedBy text_cmp) (sym (paths_listed es)) ascending
+
+-- each listed path is a path
+listed_paths : (es : List (List ℕ × List ℕ)) → ((path : List ℕ) → is_some (find text_cmp path es) ≡ true → is_path path ≡ true) → All (λ entry. IsTrue (is_path entry.path)) (listed es)
+listed_paths [] is = All-nil (λ (entry : FileEntry). IsTrue (is_path entry.path))
+listed_paths (e ∷ es) is = All-cons (λ (entry : FileEntry). IsTrue (is_path entry.path)) (record { path = e.0; size = length e.1 }) (listed es)
+    (is e.0 (ap (λ b. is_some (cond b (Some e.1) (find text_cmp e.0 es))) (text_itself e.0)))
+    (listed_paths es (λ path has. is path (kept (eq_by_cmp text_cmp path e.0) e.1 (find text_cmp path es) has)))
+  where
+    kept : (b : Bool) (x : List ℕ) (o : Option (List ℕ)) → is_some o ≡ true → is_some (cond b (Some x) o) ≡ true
+    kept true x o has = refl
+    kept false x o has = has
+
+pub listed_is_ordered : (es : List (List ℕ × List ℕ)) (names : List (List ℕ)) → IsStrictlySortedBy text_cmp (map (λ e. e.0) es) → PassesAsBag (bag_of es names) → IsOrdered (listed es)
+listed_is_ordered es names ascending passes = record {
+  ascending = listed_ascending es ascending;
+  paths = listed_paths es (λ path has. (and_parts _ _ (passes.paths path (ap is_some (get-from_entries nat_list_cmp_total es path) ∙ has))).0);
+}
+
+one_more : (b : Bool) (e : List ℕ × List ℕ) (rest : Option FileEntry) (others : Option (List ℕ)) → option_map (λ x. x.size) rest ≡ option_map length others
+    → option_map (λ (x : FileEntry). x.size) (cond b (Some (record { path = e.0; size = length e.1 })) rest) ≡ option_map length (cond b (Some e.1) others)
+one_more true e rest others h = refl
+one_more false e rest others h = h
+
+listed_size : (es : List (List ℕ × List ℕ)) (q : List ℕ) → size_at (listed es) q ≡ option_map length (lookup (is_at (text_cmp q)) es)
+listed_size [] q = refl
+listed_size (e ∷ es) q =
+    ap (λ b. option_map (λ (x : FileEntry). x.size) (cond b (Some (record { path = e.0; size = length e.1 })) (entry_at (listed es) q))) (same_test e.0 q)
+    ∙ one_more (is_at (text_cmp q) e.0) e (entry_at (listed es) q) (lookup (is_at (text_cmp q)) es) (listed_size es q)
+
+pub listed_files : (es : List (List ℕ × List ℕ)) (q : List ℕ) → size_at (listed es) q ≡ option_map length (get (from_entries {R = text_cmp} es) q)
+listed_files es q = listed_size es q ∙ ap (option_map length) (sym (file_at es q))
+
+any_same : (names : List (List ℕ)) (q : List ℕ) → list_any (λ name. bytes_eq name q) names ≡ list_any (eq_by_cmp text_cmp q) names
+any_same [] q = refl
+any_same (name ∷ names) q = ap (λ b. b || list_any (λ x. bytes_eq x q) names) (same_test name q) ∙ ap (λ b. is_at (text_cmp q) name || b) (any_same names q)
+
+-- whether a folder is there
+pub folder_listed : (names : List (List ℕ)) (q : List ℕ) → list_any (λ name. bytes_eq name q) names ≡ set.contains (set.from_list {R = text_cmp} names) q
+folder_listed names q = any_same names q ∙ sym (set.contains-from_list nat_list_cmp_total names q)
+
+cond_or : (b c : Bool) → cond b true c ≡ (b || c)
+cond_or true c = refl
+cond_or false c = refl
+
+-- names that differ by one make sets that differ by it
+pub one_folder : (es fs : List (List ℕ)) (k : List ℕ) → ((q : List ℕ) → list_any (eq_by_cmp text_cmp q) fs ≡ cond (is_at (text_cmp k) q) true (list_any (eq_by_cmp text_cmp q) es))
+    → set.from_list {R = text_cmp} fs ≡ set.insert (set.from_list es) k
+one_folder es fs k h = set.same_set nat_list_cmp_total exact_texts _ _ (λ q.
+    set.contains-from_list nat_list_cmp_total fs q ∙ h q ∙ cond_or (is_at (text_cmp k) q) (list_any (eq_by_cmp text_cmp q) es)
+    ∙ ap (λ b. b || list_any (eq_by_cmp text_cmp q) es) ((eq_by_cmp_equiv nat_list_cmp_total).symm k q)
+    ∙ sym (set.contains-insert nat_list_cmp_total (set.from_list es) k q ∙ ap (λ b. eq_by_cmp text_cmp q k || b) (set.contains-from_list nat_list_cmp_total es q)))

@@ -1,0 +1,88 @@
+-- The bag of a tree in memory.
+use Rattle.std.specs.Prelude.{ℕ, ◌≡◌, ◌+◌, ◌&&◌, Bool, true, List, length, map, Option, Some, None, drop, nat_lt, if◌then◌else◌}
+use Rattle.std.specs.List.{list_all}
+use Rattle.std.specs.Option.{option_map}
+use Rattle.std.specs.Str.{is_utf8}
+use Rattle.std.specs.FinMap as fin
+use Rattle.std.specs.FinSet as set
+use Rattle.bag_text.specs.Text.{text_cmp}
+use Rattle.bag_text.specs.Path.{components, first_component, is_path, is_base_name, under}
+use Rattle.bag_tree.specs.Bag.{Bag, file, has_file, has_folder}
+use Rattle.bag_tree.specs.Tree.{TreeState}
+use Rattle.bag_tree.specs.declared.listing.FileEntry.{FileEntry}
+
+-- the bag with no files and no folders
+abbrev pub empty_bag : Bag
+empty_bag = record { files = fin.empty; folders = set.empty }
+
+-- a path of two or more components, which stands in a folder of the base folder
+abbrev pub is_in_folder : List ℕ → Bool
+is_in_folder path = nat_lt 1 (length (components path))
+
+-- the folders, with the one that the path stands in
+abbrev pub folders_for : set.FinSet text_cmp → List ℕ → set.FinSet text_cmp
+folders_for folders path = if is_in_folder path then set.insert folders (first_component path) else folders
+
+-- the bag with a file in place of what was at the path, and with the folder that it stands in
+abbrev pub with_file : Bag → List ℕ → List ℕ → Bag
+with_file bag path bytes = record { files = fin.insert bag.files path bytes; folders = folders_for bag.folders path }
+
+-- the bag with a folder of the base folder
+abbrev pub with_folder : Bag → List ℕ → Bag
+with_folder bag name = record { files = bag.files; folders = set.insert bag.folders name }
+
+-- a tree in memory is honest and never fails, and has the files and the folders of its bag
+abbrev pub memory_state : Bag → List (List ℕ) → Option (List ℕ) → TreeState
+memory_state bag openings rest = record {
+  bag = bag;
+  honest = true;
+  entries = fin.len bag.files + set.len bag.folders;
+  failures = 0;
+  openings = openings;
+  rest = rest;
+}
+
+-- files by their paths
+abbrev pub file_map : List (List ℕ × List ℕ) → fin.FinMap text_cmp (List ℕ)
+file_map files = fin.from_entries files
+
+-- the folders of these names
+abbrev pub folder_set : List (List ℕ) → set.FinSet text_cmp
+folder_set names = set.from_list names
+
+-- the bag of files by their paths, and of the names of its folders
+abbrev pub bag_of : List (List ℕ × List ℕ) → List (List ℕ) → Bag
+bag_of files names = record { files = file_map files; folders = folder_set names }
+
+-- the folders without one that was added
+abbrev pub without : set.FinSet text_cmp → Option (List ℕ) → set.FinSet text_cmp
+without folders None = folders
+without folders (Some name) = set.remove folders name
+
+-- each file with its size
+abbrev pub listed : List (List ℕ × List ℕ) → List FileEntry
+listed files = map (λ e. record { path = e.0; size = length e.1 }) files
+
+-- what follows the part of the open file that was read
+abbrev pub rest_of : Bag → Option (List ℕ) → ℕ → Option (List ℕ)
+rest_of bag None at = None
+rest_of bag (Some path) at = option_map (drop at) (file bag path)
+
+-- a path in UTF-8
+abbrev pub is_text_path : List ℕ → Bool
+is_text_path path = is_path path && is_utf8 path
+
+-- a name in the base folder, in UTF-8
+abbrev pub is_text_name : List ℕ → Bool
+is_text_name name = is_base_name name && is_utf8 name
+
+-- numbers below 256
+abbrev pub are_bytes : List ℕ → Bool
+are_bytes content = list_all (λ b. nat_lt b 256) content
+
+-- what `IsBag` says, by tests, so that it has at most one proof
+pub record PassesAsBag (bag : Bag) : Type 0 where
+  pub paths : (path : List ℕ) → has_file bag path ≡ true → is_text_path path ≡ true
+  pub names : (name : List ℕ) → has_folder bag name ≡ true → is_text_name name ≡ true
+  pub parents : (top rest : List ℕ) → is_base_name top ≡ true → has_file bag (under top rest) ≡ true → has_folder bag top ≡ true
+  pub bytes : (path content : List ℕ) → file bag path ≡ Some content → are_bytes content ≡ true

@@ -1,0 +1,14 @@
+//! Trees in memory.
+//!
+//! ```
+//! let mut tree = MemoryTree::new(alloc);
+//! tree.put_file("bagit.txt", declaration)?;
+//! tree.put_folder("data")?;
+//! ```
+#![tactic(auto)]
+
+mod file_map;
+mod folder_set;
+mod memory_tree;
+
+pub use memory_tree::MemoryTree;

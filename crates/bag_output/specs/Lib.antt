@@ -1,0 +1,4 @@
+pub mod Closing
+pub mod Ending
+pub mod Write
+pub mod Writer

@@ -1,0 +1,5 @@
+pub mod ByPath
+pub mod DeclarationFaults
+pub mod InFile
+pub mod ManifestFaults
+pub mod PartFaults

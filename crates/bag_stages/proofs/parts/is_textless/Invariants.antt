@@ -1,0 +1,6 @@
+use Rattle.std.proofs.Common.{take}
+use Rattle.bag_stages.specs.FileFaults.{HasTextless}
+use Rattle.bag_stages.proofs.parts.is_textless.Given as goal
+
+abbrev pub invariant-loop-tag : goal.invariant-loop-tag
+invariant-loop-tag l = HasTextless (take l.tag-index l.tags) l.name → ⊥

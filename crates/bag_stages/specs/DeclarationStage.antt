@@ -1,0 +1,37 @@
+-- Stage 1: what is a fault of the declaration (RFC 8493, 2.1.1).
+use Rattle.std.specs.Prelude.{◌≡◌, [], None}
+use Rattle.bag_text.specs.Code.{stage}
+use Rattle.bag_text.specs.declared.code.Code.{Code}
+use Rattle.bag_text.specs.declared.code.Code.TheVariants.{NoDeclaration, DeclarationNotUtf8, DeclarationLineCount, DeclarationLine, VersionUnsupported, EncodingUnsupported}
+use Rattle.bag_tags.specs.Declaration.{IsDeclarationFault}
+use Rattle.bag_tree.specs.Bag.{Bag, LacksFile}
+use Rattle.bag_fault.specs.declared.fault.Fault.{Fault}
+use Rattle.bag_stages.specs.FaultFields.{At, InFile}
+use Rattle.bag_stages.specs.TagFiles.{bagit_txt}
+
+-- what a code says of a bag and the other fields of the fault
+module _ (bag : Bag) (f : Fault) where
+  -- this is wrong with the declaration
+  abbrev pub InDeclaration : Type 0
+  InDeclaration = InFile bag f bagit_txt None IsDeclarationFault
+
+  unfoldable pub DeclarationHolds : Code → Type 0
+  -- bagit.txt isn't there
+  DeclarationHolds NoDeclaration = At f bagit_txt None 0 [] × LacksFile bag bagit_txt
+  -- its bytes
+  DeclarationHolds DeclarationNotUtf8 = InDeclaration
+  DeclarationHolds DeclarationLineCount = InDeclaration
+  -- its two lines
+  DeclarationHolds DeclarationLine = InDeclaration
+  DeclarationHolds VersionUnsupported = InDeclaration
+  DeclarationHolds EncodingUnsupported = InDeclaration
+  -- codes of other stages
+  DeclarationHolds other = ⊥
+
+-- the fault is one of the bag's declaration: what its code says holds
+unfoldable pub IsOfDeclaration : Bag → Fault → Type 0
+IsOfDeclaration bag f = DeclarationHolds bag f f.code
+
+-- the law: these faults are of the first stage
+abbrev pub DeclarationFaultsAreOfStageOne : Type 0
+DeclarationFaultsAreOfStageOne = (bag : Bag) (f : Fault) → IsOfDeclaration bag f → stage f.code ≡ 1

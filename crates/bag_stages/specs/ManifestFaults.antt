@@ -1,0 +1,48 @@
+-- The faults of manifests, one manifest at a time.
+use Rattle.std.specs.Prelude.{ℕ, ◌≡◌, ◌⊎◌, true, List, Some, Contains}
+use Rattle.bag_text.specs.Code.{stage}
+use Rattle.bag_text.specs.declared.alg.Alg.{Alg}
+use Rattle.bag_text.specs.declared.code.Code.TheVariants.{PayloadManifestNotListed}
+use Rattle.bag_tags.specs.Manifest.{IsManifestFault}
+use Rattle.bag_tags.specs.ManifestName.{manifest_name, is_alg_text}
+use Rattle.bag_tags.specs.declared.kind.Kind.{Kind}
+use Rattle.bag_tags.specs.declared.kind.Kind.TheVariants.{Payload, Tag}
+use Rattle.bag_tags.specs.declared.manifest.ManifestEntry.{ManifestEntry}
+use Rattle.bag_tree.specs.Bag.{Bag}
+use Rattle.bag_fault.specs.declared.fault.Fault.{Fault}
+use Rattle.bag_facts.specs.TagFacts.{entry_paths}
+use Rattle.bag_stages.specs.FaultFields.{At, InFile}
+use Rattle.bag_stages.specs.TagFiles.{manifest_of, HasManifest, HasSupported, Names}
+
+-- the fault that the tag manifest at a path doesn't name a payload manifest
+abbrev pub unnamed : List ℕ → Alg → List ℕ → Fault
+unnamed path alg file = record { code = PayloadManifestNotListed; path = path; alg = Some alg; line = 0; detail = file }
+
+-- a payload manifest, of any algorithm's name, that is at no entry's path
+abbrev pub IsUnnamed : List ManifestEntry → List ℕ → Type 0
+IsUnnamed entries file =
+    ((other : List ℕ) × (is_alg_text other ≡ true) × (file ≡ manifest_name Payload other)) × ¬ (Contains (entry_paths entries) file)
+
+-- that fault of a payload manifest that is at no entry's path
+abbrev pub IsUnnamedFault : List ℕ → Alg → List ManifestEntry → Fault → Type 0
+IsUnnamedFault path alg entries f = (f ≡ unnamed path alg f.detail) × IsUnnamed entries f.detail
+
+-- that fault of a file among these
+abbrev pub IsUnnamedAmong : List ℕ → Alg → List ManifestEntry → List (List ℕ) → Fault → Type 0
+IsUnnamedAmong path alg entries files f = Contains files f.detail × IsUnnamedFault path alg entries f
+
+-- a tag manifest names the payload manifests that are there, and a payload manifest needs to name none
+abbrev pub IsUnlisted : Bag → Kind → Alg → Fault → Type 0
+IsUnlisted bag Payload alg f = ⊥
+IsUnlisted bag Tag alg f =
+    (f.code ≡ PayloadManifestNotListed)
+    × ((other : List ℕ) × At f (manifest_of Tag alg) (Some alg) 0 (manifest_name Payload other)
+    × HasSupported bag Tag alg × HasManifest bag Payload other × ¬ (Names bag Tag alg (manifest_name Payload other)))
+
+-- a fault of a line of a manifest
+abbrev pub IsLineFault : Bag → Kind → Alg → Fault → Type 0
+IsLineFault bag kind alg f = InFile bag f (manifest_of kind alg) (Some alg) (IsManifestFault kind alg) × (stage f.code ≡ 5)
+
+-- a fault of one manifest
+abbrev pub IsOfManifest : Bag → Kind → Alg → Fault → Type 0
+IsOfManifest bag kind alg f = IsUnlisted bag kind alg f ⊎ IsLineFault bag kind alg f

@@ -1,0 +1,46 @@
+-- Stage 5: what is a fault of the manifests (RFC 8493, 2.1.3 and 2.2.1), where all but the digests is looked at.
+use Rattle.std.specs.Prelude.{ℕ, ◌≡◌, List, Some}
+use Rattle.bag_text.specs.Code.{stage}
+use Rattle.bag_text.specs.declared.alg.Alg.{Alg}
+use Rattle.bag_text.specs.declared.code.Code.{Code}
+use Rattle.bag_text.specs.declared.code.Code.TheVariants.{ManifestLine, DigestLength, ManifestEscape, ManifestUnsafePath, ManifestOutsidePayload, TagmanifestNamesPayload, TagmanifestNamesTagmanifest, NamedAgain, PayloadManifestNotListed}
+use Rattle.bag_tags.specs.Manifest.{IsManifestFault}
+use Rattle.bag_tags.specs.ManifestName.{manifest_name}
+use Rattle.bag_tags.specs.declared.kind.Kind.{Kind}
+use Rattle.bag_tags.specs.declared.kind.Kind.TheVariants.{Payload, Tag}
+use Rattle.bag_tree.specs.Bag.{Bag}
+use Rattle.bag_fault.specs.declared.fault.Fault.{Fault}
+use Rattle.bag_stages.specs.FaultFields.{At, InFile}
+use Rattle.bag_stages.specs.TagFiles.{manifest_of, HasManifest, HasSupported, Names}
+
+-- what a code says of a bag and the other fields of the fault
+module _ (bag : Bag) (f : Fault) where
+  -- this is wrong with a line of a manifest
+  abbrev pub InManifest : Type 0
+  InManifest = (kind : Kind) × (alg : Alg) × InFile bag f (manifest_of kind alg) (Some alg) (IsManifestFault kind alg)
+
+  unfoldable pub ManifestHolds : Code → Type 0
+  -- the form of a line (2.1.3)
+  ManifestHolds ManifestLine = InManifest
+  ManifestHolds DigestLength = InManifest
+  ManifestHolds ManifestEscape = InManifest
+  -- the path in it (2.1.3 and 2.2.1)
+  ManifestHolds ManifestUnsafePath = InManifest
+  ManifestHolds ManifestOutsidePayload = InManifest
+  ManifestHolds TagmanifestNamesPayload = InManifest
+  ManifestHolds TagmanifestNamesTagmanifest = InManifest
+  ManifestHolds NamedAgain = InManifest
+  -- a tag manifest names the payload manifests that are there (2.2.1)
+  ManifestHolds PayloadManifestNotListed =
+      (alg : Alg) × (other : List ℕ) × At f (manifest_of Tag alg) (Some alg) 0 (manifest_name Payload other)
+      × HasSupported bag Tag alg × HasManifest bag Payload other × ¬ (Names bag Tag alg (manifest_name Payload other))
+  -- codes of other stages
+  ManifestHolds other = ⊥
+
+-- the fault is one of the bag's manifests: what its code says holds
+unfoldable pub IsOfManifests : Bag → Fault → Type 0
+IsOfManifests bag f = ManifestHolds bag f f.code
+
+-- the law: these faults are of the fifth stage
+abbrev pub ManifestFaultsAreOfStageFive : Type 0
+ManifestFaultsAreOfStageFive = (bag : Bag) (f : Fault) → IsOfManifests bag f → stage f.code ≡ 5

@@ -1,0 +1,37 @@
+-- Stage 2: what is a fault of a bag's parts (RFC 8493, 2.1, 2.3 and 2.4).
+use Rattle.std.specs.Prelude.{ℕ, ◌≡◌, false, List, [], None, codes}
+use Rattle.bag_text.specs.Alg.{alg_named}
+use Rattle.bag_text.specs.Code.{stage}
+use Rattle.bag_text.specs.declared.code.Code.{Code}
+use Rattle.bag_text.specs.declared.code.Code.TheVariants.{NoPayloadFolder, NoPayloadManifest, AlgorithmUnsupported, NotUtf8}
+use Rattle.bag_tags.specs.ManifestName.{manifest_name}
+use Rattle.bag_tags.specs.declared.kind.Kind.{Kind}
+use Rattle.bag_tags.specs.declared.kind.Kind.TheVariants.{Payload}
+use Rattle.bag_tree.specs.Bag.{Bag, has_folder}
+use Rattle.bag_fault.specs.declared.fault.Fault.{Fault}
+use Rattle.bag_stages.specs.FaultFields.{At}
+use Rattle.bag_stages.specs.TagFiles.{HasManifest, HasNoText}
+
+-- what a code says of a bag and the other fields of the fault
+module _ (bag : Bag) (f : Fault) where
+  unfoldable pub PartHolds : Code → Type 0
+  -- there is no folder data (2.1.2)
+  PartHolds NoPayloadFolder = At f [] None 0 [] × (has_folder bag (codes "data") ≡ false)
+  -- there is no payload manifest, of any algorithm (2.1.3)
+  PartHolds NoPayloadManifest = At f [] None 0 [] × ((alg : List ℕ) → ¬ (HasManifest bag Payload alg))
+  -- a manifest of an algorithm that isn't supported (2.4)
+  PartHolds AlgorithmUnsupported =
+      (kind : Kind) × (alg : List ℕ) × At f (manifest_name kind alg) None 0 alg
+      × HasManifest bag kind alg × (alg_named alg ≡ None)
+  -- a tag file that isn't UTF-8, but for the declaration (2.3)
+  PartHolds NotUtf8 = At f f.path None 0 [] × HasNoText bag f.path
+  -- codes of other stages
+  PartHolds other = ⊥
+
+-- the fault is one of the bag's parts: what its code says holds
+unfoldable pub IsOfParts : Bag → Fault → Type 0
+IsOfParts bag f = PartHolds bag f f.code
+
+-- the law: these faults are of the second stage
+abbrev pub PartFaultsAreOfStageTwo : Type 0
+PartFaultsAreOfStageTwo = (bag : Bag) (f : Fault) → IsOfParts bag f → stage f.code ≡ 2

@@ -1,0 +1,126 @@
+//! Stage 5: manifests.
+ghost use Rattle.std.specs.Prelude.{◌≡◌, ◌≢◌, [], IfOk, Some, map, if◌then◌else◌};
+ghost use Rattle.std.specs.List.Sorted.{IsStrictlySortedBy};
+ghost use Rattle.bag_text.specs.Order.{IsListOf, IsOnly};
+ghost use Rattle.bag_text.specs.Text.{text_cmp};
+ghost use Rattle.bag_tree.specs.Bag.{Bag};
+ghost use Rattle.bag_fault.specs.FaultOrder.{fault_cmp};
+ghost use Rattle.bag_facts.specs.Facts.{IsFactsOf, IsSaid};
+ghost use Rattle.bag_facts.specs.TagFacts.{AreByPath};
+ghost use Rattle.bag_facts.specs.TagReader.{AreListed};
+ghost use Rattle.bag_facts.specs.Wanted.{paths_of};
+ghost use Rattle.bag_facts.specs.declared.options.Depth.TheVariants.{Declaration};
+ghost use Rattle.bag_facts.specs.declared.tag_facts.TagFacts.TheVariants as known;
+ghost use Rattle.bag_stages.specs.ManifestFaults.{unnamed, IsUnnamedFault, IsUnnamedAmong, IsOfManifest};
+ghost use Rattle.bag_stages.specs.ManifestsStage.{IsOfManifests};
+ghost use Rattle.bag_stages.specs.FaultFields.{in_file};
+
+use crate::tag_file::faults_in_file;
+use bag_facts::{Facts, Manifest, TagFacts};
+use bag_fault::Fault;
+use bag_tags::{Kind, TagName, manifest_alg};
+use bag_text::{Code, Text};
+use bag_tree::FileEntry;
+use std::alloc::{AllocError, Global};
+
+/// The faults of manifests (RFC 8493, 2.1.3 and 2.2.1), of facts read for more than the declaration. Fails only where
+/// memory runs out.
+pub fn manifest_faults(alloc: Global, facts: &Facts) -> Result<Vec<Fault>, AllocError>
+    ensures { IfOk result (λ faults. (bag : Bag) → IsFactsOf bag facts.now → facts.now.options.depth ≢ Declaration
+        → IsListOf fault_cmp (IsOfManifests bag) faults.items) }
+{
+    let files = facts.listing.files.as_slice();
+    let mut faults = Vec::new(alloc);
+    for tag in facts.tags.as_slice() {
+        if let TagFacts::Manifest(manifest) = tag {
+            let mut of_manifest = faults_of(alloc, files, manifest)?;
+            faults.append(&mut of_manifest)?;
+        }
+    }
+    Ok(faults)
+}
+
+/// The faults of one manifest: what it doesn't name stands before the faults of its lines.
+fn faults_of(
+    alloc: Global,
+    files: &[FileEntry],
+    manifest: &Manifest,
+) -> Result<Vec<Fault>, AllocError>
+    ensures { IfOk result (λ faults. (bag : Bag) → AreListed bag files.now → IsStrictlySortedBy text_cmp (paths_of files.now)
+        → IsSaid bag (known.Manifest manifest.now) → IsListOf fault_cmp (IsOfManifest bag manifest.now.kind manifest.now.alg) faults.items) }
+{
+    let path = TagName::Manifest(manifest.kind, manifest.alg).path(alloc)?;
+    let mut of_lines = line_faults(alloc, &path, manifest)?;
+    match manifest.kind {
+        Kind::Payload => Ok(of_lines),
+        Kind::Tag => {
+            let mut faults = unnamed_faults(alloc, files, &path, manifest)?;
+            faults.append(&mut of_lines)?;
+            Ok(faults)
+        }
+    }
+}
+
+/// The faults of a manifest's lines. One that isn't UTF-8 has no lines.
+fn line_faults(alloc: Global, path: &Text, manifest: &Manifest) -> Result<Vec<Fault>, AllocError>
+    ensures { IfOk result (λ faults. faults.items ≡
+        (if manifest.now.is_text then map (in_file path.now (Some manifest.now.alg)) manifest.now.faults else [])) }
+{
+    if !manifest.is_text {
+        return Ok(Vec::new(alloc));
+    }
+    faults_in_file(alloc, path, Some(manifest.alg), manifest.faults.as_slice())
+}
+
+/// The listed payload manifests that a tag manifest doesn't name, each of any algorithm.
+fn unnamed_faults(
+    alloc: Global,
+    files: &[FileEntry],
+    path: &Text,
+    manifest: &Manifest,
+) -> Result<Vec<Fault>, AllocError>
+    ensures { IfOk result (λ faults. AreByPath manifest.now.entries → IsStrictlySortedBy text_cmp (paths_of files.now)
+        → IsListOf fault_cmp (IsUnnamedAmong path.now manifest.now.alg manifest.now.entries (paths_of files.now)) faults.items) }
+{
+    let mut faults = Vec::new(alloc);
+    for entry in files {
+        if let Some(fault) = unnamed_fault(alloc, path, manifest, &entry.path)? {
+            faults.push(fault)?;
+        }
+    }
+    Ok(faults)
+}
+
+/// The fault of a file that is a payload manifest, and isn't named.
+fn unnamed_fault(
+    alloc: Global,
+    path: &Text,
+    manifest: &Manifest,
+    file: &Text,
+) -> Result<Option<Fault>, AllocError>
+    ensures { IfOk result (λ fault. AreByPath manifest.now.entries
+        → IsOnly (λ f. (f.detail ≡ file.now) × IsUnnamedFault path.now manifest.now.alg manifest.now.entries f) fault) }
+{
+    if manifest_alg(Kind::Payload, file.as_str()).is_none() || manifest.names(file) {
+        return Ok(None);
+    }
+    Ok(Some(not_listed(alloc, path, manifest, file)?))
+}
+
+/// The fault that a tag manifest doesn't name a payload manifest.
+fn not_listed(
+    alloc: Global,
+    path: &Text,
+    manifest: &Manifest,
+    file: &Text,
+) -> Result<Fault, AllocError>
+    ensures { IfOk result (λ fault. fault ≡ unnamed path.now manifest.now.alg file.now) }
+{
+    Ok(Fault {
+        code: Code::PayloadManifestNotListed,
+        path: path.copy(alloc)?,
+        alg: Some(manifest.alg),
+        line: 0,
+        detail: file.copy(alloc)?,
+    })
+}

@@ -1,0 +1,60 @@
+//! Faults of one tag file: of its lines, and of it as a whole.
+ghost use Rattle.std.specs.Prelude.{◌≡◌, IfOk, map};
+ghost use Rattle.bag_stages.specs.FaultFields.{in_file, of_whole};
+
+use bag_fault::Fault;
+use bag_tags::LineFault;
+use bag_text::{Alg, Code, Text};
+use std::alloc::{AllocError, Global};
+
+/// The faults of a tag file's lines as faults of the bag, in their order.
+pub(crate) fn faults_in_file(
+    alloc: Global,
+    path: &Text,
+    alg: Option<Alg>,
+    faults: &[LineFault],
+) -> Result<Vec<Fault>, AllocError>
+    ensures { IfOk result (λ all. all.items ≡ map (in_file path.now alg) faults.now) }
+{
+    let mut all = Vec::with_capacity(alloc, faults.len())?;
+    for fault in faults {
+        all.push(fault_in_file(alloc, path, alg, fault)?)?;
+    }
+    Ok(all)
+}
+
+/// A fault of a tag file's line as a fault of the bag.
+fn fault_in_file(
+    alloc: Global,
+    path: &Text,
+    alg: Option<Alg>,
+    fault: &LineFault,
+) -> Result<Fault, AllocError>
+    ensures { IfOk result (λ one. one ≡ in_file path.now alg fault.now) }
+{
+    Ok(Fault {
+        code: fault.code,
+        path: path.copy(alloc)?,
+        alg,
+        line: fault.line,
+        detail: fault.detail.copy(alloc)?,
+    })
+}
+
+/// A fault of a whole file.
+pub(crate) fn whole_file(
+    alloc: Global,
+    code: Code,
+    path: &Text,
+    detail: &str,
+) -> Result<Fault, AllocError>
+    ensures { IfOk result (λ fault. fault ≡ of_whole code path.now detail.now) }
+{
+    Ok(Fault {
+        code,
+        path: path.copy(alloc)?,
+        alg: None,
+        line: 0,
+        detail: Text::from_str(alloc, detail)?,
+    })
+}

@@ -1,8 +1,0 @@
--- The path of what stands in a folder.
-use Rattle.std.specs.Prelude.{ℕ, List, [], ◌∷◌}
-use Rattle.bag_text.specs.Path.{under}
-
--- a name in a folder, where the empty folder is the base folder
-abbrev pub path_in : List ℕ → List ℕ → List ℕ
-path_in [] name = name
-path_in (c ∷ folder) name = under (c ∷ folder) name

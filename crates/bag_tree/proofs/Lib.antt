@@ -1,0 +1,3 @@
+pub mod ListingLaw
+pub mod Reading
+pub mod SameText

@@ -1,0 +1,77 @@
+-- An ordered listing of a bag is the list of its files.
+use Rattle.std.proofs.Common.{◌≡◌, ℕ, List, [], ◌∷◌, length, Bool, true, false, cond, ◌&&◌, Option, Some, refl, ap, sym, ◌∙◌, subst, map, is_lt}
+use Rattle.std.specs.Option.{option_map}
+use Rattle.std.specs.List.{AllByRecursion}
+use Rattle.std.specs.List.Sorted.{IsStrictlySortedBy}
+use Rattle.std.specs.FinMap.{find, is_sorted, entries_sorted, get-entries}
+use Rattle.std.specs.FinMap.Entries.{below_all, same_entries}
+use Rattle.std.specs.Ordering.{eq_by_cmp, is_lt}
+use Rattle.std.specs.declared.cmp.Ordering.TheVariants.{Less}
+use Rattle.std.specs.Cmp.Lexicographic.{nat_list_cmp_total}
+use Rattle.std.proofs.Math.Dec.{T}
+use Rattle.std.proofs.lemmas.Bool.{and_from}
+use Rattle.bag_text.specs.Text.{text_cmp}
+use Rattle.bag_tree.specs.Bag.{files_of}
+use Rattle.bag_tree.specs.Listing.{ListingsAreOfTheBag, size_at, entry_at}
+use Rattle.bag_tree.specs.declared.listing.FileEntry.{FileEntry}
+use Rattle.bag_tree.proofs.SameText.{exact_texts, same_test}
+
+abbrev pair_of : FileEntry → List ℕ × ℕ
+pair_of entry = (entry.path, entry.size)
+
+abbrev entry_of : List ℕ × ℕ → FileEntry
+entry_of e = record { path = e.0; size = e.1 }
+
+abbrev with_length : List ℕ × List ℕ → List ℕ × ℕ
+with_length e = (e.0, length e.1)
+
+below : (path : List ℕ) (files : List FileEntry) → AllByRecursion (λ y. text_cmp path y ≡ Less) (map (λ entry. entry.path) files) → below_all text_cmp path (map pair_of files) ≡ true
+below path [] h = refl
+below path (e ∷ files) h = and_from _ _ (ap is_lt h.0) (below path files h.1)
+
+pairs_sorted : (files : List FileEntry) → IsStrictlySortedBy text_cmp (map (λ entry. entry.path) files) → is_sorted text_cmp (map pair_of files) ≡ true
+unfolding IsStrictlySortedBy
+pairs_sorted [] s = refl
+pairs_sorted (e ∷ files) s = and_from _ _ (below e.path files s.0) (pairs_sorted files s.1)
+
+below-with_length : (path : List ℕ) (es : List (List ℕ × List ℕ)) → below_all text_cmp path (map with_length es) ≡ below_all text_cmp path es
+below-with_length path [] = refl
+below-with_length path (e ∷ es) = ap (λ b. is_lt (text_cmp path e.0) && b) (below-with_length path es)
+
+sorted-with_length : (es : List (List ℕ × List ℕ)) → is_sorted text_cmp (map with_length es) ≡ is_sorted text_cmp es
+sorted-with_length [] = refl
+sorted-with_length (e ∷ es) = ap (λ b. b && is_sorted text_cmp (map with_length es)) (below-with_length e.0 es) ∙ ap (λ b. below_all text_cmp e.0 es && b) (sorted-with_length es)
+
+map-cond : {A B : Type 0} (f : A → B) (b : Bool) (x : A) (o : Option A) → option_map f (cond b (Some x) o) ≡ cond b (Some (f x)) (option_map f o)
+map-cond f true x o = refl
+map-cond f false x o = refl
+
+find-pairs : (files : List FileEntry) (q : List ℕ) → find text_cmp q (map pair_of files) ≡ size_at files q
+find-pairs [] q = refl
+find-pairs (e ∷ files) q =
+    ap (cond (eq_by_cmp text_cmp q e.path) (Some e.size)) (find-pairs files q)
+    ∙ ap (λ b. cond b (Some e.size) (size_at files q)) (sym (same_test e.path q))
+    ∙ sym (map-cond (λ (entry : FileEntry). entry.size) _ e (entry_at files q))
+
+find-with_length : (es : List (List ℕ × List ℕ)) (q : List ℕ) → find text_cmp q (map with_length es) ≡ option_map length (find text_cmp q es)
+find-with_length [] q = refl
+find-with_length (e ∷ es) q =
+    ap (cond (eq_by_cmp text_cmp q e.0) (Some (length e.1))) (find-with_length es q)
+    ∙ sym (map-cond length (eq_by_cmp text_cmp q e.0) e.1 (find text_cmp q es))
+
+entries-pairs : (files : List FileEntry) → map entry_of (map pair_of files) ≡ files
+entries-pairs [] = refl
+entries-pairs (e ∷ files) = ap (λ others. e ∷ others) (entries-pairs files)
+
+entries-with_length : (es : List (List ℕ × List ℕ)) → map entry_of (map with_length es) ≡ map (λ e. record { path = e.0; size = length e.1 }) es
+entries-with_length [] = refl
+entries-with_length (e ∷ es) = ap (λ (others : List FileEntry). record { path = e.0; size = length e.1 } ∷ others) (entries-with_length es)
+
+pub listings_are_of_the_bag : ListingsAreOfTheBag
+listings_are_of_the_bag bag listing ordered is =
+    let es = files_of bag in
+    let left = subst T (sym (pairs_sorted listing.files ordered.ascending)) tt in
+    let right = subst T (sym (sorted-with_length es)) (entries_sorted bag.files) in
+    let pairs : map pair_of listing.files ≡ map with_length es = same_entries text_cmp nat_list_cmp_total exact_texts (map pair_of listing.files) (map with_length es) left right
+    (λ q. find-pairs listing.files q ∙ is.files q ∙ ap (option_map length) (get-entries bag.files q) ∙ sym (find-with_length es q)) in
+    sym (entries-pairs listing.files) ∙ ap (map entry_of) pairs ∙ entries-with_length es

@@ -1,0 +1,6 @@
+pub mod Bag
+pub mod Cause
+pub mod Listing
+pub mod Out
+pub mod Tree
+pub mod Whole

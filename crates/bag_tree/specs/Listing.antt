@@ -1,0 +1,35 @@
+-- What a listing of a bag says.
+use Rattle.std.specs.Prelude.{ℕ, ◌≡◌, List, length, map, Option, codes, IsTrue, All}
+use Rattle.std.specs.Option.{option_map}
+use Rattle.std.specs.List.{find}
+use Rattle.std.specs.List.Sorted.{IsStrictlySortedBy}
+use Rattle.std.specs.Str.{bytes_eq}
+use Rattle.bag_text.specs.Text.{text_cmp}
+use Rattle.bag_text.specs.Path.{is_path}
+use Rattle.bag_tree.specs.Bag.{Bag, file, files_of, has_folder}
+use Rattle.bag_tree.specs.declared.listing.FileEntry.{FileEntry}
+use Rattle.bag_tree.specs.declared.listing.Listing.{Listing}
+
+-- the entry of a path
+abbrev pub entry_at : List FileEntry → List ℕ → Option FileEntry
+entry_at files path = find (λ entry. bytes_eq entry.path path) files
+
+-- the size that a listing gives at a path
+abbrev pub size_at : List FileEntry → List ℕ → Option ℕ
+size_at files path = option_map (λ entry. entry.size) (entry_at files path)
+
+-- what every listing is, whatever the tree: its texts are paths, strictly ascending by their bytes
+pub record IsOrdered (files : List FileEntry) : Type 0 where
+  pub ascending : IsStrictlySortedBy text_cmp (map (λ entry. entry.path) files)
+  pub paths : All (λ entry. IsTrue (is_path entry.path)) files
+
+-- what listing an honest tree gives: the files of the bag with their lengths, and no others
+pub record IsListingOf (bag : Bag) (listing : Listing) : Type 0 where
+  pub files : (path : List ℕ) → size_at listing.files path ≡ option_map length (file bag path)
+  pub has_data : listing.has_data ≡ has_folder bag (codes "data")
+
+-- the law: an ordered listing of a bag is the bag's files in path order, with their lengths
+abbrev pub ListingsAreOfTheBag : Type 0
+ListingsAreOfTheBag =
+    (bag : Bag) (listing : Listing) → IsOrdered listing.files → IsListingOf bag listing
+    → listing.files ≡ map (λ e. record { path = e.0; size = length e.1 }) (files_of bag)

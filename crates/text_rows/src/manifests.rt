@@ -1,0 +1,153 @@
+//! What manifests name, as tables.
+use bag_tags::{Kind, ManifestEntry, Parsed, read_manifest};
+use bag_text::{Alg, Code};
+use std::alloc::Global;
+use std::test::Fail;
+
+const EMPTY_MD5: &str = "d41d8cd98f00b204e9800998ecf8427e";
+
+/// What a manifest says: each entry's line, digest and path, then each fault's code, line and detail.
+fn shown(alloc: Global, parsed: &Parsed<ManifestEntry>) -> Result<String, Fail> {
+    let mut text = String::new(alloc);
+    for entry in parsed.items.as_slice() {
+        let line = entry.line;
+        let digest = entry.digest.as_str();
+        let path = entry.path.as_str();
+        write!(text, "{line} {digest} {path}|")?;
+    }
+    for fault in parsed.faults.as_slice() {
+        let number = fault.code.number();
+        let line = fault.line;
+        let detail = fault.detail.as_str();
+        write!(text, "{number} {line} {detail}|")?;
+    }
+    Ok(text)
+}
+
+#[test]
+fn reads_lines_of_manifests(rt: HostRuntime) -> Result<(), Fail> {
+    let m = EMPTY_MD5;
+    let rows = [
+        (Kind::Payload, Alg::Md5, "# made by hand", "501 1 |"),
+        (Kind::Payload, Alg::Md5, " M data/a", "501 1 |"),
+        (Kind::Payload, Alg::Md5, "M", "501 1 |"),
+        (Kind::Payload, Alg::Md5, "M  ", "501 1 |"),
+        (Kind::Payload, Alg::Sha1, "M  data/a", "502 1 M|"),
+        (Kind::Payload, Alg::Md5, "M *./data/a", "1 M data/a|"),
+        (Kind::Payload, Alg::Md5, "M ./*data/a", "505 1 *data/a|"),
+        (Kind::Payload, Alg::Md5, "M ././data/a", "504 1 ./data/a|"),
+        (Kind::Payload, Alg::Md5, "M *", "504 1 |"),
+        (Kind::Payload, Alg::Md5, "M ./", "504 1 |"),
+        (Kind::Payload, Alg::Md5, "M  data/a  ", "1 M data/a  |"),
+        (Kind::Payload, Alg::Md5, "M \t data/a b", "1 M data/a b|"),
+        (Kind::Payload, Alg::Md5, "\u{FEFF}M  data/a", "1 M data/a|"),
+        (
+            Kind::Payload,
+            Alg::Md5,
+            "\u{FEFF}\u{FEFF}M  data/a",
+            "501 1 |",
+        ),
+        (
+            Kind::Payload,
+            Alg::Md5,
+            "M  data/a%0Ab%25",
+            "1 M data/a\nb%|",
+        ),
+        (Kind::Payload, Alg::Md5, "M  data/a%0d", "1 M data/a\r|"),
+        (Kind::Payload, Alg::Md5, "M  data/%", "503 1 data/%|"),
+        (
+            Kind::Payload,
+            Alg::Md5,
+            "M data/%41\nM data/../x\nM /etc/x\nM data\n",
+            "503 1 data/%41|504 2 data/../x|504 3 /etc/x|505 4 data|",
+        ),
+        (
+            Kind::Payload,
+            Alg::Md5,
+            "M  data/a\n0cc175b9c0f1b6a831c399e269772661  data/a\nM  data/a\n",
+            "1 M data/a|508 2 data/a|508 3 data/a|",
+        ),
+        (
+            Kind::Payload,
+            Alg::Md5,
+            "M data/b\r\rM data/a\r\n \t\nM ./data/b\nM data/%25\rM *data/%25",
+            "1 M data/b|3 M data/a|6 M data/%|508 5 data/b|508 7 data/%|",
+        ),
+        (
+            Kind::Tag,
+            Alg::Md5,
+            "M data/a\nM tagmanifest-sha1.txt\nM notes.txt\nM manifest-md5.txt\n",
+            "3 M notes.txt|4 M manifest-md5.txt|506 1 data/a|507 2 tagmanifest-sha1.txt|",
+        ),
+        (Kind::Payload, Alg::Md5, "", ""),
+    ];
+    for (kind, alg, pattern, wanted) in rows {
+        let text = pattern.replace(rt.alloc(), "M", m)?;
+        let parsed = read_manifest(rt.alloc(), kind, alg, text.as_bytes())?;
+        let wanted = wanted.replace(rt.alloc(), "M", m)?;
+        assert_eq!(rt;
+            shown(rt.alloc(), &parsed)?.as_str(),
+            wanted.as_str(),
+            "{pattern}"
+        );
+    }
+    Ok(())
+}
+
+#[test]
+fn reads_upper_case_and_odd_line_ends(rt: HostRuntime) -> Result<(), Fail> {
+    let text =
+        "0CC175B9C0F1B6A831C399E269772661 *data/a\r92eb5ffee6ae2fec3ad71c777531578f\t./data/b";
+    let parsed = read_manifest(rt.alloc(), Kind::Payload, Alg::Md5, text.as_bytes())?;
+    assert_eq!(rt;
+        shown(rt.alloc(), &parsed)?.as_str(),
+        "1 0cc175b9c0f1b6a831c399e269772661 data/a|2 92eb5ffee6ae2fec3ad71c777531578f data/b|"
+    );
+    Ok(())
+}
+
+#[test]
+fn names_nothing_in_bytes_that_are_not_utf8(rt: HostRuntime) -> Result<(), Fail> {
+    let bytes = b"d41d8cd98f00b204e9800998ecf8427e  data/a\n\xFF";
+    let parsed = read_manifest(rt.alloc(), Kind::Payload, Alg::Md5, bytes)?;
+    assert_eq!(rt; shown(rt.alloc(), &parsed)?.as_str(), "204 0 |");
+    Ok(())
+}
+
+/// The number in the path of an entry: each below 5,000 once, in an order that jumps.
+fn number(index: u64) -> u64 {
+    index.wrapping_mul(1103) % 5000
+}
+
+#[test]
+fn reads_thousands_of_unsorted_lines(rt: HostRuntime) -> Result<(), Fail> {
+    let mut text = String::new(rt.alloc());
+    for index in 0..5000u64 {
+        write!(text, "{EMPTY_MD5}  data/{}\n", number(index))?;
+        if index % 10 == 9 {
+            let again = number(index.wrapping_sub(9));
+            write!(text, "{EMPTY_MD5}  data/{again}\n")?;
+        }
+    }
+    let parsed = read_manifest(rt.alloc(), Kind::Payload, Alg::Md5, text.as_bytes())?;
+    assert_eq!(rt; parsed.items.as_slice().len(), 5000);
+    assert_eq!(rt; parsed.faults.as_slice().len(), 500);
+    let mut index = 0u64;
+    for entry in parsed.items.as_slice() {
+        let mut path = String::new(rt.alloc());
+        write!(path, "data/{}", number(index))?;
+        assert_eq!(rt; entry.path.as_str(), path.as_str());
+        assert_eq!(rt; entry.line, index.wrapping_add(index / 10).wrapping_add(1));
+        index = index.wrapping_add(1);
+    }
+    let mut tenth = 0u64;
+    for fault in parsed.faults.as_slice() {
+        let mut path = String::new(rt.alloc());
+        write!(path, "data/{}", number(tenth.wrapping_mul(10)))?;
+        assert!(rt; fault.code == Code::NamedAgain);
+        assert_eq!(rt; fault.detail.as_str(), path.as_str());
+        tenth = tenth.wrapping_add(1);
+        assert_eq!(rt; fault.line, tenth.wrapping_mul(11));
+    }
+    Ok(())
+}
