@@ -6,9 +6,10 @@ ghost use Rattle.bag_cli.specs.Sample.{sample_state};
 
 use crate::disks::Disks;
 use crate::sample::sample_tree;
+use bag_disk::FileTree;
 use bag_report::{Depth, Options};
-use bag_store::{FileTree, Out, Tree};
 use bag_text::Text;
+use bag_tree::{Out, Tree};
 use bag_walk::{Outcome, Request, run};
 use std::alloc::{AllocError, Global};
 

@@ -3,7 +3,7 @@ ghost use Rattle.std.specs.Prelude.{◌≡◌, List, ℕ, IfOk, [], false};
 ghost use Rattle.bag_disk.specs.Disk.{DiskState};
 ghost use Rattle.bag_disk.specs.SystemDisk.{system_state};
 
-use bag_store::{Disk, SystemDisk};
+use bag_disk::{Disk, SystemDisk};
 use std::alloc::{AllocError, Global};
 use std::rt::Files;
 

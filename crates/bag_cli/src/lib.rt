@@ -14,6 +14,6 @@ mod words;
 
 pub use all_checks::{perform, perform_over};
 pub use bag_plan::{Action, Plan, Usage, plan_of, refuse_words};
-pub use bag_store::WriterOut;
+pub use bag_tree::WriterOut;
 pub use disks::{Disks, SystemDisks};
 pub use whole_program::{program, run_program};

@@ -4,7 +4,7 @@ ghost use Rattle.bag_memory.specs.Memory.{memory_state, empty_bag};
 ghost use Rattle.bag_memory.specs.MemoryView.{state_of};
 ghost use Rattle.bag_cli.specs.Sample.{sample_bag, sample_state};
 
-use bag_store::MemoryTree;
+use bag_memory::MemoryTree;
 use std::alloc::{AllocError, Global};
 
 const DECLARATION: &[u8] = b"BagIt-Version: 1.0\nTag-File-Character-Encoding: UTF-8\n";

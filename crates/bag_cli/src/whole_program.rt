@@ -6,7 +6,7 @@ use crate::all_checks::perform_over;
 use crate::disks::{Disks, SystemDisks};
 use crate::words::{asked_words, texts_of};
 use bag_plan::{plan_of, refuse_words};
-use bag_store::Out;
+use bag_tree::Out;
 use std::alloc::Global;
 use std::io::Write;
 use std::rt::{Env, Files};

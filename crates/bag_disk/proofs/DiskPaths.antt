@@ -1,15 +1,10 @@
 -- The folders on the way to a path of a disk.
-use Rattle.std.proofs.Common.{◌≡◌, ◌≢◌, ℕ, ◌+◌, ◌<◌, ◌≤◌, List, ◌∷◌, ◌++◌, length, get_or, take, drop, Some, None, is_some, refl, ap, sym, ◌∙◌, subst, false, Err, IsErrOf, ⊎_elim, arith, append_assoc, take-append-drop, length-append}
+use Rattle.std.proofs.Common.{◌≡◌, ◌≢◌, ℕ, ◌+◌, ◌<◌, ◌≤◌, List, ◌∷◌, ◌++◌, length, get_or, take, drop, Some, None, is_some, refl, ap, sym, ◌∙◌, subst, false, ⊎_elim, arith, append_assoc, take-append-drop, length-append}
 use Rattle.std.proofs.lemmas.Grind.{common_steps}
 use Rattle.std.specs.List.{slice_range}
 use Rattle.std.proofs.lemmas.Bool.{cases_lt, false≢true}
 use Rattle.std.proofs.lemmas.List.{length-take}
 use Rattle.std.proofs.Math.Seq.{take-append_seam, get_or-append_seam}
-use Rattle.bag_disk.specs.declared.disk.DiskFault.{DiskFault}
-use Rattle.bag_disk.specs.declared.disk.DiskFault.TheVariants as disk
-use Rattle.bag_disk.specs.declared.refusal.Refusal.{Refusal}
-use Rattle.bag_disk.specs.declared.refusal.Refusal.TheVariants as refusal
-use Rattle.bag_disk.specs.Refusal.{of_path}
 use Rattle.bag_text.specs.Path.{slash, under, is_path}
 use Rattle.bag_disk.specs.Disk.{Nodes, node, IsDisk, IsReached}
 use Rattle.bag_disk.specs.Disk.Node.{Folder}
@@ -67,33 +62,30 @@ none_below_no_folder nodes path folder rest disk e none = elim (node nodes path)
 pub no_path : (nodes : Nodes) (path : List ℕ) → IsDisk nodes → is_path path ≡ false → node nodes path ≡ None
 no_path nodes path disk none = elim (node nodes path) as (λ o. node nodes path ≡ o → o ≡ None) [
   | None ↦ λ _. refl
-  | Some n ↦ λ is. absurd (false≢true (sym none ∙ (disk.paths path (ap is_some is)).0))
+  | Some n ↦ λ is. absurd (false≢true (sym none ∙ disk.paths path (ap is_some is)))
 ] refl
-
-pub of_path_absent : {T U : Type 0} (fault : DiskFault) (r : Refusal) → r ≡ of_path fault → IsErrOf {T = T} (Err r) refusal.NotFound → IsErrOf {T = U} (Err fault) disk.NotFound
-of_path_absent disk.NotFound r e is = refl
-of_path_absent disk.Device r e is = cc
-of_path_absent disk.Name r e is = cc
-of_path_absent disk.Memory r e is = cc
 
 pub prefix_is : (t : List ℕ) (end : ℕ) → slice_range t 0 end ≡ take end t
 prefix_is t end = grind (arith, common_steps)
+
+-- the folder before a slash is reached
+pub slash_reached : (nodes : Nodes) (path items folder : List ℕ) (end : ℕ) → items ≡ path → folder ≡ slice_range path 0 end → end < length items → get_or items end 0 ≡ slash → IsReachedTo nodes path end → IsReached nodes folder
+slash_reached nodes path items folder end items_are cut within is reached =
+    reached_on_way nodes path folder end (subst (λ t. end < length t) items_are within) (ap (λ t. get_or t end 0) (sym items_are) ∙ is) (cut ∙ prefix_is path end) reached
 
 -- a slash was passed, and its folder is one
 pub slash_passed : (nodes : Nodes) (path items folder : List ℕ) (end : ℕ) → items ≡ path → folder ≡ slice_range path 0 end → end < length items → get_or items end 0 ≡ slash
     → IsReachedTo nodes path end → (IsReached nodes folder → node nodes folder ≡ Some Folder) → IsReachedTo nodes path (end + 1)
 slash_passed nodes path items folder end items_are cut within is reached found =
-    let same : folder ≡ take end path = cut ∙ prefix_is path end in
-    more_reached nodes path folder end same (found (reached_on_way nodes path folder end (subst (λ t. end < length t) items_are within) (ap (λ t. get_or t end 0) (sym items_are) ∙ is) same reached)) reached
+    more_reached nodes path folder end (cut ∙ prefix_is path end) (found (slash_reached nodes path items folder end items_are cut within is reached)) reached
 
 pub other_passed : (nodes : Nodes) (path items : List ℕ) (end : ℕ) → items ≡ path → get_or items end 0 ≢ slash → IsReachedTo nodes path end → IsReachedTo nodes path (end + 1)
 other_passed nodes path items end items_are other reached = none_to_reach nodes path end (λ is. other (ap (λ t. get_or t end 0) items_are ∙ is)) reached
 
 -- a slash was met below what is no folder
 pub slash_refused : (nodes : Nodes) (path items folder : List ℕ) (end : ℕ) → IsDisk nodes → items ≡ path → folder ≡ slice_range path 0 end → end < length items → get_or items end 0 ≡ slash
-    → IsReachedTo nodes path end → (IsReached nodes folder → node nodes folder ≡ Some Folder → ⊥) → node nodes path ≡ None
-slash_refused nodes path items folder end disk items_are cut within is reached refused =
-    let same : folder ≡ take end path = cut ∙ prefix_is path end in
+    → (node nodes folder ≡ Some Folder → ⊥) → node nodes path ≡ None
+slash_refused nodes path items folder end disk items_are cut within is none =
     let inside = subst (λ t. end < length t) items_are within in
     let here = ap (λ t. get_or t end 0) (sym items_are) ∙ is in
-    none_below_no_folder nodes path folder (drop (end + 1) path) disk (at_slash path folder end inside here same) (refused (reached_on_way nodes path folder end inside here same reached))
+    none_below_no_folder nodes path folder (drop (end + 1) path) disk (at_slash path folder end inside here (cut ∙ prefix_is path end)) none

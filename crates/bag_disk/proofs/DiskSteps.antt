@@ -182,6 +182,10 @@ pub on_ok : {A E P Q : Type 0} (r : Result A E) → OnOk r P → (P → Q) → O
 on_ok (Ok x) p f = f p
 on_ok (Err e) p f = tt
 
+pub on_ok_always : {A E P : Type 0} (r : Result A E) → P → OnOk r P
+on_ok_always (Ok x) p = p
+on_ok_always (Err e) p = tt
+
 pub on_ok3 : {A E P Q R S : Type 0} (r : Result A E) → OnOk r P → OnOk r Q → OnOk r R → (P → Q → R → S) → OnOk r S
 on_ok3 (Ok x) p q s f = f p q s
 on_ok3 (Err e) p q s f = tt

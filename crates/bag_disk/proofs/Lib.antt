@@ -2,4 +2,6 @@ pub mod DiskCount
 pub mod DiskPaths
 pub mod DiskSteps
 pub mod PathOrder
+pub mod Plain
+pub mod Refusals
 pub mod WholeWalk

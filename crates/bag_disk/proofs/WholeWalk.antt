@@ -47,7 +47,7 @@ file_seen nodes files listed path bytes disk walked is =
     let has : Has nodes path = ap is_some is in
     elim (walked.all path has) [
       | inl filed ↦ filed
-      | inr (inl old) ↦ absurd (no_file_is_folder nodes path bytes (disk.paths path has).0 is (walked.were_folders path old))
+      | inr (inl old) ↦ absurd (no_file_is_folder nodes path bytes (disk.paths path has) is (walked.were_folders path old))
       | inr (inr (inl found)) ↦ absurd (contains_none path found)
       | inr (inr (inr (inl below))) ↦ absurd (contains_none below.0 below.1)
       | inr (inr (inr (inr at))) ↦ absurd (contains_none at.0 at.1)

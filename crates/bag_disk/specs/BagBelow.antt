@@ -1,5 +1,5 @@
 -- The bag below the base folder of a disk is a bag, and has what stands there.
-use Rattle.std.proofs.Common.{◌≡◌, ℕ, Bool, true, false, cond, ◌||◌, List, [], ◌∷◌, Option, Some, None, is_some, refl, ap, sym, ◌∙◌, filter_map}
+use Rattle.std.proofs.Common.{◌≡◌, ◌≢◌, ℕ, IsUtf8, Bool, true, false, cond, ◌||◌, List, [], ◌∷◌, Option, Some, None, is_some, refl, ap, sym, ◌∙◌, filter_map}
 use Rattle.std.proofs.lemmas.Bool.{false≢true, and_parts}
 use Rattle.std.specs.FinMap as fin
 use Rattle.std.specs.FinMap.{find, is_sorted, get-from_entries, get-entries, entries_sorted, slice_cmp-IsAntisymmetric, nat_cmp-IsAntisymmetric}
@@ -22,7 +22,7 @@ use Rattle.bag_disk.specs.Disk.Node.{File, Folder, Other}
 one_text : (p q : List ℕ) → eq_by_cmp text_cmp p q ≡ true → p ≡ q
 one_text p q e = slice_cmp-IsAntisymmetric nat_cmp-IsAntisymmetric p q ((Equal-is (text_cmp p q)).0 e)
 
-t_true : (b : Bool) → T b → b ≡ true
+pub t_true : (b : Bool) → T b → b ≡ true
 t_true true h = refl
 t_true false h = absurd h
 
@@ -31,7 +31,7 @@ less_differs Less e = refl
 less_differs Equal e = cc
 less_differs Greater e = cc
 
-none_below : (k : List ℕ) (es : List (List ℕ × Node)) → below_all text_cmp k es ≡ true → find text_cmp k es ≡ None
+pub none_below : (k : List ℕ) (es : List (List ℕ × Node)) → below_all text_cmp k es ≡ true → find text_cmp k es ≡ None
 none_below k [] h = refl
 none_below k (e ∷ es) h =
     let parts = and_parts _ _ h in
@@ -106,9 +106,18 @@ file_has : (o : Option Node) → is_some (bytes_of o) ≡ true → is_some o ≡
 file_has None e = e
 file_has (Some n) e = refl
 
-folder_has : (o : Option Node) → is_folder_node o ≡ true → is_some o ≡ true
-folder_has None e = e
-folder_has (Some n) e = refl
+-- a file and a folder have names in UTF-8
+file_text : (o : Option Node) (path : List ℕ) → ((n : Node) → o ≡ Some n → n ≢ Other → IsUtf8 path) → is_some (bytes_of o) ≡ true → IsUtf8 path
+file_text None path texts e = absurd (false≢true e)
+file_text (Some (File bytes)) path texts e = texts (File bytes) refl (λ h. cc)
+file_text (Some Folder) path texts e = absurd (false≢true e)
+file_text (Some Other) path texts e = absurd (false≢true e)
+
+folder_text : (o : Option Node) (path : List ℕ) → ((n : Node) → o ≡ Some n → n ≢ Other → IsUtf8 path) → is_folder_node o ≡ true → IsUtf8 path
+folder_text None path texts e = absurd (false≢true e)
+folder_text (Some (File bytes)) path texts e = absurd (false≢true e)
+folder_text (Some Folder) path texts e = texts Folder refl (λ h. cc)
+folder_text (Some Other) path texts e = absurd (false≢true e)
 
 node_with : (o : Option Node) (content : List ℕ) → bytes_of o ≡ Some content → o ≡ Some (File content)
 node_with None content e = cc
@@ -122,10 +131,12 @@ in_folders nodes name h = base_names (fin.entries nodes) name (sym (set.contains
 
 pub bag_of_disk : (nodes : Nodes) → IsDisk nodes → IsBag (bag_of nodes)
 bag_of_disk nodes disk = record {
-  paths = λ path has. disk.paths path (file_has (node nodes path) (sym (ap is_some (file_of_disk nodes path)) ∙ has));
+  paths = λ path has.
+      let is_there = sym (ap is_some (file_of_disk nodes path)) ∙ has in
+      (disk.paths path (file_has (node nodes path) is_there), file_text (node nodes path) path (disk.texts path) is_there);
   names = λ name has.
       let base = in_folders nodes name has in
-      (base, (disk.paths name (folder_has (node nodes name) (sym (folder_of_disk nodes name base) ∙ has))).1);
+      (base, folder_text (node nodes name) name (disk.texts name) (sym (folder_of_disk nodes name base) ∙ has));
   parents = λ top rest base has.
       let there = disk.folders (under top rest) (file_has (node nodes (under top rest)) (sym (ap is_some (file_of_disk nodes (under top rest))) ∙ has)) top rest refl in
       folder_of_disk nodes top base ∙ ap is_folder_node there;
@@ -135,6 +146,7 @@ bag_of_disk nodes disk = record {
 -- where nothing stands
 pub empty_disk : IsDisk fin.empty
 empty_disk = record {
+  texts = λ path n is. absurd (false≢true (sym (ap is_some (fin.get-empty text_cmp path)) ∙ ap is_some is));
   paths = λ path has. absurd (false≢true (sym (ap is_some (fin.get-empty text_cmp path)) ∙ has));
   folders = λ path has. absurd (false≢true (sym (ap is_some (fin.get-empty text_cmp path)) ∙ has));
   bytes = λ path content is. absurd (false≢true (ap is_some (sym (fin.get-empty text_cmp path) ∙ is)));

@@ -1,17 +1,24 @@
 -- What stands below a base folder of a disk.
-use Rattle.std.specs.Prelude.{ℕ, ◌≡◌, ◌≢◌, ◌<◌, Bool, true, IsTrue, IsUtf8, List, [], ◌∷◌, length, All, Contains, Option, Some, is_some}
+use Rattle.std.specs.Prelude.{ℕ, ◌≡◌, ◌≢◌, ◌<◌, Bool, true, false, IsTrue, IsUtf8, List, [], ◌∷◌, length, All, Contains, Option, Some, is_some}
 use Rattle.std.specs.FinMap as map
+use Rattle.std.specs.List.{list_all}
 use Rattle.bag_text.specs.Text.{text_cmp}
 use Rattle.bag_text.specs.Path.{slash, is_path, under}
 use Rattle.bag_disk.specs.Location.{path_in}
 use Rattle.bag_disk.specs.declared.disk.Entry.{Entry}
 use Rattle.bag_disk.specs.declared.disk.Entry.TheVariants as entry
 
--- what stands at a path: a regular file with its bytes, a folder, or something else, as a link
+-- what stands at a path: a regular file with its bytes, a folder, or something else, as a link, or as what has a name that
+-- isn't UTF-8
 pub data Node : Type 0 where
   File : List ℕ → Node
   Folder : Node
   Other : Node
+
+abbrev pub is_plain_node : Node → Bool
+is_plain_node (File bytes) = true
+is_plain_node Folder = true
+is_plain_node Other = false
 
 -- what stands at each path below the base folder
 abbrev pub Nodes : Type 0
@@ -56,9 +63,10 @@ IsFolder nodes (c ∷ path) = node nodes (c ∷ path) ≡ Some Folder
 abbrev pub IsReached : Nodes → List ℕ → Type 0
 IsReached nodes path = (folder rest : List ℕ) → path ≡ under folder rest → node nodes folder ≡ Some Folder
 
--- what every disk has: paths that are texts, each in a folder, and bytes
+-- what every disk has: paths, each in a folder, those of files and folders in UTF-8, and bytes
 pub record IsDisk (nodes : Nodes) : Type 0 where
-  pub paths : (path : List ℕ) → Has nodes path → IsTrue (is_path path) × IsUtf8 path
+  pub paths : (path : List ℕ) → Has nodes path → IsTrue (is_path path)
+  pub texts : (path : List ℕ) (n : Node) → node nodes path ≡ Some n → n ≢ Other → IsUtf8 path
   pub folders : (path : List ℕ) → Has nodes path → IsReached nodes path
   pub bytes : (path content : List ℕ) → node nodes path ≡ Some (File content) → All (λ b. b < 256) content
 
@@ -80,3 +88,11 @@ pub record AreNamesIn (nodes : Nodes) (folder : List ℕ) (names : List (List �
 -- a regular file with these bytes stands there
 abbrev pub IsFileWith : Nodes → List ℕ → List ℕ → Type 0
 IsFileWith nodes path bytes = node nodes path ≡ Some (File bytes)
+
+-- one of these names isn't UTF-8
+abbrev pub HasUnnamed : List (List ℕ) → Type 0
+HasUnnamed names = (name : List ℕ) × Contains names name × ¬ (IsUtf8 name)
+
+-- only files and folders stand there, with names in UTF-8
+abbrev pub is_plain : Nodes → Bool
+is_plain nodes = list_all (λ entry. is_plain_node entry.1) (map.entries nodes)

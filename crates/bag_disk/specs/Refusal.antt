@@ -1,7 +1,8 @@
 -- How a refusal of the disk is answered and counted.
-use Rattle.std.specs.Prelude.{ℕ, ◌+◌, ◌==◌, if◌then◌else◌}
+use Rattle.std.specs.Prelude.{ℕ, ◌≡◌, ◌+◌, ◌==◌, false, IsTrue, if◌then◌else◌}
 use Rattle.bag_tree.specs.declared.fault.TreeFault.{TreeFault}
 use Rattle.bag_tree.specs.declared.fault.TreeFault.TheVariants as fault
+use Rattle.bag_disk.specs.Disk.{DiskState, is_plain}
 use Rattle.bag_disk.specs.declared.disk.DiskFault.{DiskFault}
 use Rattle.bag_disk.specs.declared.disk.DiskFault.TheVariants as disk
 use Rattle.bag_disk.specs.declared.refusal.Refusal.{Refusal}
@@ -35,6 +36,20 @@ count_after Name count = one_more_failure count
 count_after NotFound count = count
 count_after TooMany count = count
 count_after Memory count = count
+
+-- where the disk is honest, something stands there that is no file and no folder, or has a name that isn't UTF-8
+abbrev pub HasOther : DiskState → Type 0
+HasOther disk = IsTrue disk.honest → is_plain disk.nodes ≡ false
+
+-- The disk may refuse so: `over` says when over something that is no file and no folder, or over a name, `absent` when
+-- there is no such file, and `many` when there is too much.
+abbrev pub IsDue : Type 0 → Type 0 → Type 0 → Refusal → Type 0
+IsDue over absent many Device = Unit {0}
+IsDue over absent many Special = over
+IsDue over absent many Name = over
+IsDue over absent many NotFound = absent
+IsDue over absent many TooMany = many
+IsDue over absent many Memory = Unit {0}
 
 -- what a fault of the disk means at the path of one file
 abbrev pub of_path : DiskFault → Refusal

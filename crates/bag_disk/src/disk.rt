@@ -2,9 +2,9 @@
 ghost use Rattle.std.specs.Prelude.{◌≡◌, ◌<◌, ◌≤◌, ◌++◌, ◌∷◌, [], List, ℕ, IfOk, OnOk, OnErr, IsErrOf, IsTrue, MatchOption, None, Some, length, is_some};
 ghost use Rattle.std.specs.Option.{option_map};
 ghost use Rattle.bag_text.specs.Path.{is_path};
-ghost use Rattle.bag_disk.specs.Disk.{DiskState, SameDisk, OnlyLooks, Node, IsDisk, IsReached, IsFolder, AreNamesIn, node, entry_of, IsFileWith};
+ghost use Rattle.bag_disk.specs.Disk.{DiskState, SameDisk, OnlyLooks, Node, IsDisk, IsReached, IsFolder, AreNamesIn, node, entry_of, IsFileWith, HasUnnamed};
 ghost use Rattle.bag_tree.specs.Tree.{ReadsNext};
-ghost use Rattle.bag_disk.specs.declared.disk.DiskFault.TheVariants.{NotFound};
+ghost use Rattle.bag_disk.specs.declared.disk.DiskFault.TheVariants.{Name, NotFound};
 
 use bag_text::Text;
 
@@ -55,9 +55,10 @@ pub trait Disk {
         ensures honest { OnOk result (IsTrue (state self.old).honest → IsFolder (state self.old).nodes folder.now
             → AreNamesIn (state self.old).nodes folder.now (state self.new).names) };
 
-    /// The next name of the folder that was entered; none at its end.
+    /// The next name of the folder that was entered; none at its end. `Name` says that it isn't UTF-8.
     fn next_name(&mut self) -> Result<Option<Text>, DiskFault>
         ensures looks { OnlyLooks (state self.old) (state self.new) }
+        ensures unnamed { IsErrOf result Name → IsTrue (state self.old).honest → HasUnnamed (state self.old).names }
         ensures honest { IfOk result (λ next. IsTrue (state self.old).honest
             → MatchOption next ((state self.old).names ≡ []) (λ name. (state self.old).names ≡ name ∷ (state self.new).names)) };
 

@@ -1,12 +1,13 @@
 //! A tree of the files on a disk.
 ghost use Rattle.std.specs.Prelude.{◌≡◌};
-ghost use Rattle.bag_disk.specs.FileTree.{disk_of, tree_state};
+ghost use Rattle.bag_disk.specs.FileTree.{disk_of, state_after, tree_state};
 ghost use Rattle.bag_disk.specs.BagBelow.{bag_of_disk};
 
+use crate::answered::Answered;
 use crate::disk::Disk;
 use crate::listing::list_below;
 use crate::opening::open_at;
-use crate::refusal::{Failures, Refusal};
+use crate::refusal::Refusal;
 use bag_tree::{Listing, Tree, TreeFault};
 use std::alloc::Global;
 
@@ -14,11 +15,13 @@ use std::alloc::Global;
 ///
 /// Its bag is what stands there, and it is honest where the disk is. A symbolic link, a socket, a pipe or a device below
 /// the base folder is `Special`; none is followed or opened. The base folder itself may be a symbolic link to a folder.
+/// Where a disk names payload files and no payload folder, a listing is `Device`; so is a read after which the bytes of the
+/// open file might not be counted in 64 bits.
 #[derive(Drop)]
 pub struct FileTree<D> {
     alloc: Global,
     disk: D,
-    failures: Failures,
+    answered: Answered,
 }
 
 impl<D: Disk + Drop> FileTree<D> {
@@ -30,36 +33,45 @@ impl<D: Disk + Drop> FileTree<D> {
         FileTree {
             alloc,
             disk,
-            failures: Failures::none(),
+            answered: Answered::nothing(),
         }
     }
 }
 
 impl<D: Disk + Drop> Tree for FileTree<D> {
-    ghost state = { λ tree. tree_state (D.state tree.disk) tree.failures.count };
+    ghost state = { λ tree. state_after (D.state tree.disk) tree.answered.failures tree.answered.given tree.answered.last };
 
     fn list(&mut self) -> Result<Listing, TreeFault> {
         match list_below(&mut self.disk, self.alloc) {
-            Ok(listing) => Ok(listing),
-            Err(refusal) => Err(self.failures.fault_of(refusal)),
+            Ok(listing) => {
+                self.answered.give();
+                Ok(listing)
+            }
+            Err(refusal) => Err(self.answered.refuse(refusal)),
         }
     }
 
     fn open_file(&mut self, path: &str) -> Result<(), TreeFault> {
         self.disk.close();
         match open_at(&mut self.disk, path) {
-            Ok(()) => Ok(()),
-            Err(refusal) => Err(self.failures.fault_of(refusal)),
+            Ok(()) => {
+                self.answered.open();
+                Ok(())
+            }
+            Err(refusal) => Err(self.answered.refuse(refusal)),
         }
     }
 
     fn read(&mut self, buffer: &mut [u8]) -> Result<usize, TreeFault> {
         if !self.disk.is_open() {
-            return Err(TreeFault::NoneOpen);
+            return Err(self.answered.note(TreeFault::NoneOpen));
+        }
+        if !self.answered.has_room(buffer.len()) {
+            return Err(self.answered.refuse(Refusal::Device));
         }
         match self.disk.read(buffer) {
-            Ok(count) => Ok(count),
-            Err(fault) => Err(self.failures.fault_of(Refusal::at_known(fault))),
+            Ok(count) => Ok(self.answered.read(count)),
+            Err(fault) => Err(self.answered.refuse(Refusal::at_known(fault))),
         }
     }
 

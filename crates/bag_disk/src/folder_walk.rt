@@ -1,10 +1,10 @@
 //! A walk over the folders of a disk.
-ghost use Rattle.std.specs.Prelude.{◌≡◌, ◌<◌, ◌≤◌, ◌+◌, ◌∷◌, ◌++◌, [], ℕ, List, IfOk, IsErrOf, OnOk, IsTrue, vec_len};
-ghost use Rattle.bag_disk.specs.Disk.{Has, OnlyLooks};
+ghost use Rattle.std.specs.Prelude.{◌≡◌, ◌<◌, ◌≤◌, ◌+◌, ◌∷◌, ◌++◌, [], ℕ, List, IfOk, IfErr, OnOk, IsTrue, false, vec_len};
+ghost use Rattle.bag_disk.specs.Disk.{Has, OnlyLooks, is_plain};
 ghost use Rattle.bag_disk.specs.FolderWalk.{Walked, AllStand, Listing, files_with, folders_with};
 ghost use Rattle.bag_disk.specs.Location.{path_in};
 ghost use Rattle.bag_disk.specs.declared.disk.Entry.TheVariants.{Other};
-ghost use Rattle.bag_disk.specs.declared.refusal.Refusal.TheVariants.{NotFound, TooMany};
+ghost use Rattle.bag_disk.specs.Refusal.{IsDue};
 
 use crate::disk::{Disk, Entry};
 use crate::location::{is_path, path_in};
@@ -52,10 +52,14 @@ impl FolderWalk {
         ensures walked { OnOk result (IsTrue (D.state disk.old).honest
             → Walked (D.state disk.old).nodes self.old.files.items (self.old.folders.items ++ folder ∷ []) self.old.listed.items []
             → Walked (D.state disk.old).nodes self.new.files.items self.new.folders.items self.new.listed.items []) }
-        ensures many { IsErrOf result TooMany → IsTrue (D.state disk.old).honest
+        ensures refused { IfErr result (IsDue
+            (IsTrue (D.state disk.old).honest
             → Walked (D.state disk.old).nodes self.old.files.items (self.old.folders.items ++ folder ∷ []) self.old.listed.items []
-            → AllStand (D.state disk.old).nodes self.new.files.items self.new.folders.items self.new.listed.items }
-        ensures absent { IsErrOf result NotFound → ⊥ }
+            → is_plain (D.state disk.old).nodes ≡ false)
+            ⊥
+            (IsTrue (D.state disk.old).honest
+            → Walked (D.state disk.old).nodes self.old.files.items (self.old.folders.items ++ folder ∷ []) self.old.listed.items []
+            → AllStand (D.state disk.old).nodes self.new.files.items self.new.folders.items self.new.listed.items)) }
         ensures left { OnOk result (vec_len self.new.folders + self.new.room ≤ vec_len self.old.folders + self.old.room) }
     {
         match disk.enter(folder.as_str()) {
@@ -73,11 +77,15 @@ impl FolderWalk {
         ensures walked { OnOk result (IsTrue (D.state disk.old).honest → (listed : List (List ℕ))
             → Listing (D.state disk.old).nodes self.old.files.items self.old.folders.items listed folder.now (D.state disk.old).names
             → Walked (D.state disk.old).nodes self.new.files.items self.new.folders.items (listed ++ folder.now ∷ []) []) }
-        ensures many { IsErrOf result TooMany → IsTrue (D.state disk.old).honest → (listed : List (List ℕ))
+        ensures refused { IfErr result (IsDue
+            (IsTrue (D.state disk.old).honest → (listed : List (List ℕ))
             → Listing (D.state disk.old).nodes self.old.files.items self.old.folders.items listed folder.now (D.state disk.old).names
-            → AllStand (D.state disk.old).nodes self.new.files.items self.new.folders.items (listed ++ folder.now ∷ []) }
+            → is_plain (D.state disk.old).nodes ≡ false)
+            ⊥
+            (IsTrue (D.state disk.old).honest → (listed : List (List ℕ))
+            → Listing (D.state disk.old).nodes self.old.files.items self.old.folders.items listed folder.now (D.state disk.old).names
+            → AllStand (D.state disk.old).nodes self.new.files.items self.new.folders.items (listed ++ folder.now ∷ []))) }
         ensures listed { self.new.listed.items ≡ self.old.listed.items }
-        ensures absent { IsErrOf result NotFound → ⊥ }
         ensures left { OnOk result (vec_len self.new.folders + self.new.room ≤ vec_len self.old.folders + self.old.room) }
     {
         while self.room > 0 {
@@ -98,8 +106,9 @@ impl FolderWalk {
             → Walked (D.state disk.now).nodes self.old.files.items self.old.folders.items listed (path_in folder.now name.now ∷ pending)
             → Walked (D.state disk.now).nodes self.new.files.items self.new.folders.items listed pending) }
         ensures listed { self.new.listed.items ≡ self.old.listed.items }
-        ensures few { IsErrOf result TooMany → ⊥ }
-        ensures absent { IsErrOf result NotFound → ⊥ }
+        ensures refused { IfErr result (IsDue
+            (IsTrue (D.state disk.now).honest → Has (D.state disk.now).nodes (path_in folder.now name.now) → is_plain (D.state disk.now).nodes ≡ false)
+            ⊥ ⊥) }
         ensures left { OnOk result (vec_len self.new.folders + self.new.room ≤ vec_len self.old.folders + self.old.room) }
         ensures room { OnOk result (self.new.room + 1 ≡ self.old.room) }
     {
@@ -120,8 +129,7 @@ impl FolderWalk {
         ensures folders { OnOk result (self.new.folders.items ≡ folders_with self.old.folders.items path entry) }
         ensures listed { self.new.listed.items ≡ self.old.listed.items }
         ensures other { OnOk result (entry ≡ Other → ⊥) }
-        ensures few { IsErrOf result TooMany → ⊥ }
-        ensures absent { IsErrOf result NotFound → ⊥ }
+        ensures refused { IfErr result (IsDue (entry ≡ Other) ⊥ ⊥) }
         ensures left { OnOk result (vec_len self.new.folders ≤ vec_len self.old.folders + 1) }
         ensures room { self.new.room ≡ self.old.room }
     {

@@ -9,6 +9,7 @@
 //! `FileTree::at` is the tree over the system's disk, of which nothing is promised.
 #![tactic(auto)]
 
+mod answered;
 mod disk;
 mod file_tree;
 mod folder_walk;

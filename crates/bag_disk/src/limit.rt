@@ -1,10 +1,10 @@
 //! When a tree has too many files and folders.
-ghost use Rattle.std.specs.Prelude.{◌≡◌, ◌<◌, IfOk, IsTrue};
+ghost use Rattle.std.specs.Prelude.{◌<◌, IfOk, IsTrue};
 ghost use Rattle.std.specs.FinMap as map;
 ghost use Rattle.bag_tree.specs.Tree.{most_entries};
 ghost use Rattle.bag_disk.specs.Disk.{Nodes};
 ghost use Rattle.bag_disk.specs.FolderWalk.{AllStand, AreFolders, AreThere};
-ghost use Rattle.bag_disk.specs.declared.refusal.Refusal.TheVariants.{NotFound, TooMany};
+ghost use Rattle.bag_disk.specs.Refusal.{IsDue};
 
 use crate::folder_walk::{FolderWalk, MOST_ENTRIES};
 use crate::path_order::{all_differ, sort_by_path};
@@ -15,8 +15,7 @@ use std::alloc::AllocError;
 
 /// Why a walk has no room for what it found: there is too much, or the disk named something twice.
 pub(crate) fn no_room(walk: FolderWalk) -> Refusal
-    ensures many { result ≡ TooMany → (nodes : Nodes) → AllStand nodes walk.files.items walk.folders.items walk.listed.items → most_entries < map.len nodes }
-    ensures absent { result ≡ NotFound → ⊥ }
+    ensures { IsDue ⊥ ⊥ ((nodes : Nodes) → AllStand nodes walk.files.items walk.folders.items walk.listed.items → most_entries < map.len nodes) result }
 {
     match all_found(walk) {
         Ok(found) => {

@@ -1,12 +1,12 @@
 //! Opening a file of a disk.
-ghost use Rattle.std.specs.Prelude.{◌≡◌, ◌++◌, ◌∷◌, [], None, OnOk, OnErr, IsErrOf, IsTrue, is_some, Some};
+ghost use Rattle.std.specs.Prelude.{◌≡◌, ◌++◌, ◌∷◌, [], None, OnOk, OnErr, IfErr, IsTrue, is_some, Some, false};
 ghost use Rattle.bag_text.specs.Path.{is_path};
 ghost use Rattle.bag_tree.specs.Bag.{file};
 ghost use Rattle.bag_tree.specs.Tree.{IsOpen};
-ghost use Rattle.bag_disk.specs.Disk.{SameDisk, IsReached, node};
+ghost use Rattle.bag_disk.specs.Disk.{SameDisk, IsReached, is_plain, node};
 ghost use Rattle.bag_disk.specs.DiskBag.{bag_of};
 ghost use Rattle.bag_disk.specs.Disk.Node.{Folder};
-ghost use Rattle.bag_disk.specs.declared.refusal.Refusal.TheVariants.{NotFound, TooMany};
+ghost use Rattle.bag_disk.specs.Refusal.{HasOther, IsDue};
 
 use crate::disk::{Disk, Entry};
 use crate::location::is_path;
@@ -20,8 +20,8 @@ pub(crate) fn open_at<D: Disk>(disk: &mut D, path: &str) -> Result<(), Refusal>
     ensures only_paths { OnOk result (IsTrue (is_path path.now)) }
     ensures file_open { OnOk result (IsTrue (is_some (D.state disk.new).rest)) }
     ensures honest { OnOk result (IsTrue (D.state disk.old).honest → IsOpen (file (bag_of (D.state disk.old).nodes) path.now) (D.state disk.new).rest) }
-    ensures absent { IsErrOf result NotFound → IsTrue (D.state disk.old).honest → file (bag_of (D.state disk.old).nodes) path.now ≡ None }
-    ensures few { IsErrOf result TooMany → ⊥ }
+    ensures refused { IfErr result (IsDue (HasOther (D.state disk.old))
+        (IsTrue (D.state disk.old).honest → file (bag_of (D.state disk.old).nodes) path.now ≡ None) ⊥) }
     ensures closed { (D.state disk.old).rest ≡ None → OnErr result ((D.state disk.new).rest ≡ None) }
     ensures not_opened { OnErr result ((D.state disk.new).openings ≡ (D.state disk.old).openings) }
 {
@@ -47,8 +47,8 @@ pub(crate) fn open_at<D: Disk>(disk: &mut D, path: &str) -> Result<(), Refusal>
 /// Refuses a path that doesn't lead through folders alone.
 fn check_folders<D: Disk>(disk: &D, path: &str) -> Result<(), Refusal>
     ensures reached { OnOk result (IsTrue (D.state disk.now).honest → IsReached (D.state disk.now).nodes path.now) }
-    ensures absent { IsErrOf result NotFound → IsTrue (D.state disk.now).honest → node (D.state disk.now).nodes path.now ≡ None }
-    ensures few { IsErrOf result TooMany → ⊥ }
+    ensures refused { IfErr result (IsDue (HasOther (D.state disk.now))
+        (IsTrue (D.state disk.now).honest → node (D.state disk.now).nodes path.now ≡ None) ⊥) }
 {
     for (end, byte) in path.as_bytes().iter().enumerate() {
         if *byte == b'/' {
@@ -67,8 +67,8 @@ fn check_folders<D: Disk>(disk: &D, path: &str) -> Result<(), Refusal>
 /// Refuses what is no folder.
 fn check_folder<D: Disk>(disk: &D, folder: &str) -> Result<(), Refusal>
     ensures folder { OnOk result (IsTrue (D.state disk.now).honest → IsReached (D.state disk.now).nodes folder.now → node (D.state disk.now).nodes folder.now ≡ Some Folder) }
-    ensures absent { IsErrOf result NotFound → IsTrue (D.state disk.now).honest → IsReached (D.state disk.now).nodes folder.now → node (D.state disk.now).nodes folder.now ≡ Some Folder → ⊥ }
-    ensures few { IsErrOf result TooMany → ⊥ }
+    ensures refused { IfErr result (IsDue (IsTrue (D.state disk.now).honest → IsReached (D.state disk.now).nodes folder.now → is_plain (D.state disk.now).nodes ≡ false)
+        (IsTrue (D.state disk.now).honest → IsReached (D.state disk.now).nodes folder.now → node (D.state disk.now).nodes folder.now ≡ Some Folder → ⊥) ⊥) }
 {
     if !is_path(folder) {
         return Err(Refusal::Device);

@@ -1,10 +1,9 @@
-//! Why the disk refused, and how often.
+//! Why the disk refused.
 ghost use Rattle.std.specs.Prelude.{◌≡◌};
-ghost use Rattle.bag_disk.specs.Refusal.{at_known, of_name, of_path, fault_of, count_after, failure_or_memory, one_more_failure};
+ghost use Rattle.bag_disk.specs.Refusal.{at_known, of_name, of_path};
 ghost use Rattle.bag_disk.specs.declared.refusal.Refusal.TheVariants.{Memory};
 
 use crate::disk::DiskFault;
-use bag_tree::TreeFault;
 use std::alloc::{AllocError, AllocFailed};
 
 /// Why the disk refused.
@@ -71,47 +70,5 @@ impl Refusal {
             DiskFault::NotFound | DiskFault::Device => Refusal::Device,
             DiskFault::Memory => Refusal::Memory,
         }
-    }
-}
-
-/// How often the device has failed.
-#[derive(Clone, Copy)]
-pub(crate) struct Failures {
-    count: u64,
-}
-
-impl Failures {
-    pub(crate) fn none() -> Failures
-        ensures { result.count ≡ 0 }
-    {
-        Failures { count: 0 }
-    }
-
-    /// The fault that a refusal is answered by. A failure of the device is counted; where no more can be counted, the
-    /// fault is `Memory`.
-    pub(crate) fn fault_of(&mut self, refusal: Refusal) -> TreeFault
-        ensures fault { result ≡ fault_of refusal self.old.count }
-        ensures count { self.new.count ≡ count_after refusal self.old.count }
-    {
-        match refusal {
-            Refusal::Device => self.failure(TreeFault::Device),
-            Refusal::Special => self.failure(TreeFault::Special),
-            Refusal::Name => self.failure(TreeFault::Name),
-            Refusal::NotFound => TreeFault::NotFound,
-            Refusal::TooMany => TreeFault::TooMany,
-            Refusal::Memory => TreeFault::Memory,
-        }
-    }
-
-    /// Counts a failure.
-    fn failure(&mut self, fault: TreeFault) -> TreeFault
-        ensures fault { result ≡ failure_or_memory fault self.old.count }
-        ensures count { self.new.count ≡ one_more_failure self.old.count }
-    {
-        if self.count == u64::MAX {
-            return TreeFault::Memory;
-        }
-        self.count += 1;
-        fault
     }
 }

@@ -14,9 +14,9 @@ use Rattle.bag_text.specs.declared.code.Code.{Code}
 use Rattle.bag_text.specs.declared.code.Code.TheVariants.{NotUtf8, NamedAgain}
 use Rattle.bag_text.proofs.ListOf.{contains_nothing}
 use Rattle.bag_tags.specs.declared.kind.Kind.{Kind}
-use Rattle.bag_tags.specs.declared.fault.LineFault.{LineFault}
+use Rattle.bag_line.specs.declared.fault.LineFault.{LineFault}
 use Rattle.bag_tags.specs.declared.manifest.ManifestEntry.{ManifestEntry}
-use Rattle.bag_tags.specs.LineFault.{AreFaults}
+use Rattle.bag_line.specs.LineFault.{AreFaults}
 use Rattle.bag_tags.specs.Manifest.{IsEntry, ManifestFault, IsManifestFault}
 use Rattle.bag_tags.proofs.ManifestEntries.{entry_of_path_once}
 use Rattle.bag_facts.specs.TagFacts.{IsManifestOf, AreByPath, entry_paths}

@@ -5,13 +5,13 @@ use Rattle.bag_text.specs.Text.{text_cmp}
 use Rattle.bag_text.specs.Order.{IsListOf}
 use Rattle.bag_text.proofs.ListOf.{same_members}
 use Rattle.bag_tags.specs.TagName.{tag_path}
-use Rattle.bag_tree.specs.Bag.{Bag, file, HasFile}
-use Rattle.bag_tree.specs.Listing.{IsOrdered, IsListingOf, size_at}
+use Rattle.bag_tree.specs.Bag.{Bag, IsBag, file, HasFile}
+use Rattle.bag_tree.specs.Listing.{IsOrdered, HasItsFolder, IsListingOf, size_at}
 use Rattle.bag_tree.specs.Tree.{TreeState, Keeps}
 use Rattle.bag_tree.specs.declared.listing.FileEntry.{FileEntry}
 use Rattle.bag_tree.specs.declared.listing.Listing.{Listing}
 use Rattle.bag_facts.specs.Facts.{AreParsed, IsFactsOf}
-use Rattle.bag_facts.specs.TagReader.{IsWhole, read_path}
+use Rattle.bag_facts.specs.TagReader.{AreTexts, IsWhole, read_path}
 use Rattle.bag_facts.specs.Wanted.{IsWanted, AreWanted, paths_of}
 use Rattle.bag_facts.specs.declared.facts.Facts.{Facts}
 use Rattle.bag_facts.specs.declared.options.Options.{Options}
@@ -19,6 +19,7 @@ use Rattle.bag_facts.specs.declared.tag_reader.TagBytes.{TagBytes}
 use Rattle.bag_facts.proofs.ListedFiles.{file_listed, listed_file}
 use Rattle.bag_facts.proofs.Parsed.{same_paths, parsed_from}
 use Rattle.bag_facts.proofs.Seen.{seen_bag, listing_seen, read_seen}
+use Rattle.bag_facts.proofs.SeenBag.{seen_is_bag}
 
 pub known : (bag : Bag) (facts : Facts) (read : List TagBytes) → IsOrdered facts.listing.files → IsListingOf bag facts.listing → AreParsed read facts.tags
     → AreWanted facts.options facts.listing.files (map read_path read) → ((one : TagBytes) → Contains read one → file bag (read_path one) ≡ Some one.bytes.items) → IsFactsOf bag facts
@@ -51,10 +52,12 @@ module _ (facts : Facts) (options : Options) (listing : Listing) (files : List F
       known_of old.bag (listed honest) (λ one c. subst (λ bag. file bag (read_path one) ≡ Some one.bytes.items) k.bag ((whole one c).bytes (k.honest ∙ honest)))
 
   -- over any tree they are of some bag
-  pub known_seen : (mid : TreeState) → ((one : TagBytes) → Contains read one → IsWhole files mid one) → (bag : Bag) × IsFactsOf bag facts
-  known_seen mid whole =
+  pub known_seen : (mid : TreeState) → HasItsFolder listing → AreTexts files → ((one : TagBytes) → Contains read one → IsWhole files mid one) → (bag : Bag) × IsBag bag × IsFactsOf bag facts
+  known_seen mid needs texts whole =
       let sizes : (one : TagBytes) → Contains read one → size_at listing.files (read_path one) ≡ Some (length one.bytes.items) =
-      λ one c. subst (λ some. size_at some (read_path one) ≡ Some (length one.bytes.items)) files_are (whole one c).size in (
+      λ one c. subst (λ some. size_at some (read_path one) ≡ Some (length one.bytes.items)) files_are (whole one c).size in
+      let listed = listing_seen read listing ordered.ascending sizes ordered needs in (
         seen_bag read listing,
-        known_of (seen_bag read listing) (listing_seen read listing ordered.ascending sizes) (read_seen read listing ordered.ascending sizes wanted.ascending),
+        seen_is_bag read (λ one c. (whole one c).are_bytes) listing ordered (subst AreTexts files_are texts) listed,
+        known_of (seen_bag read listing) listed (read_seen read listing ordered.ascending sizes wanted.ascending),
       )

@@ -9,4 +9,6 @@ pub mod Parsed
 pub mod PassedOn
 pub mod Reading
 pub mod Seen
+pub mod SeenBag
+pub mod SeenFolders
 pub mod WantedPaths

@@ -1,5 +1,5 @@
 -- Reading listed files one after another.
-use Rattle.std.proofs.Common.{◌≡◌, ◌<◌, ◌≤◌, ◌+◌, ◌++◌, ◌∷◌, inl, inr, ℕ, List, [], length, take, drop, map, get_or, None, Some, refl, sym, ap, ◌∙◌, subst, arith, Contains, append_assoc, append-nil}
+use Rattle.std.proofs.Common.{◌≡◌, ◌<◌, ◌≤◌, ◌+◌, ◌++◌, ◌∷◌, inl, inr, ℕ, List, [], length, take, drop, map, get_or, None, Some, refl, sym, ap, ◌∙◌, subst, arith, Contains, IsUtf8, append_assoc, append-nil}
 use Rattle.std.specs.Prelude.{IsTrue}
 use Rattle.std.specs.Option.{option_map}
 use Rattle.std.specs.List.Sorted.{IsStrictlySortedBy}
@@ -8,36 +8,41 @@ use Rattle.bag_text.specs.Text.{text_cmp}
 use Rattle.bag_text.proofs.ListOf.{contains_either, contains_cases, contains_nothing}
 use Rattle.bag_tree.specs.Bag.{HasFile, file}
 use Rattle.bag_tree.specs.Listing.{IsListingOf, size_at}
-use Rattle.bag_tree.specs.Tree.{TreeState, Keeps, OpensAtMost, IsEntryOf}
+use Rattle.bag_tree.specs.Tree.{TreeState, Keeps, OpensAtMost, IsEntryOf, FailsOver, MayRefuse, CameFromTree}
+use Rattle.bag_tree.specs.declared.answer.Answer.TheVariants.{Refused}
 use Rattle.bag_tree.specs.declared.listing.FileEntry.{FileEntry}
 use Rattle.bag_tree.specs.declared.listing.Listing.{Listing}
 use Rattle.bag_tree.specs.declared.fault.Stop.{Stop}
 use Rattle.bag_tree.specs.declared.fault.TreeFault.{TreeFault}
 use Rattle.bag_tree.specs.declared.fault.TreeFault.TheVariants.{Device, Special, Name, NotFound, TooMany, Changed, NoneOpen, Memory, Exists}
 use Rattle.bag_facts.specs.Stops.{MayRefuseFacts, MayStop}
-use Rattle.bag_facts.specs.TagReader.{AreListed, IsWhole, ReadsWanted, StopsReading, read_path}
+use Rattle.bag_facts.specs.TagReader.{AreListed, AreTexts, IsWhole, ReadsWanted, StopsReading, read_path}
 use Rattle.bag_facts.specs.Wanted.{IsWanted, AreWanted, OpensFirst, OpensUpTo, paths_of}
 use Rattle.bag_facts.specs.declared.options.Options.{Options}
 use Rattle.bag_facts.specs.declared.tag_reader.TagBytes.{TagBytes}
 use Rattle.bag_facts.proofs.ListedFiles.{own_size}
-use Rattle.bag_facts.proofs.Mapped.{take_one_more}
+use Rattle.bag_facts.proofs.Mapped.{take_one_more, taken_cases}
 use Rattle.bag_facts.proofs.WantedPaths.{wanted, are_wanted, none_wanted, wanted_joined, one_wanted, one_unwanted}
 
 pub keeps_on : (old mid new : TreeState) → Keeps old mid → Keeps mid new → Keeps old new
 keeps_on old mid new k l = record {
   bag = l.bag ∙ k.bag;
+  plain = l.plain ∙ k.plain;
   honest = l.honest ∙ k.honest;
   entries = l.entries ∙ k.entries;
   failures = omega arith;
 }
 
 pub keeps_itself : (old : TreeState) → Keeps old old
-keeps_itself old = record { bag = refl; honest = refl; entries = refl; failures = omega arith }
+keeps_itself old = record { bag = refl; plain = refl; honest = refl; entries = refl; failures = omega arith }
+
+later_failure : (old mid new : TreeState) → Keeps old mid → FailsOver mid new → FailsOver old new
+later_failure old mid new k (failed, other) = (omega arith, λ honest. sym k.plain ∙ other (k.honest ∙ honest))
 
 later_refusal : (old mid new : TreeState) (cause : TreeFault) → Keeps old mid → MayRefuseFacts mid new cause → MayRefuseFacts old new cause
 later_refusal old mid new Device k h = omega arith
-later_refusal old mid new Special k h = omega arith
-later_refusal old mid new Name k h = omega arith
+later_refusal old mid new Special k h = later_failure old mid new k h
+later_refusal old mid new Name k h = later_failure old mid new k h
 later_refusal old mid new NotFound k h = λ honest. h (k.honest ∙ honest)
 later_refusal old mid new TooMany k h = λ honest. rw (← k.entries) (h (k.honest ∙ honest))
 later_refusal old mid new Changed k h = λ honest. h (k.honest ∙ honest)
@@ -49,17 +54,19 @@ later_refusal old mid new Exists k h = h
 pub later_stop : (options : Options) (old mid new : TreeState) (stop : Stop) → Keeps old mid → StopsReading options mid new stop → StopsReading options old new stop
 later_stop options old mid new stop k h = record {
   cause = later_refusal old mid new stop.cause k h.cause;
+  answered = h.answered;
   path = elim h.path [ inl none ↦ inl none | inr there ↦ inr (there.0, λ honest. subst (λ bag. HasFile bag stop.path) k.bag (there.1 (k.honest ∙ honest))) ];
   memory = h.memory;
 }
 
--- the wanted files among the first of the listed ones were read
+-- the first of the listed files have paths that are texts, and the wanted ones among them were read
 pub record ReadsSome (options : Options) (files : List FileEntry) (count : ℕ) (old new : TreeState) (read : List TagBytes) : Type 0 where
   pub keeps : Keeps old new
   pub calm : new.failures ≡ old.failures
   pub opened : new.openings ≡ old.openings ++ map read_path read
   pub paths : map read_path read ≡ wanted options (take count files)
   pub whole : (one : TagBytes) → Contains read one → IsWhole files old one
+  pub texts : AreTexts (take count files)
 
 pub reads_none : (options : Options) (files : List FileEntry) (old : TreeState) → ReadsSome options files 0 old old []
 reads_none options files old = record {
@@ -68,6 +75,7 @@ reads_none options files old = record {
   opened = sym (append-nil old.openings);
   paths = sym (none_wanted options);
   whole = λ one c. absurd (contains_nothing one c);
+  texts = λ entry c. absurd (contains_nothing entry c);
 }
 
 module _ (options : Options) (files : List FileEntry) (i : ℕ) (entry : FileEntry) (old mid new : TreeState) (read : List TagBytes)
@@ -80,17 +88,21 @@ module _ (options : Options) (files : List FileEntry) (i : ℕ) (entry : FileEnt
       ap (wanted options) (take_one_more files i entry lt is) ∙ wanted_joined options (take i files) (entry ∷ [])
       ∙ ap (λ paths. paths ++ wanted options (entry ∷ [])) (sym before.paths)
 
+  texts_more : IsUtf8 entry.path → AreTexts (take (i + 1) files)
+  texts_more text other c = elim (taken_cases files i entry other lt is c) [ inl a ↦ before.texts other a | inr e ↦ subst (λ (x : FileEntry). IsUtf8 x.path) e text ]
+
   -- a listed file isn't wanted
-  pub reads_no_more : Keeps mid new → new.failures ≡ mid.failures → ReadsWanted options entry mid new None → ReadsSome options files (i + 1) old new read
-  reads_no_more k calm h = record {
+  pub reads_no_more : Keeps mid new → new.failures ≡ mid.failures → IsUtf8 entry.path → ReadsWanted options entry mid new None → ReadsSome options files (i + 1) old new read
+  reads_no_more k calm text h = record {
     keeps = keeps_on old mid new before.keeps k;
     calm = calm ∙ before.calm;
     opened = h.1 ∙ before.opened;
     paths = sym (next_paths ∙ ap (λ paths. map read_path read ++ paths) (one_unwanted options entry h.0) ∙ append-nil (map read_path read));
     whole = before.whole;
+    texts = texts_more text;
   }
 
-  module _ (one : TagBytes) (k : Keeps mid new) (calm : new.failures ≡ mid.failures) (h : ReadsWanted options entry mid new (Some one)) where
+  module _ (one : TagBytes) (k : Keeps mid new) (calm : new.failures ≡ mid.failures) (text : IsUtf8 entry.path) (h : ReadsWanted options entry mid new (Some one)) where
     entry_wanted : IsWanted options entry.path
     entry_wanted = (one.name, h.at, h.wanted)
 
@@ -107,6 +119,7 @@ module _ (options : Options) (files : List FileEntry) (i : ℕ) (entry : FileEnt
 
     one_whole : IsWhole files old one
     one_whole = record {
+      are_bytes = h.are_bytes;
       size = ap (λ path. size_at files path) h.at ∙ own_size files entry s listed ∙ ap Some (sym h.size);
       bytes = λ honest. ap (file old.bag) h.at ∙ sym (ap (λ bag. file bag entry.path) before.keeps.bag) ∙ h.bytes (before.keeps.honest ∙ honest);
     }
@@ -122,6 +135,7 @@ module _ (options : Options) (files : List FileEntry) (i : ℕ) (entry : FileEnt
         | inl a ↦ before.whole other a
         | inr b ↦ elim (contains_cases one [] other b) [ inl e ↦ subst (IsWhole files old) e one_whole | inr none ↦ absurd (contains_nothing other none) ]
       ];
+      texts = texts_more text;
     }
 
 -- those among the first of the listed files were opened
@@ -171,6 +185,28 @@ pub all_wanted : (options : Options) (files : List FileEntry) (count : ℕ) (old
 all_wanted options files count old new read s le h =
     subst (AreWanted options files) (sym (h.paths ∙ ap (wanted options) (take_all count files le))) (are_wanted options files s)
 
+-- and all paths are texts
+pub all_texts : (options : Options) (files : List FileEntry) (count : ℕ) (old new : TreeState) (read : List TagBytes) → length files ≤ count
+    → ReadsSome options files count old new read → AreTexts files
+all_texts options files count old new read le h = subst AreTexts (take_all count files le) h.texts
+
+listing_refusal : (old new : TreeState) (cause : TreeFault) → MayRefuse ⊥ ⊥ old new cause → new.last ≡ Refused cause → MayRefuseFacts old new cause × CameFromTree new cause
+listing_refusal old new Changed h last = absurd h
+listing_refusal old new NoneOpen h last = absurd h
+listing_refusal old new Memory h last = (tt, tt)
+listing_refusal old new other h last = (h, last)
+
+-- a refused listing stops reading the facts
+pub listing_stop : (options : Options) (old new : TreeState) (cause : TreeFault) (stop : Stop) → stop.cause ≡ cause → stop.path ≡ [] → new.openings ≡ old.openings
+    → MayRefuse ⊥ ⊥ old new cause → new.last ≡ Refused cause → MayStop options old new stop
+listing_stop options old new cause stop same none unopened h last =
+    let both = listing_refusal old new cause h last in record {
+      cause = subst (MayRefuseFacts old new) (sym same) both.0;
+      answered = subst (CameFromTree new) (sym same) both.1;
+      path = inr (inl (none, unopened, subst (MayRefuse ⊥ ⊥ old new) (sym same) h));
+      memory = λ _. none;
+    }
+
 -- what stops reading after a listing stops reading the facts
 pub facts_stop : (options : Options) (listing : Listing) (files : List FileEntry) (old mid new : TreeState) (stop : Stop) → Keeps old mid → files ≡ listing.files
     → (IsTrue old.honest → IsListingOf old.bag listing) → ((IsTrue mid.honest → AreListed mid.bag files) → StopsReading options mid new stop) → MayStop options old new stop
@@ -179,6 +215,7 @@ facts_stop options listing files old mid new stop k e listed stops =
     λ honest. subst (AreListed mid.bag) (sym e) (subst (λ bag. AreListed bag listing.files) (sym k.bag) (listed (sym k.honest ∙ honest)).files) in
     let h = later_stop options old mid new stop k (stops are) in record {
       cause = h.cause;
+      answered = h.answered;
       path = elim h.path [ inl none ↦ inl none | inr at ↦ inr (inr at) ];
       memory = h.memory;
     }

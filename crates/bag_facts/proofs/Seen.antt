@@ -1,15 +1,14 @@
 -- A bag that has the listed files, with the bytes that were read of some.
-use Rattle.std.proofs.Common.{◌≡◌, ℕ, List, [], ◌∷◌, length, map, replicate, Bool, true, false, cond, Option, None, Some, refl, ap, sym, ◌∙◌, bytes_eq, codes, Contains}
+use Rattle.std.proofs.Common.{◌≡◌, ℕ, List, [], ◌∷◌, length, map, replicate, Bool, true, false, cond, Option, None, Some, refl, ap, sym, ◌∙◌, bytes_eq, Contains}
 use Rattle.std.specs.Option.{option_map}
 use Rattle.std.specs.List.Sorted.{IsStrictlySortedBy}
 use Rattle.std.specs.FinMap.{find, from_entries, get-from_entries}
-use Rattle.std.specs.FinSet as set
 use Rattle.std.specs.Ordering.{eq_by_cmp}
 use Rattle.std.specs.Cmp.Lexicographic.{nat_list_cmp_total}
 use Rattle.std.proofs.lemmas.List.{length-replicate}
 use Rattle.bag_text.specs.Text.{text_cmp}
 use Rattle.bag_tree.specs.Bag.{Bag, file}
-use Rattle.bag_tree.specs.Listing.{IsListingOf, entry_at, size_at}
+use Rattle.bag_tree.specs.Listing.{IsOrdered, HasItsFolder, IsListingOf, entry_at, size_at}
 use Rattle.bag_tree.specs.declared.listing.FileEntry.{FileEntry}
 use Rattle.bag_tree.specs.declared.listing.Listing.{Listing}
 use Rattle.bag_tree.proofs.SameText.{same_test}
@@ -17,6 +16,7 @@ use Rattle.bag_facts.specs.TagReader.{read_path}
 use Rattle.bag_facts.specs.Wanted.{paths_of}
 use Rattle.bag_facts.specs.declared.tag_reader.TagBytes.{TagBytes}
 use Rattle.bag_facts.proofs.ListedFiles.{item_at, own_item, found_item, own_size}
+use Rattle.bag_facts.proofs.SeenFolders.{folders_of, data_listed}
 
 map-cond : {A B : Type 0} (f : A → B) (b : Bool) (x : A) (o : Option A) → option_map f (cond b (Some x) o) ≡ cond b (Some (f x)) (option_map f o)
 map-cond f true x o = refl
@@ -30,31 +30,23 @@ find-mapped f (e ∷ files) q =
     ∙ sym (map-cond f (bytes_eq e.path q) e (entry_at files q))
 
 -- the bytes that were read, or as many as were listed
-abbrev bytes_or : Option TagBytes → ℕ → List ℕ
+abbrev pub bytes_or : Option TagBytes → ℕ → List ℕ
 bytes_or None size = replicate size 0
 bytes_or (Some one) size = one.bytes.items
 
-abbrev bytes_of : List TagBytes → FileEntry → List ℕ
+abbrev pub bytes_of : List TagBytes → FileEntry → List ℕ
 bytes_of read e = bytes_or (item_at read_path read e.path) e.size
 
-abbrev folders_of : Bool → set.FinSet text_cmp
-folders_of true = set.from_list (codes "data" ∷ [])
-folders_of false = set.empty
-
--- the bag of the listed files with these bytes
+-- the bag of the listed files with these bytes, and of the folders that the listing tells of
 abbrev pub seen_bag : List TagBytes → Listing → Bag
 seen_bag read listing = record {
   files = from_entries {R = text_cmp} (map (λ e. (e.path, bytes_of read e)) listing.files);
-  folders = folders_of listing.has_data;
+  folders = folders_of listing;
 }
 
-seen_file : (read : List TagBytes) (listing : Listing) (q : List ℕ) → file (seen_bag read listing) q ≡ option_map (bytes_of read) (entry_at listing.files q)
+pub seen_file : (read : List TagBytes) (listing : Listing) (q : List ℕ) → file (seen_bag read listing) q ≡ option_map (bytes_of read) (entry_at listing.files q)
 seen_file read listing q =
     get-from_entries nat_list_cmp_total (map (λ e. (e.path, bytes_of read e)) listing.files) q ∙ find-mapped (bytes_of read) listing.files q
-
-seen_data : (b : Bool) → b ≡ set.contains (folders_of b) (codes "data")
-seen_data true = sym (set.contains-from_list nat_list_cmp_total (codes "data" ∷ []) (codes "data"))
-seen_data false = sym (set.contains-empty text_cmp (codes "data"))
 
 module _ (read : List TagBytes) (listing : Listing) (s : IsStrictlySortedBy text_cmp (paths_of listing.files))
     (sizes : (one : TagBytes) → Contains read one → size_at listing.files (read_path one) ≡ Some (length one.bytes.items)) where
@@ -68,10 +60,10 @@ module _ (read : List TagBytes) (listing : Listing) (s : IsStrictlySortedBy text
   size_by q None is = refl
   size_by q (Some e) is = ap Some (sym (length_by e (item_at read_path read e.path) (found_item (λ (x : FileEntry). x.path) listing.files q e is).0 refl))
 
-  pub listing_seen : IsListingOf (seen_bag read listing) listing
-  listing_seen = record {
+  pub listing_seen : IsOrdered listing.files → HasItsFolder listing → IsListingOf (seen_bag read listing) listing
+  listing_seen ordered needs = record {
     files = λ path. size_by path (entry_at listing.files path) refl ∙ ap (option_map length) (sym (seen_file read listing path));
-    has_data = seen_data listing.has_data;
+    has_data = data_listed listing ordered needs;
   }
 
   read_by : (one : TagBytes) (o : Option FileEntry) → IsStrictlySortedBy text_cmp (map read_path read) → Contains read one → entry_at listing.files (read_path one) ≡ o

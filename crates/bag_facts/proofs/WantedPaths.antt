@@ -15,7 +15,7 @@ use Rattle.bag_tags.specs.TagName.{tag_path}
 use Rattle.bag_tags.specs.declared.kind.Kind.TheVariants.{Payload, Tag}
 use Rattle.bag_tags.specs.declared.tag_name.TagName.{TagName}
 use Rattle.bag_tags.specs.declared.tag_name.TagName.TheVariants.{Declaration, Info, Fetch, Manifest}
-use Rattle.bag_tags.proofs.PickedOut.{any_from, from_any, both_true}
+use Rattle.bag_line.proofs.PickedOut.{any_from, from_any, both_true}
 use Rattle.bag_tree.specs.declared.listing.FileEntry.{FileEntry}
 use Rattle.bag_facts.specs.Wanted.{Wants, IsWanted, AreWanted, paths_of}
 use Rattle.bag_facts.specs.declared.options.Depth.{Depth}

@@ -1,7 +1,7 @@
 -- Why listing a tree and reading its tag files may stop.
 use Rattle.std.specs.Prelude.{◌≡◌, ◌⊎◌, ◌<◌, ℕ, List, [], IsTrue}
 use Rattle.bag_tree.specs.Bag.{HasFile}
-use Rattle.bag_tree.specs.Tree.{TreeState, MayRefuse, most_entries}
+use Rattle.bag_tree.specs.Tree.{TreeState, MayRefuse, FailsOver, CameFromTree, most_entries}
 use Rattle.bag_tree.specs.declared.fault.Stop.{Stop}
 use Rattle.bag_tree.specs.declared.fault.TreeFault.{TreeFault}
 use Rattle.bag_tree.specs.declared.fault.TreeFault.TheVariants.{Device, Special, Name, NotFound, TooMany, Changed, NoneOpen, Memory, Exists}
@@ -16,12 +16,12 @@ IsOutOfMemory stop = (stop.cause ≡ Memory) × (stop.path ≡ [])
 abbrev pub IsStopAt : TreeFault → List ℕ → Stop → Type 0
 IsStopAt cause path stop = ((stop.cause ≡ cause) × (stop.path ≡ path) × (cause ≡ Memory → ⊥)) ⊎ IsOutOfMemory stop
 
--- Why listing a tree and reading its tag files may be refused. Over an honest tree the cause is the device, the
--- number of its files or want of memory.
+-- Why listing a tree and reading its tag files may be refused. Over an honest tree the cause is the device, something in
+-- the tree that is no file and no folder or has a name that isn't UTF-8, the number of its files or want of memory.
 abbrev pub MayRefuseFacts : TreeState → TreeState → TreeFault → Type 0
 MayRefuseFacts old new Device = old.failures < new.failures
-MayRefuseFacts old new Special = old.failures < new.failures
-MayRefuseFacts old new Name = old.failures < new.failures
+MayRefuseFacts old new Special = FailsOver old new
+MayRefuseFacts old new Name = FailsOver old new
 MayRefuseFacts old new NotFound = ¬ (IsTrue old.honest)
 MayRefuseFacts old new TooMany = IsTrue old.honest → most_entries < old.entries
 MayRefuseFacts old new Changed = ¬ (IsTrue old.honest)
@@ -37,9 +37,10 @@ IsOfListing old new stop = (stop.path ≡ []) × (new.openings ≡ old.openings)
 abbrev pub IsOfFile : Options → TreeState → Stop → Type 0
 IsOfFile options old stop = IsWanted options stop.path × (IsTrue old.honest → HasFile old.bag stop.path)
 
--- A stop tells the cause, and the file that was refused. It names none for want of memory, and where it was the listing
--- that was refused.
+-- A stop tells the cause, which is the tree's own answer but for want of memory, and the file that was refused. It names
+-- none for want of memory, and where it was the listing that was refused.
 pub record MayStop (options : Options) (old new : TreeState) (stop : Stop) : Type 0 where
   pub cause : MayRefuseFacts old new stop.cause
+  pub answered : CameFromTree new stop.cause
   pub path : IsOutOfMemory stop ⊎ IsOfListing old new stop ⊎ IsOfFile options old stop
   pub memory : stop.cause ≡ Memory → stop.path ≡ []

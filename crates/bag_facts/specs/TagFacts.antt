@@ -7,7 +7,7 @@ use Rattle.bag_text.specs.Text.{text_cmp}
 use Rattle.bag_text.specs.Lines.{lines_of_file}
 use Rattle.bag_text.specs.Order.{IsListOf}
 use Rattle.bag_tags.specs.Declaration.{declared_version, declared_encoding, IsDeclarationFault}
-use Rattle.bag_tags.specs.LineFault.{AreFaults}
+use Rattle.bag_line.specs.LineFault.{AreFaults}
 use Rattle.bag_tags.specs.Manifest.{IsEntry, IsManifestFault}
 use Rattle.bag_tags.specs.TagName.{tag_path}
 use Rattle.bag_tags.specs.declared.declaration.Declaration.{Declaration}

@@ -1,10 +1,10 @@
 -- Reading the tag files of a listing.
-use Rattle.std.specs.Prelude.{◌≡◌, ◌⊎◌, ◌++◌, ◌∷◌, ℕ, List, [], length, Option, None, Some, IsTrue}
+use Rattle.std.specs.Prelude.{◌≡◌, ◌⊎◌, ◌++◌, ◌∷◌, ◌<◌, ℕ, List, [], length, All, Contains, Option, None, Some, IsTrue, IsUtf8}
 use Rattle.std.specs.Option.{option_map}
 use Rattle.bag_tags.specs.TagName.{tag_path}
 use Rattle.bag_tree.specs.Bag as bag
 use Rattle.bag_tree.specs.Listing.{size_at}
-use Rattle.bag_tree.specs.Tree.{TreeState}
+use Rattle.bag_tree.specs.Tree.{TreeState, CameFromTree}
 use Rattle.bag_tree.specs.declared.listing.FileEntry.{FileEntry}
 use Rattle.bag_tree.specs.declared.fault.Stop.{Stop}
 use Rattle.bag_tree.specs.declared.fault.TreeFault.TheVariants.{Memory}
@@ -21,8 +21,17 @@ read_path read = tag_path read.name
 abbrev pub AreListed : bag.Bag → List FileEntry → Type 0
 AreListed of files = (path : List ℕ) → size_at files path ≡ option_map length (bag.file of path)
 
+-- the paths of listed files are texts
+abbrev pub AreTexts : List FileEntry → Type 0
+AreTexts files = (entry : FileEntry) → Contains files entry → IsUtf8 entry.path
+
+-- numbers below 256
+abbrev pub AreBytes : List ℕ → Type 0
+AreBytes bytes = All (λ b. b < 256) bytes
+
 -- the file was read whole: it has as many bytes as were listed, and those of an honest tree's bag
 pub record IsWhole (files : List FileEntry) (old : TreeState) (read : TagBytes) : Type 0 where
+  pub are_bytes : AreBytes read.bytes.items
   pub size : size_at files (read_path read) ≡ Some (length read.bytes.items)
   pub bytes : IsTrue old.honest → bag.file old.bag (read_path read) ≡ Some read.bytes.items
 
@@ -31,6 +40,7 @@ pub record ReadsFile (options : Options) (entry : FileEntry) (old new : TreeStat
   pub at : read_path read ≡ entry.path
   pub wanted : Wants options read.name
   pub opened : new.openings ≡ old.openings ++ entry.path ∷ []
+  pub are_bytes : AreBytes read.bytes.items
   pub size : length read.bytes.items ≡ entry.size
   pub bytes : IsTrue old.honest → bag.file old.bag entry.path ≡ Some read.bytes.items
 
@@ -42,5 +52,6 @@ ReadsWanted options entry old new (Some read) = ReadsFile options entry old new 
 -- reading files stopped: at one that is wanted, or for want of memory
 pub record StopsReading (options : Options) (old new : TreeState) (stop : Stop) : Type 0 where
   pub cause : MayRefuseFacts old new stop.cause
+  pub answered : CameFromTree new stop.cause
   pub path : IsOutOfMemory stop ⊎ IsOfFile options old stop
   pub memory : stop.cause ≡ Memory → stop.path ≡ []

@@ -1,7 +1,7 @@
 //! What is read of a bag.
 ghost use Rattle.std.specs.Prelude.{◌≡◌, ◌≢◌, ◌⊎◌, [], IsTrue, IfOk, IfErr, OnOk, OnErr, codes};
 ghost use Rattle.std.specs.Option.{option_copied};
-ghost use Rattle.bag_tree.specs.Bag.{Bag, file};
+ghost use Rattle.bag_tree.specs.Bag.{Bag, IsBag, file};
 ghost use Rattle.bag_tree.specs.Tree.{Keeps};
 ghost use Rattle.bag_facts.specs.Facts.{AreParsed};
 ghost use Rattle.bag_facts.specs.TagFacts.{IsReadOf, IsDeclarationOf};
@@ -32,8 +32,9 @@ impl Facts {
     /// Lists the tree, and reads its tag files whole, in path order and each once: at every depth `bagit.txt`, and at
     /// the depths above `Declaration` also `bag-info.txt`, `fetch.txt` and the manifests of supported algorithms.
     ///
-    /// The stop of a refusal names the file that was refused; it names none for the listing and for want of memory. The
-    /// facts are those of an honest tree's bag. Of any other tree they are those of some bag that has the listed files.
+    /// The stop of a refusal names the file that was refused; it names none for the listing and for want of memory. Its
+    /// cause is the tree's own answer, but for want of memory. The facts are those of an honest tree's bag. Of any other
+    /// tree they are those of some bag that has the listed files.
     pub fn read<T: Tree>(alloc: Global, tree: &mut T, options: Options) -> Result<Facts, Stop>
         ensures keeps { Keeps (T.state tree.old) (T.state tree.new) }
         ensures calm { OnOk result ((T.state tree.new).failures ≡ (T.state tree.old).failures) }
@@ -45,7 +46,8 @@ impl Facts {
             → ForListing (T.state tree.old) (λ files. OpensUpTo options files stop.path (T.state tree.old) (T.state tree.new))) }
         ensures options { IfOk result (λ facts. facts.options ≡ options) }
         ensures facts { IfOk result (λ facts. IsTrue (T.state tree.old).honest → IsFactsOf (T.state tree.old).bag facts) }
-        ensures seen { IfOk result (λ facts. (bag : Bag) × IsFactsOf bag facts) }
+        ensures seen { IfOk result (λ facts. (bag : Bag) × IsBag bag × IsFactsOf bag facts) }
+        ensures plain { OnOk result (IsTrue (T.state tree.old).honest → IsTrue (T.state tree.old).plain) }
         ensures stop { IfErr result (MayStop options (T.state tree.old) (T.state tree.new)) }
     {
         let listing = match tree.list() {

@@ -4,7 +4,7 @@ ghost use Rattle.std.specs.List.Sorted.{IsPermutation, IsSortedByKey};
 ghost use Rattle.std.specs.Str.{is_utf8};
 ghost use Rattle.bag_text.specs.Text.{text_cmp};
 ghost use Rattle.bag_text.specs.declared.alg.Alg.{Alg};
-ghost use Rattle.bag_tags.specs.LineFault.{AreFaults};
+ghost use Rattle.bag_line.specs.LineFault.{AreFaults};
 ghost use Rattle.bag_tags.specs.Manifest.{IsManifestFault};
 ghost use Rattle.bag_tags.specs.declared.kind.Kind.{Kind};
 ghost use Rattle.bag_facts.specs.TagFacts.{name_of, text_test, entry_paths, AreByPath, IsManifestOf, IsParsed};

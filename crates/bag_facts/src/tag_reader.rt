@@ -1,10 +1,10 @@
 //! Reads the tag files of a listing.
-ghost use Rattle.std.specs.Prelude.{◌≡◌, ◌≢◌, ◌++◌, [], IsTrue, IfOk, IfErr, OnOk, OnErr, MatchOption, Contains, map};
+ghost use Rattle.std.specs.Prelude.{◌≡◌, ◌≢◌, ◌++◌, [], IsTrue, IsUtf8, IfOk, IfErr, OnOk, OnErr, MatchOption, Contains, map};
 ghost use Rattle.bag_tags.specs.TagName.{tag_path};
 ghost use Rattle.bag_tree.specs.Listing.{IsOrdered};
 ghost use Rattle.bag_tree.specs.Tree.{Keeps, IsEntryOf, OpensAtMost};
 ghost use Rattle.bag_facts.specs.Stops.{IsStopAt};
-ghost use Rattle.bag_facts.specs.TagReader.{AreListed, IsWhole, ReadsWanted, StopsReading, read_path};
+ghost use Rattle.bag_facts.specs.TagReader.{AreBytes, AreListed, AreTexts, IsWhole, ReadsWanted, StopsReading, read_path};
 ghost use Rattle.bag_facts.specs.Wanted.{Wants, IsWanted, AreWanted, OpensFirst, OpensUpTo};
 ghost use Rattle.bag_facts.specs.declared.tag_reader.TagBytes.{TagBytes};
 
@@ -21,6 +21,17 @@ pub(crate) struct TagBytes {
     pub(crate) bytes: Vec<u8>,
 }
 
+impl TagBytes {
+    /// The bytes that were read of a tag file.
+    fn new(name: TagName, bytes: Vec<u8>) -> TagBytes
+        ensures name { result.name ≡ name }
+        ensures bytes { result.bytes ≡ bytes }
+        ensures are_bytes { AreBytes bytes.items }
+    {
+        TagBytes { name, bytes }
+    }
+}
+
 /// Reads each wanted tag file among the listed files whole, in their order.
 pub(crate) fn read_tag_files<T: Tree>(
     alloc: Global,
@@ -32,6 +43,7 @@ pub(crate) fn read_tag_files<T: Tree>(
     ensures keeps { Keeps (T.state tree.old) (T.state tree.new) }
     ensures calm { OnOk result ((T.state tree.new).failures ≡ (T.state tree.old).failures) }
     ensures opened { IfOk result (λ read. (T.state tree.new).openings ≡ (T.state tree.old).openings ++ map read_path read.items) }
+    ensures texts { OnOk result (AreTexts files.now) }
     ensures wanted { IfOk result (λ read. AreWanted options files.now (map read_path read.items)) }
     ensures whole { IfOk result (λ read. (file : TagBytes) → Contains read.items file → IsWhole files.now (T.state tree.old) file) }
     ensures opened_first { OnErr result (OpensFirst options files.now (T.state tree.old) (T.state tree.new)) }
@@ -60,6 +72,7 @@ fn read_wanted<T: Tree>(
 ) -> Result<Option<TagBytes>, Stop>
     ensures keeps { Keeps (T.state tree.old) (T.state tree.new) }
     ensures calm { OnOk result ((T.state tree.new).failures ≡ (T.state tree.old).failures) }
+    ensures text { OnOk result (IsUtf8 entry.now.path) }
     ensures read { IfOk result (ReadsWanted options entry.now (T.state tree.old) (T.state tree.new)) }
     ensures opens { OnErr result (IsWanted options entry.now.path × OpensAtMost (T.state tree.old) (T.state tree.new) entry.now.path) }
     ensures refused { IfErr result (λ stop. stop.path ≢ [] → stop.path ≡ entry.now.path) }
@@ -70,7 +83,7 @@ fn read_wanted<T: Tree>(
         return Ok(None);
     };
     match read_whole(alloc, tree, entry) {
-        Ok(bytes) => Ok(Some(TagBytes { name, bytes })),
+        Ok(bytes) => Ok(Some(TagBytes::new(name, bytes))),
         Err(cause) => Err(stop_at(alloc, cause, &entry.path)),
     }
 }
@@ -91,7 +104,7 @@ fn wanted_at(options: Options, path: &str) -> Option<TagName>
 
 /// A refusal of a file. Where there is no memory for its path, that is the cause.
 fn stop_at(alloc: Global, cause: TreeFault, path: &Text) -> Stop
-    ensures { IsStopAt cause path.now result }
+    ensures stop { IsStopAt cause path.now result }
 {
     if cause == TreeFault::Memory {
         return Stop::without_path(alloc, cause);

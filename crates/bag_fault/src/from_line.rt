@@ -57,7 +57,9 @@ fn read(alloc: Global, line: &str) -> Result<Fault, CursorFault>
     ensures fault { IfOk result IsFault }
     ensures reads { (fault : Fault) → spec.IsLineOf line.now fault → MatchResult result (λ read. read ≡ fault) (λ e. e ≡ CursorFault.Memory) }
 {
-    let fields = Fields::of(line).ok_or(CursorFault::NotALine)?;
+    let Some(fields) = Fields::of(line) else {
+        return Err(CursorFault::NotALine);
+    };
     let code = read_code(fields.code)?;
     let alg = read_alg(fields.alg)?;
     let line = read_line_number(fields.line)?;
@@ -87,11 +89,21 @@ impl<'a> Fields<'a> {
     fn of(text: &'a str) -> Option<Fields<'a>>
         ensures { (fault : Fault) → spec.IsLineOf text.now fault → MatchOption result ⊥ (AreFields fault) }
     {
-        let (code, rest) = text.split_once(' ')?;
-        let (_, rest) = rest.split_once(' ')?;
-        let (path, rest) = rest.split_once(' ')?;
-        let (alg, rest) = rest.split_once(' ')?;
-        let (line, detail) = rest.split_once(' ')?;
+        let Some((code, rest)) = text.split_once(' ') else {
+            return None;
+        };
+        let Some((_, rest)) = rest.split_once(' ') else {
+            return None;
+        };
+        let Some((path, rest)) = rest.split_once(' ') else {
+            return None;
+        };
+        let Some((alg, rest)) = rest.split_once(' ') else {
+            return None;
+        };
+        let Some((line, detail)) = rest.split_once(' ') else {
+            return None;
+        };
         Some(Fields {
             code,
             path,

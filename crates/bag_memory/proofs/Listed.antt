@@ -1,7 +1,7 @@
 -- A listing of files in memory.
-use Rattle.std.proofs.Common.{◌≡◌, ℕ, List, [], ◌∷◌, length, Bool, true, false, cond, ◌||◌, Option, Some, is_some, IsTrue, All, arith, refl, ap, sym, ◌∙◌, subst, map}
+use Rattle.std.proofs.Common.{◌≡◌, ℕ, ◌&&◌, List, [], ◌∷◌, ◌++◌, length, codes, get_or, nat_lt, Contains, eqb-true, Bool, true, false, cond, ◌||◌, Option, Some, is_some, IsTrue, All, refl, ap, sym, ◌∙◌, subst, map}
 use Rattle.std.specs.Option.{option_map}
-use Rattle.std.specs.List.{list_any}
+use Rattle.std.specs.List.{list_any, position_or_len, after_first}
 use Rattle.std.specs.List.Sorted.{IsStrictlySortedBy}
 use Rattle.std.specs.Map.{lookup}
 use Rattle.std.specs.BTreeMap.{is_at}
@@ -11,16 +11,18 @@ use Rattle.bag_tree.specs.declared.listing.FileEntry.{FileEntry}
 use Rattle.std.specs.FinSet as set
 use Rattle.std.specs.Cmp.{eq_by_cmp_equiv}
 use Rattle.std.specs.Cmp.Lexicographic.{nat_list_cmp_total}
-use Rattle.std.specs.Ordering.{nat_cmp, is_eq, eq_by_cmp}
+use Rattle.std.specs.Ordering.{eq_by_cmp}
 use Rattle.std.proofs.lemmas.Bool.{and_parts}
-use Rattle.std.proofs.lemmas.List.Elements.{All-nil, All-cons}
-use Rattle.std.proofs.lemmas.Cmp.{same_from_slice_cmp}
-use Rattle.std.proofs.lemmas.Bool.Decides.{nat_tests}
+use Rattle.std.proofs.lemmas.List.Elements.{All-nil, All-cons, All-contains}
+use Rattle.std.proofs.lemmas.List.Sums.{passes_at_first, split_at_first}
 use Rattle.bag_text.specs.Text.{text_cmp}
-use Rattle.bag_text.specs.Path.{is_path}
-use Rattle.bag_tree.specs.Listing.{IsOrdered, size_at, entry_at}
+use Rattle.bag_text.specs.Path.{slash, components, first_component, is_path, is_payload_path, under}
+use Rattle.bag_tree.specs.Bag.{has_file, has_folder}
+use Rattle.bag_tree.specs.Listing.{IsOrdered, HasItsFolder, size_at, entry_at}
+use Rattle.bag_tree.specs.declared.listing.Listing.{Listing}
 use Rattle.bag_memory.specs.Memory.{listed, bag_of, PassesAsBag}
-use Rattle.bag_tree.proofs.SameText.{exact_texts, same_test, text_itself}
+use Rattle.bag_tree.proofs.SameText.{exact_texts, one_text, same_test, text_itself}
+use Rattle.bag_memory.proofs.Parents.{is_slash, slash_within}
 use Rattle.bag_memory.proofs.MemoryFiles.{file_at}
 
 paths_listed : (es : List (List ℕ × List ℕ)) → map (λ entry. entry.path) (listed es) ≡ map (λ e. e.0) es
@@ -30,12 +32,12 @@ paths_listed (e ∷ es) = ap (λ paths. e.0 ∷ paths) (paths_listed es)
 pub listed_ascending : (es : List (List ℕ × List ℕ)) → IsStrictlySortedBy text_cmp (map (λ e. e.0) es) → IsStrictlySortedBy text_cmp (map (λ entry. entry.path) (listed es))
 listed_ascending es ascending = subst (IsStrictlySortedBy text_cmp) (sym (paths_listed es)) ascending
 
--- each listed path is a path
-listed_paths : (es : List (List ℕ × List ℕ)) → ((path : List ℕ) → is_some (find text_cmp path es) ≡ true → is_path path ≡ true) → All (λ entry. IsTrue (is_path entry.path)) (listed es)
-listed_paths [] is = All-nil (λ (entry : FileEntry). IsTrue (is_path entry.path))
-listed_paths (e ∷ es) is = All-cons (λ (entry : FileEntry). IsTrue (is_path entry.path)) (record { path = e.0; size = length e.1 }) (listed es)
+-- what is true of each path with a file is true of each listed path
+listed_paths : (P : List ℕ → Type 0) (es : List (List ℕ × List ℕ)) → ((path : List ℕ) → is_some (find text_cmp path es) ≡ true → P path) → All (λ entry. P entry.path) (listed es)
+listed_paths P [] is = All-nil (λ (entry : FileEntry). P entry.path)
+listed_paths P (e ∷ es) is = All-cons (λ (entry : FileEntry). P entry.path) (record { path = e.0; size = length e.1 }) (listed es)
     (is e.0 (ap (λ b. is_some (cond b (Some e.1) (find text_cmp e.0 es))) (text_itself e.0)))
-    (listed_paths es (λ path has. is path (kept (eq_by_cmp text_cmp path e.0) e.1 (find text_cmp path es) has)))
+    (listed_paths P es (λ path has. is path (kept (eq_by_cmp text_cmp path e.0) e.1 (find text_cmp path es) has)))
   where
     kept : (b : Bool) (x : List ℕ) (o : Option (List ℕ)) → is_some o ≡ true → is_some (cond b (Some x) o) ≡ true
     kept true x o has = refl
@@ -44,8 +46,26 @@ listed_paths (e ∷ es) is = All-cons (λ (entry : FileEntry). IsTrue (is_path e
 pub listed_is_ordered : (es : List (List ℕ × List ℕ)) (names : List (List ℕ)) → IsStrictlySortedBy text_cmp (map (λ e. e.0) es) → PassesAsBag (bag_of es names) → IsOrdered (listed es)
 listed_is_ordered es names ascending passes = record {
   ascending = listed_ascending es ascending;
-  paths = listed_paths es (λ path has. (and_parts _ _ (passes.paths path (ap is_some (get-from_entries nat_list_cmp_total es path) ∙ has))).0);
+  paths = listed_paths (λ path. IsTrue (is_path path)) es (λ path has. (and_parts _ _ (passes.paths path (ap is_some (get-from_entries nat_list_cmp_total es path) ∙ has))).0);
 }
+
+-- a payload file stands in the payload folder
+payload_under : (path : List ℕ) → is_payload_path path ≡ true → path ≡ under (codes "data") (after_first is_slash path)
+payload_under path is =
+    let parts = and_parts (is_path path && bytes_eq (first_component path) (codes "data")) (nat_lt 1 (length (components path))) is in
+    let first : codes "data" ≡ first_component path = one_text (codes "data") (first_component path) (sym (same_test (first_component path) (codes "data")) ∙ (and_parts (is_path path) _ parts.0).1) in
+    let place = slash_within path parts.1 in
+    let mark : get_or path (position_or_len is_slash path) 0 ≡ slash = eqb-true _ _ (passes_at_first is_slash path 0 place) in
+    split_at_first is_slash path 0 place ∙ ap (λ c. first_component path ++ c ∷ after_first is_slash path) mark ∙ ap (λ top. under top (after_first is_slash path)) (sym first)
+
+-- where a payload file is listed its folder is there
+pub listed_has_folder : (es : List (List ℕ × List ℕ)) (names : List (List ℕ)) (listing : Listing) → PassesAsBag (bag_of es names) → listing.files ≡ listed es → listing.has_data ≡ has_folder (bag_of es names) (codes "data") → HasItsFolder listing
+listed_has_folder es names listing passes files has_data entry within is =
+    let P : List ℕ → Type 0 = λ path. is_payload_path path ≡ true → has_folder (bag_of es names) (codes "data") ≡ true in
+    has_data ∙ All-contains (λ (e : FileEntry). P e.path) (listed es) entry
+    (listed_paths P es (λ path has payload. passes.parents (codes "data") (after_first is_slash path) refl
+    (subst (λ p. has_file (bag_of es names) p ≡ true) (payload_under path payload) (ap is_some (get-from_entries nat_list_cmp_total es path) ∙ has))))
+    (subst (λ files. Contains files entry) files within) is
 
 one_more : (b : Bool) (e : List ℕ × List ℕ) (rest : Option FileEntry) (others : Option (List ℕ)) → option_map (λ x. x.size) rest ≡ option_map length others
     → option_map (λ (x : FileEntry). x.size) (cond b (Some (record { path = e.0; size = length e.1 })) rest) ≡ option_map length (cond b (Some e.1) others)

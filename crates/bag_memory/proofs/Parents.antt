@@ -1,83 +1,14 @@
--- The folder that a path stands in.
-use Rattle.std.proofs.Common.{◌≡◌, ℕ, ◌+◌, ◌<◌, ◌≤◌, ◌==◌, Bool, true, false, List, [], ◌∷◌, ◌++◌, length, take, nat_lt, All, add_comm, add-one, refl, ap, sym, ◌∙◌, arith, ⊎_elim}
-use Rattle.std.specs.List.{list_all, position_or_len, before_first, after_first, count_by}
-use Rattle.std.proofs.lemmas.Bool.{and_parts, and_from, ltb-true, lt-ltb, cases_lt, eqb-true}
-use Rattle.std.proofs.lemmas.List.Elements.{All-head, All-tail}
-use Rattle.std.proofs.lemmas.List.Splits.{slice_split_none, slice_split_at, slice_split_first, length-slice_split}
-use Rattle.std.proofs.lemmas.List.Sums.{passes_at_first, fails_before_first}
-use Rattle.std.proofs.lemmas.Str.{IsUtf8-from_is_utf8, is_utf8-from_IsUtf8, IsUtf8-take, IsCharBoundary-before_ascii}
-use Rattle.std.proofs.lemmas.List.{get_or-take, length-take}
-use Rattle.bag_text.specs.Path.{slash, components, is_component, is_path, is_base_name, first_component, under}
+-- The folder that a path in UTF-8 stands in.
+use Rattle.std.proofs.Common.{◌≡◌, ℕ, true, List}
+use Rattle.std.proofs.lemmas.Bool.{and_parts, and_from}
+use Rattle.std.proofs.lemmas.Str.{IsUtf8-from_is_utf8, is_utf8-from_IsUtf8}
+use Rattle.bag_text.specs.Path.{first_component}
+use Rattle.bag_tree.proofs.Parents.{first_is_base_name, first_is_text}
+pub use Rattle.bag_tree.proofs.Parents.{is_slash, under_in_folder, first-under, slash_within, in_folder, not_in_folder}
 use Rattle.bag_memory.specs.Memory.{is_in_folder, is_text_path, is_text_name}
-
-abbrev pub is_slash : ℕ → Bool
-is_slash c = c == slash
-
--- where no place passes below the length, none passes
-none_until : (p : ℕ → Bool) (xs : List ℕ) → length xs ≤ position_or_len p xs → All (λ x. p x ≡ false) xs
-none_until p xs none k d within = fails_before_first p xs k d (omega arith)
-
-none_before : (p : ℕ → Bool) (xs : List ℕ) → All (λ x. p x ≡ false) (before_first p xs)
-none_before p xs k d within =
-    let below : k < position_or_len p xs = omega (arith, length-take (position_or_len p xs) xs) in
-    ap p (get_or-take (position_or_len p xs) xs k d below) ∙ fails_before_first p xs k d below
-
-first_before : (p : ℕ → Bool) (xs : List ℕ) (y : ℕ) (ys : List ℕ) → All (λ x. p x ≡ false) xs → p y ≡ true → before_first p (xs ++ y ∷ ys) ≡ xs
-first_before p [] y ys none here = rw here refl
-first_before p (x ∷ xs) y ys none here =
-    let head : p x ≡ false = All-head (λ x. p x ≡ false) x xs none in
-    rw head (ap (λ n. take n (x ∷ (xs ++ y ∷ ys))) (add_comm 1 (position_or_len p (xs ++ y ∷ ys)) ∙ add-one (position_or_len p (xs ++ y ∷ ys))) ∙ ap (λ zs. x ∷ zs) (first_before p xs y ys (All-tail (λ x. p x ≡ false) x xs none) here))
-
--- a slash parts a path in two or more
-parted : (path : List ℕ) → position_or_len is_slash path < length path → 1 < length (components path)
-parted path place =
-    let parts : components path ≡ before_first is_slash path ∷ components (after_first is_slash path) = slice_split_first is_slash path 0 place in
-    let more : length (components (after_first is_slash path)) ≡ count_by is_slash (after_first is_slash path) + 1 = length-slice_split is_slash (after_first is_slash path) in
-    omega (arith, ap length parts)
-
--- a name has no slash
-name_has_none : (name : List ℕ) → is_base_name name ≡ true → All (λ c. is_slash c ≡ false) name
-name_has_none name is =
-    let one : length (components name) ≡ 1 = eqb-true (length (components name)) 1 (and_parts (is_path name) (length (components name) == 1) is).1 in
-    ⊎_elim (λ place. let two : 1 < length (components name) = parted name place in absurd (omega arith)) (λ past. none_until is_slash name past) (cases_lt (position_or_len is_slash name) (length name))
-
--- what stands under a name is in the folder of that name
-pub under_in_folder : (top rest : List ℕ) → is_base_name top ≡ true → is_in_folder (under top rest) ≡ true
-under_in_folder top rest is =
-    let parts : components (under top rest) ≡ top ∷ components rest = slice_split_at is_slash top slash rest (name_has_none top is) refl in
-    let more : length (components rest) ≡ count_by is_slash rest + 1 = length-slice_split is_slash rest in
-    lt-ltb 1 (length (components (under top rest))) (omega (arith, ap length parts))
-
-pub first-under : (top rest : List ℕ) → is_base_name top ≡ true → first_component (under top rest) ≡ top
-first-under top rest is = first_before is_slash top slash rest (name_has_none top is) refl
-
--- a path in a folder has a slash
-pub slash_within : (path : List ℕ) → is_in_folder path ≡ true → position_or_len is_slash path < length path
-slash_within path within =
-    let two : 1 < length (components path) = ltb-true 1 (length (components path)) within in
-    ⊎_elim (λ place. place)
-    (λ past. let alone : components path ≡ path ∷ [] = slice_split_none is_slash path (none_until is_slash path past) in absurd (omega (arith, ap length alone)))
-    (cases_lt (position_or_len is_slash path) (length path))
-
--- a path with a slash is in a folder, and one with none isn't
-pub in_folder : (path : List ℕ) → position_or_len is_slash path < length path → is_in_folder path ≡ true
-in_folder path place = lt-ltb 1 (length (components path)) (parted path place)
-
-pub not_in_folder : (path : List ℕ) → position_or_len is_slash path ≡ length path → is_in_folder path ≡ false
-not_in_folder path past =
-    let alone : components path ≡ path ∷ [] = slice_split_none is_slash path (none_until is_slash path (omega arith)) in
-    ap (λ (parts : List (List ℕ)). nat_lt 1 (length parts)) alone
 
 -- the first component of a path in a folder is a name
 pub first_is_name : (path : List ℕ) → is_text_path path ≡ true → is_in_folder path ≡ true → is_text_name (first_component path) ≡ true
 first_is_name path is within =
-    let place = slash_within path within in
-    let first = first_component path in
-    let parts : components path ≡ first ∷ components (after_first is_slash path) = slice_split_first is_slash path 0 place in
-    let component : is_component first ≡ true = (and_parts _ _ (sym (ap (list_all is_component) parts) ∙ (and_parts _ _ is).0)).0 in
-    let alone : components first ≡ first ∷ [] = slice_split_none is_slash first (none_before is_slash path) in
-    let path_is : is_path first ≡ true = rw alone (and_from _ _ component refl) in
-    let one : (length (components first) == 1) ≡ true = rw alone refl in
-    let text = IsUtf8-take path (position_or_len is_slash path) (IsUtf8-from_is_utf8 path (and_parts _ _ is).1)
-    (IsCharBoundary-before_ascii path (position_or_len is_slash path) place (omega (arith, eqb-true _ _ (passes_at_first is_slash path 0 place)))) in
-    and_from _ _ (and_from _ _ path_is one) (is_utf8-from_IsUtf8 first text)
+    let parts = and_parts _ _ is in
+    and_from _ _ (first_is_base_name path parts.0 within) (is_utf8-from_IsUtf8 (first_component path) (first_is_text path (IsUtf8-from_is_utf8 path parts.1) within))

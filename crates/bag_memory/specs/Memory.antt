@@ -9,7 +9,11 @@ use Rattle.bag_text.specs.Text.{text_cmp}
 use Rattle.bag_text.specs.Path.{components, first_component, is_path, is_base_name, under}
 use Rattle.bag_tree.specs.Bag.{Bag, file, has_file, has_folder}
 use Rattle.bag_tree.specs.Tree.{TreeState}
+use Rattle.bag_tree.specs.declared.answer.Answer.{Answer}
+use Rattle.bag_tree.specs.declared.answer.Answer.TheVariants.{Given}
 use Rattle.bag_tree.specs.declared.listing.FileEntry.{FileEntry}
+use Rattle.bag_tree.specs.declared.fault.TreeFault.{TreeFault}
+use Rattle.bag_tree.specs.declared.fault.TreeFault.TheVariants.{NotFound, Memory}
 
 -- the bag with no files and no folders
 abbrev pub empty_bag : Bag
@@ -31,16 +35,24 @@ with_file bag path bytes = record { files = fin.insert bag.files path bytes; fol
 abbrev pub with_folder : Bag → List ℕ → Bag
 with_folder bag name = record { files = bag.files; folders = set.insert bag.folders name }
 
--- a tree in memory is honest and never fails, and has the files and the folders of its bag
-abbrev pub memory_state : Bag → List (List ℕ) → Option (List ℕ) → TreeState
-memory_state bag openings rest = record {
+-- A tree in memory is honest and never fails, and has the files and the folders of its bag and nothing else. Its reads of
+-- the open file have given so many bytes, and its last call answered so.
+abbrev pub state_after : Bag → List (List ℕ) → Option (List ℕ) → ℕ → Answer → TreeState
+state_after bag openings rest given last = record {
   bag = bag;
+  plain = true;
   honest = true;
   entries = fin.len bag.files + set.len bag.folders;
   failures = 0;
   openings = openings;
   rest = rest;
+  given = given;
+  last = last;
 }
+
+-- a tree in memory where nothing was read of the open file, and the last call gave what was asked for
+abbrev pub memory_state : Bag → List (List ℕ) → Option (List ℕ) → TreeState
+memory_state bag openings rest = state_after bag openings rest 0 Given
 
 -- files by their paths
 abbrev pub file_map : List (List ℕ × List ℕ) → fin.FinMap text_cmp (List ℕ)
@@ -67,6 +79,12 @@ listed files = map (λ e. record { path = e.0; size = length e.1 }) files
 abbrev pub rest_of : Bag → Option (List ℕ) → ℕ → Option (List ℕ)
 rest_of bag None at = None
 rest_of bag (Some path) at = option_map (drop at) (file bag path)
+
+-- a file isn't opened where there is none, or for want of memory
+abbrev pub IsOpeningFault : Option (List ℕ) → TreeFault → Type 0
+IsOpeningFault content NotFound = content ≡ None
+IsOpeningFault content Memory = Unit {0}
+IsOpeningFault content fault = ⊥
 
 -- a path in UTF-8
 abbrev pub is_text_path : List ℕ → Bool

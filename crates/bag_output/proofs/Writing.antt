@@ -76,6 +76,16 @@ writes_after old mid new refused first second result w taken =
 pub cut_before : (old new : Option (List ℕ)) (refused : Bool) (first second : List ℕ) (e : Refused) → Writes old new refused first (Err e) → Writes old new refused (first ++ second) (Err e)
 cut_before old new refused first second e part = (IsCut-append old new first second part.0, part.1)
 
+-- a third text after two that were taken
+pub writes_third : (old mid new : Option (List ℕ)) (refused : Bool) (first second third : List ℕ) (result : Result (Unit {0}) Refused) → Writes mid new refused third result → Appends old mid (first ++ second)
+    → Writes old new refused (first ++ (second ++ third)) result
+writes_third old mid new refused first second third result w taken =
+    subst (λ text. Writes old new refused text result) (append_assoc first second third) (writes_after old mid new refused (first ++ second) third result w taken)
+
+-- a third text after two of which not all was taken
+pub cut_third : (old new : Option (List ℕ)) (first second third : List ℕ) → IsCut old new (first ++ second) → IsCut old new (first ++ (second ++ third))
+cut_third old new first second third cut = subst (IsCut old new) (append_assoc first second third) (IsCut-append old new (first ++ second) third cut)
+
 -- the pieces before one, that piece, and the others
 text_split : (pieces : List (Bor (List ℕ))) (i : ℕ) (d : Bor (List ℕ)) → i < length pieces → text_of pieces ≡ text_of (take i pieces) ++ ((get_or pieces i d).now ++ text_of (drop (suc i) pieces))
 text_split [] i d h = absurd (omega arith)

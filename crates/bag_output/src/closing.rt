@@ -1,8 +1,8 @@
 //! The line that ends a report. Writing it takes no memory.
-ghost use Rattle.std.specs.Prelude.{◌≡◌, ◌++◌, codes};
+ghost use Rattle.std.specs.Prelude.{◌≡◌, ◌++◌};
 ghost use Rattle.bag_fault.specs.FaultLine.{field};
 ghost use Rattle.bag_output.specs.Closing as spec;
-ghost use Rattle.bag_output.specs.Write.{Writes};
+ghost use Rattle.bag_output.specs.Write.{Writes, text_of};
 
 use crate::write::{put_all, put_pieces};
 use crate::{Outcome, Request};
@@ -51,29 +51,20 @@ fn verdict(depth: Depth) -> &'static str
 fn put_verdict<W: Out>(name: &str, verdict: &str, out: &mut W) -> Result<(), Refused>
     ensures { Writes (W.taken out.old) (W.taken out.new) (W.has_refused out.new) (spec.about name.now verdict.now) result }
 {
-    put_field(name, out)?;
-    put_pieces(out, &[verdict, "\n"])
+    put_line(name, &[verdict, "\n"], out)
 }
 
 fn put_count<W: Out>(name: &str, text: &str, count: u64, out: &mut W) -> Result<(), Refused>
     ensures { Writes (W.taken out.old) (W.taken out.new) (W.has_refused out.new) (spec.about_count name.now text.now count) result }
 {
     let mut digits = Buffer::new();
-    put_field(name, out)?;
-    put_pieces(out, &[text, digits.format(count), "\n"])
+    put_line(name, &[text, digits.format(count), "\n"], out)
 }
 
 fn put_unread<W: Out>(name: &str, stop: &Stop, count: u64, out: &mut W) -> Result<(), Refused>
     ensures { Writes (W.taken out.old) (W.taken out.new) (W.has_refused out.new) (spec.unread_line name.now stop.now count) result }
 {
-    put_field(name, out)?;
-    put_stop(stop, count, out)
-}
-
-fn put_stop<W: Out>(stop: &Stop, count: u64, out: &mut W) -> Result<(), Refused>
-    ensures { Writes (W.taken out.old) (W.taken out.new) (W.has_refused out.new) (codes " unread " ++ spec.stopped_at stop.now count) result }
-{
-    put_all(out, b" unread ")?;
+    put_line(name, &[" unread "], out)?;
     put_cause(stop, count, out)
 }
 
@@ -81,9 +72,8 @@ fn put_cause<W: Out>(stop: &Stop, count: u64, out: &mut W) -> Result<(), Refused
     ensures { Writes (W.taken out.old) (W.taken out.new) (W.has_refused out.new) (spec.stopped_at stop.now count) result }
 {
     let mut digits = Buffer::new();
-    put_field(stop.path.as_str(), out)?;
-    put_pieces(
-        out,
+    put_line(
+        stop.path.as_str(),
         &[
             " ",
             stop.cause.word(),
@@ -91,7 +81,16 @@ fn put_cause<W: Out>(stop: &Stop, count: u64, out: &mut W) -> Result<(), Refused
             digits.format(count),
             "\n",
         ],
+        out,
     )
+}
+
+/// Hands a text to the output as a field of a line, and then the pieces.
+fn put_line<W: Out>(text: &str, pieces: &[&str], out: &mut W) -> Result<(), Refused>
+    ensures { Writes (W.taken out.old) (W.taken out.new) (W.has_refused out.new) (field text.now ++ text_of pieces.now) result }
+{
+    put_field(text, out)?;
+    put_pieces(out, pieces)
 }
 
 /// Hands a text to the output as a field of a line.

@@ -1,1 +1,3 @@
+pub mod AscendingList
 pub mod Asked
+pub mod EachReport

@@ -61,3 +61,7 @@ first n faults = take n faults
 -- the law: a bag has one report
 abbrev pub ReportIsOne : Type 0
 ReportIsOne = (check : Check) (one other : List Fault) → IsReport check one → IsReport check other → one ≡ other
+
+-- the law: every bag has a report, whatever is asked for
+abbrev pub EachBagHasAReport : Type 0
+EachBagHasAReport = (check : Check) → (report : List Fault) × IsReport check report

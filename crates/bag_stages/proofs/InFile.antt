@@ -12,8 +12,8 @@ use Rattle.bag_text.specs.Code.{number, stage}
 use Rattle.bag_text.specs.Order.{IsListOf}
 use Rattle.bag_text.specs.declared.alg.Alg.{Alg}
 use Rattle.bag_text.proofs.ListOf.{contains_first, contains_behind, each_from_members, member_has}
-use Rattle.bag_tags.specs.declared.fault.LineFault.{LineFault}
-use Rattle.bag_tags.specs.LineFault.{line_fault_cmp}
+use Rattle.bag_line.specs.declared.fault.LineFault.{LineFault}
+use Rattle.bag_line.specs.LineFault.{line_fault_cmp}
 use Rattle.bag_fault.specs.declared.fault.Fault.{Fault}
 use Rattle.bag_fault.specs.FaultOrder.{fault_cmp}
 use Rattle.bag_stages.specs.FaultFields.{in_file, in_line}

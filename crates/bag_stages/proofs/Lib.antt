@@ -1,5 +1,10 @@
+pub mod BagLists
 pub mod ByPath
 pub mod DeclarationFaults
+pub mod DeclarationList
+pub mod HasLists
 pub mod InFile
 pub mod ManifestFaults
+pub mod ManifestsList
 pub mod PartFaults
+pub mod PartsList

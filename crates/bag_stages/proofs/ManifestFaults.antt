@@ -17,15 +17,15 @@ use Rattle.bag_tree.specs.Bag.{Bag, file, HasFile}
 use Rattle.bag_tree.specs.declared.listing.FileEntry.{FileEntry}
 use Rattle.bag_tags.specs.Manifest.{IsEntry, ManifestFault, IsManifestFault}
 use Rattle.bag_tags.specs.ManifestName.{manifest_name}
-use Rattle.bag_tags.specs.LineFault.{AreFaults}
+use Rattle.bag_line.specs.LineFault.{AreFaults}
 use Rattle.bag_tags.specs.TagName.{tag_path}
-use Rattle.bag_tags.specs.declared.fault.LineFault.{LineFault}
+use Rattle.bag_line.specs.declared.fault.LineFault.{LineFault}
 use Rattle.bag_tags.specs.declared.kind.Kind.{Kind}
 use Rattle.bag_tags.specs.declared.kind.Kind.TheVariants.{Payload, Tag}
 use Rattle.bag_tags.specs.declared.manifest.ManifestEntry.{ManifestEntry}
 use Rattle.bag_tags.specs.declared.tag_name.TagName.{TagName}
 use Rattle.bag_tags.specs.declared.tag_name.TagName.TheVariants as tag_name
-use Rattle.bag_tags.proofs.FaultOrder.{line_below}
+use Rattle.bag_line.proofs.FaultOrder.{line_below}
 use Rattle.bag_tags.proofs.ManifestCodes.{IsManifestCode, manifest_fault_code, manifest_fault_stage, manifest_fault_line}
 use Rattle.bag_tags.proofs.ManifestEntries.{entry_named, named_has_entry}
 use Rattle.bag_tags.proofs.TagPaths.{paths_differ}
@@ -232,7 +232,7 @@ module _ (bag : Bag) (f : Fault) where
   some_of_holds PayloadManifestNotListed e (alg, other, at, has, there, lacks) = (tag_name.Manifest Tag alg, inl (e, (other, at, has, there, lacks)))
   some_of_holds other e h = absurd h
 
-  of_some : IsOfManifests bag f → IsOfSome
+  pub of_some : IsOfManifests bag f → IsOfSome
   unfolding IsOfManifests
   of_some h = some_of_holds f.code refl h
 
@@ -246,7 +246,7 @@ module _ (bag : Bag) (f : Fault) where
   of_tag_at (tag_name.Manifest kind alg) h = of_manifest_at kind alg h
   of_tag_at other h = absurd h
 
-  of_tag_is : (tag : TagName) → IsOfTag tag → IsOfManifests bag f
+  pub of_tag_is : (tag : TagName) → IsOfTag tag → IsOfManifests bag f
   of_tag_is (tag_name.Manifest kind alg) h = of_manifest_is kind alg h
   of_tag_is other h = absurd h
 

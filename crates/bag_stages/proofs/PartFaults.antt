@@ -69,7 +69,7 @@ not_both : mark Payload ≡ mark Tag → ⊥
 not_both h = absurd (omega arith)
 
 -- two names of manifests that are one are of one algorithm's text
-one_alg : (k l : Kind) (a b : List ℕ) → manifest_name k a ≡ manifest_name l b → a ≡ b
+pub one_alg : (k l : Kind) (a b : List ℕ) → manifest_name k a ≡ manifest_name l b → a ≡ b
 one_alg Payload Payload a b e = same_alg Payload (manifest_name Payload a) (a ++ codes ".txt") a b (append_assoc (prefix Payload) a (codes ".txt")) refl e
 one_alg Tag Tag a b e = same_alg Tag (manifest_name Tag a) (a ++ codes ".txt") a b (append_assoc (prefix Tag) a (codes ".txt")) refl e
 one_alg Payload Tag a b e = absurd (not_both (ap first_byte e))

@@ -7,6 +7,7 @@ use Rattle.bag_tags.specs.Declaration.{IsDeclarationFault}
 use Rattle.bag_tree.specs.Bag.{Bag, LacksFile}
 use Rattle.bag_fault.specs.declared.fault.Fault.{Fault}
 use Rattle.bag_stages.specs.FaultFields.{At, InFile}
+use Rattle.bag_stages.specs.HasList.{HasList}
 use Rattle.bag_stages.specs.TagFiles.{bagit_txt}
 
 -- what a code says of a bag and the other fields of the fault
@@ -35,3 +36,7 @@ IsOfDeclaration bag f = DeclarationHolds bag f f.code
 -- the law: these faults are of the first stage
 abbrev pub DeclarationFaultsAreOfStageOne : Type 0
 DeclarationFaultsAreOfStageOne = (bag : Bag) (f : Fault) → IsOfDeclaration bag f → stage f.code ≡ 1
+
+-- the law: every bag has a list of these faults
+abbrev pub DeclarationFaultsAreListed : Type 0
+DeclarationFaultsAreListed = (bag : Bag) → HasList (IsOfDeclaration bag)

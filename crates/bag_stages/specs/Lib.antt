@@ -4,4 +4,5 @@ pub mod ManifestFaults
 pub mod ManifestsStage
 pub mod PartsStage
 pub mod FaultFields
+pub mod HasList
 pub mod TagFiles

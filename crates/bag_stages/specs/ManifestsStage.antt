@@ -11,6 +11,7 @@ use Rattle.bag_tags.specs.declared.kind.Kind.TheVariants.{Payload, Tag}
 use Rattle.bag_tree.specs.Bag.{Bag}
 use Rattle.bag_fault.specs.declared.fault.Fault.{Fault}
 use Rattle.bag_stages.specs.FaultFields.{At, InFile}
+use Rattle.bag_stages.specs.HasList.{HasList}
 use Rattle.bag_stages.specs.TagFiles.{manifest_of, HasManifest, HasSupported, Names}
 
 -- what a code says of a bag and the other fields of the fault
@@ -44,3 +45,7 @@ IsOfManifests bag f = ManifestHolds bag f f.code
 -- the law: these faults are of the fifth stage
 abbrev pub ManifestFaultsAreOfStageFive : Type 0
 ManifestFaultsAreOfStageFive = (bag : Bag) (f : Fault) → IsOfManifests bag f → stage f.code ≡ 5
+
+-- the law: every bag has a list of these faults
+abbrev pub ManifestFaultsAreListed : Type 0
+ManifestFaultsAreListed = (bag : Bag) → HasList (IsOfManifests bag)

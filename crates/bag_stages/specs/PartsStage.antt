@@ -10,6 +10,7 @@ use Rattle.bag_tags.specs.declared.kind.Kind.TheVariants.{Payload}
 use Rattle.bag_tree.specs.Bag.{Bag, has_folder}
 use Rattle.bag_fault.specs.declared.fault.Fault.{Fault}
 use Rattle.bag_stages.specs.FaultFields.{At}
+use Rattle.bag_stages.specs.HasList.{HasList}
 use Rattle.bag_stages.specs.TagFiles.{HasManifest, HasNoText}
 
 -- what a code says of a bag and the other fields of the fault
@@ -35,3 +36,7 @@ IsOfParts bag f = PartHolds bag f f.code
 -- the law: these faults are of the second stage
 abbrev pub PartFaultsAreOfStageTwo : Type 0
 PartFaultsAreOfStageTwo = (bag : Bag) (f : Fault) → IsOfParts bag f → stage f.code ≡ 2
+
+-- the law: every bag has a list of these faults
+abbrev pub PartFaultsAreListed : Type 0
+PartFaultsAreListed = (bag : Bag) → HasList (IsOfParts bag)

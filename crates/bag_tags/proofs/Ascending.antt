@@ -14,7 +14,7 @@ use Rattle.bag_text.specs.Text.{text_cmp}
 use Rattle.bag_tags.specs.declared.manifest_line.Judged.{Judged}
 use Rattle.bag_tags.specs.Judged.{names_path, text}
 use Rattle.bag_tags.specs.Repeats.{line_cmp, AreAscending, IsRepeatAt}
-use Rattle.bag_tags.proofs.PickedOut.{from_any, both_true}
+use Rattle.bag_line.proofs.PickedOut.{from_any, both_true}
 use Rattle.bag_tags.proofs.SortedPlaces.{names_before, test_lt, first_place_of}
 
 text_total : IsTotalOrder text_cmp

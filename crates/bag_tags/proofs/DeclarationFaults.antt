@@ -9,11 +9,12 @@ use Rattle.bag_text.specs.declared.code.Code.{Code}
 use Rattle.bag_text.specs.declared.code.Code.TheVariants.{DeclarationNotUtf8, DeclarationLineCount, DeclarationLine, VersionUnsupported, EncodingUnsupported}
 use Rattle.std.proofs.lemmas.Bool.Decides.{nat_tests}
 use Rattle.bag_text.proofs.ListOf.{only_listed, one_listed, one_more, same_members, only_from_some}
-use Rattle.bag_tags.specs.declared.fault.LineFault.{LineFault}
-use Rattle.bag_tags.specs.LineFault.{AreFaults, line_fault_cmp}
+use Rattle.bag_line.specs.declared.fault.LineFault.{LineFault}
+use Rattle.bag_line.specs.LineFault.{AreFaults, line_fault_cmp}
 use Rattle.bag_tags.specs.Declaration.{IsDeclarationFault, DeclarationFault, IsUnread, version_of, encoding_of, declared_version, declared_encoding, is_supported_version}
-use Rattle.bag_tags.proofs.FaultOrder.{is_fault, line_below, code_below}
-use Rattle.bag_tags.specs.DeclarationFaults.{line_fault, utf8_fault, mark_fault, count_fault, version_fault, encoding_fault, on_line, text_faults}
+use Rattle.bag_line.proofs.FaultOrder.{is_fault, line_below, code_below}
+use Rattle.bag_line.specs.LineFault.{line_fault}
+use Rattle.bag_tags.specs.DeclarationFaults.{utf8_fault, mark_fault, count_fault, version_fault, encoding_fault, on_line, text_faults}
 
 other_number : (n m : ℕ) → (n == m) ≡ false → n ≢ m
 other_number n m e same = grind (arith, nat_tests)

@@ -9,11 +9,11 @@ use Rattle.bag_text.specs.Number.{is_digits}
 use Rattle.bag_text.specs.Text.{after_prefix, is_blank}
 use Rattle.bag_tags.specs.Declaration.{when, is_version, is_encoding}
 use Rattle.bag_tags.specs.DeclarationLine.{AreDigits, VersionLinesReadAsTheirParts, EncodingLinesReadAsTheirParts}
-use Rattle.bag_tags.proofs.Fronts.{drop_front, take_front, front_len}
+use Rattle.bag_line.proofs.Fronts.{drop_front, take_front, front_len}
 use Rattle.bag_tags.proofs.ManifestLineParts.{not_empty, empty_test, not_true}
 use Rattle.bag_tags.proofs.ManifestName.{after_is}
-use Rattle.bag_tags.proofs.PickedOut.{both_true}
-use Rattle.bag_tags.proofs.Texts.{all_digits, prefix_test}
+use Rattle.bag_line.proofs.PickedOut.{both_true}
+use Rattle.bag_line.proofs.Texts.{all_digits, prefix_test}
 
 abbrev is_dot : ℕ → Bool
 is_dot c = c == byte "."

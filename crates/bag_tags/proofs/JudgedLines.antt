@@ -17,8 +17,8 @@ use Rattle.bag_tags.specs.declared.manifest_line.Verdict.TheVariants.{Entry, Fau
 use Rattle.bag_tags.specs.Judged.{judged, judged_as, judged_all, is_entry_verdict, names_path, text}
 use Rattle.bag_tags.specs.Manifest.{Reason, Reads, HasReason, path_read, named_before, manifest_line}
 use Rattle.bag_tags.specs.Repeats.{line_cmp}
-use Rattle.bag_tags.proofs.FaultOrder.{less}
-use Rattle.bag_tags.proofs.PickedOut.{any_from, from_any, both_true, picked, is_picked}
+use Rattle.bag_line.proofs.FaultOrder.{less}
+use Rattle.bag_line.proofs.PickedOut.{any_from, from_any, both_true, picked, is_picked}
 use Rattle.bag_tags.proofs.SortedPlaces.{names_before, lt_test, test_lt}
 
 abbrev pub digest_in : Verdict → List ℕ

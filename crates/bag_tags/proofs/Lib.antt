@@ -1,9 +1,7 @@
 pub mod Ascending
 pub mod DeclarationFaults
 pub mod DeclarationLineParts
-pub mod FaultOrder
 pub mod Followers
-pub mod Fronts
 pub mod Heads
 pub mod JudgedLines
 pub mod ManifestCodes
@@ -13,8 +11,5 @@ pub mod ManifestLine
 pub mod ManifestLineParts
 pub mod ManifestName
 pub mod Marked
-pub mod PickedOut
 pub mod SortedPlaces
 pub mod TagPaths
-pub mod Texts
-pub mod Utf8

@@ -12,18 +12,18 @@ use Rattle.bag_text.specs.declared.code.Code.{Code}
 use Rattle.bag_text.specs.declared.code.Code.TheVariants.{NotUtf8, NamedAgain}
 use Rattle.bag_text.proofs.ListOf.{nothing_listed, one_listed}
 use Rattle.bag_tags.specs.declared.kind.Kind.{Kind}
-use Rattle.bag_tags.specs.declared.fault.LineFault.{LineFault}
+use Rattle.bag_line.specs.declared.fault.LineFault.{LineFault}
 use Rattle.bag_tags.specs.declared.manifest.ManifestEntry.{ManifestEntry}
 use Rattle.bag_tags.specs.declared.manifest_line.Judged.{Judged}
-use Rattle.bag_tags.specs.DeclarationFaults.{line_fault}
+use Rattle.bag_line.specs.LineFault.{line_fault}
 use Rattle.bag_tags.specs.declared.manifest_line.Verdict.{Verdict}
 use Rattle.bag_tags.specs.declared.manifest_line.Verdict.TheVariants.{Entry, Fault}
 use Rattle.bag_tags.specs.Judged.{is_entry_verdict, names_path, text, text_in, repeated, as_repeat, is_repeat, marked_if_repeat, judged_and_marked, entry_in, fault_in, entry_of, fault_of, not_utf8}
-use Rattle.bag_tags.specs.LineFault.{AreFaults, line_fault_cmp}
+use Rattle.bag_line.specs.LineFault.{AreFaults, line_fault_cmp}
 use Rattle.bag_tags.specs.Manifest.{HasReason, named_before, IsEntry, IsManifestFault, ManifestFault}
 use Rattle.bag_tags.specs.Repeats.{line_cmp}
-use Rattle.bag_tags.proofs.FaultOrder.{is_fault, line_below}
-use Rattle.bag_tags.proofs.PickedOut.{picked, is_picked, ascending_picked, both_true}
+use Rattle.bag_line.proofs.FaultOrder.{is_fault, line_below}
+use Rattle.bag_line.proofs.PickedOut.{picked, is_picked, ascending_picked, both_true}
 use Rattle.bag_tags.proofs.SortedPlaces.{names_before, lower}
 use Rattle.bag_tags.proofs.ManifestLine.{IsReasonCode, reason_code}
 use Rattle.bag_tags.proofs.JudgedLines.{digest_in, js, judged_ascend, judged_is, is_judged, judged_reads, judged_reason, reads_judged, reason_judged, repeat_named, named_repeat}

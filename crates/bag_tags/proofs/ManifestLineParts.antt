@@ -20,10 +20,10 @@ use Rattle.bag_tags.specs.declared.kind.Kind.TheVariants.{Payload, Tag}
 use Rattle.bag_tags.specs.Manifest.{Reason, ◌>>=◌, checked_digest, digest_of, decoded_or, spelled_path, placed, named_path, without_marks, manifest_line}
 use Rattle.bag_tags.specs.ManifestName.{is_manifest_name}
 use Rattle.bag_tags.specs.ManifestLine.{BeginsUnblank, IsParts, IsWithout, IsSpelling, MayName, ReadsAs, LinesReadAsTheirParts, OnlyReads, HasOnlyReason, LinesReadOrHaveOneReason}
-use Rattle.bag_tags.proofs.Fronts.{drop_front, take_front, stops, front_passes, rest_stops, front_len}
+use Rattle.bag_line.proofs.Fronts.{drop_front, take_front, stops, front_passes, rest_stops, front_len}
 use Rattle.bag_tags.proofs.ManifestName.{named_test, named_is, without_is}
-use Rattle.bag_tags.proofs.PickedOut.{both_true}
-use Rattle.bag_tags.proofs.Texts.{prefix_test}
+use Rattle.bag_line.proofs.PickedOut.{both_true}
+use Rattle.bag_line.proofs.Texts.{prefix_test}
 
 -- no blank
 abbrev unblank : ℕ → Bool

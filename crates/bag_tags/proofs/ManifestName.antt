@@ -8,9 +8,9 @@ use Rattle.std.proofs.lemmas.Slice.Eq.{bytes_eq-Decides}
 use Rattle.bag_text.specs.Text.{after_prefix, without_prefix}
 use Rattle.bag_tags.specs.declared.kind.Kind.{Kind}
 use Rattle.bag_tags.specs.ManifestName.{prefix, manifest_name, is_alg_text, is_manifest_name}
-use Rattle.bag_tags.proofs.Fronts.{drop_front, take_front}
-use Rattle.bag_tags.proofs.PickedOut.{both_true}
-use Rattle.bag_tags.proofs.Texts.{prefix_test}
+use Rattle.bag_line.proofs.Fronts.{drop_front, take_front}
+use Rattle.bag_line.proofs.PickedOut.{both_true}
+use Rattle.bag_line.proofs.Texts.{prefix_test}
 
 after_test : (p t rest : List ℕ) (b : Bool) → starts_with nat_eq t p ≡ b → cond b (Some (drop (length p) t)) None ≡ Some rest → t ≡ p ++ rest
 after_test p t rest true e h =

@@ -14,7 +14,7 @@ use Rattle.std.proofs.lemmas.List.{get_or-map, length-map}
 use Rattle.std.proofs.lemmas.Map.Text.{is_eq-slice_cmp}
 use Rattle.std.proofs.lemmas.Cmp.{nat_cmp_total}
 use Rattle.std.proofs.Math.Nat.{eq-or-lt_of_le}
-use Rattle.bag_tags.proofs.FaultOrder.{less, same}
+use Rattle.bag_line.proofs.FaultOrder.{less, same}
 use Rattle.std.proofs.lemmas.List.Sorted.{IsPermutation-sym, Contains-permutation, sorted_far, ranks_by}
 use Rattle.std.proofs.lemmas.Map.Keys.{IsDistinct-from_sorted, IsDistinct-IsPermutation, apart_from_distinct, Less-from_sorted}
 use Rattle.std.proofs.lemmas.Option.{slice_get_within, slice_get-get_or, get_or_from_slice_get}
@@ -25,7 +25,7 @@ use Rattle.bag_tags.specs.declared.manifest_line.Judged.{Judged}
 use Rattle.bag_tags.specs.Judged.{names_path, text}
 use Rattle.bag_tags.specs.Fingerprint.{fingerprint}
 use Rattle.bag_tags.specs.Repeats.{line_cmp, Place, HasFingerprint, pair_of, places_from, IsRepeatAt, FollowsSame}
-use Rattle.bag_tags.proofs.PickedOut.{any_from, from_any, both_true}
+use Rattle.bag_line.proofs.PickedOut.{any_from, from_any, both_true}
 
 -- the line at this place reads and names this path
 abbrev pub Names : List Judged → ℕ → List ℕ → Type 0

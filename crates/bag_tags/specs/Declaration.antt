@@ -7,7 +7,7 @@ use Rattle.bag_text.specs.Lines.{lines_of_file, IsLine}
 use Rattle.bag_text.specs.Number.{is_digits}
 use Rattle.bag_text.specs.declared.code.Code.{Code}
 use Rattle.bag_text.specs.declared.code.Code.TheVariants.{DeclarationNotUtf8, DeclarationLineCount, DeclarationLine, VersionUnsupported, EncodingUnsupported}
-use Rattle.bag_tags.specs.declared.fault.LineFault.{LineFault}
+use Rattle.bag_line.specs.declared.fault.LineFault.{LineFault}
 
 abbrev pub when : (List ℕ → Bool) → List ℕ → Option (List ℕ)
 when test t = if test t then Some t else None

@@ -4,11 +4,9 @@ use Rattle.std.specs.Option.{option_to_list}
 use Rattle.bag_text.specs.Text.{has_mark, same_label}
 use Rattle.bag_text.specs.declared.code.Code.{Code}
 use Rattle.bag_text.specs.declared.code.Code.TheVariants.{DeclarationNotUtf8, DeclarationLineCount, DeclarationLine, VersionUnsupported, EncodingUnsupported}
-use Rattle.bag_tags.specs.declared.fault.LineFault.{LineFault}
+use Rattle.bag_line.specs.LineFault.{line_fault}
+use Rattle.bag_line.specs.declared.fault.LineFault.{LineFault}
 use Rattle.bag_tags.specs.Declaration.{version_of, encoding_of, is_supported_version}
-
-abbrev pub line_fault : ℕ → Code → List ℕ → LineFault
-line_fault line code detail = record { line = line; code = code; detail = detail }
 
 -- bytes that aren't UTF-8
 abbrev pub utf8_fault : LineFault

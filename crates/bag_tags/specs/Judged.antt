@@ -8,7 +8,7 @@ use Rattle.bag_text.specs.declared.alg.Alg.{Alg}
 use Rattle.bag_text.specs.declared.code.Code.TheVariants.{NamedAgain, NotUtf8}
 use Rattle.bag_tags.specs.Manifest.{Reason, ◌>>=◌, decoded_or, named_path, manifest_line}
 use Rattle.bag_tags.specs.declared.kind.Kind.{Kind}
-use Rattle.bag_tags.specs.declared.fault.LineFault.{LineFault}
+use Rattle.bag_line.specs.declared.fault.LineFault.{LineFault}
 use Rattle.bag_tags.specs.declared.manifest.ManifestEntry.{ManifestEntry}
 use Rattle.bag_tags.specs.declared.manifest_line.Judged.{Judged}
 use Rattle.bag_tags.specs.declared.manifest_line.Verdict.{Verdict}

@@ -1,9 +1,12 @@
+pub use Rattle.bag_line.specs.Fetch
+pub use Rattle.bag_line.specs.Info
+pub use Rattle.bag_line.specs.LineFault
+pub use Rattle.bag_line.specs.Oxum
 pub mod Declaration
 pub mod DeclarationFaults
 pub mod DeclarationLine
 pub mod Fingerprint
 pub mod Judged
-pub mod LineFault
 pub mod Manifest
 pub mod ManifestLine
 pub mod ManifestName

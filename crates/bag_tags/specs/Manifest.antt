@@ -14,7 +14,7 @@ use Rattle.bag_text.specs.declared.code.Code.TheVariants.{NotUtf8, ManifestLine,
 use Rattle.bag_tags.specs.ManifestName.{is_manifest_name}
 use Rattle.bag_tags.specs.declared.kind.Kind.{Kind}
 use Rattle.bag_tags.specs.declared.kind.Kind.TheVariants.{Payload, Tag}
-use Rattle.bag_tags.specs.declared.fault.LineFault.{LineFault}
+use Rattle.bag_line.specs.declared.fault.LineFault.{LineFault}
 use Rattle.bag_tags.specs.declared.manifest.ManifestEntry.{ManifestEntry}
 
 -- why a line doesn't read: a code, and a fault's detail

@@ -4,7 +4,7 @@ ghost use Rattle.std.specs.Option.{option_copied};
 ghost use Rattle.bag_text.specs.Lines as cut;
 ghost use Rattle.bag_tags.specs.Declaration as spec;
 ghost use Rattle.bag_tags.specs.DeclarationFaults.{utf8_fault, text_faults};
-ghost use Rattle.bag_tags.specs.LineFault.{AreFaults};
+ghost use Rattle.bag_line.specs.LineFault.{AreFaults};
 
 use crate::LineFault;
 use crate::declaration_faults::{text_faults, utf8_faults};

@@ -1,6 +1,7 @@
 //! What is wrong with the declaration: first of the whole file, then of each line (RFC 8493, 2.1.1).
 ghost use Rattle.std.specs.Prelude.{◌≡◌, ◌∷◌, ◌++◌, [], IfOk, OnOk};
 ghost use Rattle.std.specs.Option.{option_copied, option_to_list};
+ghost use Rattle.bag_line.specs.LineFault.{line_fault};
 ghost use Rattle.bag_tags.specs.DeclarationFaults as spec;
 
 use crate::LineFault;
@@ -45,7 +46,7 @@ fn push(
     code: Code,
     detail: &str,
 ) -> Result<(), AllocError>
-    ensures { OnOk result (faults.new ≡ faults.old ++ spec.line_fault line code detail.now ∷ []) }
+    ensures { OnOk result (faults.new ≡ faults.old ++ line_fault line code detail.now ∷ []) }
 {
     let detail = Text::from_str(alloc, detail)?;
     faults.push(LineFault { line, code, detail })

@@ -7,7 +7,7 @@ ghost use Rattle.bag_text.specs.Number.{is_digits};
 ghost use Rattle.bag_text.specs.Text as texts;
 ghost use Rattle.bag_tags.specs.Declaration as spec;
 
-use crate::prefix::after_prefix;
+use bag_line::after_prefix;
 use bag_text::is_blank;
 
 /// The version that line 1 declares, where it reads.

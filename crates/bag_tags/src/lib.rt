@@ -7,24 +7,23 @@
 //! }
 //! ```
 //!
-//! Of RFC 8493 it keeps the declaration (2.1.1), payload manifests (2.1.3) and tag manifests (2.2.1).
+//! Of RFC 8493 it keeps the declaration (2.1.1), payload manifests (2.1.3) and tag manifests (2.2.1), and shows what reads the
+//! metadata (2.2.2) and the list of files to fetch (2.2.3).
 #![tactic(auto)]
 
 mod declaration;
 mod declaration_faults;
 mod declaration_line;
-mod fault;
 mod kind;
 pub mod laws;
 mod manifest;
 mod manifest_line;
 mod manifest_name;
-mod prefix;
 mod repeats;
 mod tag_name;
 
+pub use bag_line::{Element, FetchEntry, LineFault, Oxum, Parsed, oxum_of, read_fetch, read_info};
 pub use declaration::{Declaration, read_declaration};
-pub use fault::{LineFault, Parsed};
 pub use kind::Kind;
 pub use manifest::{ManifestEntry, read_manifest};
 pub use manifest_name::manifest_alg;

@@ -6,7 +6,7 @@ ghost use Rattle.std.specs.Ordering.{nat_cmp, on};
 ghost use Rattle.bag_text.specs.Lines as cut;
 ghost use Rattle.bag_text.specs.Order.{IsListOf};
 ghost use Rattle.bag_tags.specs.Judged.{judged_all, judged_and_marked, entry_of, fault_of, not_utf8};
-ghost use Rattle.bag_tags.specs.LineFault.{AreFaults};
+ghost use Rattle.bag_line.specs.LineFault.{AreFaults};
 ghost use Rattle.bag_tags.specs.Manifest.{IsEntry, IsManifestFault};
 
 use crate::manifest_line::{Judged, Verdict, judge};

@@ -8,7 +8,7 @@ ghost use Rattle.bag_tags.specs.Manifest as spec;
 
 use crate::Kind;
 use crate::manifest_name::is_manifest_name;
-use crate::prefix::without_prefix;
+use bag_line::without_prefix;
 use bag_text::{
     Alg, Code, PathFault, Text, check_path, is_payload, split_at_blanks, unescape_path,
 };

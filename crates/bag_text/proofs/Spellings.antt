@@ -31,8 +31,14 @@ escape-encode c e =
     escape_plain (encode_utf8 c) (λ i l. plain_byte (encode_utf8 c) i l (NoCharPasses-byte is_escaped (encode_utf8 c) i none l))
 
 -- one more character
-pub escape_more : (cs : List ℕ) (c : ℕ) → escape (encode_utf8_all (cs ++ c ∷ [])) ≡ escape (encode_utf8_all cs) ++ escape (encode_utf8 c)
+escape_more : (cs : List ℕ) (c : ℕ) → escape (encode_utf8_all (cs ++ c ∷ [])) ≡ escape (encode_utf8_all cs) ++ escape (encode_utf8 c)
 escape_more cs c = ap escape (encodes-append cs (c ∷ []) ∙ ap (λ x. encode_utf8_all cs ++ x) (append-nil (encode_utf8 c))) ∙ flat_map-append escape_one (encode_utf8_all cs) (encode_utf8 c)
+
+-- and what is written for it stands behind the others
+pub escape_behind : (cs : List ℕ) (c : ℕ) (text new written : List ℕ) → new ≡ text ++ written → text ≡ escape (encode_utf8_all cs) → escape (encode_utf8 c) ≡ written
+    → new ≡ escape (encode_utf8_all (cs ++ c ∷ []))
+escape_behind cs c text new written now so_far one =
+    now ∙ ap (λ x. x ++ written) so_far ∙ ap (λ x. escape (encode_utf8_all cs) ++ x) (sym one) ∙ sym (escape_more cs c)
 
 both_front : (c : ℕ) (front : List ℕ) (o : Option (List ℕ)) → both (Some c) (option_map (λ more. front ++ more) o) ≡ option_map (λ more. c ∷ front ++ more) o
 both_front c front None = refl

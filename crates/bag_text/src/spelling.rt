@@ -29,7 +29,6 @@ impl From<AllocError> for PathFault {
 
 /// A path as it is written: LF, CR and `%` as `%0A`, `%0D` and `%25`, every other character as itself
 /// (RFC 8493, 2.1.3).
-#[tactic(auto, using(crate::proofs::Spellings::escape_more))]
 pub fn escape_path(alloc: Global, path: &str) -> Result<String, AllocError>
     ensures { IfOk result (λ text. string_bytes text ≡ spec.escape path.now) }
 {

@@ -1,3 +1,4 @@
 pub mod ListingLaw
+pub mod Parents
 pub mod Reading
 pub mod SameText

@@ -1,5 +1,6 @@
 pub mod Bag
 pub mod Cause
+pub mod Heard
 pub mod Listing
 pub mod Out
 pub mod Tree

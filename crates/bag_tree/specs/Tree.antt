@@ -1,14 +1,18 @@
 -- What the calls of a tree answer, and what they change.
-use Rattle.std.specs.Prelude.{◌≡◌, ℕ, ◌<◌, ◌≤◌, ◌↔◌, ◌⊎◌, Bool, true, IsTrue, List, [], ◌∷◌, ◌++◌, length, take, drop, Option, Some, is_some}
+use Rattle.std.specs.Prelude.{◌≡◌, ℕ, ◌<◌, ◌≤◌, ◌↔◌, ◌⊎◌, zero, suc, Bool, true, false, IsTrue, List, [], ◌∷◌, ◌++◌, length, take, drop, Option, Some, is_some}
 use Rattle.std.specs.Option.{option_map}
 use Rattle.bag_tree.specs.Bag.{Bag, file}
 use Rattle.bag_tree.specs.declared.listing.FileEntry.{FileEntry}
 use Rattle.bag_tree.specs.declared.fault.TreeFault.{TreeFault}
 use Rattle.bag_tree.specs.declared.fault.TreeFault.TheVariants.{Device, Special, Name, NotFound, TooMany, Changed, NoneOpen, Memory, Exists}
+use Rattle.bag_tree.specs.declared.answer.Answer.{Answer}
+use Rattle.bag_tree.specs.declared.answer.Answer.TheVariants.{Given, AtEnd, Refused}
 
 -- what a tree means
 pub record TreeState : Type 0 where
   pub bag : Bag
+  -- only files and folders stand there, and their names are UTF-8
+  pub plain : Bool
   -- nobody alters the bag, and listing and reads give what it holds
   pub honest : Bool
   -- how many files and folders it has
@@ -19,10 +23,15 @@ pub record TreeState : Type 0 where
   pub openings : List (List ℕ)
   -- the rest of the open file
   pub rest : Option (List ℕ)
+  -- how many bytes the reads of the open file have given
+  pub given : ℕ
+  -- what the last call answered
+  pub last : Answer
 
--- a call leaves the bag and its honesty, and forgets no failure
+-- a call leaves the bag, what else stands there, and its honesty, and forgets no failure
 pub record Keeps (old new : TreeState) : Type 0 where
   pub bag : new.bag ≡ old.bag
+  pub plain : new.plain ≡ old.plain
   pub honest : new.honest ≡ old.honest
   pub entries : new.entries ≡ old.entries
   pub failures : old.failures ≤ new.failures
@@ -31,12 +40,17 @@ pub record Keeps (old new : TreeState) : Type 0 where
 abbrev pub most_entries : ℕ
 most_entries = 16777216
 
+-- the device failed, and of an honest tree something stands there that is no file and no folder, or has a name that
+-- isn't UTF-8
+abbrev pub FailsOver : TreeState → TreeState → Type 0
+FailsOver old new = (old.failures < new.failures) × (IsTrue old.honest → old.plain ≡ false)
+
 -- A call may answer this refusal: `absent` says when an honest tree may answer NotFound, and `closed` when no file is
 -- open.
 abbrev pub MayRefuse : Type 0 → Type 0 → TreeState → TreeState → TreeFault → Type 0
 MayRefuse absent closed old new Device = old.failures < new.failures
-MayRefuse absent closed old new Special = old.failures < new.failures
-MayRefuse absent closed old new Name = old.failures < new.failures
+MayRefuse absent closed old new Special = FailsOver old new
+MayRefuse absent closed old new Name = FailsOver old new
 MayRefuse absent closed old new NotFound = IsTrue old.honest → absent
 MayRefuse absent closed old new TooMany = IsTrue old.honest → most_entries < old.entries
 MayRefuse absent closed old new Changed = ⊥
@@ -64,3 +78,19 @@ IsEntryOf bag entry = option_map length (file bag entry.path) ≡ Some entry.siz
 -- this file was opened, once at most, and no other
 abbrev pub OpensAtMost : TreeState → TreeState → List ℕ → Type 0
 OpensAtMost old new path = (new.openings ≡ old.openings) ⊎ (new.openings ≡ old.openings ++ path ∷ [])
+
+-- what a read of n bytes answers
+abbrev pub answer_of_read : ℕ → Answer
+answer_of_read zero = AtEnd
+answer_of_read (suc n) = Given
+
+-- the reads of the open file gave more bytes than this size, or came to its end before it
+abbrev pub IsOtherSize : TreeState → ℕ → Type 0
+IsOtherSize state size = ((state.last ≡ Given) × (size < state.given)) ⊎ ((state.last ≡ AtEnd) × (state.given < size))
+
+-- The tree's own calls answered so: the last with this refusal, or with more or fewer bytes than a size. Want of memory
+-- may be the caller's own.
+abbrev pub CameFromTree : TreeState → TreeFault → Type 0
+CameFromTree state Changed = (size : ℕ) × IsOtherSize state size
+CameFromTree state Memory = Unit {0}
+CameFromTree state fault = state.last ≡ Refused fault

@@ -1,16 +1,16 @@
 -- When a whole file is refused.
 use Rattle.std.specs.Prelude.{◌≡◌, IsTrue, None, Some, Option, List, ℕ, ◌++◌}
 use Rattle.bag_tree.specs.Bag.{file, HasFile}
-use Rattle.bag_tree.specs.Tree.{TreeState, MayRefuse, IsEntryOf}
+use Rattle.bag_tree.specs.Tree.{TreeState, MayRefuse, IsEntryOf, IsOtherSize, CameFromTree}
 use Rattle.bag_tree.specs.declared.listing.FileEntry.{FileEntry}
 use Rattle.bag_tree.specs.declared.fault.TreeFault.{TreeFault}
 use Rattle.bag_tree.specs.declared.fault.TreeFault.TheVariants.{Changed}
 
--- More or fewer bytes are Changed, which an honest tree shows only for a file of its bag that is listed with another
--- length. The file that was opened stays open.
+-- More or fewer bytes than were listed are Changed, which an honest tree shows only for a file of its bag that is listed
+-- with another length; any other refusal but want of memory is the tree's own. The file that was opened stays open.
 abbrev pub MayRefuseWhole : TreeState → TreeState → FileEntry → TreeFault → Type 0
-MayRefuseWhole old new entry Changed = IsTrue old.honest → HasFile old.bag entry.path × (IsEntryOf old.bag entry → ⊥)
-MayRefuseWhole old new entry fault = MayRefuse (file old.bag entry.path ≡ None) ⊥ old new fault
+MayRefuseWhole old new entry Changed = IsOtherSize new entry.size × (IsTrue old.honest → HasFile old.bag entry.path × (IsEntryOf old.bag entry → ⊥))
+MayRefuseWhole old new entry fault = MayRefuse (file old.bag entry.path ≡ None) ⊥ old new fault × CameFromTree new fault
 
 -- these bytes of the file were read, and the rest follows
 pub record HasRead (content : Option (List ℕ)) (bytes : List ℕ) (rest : Option (List ℕ)) : Type 0 where

@@ -3,7 +3,6 @@ ghost use Rattle.std.specs.Prelude.{◌≡◌, ◌<◌, List, ℕ, Option, Bool,
 ghost use Rattle.std.specs.Io.KnownBytes.{Keeps};
 ghost use Rattle.bag_tree.specs.Out.{Takes};
 
-use std::io::Write;
 use thiserror::Error;
 
 /// The bytes weren't taken.
@@ -25,51 +24,4 @@ pub trait Out {
         ensures took { IfOk result (Takes (taken self.old) (taken self.new) bytes.now) }
         ensures ready { OnOk result ((has_refused self.old ≡ false) × (has_refused self.new ≡ false)) }
         ensures refused { OnErr result (Keeps (taken self.old) (taken self.new) × (has_refused self.new ≡ true)) };
-}
-
-/// Writes to a writer. After a write that it refuses, nothing more is written.
-#[derive(Drop)]
-pub struct WriterOut<W> {
-    writer: W,
-    refused: bool,
-}
-
-impl<W: Write> WriterOut<W> {
-    /// An output over a writer, which hasn't refused.
-    pub fn new(writer: W) -> WriterOut<W>
-        ensures taken { ⟦<WriterOut<W> as Out>⟧.taken result ≡ W.contents writer }
-        ensures ready { ⟦<WriterOut<W> as Out>⟧.has_refused result ≡ false }
-    {
-        WriterOut {
-            writer,
-            refused: false,
-        }
-    }
-
-    /// The writer, which has what was taken.
-    pub fn into_inner(self) -> W
-        ensures { W.contents result ≡ ⟦<WriterOut<W> as Out>⟧.taken self }
-    {
-        let WriterOut { writer, refused: _ } = self;
-        writer
-    }
-}
-
-impl<W: Write> Out for WriterOut<W> {
-    ghost taken = { λ out. W.contents out.writer };
-
-    ghost has_refused = { λ out. out.refused };
-
-    fn put(&mut self, bytes: &[u8]) -> Result<usize, Refused> {
-        if self.refused {
-            return Err(Refused);
-        }
-        match self.writer.write(bytes) {
-            Ok(0) | Err(_) => {
-                self.refused = true;
-                Err(Refused)
-            }
-            Ok(count) => Ok(count),
-        }
-    }
 }

@@ -1,9 +1,10 @@
 //! A tree of files that holds a bag.
-ghost use Rattle.std.specs.Prelude.{◌≡◌, ◌<◌, ◌≤◌, ◌∷◌, ◌++◌, [], None, IsTrue, IfOk, IfErr, OnOk, OnErr, length};
+ghost use Rattle.std.specs.Prelude.{◌≡◌, ◌<◌, ◌≤◌, ◌∷◌, ◌++◌, [], None, IsTrue, IfOk, IfErr, OnOk, OnErr, MatchResult, length, ◌+◌};
 ghost use Rattle.bag_text.specs.Path.{is_path};
 ghost use Rattle.bag_tree.specs.Bag.{IsBag, file};
-ghost use Rattle.bag_tree.specs.Listing.{IsOrdered, IsListingOf};
-ghost use Rattle.bag_tree.specs.Tree.{TreeState, Keeps, MayRefuse, HasOpen, IsOpen, ReadsNext};
+ghost use Rattle.bag_tree.specs.Listing.{IsOrdered, HasItsFolder, IsListingOf};
+ghost use Rattle.bag_tree.specs.Tree.{TreeState, Keeps, MayRefuse, HasOpen, IsOpen, ReadsNext, answer_of_read};
+ghost use Rattle.bag_tree.specs.declared.answer.Answer.TheVariants.{Given, Refused};
 
 use crate::{Listing, TreeFault};
 
@@ -13,13 +14,15 @@ use crate::{Listing, TreeFault};
 /// answers is what its bag holds; of another tree it is known which refusals it answers, when a file is open, that a
 /// listing's paths are paths in order, and that only paths are opened.
 pub trait Tree {
-    /// What the tree means: its bag, whether it is honest, how many files and folders it has, how often its device has
-    /// failed, which files were opened, and the rest of the open file.
+    /// What the tree means: its bag, whether anything else stands there, whether it is honest, how many files and folders
+    /// it has, how often its device has failed, which files were opened, the rest of the open file and how much of it was
+    /// read, and what the last call answered.
     ghost state: { Self → TreeState };
 
     /// Lists all files with their sizes.
     ///
-    /// `Device`, `Special` and `Name` come from the device, `TooMany` where there are more than 16,777,216 files and
+    /// `Device`, `Special` and `Name` come from the device. Something that is no file and no folder, or whose name isn't
+    /// UTF-8, is never passed over by an honest tree. `TooMany` comes where there are more than 16,777,216 files and
     /// folders. A listing opens no file, and leaves the one that is open.
     fn list(&mut self) -> Result<Listing, TreeFault>
         ensures keeps { Keeps (state self.old) (state self.new) }
@@ -27,6 +30,9 @@ pub trait Tree {
         ensures openings { (state self.new).openings ≡ (state self.old).openings }
         ensures rest { (state self.new).rest ≡ (state self.old).rest }
         ensures ordered { IfOk result (λ listing. IsOrdered listing.files) }
+        ensures data { IfOk result HasItsFolder }
+        ensures plain { OnOk result (IsTrue (state self.old).honest → IsTrue (state self.old).plain) }
+        ensures last { MatchResult result (λ _. (state self.new).last ≡ Given) (λ fault. (state self.new).last ≡ Refused fault) }
         ensures honest { IfOk result (λ listing. IsTrue (state self.old).honest → IsListingOf (state self.old).bag listing) }
         ensures refused { IfErr result (MayRefuse ⊥ ⊥ (state self.old) (state self.new)) };
 
@@ -38,6 +44,8 @@ pub trait Tree {
         ensures opened { OnOk result ((state self.new).openings ≡ (state self.old).openings ++ path.now ∷ []) }
         ensures only_paths { OnOk result (IsTrue (is_path path.now)) }
         ensures file_open { OnOk result (HasOpen (state self.new)) }
+        ensures given { OnOk result ((state self.new).given ≡ 0) }
+        ensures last { MatchResult result (λ _. (state self.new).last ≡ Given) (λ fault. (state self.new).last ≡ Refused fault) }
         ensures honest { OnOk result (IsTrue (state self.old).honest → IsOpen (file (state self.old).bag path.now) (state self.new).rest) }
         ensures closed { OnErr result ((state self.new).rest ≡ None) }
         ensures not_opened { OnErr result ((state self.new).openings ≡ (state self.old).openings) }
@@ -53,6 +61,8 @@ pub trait Tree {
         ensures openings { (state self.new).openings ≡ (state self.old).openings }
         ensures file_open { OnOk result (HasOpen (state self.old) × HasOpen (state self.new)) }
         ensures within { IfOk result (λ n. n ≤ length buffer.old) }
+        ensures given { IfOk result (λ n. (state self.new).given ≡ (state self.old).given + n) }
+        ensures last { MatchResult result (λ n. (state self.new).last ≡ answer_of_read n) (λ fault. (state self.new).last ≡ Refused fault) }
         ensures honest { IfOk result (λ n. IsTrue (state self.old).honest → ReadsNext (state self.old).rest (state self.new).rest n buffer.new) }
         ensures same { OnErr result ((state self.new).rest ≡ (state self.old).rest) }
         ensures refused { IfErr result (MayRefuse ⊥ ((state self.old).rest ≡ None) (state self.old) (state self.new)) };

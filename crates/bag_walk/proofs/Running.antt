@@ -7,7 +7,7 @@ use Rattle.bag_text.specs.Code.{stage}
 use Rattle.bag_text.specs.declared.code.Code.{Code}
 use Rattle.bag_text.specs.declared.code.Code.TheVariants.{NoDeclaration, DeclarationNotUtf8, DeclarationLineCount, DeclarationLine, VersionUnsupported, EncodingUnsupported, NameClash}
 use Rattle.bag_text.proofs.ListOf.{same_members}
-use Rattle.bag_tree.specs.Bag.{Bag}
+use Rattle.bag_tree.specs.Bag.{Bag, IsBag}
 use Rattle.bag_tree.specs.Tree.{TreeState}
 use Rattle.bag_tree.specs.declared.fault.Stop.{Stop}
 use Rattle.bag_fault.specs.FaultOrder.{fault_cmp}
@@ -19,7 +19,7 @@ use Rattle.bag_facts.specs.declared.facts.Facts.{Facts}
 use Rattle.bag_facts.specs.declared.options.Depth.TheVariants.{Declaration}
 use Rattle.bag_facts.specs.declared.options.Options.{Options}
 use Rattle.bag_report.specs.Report.{Check, above, asks, IsReport, IsStageOf}
-use Rattle.bag_output.specs.Ending.{IsAnswered, MayEnd, ReachesEnd}
+use Rattle.bag_output.specs.Ending.{limit_of, IsAnswered, MayEnd, ReachesEnd}
 use Rattle.bag_output.specs.Writer.{Closes, WritesReport}
 use Rattle.bag_output.specs.declared.outcome.Outcome.{Outcome}
 use Rattle.bag_output.specs.declared.outcome.Outcome.TheVariants.{Clean, Faults, Stopped, Rest, Unread, Unwritten}
@@ -60,7 +60,7 @@ opens_none options old new e = ([], e ∙ sym (append-nil old.openings), tt, All
 
 -- a stop for want of memory is one that any tree may show
 pub memory_may_stop : (options : Options) (old new : TreeState) (stop : Stop) → IsOutOfMemory stop → MayStop options old new stop
-memory_may_stop options old new stop m = record { cause = rw m.0 tt; path = inl m; memory = λ _. m.1 }
+memory_may_stop options old new stop m = record { cause = rw m.0 tt; answered = rw m.0 tt; path = inl m; memory = λ _. m.1 }
 
 pub wider_end : (request : Request) (n : ℕ) (P Q : Stop → Type 0) (ending : Outcome) → ((stop : Stop) → P stop → Q stop) → MayEnd request n P ending → MayEnd request n Q ending
 wider_end request n P Q Clean more m = m
@@ -79,12 +79,14 @@ module _ (old new : TreeState) (asking : Request) (before after : Option (List �
       → IsRun old new asking before after refused outcome
   run_of_report faults calm asked writes = record {
     seen = asked.seen;
+    is_bag = asked.is_bag;
     honest = asked.honest;
     shown = take writes.count faults;
     ending = writes.ending;
     may_end = subst (λ n. MayEnd asking n (MayStop asking.options old new) writes.ending) (sym (take_length writes.count faults writes.within))
         (wider_end asking writes.count IsOutOfMemory (MayStop asking.options old new) writes.ending (memory_may_stop asking.options old new) writes.may_end);
     calm = λ answered. calm;
+    plain = λ honest answered some. asked.plain honest;
     wrote = writes.wrote;
     faults = front_is_first (IsAsked asked.seen asking) writes.count faults asked.asked;
     all_shown = λ reached f is.
@@ -92,15 +94,17 @@ module _ (old new : TreeState) (asking : Request) (before after : Option (List �
   }
 
   -- no fault was looked at
-  pub run_of_close : (ending : Outcome) → MayEnd asking 0 (MayStop asking.options old new) ending → (ReachesEnd ending → ⊥) → (IsAnswered ending → new.failures ≡ old.failures)
-      → Closes asking ending before after refused outcome → IsRun old new asking before after refused outcome
-  run_of_close ending m never calm closes = record {
+  pub run_of_close : (ending : Outcome) → IsBag old.bag → MayEnd asking 0 (MayStop asking.options old new) ending → (ReachesEnd ending → ⊥) → (IsAnswered ending → new.failures ≡ old.failures)
+      → (IsAnswered ending → limit_of asking ≡ 0) → Closes asking ending before after refused outcome → IsRun old new asking before after refused outcome
+  run_of_close ending is_bag m never calm unlooked closes = record {
     seen = old.bag;
+    is_bag = is_bag;
     honest = λ is. refl;
     shown = [];
     ending = ending;
     may_end = m;
     calm = calm;
+    plain = λ honest answered some. let none : limit_of asking ≡ 0 = unlooked answered in absurd (omega arith);
     wrote = wrote_closed asking (MayStop asking.options old new) [] before before after refused ending outcome m (Appends-nil before) closes;
     faults = nothing_is_first (IsAsked old.bag asking);
     all_shown = λ reached. absurd (never reached);
@@ -113,15 +117,17 @@ seen_of P false held of_held other = (other.0, (λ is. absurd (true≢false (sym
 
 -- the report of the bag that the facts are of
 pub report_of_facts : (old : TreeState) (request : Request) (facts : Facts) (faults : List Fault) → request.options.depth ≡ Declaration → facts.options ≡ request.options
-    → (IsTrue old.honest → IsFactsOf old.bag facts) → ((bag : Bag) × IsFactsOf bag facts)
+    → IsBag old.bag → (IsTrue old.honest → IsFactsOf old.bag facts) → ((bag : Bag) × IsBag bag × IsFactsOf bag facts) → (IsTrue old.honest → IsTrue old.plain)
     → ((bag : Bag) → IsFactsOf bag facts → IsStageOf (record { bag = bag; options = facts.options }) 1 faults) → IsReportOf old request faults
-report_of_facts old request facts faults depth same honest other stage =
-    let picked = seen_of (λ bag. IsFactsOf bag facts) old.honest old.bag honest other in
+report_of_facts old request facts faults depth same is_bag honest (bag_seen, bag_is, facts_are) plain staged =
+    let picked = seen_of (λ bag. IsBag bag × IsFactsOf bag facts) old.honest old.bag (λ h. (is_bag, honest h)) (bag_seen, (bag_is, facts_are)) in
     let bag : Bag = picked.0 in
-    let first : IsStageOf (check_of bag request) 1 faults = subst (λ options. IsStageOf (record { bag = bag; options = options }) 1 faults) same (stage bag picked.2) in
+    let first : IsStageOf (check_of bag request) 1 faults = subst (λ options. IsStageOf (record { bag = bag; options = options }) 1 faults) same (staged bag picked.2.1) in
     record {
       seen = bag;
+      is_bag = picked.2.0;
       honest = picked.1;
+      plain = plain;
       report = stage_is_report (check_of bag request) faults depth first;
     }
 
@@ -129,6 +135,8 @@ report_of_facts old request facts faults depth same honest other stage =
 pub asked_of_report : (old : TreeState) (request : Request) (report : List Fault) → IsReportOf old request report → AreAskedOf old request (above request.after report)
 asked_of_report old request report is = record {
   seen = is.seen;
+  is_bag = is.is_bag;
   honest = is.honest;
+  plain = is.plain;
   asked = above_report is.seen request report is.report;
 }

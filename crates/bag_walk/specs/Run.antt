@@ -2,7 +2,7 @@
 use Rattle.std.specs.Prelude.{ℕ, ◌<◌, ◌≤◌, ◌≡◌, Bool, true, List, Option, IsTrue, length, min, Contains}
 use Rattle.std.specs.List.Sorted.{IsStrictlySortedBy}
 use Rattle.std.specs.declared.cmp.Ordering.TheVariants.{Less}
-use Rattle.bag_tree.specs.Bag.{Bag}
+use Rattle.bag_tree.specs.Bag.{Bag, IsBag}
 use Rattle.bag_tree.specs.Tree.{TreeState}
 use Rattle.bag_tree.specs.declared.fault.Stop.{Stop}
 use Rattle.bag_fault.specs.FaultOrder.{fault_cmp}
@@ -31,14 +31,17 @@ pub record AreFirst (Member : Fault → Type 0) (shown : List Fault) : Type 0 wh
 -- The run theorem. Whatever the tree, a run sees a bag, which is an honest tree's bag. It shows the first faults of that
 -- bag that are asked for, and where the end is reached they are all. It ends in a way that the request and the refusals
 -- allow, at a refused read where the device failed. What it writes is the lines of those faults and its closing line, or
--- where the output refuses a proper prefix of that.
+-- where the output refuses a proper prefix of that. Over an honest tree a run that is answered has seen that only files
+-- and folders stand there, unless its limit is 0: it then looks at nothing.
 pub record IsRun (old new : TreeState) (request : Request) (before after : Option (List ℕ)) (refused : Bool) (outcome : Outcome) : Type 0 where
   pub seen : Bag
+  pub is_bag : IsBag seen
   pub honest : IsTrue old.honest → seen ≡ old.bag
   pub shown : List Fault
   pub ending : Outcome
   pub may_end : MayEnd request (length shown) (MayStop request.options old new) ending
   pub calm : IsAnswered ending → new.failures ≡ old.failures
+  pub plain : IsTrue old.honest → IsAnswered ending → 0 < limit_of request → IsTrue old.plain
   pub wrote : Wrote request shown ending before after refused outcome
   pub faults : AreFirst (IsAsked seen request) shown
   pub all_shown : ReachesEnd ending → (f : Fault) → IsAsked seen request f → Contains shown f

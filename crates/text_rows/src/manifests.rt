@@ -1,7 +1,8 @@
 //! What manifests name, as tables.
-use bag_tags::{Kind, ManifestEntry, Parsed, read_manifest};
+use bag_tags::{Kind, LineFault, ManifestEntry, Parsed, read_manifest};
 use bag_text::{Alg, Code};
-use std::alloc::Global;
+use std::alloc::{AllocError, Global};
+use std::process::Abort;
 use std::test::Fail;
 
 const EMPTY_MD5: &str = "d41d8cd98f00b204e9800998ecf8427e";
@@ -24,69 +25,75 @@ fn shown(alloc: Global, parsed: &Parsed<ManifestEntry>) -> Result<String, Fail> 
     Ok(text)
 }
 
+/// What a manifest says in which `M` stands for a digest.
+fn said(alloc: Global, kind: Kind, alg: Alg, pattern: &str) -> Result<String, Fail> {
+    let text = pattern.replace(alloc, "M", EMPTY_MD5)?;
+    let parsed = read_manifest(alloc, kind, alg, text.as_bytes())?;
+    shown(alloc, &parsed)
+}
+
+/// Manifests in which `M` stands for a digest, each with what is read of it.
+const MANIFESTS: &[(Kind, Alg, &str, &str)] = &[
+    (Kind::Payload, Alg::Md5, "# made by hand", "501 1 |"),
+    (Kind::Payload, Alg::Md5, " M data/a", "501 1 |"),
+    (Kind::Payload, Alg::Md5, "M", "501 1 |"),
+    (Kind::Payload, Alg::Md5, "M  ", "501 1 |"),
+    (Kind::Payload, Alg::Sha1, "M  data/a", "502 1 M|"),
+    (Kind::Payload, Alg::Md5, "M *./data/a", "1 M data/a|"),
+    (Kind::Payload, Alg::Md5, "M ./*data/a", "505 1 *data/a|"),
+    (Kind::Payload, Alg::Md5, "M ././data/a", "504 1 ./data/a|"),
+    (Kind::Payload, Alg::Md5, "M *", "504 1 |"),
+    (Kind::Payload, Alg::Md5, "M ./", "504 1 |"),
+    (Kind::Payload, Alg::Md5, "M  data/a  ", "1 M data/a  |"),
+    (Kind::Payload, Alg::Md5, "M \t data/a b", "1 M data/a b|"),
+    (Kind::Payload, Alg::Md5, "\u{FEFF}M  data/a", "1 M data/a|"),
+    (
+        Kind::Payload,
+        Alg::Md5,
+        "\u{FEFF}\u{FEFF}M  data/a",
+        "501 1 |",
+    ),
+    (
+        Kind::Payload,
+        Alg::Md5,
+        "M  data/a%0Ab%25",
+        "1 M data/a\nb%|",
+    ),
+    (Kind::Payload, Alg::Md5, "M  data/a%0d", "1 M data/a\r|"),
+    (Kind::Payload, Alg::Md5, "M  data/%", "503 1 data/%|"),
+    (
+        Kind::Payload,
+        Alg::Md5,
+        "M data/%41\nM data/../x\nM /etc/x\nM data\n",
+        "503 1 data/%41|504 2 data/../x|504 3 /etc/x|505 4 data|",
+    ),
+    (
+        Kind::Payload,
+        Alg::Md5,
+        "M  data/a\n0cc175b9c0f1b6a831c399e269772661  data/a\nM  data/a\n",
+        "1 M data/a|508 2 data/a|508 3 data/a|",
+    ),
+    (
+        Kind::Payload,
+        Alg::Md5,
+        "M data/b\r\rM data/a\r\n \t\nM ./data/b\nM data/%25\rM *data/%25",
+        "1 M data/b|3 M data/a|6 M data/%|508 5 data/b|508 7 data/%|",
+    ),
+    (
+        Kind::Tag,
+        Alg::Md5,
+        "M data/a\nM tagmanifest-sha1.txt\nM notes.txt\nM manifest-md5.txt\n",
+        "3 M notes.txt|4 M manifest-md5.txt|506 1 data/a|507 2 tagmanifest-sha1.txt|",
+    ),
+    (Kind::Payload, Alg::Md5, "", ""),
+];
+
 #[test]
 fn reads_lines_of_manifests(rt: HostRuntime) -> Result<(), Fail> {
-    let m = EMPTY_MD5;
-    let rows = [
-        (Kind::Payload, Alg::Md5, "# made by hand", "501 1 |"),
-        (Kind::Payload, Alg::Md5, " M data/a", "501 1 |"),
-        (Kind::Payload, Alg::Md5, "M", "501 1 |"),
-        (Kind::Payload, Alg::Md5, "M  ", "501 1 |"),
-        (Kind::Payload, Alg::Sha1, "M  data/a", "502 1 M|"),
-        (Kind::Payload, Alg::Md5, "M *./data/a", "1 M data/a|"),
-        (Kind::Payload, Alg::Md5, "M ./*data/a", "505 1 *data/a|"),
-        (Kind::Payload, Alg::Md5, "M ././data/a", "504 1 ./data/a|"),
-        (Kind::Payload, Alg::Md5, "M *", "504 1 |"),
-        (Kind::Payload, Alg::Md5, "M ./", "504 1 |"),
-        (Kind::Payload, Alg::Md5, "M  data/a  ", "1 M data/a  |"),
-        (Kind::Payload, Alg::Md5, "M \t data/a b", "1 M data/a b|"),
-        (Kind::Payload, Alg::Md5, "\u{FEFF}M  data/a", "1 M data/a|"),
-        (
-            Kind::Payload,
-            Alg::Md5,
-            "\u{FEFF}\u{FEFF}M  data/a",
-            "501 1 |",
-        ),
-        (
-            Kind::Payload,
-            Alg::Md5,
-            "M  data/a%0Ab%25",
-            "1 M data/a\nb%|",
-        ),
-        (Kind::Payload, Alg::Md5, "M  data/a%0d", "1 M data/a\r|"),
-        (Kind::Payload, Alg::Md5, "M  data/%", "503 1 data/%|"),
-        (
-            Kind::Payload,
-            Alg::Md5,
-            "M data/%41\nM data/../x\nM /etc/x\nM data\n",
-            "503 1 data/%41|504 2 data/../x|504 3 /etc/x|505 4 data|",
-        ),
-        (
-            Kind::Payload,
-            Alg::Md5,
-            "M  data/a\n0cc175b9c0f1b6a831c399e269772661  data/a\nM  data/a\n",
-            "1 M data/a|508 2 data/a|508 3 data/a|",
-        ),
-        (
-            Kind::Payload,
-            Alg::Md5,
-            "M data/b\r\rM data/a\r\n \t\nM ./data/b\nM data/%25\rM *data/%25",
-            "1 M data/b|3 M data/a|6 M data/%|508 5 data/b|508 7 data/%|",
-        ),
-        (
-            Kind::Tag,
-            Alg::Md5,
-            "M data/a\nM tagmanifest-sha1.txt\nM notes.txt\nM manifest-md5.txt\n",
-            "3 M notes.txt|4 M manifest-md5.txt|506 1 data/a|507 2 tagmanifest-sha1.txt|",
-        ),
-        (Kind::Payload, Alg::Md5, "", ""),
-    ];
-    for (kind, alg, pattern, wanted) in rows {
-        let text = pattern.replace(rt.alloc(), "M", m)?;
-        let parsed = read_manifest(rt.alloc(), kind, alg, text.as_bytes())?;
-        let wanted = wanted.replace(rt.alloc(), "M", m)?;
+    for &(kind, alg, pattern, wanted) in MANIFESTS {
+        let wanted = wanted.replace(rt.alloc(), "M", EMPTY_MD5)?;
         assert_eq!(rt;
-            shown(rt.alloc(), &parsed)?.as_str(),
+            said(rt.alloc(), kind, alg, pattern)?.as_str(),
             wanted.as_str(),
             "{pattern}"
         );
@@ -119,9 +126,14 @@ fn number(index: u64) -> u64 {
     index.wrapping_mul(1103) % 5000
 }
 
-#[test]
-fn reads_thousands_of_unsorted_lines(rt: HostRuntime) -> Result<(), Fail> {
-    let mut text = String::new(rt.alloc());
+/// The path of an entry.
+fn path_of(alloc: Global, index: u64) -> Result<String, AllocError> {
+    format!(in alloc; "data/{}", number(index))
+}
+
+/// A manifest of 5,000 paths; behind each tenth of their lines stands the path of nine lines before again.
+fn thousands(alloc: Global) -> Result<String, AllocError> {
+    let mut text = String::new(alloc);
     for index in 0..5000u64 {
         write!(text, "{EMPTY_MD5}  data/{}\n", number(index))?;
         if index % 10 == 9 {
@@ -129,25 +141,39 @@ fn reads_thousands_of_unsorted_lines(rt: HostRuntime) -> Result<(), Fail> {
             write!(text, "{EMPTY_MD5}  data/{again}\n")?;
         }
     }
-    let parsed = read_manifest(rt.alloc(), Kind::Payload, Alg::Md5, text.as_bytes())?;
-    assert_eq!(rt; parsed.items.as_slice().len(), 5000);
-    assert_eq!(rt; parsed.faults.as_slice().len(), 500);
+    Ok(text)
+}
+
+/// Each entry has its path and its line.
+fn sees_entries(rt: &impl Abort, alloc: Global, entries: &[ManifestEntry]) -> Result<(), Fail> {
     let mut index = 0u64;
-    for entry in parsed.items.as_slice() {
-        let mut path = String::new(rt.alloc());
-        write!(path, "data/{}", number(index))?;
-        assert_eq!(rt; entry.path.as_str(), path.as_str());
+    for entry in entries {
+        assert_eq!(rt; entry.path.as_str(), path_of(alloc, index)?.as_str());
         assert_eq!(rt; entry.line, index.wrapping_add(index / 10).wrapping_add(1));
         index = index.wrapping_add(1);
     }
+    Ok(())
+}
+
+/// Each fault has its path and its line.
+fn sees_faults(rt: &impl Abort, alloc: Global, faults: &[LineFault]) -> Result<(), Fail> {
     let mut tenth = 0u64;
-    for fault in parsed.faults.as_slice() {
-        let mut path = String::new(rt.alloc());
-        write!(path, "data/{}", number(tenth.wrapping_mul(10)))?;
+    for fault in faults {
+        let path = path_of(alloc, tenth.wrapping_mul(10))?;
         assert!(rt; fault.code == Code::NamedAgain);
         assert_eq!(rt; fault.detail.as_str(), path.as_str());
         tenth = tenth.wrapping_add(1);
         assert_eq!(rt; fault.line, tenth.wrapping_mul(11));
     }
     Ok(())
+}
+
+#[test]
+fn reads_thousands_of_unsorted_lines(rt: HostRuntime) -> Result<(), Fail> {
+    let text = thousands(rt.alloc())?;
+    let parsed = read_manifest(rt.alloc(), Kind::Payload, Alg::Md5, text.as_bytes())?;
+    assert_eq!(rt; parsed.items.as_slice().len(), 5000);
+    assert_eq!(rt; parsed.faults.as_slice().len(), 500);
+    sees_entries(&rt, rt.alloc(), parsed.items.as_slice())?;
+    sees_faults(&rt, rt.alloc(), parsed.faults.as_slice())
 }

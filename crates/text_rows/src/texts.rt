@@ -3,7 +3,7 @@ use bag_text::{
     Alg, AlgSet, Code, Items, NotUtf8, PathFault, Text, check_path, escape_path, is_blank_line,
     is_payload, lines, same_label, split_at_blanks, text_of, trim, unescape_path,
 };
-use std::alloc::Global;
+use std::alloc::{AllocError, Global};
 use std::test::Fail;
 
 #[test]
@@ -74,15 +74,28 @@ fn names_algorithms(rt: HostRuntime) {
 }
 
 #[test]
-fn keeps_texts_and_items(rt: HostRuntime) -> Result<(), Fail> {
+fn keeps_texts(rt: HostRuntime) -> Result<(), Fail> {
     let text = Text::from_str(rt.alloc(), "data/\u{e4}")?;
     assert_eq!(rt; text.len(), 7);
     assert_eq!(rt; format!(in rt.alloc(); "{text}")?.as_str(), "data/\u{e4}");
-    assert!(rt; text == text.copy(rt.alloc())? && text > Text::from_str(rt.alloc(), "data/z")?);
-    let mut items = Items::new(rt.alloc());
-    for _ in 0..10_000 {
-        items.push(text.copy(rt.alloc())?)?;
+    assert!(rt; text == text.copy(rt.alloc())?);
+    assert!(rt; text > Text::from_str(rt.alloc(), "data/z")?);
+    Ok(())
+}
+
+/// So many copies of a text.
+fn copies(alloc: Global, text: &Text, count: usize) -> Result<Items<Text>, AllocError> {
+    let mut items = Items::new(alloc);
+    for _ in 0..count {
+        items.push(text.copy(alloc)?)?;
     }
+    Ok(items)
+}
+
+#[test]
+fn keeps_items(rt: HostRuntime) -> Result<(), Fail> {
+    let text = Text::from_str(rt.alloc(), "data/\u{e4}")?;
+    let items = copies(rt.alloc(), &text, 10_000)?;
     assert_eq!(rt;
         items
             .iter()
@@ -93,12 +106,18 @@ fn keeps_texts_and_items(rt: HostRuntime) -> Result<(), Fail> {
     Ok(())
 }
 
+/// So many percent signs.
+fn percent_signs(alloc: Global, count: usize) -> Result<String, AllocError> {
+    let mut text = String::new(alloc);
+    for _ in 0..count {
+        text.push('%')?;
+    }
+    Ok(text)
+}
+
 #[test]
 fn spells_a_long_path(rt: HostRuntime) -> Result<(), Fail> {
-    let mut path = String::new(rt.alloc());
-    for _ in 0..100_000 {
-        path.push('%')?;
-    }
+    let path = percent_signs(rt.alloc(), 100_000)?;
     let text = escape_path(rt.alloc(), &path)?;
     assert_eq!(rt; text.len(), 300_000);
     assert!(rt; unescape_path(rt.alloc(), &text)? == path);
@@ -118,6 +137,11 @@ fn spells_paths(rt: HostRuntime) -> Result<(), Fail> {
         assert_eq!(rt; escape_path(rt.alloc(), path)?.as_str(), text);
         assert_eq!(rt; unescape_path(rt.alloc(), text)?.as_str(), path);
     }
+    Ok(())
+}
+
+#[test]
+fn reads_other_spellings(rt: HostRuntime) -> Result<(), Fail> {
     for (text, path) in [
         ("data/a%0ab%25", "data/a\nb%"),
         ("%0d%0D", "\r\r"),
@@ -125,13 +149,17 @@ fn spells_paths(rt: HostRuntime) -> Result<(), Fail> {
     ] {
         assert_eq!(rt; unescape_path(rt.alloc(), text)?.as_str(), path);
     }
+    Ok(())
+}
+
+#[test]
+fn refuses_other_escapes(rt: HostRuntime) {
     for text in [
         "data/%41", "%", "%2", "%2g", "a%", "%0\u{e4}", "%\u{e4}", "%%25", "%25%0B",
     ] {
         let fault = unescape_path(rt.alloc(), text).err();
         assert_eq!(rt; fault, Some(PathFault::BadEscape), "{text}");
     }
-    Ok(())
 }
 
 #[test]

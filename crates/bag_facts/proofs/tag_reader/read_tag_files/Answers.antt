@@ -3,7 +3,7 @@ use Rattle.bag_facts.specs.TagReader.{AreListed, ReadsWanted, StopsReading}
 use Rattle.bag_facts.specs.Wanted.{OpensFirst, OpensUpTo}
 use Rattle.bag_facts.proofs.Opens.{up_to_first}
 use Rattle.bag_facts.proofs.PassedOn.{passed_on, on_error}
-use Rattle.bag_facts.proofs.Reading.{ReadsSome, reads_none, reads_no_more, reads_one_more, opened_more, opens_first, opens_up_to, stops_at, all_wanted}
+use Rattle.bag_facts.proofs.Reading.{ReadsSome, reads_none, reads_no_more, reads_one_more, opened_more, opens_first, opens_up_to, stops_at, all_wanted, all_texts}
 use Rattle.bag_facts.proofs.tag_reader.read_tag_files.Goals as goal
 
 pub loop-entry-init : goal.loop-entry-init
@@ -47,7 +47,7 @@ loop-entry-preserved-in_default g c =
     let mid = g.T.Tree.state c.loop-entry.tree in
     let new = g.T.Tree.state c.read_wanted.new.tree in
     reads_no_more c.args.options c.args.files.now c.loop-entry.entry-index c.entry-item.result old mid new c.loop-entry.read.items c.requires.ascending c.loop-entry-test.true c.entry-item.is c.loop-entry.invariant
-    c.in_ok-file.ensures.keeps c.in_ok-file.ensures.calm (subst (ReadsWanted c.args.options c.entry-item.result mid new) c.in_default.is c.in_ok-file.ensures.read)
+    c.in_ok-file.ensures.keeps c.in_ok-file.ensures.calm c.in_ok-file.ensures.text (subst (ReadsWanted c.args.options c.entry-item.result mid new) c.in_default.is c.in_ok-file.ensures.read)
 
 pub returns-then-is_err-clause-opened_first : goal.returns-then-is_err-clause-opened_first
 returns-then-is_err-clause-opened_first g c =
@@ -56,7 +56,7 @@ returns-then-is_err-clause-opened_first g c =
     let new = g.T.Tree.state c.read_wanted.new.tree in
     opens_first c.args.options c.args.files.now (c.loop-entry.entry-index + 1) old new c.requires.ascending
     (opened_more c.args.options c.args.files.now c.loop-entry.entry-index c.entry-item.result old mid new c.loop-entry.read.items c.requires.ascending c.loop-entry-test.true c.entry-item.is c.loop-entry.invariant
-    c.in-Some.file c.in_ok-file.ensures.keeps c.in_ok-file.ensures.calm (subst (ReadsWanted c.args.options c.entry-item.result mid new) c.in-Some.is c.in_ok-file.ensures.read))
+    c.in-Some.file c.in_ok-file.ensures.keeps c.in_ok-file.ensures.calm c.in_ok-file.ensures.text (subst (ReadsWanted c.args.options c.entry-item.result mid new) c.in-Some.is c.in_ok-file.ensures.read))
 
 pub loop-entry-preserved : goal.loop-entry-preserved
 loop-entry-preserved g c =
@@ -65,10 +65,14 @@ loop-entry-preserved g c =
     let new = g.T.Tree.state c.read_wanted.new.tree in
     let more =
     reads_one_more c.args.options c.args.files.now c.loop-entry.entry-index c.entry-item.result old mid new c.loop-entry.read.items c.requires.ascending c.loop-entry-test.true c.entry-item.is c.loop-entry.invariant
-    c.in-Some.file c.in_ok-file.ensures.keeps c.in_ok-file.ensures.calm (subst (ReadsWanted c.args.options c.entry-item.result mid new) c.in-Some.is c.in_ok-file.ensures.read) in
+    c.in-Some.file c.in_ok-file.ensures.keeps c.in_ok-file.ensures.calm c.in_ok-file.ensures.text (subst (ReadsWanted c.args.options c.entry-item.result mid new) c.in-Some.is c.in_ok-file.ensures.read) in
     let pushed : c.push.new.self.items ≡ c.loop-entry.read.items ++ c.in-Some.file ∷ [] = search rules in
     rw pushed more
 
 pub returns-clause-wanted : goal.returns-clause-wanted
 returns-clause-wanted g c =
     all_wanted c.args.options c.args.files.now c.loop-entry.entry-index (g.T.Tree.state c.args.tree.now) (g.T.Tree.state c.loop-entry.tree) c.loop-entry.read.items c.requires.ascending c.loop-entry-test.false c.loop-entry.invariant
+
+pub returns-clause-texts : goal.returns-clause-texts
+returns-clause-texts g c =
+    all_texts c.args.options c.args.files.now c.loop-entry.entry-index (g.T.Tree.state c.args.tree.now) (g.T.Tree.state c.loop-entry.tree) c.loop-entry.read.items c.loop-entry-test.false c.loop-entry.invariant

@@ -4,9 +4,9 @@ use Rattle.bag_text.specs.Text.{text_of}
 use Rattle.bag_text.specs.Lines.{lines_of_text}
 use Rattle.bag_tags.specs.Declaration.{IsDeclarationFault}
 use Rattle.bag_tags.specs.DeclarationFaults as place
-use Rattle.bag_tags.specs.LineFault.{AreFaults}
+use Rattle.bag_line.specs.LineFault.{AreFaults}
 use Rattle.bag_tags.proofs.DeclarationFaults.{faults_of_text, faults_of_no_text}
-use Rattle.bag_tags.proofs.Utf8.{is_text, is_no_text}
+use Rattle.bag_line.proofs.Utf8.{is_text, is_no_text}
 use Rattle.bag_tags.proofs.declaration.read_declaration.Goals as goal
 
 pub returns-in-Ok-clause-faults : goal.returns-in-Ok-clause-faults

@@ -1,9 +1,9 @@
 use Rattle.std.proofs.Common.{◌++◌, ◌∙◌, List, sym, ap}
 use Rattle.std.specs.Option.{option_to_list}
 use Rattle.bag_tags.specs.declared.manifest.ManifestEntry.{ManifestEntry}
-use Rattle.bag_tags.specs.declared.fault.LineFault.{LineFault}
+use Rattle.bag_line.specs.declared.fault.LineFault.{LineFault}
 use Rattle.bag_tags.specs.Judged.{entry_of, fault_of}
-use Rattle.bag_tags.proofs.PickedOut.{picked_more}
+use Rattle.bag_line.proofs.PickedOut.{picked_more}
 use Rattle.bag_tags.proofs.manifest.part.Goals as goal
 
 pub loop-judged-preserved : goal.loop-judged-preserved

@@ -6,10 +6,10 @@ use Rattle.bag_text.specs.Lines.{lines_of_file, lines_of_text}
 use Rattle.bag_text.specs.Order.{IsListOf}
 use Rattle.bag_text.specs.Text.{text_of}
 use Rattle.bag_tags.specs.Judged.{judged_and_marked, entry_of, fault_of}
-use Rattle.bag_tags.specs.LineFault.{AreFaults}
+use Rattle.bag_line.specs.LineFault.{AreFaults}
 use Rattle.bag_tags.specs.Manifest.{IsEntry, IsManifestFault}
 use Rattle.bag_tags.proofs.ManifestFaults.{entries_of_text, faults_of_text, entries_of_no_text, faults_of_no_text}
-use Rattle.bag_tags.proofs.Utf8.{is_text, is_no_text}
+use Rattle.bag_line.proofs.Utf8.{is_text, is_no_text}
 use Rattle.bag_tags.proofs.manifest.read_manifest.Goals as goal
 
 pub returns-in-Ok-clause-items : goal.returns-in-Ok-clause-items

@@ -1,6 +1,6 @@
-use Rattle.std.proofs.Common.{rules, inr, ◌∙◌, arith, sym, subst, IsTrue}
+use Rattle.std.proofs.Common.{rules, inl, inr, ◌∙◌, arith, sym, subst, IsTrue}
 use Rattle.std.proofs.lemmas.Grind.{common_steps}
-use Rattle.bag_tree.proofs.Reading.{read_all, read_more}
+use Rattle.bag_tree.proofs.Reading.{read_all, read_more, given_some, longer_than, ended_after}
 use Rattle.bag_tree.proofs.whole.read_whole.Goals as goal
 
 pub loop-bytes-preserved : goal.loop-bytes-preserved
@@ -9,6 +9,7 @@ loop-bytes-preserved g c = record {
   calm = c.in_ok-count.ensures.calm ∙ c.loop-bytes.invariant.calm;
   opened = c.read.ensures.openings ∙ c.loop-bytes.invariant.opened;
   file_open = c.in_ok-count.ensures.file_open.1;
+  given = grind (arith, common_steps);
   within = grind (arith, common_steps);
   honest = λ h.
       let still : IsTrue (g.T.Tree.state c.loop-bytes.tree).honest = subst IsTrue (sym c.loop-bytes.invariant.keeps.honest) h in
@@ -37,3 +38,19 @@ returns-else-len-entry-clause-opens g c = inr (c.read.ensures.openings ∙ c.loo
 
 pub returns-then-len-entry-clause-opened : goal.returns-then-len-entry-clause-opened
 returns-then-len-entry-clause-opened g c = c.read.ensures.openings ∙ c.loop-bytes.invariant.opened
+
+pub returns-then-entry-len-clause-refused : goal.returns-then-entry-len-clause-refused
+returns-then-entry-len-clause-refused g c = (
+  inl (c.in_ok-count.ensures.last ∙ given_some _ (omega (arith, c.if-count-eq0.false)), grind (arith, common_steps)),
+  λ h.
+      let still : IsTrue (g.T.Tree.state c.loop-bytes.tree).honest = subst IsTrue (sym c.loop-bytes.invariant.keeps.honest) h in
+      longer_than _ _ _ _ _ _ _ (c.loop-bytes.invariant.honest h) (c.in_ok-count.ensures.honest still) (grind (arith, common_steps)),
+)
+
+pub returns-else-len-entry-clause-refused : goal.returns-else-len-entry-clause-refused
+returns-else-len-entry-clause-refused g c = (
+  inr (rw c.if-count-eq0.true at c.in_ok-count.ensures.last, grind (arith, common_steps)),
+  λ h.
+      let still : IsTrue (g.T.Tree.state c.loop-bytes.tree).honest = subst IsTrue (sym c.loop-bytes.invariant.keeps.honest) h in
+      ended_after _ _ _ _ _ _ (c.loop-bytes.invariant.honest h) (rw c.if-count-eq0.true at (c.in_ok-count.ensures.honest still)) (grind (arith, common_steps)),
+)

@@ -11,7 +11,7 @@ returns-then-limit-eq0-clause-opens g c =
 pub returns-then-limit-eq0-clause-run : goal.returns-then-limit-eq0-clause-run
 returns-then-limit-eq0-clause-run g c =
     let limit : limit_of c.args.request.now ≡ 0 = sym c.unwrap_or-limit.ensures ∙ c.if-limit-eq0.true in
-    run_of_close _ _ c.args.request.now _ _ _ _ (Stopped 0) (refl, sym limit) (λ reached. reached) (λ answered. refl) c.close.ensures
+    run_of_close _ _ c.args.request.now _ _ _ _ (Stopped 0) (g.met.T.Tree.is_bag c.args.tree.now) (refl, sym limit) (λ reached. reached) (λ answered. refl) (λ answered. limit) c.close.ensures
 
 pub returns-in-Ok-clause-run : goal.returns-in-Ok-clause-run
 returns-in-Ok-clause-run g c =
@@ -20,4 +20,4 @@ returns-in-Ok-clause-run g c =
 pub returns-in-Err-clause-run : goal.returns-in-Err-clause-run
 returns-in-Err-clause-run g c =
     let some : 0 < limit_of c.args.request.now = omega (arith, c.unwrap_or-limit.ensures, c.if-limit-eq0.false) in
-    run_of_close _ _ c.args.request.now _ _ _ _ (Unread 0 c.in-Err.stop) (refl, some, c.in-Err.ensures.stop) (λ reached. reached) (λ answered. absurd answered) c.close-in-Err.ensures
+    run_of_close _ _ c.args.request.now _ _ _ _ (Unread 0 c.in-Err.stop) (g.met.T.Tree.is_bag c.args.tree.now) (refl, some, c.in-Err.ensures.stop) (λ reached. reached) (λ answered. absurd answered) (λ answered. absurd answered) c.close-in-Err.ensures

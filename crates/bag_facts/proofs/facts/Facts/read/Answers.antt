@@ -6,11 +6,16 @@ use Rattle.bag_facts.specs.Wanted.{AreWanted, ForListing, OpensAll, OpensFirst, 
 use Rattle.bag_facts.proofs.Known.{known_honest, known_seen}
 use Rattle.bag_facts.proofs.Opens.{opens_none, opens_wanted, opens_all_first, opens_later, opens_all_later, opens_up_to_later}
 use Rattle.bag_facts.proofs.PassedOn.{passed_on, on_error}
-use Rattle.bag_facts.proofs.Reading.{facts_stop}
+use Rattle.bag_facts.proofs.Reading.{facts_stop, listing_stop}
 use Rattle.bag_facts.proofs.facts.Facts.read.Goals as goal
 
 pub returns-in-Err-clause-opens : goal.returns-in-Err-clause-opens
 returns-in-Err-clause-opens g c = opens_none c.args.options (g.T.Tree.state c.args.tree.now) (g.T.Tree.state c.list.new.self) c.list.ensures.openings
+
+pub returns-in-Err-clause-stop : goal.returns-in-Err-clause-stop
+returns-in-Err-clause-stop g c =
+    listing_stop c.args.options (g.T.Tree.state c.args.tree.now) (g.T.Tree.state c.list.new.self) _ c.without_path.result
+    c.without_path.ensures.cause c.without_path.ensures.path c.list.ensures.openings c.in-Err.ensures.refused c.in-Err.ensures.last
 
 pub returns-in_err-read-clause-opens : goal.returns-in_err-read-clause-opens
 returns-in_err-read-clause-opens g c =
@@ -69,7 +74,7 @@ returns-in-Ok-of-clause-facts g c =
 pub returns-in-Ok-of-clause-seen : goal.returns-in-Ok-of-clause-seen
 returns-in-Ok-of-clause-seen g c =
     known_seen c.in-Ok-of.facts c.args.options c.in-Ok.listing c.as_slice.result.now c.in_ok-read.read.items c.in-Ok-of.ensures.options c.in-Ok-of.ensures.listing c.as_slice.ensures c.in-Ok.ensures.ordered
-    c.in-Ok-of.ensures.tags c.in_ok-read.ensures.wanted (g.T.Tree.state c.list.new.self) c.in_ok-read.ensures.whole
+    c.in-Ok-of.ensures.tags c.in_ok-read.ensures.wanted (g.T.Tree.state c.list.new.self) c.in-Ok.ensures.data c.in_ok-read.ensures.texts c.in_ok-read.ensures.whole
 
 pub returns-in-Ok-of-clause-opened : goal.returns-in-Ok-of-clause-opened
 returns-in-Ok-of-clause-opened g c =

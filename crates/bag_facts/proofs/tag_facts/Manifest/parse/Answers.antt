@@ -1,5 +1,5 @@
 use Rattle.std.proofs.Common.{sym, subst}
-use Rattle.bag_tags.specs.LineFault.{AreFaults}
+use Rattle.bag_line.specs.LineFault.{AreFaults}
 use Rattle.bag_tags.specs.Manifest.{IsManifestFault}
 use Rattle.bag_facts.proofs.Entries.{parsed_is}
 use Rattle.bag_facts.proofs.tag_facts.Manifest.parse.Goals as goal

@@ -1,0 +1,16 @@
+pub mod FaultOrder
+pub mod FetchFaults
+pub mod FetchLine
+pub mod FetchLineParts
+pub mod Fronts
+pub mod InfoElements
+pub mod InfoFaults
+pub mod InfoLine
+pub mod InfoParts
+pub mod InfoPlaces
+pub mod InfoReader
+pub mod LineParts
+pub mod OxumNumbers
+pub mod PickedOut
+pub mod Texts
+pub mod Utf8

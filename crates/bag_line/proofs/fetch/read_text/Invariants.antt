@@ -1,0 +1,11 @@
+use Rattle.std.proofs.Common.{◌≡◌, ◌++◌}
+use Rattle.std.specs.List.{enumerate_from}
+use Rattle.bag_text.specs.Lines as cut
+use Rattle.bag_text.specs.NumberedRest.{numbered_rest}
+use Rattle.bag_line.specs.FetchVerdict.{entries, faults}
+use Rattle.bag_line.proofs.fetch.read_text.Given as goal
+
+abbrev pub invariant-loop-number : goal.invariant-loop-number
+invariant-loop-number l =
+    (l.items ++ entries (numbered_rest l.number-iterator) ≡ entries (enumerate_from 1 (cut.lines l.text)))
+    × (l.faults ++ faults (numbered_rest l.number-iterator) ≡ faults (enumerate_from 1 (cut.lines l.text)))

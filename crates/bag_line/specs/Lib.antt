@@ -1,0 +1,11 @@
+pub mod Fetch
+pub mod FetchLine
+pub mod FetchVerdict
+pub mod Info
+pub mod InfoLine
+pub mod InfoPlaces
+pub mod InfoReader
+pub mod LineFault
+pub mod LineParts
+pub mod Oxum
+pub mod Reason

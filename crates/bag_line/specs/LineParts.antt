@@ -1,0 +1,22 @@
+-- What lines of tag files are made of (RFC 8493, 2.1.3 and 2.2.3).
+use Rattle.std.specs.Prelude.{ℕ, ◌≡◌, ◌≢◌, ◌⊎◌, ◌++◌, false, not, List, [], ◌∷◌, IsTrue}
+use Rattle.std.specs.List.{list_all}
+use Rattle.bag_text.specs.Text.{is_blank}
+
+-- a text that isn't empty and doesn't begin with a blank
+abbrev pub BeginsUnblank : List ℕ → Type 0
+BeginsUnblank t = (c : ℕ) × (more : List ℕ) × (t ≡ c ∷ more) × (is_blank c ≡ false)
+
+-- a part without a blank, one or more blanks, and what follows them
+pub record IsCut (text part rest : List ℕ) : Type 0 where
+  pub blanks : List ℕ
+  pub text_is : text ≡ part ++ blanks ++ rest
+  pub some_part : part ≢ []
+  pub no_blank : IsTrue (list_all (λ c. not (is_blank c)) part)
+  pub some_blank : blanks ≢ []
+  pub only_blanks : IsTrue (list_all is_blank blanks)
+  pub begins : BeginsUnblank rest
+
+-- the text behind a mark, or the text itself where the mark doesn't stand in front of it
+abbrev pub IsWithout : List ℕ → List ℕ → List ℕ → Type 0
+IsWithout mark text behind = (text ≡ mark ++ behind) ⊎ ((behind ≡ text) × ((more : List ℕ) → text ≢ mark ++ more))

@@ -1,0 +1,65 @@
+//! The metadata of a bag, `bag-info.txt` (RFC 8493, 2.2.2).
+ghost use Rattle.std.specs.Prelude.{◌≡◌, ◌∷◌, [], false, IfOk};
+ghost use Rattle.std.specs.List.{enumerate_from};
+ghost use Rattle.std.specs.Ordering.{nat_cmp, on};
+ghost use Rattle.bag_text.specs.Lines as cut;
+ghost use Rattle.bag_text.specs.Order.{IsListOf};
+ghost use Rattle.bag_line.specs.Info.{IsElement, IsInfoFault};
+ghost use Rattle.bag_line.specs.InfoReader as reading;
+ghost use Rattle.bag_line.specs.LineFault.{AreFaults};
+
+use crate::fault::{LineFault, Parsed};
+use crate::info_reader::Reader;
+use bag_text::{Code, Items, Text, lines, text_of};
+use std::alloc::{AllocError, Global};
+
+/// An element of the metadata: the number of its first line, its label as it is written, and its value, of which the
+/// parts of several lines are joined by one LF.
+#[derive(Debug, Drop)]
+pub struct Element {
+    pub line: u64,
+    pub label: Text,
+    pub value: Text,
+}
+
+/// Reads the bytes of `bag-info.txt` (RFC 8493, 2.2.2). A line that isn't blank and begins with a space or a tab goes on
+/// with the value of the element above it; after a line that is wrong it is passed over. Each other line that isn't
+/// blank is an element or the fault `InfoLine`. Bytes that aren't UTF-8 have no element and the one fault `NotUtf8`.
+/// Reads in one pass. An error only for want of memory.
+pub fn read_info(alloc: Global, bytes: &[u8]) -> Result<Parsed<Element>, AllocError>
+    ensures items { IfOk result (λ parsed. IsListOf (on (λ e. e.line) nat_cmp) (IsElement (cut.lines_of_file bytes.now)) parsed.items) }
+    ensures faults { IfOk result (λ parsed. AreFaults (IsInfoFault bytes.now) parsed.faults) }
+{
+    match text_of(bytes) {
+        Ok(text) => read_text(alloc, text),
+        Err(_) => unread(alloc),
+    }
+}
+
+/// Bytes that aren't UTF-8 have no element.
+fn unread(alloc: Global) -> Result<Parsed<Element>, AllocError>
+    ensures items { IfOk result (λ parsed. parsed.items ≡ []) }
+    ensures faults { IfOk result (λ parsed. parsed.faults ≡ reading.not_utf8 ∷ []) }
+{
+    let mut faults = Items::new(alloc);
+    faults.push(LineFault {
+        line: 0,
+        code: Code::NotUtf8,
+        detail: Text::empty(alloc),
+    })?;
+    Ok(Parsed {
+        items: Items::new(alloc),
+        faults,
+    })
+}
+
+fn read_text(alloc: Global, text: &str) -> Result<Parsed<Element>, AllocError>
+    ensures items { IfOk result (λ parsed. parsed.items ≡ reading.elements (enumerate_from 1 (cut.lines text.now))) }
+    ensures faults { IfOk result (λ parsed. parsed.faults ≡ reading.faults false (enumerate_from 1 (cut.lines text.now))) }
+{
+    let mut reader = Reader::new(alloc);
+    for (number, line) in lines(text) {
+        reader.read_line(alloc, number, line)?;
+    }
+    reader.finish(alloc)
+}

@@ -1,0 +1,82 @@
+//! What a line of `bag-info.txt` is (RFC 8493, 2.2.2).
+ghost use Rattle.std.specs.Prelude.{◌≡◌, MatchOption, Some, None};
+ghost use Rattle.bag_line.specs.Info as spec;
+ghost use Rattle.bag_line.specs.InfoLine.{HasKind};
+
+use bag_text::{is_blank, is_blank_line};
+
+/// What a line is, taken by itself.
+#[derive(Clone, Copy, Debug)]
+pub(crate) enum LineKind<'a> {
+    /// Empty, or only spaces and tabs.
+    Blank,
+    /// More of the value of the element above.
+    Continuation,
+    /// The first line of an element: its label, and what follows the colon.
+    First { label: &'a str, part: &'a str },
+    /// A line that should begin an element and doesn't.
+    Faulty,
+}
+
+/// What a line is.
+pub(crate) fn kind_of(line: &str) -> LineKind<'_>
+    ensures { HasKind line.now result }
+{
+    if is_blank_line(line) {
+        return LineKind::Blank;
+    }
+    if begins_with_blank(line) {
+        return LineKind::Continuation;
+    }
+    match split(line) {
+        Some((label, part)) => LineKind::First { label, part },
+        None => LineKind::Faulty,
+    }
+}
+
+/// The label and what follows the first colon, where the line splits there.
+#[tactic(auto, using(crate::proofs::InfoLine::lacks, crate::proofs::InfoLine::has))]
+fn split(line: &str) -> Option<(&str, &str)>
+    ensures { MatchOption result (spec.split line.now ≡ None) (λ x. spec.split line.now ≡ Some (x.0.now, x.1.now)) }
+{
+    let Some((label, part)) = line.split_once(':') else {
+        return None;
+    };
+    if is_label(label) && is_after_colon(part) {
+        Some((label, part))
+    } else {
+        None
+    }
+}
+
+/// A label isn't empty and doesn't end with a blank.
+fn is_label(text: &str) -> bool
+    ensures { result ≡ spec.is_label text.now }
+{
+    !text.is_empty() && !ends_with_blank(text)
+}
+
+/// After the colon stands nothing, or a blank.
+fn is_after_colon(text: &str) -> bool
+    ensures { result ≡ spec.is_after_colon text.now }
+{
+    text.is_empty() || begins_with_blank(text)
+}
+
+fn begins_with_blank(text: &str) -> bool
+    ensures { result ≡ spec.begins_with_blank text.now }
+{
+    match text.as_bytes().first() {
+        Some(byte) => is_blank(*byte),
+        None => false,
+    }
+}
+
+fn ends_with_blank(text: &str) -> bool
+    ensures { result ≡ spec.ends_with_blank text.now }
+{
+    match text.as_bytes().last() {
+        Some(byte) => is_blank(*byte),
+        None => false,
+    }
+}

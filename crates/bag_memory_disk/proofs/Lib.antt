@@ -1,0 +1,3 @@
+pub mod HeldNames
+pub mod HeldNodes
+pub mod Placed

@@ -1,0 +1,6 @@
+pub mod Held
+pub mod MemoryDisk
+pub mod Placing
+pub mod PlacingLaw
+pub mod Refusing
+pub mod RefusingDisk

@@ -1,0 +1,20 @@
+//! A disk in memory, for examples and tests of what stands on disks.
+//!
+//! ```
+//! let mut nodes = BTreeMap::new(alloc);
+//! nodes.insert(b"data".to_vec(alloc)?, Node::Folder)?;
+//! let disk = MemoryDisk::holding(alloc, nodes);
+//! ```
+//!
+//! A `MemoryDisk` is honest unless it is told otherwise. A `RefusingDisk` is any disk of which one call is refused.
+#![tactic(auto)]
+
+mod held;
+mod memory_disk;
+mod placing;
+mod reading;
+mod refusing_disk;
+
+pub use held::Node;
+pub use memory_disk::MemoryDisk;
+pub use refusing_disk::{Call, RefusingDisk};

@@ -1,5 +1,0 @@
-use Rattle.bag_output.proofs.Writing.{writes_after}
-use Rattle.bag_output.proofs.closing.put_verdict.Goals as goal
-
-pub returns : goal.returns
-returns g c = writes_after _ _ _ _ _ _ _ c.put_pieces.ensures c.in_ok-put_field.ensures

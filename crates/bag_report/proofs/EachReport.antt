@@ -1,0 +1,44 @@
+-- Every bag has a report.
+use Rattle.std.proofs.Common.{filter}
+use Rattle.bag_text.proofs.ListOf.{same_members}
+use Rattle.bag_tree.specs.Bag.{Bag}
+use Rattle.bag_fault.specs.FaultOrder.{fault_cmp}
+use Rattle.bag_fault.specs.declared.fault.Fault.{Fault}
+use Rattle.bag_fault.proofs.Ordered.{fault_cmp_total, fault_cmp_same}
+use Rattle.bag_facts.proofs.Mapped.{kept, passed}
+use Rattle.bag_stages.specs.DeclarationStage.{IsOfDeclaration}
+use Rattle.bag_stages.specs.HasList.{HasList}
+use Rattle.bag_stages.specs.ManifestsStage.{IsOfManifests}
+use Rattle.bag_stages.specs.PartsStage.{IsOfParts}
+use Rattle.bag_stages.proofs.DeclarationList.{declaration_faults_are_listed}
+use Rattle.bag_stages.proofs.HasLists.{either}
+use Rattle.bag_stages.proofs.ManifestsList.{manifest_faults_are_listed}
+use Rattle.bag_stages.proofs.PartsList.{part_faults_are_listed}
+use Rattle.bag_report.specs.Is.{Is}
+use Rattle.bag_report.specs.Report.{Check, asks, IsReported, EachBagHasAReport}
+use Rattle.bag_report.proofs.AscendingList.{ascending_list}
+
+-- the faults of a bag, stage by stage
+faults_are_listed : (bag : Bag) → HasList (Is bag)
+unfolding Is
+faults_are_listed bag =
+    either (IsOfDeclaration bag) _ (declaration_faults_are_listed bag)
+    (either (IsOfParts bag) (IsOfManifests bag) (part_faults_are_listed bag) (manifest_faults_are_listed bag))
+
+-- those that are asked for
+reported_are_listed : (check : Check) → HasList (IsReported check)
+reported_are_listed check =
+    let all = faults_are_listed check.bag in
+    let is_asked = λ (f : Fault). asks check.options f.code in (
+      filter is_asked all.0,
+      λ f. (
+        λ c. let k = kept is_asked all.0 f c in ((all.1 f).0 k.1, k.0),
+        λ h. passed is_asked all.0 f h.1 ((all.1 f).1 h.0),
+      ),
+    )
+
+pub each_bag_has_a_report : EachBagHasAReport
+each_bag_has_a_report check =
+    let listed = reported_are_listed check in
+    let report = ascending_list fault_cmp fault_cmp_total fault_cmp_same listed.0 in
+    (report.0, same_members fault_cmp _ (IsReported check) report.0 (λ f c. (listed.1 f).0 c) (λ f h. (listed.1 f).1 h) report.1)

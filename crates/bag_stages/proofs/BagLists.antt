@@ -1,0 +1,92 @@
+-- What lists have: the files of a bag and its manifests, and a set for each kind, algorithm and tag file.
+use Rattle.std.proofs.Common.{◌≡◌, ◌⊎◌, inl, inr, ℕ, List, [], ◌∷◌, length, take, ◌-◌, Bool, true, false, refl, sym, ◌∙◌, subst, arith, Contains, bytes_eq}
+use Rattle.std.specs.Cmp.{eq_by_cmp_equiv}
+use Rattle.std.specs.Cmp.Lexicographic.{nat_list_cmp_total}
+use Rattle.std.specs.FinMap.{keys, contains_key-keys}
+use Rattle.std.proofs.lemmas.Map.Views.{Contains-from_any, list_any-from_Contains}
+use Rattle.std.proofs.lemmas.Slice.Eq.{bytes_eq-Decides}
+use Rattle.bag_text.specs.Alg.{algs}
+use Rattle.bag_text.specs.Text.{without_prefix}
+use Rattle.bag_text.specs.declared.alg.Alg.{Alg}
+use Rattle.bag_text.proofs.AlgSets.{each_is_listed}
+use Rattle.bag_tags.specs.ManifestName.{prefix, manifest_name, is_alg_text, is_manifest_name}
+use Rattle.bag_tags.specs.declared.kind.Kind.{Kind}
+use Rattle.bag_tags.specs.declared.kind.Kind.TheVariants.{Payload, Tag}
+use Rattle.bag_tags.specs.declared.tag_name.TagName.{TagName}
+use Rattle.bag_tags.specs.declared.tag_name.TagName.TheVariants.{Declaration, Info, Fetch, Manifest}
+use Rattle.bag_tags.proofs.ManifestName.{IsNamed, named_is}
+use Rattle.bag_line.proofs.PickedOut.{both_true}
+use Rattle.bag_tree.specs.Bag.{Bag, HasFile}
+use Rattle.bag_tree.proofs.SameText.{one_text}
+use Rattle.bag_stages.specs.HasList.{HasList}
+use Rattle.bag_stages.specs.TagFiles.{HasManifest}
+use Rattle.bag_stages.proofs.HasLists.{nothing, only, same_set, either, for_each, for_all}
+use Rattle.bag_stages.proofs.PartFaults.{one_alg}
+
+-- the algorithm's text in the name of a manifest
+text_by : (kind : Kind) (path : List ℕ) (b : Bool) → is_manifest_name kind path ≡ b → HasList (IsNamed kind path)
+text_by kind path true e =
+    let rest = without_prefix (prefix kind) path in
+    let alg = take (length rest - 4) rest in
+    let two = both_true (is_alg_text alg) (bytes_eq path (manifest_name kind alg)) e in
+    let at : path ≡ manifest_name kind alg = (bytes_eq-Decides path (manifest_name kind alg)).0 two.1 in
+    only (IsNamed kind path) alg (two.0, at) (λ other h. one_alg kind kind other alg (sym h.1 ∙ at))
+text_by kind path false e = nothing (IsNamed kind path) (λ alg h. let clash : true ≡ false = sym (named_is kind path alg h) ∙ e in cc)
+
+text_listed : (kind : Kind) (path : List ℕ) → HasList (IsNamed kind path)
+text_listed kind path = text_by kind path (is_manifest_name kind path) refl
+
+module _ (bag : Bag) where
+  -- the paths of the files
+  files_listed : HasList (HasFile bag)
+  files_listed = (
+    keys bag.files,
+    λ path. (
+      λ c. contains_key-keys bag.files path ∙ list_any-from_Contains (eq_by_cmp_equiv nat_list_cmp_total) path (keys bag.files) c,
+      λ h. Contains-from_any one_text path (keys bag.files) (sym (contains_key-keys bag.files path) ∙ h),
+    ),
+  )
+
+  -- the algorithms of the manifests of a kind
+  pub manifests_listed : (kind : Kind) → HasList (HasManifest bag kind)
+  manifests_listed kind =
+      same_set (λ alg. (path : List ℕ) × HasFile bag path × IsNamed kind path alg) (HasManifest bag kind)
+      (λ alg h. (h.2.0, subst (HasFile bag) h.2.1 h.1))
+      (λ alg h. (manifest_name kind alg, h.1, (h.0, refl)))
+      (for_each (IsNamed kind) (text_listed kind) (HasFile bag) files_listed)
+
+each_kind : (kind : Kind) → Contains (Payload ∷ Tag ∷ []) kind
+each_kind Payload = (0, omega arith, refl)
+each_kind Tag = (1, omega arith, refl)
+
+module _ {A : Type 0} where
+  pub over_kinds : (P : Kind → A → Type 0) → ((kind : Kind) → HasList (P kind)) → HasList (λ x. (kind : Kind) × P kind x)
+  over_kinds P each = for_all P each (Payload ∷ Tag ∷ []) each_kind
+
+  pub over_algs : (P : Alg → A → Type 0) → ((alg : Alg) → HasList (P alg)) → HasList (λ x. (alg : Alg) × P alg x)
+  over_algs P each = for_all P each algs each_is_listed
+
+  module _ (P : TagName → A → Type 0) where
+    abbrev OfManifest : Kind → A → Type 0
+    OfManifest kind x = (alg : Alg) × P (Manifest kind alg) x
+
+    abbrev OfEither : A → Type 0
+    OfEither x = P Declaration x ⊎ (P Info x ⊎ (P Fetch x ⊎ ((kind : Kind) × OfManifest kind x)))
+
+    to_name : (x : A) → OfEither x → (name : TagName) × P name x
+    to_name x (inl h) = (Declaration, h)
+    to_name x (inr (inl h)) = (Info, h)
+    to_name x (inr (inr (inl h))) = (Fetch, h)
+    to_name x (inr (inr (inr (kind, (alg, h))))) = (Manifest kind alg, h)
+
+    from_name : (x : A) (name : TagName) → P name x → OfEither x
+    from_name x Declaration h = inl h
+    from_name x Info h = inr (inl h)
+    from_name x Fetch h = inr (inr (inl h))
+    from_name x (Manifest kind alg) h = inr (inr (inr (kind, (alg, h))))
+
+    pub over_names : ((name : TagName) → HasList (P name)) → HasList (λ x. (name : TagName) × P name x)
+    over_names each =
+        let manifests = over_kinds OfManifest (λ kind. over_algs (λ alg. P (Manifest kind alg)) (λ alg. each (Manifest kind alg))) in
+        same_set OfEither (λ x. (name : TagName) × P name x) to_name (λ x h. from_name x h.0 h.1)
+        (either (P Declaration) _ (each Declaration) (either (P Info) _ (each Info) (either (P Fetch) _ (each Fetch) manifests)))

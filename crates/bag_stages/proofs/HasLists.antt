@@ -1,0 +1,77 @@
+-- Sets that a list has: of nothing, of one, of two sets, of a set for each member of another; and what can be decided.
+use Rattle.std.proofs.Common.{◌≡◌, ◌⊎◌, inl, inr, Bool, true, false, List, [], ◌∷◌, ◌++◌, refl, sym, subst, Contains}
+use Rattle.bag_text.proofs.ListOf.{contains_cases, contains_first, contains_behind, contains_nothing, contains_front, contains_back, contains_either}
+use Rattle.bag_stages.specs.HasList.{HasList}
+
+abbrev pub Decided : Type 0 → Type 0
+Decided D = D ⊎ (¬ D)
+
+module _ {A : Type 0} where
+  pub nothing : (P : A → Type 0) → ((x : A) → ¬ (P x)) → HasList P
+  nothing P none = ([], λ x. (λ c. absurd (contains_nothing x c), λ p. absurd (none x p)))
+
+  pub only : (P : A → Type 0) (x : A) → P x → ((y : A) → P y → y ≡ x) → HasList P
+  only P x is same = (
+    x ∷ [],
+    λ y. (
+      λ c. elim (contains_cases x [] y c) [ inl e ↦ subst P e is | inr d ↦ absurd (contains_nothing y d) ],
+      λ p. subst (Contains (x ∷ [])) (sym (same y p)) (contains_first x []),
+    ),
+  )
+
+  pub same_set : (P Q : A → Type 0) → ((x : A) → P x → Q x) → ((x : A) → Q x → P x) → HasList P → HasList Q
+  same_set P Q to from p = (p.0, λ x. (λ c. to x ((p.1 x).0 c), λ q. (p.1 x).1 (from x q)))
+
+  pub either : (P Q : A → Type 0) → HasList P → HasList Q → HasList (λ x. P x ⊎ Q x)
+  either P Q p q = (
+    p.0 ++ q.0,
+    λ x. (
+      λ c. elim (contains_either p.0 q.0 x c) [ inl a ↦ inl ((p.1 x).0 a) | inr b ↦ inr ((q.1 x).0 b) ],
+      λ h. elim h [ inl a ↦ contains_front p.0 q.0 x ((p.1 x).1 a) | inr b ↦ contains_back p.0 q.0 x ((q.1 x).1 b) ],
+    ),
+  )
+
+  -- a set that has members only where this holds
+  pub where_so : (D : Type 0) (P : A → Type 0) → Decided D → HasList P → HasList (λ x. D × P x)
+  where_so D P (inl d) p = same_set P _ (λ x h. (d, h)) (λ x h. h.1) p
+  where_so D P (inr not) p = nothing _ (λ x h. not h.0)
+
+  -- one member, where this holds
+  pub one_where : (x : A) (D : Type 0) → Decided D → HasList (λ y. D × (y ≡ x))
+  one_where x D d = where_so D (λ y. y ≡ x) d (only _ x refl (λ y e. e))
+
+module _ {I A : Type 0} (P : I → A → Type 0) (each : (i : I) → HasList (P i)) where
+  along : (items : List I) → HasList (λ x. (i : I) × Contains items i × P i x)
+  along [] = nothing _ (λ x h. contains_nothing h.0 h.1)
+  along (i ∷ items) =
+      same_set (λ x. P i x ⊎ ((j : I) × Contains items j × P j x)) _
+      (λ x h. elim h [ inl p ↦ (i, contains_first i items, p) | inr more ↦ (more.0, contains_behind i items more.0 more.1, more.2) ])
+      (λ x h. elim (contains_cases i items h.0 h.1) [ inl e ↦ inl (subst (λ j. P j x) (sym e) h.2) | inr d ↦ inr (h.0, d, h.2) ])
+      (either (P i) _ (each i) (along items))
+
+  -- a set for each member of another
+  pub for_each : (Q : I → Type 0) → HasList Q → HasList (λ x. (i : I) × Q i × P i x)
+  for_each Q q = same_set _ _ (λ x h. (h.0, (q.1 h.0).0 h.1, h.2)) (λ x h. (h.0, (q.1 h.0).1 h.1, h.2)) (along q.0)
+
+  -- a set for each of a type of which a list has all
+  pub for_all : (items : List I) → ((i : I) → Contains items i) → HasList (λ x. (i : I) × P i x)
+  for_all items has = same_set _ _ (λ x h. (h.0, h.2)) (λ x h. (h.0, has h.0, h.1)) (along items)
+
+-- what can be decided
+pub true_or_not : (b : Bool) → Decided (b ≡ true)
+true_or_not true = inl refl
+true_or_not false = inr (λ e. cc)
+
+pub false_or_not : (b : Bool) → Decided (b ≡ false)
+false_or_not true = inr (λ e. cc)
+false_or_not false = inl refl
+
+pub both_decided : (D E : Type 0) → Decided D → Decided E → Decided (D × E)
+both_decided D E (inl d) (inl e) = inl (d, e)
+both_decided D E (inl d) (inr not) = inr (λ h. not h.1)
+both_decided D E (inr not) e = inr (λ h. not h.0)
+
+-- a set that a list has has a member or none
+pub none_decided : {A : Type 0} (P : A → Type 0) → HasList P → Decided ((x : A) → ¬ (P x))
+none_decided P ([], are) = inl (λ x h. contains_nothing x ((are x).1 h))
+none_decided P (x ∷ xs, are) = inr (λ none. none x ((are x).0 (contains_first x xs)))

@@ -1,0 +1,95 @@
+-- Every bag has a list of the faults of its manifests.
+use Rattle.std.proofs.Common.{◌≡◌, inl, inr, ℕ, List, [], ◌∷◌, Bool, true, false, Option, None, Some, map, refl, sym, ◌∙◌, subst, Contains, filter_map}
+use Rattle.std.specs.Prelude.{if◌then◌else◌}
+use Rattle.std.specs.Cmp.{eq_by_cmp_equiv}
+use Rattle.std.specs.Cmp.Lexicographic.{nat_list_cmp_total}
+use Rattle.std.specs.List.{list_any}
+use Rattle.std.specs.Ordering.{eq_by_cmp}
+use Rattle.std.specs.Str.{is_utf8}
+use Rattle.std.proofs.lemmas.Map.Views.{Contains-from_any, list_any-from_Contains}
+use Rattle.bag_text.specs.Lines.{lines_of_file}
+use Rattle.bag_text.specs.Text.{text_cmp}
+use Rattle.bag_text.specs.declared.alg.Alg.{Alg}
+use Rattle.bag_tags.specs.Judged.{judged_and_marked, fault_of, not_utf8}
+use Rattle.bag_line.specs.LineFault.{AreFaults}
+use Rattle.bag_tags.specs.Manifest.{IsManifestFault}
+use Rattle.bag_tags.specs.ManifestName.{manifest_name}
+use Rattle.bag_line.specs.declared.fault.LineFault.{LineFault}
+use Rattle.bag_tags.specs.declared.kind.Kind.{Kind}
+use Rattle.bag_tags.specs.declared.kind.Kind.TheVariants.{Payload, Tag}
+use Rattle.bag_tags.specs.declared.tag_name.TagName.{TagName}
+use Rattle.bag_tags.specs.declared.tag_name.TagName.TheVariants.{Manifest}
+use Rattle.bag_tags.proofs.ManifestFaults.{faults_of_text, faults_of_no_text}
+use Rattle.bag_tree.specs.Bag.{Bag, file, has_file}
+use Rattle.bag_tree.proofs.SameText.{one_text}
+use Rattle.bag_fault.specs.declared.fault.Fault.{Fault}
+use Rattle.bag_stages.specs.FaultFields.{in_file}
+use Rattle.bag_stages.specs.HasList.{HasList}
+use Rattle.bag_stages.specs.ManifestFaults.{unnamed, IsUnlisted, IsLineFault}
+use Rattle.bag_stages.specs.ManifestsStage.{IsOfManifests, ManifestFaultsAreListed}
+use Rattle.bag_stages.specs.TagFiles.{manifest_of, named_in, HasManifest, HasSupported, Names}
+use Rattle.bag_stages.proofs.BagLists.{manifests_listed, over_names}
+use Rattle.bag_stages.proofs.HasLists.{Decided, true_or_not, both_decided, nothing, one_where, same_set, either, for_each}
+use Rattle.bag_stages.proofs.ManifestFaults.{lines_listed, IsOfTag, of_some, of_tag_is}
+
+missing_by : (paths : List (List ℕ)) (path : List ℕ) (b : Bool) → list_any (eq_by_cmp text_cmp path) paths ≡ b → Decided (¬ (Contains paths path))
+missing_by paths path true e = inr (λ no. no (Contains-from_any one_text path paths e))
+missing_by paths path false e = inl (λ c. let clash : false ≡ true = sym e ∙ list_any-from_Contains (eq_by_cmp_equiv nat_list_cmp_total) path paths c in cc)
+
+missing_or_not : (paths : List (List ℕ)) (path : List ℕ) → Decided (¬ (Contains paths path))
+missing_or_not paths path = missing_by paths path (list_any (eq_by_cmp text_cmp path) paths) refl
+
+-- the faults of the lines of any bytes
+line_faults : (kind : Kind) (alg : Alg) (bytes : List ℕ) (b : Bool) → is_utf8 bytes ≡ b → (faults : List LineFault) × AreFaults (IsManifestFault kind alg bytes) faults
+line_faults kind alg bytes true e = (filter_map fault_of (judged_and_marked kind alg (lines_of_file bytes)), faults_of_text kind alg bytes e)
+line_faults kind alg bytes false e = (not_utf8 ∷ [], faults_of_no_text kind alg bytes e)
+
+module _ (bag : Bag) where
+  lines_of : (kind : Kind) (alg : Alg) (content : Option (List ℕ)) → file bag (manifest_of kind alg) ≡ content → HasList (IsLineFault bag kind alg)
+  lines_of kind alg None e = nothing (IsLineFault bag kind alg) (λ f h. let clash : None ≡ Some h.0.2.0 = sym e ∙ h.0.2.1 in cc)
+  lines_of kind alg (Some bytes) e =
+      let lines = line_faults kind alg bytes (is_utf8 bytes) refl in
+      let path = manifest_of kind alg in
+      let faults : List Fault = if is_utf8 bytes then map (in_file path (Some alg)) lines.0 else [] in
+      (faults, (lines_listed bag kind alg bytes path (is_utf8 bytes) lines.0 faults e refl lines.1 refl refl).members)
+
+  -- the tag manifest that is there doesn't name the payload manifest of this text
+  abbrev Lacks : Alg → List ℕ → Type 0
+  Lacks alg other = HasSupported bag Tag alg × ¬ (Names bag Tag alg (manifest_name Payload other))
+
+  abbrev IsLacking : Alg → List ℕ → Fault → Type 0
+  IsLacking alg other f = Lacks alg other × (f ≡ unnamed (manifest_of Tag alg) alg (manifest_name Payload other))
+
+  abbrev LacksSome : Alg → Fault → Type 0
+  LacksSome alg f = (other : List ℕ) × HasManifest bag Payload other × IsLacking alg other f
+
+  lacks_or_not : (alg : Alg) (other : List ℕ) → Decided (Lacks alg other)
+  lacks_or_not alg other =
+      both_decided _ _ (true_or_not (has_file bag (manifest_of Tag alg))) (missing_or_not (named_in bag Tag alg) (manifest_name Payload other))
+
+  to_unlisted : (alg : Alg) (f : Fault) → LacksSome alg f → IsUnlisted bag Tag alg f
+  to_unlisted alg f (other, has, ((there, lacks), is)) =
+      subst (IsUnlisted bag Tag alg) (sym is)
+      (refl, (other, record { path_is = refl; alg_is = refl; line_is = refl; detail_is = refl }, there, has, lacks))
+
+  from_unlisted : (alg : Alg) (f : Fault) → IsUnlisted bag Tag alg f → LacksSome alg f
+  from_unlisted alg f (code, (other, at, there, has, lacks)) = (
+    other,
+    has,
+    ((there, lacks), (λ i. record { code = code i; path = at.path_is i; alg = at.alg_is i; line = at.line_is i; detail = at.detail_is i })),
+  )
+
+  unlisted : (kind : Kind) (alg : Alg) → HasList (IsUnlisted bag kind alg)
+  unlisted Payload alg = nothing _ (λ f h. h)
+  unlisted Tag alg =
+      same_set (LacksSome alg) (IsUnlisted bag Tag alg) (to_unlisted alg) (from_unlisted alg)
+      (for_each (IsLacking alg) (λ other. one_where (unnamed (manifest_of Tag alg) alg (manifest_name Payload other)) (Lacks alg other) (lacks_or_not alg other))
+      (HasManifest bag Payload) (manifests_listed bag Payload))
+
+  of_name : (name : TagName) → HasList (λ f. IsOfTag bag f name)
+  of_name (Manifest kind alg) = either (IsUnlisted bag kind alg) (IsLineFault bag kind alg) (unlisted kind alg) (lines_of kind alg (file bag (manifest_of kind alg)) refl)
+  of_name other = nothing _ (λ f h. h)
+
+pub manifest_faults_are_listed : ManifestFaultsAreListed
+manifest_faults_are_listed bag =
+    same_set (λ f. (name : TagName) × IsOfTag bag f name) (IsOfManifests bag) (λ f h. of_tag_is bag f h.0 h.1) (of_some bag) (over_names (λ name f. IsOfTag bag f name) (of_name bag))

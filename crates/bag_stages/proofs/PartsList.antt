@@ -1,0 +1,111 @@
+-- Every bag has a list of the faults of its parts.
+use Rattle.std.proofs.Common.{◌≡◌, ◌≢◌, ◌⊎◌, inl, inr, ℕ, List, [], Bool, true, false, Option, None, Some, codes, refl, sym, ◌∙◌, subst}
+use Rattle.std.specs.Str.{is_utf8}
+use Rattle.bag_text.specs.Alg.{alg_named}
+use Rattle.bag_text.specs.Text.{IsNoText}
+use Rattle.bag_text.specs.declared.alg.Alg.{Alg}
+use Rattle.bag_text.specs.declared.code.Code.{Code}
+use Rattle.bag_text.specs.declared.code.Code.TheVariants.{NoPayloadFolder, NoPayloadManifest, AlgorithmUnsupported, NotUtf8}
+use Rattle.bag_tags.specs.ManifestName.{manifest_name}
+use Rattle.bag_tags.specs.TagName.{tag_path}
+use Rattle.bag_tags.specs.declared.kind.Kind.{Kind}
+use Rattle.bag_tags.specs.declared.kind.Kind.TheVariants.{Payload}
+use Rattle.bag_tags.specs.declared.tag_name.TagName.{TagName}
+use Rattle.bag_tags.specs.declared.tag_name.TagName.TheVariants.{Declaration}
+use Rattle.bag_tree.specs.Bag.{Bag, file, has_folder}
+use Rattle.bag_fault.specs.declared.fault.Fault.{Fault}
+use Rattle.bag_stages.specs.FaultFields.{At, of_bag, of_whole}
+use Rattle.bag_stages.specs.HasList.{HasList}
+use Rattle.bag_stages.specs.PartsStage.{PartHolds, IsOfParts, PartFaultsAreListed}
+use Rattle.bag_stages.specs.TagFiles.{HasManifest}
+use Rattle.bag_stages.proofs.BagLists.{manifests_listed, over_kinds, over_names}
+use Rattle.bag_stages.proofs.HasLists.{Decided, false_or_not, both_decided, none_decided, one_where, same_set, either, for_each}
+
+-- a fault of a whole file has the fields that it is made of, and no other has
+has_fields : (code : Code) (path detail : List ℕ) → At (of_whole code path detail) path None 0 detail
+has_fields code path detail = record { path_is = refl; alg_is = refl; line_is = refl; detail_is = refl }
+
+is_whole : (f : Fault) (code : Code) (path detail : List ℕ) → f.code ≡ code → At f path None 0 detail → f ≡ of_whole code path detail
+is_whole f code path detail e at = λ i. record { code = e i; path = at.path_is i; alg = at.alg_is i; line = at.line_is i; detail = at.detail_is i }
+
+unnamed_or_not : (o : Option Alg) → Decided (o ≡ None)
+unnamed_or_not None = inl refl
+unnamed_or_not (Some alg) = inr (λ e. cc)
+
+declaration_or_not : (name : TagName) → Decided (name ≢ Declaration)
+declaration_or_not Declaration = inr (λ other. other refl)
+declaration_or_not other = inl (λ e. cc)
+
+module _ (bag : Bag) where
+  -- the bytes at a path aren't UTF-8
+  abbrev HasOther : List ℕ → Type 0
+  HasOther path = (bytes : List ℕ) × (file bag path ≡ Some bytes) × IsNoText bytes
+
+  text_or_not : (path bytes : List ℕ) (b : Bool) → file bag path ≡ Some bytes → is_utf8 bytes ≡ b → Decided (HasOther path)
+  text_or_not path bytes false there e = inl (bytes, there, e)
+  text_or_not path bytes true there e = inr (λ h.
+      let same : h.0 ≡ bytes = (let both : Some h.0 ≡ Some bytes = sym h.1 ∙ there in cc) in
+      let clash : false ≡ true = sym h.2 ∙ subst (λ b. is_utf8 b ≡ true) (sym same) e in cc)
+
+  content_or_not : (path : List ℕ) (content : Option (List ℕ)) → file bag path ≡ content → Decided (HasOther path)
+  content_or_not path None e = inr (λ h. let clash : None ≡ Some h.0 = sym e ∙ h.1 in cc)
+  content_or_not path (Some bytes) e = text_or_not path bytes (is_utf8 bytes) e refl
+
+  -- the four faults of the stage
+  abbrev OfFolder : Fault → Type 0
+  OfFolder f = (has_folder bag (codes "data") ≡ false) × (f ≡ of_bag NoPayloadFolder)
+
+  abbrev OfPayload : Fault → Type 0
+  OfPayload f = ((alg : List ℕ) → ¬ (HasManifest bag Payload alg)) × (f ≡ of_bag NoPayloadManifest)
+
+  abbrev OfKind : Kind → Fault → Type 0
+  OfKind kind f = (alg : List ℕ) × HasManifest bag kind alg × ((alg_named alg ≡ None) × (f ≡ of_whole AlgorithmUnsupported (manifest_name kind alg) alg))
+
+  abbrev OfName : TagName → Fault → Type 0
+  OfName name f = ((name ≢ Declaration) × HasOther (tag_path name)) × (f ≡ of_whole NotUtf8 (tag_path name) [])
+
+  abbrev OfPart : Fault → Type 0
+  OfPart f = OfFolder f ⊎ (OfPayload f ⊎ (((kind : Kind) × OfKind kind f) ⊎ ((name : TagName) × OfName name f)))
+
+  kind_listed : (kind : Kind) → HasList (OfKind kind)
+  kind_listed kind =
+      for_each (λ alg f. (alg_named alg ≡ None) × (f ≡ of_whole AlgorithmUnsupported (manifest_name kind alg) alg))
+      (λ alg. one_where (of_whole AlgorithmUnsupported (manifest_name kind alg) alg) (alg_named alg ≡ None) (unnamed_or_not (alg_named alg)))
+      (HasManifest bag kind) (manifests_listed bag kind)
+
+  name_listed : (name : TagName) → HasList (OfName name)
+  name_listed name =
+      one_where (of_whole NotUtf8 (tag_path name) []) ((name ≢ Declaration) × HasOther (tag_path name))
+      (both_decided _ _ (declaration_or_not name) (content_or_not (tag_path name) (file bag (tag_path name)) refl))
+
+  each_listed : HasList OfPart
+  each_listed =
+      either OfFolder _ (one_where (of_bag NoPayloadFolder) (has_folder bag (codes "data") ≡ false) (false_or_not (has_folder bag (codes "data"))))
+      (either OfPayload _ (one_where (of_bag NoPayloadManifest) ((alg : List ℕ) → ¬ (HasManifest bag Payload alg)) (none_decided (HasManifest bag Payload) (manifests_listed bag Payload)))
+      (either _ _ (over_kinds OfKind kind_listed) (over_names OfName name_listed)))
+
+  to_part : (f : Fault) → OfPart f → IsOfParts bag f
+  unfolding IsOfParts PartHolds
+  to_part f (inl (lacks, is)) = subst (IsOfParts bag) (sym is) (has_fields NoPayloadFolder [] [], lacks)
+  to_part f (inr (inl (lacks, is))) = subst (IsOfParts bag) (sym is) (has_fields NoPayloadManifest [] [], lacks)
+  to_part f (inr (inr (inl (kind, (alg, has, (none, is)))))) =
+      subst (IsOfParts bag) (sym is) (kind, alg, has_fields AlgorithmUnsupported (manifest_name kind alg) alg, has, none)
+  to_part f (inr (inr (inr (name, ((other, text), is))))) =
+      subst (IsOfParts bag) (sym is) (has_fields NotUtf8 (tag_path name) [], ((name, other, refl), text))
+
+  from_code : (f : Fault) (c : Code) → f.code ≡ c → PartHolds bag f c → OfPart f
+  unfolding PartHolds
+  from_code f NoPayloadFolder e (at, lacks) = inl (lacks, is_whole f NoPayloadFolder [] [] e at)
+  from_code f NoPayloadManifest e (at, lacks) = inr (inl (lacks, is_whole f NoPayloadManifest [] [] e at))
+  from_code f AlgorithmUnsupported e (kind, alg, at, has, none) =
+      inr (inr (inl (kind, (alg, has, (none, is_whole f AlgorithmUnsupported (manifest_name kind alg) alg e at)))))
+  from_code f NotUtf8 e (at, ((name, other, here), text)) =
+      inr (inr (inr (name, ((other, subst HasOther (sym here) text), is_whole f NotUtf8 (tag_path name) [] e (subst (λ p. At f p None 0 []) (sym here) at)))))
+  from_code f other e h = absurd h
+
+  from_part : (f : Fault) → IsOfParts bag f → OfPart f
+  unfolding IsOfParts
+  from_part f h = from_code f f.code refl h
+
+pub part_faults_are_listed : PartFaultsAreListed
+part_faults_are_listed bag = same_set (OfPart bag) (IsOfParts bag) (to_part bag) (from_part bag) (each_listed bag)

@@ -1,0 +1,28 @@
+//! What a tree answered last.
+ghost use Rattle.std.specs.Prelude.{◌≡◌};
+ghost use Rattle.bag_tree.specs.Tree.{answer_of_read};
+
+use crate::TreeFault;
+
+/// What the last call of a tree answered.
+#[derive(Clone, Copy, Debug, PartialEq, Eq)]
+pub enum Answer {
+    /// What was asked for.
+    Given,
+    /// That the open file is at its end.
+    AtEnd,
+    Refused(TreeFault),
+}
+
+impl Answer {
+    /// What a read answers that gives so many bytes.
+    pub fn of_read(count: usize) -> Answer
+        ensures { result ≡ answer_of_read count }
+    {
+        if count == 0 {
+            Answer::AtEnd
+        } else {
+            Answer::Given
+        }
+    }
+}

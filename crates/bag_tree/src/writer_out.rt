@@ -1,0 +1,79 @@
+//! An output over a writer.
+ghost use Rattle.std.specs.Prelude.{◌≡◌, List, [], ℕ, Some, false};
+ghost use Rattle.std.specs.Option.{unwrap_or};
+ghost use Rattle.bag_tree.specs.Heard.{IsHeard, Tells};
+
+use crate::heard::Heard;
+use crate::out::{Out, Refused};
+use std::io::Write;
+
+/// Writes to a writer. After a write that it refuses, nothing more is written.
+///
+/// The bytes that it took are those that the writer answered that it took, also where the writer tells nothing of itself,
+/// as the standard output. They come after those that the writer held at first, where it told them. A writer that
+/// always tells its bytes, as a `Vec`, holds exactly them.
+#[derive(Drop)]
+pub struct WriterOut<W: Write> {
+    writer: W,
+    refused: bool,
+    heard: Heard,
+    ghost told: { IsHeard W.contents writer heard.bytes },
+}
+
+impl<W: Write> WriterOut<W> {
+    /// An output over a writer, which hasn't refused.
+    pub fn new(writer: W) -> WriterOut<W>
+        ensures taken { ⟦<WriterOut<W> as Out>⟧.taken result ≡ Some (unwrap_or (W.contents writer) []) }
+        ensures ready { ⟦<WriterOut<W> as Out>⟧.has_refused result ≡ false }
+    {
+        WriterOut::holding(writer)
+    }
+
+    /// An output over a writer that holds these bytes, where it tells.
+    fn holding(writer: W) -> WriterOut<W>
+        ghost held: { List ℕ }
+        requires { IsHeard W.contents writer held }
+        ensures taken { ⟦<WriterOut<W> as Out>⟧.taken result ≡ Some held }
+        ensures ready { ⟦<WriterOut<W> as Out>⟧.has_refused result ≡ false }
+    {
+        WriterOut {
+            writer,
+            refused: false,
+            heard: Heard::new(),
+        }
+    }
+
+    /// The writer, which has what was taken.
+    pub fn into_inner(self) -> W
+        ensures { Tells W.contents → W.contents result ≡ ⟦<WriterOut<W> as Out>⟧.taken self }
+    {
+        let WriterOut {
+            writer,
+            refused: _,
+            heard: _,
+        } = self;
+        writer
+    }
+}
+
+impl<W: Write> Out for WriterOut<W> {
+    ghost taken = { λ out. Some out.heard.bytes };
+
+    ghost has_refused = { λ out. out.refused };
+
+    fn put(&mut self, bytes: &[u8]) -> Result<usize, Refused> {
+        if self.refused {
+            return Err(Refused);
+        }
+        match self.writer.write(bytes) {
+            Ok(0) | Err(_) => {
+                self.refused = true;
+                Err(Refused)
+            }
+            Ok(count) => {
+                self.heard.note(&bytes[..count]);
+                Ok(count)
+            }
+        }
+    }
+}

@@ -1,0 +1,11 @@
+//! Examples of the whole program over disks in memory, as tables: what stands on each disk, and what is written.
+#![tactic(auto)]
+
+#[cfg(test)]
+mod directories;
+#[cfg(test)]
+mod refused_calls;
+#[cfg(test)]
+mod shelf;
+#[cfg(test)]
+mod shelf_disk;

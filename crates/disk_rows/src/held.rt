@@ -1,0 +1,80 @@
+//! Disks in memory from tables, and trees over disks.
+use bag_disk::{Disk, FileTree};
+use bag_memory_disk::{MemoryDisk, Node};
+use bag_text::Text;
+use bag_tree::{FileEntry, Listing, Tree, TreeFault, read_whole};
+use std::alloc::{AllocError, Global};
+use std::collections::BTreeMap;
+use std::io::{self, ErrorKind};
+use std::test::Fail;
+
+/// What stands at a path of a table.
+#[derive(Clone, Copy)]
+pub(crate) enum Held {
+    /// A file with this text.
+    File(&'static str),
+    Folder,
+    Other,
+}
+
+/// A path, and what stands there.
+pub(crate) type Place = (&'static [u8], Held);
+
+fn node(alloc: Global, held: Held) -> Result<Node, AllocError> {
+    match held {
+        Held::File(text) => Ok(Node::File(text.as_bytes().to_vec(alloc)?)),
+        Held::Folder => Ok(Node::Folder),
+        Held::Other => Ok(Node::Other),
+    }
+}
+
+/// The disk of a table, where there is one.
+pub(crate) fn maybe_disk(
+    alloc: Global,
+    places: &[Place],
+) -> Result<Option<MemoryDisk>, AllocError> {
+    let mut nodes = BTreeMap::new(alloc);
+    for (path, held) in places {
+        let _ = nodes.insert(path.to_vec(alloc)?, node(alloc, *held)?)?;
+    }
+    Ok(MemoryDisk::holding(alloc, nodes))
+}
+
+/// The disk of a table.
+pub(crate) fn disk(alloc: Global, places: &[Place]) -> Result<MemoryDisk, Fail> {
+    match maybe_disk(alloc, places)? {
+        Some(disk) => Ok(disk),
+        None => Err(io::Error::from(ErrorKind::InvalidInput).into()),
+    }
+}
+
+fn shown(alloc: Global, listing: &Listing) -> Result<String, AllocError> {
+    let mut text = format!(in alloc; "{}", listing.has_data)?;
+    for file in listing.files.as_slice() {
+        let path = file.path.as_str();
+        let size = file.size;
+        text.push_str(format!(in alloc; ", {path} {size}")?.as_str())?;
+    }
+    Ok(text)
+}
+
+/// The listing of a tree over a disk as a text, or the word of its refusal.
+pub(crate) fn listed<D: Disk + Drop>(alloc: Global, disk: D) -> Result<String, AllocError> {
+    let mut tree = FileTree::over(alloc, disk);
+    match tree.list() {
+        Ok(listing) => shown(alloc, &listing),
+        Err(fault) => String::from_str(alloc, fault.word()),
+    }
+}
+
+/// How opening and reading a whole file of a tree over a disk ends, where it is listed with this size.
+pub(crate) fn read<D: Disk + Drop>(
+    alloc: Global,
+    disk: D,
+    path: &str,
+    size: u64,
+) -> Result<Result<Vec<u8>, TreeFault>, AllocError> {
+    let mut tree = FileTree::over(alloc, disk);
+    let path = Text::from_str(alloc, path)?;
+    Ok(read_whole(alloc, &mut tree, &FileEntry { path, size }))
+}

@@ -1,0 +1,11 @@
+//! Worked examples of `bag-info.txt` and `fetch.txt`, as tables: what stands there, and what is read.
+#![tactic(auto)]
+
+#[cfg(test)]
+mod elements;
+#[cfg(test)]
+mod fetches;
+#[cfg(test)]
+mod looked_back;
+#[cfg(test)]
+mod oxums;

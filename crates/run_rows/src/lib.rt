@@ -1,0 +1,13 @@
+//! Worked examples of runs, as tables: what a bag holds, what is asked for, and what is written.
+//!
+//! They run over bags in memory and over folders on the disk.
+#![tactic(auto)]
+
+#[cfg(test)]
+mod checks;
+#[cfg(test)]
+mod cursors;
+#[cfg(test)]
+mod declarations;
+#[cfg(test)]
+mod narrow_outputs;

@@ -1,0 +1,16 @@
+//! Worked examples of trees in memory, of stages and of fault lines, as tables: what a bag in memory holds, and the lines
+//! of its faults.
+#![tactic(auto)]
+
+#[cfg(test)]
+mod faults;
+#[cfg(test)]
+mod judged;
+#[cfg(test)]
+mod manifests;
+#[cfg(test)]
+mod parts;
+#[cfg(test)]
+mod stages;
+#[cfg(test)]
+mod stores;

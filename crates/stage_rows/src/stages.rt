@@ -1,0 +1,83 @@
+//! The faults of one stage of a bag in memory.
+use bag_report::{Depth, Facts, Fault, Options, stage_faults};
+use bag_store::MemoryTree;
+use bag_text::check_path;
+use std::alloc::{AllocError, Global};
+use std::test::Fail;
+
+/// What a bag holds.
+pub(crate) struct Bag {
+    pub(crate) has_data: bool,
+    pub(crate) files: &'static [(&'static str, &'static [u8])],
+}
+
+/// A bag, and the lines of its faults: those of its parts, and those of its manifests.
+pub(crate) struct Row {
+    pub(crate) bag: Bag,
+    pub(crate) parts: &'static [&'static str],
+    pub(crate) manifests: &'static [&'static str],
+}
+
+/// Puts a file into a tree.
+fn put(tree: &mut MemoryTree, path: &str, bytes: &[u8]) -> Result<(), Fail> {
+    check_path(path)?;
+    Ok(tree.put_file(path, bytes)?)
+}
+
+impl Bag {
+    fn tree(&self, alloc: Global) -> Result<MemoryTree, Fail> {
+        let mut tree = MemoryTree::new(alloc);
+        if self.has_data {
+            tree.put_folder("data")?;
+        }
+        for (path, bytes) in self.files {
+            put(&mut tree, path, bytes)?;
+        }
+        Ok(tree)
+    }
+}
+
+/// What the tag files of a bag say, as far as a check of this depth reads them.
+fn facts_of(alloc: Global, bag: &Bag, depth: Depth) -> Result<Facts, Fail> {
+    let options = Options {
+        depth,
+        clashes: false,
+    };
+    let mut tree = bag.tree(alloc)?;
+    match Facts::read(alloc, &mut tree, options) {
+        Ok(facts) => Ok(facts),
+        Err(stop) => Err(Fail::from(stop.cause)),
+    }
+}
+
+/// The faults of one stage.
+fn faults_of(alloc: Global, bag: &Bag, depth: Depth, stage: u8) -> Result<Vec<Fault>, Fail> {
+    let facts = facts_of(alloc, bag, depth)?;
+    Ok(stage_faults(alloc, &facts, stage)?)
+}
+
+/// The lines of the faults of one stage, each with its end.
+pub(crate) fn stage_text(
+    alloc: Global,
+    bag: &Bag,
+    depth: Depth,
+    stage: u8,
+) -> Result<String, Fail> {
+    let faults = faults_of(alloc, bag, depth, stage)?;
+    let mut text = String::new(alloc);
+    for fault in &faults {
+        fault.append_line(&mut text)?;
+        text.push('\n')?;
+    }
+    Ok(text)
+}
+
+/// Lines, each with its end.
+pub(crate) fn text_of_lines(alloc: Global, lines: &[&str]) -> Result<String, AllocError> {
+    let mut text = String::new(alloc);
+    for line in lines {
+        text.push_str(line)?;
+        text.push('\n')?;
+    }
+    Ok(text)
+}
