@@ -6,11 +6,11 @@
 #
 # usage: bench/manifest.sh [PROGRAM] [RUNS]
 #
-# PROGRAM is crates/bench_manifest/out/bench_manifest by default, which `rt run` leaves there.
+# PROGRAM is crates/bench_tag_files/out/bench_tag_files by default, which `rt run` leaves there.
 set -euo pipefail
 source "$(dirname "$0")/time.sh"
 
-program=$(realpath "${1:-$(dirname "$0")/../crates/bench_manifest/out/bench_manifest}")
+program=$(realpath "${1:-$(dirname "$0")/../crates/bench_tag_files/out/bench_tag_files}")
 runs=${2:-5}
 lines=1000000
 
@@ -53,8 +53,8 @@ measure() {
     cut -c 67- "$work/once" >"$work/paths"
     for ((run = 0; run < runs; run++)); do
         sorted=$(least "$sorted" "$(milliseconds env LC_ALL=C sort -u "$work/paths")")
-        read=$(least "$read" "$(milliseconds "$program" "$work/once")")
-        read_twice=$(least "$read_twice" "$(milliseconds "$program" "$work/twice")")
+        read=$(least "$read" "$(milliseconds "$program" manifest "$work/once")")
+        read_twice=$(least "$read_twice" "$(milliseconds "$program" manifest "$work/twice")")
     done
     awk -v kind="$kind" -v sorted="$sorted" -v once="$read" -v twice="$read_twice" 'BEGIN {
         printf "%s paths: read: %d ms, sort -u: %d ms, ratio: %.2f; twice the lines: %d ms, ratio: %.2f\n",

@@ -1,7 +1,7 @@
 //! What gives the disks that the program looks at.
-ghost use Rattle.std.specs.Prelude.{◌≡◌, List, ℕ, IfOk, [], false};
+ghost use Rattle.std.specs.Prelude.{◌≡◌, List, ℕ, IfOk, [], false, ⊤};
 ghost use Rattle.bag_disk.specs.Disk.{DiskState};
-ghost use Rattle.bag_disk.specs.SystemDisk.{system_state};
+ghost use Rattle.bag_disk.specs.SystemDisk.{base_of, system_state};
 
 use bag_disk::{Disk, SystemDisk};
 use std::alloc::{AllocError, Global};
@@ -15,20 +15,26 @@ pub trait Disks {
     /// What stands on the disk below each base folder.
     ghost below: { Self → List ℕ → DiskState };
 
+    /// That a disk is the one below a base folder: of disks that are only made up nothing is said.
+    ghost is_below: { Self.Disk → List ℕ → Type 0 } = { λ _ _. ⊤ };
+
     /// The disk below a base folder, at which it doesn't look yet.
     fn disk(&self, alloc: Global, base: &str) -> Result<Self::Disk, AllocError>
-        ensures { IfOk result (λ disk. Self.Disk.state disk ≡ below self.now base.now) };
+        ensures state { IfOk result (λ disk. Self.Disk.state disk ≡ below self.now base.now) }
+        ensures base { IfOk result (λ disk. is_below disk base.now) };
 }
 
 /// The system's disks, of which nothing is promised.
 #[derive(Drop)]
-pub struct SystemDisks<'a, R> {
+pub(crate) struct SystemDisks<'a, R> {
     rt: &'a R,
 }
 
 impl<'a, R: Files + AllocGlobal + Clone + Drop> SystemDisks<'a, R> {
-    /// The system's disks.
-    pub fn new(rt: &'a R) -> SystemDisks<'a, R> {
+    /// The disks of the system that this runtime reaches.
+    pub(crate) fn new(rt: &'a R) -> SystemDisks<'a, R>
+        ensures { result.rt.now ≡ rt.now }
+    {
         SystemDisks { rt }
     }
 }
@@ -37,6 +43,8 @@ impl<'a, R: Files + AllocGlobal + Clone + Drop> Disks for SystemDisks<'a, R> {
     type Disk = SystemDisk<R>;
 
     ghost below = { λ _ _. system_state [] false };
+
+    ghost is_below = { λ disk base. base_of disk ≡ base };
 
     fn disk(&self, alloc: Global, base: &str) -> Result<SystemDisk<R>, AllocError> {
         SystemDisk::new(self.rt.clone()?, alloc, base)

@@ -15,5 +15,5 @@ mod words;
 pub use all_checks::{perform, perform_over};
 pub use bag_plan::{Action, Plan, Usage, plan_of, refuse_words};
 pub use bag_tree::WriterOut;
-pub use disks::{Disks, SystemDisks};
+pub use disks::Disks;
 pub use whole_program::{program, run_program};

@@ -25,6 +25,7 @@ due_of_path over absent many f r is none = subst (IsDue over absent many) (sym i
   where
     due : (f : DiskFault) → (f ≡ disk.NotFound → absent) → IsDue over absent many (of_path f)
     due disk.NotFound none = none refl
+    due disk.Exists none = tt
     due disk.Name none = tt
     due disk.Memory none = tt
     due disk.Device none = tt
@@ -35,6 +36,7 @@ due_of_name over absent many f r is unnamed = subst (IsDue over absent many) (sy
   where
     due : (f : DiskFault) → (f ≡ disk.Name → over) → IsDue over absent many (of_name f)
     due disk.NotFound unnamed = tt
+    due disk.Exists unnamed = tt
     due disk.Name unnamed = unnamed refl
     due disk.Memory unnamed = tt
     due disk.Device unnamed = tt

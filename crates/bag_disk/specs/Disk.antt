@@ -27,7 +27,7 @@ Nodes = map.FinMap text_cmp Node
 -- what a disk means
 pub record DiskState : Type 0 where
   pub nodes : Nodes
-  -- nobody alters the nodes, and the calls answer what they are
+  -- nobody but the disk's own calls alters the nodes, and the calls answer what they are
   pub honest : Bool
   -- the paths that were opened
   pub openings : List (List ℕ)

@@ -6,3 +6,4 @@ pub mod FolderWalk
 pub mod Location
 pub mod Refusal
 pub mod SystemDisk
+pub mod WritableDisk

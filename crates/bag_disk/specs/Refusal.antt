@@ -54,6 +54,7 @@ IsDue over absent many Memory = Unit {0}
 -- what a fault of the disk means at the path of one file
 abbrev pub of_path : DiskFault → Refusal
 of_path disk.NotFound = NotFound
+of_path disk.Exists = Device
 of_path disk.Name = Device
 of_path disk.Memory = Memory
 of_path disk.Device = Device
@@ -61,6 +62,7 @@ of_path disk.Device = Device
 -- what it means where the disk's own answers named what stands there
 abbrev pub at_known : DiskFault → Refusal
 at_known disk.NotFound = Device
+at_known disk.Exists = Device
 at_known disk.Name = Device
 at_known disk.Memory = Memory
 at_known disk.Device = Device
@@ -68,6 +70,7 @@ at_known disk.Device = Device
 -- what it means in place of a name
 abbrev pub of_name : DiskFault → Refusal
 of_name disk.NotFound = Device
+of_name disk.Exists = Device
 of_name disk.Name = Name
 of_name disk.Memory = Memory
 of_name disk.Device = Device

@@ -1,5 +1,5 @@
 -- What is known of the system's disk.
-use Rattle.std.specs.Prelude.{ℕ, Bool, false, List, [], Some, None, if◌then◌else◌}
+use Rattle.std.specs.Prelude.{ℕ, Bool, false, List, [], Option, Some, None, if◌then◌else◌}
 use Rattle.std.specs.FinMap as map
 use Rattle.bag_disk.specs.Disk.{DiskState}
 use Rattle.bag_disk.specs.declared.system_disk.SystemDisk.{SystemDisk}
@@ -12,3 +12,7 @@ base_of disk = disk.base
 -- known.
 abbrev pub system_state : List (List ℕ) → Bool → DiskState
 system_state openings opened = record { nodes = map.empty; honest = false; openings = openings; rest = if opened then Some [] else None; names = [] }
+
+-- whether a file is being written is known, and not which
+abbrev pub written_state : Bool → Option (List ℕ)
+written_state writing = if writing then Some [] else None

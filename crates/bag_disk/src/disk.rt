@@ -23,6 +23,8 @@ pub enum Entry {
 pub enum DiskFault {
     /// Nothing stands there.
     NotFound,
+    /// Something stands there already.
+    Exists,
     /// A name isn't UTF-8, or is none for the system.
     Name,
     /// A growth was refused.
@@ -33,8 +35,8 @@ pub enum DiskFault {
 
 /// The calls of a disk, below a base folder. A path leads from the base folder.
 ///
-/// What an honest disk answers is what stands below its base folder, where nobody else alters it. Of a path that leads
-/// through a link nothing is said.
+/// What an honest disk answers is what stands below its base folder, which nothing but the disk's own calls alters. Of a path
+/// that leads through a link nothing is said.
 pub trait Disk {
     /// What the disk means: what stands at each path, whether it is honest, which files were opened, the rest of the open
     /// file, and the names that are left of the folder that was entered.

@@ -5,7 +5,7 @@ ghost use Rattle.bag_text.specs.Path as spec;
 
 use bag_text::{Text, check_path};
 use std::alloc::{AllocError, Global};
-use std::fs::{Metadata, ReadDir};
+use std::fs::{Metadata, OpenOptions, ReadDir};
 use std::rt::Files;
 use std::{fs, io};
 
@@ -73,5 +73,23 @@ impl Location {
     /// Opens the file there.
     pub(crate) fn open<R: Files>(&self, rt: &R) -> io::Result<R::File> {
         fs::open(rt, self.text.as_str())
+    }
+
+    /// Makes a folder there.
+    pub(crate) fn make_folder<R: Files>(&self, rt: &R) -> io::Result<()> {
+        fs::create_dir(rt, self.text.as_str())
+    }
+
+    /// Moves what stands there to another place.
+    pub(crate) fn rename<R: Files>(&self, rt: &R, to: &Location) -> io::Result<()> {
+        fs::rename(rt, self.text.as_str(), to.text.as_str())
+    }
+
+    /// Makes a file there, open for writing. It replaces none.
+    pub(crate) fn create<R: Files>(&self, rt: &R) -> io::Result<R::File> {
+        OpenOptions::new()
+            .write(true)
+            .create_new(true)
+            .open(rt, self.text.as_str())
     }
 }

@@ -46,7 +46,7 @@ impl Refusal {
     {
         match fault {
             DiskFault::NotFound => Refusal::NotFound,
-            DiskFault::Name | DiskFault::Device => Refusal::Device,
+            DiskFault::Exists | DiskFault::Name | DiskFault::Device => Refusal::Device,
             DiskFault::Memory => Refusal::Memory,
         }
     }
@@ -56,7 +56,9 @@ impl Refusal {
         ensures { result ≡ at_known fault }
     {
         match fault {
-            DiskFault::NotFound | DiskFault::Name | DiskFault::Device => Refusal::Device,
+            DiskFault::NotFound | DiskFault::Exists | DiskFault::Name | DiskFault::Device => {
+                Refusal::Device
+            }
             DiskFault::Memory => Refusal::Memory,
         }
     }
@@ -67,7 +69,7 @@ impl Refusal {
     {
         match fault {
             DiskFault::Name => Refusal::Name,
-            DiskFault::NotFound | DiskFault::Device => Refusal::Device,
+            DiskFault::NotFound | DiskFault::Exists | DiskFault::Device => Refusal::Device,
             DiskFault::Memory => Refusal::Memory,
         }
     }

@@ -1,9 +1,9 @@
 //! The system's disk.
-ghost use Rattle.std.specs.Prelude.{◌≡◌, ◌++◌, ◌∷◌, [], IfOk, IsErrOf, OnErr, OnOk, Some, is_some, false};
+ghost use Rattle.std.specs.Prelude.{◌≡◌, ◌++◌, ◌∷◌, [], IfOk, IsErrOf, None, OnErr, OnOk, Some, is_some, false};
 ghost use Rattle.std.specs.Fs.{IsDir, IsFile, dir_entry_name, file_type, metadata_len};
 ghost use Rattle.bag_disk.specs.FileTree.{disk_of, tree_state};
 ghost use Rattle.bag_disk.specs.Location.{location_below};
-ghost use Rattle.bag_disk.specs.SystemDisk.{base_of, system_state};
+ghost use Rattle.bag_disk.specs.SystemDisk.{base_of, system_state, written_state};
 ghost use Rattle.bag_disk.specs.BagBelow.{empty_disk};
 ghost use Rattle.bag_disk.specs.declared.disk.DiskFault.TheVariants.{Memory, NotFound};
 ghost use Rattle.bag_disk.specs.declared.disk.Entry.TheVariants.{File, Folder, Other};
@@ -11,12 +11,13 @@ ghost use Rattle.bag_disk.specs.declared.disk.Entry.TheVariants.{File, Folder, O
 use crate::FileTree;
 use crate::disk::{Disk, DiskFault, Entry};
 use crate::location::Location;
+use crate::writable_disk::WritableDisk;
 use bag_text::{Items, Text};
 use bag_tree::Tree;
 use std::alloc::{AllocError, AllocFailed, Global};
-use std::fs::{DirEntry, Metadata, ReadDir};
+use std::fs::{DirEntry, Metadata, OpenFile, ReadDir};
 use std::io;
-use std::io::{ErrorKind, Read};
+use std::io::{ErrorKind, Read, Write};
 use std::rt::Files;
 
 /// The system's calls, below a base folder, of which nothing is promised. The base folder may be a link to a folder.
@@ -27,6 +28,7 @@ pub struct SystemDisk<R: Files> {
     base: Text,
     openings: Items<Text>,
     opened: Option<R::File>,
+    written: Option<R::File>,
     entered: Option<ReadDir<R, Global>>,
 }
 
@@ -51,6 +53,7 @@ impl DiskFault {
     fn of(error: &io::Error) -> DiskFault {
         match error.kind() {
             ErrorKind::NotFound | ErrorKind::NotADirectory => DiskFault::NotFound,
+            ErrorKind::AlreadyExists => DiskFault::Exists,
             ErrorKind::InvalidFilename => DiskFault::Name,
             ErrorKind::OutOfMemory => DiskFault::Memory,
             _ => DiskFault::Device,
@@ -99,6 +102,16 @@ impl<R: Files> SystemDisk<R> {
             Ok(file) => Ok(file),
             Err(error) => Err(DiskFault::of(&error)),
         }
+    }
+
+    /// Closes the file that is being read and the one that is being written.
+    fn close_all(&mut self)
+        ensures openings { self.new.openings ≡ self.old.openings }
+        ensures opened { self.new.opened ≡ None }
+        ensures written { self.new.written ≡ None }
+    {
+        self.opened = None;
+        self.written = None;
     }
 
     /// Notes that a file was opened.
@@ -173,6 +186,71 @@ impl<R: Files + AllocGlobal + Clone + Drop> Disk for SystemDisk<R> {
     ghost is_disk = { λ _. empty_disk };
 }
 
+impl<R: Files + AllocGlobal + Clone + Drop> WritableDisk for SystemDisk<R> {
+    ghost written = { λ disk. written_state (is_some disk.written) };
+
+    fn make_folder(&mut self, path: &str) -> Result<(), DiskFault> {
+        let location = self.location(path)?;
+        match location.make_folder(&self.rt) {
+            Ok(()) => {
+                self.close_all();
+                Ok(())
+            }
+            Err(error) => Err(DiskFault::of(&error)),
+        }
+    }
+
+    fn rename(&mut self, from: &str, to: &str) -> Result<(), DiskFault> {
+        let from = self.location(from)?;
+        let to = self.location(to)?;
+        match from.rename(&self.rt, &to) {
+            Ok(()) => {
+                self.close_all();
+                Ok(())
+            }
+            Err(error) => Err(DiskFault::of(&error)),
+        }
+    }
+
+    fn create(&mut self, path: &str) -> Result<(), DiskFault> {
+        let location = self.location(path)?;
+        match location.create(&self.rt) {
+            Ok(file) => {
+                self.opened = None;
+                self.written = Some(file);
+                Ok(())
+            }
+            Err(error) => Err(DiskFault::of(&error)),
+        }
+    }
+
+    fn write(&mut self, bytes: &[u8]) -> Result<usize, DiskFault> {
+        let Some(file) = &mut self.written else {
+            return Err(DiskFault::Device);
+        };
+        match file.write(bytes) {
+            Ok(count) => {
+                self.opened = None;
+                Ok(count)
+            }
+            Err(error) => Err(DiskFault::of(&error)),
+        }
+    }
+
+    fn sync(&mut self) -> Result<(), DiskFault> {
+        let Some(file) = &self.written else {
+            return Err(DiskFault::Device);
+        };
+        match file.sync_all() {
+            Ok(()) => {
+                self.close_all();
+                Ok(())
+            }
+            Err(error) => Err(DiskFault::of(&error)),
+        }
+    }
+}
+
 impl<R: Files + AllocGlobal + Clone + Drop> SystemDisk<R> {
     /// The system's disk below a base folder, at which it doesn't look yet.
     pub fn new(rt: R, alloc: Global, base: &str) -> Result<SystemDisk<R>, AllocError>
@@ -185,6 +263,7 @@ impl<R: Files + AllocGlobal + Clone + Drop> SystemDisk<R> {
             base: Text::from_str(alloc, base)?,
             openings: Items::new(alloc),
             opened: None,
+            written: None,
             entered: None,
         })
     }

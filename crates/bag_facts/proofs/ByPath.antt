@@ -21,7 +21,7 @@ use Rattle.bag_facts.proofs.Mapped.{contains_mapped, mapped_contains}
 text_same : (a b : List ℕ) → text_cmp a b ≡ Equal → a ≡ b
 text_same = slice_cmp-IsAntisymmetric nat_cmp-IsAntisymmetric
 
-tie_case : (o : Ordering) → o ≢ Equal → is_eq o ≡ false
+pub tie_case : (o : Ordering) → o ≢ Equal → is_eq o ≡ false
 tie_case Less other = refl
 tie_case Equal other = absurd (other refl)
 tie_case Greater other = refl
@@ -29,12 +29,12 @@ tie_case Greater other = refl
 not_tied : (a b : List ℕ) → a ≢ b → is_eq (text_cmp a b) ≡ false
 not_tied a b other = tie_case (text_cmp a b) (λ e. other (text_same a b e))
 
-reversed : (o : Ordering) → is_eq (ordering_reverse o) ≡ is_eq o
+pub reversed : (o : Ordering) → is_eq (ordering_reverse o) ≡ is_eq o
 reversed Less = refl
 reversed Equal = refl
 reversed Greater = refl
 
-less_case : (o : Ordering) → is_lt (ordering_reverse o) ≡ false → is_eq o ≡ false → o ≡ Less
+pub less_case : (o : Ordering) → is_lt (ordering_reverse o) ≡ false → is_eq o ≡ false → o ≡ Less
 less_case Less h e = refl
 less_case Equal h e = cc
 less_case Greater h e = cc

@@ -1,5 +1,4 @@
 pub mod ByPath
-pub mod Declared
 pub mod Entries
 pub mod Known
 pub mod ListedFiles
@@ -11,4 +10,6 @@ pub mod Reading
 pub mod Seen
 pub mod SeenBag
 pub mod SeenFolders
+pub mod TagsRead
+pub mod TextTold
 pub mod WantedPaths

@@ -1,20 +1,26 @@
 -- What is known of one tag file is what its bytes say.
 use Rattle.std.specs.Prelude.{◌≡◌, ℕ, Bool, List, Option, None, Some, map}
 use Rattle.std.specs.List.Sorted.{IsStrictlySortedBy}
-use Rattle.std.specs.Ordering.{on}
+use Rattle.std.specs.Ordering.{nat_cmp, on}
 use Rattle.std.specs.Str.{is_utf8}
 use Rattle.bag_text.specs.Text.{text_cmp}
 use Rattle.bag_text.specs.Lines.{lines_of_file}
 use Rattle.bag_text.specs.Order.{IsListOf}
+use Rattle.bag_text.specs.declared.alg.Alg.{Alg}
 use Rattle.bag_tags.specs.Declaration.{declared_version, declared_encoding, IsDeclarationFault}
+use Rattle.bag_line.specs.Fetch.{IsFetch, IsFetchFault}
+use Rattle.bag_line.specs.Info.{IsElement, IsInfoFault}
 use Rattle.bag_line.specs.LineFault.{AreFaults}
 use Rattle.bag_tags.specs.Manifest.{IsEntry, IsManifestFault}
 use Rattle.bag_tags.specs.TagName.{tag_path}
 use Rattle.bag_tags.specs.declared.declaration.Declaration.{Declaration}
+use Rattle.bag_tags.specs.declared.kind.Kind.{Kind}
 use Rattle.bag_tags.specs.declared.manifest.ManifestEntry.{ManifestEntry}
 use Rattle.bag_tags.specs.declared.tag_name.TagName.{TagName}
 use Rattle.bag_tags.specs.declared.tag_name.TagName.TheVariants as name
-use Rattle.bag_facts.specs.declared.tag_facts.Manifest.{Manifest}
+use Rattle.bag_facts.specs.declared.fetch_list.FetchList.{FetchList}
+use Rattle.bag_facts.specs.declared.manifest.Manifest.{Manifest}
+use Rattle.bag_facts.specs.declared.metadata.Metadata.{Metadata}
 use Rattle.bag_facts.specs.declared.tag_facts.TagFacts.{TagFacts}
 use Rattle.bag_facts.specs.declared.tag_facts.TagFacts.TheVariants as facts
 use Rattle.bag_facts.specs.declared.tag_reader.TagBytes.{TagBytes}
@@ -25,6 +31,18 @@ pub record IsDeclarationOf (bytes : List ℕ) (declaration : Declaration) : Type
   pub encoding : declaration.encoding ≡ declared_encoding bytes
   pub faults : AreFaults (IsDeclarationFault bytes) declaration.faults
 
+-- what is known of the metadata is what these bytes say
+pub record IsMetadataOf (bytes : List ℕ) (metadata : Metadata) : Type 0 where
+  pub text : metadata.is_text ≡ is_utf8 bytes
+  pub elements : IsListOf (on (λ e. e.line) nat_cmp) (IsElement (lines_of_file bytes)) metadata.elements
+  pub faults : AreFaults (IsInfoFault bytes) metadata.faults
+
+-- what is known of the list of files to fetch is what these bytes say
+pub record IsFetchListOf (bytes : List ℕ) (list : FetchList) : Type 0 where
+  pub text : list.is_text ≡ is_utf8 bytes
+  pub entries : IsListOf (on (λ e. e.line) nat_cmp) (IsFetch (lines_of_file bytes)) list.entries
+  pub faults : AreFaults (IsFetchFault bytes) list.faults
+
 -- what is known of a manifest is what its bytes say
 pub record IsManifestOf (bytes : List ℕ) (manifest : Manifest) : Type 0 where
   pub text : manifest.is_text ≡ is_utf8 bytes
@@ -34,8 +52,8 @@ pub record IsManifestOf (bytes : List ℕ) (manifest : Manifest) : Type 0 where
 -- the tag file that it is
 abbrev pub name_of : TagFacts → TagName
 name_of (facts.Declaration declaration) = name.Declaration
-name_of (facts.Info is_text) = name.Info
-name_of (facts.Fetch is_text) = name.Fetch
+name_of (facts.Info metadata) = name.Info
+name_of (facts.Fetch list) = name.Fetch
 name_of (facts.Manifest manifest) = name.Manifest manifest.kind manifest.alg
 
 -- the path at which it stands
@@ -45,8 +63,8 @@ path_of tag = tag_path (name_of tag)
 -- the bytes say what is known
 abbrev pub Says : List ℕ → TagFacts → Type 0
 Says bytes (facts.Declaration declaration) = IsDeclarationOf bytes declaration
-Says bytes (facts.Info is_text) = is_text ≡ is_utf8 bytes
-Says bytes (facts.Fetch is_text) = is_text ≡ is_utf8 bytes
+Says bytes (facts.Info metadata) = IsMetadataOf bytes metadata
+Says bytes (facts.Fetch list) = IsFetchListOf bytes list
 Says bytes (facts.Manifest manifest) = IsManifestOf bytes manifest
 
 -- what is known of a tag file that was read is what its bytes say
@@ -57,8 +75,8 @@ pub record IsParsed (file : TagBytes) (tag : TagFacts) : Type 0 where
 -- whether it is UTF-8, but for the declaration, of which its faults tell
 abbrev pub text_test : TagFacts → Option Bool
 text_test (facts.Declaration declaration) = None
-text_test (facts.Info is_text) = Some is_text
-text_test (facts.Fetch is_text) = Some is_text
+text_test (facts.Info metadata) = Some metadata.is_text
+text_test (facts.Fetch list) = Some list.is_text
 text_test (facts.Manifest manifest) = Some manifest.is_text
 
 -- what was read of a file is what its bytes say, and nothing was read where it isn't there
@@ -67,6 +85,14 @@ IsReadOf IsOf None None = Unit {0}
 IsReadOf IsOf (Some bytes) (Some x) = IsOf bytes x
 IsReadOf IsOf None (Some x) = ⊥
 IsReadOf IsOf (Some bytes) None = ⊥
+
+-- what is known of this tag file is what its bytes say
+abbrev pub IsNamed : TagName → List ℕ → TagFacts → Type 0
+IsNamed name bytes tag = Says bytes tag × (name_of tag ≡ name)
+
+-- the manifest of this kind and algorithm, and what is known of it is what its bytes say
+abbrev pub IsManifestNamed : Kind → Alg → List ℕ → Manifest → Type 0
+IsManifestNamed kind alg bytes manifest = IsManifestOf bytes manifest × (manifest.kind ≡ kind) × (manifest.alg ≡ alg)
 
 -- the paths of entries
 abbrev pub entry_paths : List ManifestEntry → List (List ℕ)

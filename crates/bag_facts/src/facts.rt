@@ -1,17 +1,20 @@
 //! What is read of a bag.
-ghost use Rattle.std.specs.Prelude.{◌≡◌, ◌≢◌, ◌⊎◌, [], IsTrue, IfOk, IfErr, OnOk, OnErr, codes};
+ghost use Rattle.std.specs.Prelude.{◌≡◌, ◌≢◌, ◌⊎◌, [], IsTrue, IfOk, IfErr, OnOk, OnErr, MatchOption, Any, Contains, codes};
 ghost use Rattle.std.specs.Option.{option_copied};
+ghost use Rattle.bag_tags.specs.TagName.{tag_path};
+ghost use Rattle.bag_tags.specs.declared.tag_name.TagName.TheVariants as file_of;
 ghost use Rattle.bag_tree.specs.Bag.{Bag, IsBag, file};
 ghost use Rattle.bag_tree.specs.Tree.{Keeps};
 ghost use Rattle.bag_facts.specs.Facts.{AreParsed};
-ghost use Rattle.bag_facts.specs.TagFacts.{IsReadOf, IsDeclarationOf};
-ghost use Rattle.bag_facts.specs.Wanted.{ForListing, OpensAll, OpensFirst, OpensUpTo, OpensWanted};
+ghost use Rattle.bag_facts.specs.TagFacts.{name_of, IsReadOf, IsDeclarationOf, IsMetadataOf, IsFetchListOf, IsManifestNamed, IsNamed};
+ghost use Rattle.bag_facts.specs.Wanted.{ForListing, OpensAll, OpensFirst, OpensUpTo, OpensWanted, Wants};
+ghost use Rattle.bag_facts.specs.declared.options.Depth.TheVariants as depth_of;
 ghost use Rattle.bag_facts.specs.Stops.{MayStop};
 
 use crate::tag_reader::{TagBytes, read_tag_files};
-use crate::{Options, TagFacts};
-use bag_tags::Declaration;
-use bag_text::Items;
+use crate::{FetchList, Manifest, Metadata, Options, TagFacts};
+use bag_tags::{Declaration, Kind, TagName};
+use bag_text::{Alg, Items};
 use bag_tree::{Listing, Stop, Tree, TreeFault};
 use std::alloc::{AllocError, Global};
 
@@ -83,13 +86,58 @@ impl Facts {
     pub fn declaration(&self) -> Option<&Declaration>
         ensures { (bag : Bag) → IsFactsOf bag self.now → IsReadOf IsDeclarationOf (file bag (codes "bagit.txt")) (option_copied result) }
     {
-        for tag in self.tags.as_slice() {
-            if let TagFacts::Declaration(declaration) = tag {
-                return Some(declaration);
-            }
-        }
-        None
+        let Some(TagFacts::Declaration(declaration)) = self.tag(TagName::Declaration) else {
+            return None;
+        };
+        Some(declaration)
     }
+
+    /// What is known of `bag-info.txt`, where it is there and the facts were read for more than the declaration.
+    pub fn metadata(&self) -> Option<&Metadata>
+        ensures { (bag : Bag) → IsFactsOf bag self.now → self.now.options.depth ≢ depth_of.Declaration
+            → IsReadOf IsMetadataOf (file bag (tag_path file_of.Info)) (option_copied result) }
+    {
+        let Some(TagFacts::Info(metadata)) = self.tag(TagName::Info) else {
+            return None;
+        };
+        Some(metadata)
+    }
+
+    /// What is known of `fetch.txt`, where it is there and the facts were read for more than the declaration.
+    pub fn fetch_list(&self) -> Option<&FetchList>
+        ensures { (bag : Bag) → IsFactsOf bag self.now → self.now.options.depth ≢ depth_of.Declaration
+            → IsReadOf IsFetchListOf (file bag (tag_path file_of.Fetch)) (option_copied result) }
+    {
+        let Some(TagFacts::Fetch(list)) = self.tag(TagName::Fetch) else {
+            return None;
+        };
+        Some(list)
+    }
+
+    /// What is known of a manifest, where it is there and the facts were read for more than the declaration.
+    pub fn manifest(&self, kind: Kind, alg: Alg) -> Option<&Manifest>
+        ensures { (bag : Bag) → IsFactsOf bag self.now → self.now.options.depth ≢ depth_of.Declaration
+            → IsReadOf (IsManifestNamed kind alg) (file bag (tag_path (file_of.Manifest kind alg))) (option_copied result) }
+    {
+        let Some(TagFacts::Manifest(manifest)) = self.tag(TagName::Manifest(kind, alg)) else {
+            return None;
+        };
+        Some(manifest)
+    }
+
+    /// What is known of a tag file, where it is there and wanted.
+    fn tag(&self, name: TagName) -> Option<&TagFacts>
+        ensures { (bag : Bag) → IsFactsOf bag self.now → Wants self.now.options name → IsReadOf (IsNamed name) (file bag (tag_path name)) (option_copied result) }
+    {
+        find_tag(self.tags.as_slice(), name)
+    }
+}
+
+/// What is known of a tag file among these.
+fn find_tag(tags: &[TagFacts], name: TagName) -> Option<&TagFacts>
+    ensures { MatchOption (option_copied result) (¬ (Any (λ tag. name_of tag ≡ name) tags.now)) (λ tag. Contains tags.now tag × (name_of tag ≡ name)) }
+{
+    tags.iter().find(|tag| tag.name() == name)
 }
 
 /// What the bytes of each tag file say, in their order.

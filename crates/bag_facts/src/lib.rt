@@ -13,10 +13,17 @@
 #![tactic(auto)]
 
 mod facts;
+mod fetch_list;
+mod manifest;
+mod metadata;
 mod options;
 mod tag_facts;
 mod tag_reader;
+mod utf8;
 
 pub use facts::Facts;
+pub use fetch_list::FetchList;
+pub use manifest::Manifest;
+pub use metadata::Metadata;
 pub use options::{Depth, Options};
-pub use tag_facts::{Manifest, TagFacts};
+pub use tag_facts::TagFacts;

@@ -1,34 +1,34 @@
 -- The entries and the faults of fetch.txt.
-use Rattle.std.proofs.Common.{◌≡◌, ℕ, ◌+◌, ◌-◌, ◌≤◌, inl, inr, Bool, true, false, cond, List, [], ◌∷◌, ◌++◌, refl, ap, sym, ◌∙◌, subst, Option, Some, None, Result, Ok, Err, arith}
+use Rattle.std.proofs.Common.{◌≡◌, ℕ, ◌+◌, ◌≤◌, inl, inr, Bool, true, false, cond, List, [], ◌∷◌, refl, ap, sym, ◌∙◌, subst, Option, Some, None, Result, Ok, Err, arith}
 use Rattle.std.specs.Prelude.{Contains, filter_map}
-use Rattle.std.specs.List.{enumerate_from, slice_get, cons_option}
+use Rattle.std.specs.List.{enumerate_from}
 use Rattle.std.specs.List.Sorted.{IsStrictlySortedBy}
 use Rattle.std.specs.declared.cmp.Ordering.{Ordering}
 use Rattle.std.specs.declared.cmp.Ordering.TheVariants.{Less}
 use Rattle.std.specs.Ordering.{nat_cmp, on}
-use Rattle.std.specs.Option.{option_to_list}
-use Rattle.bag_text.specs.Lines.{IsLine, lines_of_file, lines_of_text}
-use Rattle.bag_text.specs.Text.{IsText, IsNoText, without_mark, is_blank_line}
+use Rattle.bag_text.specs.Lines.{IsLine, lines_of_file}
+use Rattle.bag_text.specs.Text.{IsText, IsNoText, is_blank_line}
 use Rattle.bag_text.specs.Order.{IsListOf}
 use Rattle.bag_text.specs.declared.code.Code.{Code}
 use Rattle.bag_text.specs.declared.code.Code.TheVariants.{NotUtf8}
 use Rattle.bag_text.proofs.ListOf.{nothing_listed, one_listed, contains_cases, contains_nothing, each_from_members}
 use Rattle.bag_text.proofs.Numbered.{numbered_is_line, line_is_numbered}
 use Rattle.bag_line.specs.Reason.{Reason}
-use Rattle.bag_line.specs.LineFault.{line_fault, AreFaults, line_fault_cmp}
+use Rattle.bag_line.specs.LineFault.{line_fault, AreFaults, line_fault_cmp, not_utf8}
 use Rattle.bag_line.specs.Fetch.{url_of, length_of, fetch_line, Reads, HasReason, IsFetch, IsFetchFault, FetchFault}
-use Rattle.bag_line.specs.FetchVerdict.{verdict_of, entry_in, fault_in, entry_of, fault_of, entries, faults, not_utf8}
+use Rattle.bag_line.specs.FetchVerdict.{verdict_of, entry_in, fault_in, entry_of, fault_of, entries, faults}
 use Rattle.bag_line.specs.declared.fault.LineFault.{LineFault}
 use Rattle.bag_line.specs.declared.fetch.FetchEntry.{FetchEntry}
 use Rattle.bag_line.proofs.FaultOrder.{is_fault, less}
 use Rattle.bag_line.proofs.FetchLine.{IsReasonCode, reason_code}
-use Rattle.bag_line.proofs.PickedOut.{picked, is_picked, ascending_picked}
+use Rattle.bag_line.proofs.PickedOut.{picked, is_picked, picked_first, ascending_picked}
+use Rattle.bag_line.proofs.Utf8.{no_line}
 
 -- lines with their numbers ascend
 abbrev number_cmp : ℕ × List ℕ → ℕ × List ℕ → Ordering
 number_cmp = on (λ x. x.0) nat_cmp
 
-number_from : (n : ℕ) (all : List (List ℕ)) (x : ℕ × List ℕ) → Contains (enumerate_from n all) x → n ≤ x.0
+pub number_from : (n : ℕ) (all : List (List ℕ)) (x : ℕ × List ℕ) → Contains (enumerate_from n all) x → n ≤ x.0
 number_from n [] x c = absurd (contains_nothing x c)
 number_from n (line ∷ more) x c =
     elim (contains_cases (n, line) (enumerate_from (n + 1) more) x c) [
@@ -46,19 +46,11 @@ numbers_ascend n (line ∷ more) = (
 
 pub entries_picked : (xs : List (ℕ × List ℕ)) → entries xs ≡ filter_map entry_of xs
 entries_picked [] = refl
-entries_picked (x ∷ xs) = here (entry_of x) (entries_picked xs)
-  where
-    here : (o : Option FetchEntry) → entries xs ≡ filter_map entry_of xs → option_to_list o ++ entries xs ≡ cons_option o (filter_map entry_of xs)
-    here None e = e
-    here (Some y) e = ap (λ ys. y ∷ ys) e
+entries_picked (x ∷ xs) = picked_first (entry_of x) (entries xs) (filter_map entry_of xs) (entries_picked xs)
 
 pub faults_picked : (xs : List (ℕ × List ℕ)) → faults xs ≡ filter_map fault_of xs
 faults_picked [] = refl
-faults_picked (x ∷ xs) = here (fault_of x) (faults_picked xs)
-  where
-    here : (o : Option LineFault) → faults xs ≡ filter_map fault_of xs → option_to_list o ++ faults xs ≡ cons_option o (filter_map fault_of xs)
-    here None e = e
-    here (Some y) e = ap (λ ys. y ∷ ys) e
+faults_picked (x ∷ xs) = picked_first (fault_of x) (faults xs) (filter_map fault_of xs) (faults_picked xs)
 
 -- what the entry of a line is, and its fault
 abbrev IsEntryOf : ℕ × List ℕ → FetchEntry → Type 0
@@ -149,16 +141,13 @@ module _ (bytes : List ℕ) (is_utf8 : IsText bytes) where
   })
 
 module _ (bytes : List ℕ) (other : IsNoText bytes) where
-  no_line : (k : ℕ) (line : List ℕ) → IsLine (lines_of_file bytes) k line → ⊥
-  no_line k line (some, e) = let clash : None ≡ Some line = sym (ap (λ b. slice_get (lines_of_text (cond b (Some (without_mark bytes)) None)) (k - 1)) other) ∙ e in cc
-
   -- a file that isn't UTF-8 has no entry and one fault
   pub entries_of_no_text : IsListOf (on (λ e. e.line) nat_cmp) (IsFetch (lines_of_file bytes)) []
-  entries_of_no_text = nothing_listed (on (λ e. e.line) nat_cmp) (IsFetch (lines_of_file bytes)) (λ e h. no_line e.line h.0 h.1)
+  entries_of_no_text = nothing_listed (on (λ e. e.line) nat_cmp) (IsFetch (lines_of_file bytes)) (λ e h. no_line bytes other e.line h.0 h.1)
 
   only_code : (code : Code) (f : LineFault) → f.code ≡ code → FetchFault code bytes f → f ≡ not_utf8
   only_code NotUtf8 f e h = is_fault f 0 NotUtf8 [] h.0 e h.1
-  only_code code f e h = absurd (no_line f.line h.0 h.1)
+  only_code code f e h = absurd (no_line bytes other f.line h.0 h.1)
 
   pub faults_of_no_text : AreFaults (IsFetchFault bytes) (not_utf8 ∷ [])
   faults_of_no_text = one_listed line_fault_cmp (IsFetchFault bytes) not_utf8 (refl, refl, other) (λ f h. only_code f.code f refl h)

@@ -1,14 +1,15 @@
 -- One line of fetch.txt.
-use Rattle.std.proofs.Common.{◌≡◌, ℕ, Bool, true, false, cond, [], codes, List, subst, refl, Option, Some, None, Result, Ok, Err}
+use Rattle.std.proofs.Common.{◌≡◌, ℕ, true, false, [], codes, List, subst, refl, Option, Some, None, Ok, Err}
 use Rattle.bag_text.specs.Text.{without_prefix}
 use Rattle.bag_text.specs.Spelling.{unescaped}
 use Rattle.bag_text.specs.Path.{is_payload_path, is_path}
 use Rattle.bag_text.specs.declared.code.Code.{Code}
 use Rattle.bag_text.specs.declared.code.Code.TheVariants.{FetchLine, FetchEscape, FetchUnsafePath, FetchOutsidePayload}
-use Rattle.bag_line.specs.Reason.{Reason, ◌>>=◌}
+use Rattle.bag_line.specs.Reason.{Reason}
 use Rattle.bag_line.specs.Fetch.{url_of, length_of, written_of, lacks_part, spelling_of, decoded_or, fetched_path, fetch_line}
 use Rattle.bag_line.specs.FetchVerdict.{verdict, verdict_by_spelling}
 use Rattle.bag_line.specs.declared.fetch_line.Verdict.TheVariants.{Fault}
+use Rattle.bag_line.proofs.Reason.{IsReasonOf, then_reason, chosen}
 
 -- the parts of a line
 module _ (line url size written : List ℕ) (first : url ≡ url_of line) (next : size ≡ length_of line) (last : written ≡ written_of line) where
@@ -28,31 +29,19 @@ IsReasonCode FetchUnsafePath = Unit {0}
 IsReasonCode FetchOutsidePayload = Unit {0}
 IsReasonCode other = ⊥
 
-abbrev IsReasonOf : {A : Type 0} → Result A Reason → Type 0
-IsReasonOf (Ok x) = Unit {0}
-IsReasonOf (Err reason) = IsReasonCode reason.0
-
-then_reason : {A B : Type 0} (r : Result A Reason) (f : A → Result B Reason) → IsReasonOf r → ((x : A) → IsReasonOf (f x)) → IsReasonOf (r >>= f)
-then_reason (Ok x) f h k = k x
-then_reason (Err reason) f h k = h
-
-chosen : {A : Type 0} (b : Bool) (r s : Result A Reason) → IsReasonOf r → IsReasonOf s → IsReasonOf (cond b r s)
-chosen true r s h k = h
-chosen false r s h k = k
-
-decoded_reason : (o : Option (List ℕ)) (spelling : List ℕ) → IsReasonOf (decoded_or o spelling)
+decoded_reason : (o : Option (List ℕ)) (spelling : List ℕ) → IsReasonOf IsReasonCode (decoded_or o spelling)
 decoded_reason None spelling = tt
 decoded_reason (Some path) spelling = tt
 
-path_reason : (path : List ℕ) → IsReasonOf (fetched_path path)
-path_reason path = chosen (is_path path) _ (Err (FetchUnsafePath, path)) (chosen (is_payload_path path) (Ok path) (Err (FetchOutsidePayload, path)) tt tt) tt
+path_reason : (path : List ℕ) → IsReasonOf IsReasonCode (fetched_path path)
+path_reason path = chosen IsReasonCode (is_path path) _ (Err (FetchUnsafePath, path)) (chosen IsReasonCode (is_payload_path path) (Ok path) (Err (FetchOutsidePayload, path)) tt tt) tt
 
-line_reason : (line : List ℕ) → IsReasonOf (fetch_line line)
+line_reason : (line : List ℕ) → IsReasonOf IsReasonCode (fetch_line line)
 unfolding fetch_line
 line_reason line =
-    then_reason (spelling_of line) _ (chosen (lacks_part (url_of line) (length_of line) (written_of line)) (Err (FetchLine, [])) (Ok (without_prefix (codes "./") (written_of line))) tt tt)
-    (λ spelling. then_reason (decoded_or (unescaped spelling) spelling) _ (decoded_reason (unescaped spelling) spelling)
+    then_reason IsReasonCode (spelling_of line) _ (chosen IsReasonCode (lacks_part (url_of line) (length_of line) (written_of line)) (Err (FetchLine, [])) (Ok (without_prefix (codes "./") (written_of line))) tt tt)
+    (λ spelling. then_reason IsReasonCode (decoded_or (unescaped spelling) spelling) _ (decoded_reason (unescaped spelling) spelling)
     (λ path. path_reason path))
 
 pub reason_code : (line : List ℕ) (reason : Reason) → fetch_line line ≡ Err reason → IsReasonCode reason.0
-reason_code line reason e = subst IsReasonOf e (line_reason line)
+reason_code line reason e = subst (IsReasonOf IsReasonCode) e (line_reason line)

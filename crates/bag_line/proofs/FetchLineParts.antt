@@ -1,7 +1,6 @@
 -- A line of fetch.txt and its parts.
 use Rattle.std.proofs.Common.{◌≡◌, ◌≢◌, ℕ, ◌⊎◌, inl, inr, Bool, true, false, not, ◌&&◌, ◌||◌, cond, List, [], refl, sym, ap, ◌∙◌, subst, codes, length, Option, Some, None, Result, Ok, Err, bytes_eq, nat_lt}
 use Rattle.std.specs.Prelude.{IsTrue}
-use Rattle.std.specs.Str.{all_ascii_digits}
 use Rattle.std.proofs.lemmas.Slice.Eq.{bytes_eq-Decides}
 use Rattle.bag_text.specs.Number.{is_digits}
 use Rattle.bag_text.specs.Path.{is_path, is_payload_path, first_component, components}
@@ -13,9 +12,10 @@ use Rattle.bag_line.specs.Reason.{Reason, ◌>>=◌}
 use Rattle.bag_line.specs.LineParts.{IsWithout}
 use Rattle.bag_line.specs.Fetch.{url_of, length_of, written_of, is_length, lacks_part, spelling_of, decoded_or, fetched_path, fetch_line}
 use Rattle.bag_line.specs.FetchLine.{IsLength, ReadsAs, FetchLinesReadAsTheirParts, OnlyReads, HasOnlyReason, FetchLinesReadOrHaveOneReason}
-use Rattle.bag_line.proofs.LineParts.{or_false, not_false, not_true, not_empty, empty_test, is_cut, cut_part, cut_rest, not_blank, begins_some, is_without, without_alone}
+use Rattle.bag_line.proofs.AreDigits.{are_digits, digits_are}
+use Rattle.bag_line.proofs.LineParts.{or_false, not_false, not_empty, empty_test, is_cut, cut_part, cut_rest, not_blank, begins_some, is_without, without_alone}
 use Rattle.bag_line.proofs.PickedOut.{both_true}
-use Rattle.bag_line.proofs.Texts.{all_digits}
+use Rattle.bag_line.proofs.Reason.{bind_ok}
 
 either_true : (a b : Bool) → (a || b) ≡ true → (a ≡ true) ⊎ (b ≡ true)
 either_true true b e = inl refl
@@ -26,12 +26,12 @@ length_told : (t : List ℕ) → is_length t ≡ true → IsLength t
 length_told t e =
     elim (either_true (bytes_eq t (codes "-")) (is_digits t) e) [
       | inl h ↦ inl ((bytes_eq-Decides t (codes "-")).0 h)
-      | inr h ↦ (let two = both_true (not (bytes_eq t [])) (all_ascii_digits t) h in inr (not_empty t (not_true _ two.0), sym (all_digits t) ∙ two.1))
+      | inr h ↦ inr (are_digits t h)
     ]
 
 told_length : (t : List ℕ) → IsLength t → is_length t ≡ true
 told_length t (inl e) = rw ((bytes_eq-Decides t (codes "-")).1 e) refl
-told_length t (inr (some, digits)) = digits_too (bytes_eq t (codes "-")) (rw (empty_test t some, all_digits t) digits)
+told_length t (inr digits) = digits_too (bytes_eq t (codes "-")) (digits_are t digits)
   where
     digits_too : (b : Bool) → is_digits t ≡ true → (b || is_digits t) ≡ true
     digits_too true e = refl
@@ -42,10 +42,6 @@ length_some t e none = let clash : false ≡ true = ap (λ s. is_length (before_
 
 part_some : (t : List ℕ) → is_length t ≡ true → t ≢ []
 part_some t e none = let clash : false ≡ true = ap is_length (sym none) ∙ e in cc
-
-bind_ok : {A B : Type 0} (r : Result A Reason) (f : A → Result B Reason) (y : B) → (r >>= f) ≡ Ok y → (x : A) × (r ≡ Ok x) × (f x ≡ Ok y)
-bind_ok (Ok x) f y e = (x, refl, e)
-bind_ok (Err reason) f y e = cc
 
 -- what a spelling needs
 abbrev HasParts : List ℕ → List ℕ → List ℕ → Type 0

@@ -2,17 +2,18 @@
 use Rattle.std.proofs.Common.{◌≡◌, ℕ, zero, suc, ◌+◌, ◌-◌, ◌⊎◌, inl, inr, Bool, true, false, ◌&&◌, ◌||◌, not, cond, List, [], ◌∷◌, take, refl, ap, sym, ◌∙◌, subst, arith, Option, Some, None}
 use Rattle.std.specs.List.{enumerate_from, slice_get, list_any}
 use Rattle.std.specs.Ordering.{nat_cmp, on}
-use Rattle.bag_text.specs.Text.{is_blank_line, IsText, IsNoText, without_mark}
-use Rattle.bag_text.specs.Lines.{IsLine, lines_of_file, lines_of_text}
+use Rattle.bag_text.specs.Text.{is_blank_line, IsText, IsNoText}
+use Rattle.bag_text.specs.Lines.{IsLine, lines_of_file}
 use Rattle.bag_text.specs.Order.{IsListOf}
 use Rattle.bag_text.specs.declared.code.Code.{Code}
 use Rattle.bag_text.specs.declared.code.Code.TheVariants.{NotUtf8, InfoLine}
 use Rattle.bag_text.proofs.ListOf.{nothing_listed, one_listed, joined, only_listed, only_from_some, same_members}
 use Rattle.bag_line.specs.Info.{begins_with_blank, is_continuation, begins_element, split, DoesNotSplit, InfoFault, IsInfoFault, IsElement}
-use Rattle.bag_line.specs.InfoReader.{fault_unless, fault_at, faults, wrong, not_utf8}
-use Rattle.bag_line.specs.LineFault.{AreFaults, line_fault_cmp}
+use Rattle.bag_line.specs.InfoReader.{fault_unless, fault_at, faults, wrong}
+use Rattle.bag_line.specs.LineFault.{AreFaults, line_fault_cmp, not_utf8}
 use Rattle.bag_line.specs.declared.fault.LineFault.{LineFault}
 use Rattle.bag_line.proofs.FaultOrder.{is_fault, line_below}
+use Rattle.bag_line.proofs.Utf8.{no_line}
 
 -- why a line is wrong, by whether an earlier line should have begun an element
 abbrev Why : Bool → List ℕ → Type 0
@@ -113,16 +114,13 @@ module _ (bytes : List ℕ) (is_utf8 : IsText bytes) where
   faults_of_text = same_members line_fault_cmp (WrongFrom false 1 all) (IsInfoFault bytes) _ fault_is (λ f h. from_code f.code f refl h) (faults_from false 1 all)
 
 module _ (bytes : List ℕ) (other : IsNoText bytes) where
-  no_line : (k : ℕ) (line : List ℕ) → IsLine (lines_of_file bytes) k line → ⊥
-  no_line k line (some, e) = let clash : None ≡ Some line = sym (ap (λ b. slice_get (lines_of_text (cond b (Some (without_mark bytes)) None)) (k - 1)) other) ∙ e in cc
-
   -- a file that isn't UTF-8 has no element and one fault
   pub elements_of_no_text : IsListOf (on (λ e. e.line) nat_cmp) (IsElement (lines_of_file bytes)) []
-  elements_of_no_text = nothing_listed (on (λ e. e.line) nat_cmp) (IsElement (lines_of_file bytes)) (λ e h. no_line e.line h.0 h.2)
+  elements_of_no_text = nothing_listed (on (λ e. e.line) nat_cmp) (IsElement (lines_of_file bytes)) (λ e h. no_line bytes other e.line h.0 h.2)
 
   only_code : (code : Code) (f : LineFault) → f.code ≡ code → InfoFault code bytes f → f ≡ not_utf8
   only_code NotUtf8 f e h = is_fault f 0 NotUtf8 [] h.0 e h.1
-  only_code InfoLine f e h = absurd (no_line f.line h.0 h.2)
+  only_code InfoLine f e h = absurd (no_line bytes other f.line h.0 h.2)
   only_code code f e h = absurd h
 
   pub faults_of_no_text : AreFaults (IsInfoFault bytes) (not_utf8 ∷ [])

@@ -1,3 +1,4 @@
+pub mod AreDigits
 pub mod FaultOrder
 pub mod FetchFaults
 pub mod FetchLine
@@ -12,5 +13,6 @@ pub mod InfoReader
 pub mod LineParts
 pub mod OxumNumbers
 pub mod PickedOut
+pub mod Reason
 pub mod Texts
 pub mod Utf8

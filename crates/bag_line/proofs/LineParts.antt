@@ -132,7 +132,7 @@ without_by mark text false e = inr (refl, λ more same. (let clash : false ≡ t
 pub is_without : (mark text : List ℕ) → IsWithout mark text (without_prefix mark text)
 is_without mark text = without_by mark text (starts_with nat_eq text mark) refl
 
-without_is : (mark behind : List ℕ) → without_prefix mark (mark ++ behind) ≡ behind
+pub without_is : (mark behind : List ℕ) → without_prefix mark (mark ++ behind) ≡ behind
 without_is mark behind = rw ((prefix_test mark (mark ++ behind)).1 behind refl) (drop_front mark behind)
 
 lacks_by : (mark text : List ℕ) (b : Bool) → starts_with nat_eq text mark ≡ b → ((more : List ℕ) → text ≢ mark ++ more) → cond b (drop (length mark) text) text ≡ text

@@ -43,6 +43,11 @@ module _ {A : Type 0} (p : A → Bool) where
         | inr d ↦ (let more = from_any xs d in (more.0, contains_behind y xs more.0 more.1, more.2))
       ]
 
+-- what is picked out of the first element stands before what is picked out of the others
+pub picked_first : {B : Type 0} (o : Option B) (xs ys : List B) → xs ≡ ys → option_to_list o ++ xs ≡ cons_option o ys
+picked_first None xs ys e = e
+picked_first (Some y) xs ys e = ap (λ zs. y ∷ zs) e
+
 module _ {A B : Type 0} (f : A → Option B) where
   pub picked_one : (x : A) → filter_map f (x ∷ []) ≡ option_to_list (f x)
   picked_one x = one (f x)

@@ -1,18 +1,12 @@
 -- Tests of texts and prefixes.
-use Rattle.std.proofs.Common.{◌≡◌, ◌≢◌, ℕ, ◌<◌, Bool, true, false, ◌&&◌, List, [], ◌∷◌, ◌++◌, length, drop, refl, ap, sym, ◌∙◌, arith, Option, Some, None, MatchOption, bytes_eq, nat_eq}
-use Rattle.std.specs.Str.{all_ascii_digits}
-use Rattle.std.specs.Char.{is_ascii_digit}
-use Rattle.std.specs.List.{list_all, starts_with}
+use Rattle.std.proofs.Common.{◌≡◌, ◌≢◌, ℕ, ◌<◌, Bool, true, false, List, [], ◌∷◌, ◌++◌, length, drop, refl, ap, sym, ◌∙◌, arith, Option, Some, None, MatchOption, bytes_eq, nat_eq}
+use Rattle.std.specs.List.{starts_with}
 use Rattle.std.specs.Option.{option_copied}
 use Rattle.std.specs.Borrow.{Bor}
 use Rattle.std.specs.Str.Pattern.{StripsPrefix, FindsTextPrefix}
 use Rattle.std.proofs.lemmas.Slice.Eq.{starts_is}
 use Rattle.std.proofs.lemmas.Bool.Decides.{Decides-eqb}
 use Rattle.bag_text.specs.Text.{after_prefix}
-
-pub all_digits : (t : List ℕ) → all_ascii_digits t ≡ list_all is_ascii_digit t
-all_digits [] = refl
-all_digits (c ∷ t) = ap (λ b. is_ascii_digit c && b) (all_digits t)
 
 pub no_text : (t : List ℕ) → length t ≡ 0 → bytes_eq t [] ≡ true
 no_text [] e = refl

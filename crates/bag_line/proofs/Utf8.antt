@@ -1,6 +1,8 @@
 -- Bytes that are UTF-8, and bytes that aren't.
-use Rattle.std.proofs.Common.{◌≡◌, ℕ, Bool, true, false, List, refl, Some, None, cond}
+use Rattle.std.proofs.Common.{◌≡◌, ℕ, ◌-◌, Bool, true, false, List, refl, sym, ap, ◌∙◌, Some, None, cond}
 use Rattle.std.specs.Str.{is_utf8}
+use Rattle.std.specs.List.{slice_get}
+use Rattle.bag_text.specs.Lines.{IsLine, lines_of_file, lines_of_text}
 use Rattle.bag_text.specs.Text.{text_of, IsText, IsNoText, without_mark}
 
 text_test : (bytes t : List ℕ) (b : Bool) → is_utf8 bytes ≡ b → cond b (Some (without_mark bytes)) None ≡ Some t → IsText bytes
@@ -16,3 +18,7 @@ no_text_test bytes false e h = e
 
 pub is_no_text : (bytes : List ℕ) → text_of bytes ≡ None → IsNoText bytes
 is_no_text bytes h = no_text_test bytes (is_utf8 bytes) refl h
+
+-- bytes that aren't UTF-8 have no line
+pub no_line : (bytes : List ℕ) → IsNoText bytes → (k : ℕ) (line : List ℕ) → IsLine (lines_of_file bytes) k line → ⊥
+no_line bytes other k line (some, e) = let clash : None ≡ Some line = sym (ap (λ b. slice_get (lines_of_text (cond b (Some (without_mark bytes)) None)) (k - 1)) other) ∙ e in cc

@@ -1,17 +1,15 @@
 -- What a line of fetch.txt is made of (RFC 8493, 2.2.3), and the laws that its definition keeps.
-use Rattle.std.specs.Prelude.{ℕ, ◌≡◌, ◌≢◌, ◌⊎◌, ◌↔◌, false, List, [], codes, IsTrue}
-use Rattle.std.specs.Char.{is_ascii_digit}
-use Rattle.std.specs.List.{list_all}
+use Rattle.std.specs.Prelude.{ℕ, ◌≡◌, ◌⊎◌, ◌↔◌, false, List, codes, IsTrue}
 use Rattle.bag_text.specs.Path.{is_payload_path}
 use Rattle.bag_text.specs.Spelling.{Spells}
 use Rattle.bag_text.specs.Text.{is_blank_line}
-use Rattle.bag_line.specs.LineParts.{IsCut, IsWithout}
+use Rattle.bag_line.specs.LineParts.{AreDigits, IsCut, IsWithout}
 use Rattle.bag_line.specs.Reason.{Reason}
 use Rattle.bag_line.specs.Fetch.{Reads, HasReason}
 
 -- one or more digits, or a - alone
 abbrev pub IsLength : List ℕ → Type 0
-IsLength t = (t ≡ codes "-") ⊎ ((t ≢ []) × IsTrue (list_all is_ascii_digit t))
+IsLength t = (t ≡ codes "-") ⊎ AreDigits t
 
 -- the line is a URL, blanks, a length, blanks, and a spelling of the path of a payload file
 pub record ReadsAs (line url size path : List ℕ) : Type 0 where

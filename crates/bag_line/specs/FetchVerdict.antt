@@ -3,7 +3,6 @@ use Rattle.std.specs.Prelude.{ℕ, ◌++◌, List, [], ◌∷◌, Option, Some, 
 use Rattle.std.specs.Option.{option_to_list}
 use Rattle.bag_text.specs.Spelling.{unescaped}
 use Rattle.bag_text.specs.Text.{is_blank_line}
-use Rattle.bag_text.specs.declared.code.Code.TheVariants.{NotUtf8}
 use Rattle.bag_line.specs.Reason.{Reason, ◌>>=◌}
 use Rattle.bag_line.specs.Fetch.{url_of, length_of, decoded_or, fetched_path, fetch_line}
 use Rattle.bag_line.specs.declared.fault.LineFault.{LineFault}
@@ -45,6 +44,3 @@ entries (x ∷ xs) = option_to_list (entry_of x) ++ entries xs
 abbrev pub faults : List (ℕ × List ℕ) → List LineFault
 faults [] = []
 faults (x ∷ xs) = option_to_list (fault_of x) ++ faults xs
-
-abbrev pub not_utf8 : LineFault
-not_utf8 = record { line = 0; code = NotUtf8; detail = [] }

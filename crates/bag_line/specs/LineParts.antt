@@ -1,5 +1,6 @@
--- What lines of tag files are made of (RFC 8493, 2.1.3 and 2.2.3).
+-- What lines of tag files are made of (RFC 8493, 2.1.1, 2.1.3 and 2.2.3).
 use Rattle.std.specs.Prelude.{ℕ, ◌≡◌, ◌≢◌, ◌⊎◌, ◌++◌, false, not, List, [], ◌∷◌, IsTrue}
+use Rattle.std.specs.Char.{is_ascii_digit}
 use Rattle.std.specs.List.{list_all}
 use Rattle.bag_text.specs.Text.{is_blank}
 
@@ -16,6 +17,10 @@ pub record IsCut (text part rest : List ℕ) : Type 0 where
   pub some_blank : blanks ≢ []
   pub only_blanks : IsTrue (list_all is_blank blanks)
   pub begins : BeginsUnblank rest
+
+-- one or more ASCII digits
+abbrev pub AreDigits : List ℕ → Type 0
+AreDigits t = (t ≢ []) × IsTrue (list_all is_ascii_digit t)
 
 -- the text behind a mark, or the text itself where the mark doesn't stand in front of it
 abbrev pub IsWithout : List ℕ → List ℕ → List ℕ → Type 0

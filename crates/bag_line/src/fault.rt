@@ -1,5 +1,9 @@
 //! What is wrong with a tag file, line by line.
+ghost use Rattle.std.specs.Prelude.{◌≡◌, ◌∷◌, [], IfOk};
+ghost use Rattle.bag_line.specs.LineFault.{not_utf8};
+
 use bag_text::{Code, Items, Text};
+use std::alloc::{AllocError, Global};
 
 /// A fault of a tag file. Lines count from 1; the line is 0 where the fault is of the whole file.
 #[derive(Debug, Drop)]
@@ -14,4 +18,22 @@ pub struct LineFault {
 pub struct Parsed<T> {
     pub items: Items<T>,
     pub faults: Items<LineFault>,
+}
+
+/// What is read of bytes that aren't UTF-8: no item, and the one fault `NotUtf8`, of the whole file. An error only for
+/// want of memory.
+pub fn unread<T>(alloc: Global) -> Result<Parsed<T>, AllocError>
+    ensures items { IfOk result (λ parsed. parsed.items ≡ []) }
+    ensures faults { IfOk result (λ parsed. parsed.faults ≡ not_utf8 ∷ []) }
+{
+    let mut faults = Items::new(alloc);
+    faults.push(LineFault {
+        line: 0,
+        code: Code::NotUtf8,
+        detail: Text::empty(alloc),
+    })?;
+    Ok(Parsed {
+        items: Items::new(alloc),
+        faults,
+    })
 }

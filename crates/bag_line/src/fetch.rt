@@ -1,5 +1,5 @@
 //! The list of files to fetch, `fetch.txt` (RFC 8493, 2.2.3).
-ghost use Rattle.std.specs.Prelude.{◌≡◌, ◌∷◌, ◌++◌, [], IfOk, OnOk};
+ghost use Rattle.std.specs.Prelude.{◌≡◌, ◌++◌, IfOk, OnOk};
 ghost use Rattle.std.specs.List.{enumerate_from};
 ghost use Rattle.std.specs.Option.{option_to_list};
 ghost use Rattle.std.specs.Ordering.{nat_cmp, on};
@@ -9,9 +9,9 @@ ghost use Rattle.bag_line.specs.FetchVerdict as judged;
 ghost use Rattle.bag_line.specs.LineFault.{AreFaults};
 ghost use Rattle.bag_line.specs.Fetch.{IsFetch, IsFetchFault};
 
-use crate::fault::{LineFault, Parsed};
+use crate::fault::{LineFault, Parsed, unread};
 use crate::fetch_line::{Verdict, judge};
-use bag_text::{Code, Items, Text, is_blank_line, lines, text_of};
+use bag_text::{Items, Text, is_blank_line, lines, text_of};
 use std::alloc::{AllocError, Global};
 
 /// A line of `fetch.txt` that reads: where a payload file is, its length in bytes or `-`, each as it is written, and
@@ -35,23 +35,6 @@ pub fn read_fetch(alloc: Global, bytes: &[u8]) -> Result<Parsed<FetchEntry>, All
         Ok(text) => read_text(alloc, text),
         Err(_) => unread(alloc),
     }
-}
-
-/// Nothing is fetched by bytes that aren't UTF-8.
-fn unread(alloc: Global) -> Result<Parsed<FetchEntry>, AllocError>
-    ensures items { IfOk result (λ parsed. parsed.items ≡ []) }
-    ensures faults { IfOk result (λ parsed. parsed.faults ≡ judged.not_utf8 ∷ []) }
-{
-    let mut faults = Items::new(alloc);
-    faults.push(LineFault {
-        line: 0,
-        code: Code::NotUtf8,
-        detail: Text::empty(alloc),
-    })?;
-    Ok(Parsed {
-        items: Items::new(alloc),
-        faults,
-    })
 }
 
 /// Judges each line that isn't blank, and puts it where it belongs.

@@ -1,12 +1,11 @@
 //! One line of `fetch.txt` (RFC 8493, 2.2.3).
-ghost use Rattle.std.specs.Prelude.{◌≡◌, Ok, Err, IfOk, MatchOption};
-ghost use Rattle.std.specs.Char.{is_ascii_digit};
-ghost use Rattle.std.specs.List.{list_all};
-ghost use Rattle.bag_text.specs.Number as number;
+ghost use Rattle.std.specs.Prelude.{◌≡◌, Ok, Err, IfOk, MatchOption, codes};
+ghost use Rattle.bag_text.specs.Text as texts;
 ghost use Rattle.bag_line.specs.Fetch as spec;
 ghost use Rattle.bag_line.specs.FetchVerdict as judged;
 ghost use Rattle.bag_line.specs.declared.fetch_line.Verdict.TheVariants as verdict;
 
+use crate::digits::is_digits;
 use crate::prefix::without_prefix;
 use bag_text::{Code, PathFault, Text, check_path, is_payload, split_at_blanks, unescape_path};
 use std::alloc::{AllocError, Global};
@@ -32,7 +31,7 @@ pub(crate) fn judge(alloc: Global, line: &str) -> Result<Verdict, AllocError>
     if lacks_part(url, length, written) {
         return fault(alloc, Code::FetchLine, "");
     }
-    judge_spelling(alloc, url, length, without_prefix(written, "./"))
+    judge_spelling(alloc, url, length, spelling_in(written))
 }
 
 /// Whether a part is missing, or the length isn't one. A line that begins with a blank lacks its URL.
@@ -49,17 +48,11 @@ fn is_length(text: &str) -> bool
     text == UNKNOWN || is_digits(text)
 }
 
-/// One or more ASCII digits.
-fn is_digits(text: &str) -> bool
-    ensures { result ≡ number.is_digits text.now }
+/// How the path is spelled: what is written, without one `./` in front.
+fn spelling_in(written: &str) -> &str
+    ensures { result.now ≡ texts.without_prefix (codes "./") written.now }
 {
-    !text.is_empty() && has_digits_only(text)
-}
-
-fn has_digits_only(text: &str) -> bool
-    ensures { result ≡ list_all is_ascii_digit text.now }
-{
-    text.as_bytes().iter().all(|b| b.is_ascii_digit())
+    without_prefix(written, "./")
 }
 
 /// Judges a line of which the URL and the length are good by how the path is written in it.

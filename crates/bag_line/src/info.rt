@@ -1,5 +1,5 @@
 //! The metadata of a bag, `bag-info.txt` (RFC 8493, 2.2.2).
-ghost use Rattle.std.specs.Prelude.{◌≡◌, ◌∷◌, [], false, IfOk};
+ghost use Rattle.std.specs.Prelude.{◌≡◌, false, IfOk};
 ghost use Rattle.std.specs.List.{enumerate_from};
 ghost use Rattle.std.specs.Ordering.{nat_cmp, on};
 ghost use Rattle.bag_text.specs.Lines as cut;
@@ -8,9 +8,9 @@ ghost use Rattle.bag_line.specs.Info.{IsElement, IsInfoFault};
 ghost use Rattle.bag_line.specs.InfoReader as reading;
 ghost use Rattle.bag_line.specs.LineFault.{AreFaults};
 
-use crate::fault::{LineFault, Parsed};
+use crate::fault::{Parsed, unread};
 use crate::info_reader::Reader;
-use bag_text::{Code, Items, Text, lines, text_of};
+use bag_text::{Text, lines, text_of};
 use std::alloc::{AllocError, Global};
 
 /// An element of the metadata: the number of its first line, its label as it is written, and its value, of which the
@@ -34,23 +34,6 @@ pub fn read_info(alloc: Global, bytes: &[u8]) -> Result<Parsed<Element>, AllocEr
         Ok(text) => read_text(alloc, text),
         Err(_) => unread(alloc),
     }
-}
-
-/// Bytes that aren't UTF-8 have no element.
-fn unread(alloc: Global) -> Result<Parsed<Element>, AllocError>
-    ensures items { IfOk result (λ parsed. parsed.items ≡ []) }
-    ensures faults { IfOk result (λ parsed. parsed.faults ≡ reading.not_utf8 ∷ []) }
-{
-    let mut faults = Items::new(alloc);
-    faults.push(LineFault {
-        line: 0,
-        code: Code::NotUtf8,
-        detail: Text::empty(alloc),
-    })?;
-    Ok(Parsed {
-        items: Items::new(alloc),
-        faults,
-    })
 }
 
 fn read_text(alloc: Global, text: &str) -> Result<Parsed<Element>, AllocError>

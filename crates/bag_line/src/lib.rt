@@ -10,6 +10,7 @@
 //! Of RFC 8493 it keeps the metadata of a bag (2.2.2) and the list of files to fetch (2.2.3).
 #![tactic(auto)]
 
+mod digits;
 mod fault;
 mod fetch;
 mod fetch_line;
@@ -20,7 +21,8 @@ pub mod laws;
 mod oxum;
 mod prefix;
 
-pub use fault::{LineFault, Parsed};
+pub use digits::is_digits;
+pub use fault::{LineFault, Parsed, unread};
 pub use fetch::{FetchEntry, read_fetch};
 pub use info::{Element, read_info};
 pub use oxum::{Oxum, oxum_of};

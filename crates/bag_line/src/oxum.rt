@@ -1,8 +1,8 @@
 //! The value of `Payload-Oxum` (RFC 8493, 2.2.2).
 ghost use Rattle.std.specs.Prelude.{◌≡◌};
-ghost use Rattle.std.specs.Char.{is_ascii_digit};
-ghost use Rattle.std.specs.List.{list_all};
 ghost use Rattle.bag_line.specs.Oxum as spec;
+
+use crate::digits::is_digits;
 
 /// How many bytes the payload has, and how many files.
 #[derive(Clone, Copy, Debug, PartialEq, Eq)]
@@ -29,17 +29,11 @@ pub fn oxum_of(value: &str) -> Option<Oxum>
 fn number_of(text: &str) -> Option<u64>
     ensures { result ≡ spec.number_of text.now }
 {
-    if !has_digits_only(text) {
+    if !is_digits(text) {
         return None;
     }
     match text.parse::<u64>() {
         Ok(number) => Some(number),
         Err(_) => None,
     }
-}
-
-fn has_digits_only(text: &str) -> bool
-    ensures { result ≡ list_all is_ascii_digit text.now }
-{
-    text.as_bytes().iter().all(|b| b.is_ascii_digit())
 }

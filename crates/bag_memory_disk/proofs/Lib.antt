@@ -1,3 +1,6 @@
+pub mod HeldMoved
 pub mod HeldNames
 pub mod HeldNodes
+pub mod HeldPut
 pub mod Placed
+pub mod PutPlaced

@@ -1,3 +1,4 @@
+pub mod Changing
 pub mod Held
 pub mod MemoryDisk
 pub mod Placing

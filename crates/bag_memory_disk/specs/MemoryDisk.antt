@@ -6,7 +6,7 @@ use Rattle.bag_disk.specs.Disk.{DiskState, Nodes, Node, entry_of, node}
 use Rattle.bag_disk.specs.DiskBag.{bytes_of}
 use Rattle.bag_disk.specs.declared.disk.Entry.{Entry}
 use Rattle.bag_disk.specs.declared.disk.DiskFault.{DiskFault}
-use Rattle.bag_disk.specs.declared.disk.DiskFault.TheVariants.{NotFound, Name, Memory, Device}
+use Rattle.bag_disk.specs.declared.disk.DiskFault.TheVariants.{NotFound, Exists, Name, Memory, Device}
 use Rattle.bag_memory_disk.specs.Held.{nodes_of}
 use Rattle.bag_memory_disk.specs.declared.memory_disk.MemoryDisk.{MemoryDisk}
 use Rattle.bag_memory_disk.specs.declared.memory_disk.Swap.{Swap}
@@ -34,6 +34,10 @@ state_of disk = record {
   names = drop disk.named disk.names;
 }
 
+-- the path of the file that is being written
+abbrev pub written_of : MemoryDisk → Option (List ℕ)
+written_of disk = disk.written
+
 -- the folders that may not be read
 abbrev pub barred_of : MemoryDisk → List (List ℕ)
 barred_of disk = disk.barred
@@ -59,5 +63,6 @@ IsEntry (Some n) result = result ≡ Ok (entry_of n)
 abbrev pub MayRefuse : Type 0 → DiskFault → Type 0
 MayRefuse reason Memory = Unit {0}
 MayRefuse reason NotFound = reason
+MayRefuse reason Exists = ⊥
 MayRefuse reason Device = reason
 MayRefuse reason Name = ⊥

@@ -2,13 +2,14 @@
 use Rattle.std.specs.Prelude.{ℕ, suc, zero, ◌&&◌, Bool, true, false, List, bytes_eq}
 use Rattle.bag_disk.specs.Disk.{DiskState}
 use Rattle.bag_disk.specs.declared.disk.DiskFault.{DiskFault}
-use Rattle.bag_disk.specs.declared.disk.DiskFault.TheVariants.{NotFound, Name, Memory, Device}
+use Rattle.bag_disk.specs.declared.disk.DiskFault.TheVariants.{NotFound, Exists, Name, Memory, Device}
 use Rattle.bag_memory_disk.specs.declared.refusing_disk.Call.{Call}
 use Rattle.bag_memory_disk.specs.declared.refusing_disk.Call.TheVariants.{Numbered, EntryAt, Past}
 
 -- an honest disk may refuse any call by this fault
 abbrev pub tells_nothing : DiskFault → Bool
 tells_nothing NotFound = false
+tells_nothing Exists = false
 tells_nothing Name = false
 tells_nothing Memory = true
 tells_nothing Device = true

@@ -33,6 +33,17 @@ impl Node {
             Node::Other => Entry::Other,
         }
     }
+
+    /// A copy of its own.
+    pub(crate) fn copy(&self, alloc: Global) -> Result<Node, AllocError>
+        ensures { IfOk result (λ copy. node_of copy ≡ node_of self.now) }
+    {
+        match self {
+            Node::File(bytes) => Ok(Node::File(bytes.as_slice().to_vec(alloc)?)),
+            Node::Folder => Ok(Node::Folder),
+            Node::Other => Ok(Node::Other),
+        }
+    }
 }
 
 /// What stands at a path.

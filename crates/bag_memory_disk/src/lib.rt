@@ -9,6 +9,7 @@
 //! A `MemoryDisk` is honest unless it is told otherwise. A `RefusingDisk` is any disk of which one call is refused.
 #![tactic(auto)]
 
+mod changing;
 mod held;
 mod memory_disk;
 mod placing;

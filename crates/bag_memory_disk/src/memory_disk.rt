@@ -2,10 +2,11 @@
 ghost use Rattle.bag_memory_disk.specs.Held.{nodes_of};
 ghost use Rattle.bag_memory_disk.specs.Placing.{PassesAsDisk};
 
+use crate::changing::{add_node, append, moved};
 use crate::held::{Node, names_in, node_at};
-use crate::placing::are_placed;
+use crate::placing::{are_placed, is_reached};
 use crate::reading::read_at;
-use bag_disk::{Disk, DiskFault, Entry};
+use bag_disk::{Disk, DiskFault, Entry, WritableDisk};
 use bag_text::{Items, Text};
 use std::alloc::{AllocError, Global};
 use std::collections::BTreeMap;
@@ -46,6 +47,7 @@ pub struct MemoryDisk {
     at: usize,
     names: Items<Items<u8>>,
     named: usize,
+    written: Option<Text>,
     ghost passes: { PassesAsDisk (nodes_of nodes.entries) },
 }
 
@@ -89,6 +91,7 @@ impl MemoryDisk {
             at: 0,
             names: Items::new(alloc),
             named: 0,
+            written: None,
         }
     }
 
@@ -257,5 +260,145 @@ impl Disk for MemoryDisk {
         let count = read_at(content.as_slice(), self.at, buffer);
         self.at += count;
         Ok(count)
+    }
+}
+
+impl WritableDisk for MemoryDisk {
+    ghost use Rattle.std.specs.Prelude.{◌≡◌, ◌≤◌, IfErr, IfOk, IsErrOf, IsOk, IsTrue, List, None, OnErr, OnOk, Some, is_some, length, take, ℕ};
+    ghost use Rattle.bag_text.specs.Path.{is_path};
+    ghost use Rattle.bag_disk.specs.Disk.{Has, IsReached, OnlyLooks, node};
+    ghost use Rattle.bag_disk.specs.WritableDisk.{Appends, Closes, HasFile, KeepsOthers, MakesFile, MakesFolder, Moves};
+    ghost use Rattle.bag_disk.specs.declared.disk.DiskFault.TheVariants.{Exists, Name, NotFound};
+    ghost use Rattle.bag_memory_disk.specs.Changing.{MayRefuseAdding, MayRefuseMoving, MayRefuseWriting};
+    ghost use Rattle.bag_memory_disk.specs.MemoryDisk.{barred_of, state_of, written_of};
+
+    ghost written = { written_of };
+
+    fn make_folder(&mut self, path: &str) -> Result<(), DiskFault>
+        requires { IsTrue (is_path path.now) }
+        ensures made { OnOk result (IsTrue (state_of self.old).honest → IsReached (state_of self.old).nodes path.now
+            → MakesFolder (state_of self.old).nodes (state_of self.new).nodes path.now) }
+        ensures closed { OnOk result (Closes (state_of self.old) (state_of self.new)) }
+        ensures ended { OnOk result (written_of self.new ≡ None) }
+        ensures taken { IsErrOf result Exists → IsTrue (state_of self.old).honest → IsReached (state_of self.old).nodes path.now
+            → Has (state_of self.old).nodes path.now }
+        ensures absent { IsErrOf result NotFound → IsTrue (state_of self.old).honest → IsReached (state_of self.old).nodes path.now → ⊥ }
+        ensures same { OnErr result (OnlyLooks (state_of self.old) (state_of self.new)) }
+        ensures same_file { OnErr result (written_of self.new ≡ written_of self.old) }
+        ensures barred { barred_of self.new ≡ barred_of self.old }
+        ensures refused { IfErr result (MayRefuseAdding (state_of self.old).nodes path.now) }
+    {
+        match add_node(self.alloc, &mut self.nodes, path.as_bytes(), Node::Folder) {
+            Ok(()) => {}
+            Err(fault) => return Err(fault),
+        }
+        self.open = None;
+        self.written = None;
+        Ok(())
+    }
+
+    fn rename(&mut self, from: &str, to: &str) -> Result<(), DiskFault>
+        ensures moved { OnOk result (IsTrue (state_of self.old).honest
+            → IsReached (state_of self.old).nodes from.now → IsReached (state_of self.old).nodes to.now
+            → node (state_of self.old).nodes to.now ≡ None → Moves (state_of self.old).nodes (state_of self.new).nodes from.now to.now) }
+        ensures others { OnOk result (IsTrue (state_of self.old).honest
+            → IsReached (state_of self.old).nodes from.now → IsReached (state_of self.old).nodes to.now
+            → KeepsOthers (state_of self.old).nodes (state_of self.new).nodes from.now to.now) }
+        ensures closed { OnOk result (Closes (state_of self.old) (state_of self.new)) }
+        ensures ended { OnOk result (written_of self.new ≡ None) }
+        ensures taken { IsErrOf result Exists → IsTrue (state_of self.old).honest → IsReached (state_of self.old).nodes to.now
+            → Has (state_of self.old).nodes to.now }
+        ensures absent { IsErrOf result NotFound → IsTrue (state_of self.old).honest
+            → IsReached (state_of self.old).nodes from.now → IsReached (state_of self.old).nodes to.now
+            → node (state_of self.old).nodes from.now ≡ None }
+        ensures same { OnErr result (OnlyLooks (state_of self.old) (state_of self.new)) }
+        ensures same_file { OnErr result (written_of self.new ≡ written_of self.old) }
+        ensures barred { barred_of self.new ≡ barred_of self.old }
+        ensures refused { IfErr result (MayRefuseMoving (state_of self.old).nodes from.now to.now) }
+    {
+        if node_at(&self.nodes, from.as_bytes()).is_none()
+            || !is_reached(&self.nodes, to.as_bytes())
+        {
+            return Err(DiskFault::NotFound);
+        }
+        if node_at(&self.nodes, to.as_bytes()).is_some() {
+            return Err(DiskFault::Exists);
+        }
+        let moved = moved(self.alloc, &self.nodes, from.as_bytes(), to.as_bytes())?;
+        if !are_placed(&moved) {
+            return Err(DiskFault::Device);
+        }
+        self.nodes = moved;
+        self.open = None;
+        self.written = None;
+        Ok(())
+    }
+
+    fn create(&mut self, path: &str) -> Result<(), DiskFault>
+        requires { IsTrue (is_path path.now) }
+        ensures made { OnOk result (IsTrue (state_of self.old).honest → IsReached (state_of self.old).nodes path.now
+            → MakesFile (state_of self.old).nodes (state_of self.new).nodes path.now) }
+        ensures closed { OnOk result (Closes (state_of self.old) (state_of self.new)) }
+        ensures begun { OnOk result (IsTrue (is_some (written_of self.new))) }
+        ensures begun_there { OnOk result (IsTrue (state_of self.old).honest → written_of self.new ≡ Some path.now) }
+        ensures taken { IsErrOf result Exists → IsTrue (state_of self.old).honest → IsReached (state_of self.old).nodes path.now
+            → Has (state_of self.old).nodes path.now }
+        ensures absent { IsErrOf result NotFound → IsTrue (state_of self.old).honest → IsReached (state_of self.old).nodes path.now → ⊥ }
+        ensures same { OnErr result (OnlyLooks (state_of self.old) (state_of self.new)) }
+        ensures same_file { OnErr result (written_of self.new ≡ written_of self.old) }
+        ensures barred { barred_of self.new ≡ barred_of self.old }
+        ensures refused { IfErr result (MayRefuseAdding (state_of self.old).nodes path.now) }
+    {
+        let written = Text::from_str(self.alloc, path)?;
+        let file = Node::File(Vec::new(self.alloc));
+        match add_node(self.alloc, &mut self.nodes, path.as_bytes(), file) {
+            Ok(()) => {}
+            Err(fault) => return Err(fault),
+        }
+        self.open = None;
+        self.written = Some(written);
+        Ok(())
+    }
+
+    fn write(&mut self, bytes: &[u8]) -> Result<usize, DiskFault>
+        ensures within { IfOk result (λ n. n ≤ length bytes.now) }
+        ensures appended { IfOk result (λ n. IsTrue (state_of self.old).honest → (path : List ℕ) → written_of self.old ≡ Some path
+            → HasFile (state_of self.old).nodes path → Appends (state_of self.old).nodes (state_of self.new).nodes path (take n bytes.now)) }
+        ensures closed { OnOk result (Closes (state_of self.old) (state_of self.new)) }
+        ensures taken { IsErrOf result Exists → IsTrue (state_of self.old).honest → ⊥ }
+        ensures absent { IsErrOf result NotFound → IsTrue (state_of self.old).honest → ⊥ }
+        ensures unnamed { IsErrOf result Name → IsTrue (state_of self.old).honest → ⊥ }
+        ensures same { OnErr result (OnlyLooks (state_of self.old) (state_of self.new)) }
+        ensures same_file { written_of self.new ≡ written_of self.old }
+        ensures barred { barred_of self.new ≡ barred_of self.old }
+        ensures all { IfOk result (λ n. n ≡ length bytes.now) }
+        ensures refused { IfErr result (MayRefuseWriting (state_of self.old).nodes (written_of self.old)) }
+    {
+        let Some(path) = &self.written else {
+            return Err(DiskFault::Device);
+        };
+        match append(self.alloc, &mut self.nodes, path.as_str().as_bytes(), bytes) {
+            Ok(()) => {}
+            Err(fault) => return Err(fault),
+        }
+        self.open = None;
+        Ok(bytes.len())
+    }
+
+    fn sync(&mut self) -> Result<(), DiskFault>
+        ensures kept { OnOk result ((state_of self.new).nodes ≡ (state_of self.old).nodes) }
+        ensures closed { OnOk result (Closes (state_of self.old) (state_of self.new)) }
+        ensures ended { OnOk result (written_of self.new ≡ None) }
+        ensures taken { IsErrOf result Exists → IsTrue (state_of self.old).honest → ⊥ }
+        ensures absent { IsErrOf result NotFound → IsTrue (state_of self.old).honest → ⊥ }
+        ensures unnamed { IsErrOf result Name → IsTrue (state_of self.old).honest → ⊥ }
+        ensures same { OnErr result (OnlyLooks (state_of self.old) (state_of self.new)) }
+        ensures same_file { OnErr result (written_of self.new ≡ written_of self.old) }
+        ensures barred { barred_of self.new ≡ barred_of self.old }
+        ensures synced { IsOk result }
+    {
+        self.open = None;
+        self.written = None;
+        Ok(())
     }
 }

@@ -54,7 +54,7 @@ fn are_bytes(bytes: &[u8])
 {}
 
 /// Whether each folder on the way to a path is one.
-fn is_reached(nodes: &BTreeMap<Vec<u8>, Node>, path: &[u8]) -> bool
+pub(crate) fn is_reached(nodes: &BTreeMap<Vec<u8>, Node>, path: &[u8]) -> bool
     ensures { IsTrue result ↔ IsReached (nodes_of nodes.now.entries) path.now }
 {
     for end in 0..path.len() {

@@ -2,13 +2,13 @@
 ghost use Rattle.std.specs.Prelude.{◌≡◌};
 ghost use Rattle.bag_memory_disk.specs.Refusing.{is_due, is_refused, one_less, refusing};
 
-use bag_disk::{Disk, DiskFault, Entry};
+use bag_disk::{Disk, DiskFault, Entry, WritableDisk};
 use bag_text::Text;
 
 /// Which call of a disk is refused.
 #[derive(Drop)]
 pub enum Call {
-    /// Once, the call of this number, from 0, of `enter`, `next_name`, `open` and `read`.
+    /// Once, the call of this number, from 0, of `enter`, `next_name`, `open`, `read`, and those that change the disk.
     Numbered(u64),
     /// Each `entry_at` of this path.
     EntryAt(Text),
@@ -17,7 +17,7 @@ pub enum Call {
 }
 
 /// A disk of which one call is refused. It is as honest as the disk that it stands on, where an honest disk may refuse any
-/// call by the fault: `NotFound` and `Name` would tell of what stands there.
+/// call by the fault: `NotFound`, `Exists` and `Name` would tell of what stands there.
 #[derive(Drop)]
 pub struct RefusingDisk<D> {
     disk: D,
@@ -115,5 +115,44 @@ impl<D: Disk + Drop> Disk for RefusingDisk<D> {
             return Err(self.fault);
         }
         self.disk.read(buffer)
+    }
+}
+
+impl<D: WritableDisk + Drop> WritableDisk for RefusingDisk<D> {
+    ghost written = { λ disk. D.written disk.disk };
+
+    fn make_folder(&mut self, path: &str) -> Result<(), DiskFault> {
+        if self.call.is_due() {
+            return Err(self.fault);
+        }
+        self.disk.make_folder(path)
+    }
+
+    fn rename(&mut self, from: &str, to: &str) -> Result<(), DiskFault> {
+        if self.call.is_due() {
+            return Err(self.fault);
+        }
+        self.disk.rename(from, to)
+    }
+
+    fn create(&mut self, path: &str) -> Result<(), DiskFault> {
+        if self.call.is_due() {
+            return Err(self.fault);
+        }
+        self.disk.create(path)
+    }
+
+    fn write(&mut self, bytes: &[u8]) -> Result<usize, DiskFault> {
+        if self.call.is_due() {
+            return Err(self.fault);
+        }
+        self.disk.write(bytes)
+    }
+
+    fn sync(&mut self) -> Result<(), DiskFault> {
+        if self.call.is_due() {
+            return Err(self.fault);
+        }
+        self.disk.sync()
     }
 }

@@ -1,5 +1,6 @@
 -- The faults of a stage that are asked for.
-use Rattle.std.proofs.Common.{◌≡◌, ◌≢◌, ◌<◌, ◌≤◌, inl, inr, ℕ, List, [], true, false, refl, sym, ap, ◌∙◌, arith, nat_le}
+use Rattle.std.proofs.Common.{◌≡◌, ◌≢◌, ◌<◌, ◌≤◌, ℕ, List, [], true, refl, sym, subst, ◌∙◌, filter, arith, nat_le}
+use Rattle.std.proofs.lemmas.Bool.{and_parts}
 use Rattle.bag_text.specs.Code.{stage}
 use Rattle.bag_text.specs.Order.{IsListOf}
 use Rattle.bag_text.specs.declared.code.Code.{Code}
@@ -11,98 +12,56 @@ use Rattle.bag_facts.specs.Options.{last_stage}
 use Rattle.bag_facts.specs.declared.options.Depth.{Depth}
 use Rattle.bag_facts.specs.declared.options.Depth.TheVariants.{Declaration, Fast, Complete, Full}
 use Rattle.bag_facts.specs.declared.options.Options.{Options}
-use Rattle.bag_stages.specs.DeclarationStage.{IsOfDeclaration}
-use Rattle.bag_stages.specs.ManifestsStage.{IsOfManifests}
-use Rattle.bag_stages.specs.PartsStage.{IsOfParts}
-use Rattle.bag_stages.proofs.DeclarationFaults.{declaration_of_stage_one}
-use Rattle.bag_stages.proofs.ManifestFaults.{manifests_of_stage_five}
-use Rattle.bag_stages.proofs.PartFaults.{parts_of_stage_two}
-use Rattle.bag_report.specs.Is.{Is}
-use Rattle.bag_report.specs.Report.{Check, asks, has_stage, IsStageOf}
-
--- faults of a code are asked for where the depth reaches its stage, but for the codes that the options choose
-asks_stage : (options : Options) (c : Code) → c ≢ NoOxum → c ≢ NameClash → asks options c ≡ has_stage options (stage c)
-unfolding asks
-asks_stage options NoOxum a b = absurd (a refl)
-asks_stage options NameClash a b = absurd (b refl)
-asks_stage options other a b = refl
+use Rattle.bag_report.specs.Report.{Check, asks, is_fast, IsStageOf}
+use Rattle.bag_report.specs.Stages.{is_chosen, IsFoundAt}
+use Rattle.bag_report.proofs.Filtered.{filtered_list}
+use Rattle.bag_report.proofs.Found.{none_clashes}
 
 reaches : (d : Depth) (k : ℕ) → k ≤ last_stage d → nat_le k (last_stage d) ≡ true
 reaches d k h = grind (arith)
 
-no_reach : (d : Depth) (k : ℕ) → last_stage d < k → nat_le k (last_stage d) ≡ false
-no_reach d k h = grind (arith)
+reached : (d : Depth) (k : ℕ) → nat_le k (last_stage d) ≡ true → k ≤ last_stage d
+reached d k e = grind (arith)
 
--- a fault's stage is one that is looked for
-module _ (check : Check) (f : Fault) where
-  stage_looked : Is check.bag f → (k : ℕ) → stage f.code ≡ k → (k ≢ 3) × (k ≢ 6)
-  unfolding Is
-  stage_looked (inl h) k e = let one = declaration_of_stage_one check.bag f h in ((λ w. absurd (omega (arith, one, e, w))), (λ w. absurd (omega (arith, one, e, w))))
-  stage_looked (inr (inl h)) k e = let two = parts_of_stage_two check.bag f h in ((λ w. absurd (omega (arith, two, e, w))), (λ w. absurd (omega (arith, two, e, w))))
-  stage_looked (inr (inr h)) k e = let five = manifests_of_stage_five check.bag f h in ((λ w. absurd (omega (arith, five, e, w))), (λ w. absurd (omega (arith, five, e, w))))
+fast_reaches : (d : Depth) → is_fast d ≡ true → 3 ≤ last_stage d
+fast_reaches Fast e = omega arith
+fast_reaches Declaration e = cc
+fast_reaches Complete e = cc
+fast_reaches Full e = cc
 
-  asked : (k : ℕ) → Is check.bag f → stage f.code ≡ k → asks check.options f.code ≡ nat_le k (last_stage check.options.depth)
-  asked k h e =
-      let looked = stage_looked h k e in
-      asks_stage check.options f.code (λ w. looked.0 (sym e ∙ ap stage w)) (λ w. looked.1 (sym e ∙ ap stage w)) ∙ ap (has_stage check.options) e
+-- what is asked for is of a stage that the depth reaches
+pub asked_is_reached : (options : Options) (c : Code) → asks options c ≡ true → stage c ≤ last_stage options.depth
+unfolding asks
+asked_is_reached options NoOxum e = fast_reaches options.depth e
+asked_is_reached options NameClash e = reached options.depth 6 (and_parts _ _ e).1
+asked_is_reached options other e = reached options.depth (stage other) e
 
-module _ (check : Check) where
+-- and where the depth reaches the stage, what is chosen is asked for
+chosen_is_asked : (options : Options) (c : Code) → c ≢ NameClash → stage c ≤ last_stage options.depth → asks options c ≡ is_chosen options.depth c
+unfolding asks
+chosen_is_asked options NoOxum not reach = refl
+chosen_is_asked options NameClash not reach = absurd (not refl)
+chosen_is_asked options other not reach = reaches options.depth (stage other) reach
+
+module _ (check : Check) (k : ℕ) (faults : List Fault) where
   -- nothing is asked for above the last stage of the depth
-  pub too_deep : (k : ℕ) (faults : List Fault) → last_stage check.options.depth < k → faults ≡ [] → IsStageOf check k faults
-  too_deep k faults deep none = rw none (nothing_listed fault_cmp _
-      (λ f h. let clash : true ≡ false = sym h.0.1 ∙ asked check f k h.0.0 h.1 ∙ no_reach check.options.depth k deep in cc))
+  pub too_deep : last_stage check.options.depth < k → faults ≡ [] → IsStageOf check k faults
+  too_deep deep none = rw none (nothing_listed fault_cmp _
+      (λ f h. let reach : stage f.code ≤ last_stage check.options.depth = asked_is_reached check.options f.code h.0.1 in absurd (omega (arith, reach, deep, h.1))))
 
-  -- and no faults are of other stages
-  pub no_stage : (k : ℕ) (faults : List Fault) → k ≢ 1 → k ≢ 2 → k ≢ 5 → faults ≡ [] → IsStageOf check k faults
-  unfolding Is
-  no_stage k faults a b c none = rw none (nothing_listed fault_cmp _
-      (λ f h. elim h.0.0 [
-        | inl m ↦ a (sym h.1 ∙ declaration_of_stage_one check.bag f m)
-        | inr (inl m) ↦ b (sym h.1 ∙ parts_of_stage_two check.bag f m)
-        | inr (inr m) ↦ c (sym h.1 ∙ manifests_of_stage_five check.bag f m)
-      ]))
-
-  -- the faults of a stage that the depth reaches
-  of_stage : (IsOf : Fault → Type 0) (k : ℕ) (faults : List Fault) → k ≤ last_stage check.options.depth → ((f : Fault) → IsOf f → Is check.bag f) → ((f : Fault) → IsOf f → stage f.code ≡ k)
-      → ((f : Fault) → Is check.bag f → stage f.code ≡ k → IsOf f) → IsListOf fault_cmp IsOf faults → IsStageOf check k faults
-  of_stage IsOf k faults reach is at from list =
-      same_members fault_cmp IsOf _ faults
-      (λ f h. ((is f h, asked check f k (is f h) (at f h) ∙ reaches check.options.depth k reach), at f h))
-      (λ f h. from f h.0.0 h.1) list
-
-  pub stage_one : (k : ℕ) (faults : List Fault) → k ≡ 1 → k ≤ last_stage check.options.depth → IsListOf fault_cmp (IsOfDeclaration check.bag) faults → IsStageOf check k faults
-  unfolding Is
-  stage_one k faults e reach list =
-      of_stage (IsOfDeclaration check.bag) k faults reach (λ f h. inl h) (λ f h. declaration_of_stage_one check.bag f h ∙ sym e)
-      (λ f h s. elim h [
-        | inl m ↦ m
-        | inr (inl m) ↦ absurd (omega (arith, parts_of_stage_two check.bag f m, s, e))
-        | inr (inr m) ↦ absurd (omega (arith, manifests_of_stage_five check.bag f m, s, e))
-      ]) list
-
-  pub stage_two : (k : ℕ) (faults : List Fault) → k ≡ 2 → k ≤ last_stage check.options.depth → IsListOf fault_cmp (IsOfParts check.bag) faults → IsStageOf check k faults
-  unfolding Is
-  stage_two k faults e reach list =
-      of_stage (IsOfParts check.bag) k faults reach (λ f h. inr (inl h)) (λ f h. parts_of_stage_two check.bag f h ∙ sym e)
-      (λ f h s. elim h [
-        | inl m ↦ absurd (omega (arith, declaration_of_stage_one check.bag f m, s, e))
-        | inr (inl m) ↦ m
-        | inr (inr m) ↦ absurd (omega (arith, manifests_of_stage_five check.bag f m, s, e))
-      ]) list
-
-  pub stage_five : (k : ℕ) (faults : List Fault) → k ≡ 5 → k ≤ last_stage check.options.depth → IsListOf fault_cmp (IsOfManifests check.bag) faults → IsStageOf check k faults
-  unfolding Is
-  stage_five k faults e reach list =
-      of_stage (IsOfManifests check.bag) k faults reach (λ f h. inr (inr h)) (λ f h. manifests_of_stage_five check.bag f h ∙ sym e)
-      (λ f h s. elim h [
-        | inl m ↦ absurd (omega (arith, declaration_of_stage_one check.bag f m, s, e))
-        | inr (inl m) ↦ absurd (omega (arith, parts_of_stage_two check.bag f m, s, e))
-        | inr (inr m) ↦ m
-      ]) list
+  -- the chosen ones of the faults that a stage finds which the depth reaches
+  pub chosen_of_stage : k ≤ last_stage check.options.depth → IsListOf fault_cmp (IsFoundAt check.bag k) faults
+      → IsStageOf check k (filter (λ f. is_chosen check.options.depth f.code) faults)
+  chosen_of_stage reach list =
+      let asked = λ (f : Fault) (h : IsFoundAt check.bag k f). chosen_is_asked check.options f.code (none_clashes check.bag f h.0) (subst (λ n. n ≤ last_stage check.options.depth) (sym h.1) reach) in
+      same_members fault_cmp (λ f. IsFoundAt check.bag k f × (is_chosen check.options.depth f.code ≡ true)) _ _
+      (λ f h. ((h.0.0, asked f h.0 ∙ h.1), h.0.1))
+      (λ f h. let found : IsFoundAt check.bag k f = (h.0.0, h.1) in (found, sym (asked f found) ∙ h.0.1))
+      (filtered_list fault_cmp (IsFoundAt check.bag k) (λ f. is_chosen check.options.depth f.code) faults list)
 
 -- a depth that reaches the second stage reads more than the declaration
-pub reads_more : (d : Depth) (k : ℕ) → 2 ≤ k → k ≤ last_stage d → d ≢ Declaration
-reads_more Declaration k two h = absurd (omega arith)
-reads_more Fast k two h = λ e. cc
-reads_more Complete k two h = λ e. cc
-reads_more Full k two h = λ e. cc
+pub reads_more : (d : Depth) (k : ℕ) → k ≤ last_stage d → 1 < k → d ≢ Declaration
+reads_more Declaration k h two = absurd (omega arith)
+reads_more Fast k h two = λ e. cc
+reads_more Complete k h two = λ e. cc
+reads_more Full k h two = λ e. cc

@@ -7,12 +7,16 @@ use Rattle.bag_fault.specs.declared.fault.Fault.{Fault}
 use Rattle.bag_fault.proofs.Ordered.{fault_cmp_total, fault_cmp_same}
 use Rattle.bag_facts.proofs.Mapped.{kept, passed}
 use Rattle.bag_stages.specs.DeclarationStage.{IsOfDeclaration}
+use Rattle.bag_stages.specs.FetchStage.{IsOfFetch}
 use Rattle.bag_stages.specs.HasList.{HasList}
 use Rattle.bag_stages.specs.ManifestsStage.{IsOfManifests}
+use Rattle.bag_stages.specs.MetadataStage.{IsOfMetadata}
 use Rattle.bag_stages.specs.PartsStage.{IsOfParts}
 use Rattle.bag_stages.proofs.DeclarationList.{declaration_faults_are_listed}
+use Rattle.bag_stages.proofs.FetchFaultsList.{fetch_faults_are_listed}
 use Rattle.bag_stages.proofs.HasLists.{either}
 use Rattle.bag_stages.proofs.ManifestsList.{manifest_faults_are_listed}
+use Rattle.bag_stages.proofs.MetadataList.{metadata_faults_are_listed}
 use Rattle.bag_stages.proofs.PartsList.{part_faults_are_listed}
 use Rattle.bag_report.specs.Is.{Is}
 use Rattle.bag_report.specs.Report.{Check, asks, IsReported, EachBagHasAReport}
@@ -23,7 +27,9 @@ faults_are_listed : (bag : Bag) → HasList (Is bag)
 unfolding Is
 faults_are_listed bag =
     either (IsOfDeclaration bag) _ (declaration_faults_are_listed bag)
-    (either (IsOfParts bag) (IsOfManifests bag) (part_faults_are_listed bag) (manifest_faults_are_listed bag))
+    (either (IsOfParts bag) _ (part_faults_are_listed bag)
+    (either (IsOfMetadata bag) _ (metadata_faults_are_listed bag)
+    (either (IsOfFetch bag) (IsOfManifests bag) (fetch_faults_are_listed bag) (manifest_faults_are_listed bag))))
 
 -- those that are asked for
 reported_are_listed : (check : Check) → HasList (IsReported check)

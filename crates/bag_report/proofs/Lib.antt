@@ -1,3 +1,5 @@
 pub mod AscendingList
 pub mod Asked
 pub mod EachReport
+pub mod Filtered
+pub mod Found

@@ -3,7 +3,9 @@ use Rattle.std.specs.Prelude.{◌⊎◌}
 use Rattle.bag_tree.specs.Bag.{Bag}
 use Rattle.bag_fault.specs.declared.fault.Fault.{Fault}
 use Rattle.bag_stages.specs.DeclarationStage.{IsOfDeclaration}
+use Rattle.bag_stages.specs.FetchStage.{IsOfFetch}
 use Rattle.bag_stages.specs.ManifestsStage.{IsOfManifests}
+use Rattle.bag_stages.specs.MetadataStage.{IsOfMetadata}
 use Rattle.bag_stages.specs.PartsStage.{IsOfParts}
 
 -- The fault is one of the bag: what its code says holds, at the stage that looks for it. The other stages are not looked
@@ -14,5 +16,9 @@ Is bag f =
     IsOfDeclaration bag f
     -- 2: the parts of a bag (2.1, 2.3 and 2.4)
     ⊎ IsOfParts bag f
+    -- 3: bag-info.txt (2.2.2)
+    ⊎ IsOfMetadata bag f
+    -- 4: fetch.txt (2.2.3)
+    ⊎ IsOfFetch bag f
     -- 5: manifests (2.1.3 and 2.2.1)
     ⊎ IsOfManifests bag f

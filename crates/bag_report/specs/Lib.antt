@@ -6,9 +6,14 @@ pub use Rattle.bag_facts.specs.Wanted
 pub use Rattle.bag_fault.specs.FaultLine
 pub use Rattle.bag_fault.specs.FaultOrder
 pub use Rattle.bag_stages.specs.DeclarationStage
+pub use Rattle.bag_stages.specs.FetchStage
 pub use Rattle.bag_stages.specs.ManifestsStage
+pub use Rattle.bag_stages.specs.Metadata
+pub use Rattle.bag_stages.specs.MetadataStage
 pub use Rattle.bag_stages.specs.PartsStage
+pub use Rattle.bag_stages.specs.Payload
 pub use Rattle.bag_stages.specs.FaultFields
 pub use Rattle.bag_stages.specs.TagFiles
 pub mod Is
 pub mod Report
+pub mod Stages

@@ -15,6 +15,6 @@
 pub mod laws;
 mod stages;
 
-pub use bag_facts::{Depth, Facts, Manifest, Options, TagFacts};
+pub use bag_facts::{Depth, Facts, FetchList, Manifest, Metadata, Options, TagFacts};
 pub use bag_fault::{CursorFault, Fault, field_pieces};
 pub use stages::stage_faults;

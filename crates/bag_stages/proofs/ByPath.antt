@@ -1,15 +1,16 @@
 -- Faults that are found item by item, of items in the order of their paths.
-use Rattle.std.proofs.Common.{◌≡◌, ◌<◌, ◌≤◌, zero, suc, inl, inr, ◌+◌, ◌++◌, ◌∷◌, ℕ, List, [], length, take, get_or, map, Option, refl, sym, ap, ◌∙◌, subst, arith, Contains}
+use Rattle.std.proofs.Common.{◌≡◌, ◌<◌, ◌≤◌, zero, suc, ◌+◌, ◌++◌, ◌∷◌, ℕ, List, [], length, take, get_or, map, Option, refl, sym, ap, ◌∙◌, subst, arith, Contains}
 use Rattle.std.specs.Option.{option_to_list}
 use Rattle.std.specs.List.Sorted.{IsStrictlySortedBy}
 use Rattle.std.specs.declared.cmp.Ordering.TheVariants.{Less}
-use Rattle.std.proofs.lemmas.List.{map-append}
+use Rattle.std.proofs.Math.ListN.{get_or-map}
+use Rattle.std.proofs.lemmas.List.{length-map, take-map}
 use Rattle.bag_text.specs.Text.{text_cmp}
 use Rattle.bag_text.specs.Order.{IsListOf, IsOnly}
-use Rattle.bag_text.proofs.ListOf.{contains_cases, contains_first, contains_nothing, contains_front, contains_back, contains_either, joined, member_has, only_listed, same_members}
+use Rattle.bag_text.proofs.ListOf.{only_listed, same_members}
 use Rattle.bag_fault.specs.declared.fault.Fault.{Fault}
 use Rattle.bag_fault.specs.FaultOrder.{fault_cmp}
-use Rattle.bag_facts.proofs.Mapped.{mapped_contains, take_one_more}
+use Rattle.bag_stages.proofs.ByItem
 
 pub take_whole : {I : Type 0} (items : List I) (i : ℕ) → length items ≤ i → take i items ≡ items
 take_whole [] zero le = refl
@@ -26,38 +27,29 @@ module _ {I : Type 0} (path_of : I → List ℕ) (file_of : Fault → List ℕ) 
   abbrev At : List ℕ → Fault → Type 0
   At path f = (file_of f ≡ path) × IsFound f
 
-  -- the paths of the first items are less than the next one's
-  before_next : (items : List I) (i : ℕ) (item : I) (path : List ℕ) → IsStrictlySortedBy text_cmp (map path_of items) → i < length items → item ≡ get_or items i item
-      → Contains (map path_of (take i items)) path → text_cmp path (path_of item) ≡ Less
-  unfolding IsStrictlySortedBy
-  before_next [] i item path s lt e c = absurd (omega arith)
-  before_next (x ∷ items) zero item path s lt e c = absurd (contains_nothing path c)
-  before_next (x ∷ items) (suc i) item path s lt e c = elim (contains_cases (path_of x) (map path_of (take i items)) path c) [
-    | inl is ↦ (let here : Contains items item = (i, omega arith, sym e) in
-        subst (λ p. text_cmp p (path_of item) ≡ Less) is (member_has _ (map path_of items) (path_of item) s.0 (mapped_contains path_of items item here)))
-    | inr d ↦ before_next items i item path s.1 (omega arith) e d
-  ]
+  to_some : (paths : List (List ℕ)) (f : Fault) → Among paths f → ByItem.OfSome At paths f
+  to_some paths f h = (file_of f, h.0, (refl, h.1))
+
+  from_some : (paths : List (List ℕ)) (f : Fault) → ByItem.OfSome At paths f → Among paths f
+  from_some paths f (path, c, (at, is)) = (subst (Contains paths) (sym at) c, is)
+
+  less_at : (a b : List ℕ) (x y : Fault) → At a x → At b y → text_cmp a b ≡ Less → fault_cmp x y ≡ Less
+  less_at a b x y h k before = less x y h.1 k.1 (rw (h.0, k.0) before)
 
   -- the faults of the first items, and those of the next
   pub one_item_more : (items : List I) (i : ℕ) (item : I) (faults of_item : List Fault) → IsStrictlySortedBy text_cmp (map path_of items)
       → i < length items → item ≡ get_or items i item → IsListOf fault_cmp (Among (map path_of (take i items))) faults
       → IsListOf fault_cmp (At (path_of item)) of_item → IsListOf fault_cmp (Among (map path_of (take (i + 1) items))) (faults ++ of_item)
   one_item_more items i item faults of_item s lt e list of_next =
-      let before : List (List ℕ) = map path_of (take i items) in
-      let path : List ℕ = path_of item in
-      let paths : map path_of (take (i + 1) items) ≡ before ++ path ∷ [] = ap (map path_of) (take_one_more items i item lt e) ∙ map-append path_of (take i items) (item ∷ []) in
-      subst (λ ps. IsListOf fault_cmp (Among ps) (faults ++ of_item)) (sym paths)
-      (same_members fault_cmp _ _ (faults ++ of_item)
-      (λ f h. elim h [
-        | inl a ↦ (contains_front before (path ∷ []) (file_of f) a.0, a.1)
-        | inr b ↦ (subst (Contains (before ++ path ∷ [])) (sym b.0) (contains_back before (path ∷ []) path (contains_first path [])), b.1)
-      ])
-      (λ f h. elim (contains_either before (path ∷ []) (file_of f) h.0) [
-        | inl a ↦ inl (a, h.1)
-        | inr b ↦ elim (contains_cases path [] (file_of f) b) [ inl same ↦ inr (sym same, h.1) | inr none ↦ absurd (contains_nothing (file_of f) none) ]
-      ])
-      (joined fault_cmp (Among before) (At path) faults of_item list of_next
-      (λ x y a b. less x y a.1 b.1 (subst (λ p. text_cmp (file_of x) p ≡ Less) (sym b.0) (before_next items i item (file_of x) s lt e a.0)))))
+      let first : List (List ℕ) = map path_of (take i items) in
+      let within : i < length (map path_of items) = rw (length-map items path_of) lt in
+      let at : path_of item ≡ get_or (map path_of items) i (path_of item) = ap path_of e ∙ sym (get_or-map path_of items i item) in
+      let before : IsListOf fault_cmp (ByItem.OfSome At (take i (map path_of items))) faults =
+      rw (take-map path_of i items) (same_members fault_cmp (Among first) _ faults (to_some first) (from_some first) list) in
+      let now : List (List ℕ) = take (i + 1) (map path_of items) in
+      rw (sym (take-map path_of (i + 1) items))
+      (same_members fault_cmp _ (Among now) (faults ++ of_item) (from_some now) (to_some now)
+      (ByItem.one_item_more text_cmp At less_at (map path_of items) i (path_of item) faults of_item s within at before of_next))
 
   -- or the one fault of the next, if it has one
   pub one_fault_more : (items : List I) (i : ℕ) (item : I) (faults : List Fault) (o : Option Fault) → IsStrictlySortedBy text_cmp (map path_of items)

@@ -32,6 +32,19 @@ less_by_path x y same less =
     ap (λ o. ordering_then (ordering_then (ordering_then (ordering_then (ordering_then o paths) algs) lines) numbers) details) stages
     ∙ ap (λ o. ordering_then (ordering_then (ordering_then (ordering_then o algs) lines) numbers) details) less
 
+-- those of one file by their algorithms
+pub less_by_alg : (x y : Fault) → stage x.code ≡ stage y.code → x.path ≡ y.path → nat_cmp (rank_or_zero x.alg) (rank_or_zero y.alg) ≡ Less → fault_cmp x y ≡ Less
+less_by_alg x y same at less =
+    let algs : Ordering = nat_cmp (rank_or_zero x.alg) (rank_or_zero y.alg) in
+    let lines : Ordering = nat_cmp x.line y.line in
+    let numbers : Ordering = nat_cmp (number x.code) (number y.code) in
+    let details : Ordering = text_cmp x.detail y.detail in
+    let stages : nat_cmp (stage x.code) (stage y.code) ≡ Equal = subst (λ n. nat_cmp (stage x.code) n ≡ Equal) same (self_ties nat_cmp_total (stage x.code)) in
+    let paths : text_cmp x.path y.path ≡ Equal = subst (λ p. text_cmp x.path p ≡ Equal) at (self_ties nat_list_cmp_total x.path) in
+    ap (λ o. ordering_then (ordering_then (ordering_then (ordering_then (ordering_then o (text_cmp x.path y.path)) algs) lines) numbers) details) stages
+    ∙ ap (λ o. ordering_then (ordering_then (ordering_then (ordering_then o algs) lines) numbers) details) paths
+    ∙ ap (λ o. ordering_then (ordering_then (ordering_then o lines) numbers) details) less
+
 module _ (path : List ℕ) (alg : Option Alg) where
   -- faults of one stage in one file are ordered as its lines
   pub less_in_file : (x y : LineFault) → stage x.code ≡ stage y.code → line_fault_cmp x y ≡ Less → fault_cmp (in_file path alg x) (in_file path alg y) ≡ Less

@@ -37,7 +37,7 @@ use Rattle.bag_facts.specs.TagReader.{AreListed}
 use Rattle.bag_facts.specs.Wanted.{paths_of}
 use Rattle.bag_facts.specs.declared.facts.Facts.{Facts}
 use Rattle.bag_facts.specs.declared.options.Depth.TheVariants.{Declaration}
-use Rattle.bag_facts.specs.declared.tag_facts.Manifest.{Manifest}
+use Rattle.bag_facts.specs.declared.manifest.Manifest.{Manifest}
 use Rattle.bag_facts.specs.declared.tag_facts.TagFacts.{TagFacts}
 use Rattle.bag_facts.specs.declared.tag_facts.TagFacts.TheVariants as facts
 use Rattle.bag_facts.proofs.ListedFiles.{file_listed, listed_file}
@@ -60,12 +60,12 @@ less_unnamed path alg entries x y a b less =
 -- a manifest names the paths of its entries
 module _ (bag : Bag) (kind : Kind) (alg : Alg) (bytes : List ℕ) (entries : List ManifestEntry) (there : file bag (manifest_of kind alg) ≡ Some bytes)
     (list : IsListOf (on (λ e. e.path) text_cmp) (IsEntry kind alg (lines_of_file bytes)) entries) where
-  names_entry : (path : List ℕ) → Names bag kind alg path → Contains (entry_paths entries) path
+  pub names_entry : (path : List ℕ) → Names bag kind alg path → Contains (entry_paths entries) path
   names_entry path named =
       let some = named_has_entry kind alg (lines_of_file bytes) path (rw there at named) in
       subst (Contains (entry_paths entries)) some.2 (mapped_contains (λ (e : ManifestEntry). e.path) entries some.0 ((list.members some.0).1 some.1))
 
-  entry_names : (path : List ℕ) → Contains (entry_paths entries) path → Names bag kind alg path
+  pub entry_names : (path : List ℕ) → Contains (entry_paths entries) path → Names bag kind alg path
   entry_names path c =
       let some = contains_mapped (λ (e : ManifestEntry). e.path) entries path c in
       rw (there, sym some.2) (entry_named kind alg (lines_of_file bytes) some.0 ((list.members some.0).0 some.1))
@@ -286,8 +286,8 @@ module _ (bag : Bag) where
   -- any other has none
   pub no_manifest_listed : (tag : TagFacts) → ((m : Manifest) → tag ≢ facts.Manifest m) → IsListOf fault_cmp (λ f. IsOfTag bag f (name_of tag)) []
   no_manifest_listed (facts.Declaration d) other = nothing_listed fault_cmp _ (λ f h. h)
-  no_manifest_listed (facts.Info b) other = nothing_listed fault_cmp _ (λ f h. h)
-  no_manifest_listed (facts.Fetch b) other = nothing_listed fault_cmp _ (λ f h. h)
+  no_manifest_listed (facts.Info metadata) other = nothing_listed fault_cmp _ (λ f h. h)
+  no_manifest_listed (facts.Fetch list) other = nothing_listed fault_cmp _ (λ f h. h)
   no_manifest_listed (facts.Manifest m) other = absurd (other m refl)
 
   -- which are all that facts read for more than the declaration know

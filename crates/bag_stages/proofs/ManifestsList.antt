@@ -10,8 +10,8 @@ use Rattle.std.proofs.lemmas.Map.Views.{Contains-from_any, list_any-from_Contain
 use Rattle.bag_text.specs.Lines.{lines_of_file}
 use Rattle.bag_text.specs.Text.{text_cmp}
 use Rattle.bag_text.specs.declared.alg.Alg.{Alg}
-use Rattle.bag_tags.specs.Judged.{judged_and_marked, fault_of, not_utf8}
-use Rattle.bag_line.specs.LineFault.{AreFaults}
+use Rattle.bag_tags.specs.Judged.{judged_and_marked, fault_of}
+use Rattle.bag_line.specs.LineFault.{AreFaults, not_utf8}
 use Rattle.bag_tags.specs.Manifest.{IsManifestFault}
 use Rattle.bag_tags.specs.ManifestName.{manifest_name}
 use Rattle.bag_line.specs.declared.fault.LineFault.{LineFault}
@@ -36,7 +36,7 @@ missing_by : (paths : List (List ℕ)) (path : List ℕ) (b : Bool) → list_any
 missing_by paths path true e = inr (λ no. no (Contains-from_any one_text path paths e))
 missing_by paths path false e = inl (λ c. let clash : false ≡ true = sym e ∙ list_any-from_Contains (eq_by_cmp_equiv nat_list_cmp_total) path paths c in cc)
 
-missing_or_not : (paths : List (List ℕ)) (path : List ℕ) → Decided (¬ (Contains paths path))
+pub missing_or_not : (paths : List (List ℕ)) (path : List ℕ) → Decided (¬ (Contains paths path))
 missing_or_not paths path = missing_by paths path (list_any (eq_by_cmp text_cmp path) paths) refl
 
 -- the faults of the lines of any bytes

@@ -274,14 +274,14 @@ tags_known bag all h deep = record {
 -- what is known of the tag files tells which of them isn't UTF-8
 textless : (bag : Bag) (tag : TagFacts) (bytes : List ℕ) → Says bytes tag → text_test tag ≡ Some false → (name_of tag ≢ tag_name.Declaration) × (is_utf8 bytes ≡ false)
 textless bag (facts.Declaration d) bytes says e = cc
-textless bag (facts.Info b) bytes says e = ((λ same. cc), (let no : b ≡ false = cc in sym says ∙ no))
-textless bag (facts.Fetch b) bytes says e = ((λ same. cc), (let no : b ≡ false = cc in sym says ∙ no))
+textless bag (facts.Info metadata) bytes says e = ((λ same. cc), (let no : metadata.is_text ≡ false = cc in sym says.text ∙ no))
+textless bag (facts.Fetch list) bytes says e = ((λ same. cc), (let no : list.is_text ≡ false = cc in sym says.text ∙ no))
 textless bag (facts.Manifest m) bytes says e = ((λ same. cc), (let no : m.is_text ≡ false = cc in sym says.text ∙ no))
 
 tells_textless : (bag : Bag) (tag : TagFacts) (bytes : List ℕ) → Says bytes tag → name_of tag ≢ tag_name.Declaration → is_utf8 bytes ≡ false → text_test tag ≡ Some false
 tells_textless bag (facts.Declaration d) bytes says other e = absurd (other refl)
-tells_textless bag (facts.Info b) bytes says other e = ap Some (says ∙ e)
-tells_textless bag (facts.Fetch b) bytes says other e = ap Some (says ∙ e)
+tells_textless bag (facts.Info metadata) bytes says other e = ap Some (says.text ∙ e)
+tells_textless bag (facts.Fetch list) bytes says other e = ap Some (says.text ∙ e)
 tells_textless bag (facts.Manifest m) bytes says other e = ap Some (says.text ∙ e)
 
 pub textless_known : (bag : Bag) (tags : List TagFacts) (tag : TagName) (path : List ℕ) → AreTagsOf bag tags → tag_path tag ≡ path → HasTextless tags tag ↔ HasNoText bag path

@@ -1,8 +1,15 @@
 pub mod DeclarationStage
+pub mod FetchFaults
+pub mod FetchStage
 pub mod FileFaults
 pub mod ManifestFaults
 pub mod ManifestsStage
+pub mod Metadata
+pub mod MetadataStage
+pub mod OxumFaults
 pub mod PartsStage
+pub mod Payload
+pub mod PayloadSize
 pub mod FaultFields
 pub mod HasList
 pub mod TagFiles

@@ -7,16 +7,23 @@
 //! }
 //! ```
 //!
-//! Of RFC 8493 it keeps the declaration (2.1.1), the parts of a bag (2.1, 2.3 and 2.4), and manifests whose lines are right
-//! (2.1.3, 2.2.1). A module finds the faults of one stage, and the page of `specs` with its name says what they are.
+//! Of RFC 8493 it keeps the declaration (2.1.1), the parts of a bag (2.1, 2.3 and 2.4), the metadata and the payload's
+//! size in it (2.2.2), the list of files to fetch (2.2.3), and manifests whose lines are right (2.1.3, 2.2.1). A module
+//! finds the faults of one stage, and the page of `specs` with its name says what they are.
 #![tactic(auto)]
 
 mod declaration;
+mod fetch;
 pub mod laws;
 mod manifests;
+mod metadata;
+mod oxum_faults;
 mod parts;
+mod payload_size;
 mod tag_file;
 
 pub use declaration::declaration_faults;
+pub use fetch::fetch_faults;
 pub use manifests::manifest_faults;
+pub use metadata::metadata_faults;
 pub use parts::parts_faults;

@@ -1,5 +1,5 @@
 //! Stage 5: manifests.
-ghost use Rattle.std.specs.Prelude.{◌≡◌, ◌≢◌, [], IfOk, Some, map, if◌then◌else◌};
+ghost use Rattle.std.specs.Prelude.{◌≡◌, ◌≢◌, IfOk};
 ghost use Rattle.std.specs.List.Sorted.{IsStrictlySortedBy};
 ghost use Rattle.bag_text.specs.Order.{IsListOf, IsOnly};
 ghost use Rattle.bag_text.specs.Text.{text_cmp};
@@ -13,9 +13,8 @@ ghost use Rattle.bag_facts.specs.declared.options.Depth.TheVariants.{Declaration
 ghost use Rattle.bag_facts.specs.declared.tag_facts.TagFacts.TheVariants as known;
 ghost use Rattle.bag_stages.specs.ManifestFaults.{unnamed, IsUnnamedFault, IsUnnamedAmong, IsOfManifest};
 ghost use Rattle.bag_stages.specs.ManifestsStage.{IsOfManifests};
-ghost use Rattle.bag_stages.specs.FaultFields.{in_file};
 
-use crate::tag_file::faults_in_file;
+use crate::tag_file::line_faults;
 use bag_facts::{Facts, Manifest, TagFacts};
 use bag_fault::Fault;
 use bag_tags::{Kind, TagName, manifest_alg};
@@ -50,7 +49,13 @@ fn faults_of(
         → IsSaid bag (known.Manifest manifest.now) → IsListOf fault_cmp (IsOfManifest bag manifest.now.kind manifest.now.alg) faults.items) }
 {
     let path = TagName::Manifest(manifest.kind, manifest.alg).path(alloc)?;
-    let mut of_lines = line_faults(alloc, &path, manifest)?;
+    let mut of_lines = line_faults(
+        alloc,
+        &path,
+        Some(manifest.alg),
+        manifest.is_text,
+        manifest.faults.as_slice(),
+    )?;
     match manifest.kind {
         Kind::Payload => Ok(of_lines),
         Kind::Tag => {
@@ -59,17 +64,6 @@ fn faults_of(
             Ok(faults)
         }
     }
-}
-
-/// The faults of a manifest's lines. One that isn't UTF-8 has no lines.
-fn line_faults(alloc: Global, path: &Text, manifest: &Manifest) -> Result<Vec<Fault>, AllocError>
-    ensures { IfOk result (λ faults. faults.items ≡
-        (if manifest.now.is_text then map (in_file path.now (Some manifest.now.alg)) manifest.now.faults else [])) }
-{
-    if !manifest.is_text {
-        return Ok(Vec::new(alloc));
-    }
-    faults_in_file(alloc, path, Some(manifest.alg), manifest.faults.as_slice())
 }
 
 /// The listed payload manifests that a tag manifest doesn't name, each of any algorithm.

@@ -1,5 +1,5 @@
 //! Faults of one tag file: of its lines, and of it as a whole.
-ghost use Rattle.std.specs.Prelude.{◌≡◌, IfOk, map};
+ghost use Rattle.std.specs.Prelude.{◌≡◌, [], IfOk, map, if◌then◌else◌};
 ghost use Rattle.bag_stages.specs.FaultFields.{in_file, of_whole};
 
 use bag_fault::Fault;
@@ -21,6 +21,22 @@ pub(crate) fn faults_in_file(
         all.push(fault_in_file(alloc, path, alg, fault)?)?;
     }
     Ok(all)
+}
+
+/// The faults of the lines of a tag file, which has none where it isn't UTF-8.
+pub(crate) fn line_faults(
+    alloc: Global,
+    path: &Text,
+    alg: Option<Alg>,
+    is_text: bool,
+    faults: &[LineFault],
+) -> Result<Vec<Fault>, AllocError>
+    ensures { IfOk result (λ all. all.items ≡ (if is_text then map (in_file path.now alg) faults.now else [])) }
+{
+    if !is_text {
+        return Ok(Vec::new(alloc));
+    }
+    faults_in_file(alloc, path, alg, faults)
 }
 
 /// A fault of a tag file's line as a fault of the bag.

@@ -11,3 +11,4 @@ pub use Rattle.bag_tree.specs.Out
 pub use Rattle.bag_disk.specs.SystemDisk
 pub use Rattle.bag_tree.specs.Tree
 pub use Rattle.bag_tree.specs.Whole
+pub use Rattle.bag_disk.specs.WritableDisk

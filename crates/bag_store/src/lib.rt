@@ -15,7 +15,7 @@
 
 pub mod laws;
 
-pub use bag_disk::{Disk, DiskFault, Entry, FileTree, SystemDisk};
+pub use bag_disk::{Disk, DiskFault, Entry, FileTree, SystemDisk, WritableDisk};
 pub use bag_memory::MemoryTree;
 pub use bag_tree::{
     FileEntry, Listing, Out, Refused, Stop, Tree, TreeFault, WriterOut, read_whole,

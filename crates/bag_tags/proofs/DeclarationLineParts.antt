@@ -3,31 +3,25 @@ use Rattle.std.proofs.Common.{◌≡◌, ◌≢◌, ℕ, suc, ◌+◌, Bool, tru
 use Rattle.std.specs.Prelude.{IsTrue, option_and_then}
 use Rattle.std.specs.Char.{is_ascii_digit}
 use Rattle.std.specs.List.{list_all, prefix_len, starts_with, before_first, after_first}
-use Rattle.std.specs.Str.{byte, all_ascii_digits}
+use Rattle.std.specs.Str.{byte}
 use Rattle.std.proofs.lemmas.Bool.Decides.{nat_tests}
 use Rattle.bag_text.specs.Number.{is_digits}
 use Rattle.bag_text.specs.Text.{after_prefix, is_blank}
 use Rattle.bag_tags.specs.Declaration.{when, is_version, is_encoding}
-use Rattle.bag_tags.specs.DeclarationLine.{AreDigits, VersionLinesReadAsTheirParts, EncodingLinesReadAsTheirParts}
+use Rattle.bag_line.specs.LineParts.{AreDigits}
+use Rattle.bag_line.proofs.AreDigits.{are_digits, digits_are}
+use Rattle.bag_tags.specs.DeclarationLine.{VersionLinesReadAsTheirParts, EncodingLinesReadAsTheirParts}
 use Rattle.bag_line.proofs.Fronts.{drop_front, take_front, front_len}
-use Rattle.bag_tags.proofs.ManifestLineParts.{not_empty, empty_test, not_true}
+use Rattle.bag_line.proofs.LineParts.{not_empty, empty_test, not_true}
 use Rattle.bag_tags.proofs.ManifestName.{after_is}
 use Rattle.bag_line.proofs.PickedOut.{both_true}
-use Rattle.bag_line.proofs.Texts.{all_digits, prefix_test}
+use Rattle.bag_line.proofs.Texts.{prefix_test}
 
 abbrev is_dot : ℕ → Bool
 is_dot c = c == byte "."
 
 abbrev no_dot : ℕ → Bool
 no_dot c = not (is_dot c)
-
-are_digits : (t : List ℕ) → is_digits t ≡ true → AreDigits t
-are_digits t e =
-    let two = both_true (not (bytes_eq t [])) (all_ascii_digits t) e in
-    (not_empty t (not_true _ two.0), sym (all_digits t) ∙ two.1)
-
-digits_are : (t : List ℕ) → AreDigits t → is_digits t ≡ true
-digits_are t (some, digits) = rw (empty_test t some, all_digits t) digits
 
 digit_no_dot : (c : ℕ) → is_ascii_digit c ≡ true → no_dot c ≡ true
 digit_no_dot c e = grind (arith, nat_tests)

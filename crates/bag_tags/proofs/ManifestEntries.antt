@@ -12,9 +12,10 @@ use Rattle.bag_text.specs.declared.alg.Alg.{Alg}
 use Rattle.bag_text.proofs.ListOf.{contains_cases, contains_nothing}
 use Rattle.bag_tags.specs.declared.kind.Kind.{Kind}
 use Rattle.bag_tags.specs.declared.manifest.ManifestEntry.{ManifestEntry}
-use Rattle.bag_tags.specs.Manifest.{Reason, Reads, IsEntry, named, named_before, manifest_line}
+use Rattle.bag_line.specs.Reason.{Reason}
+use Rattle.bag_tags.specs.Manifest.{Reads, IsEntry, named, named_before, manifest_line}
 use Rattle.bag_line.proofs.PickedOut.{is_picked}
-use Rattle.bag_tags.proofs.JudgedLines.{path_of, path_of_reads, reads_path, earlier_named}
+use Rattle.bag_tags.proofs.ManifestJudged.{path_of, path_of_reads, reads_path, earlier_named}
 
 -- the first element of which a function picks out a text
 module _ {A : Type 0} (f : A → Option (List ℕ)) where

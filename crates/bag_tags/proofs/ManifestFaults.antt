@@ -1,11 +1,11 @@
 -- The entries and the faults of a manifest.
-use Rattle.std.proofs.Common.{◌≡◌, ℕ, ◌-◌, ◌⊎◌, inl, inr, Bool, true, false, ◌&&◌, cond, List, [], ◌∷◌, map, refl, ap, sym, ◌∙◌, subst, Option, Some, None, arith}
+use Rattle.std.proofs.Common.{◌≡◌, ℕ, ◌⊎◌, inl, inr, Bool, true, false, ◌&&◌, cond, List, [], ◌∷◌, map, refl, ap, sym, ◌∙◌, subst, Option, Some, arith}
 use Rattle.std.specs.Prelude.{Contains, filter_map}
-use Rattle.std.specs.List.{list_any, slice_get, cons_option}
+use Rattle.std.specs.List.{list_any, cons_option}
 use Rattle.std.specs.declared.cmp.Ordering.TheVariants.{Less}
 use Rattle.std.specs.Ordering.{nat_cmp, on}
-use Rattle.bag_text.specs.Lines.{IsLine, lines_of_file, lines_of_text}
-use Rattle.bag_text.specs.Text.{IsText, IsNoText, without_mark}
+use Rattle.bag_text.specs.Lines.{IsLine, lines_of_file}
+use Rattle.bag_text.specs.Text.{IsText, IsNoText}
 use Rattle.bag_text.specs.Order.{IsListOf}
 use Rattle.bag_text.specs.declared.alg.Alg.{Alg}
 use Rattle.bag_text.specs.declared.code.Code.{Code}
@@ -15,18 +15,18 @@ use Rattle.bag_tags.specs.declared.kind.Kind.{Kind}
 use Rattle.bag_line.specs.declared.fault.LineFault.{LineFault}
 use Rattle.bag_tags.specs.declared.manifest.ManifestEntry.{ManifestEntry}
 use Rattle.bag_tags.specs.declared.manifest_line.Judged.{Judged}
-use Rattle.bag_line.specs.LineFault.{line_fault}
 use Rattle.bag_tags.specs.declared.manifest_line.Verdict.{Verdict}
 use Rattle.bag_tags.specs.declared.manifest_line.Verdict.TheVariants.{Entry, Fault}
-use Rattle.bag_tags.specs.Judged.{is_entry_verdict, names_path, text, text_in, repeated, as_repeat, is_repeat, marked_if_repeat, judged_and_marked, entry_in, fault_in, entry_of, fault_of, not_utf8}
-use Rattle.bag_line.specs.LineFault.{AreFaults, line_fault_cmp}
+use Rattle.bag_tags.specs.Judged.{is_entry_verdict, names_path, text, text_in, repeated, as_repeat, is_repeat, marked_if_repeat, judged_and_marked, entry_in, fault_in, entry_of, fault_of}
+use Rattle.bag_line.specs.LineFault.{AreFaults, line_fault, line_fault_cmp, not_utf8}
 use Rattle.bag_tags.specs.Manifest.{HasReason, named_before, IsEntry, IsManifestFault, ManifestFault}
 use Rattle.bag_tags.specs.Repeats.{line_cmp}
-use Rattle.bag_line.proofs.FaultOrder.{is_fault, line_below}
+use Rattle.bag_line.proofs.FaultOrder.{is_fault, line_below, lower}
 use Rattle.bag_line.proofs.PickedOut.{picked, is_picked, ascending_picked, both_true}
-use Rattle.bag_tags.proofs.SortedPlaces.{names_before, lower}
+use Rattle.bag_line.proofs.Utf8.{no_line}
+use Rattle.bag_tags.proofs.RepeatsPlaces.{names_before}
 use Rattle.bag_tags.proofs.ManifestLine.{IsReasonCode, reason_code}
-use Rattle.bag_tags.proofs.JudgedLines.{digest_in, js, judged_ascend, judged_is, is_judged, judged_reads, judged_reason, reads_judged, reason_judged, repeat_named, named_repeat}
+use Rattle.bag_tags.proofs.ManifestJudged.{digest_in, js, judged_ascend, judged_is, is_judged, judged_reads, judged_reason, reads_judged, reason_judged, repeat_named, named_repeat}
 
 -- what is picked out of a list that a function changed
 picked_map : {A B C : Type 0} (f : B → Option C) (g : A → B) (xs : List A) → filter_map f (map g xs) ≡ filter_map (λ x. f (g x)) xs
@@ -178,17 +178,14 @@ module _ (kind : Kind) (alg : Alg) (bytes : List ℕ) (is_utf8 : IsText bytes) w
   })
 
 module _ (kind : Kind) (alg : Alg) (bytes : List ℕ) (other : IsNoText bytes) where
-  no_line : (k : ℕ) (line : List ℕ) → IsLine (lines_of_file bytes) k line → ⊥
-  no_line k line (some, e) = let clash : None ≡ Some line = sym (ap (λ b. slice_get (lines_of_text (cond b (Some (without_mark bytes)) None)) (k - 1)) other) ∙ e in cc
-
   -- a file that isn't UTF-8 has no entry and one fault
   pub entries_of_no_text : IsListOf (on (λ e. e.line) nat_cmp) (IsEntry kind alg (lines_of_file bytes)) []
-  entries_of_no_text = nothing_listed (on (λ e. e.line) nat_cmp) (IsEntry kind alg (lines_of_file bytes)) (λ e h. no_line e.line h.0 h.1)
+  entries_of_no_text = nothing_listed (on (λ e. e.line) nat_cmp) (IsEntry kind alg (lines_of_file bytes)) (λ e h. no_line bytes other e.line h.0 h.1)
 
   only_code : (code : Code) (f : LineFault) → f.code ≡ code → ManifestFault code kind alg bytes f → f ≡ not_utf8
   only_code NotUtf8 f e h = is_fault f 0 NotUtf8 [] h.0 e h.1
-  only_code NamedAgain f e h = absurd (no_line f.line h.0 h.2)
-  only_code code f e h = absurd (no_line f.line h.0 h.1)
+  only_code NamedAgain f e h = absurd (no_line bytes other f.line h.0 h.2)
+  only_code code f e h = absurd (no_line bytes other f.line h.0 h.1)
 
   pub faults_of_no_text : AreFaults (IsManifestFault kind alg bytes) (not_utf8 ∷ [])
   faults_of_no_text = one_listed line_fault_cmp (IsManifestFault kind alg bytes) not_utf8 (refl, refl, other) (λ f h. only_code f.code f refl h)

@@ -1,5 +1,5 @@
 -- One line of a manifest.
-use Rattle.std.proofs.Common.{◌≡◌, ℕ, Bool, true, false, not, ◌||◌, ◌==◌, cond, [], length, bytes_eq, List, subst, refl, Option, Some, None, Result, Ok, Err}
+use Rattle.std.proofs.Common.{◌≡◌, ℕ, not, ◌||◌, ◌==◌, [], length, bytes_eq, List, subst, refl, Option, Some, None, Ok, Err}
 use Rattle.bag_text.specs.Text.{before_blank, after_blanks}
 use Rattle.std.specs.Char.{is_ascii_hexdigit}
 use Rattle.std.specs.List.{list_all}
@@ -14,7 +14,9 @@ use Rattle.bag_tags.specs.ManifestName.{is_manifest_name}
 use Rattle.bag_tags.specs.declared.kind.Kind.{Kind}
 use Rattle.bag_tags.specs.declared.kind.Kind.TheVariants.{Payload, Tag}
 use Rattle.bag_tags.specs.Judged.{verdict_of, verdict_by_spelling}
-use Rattle.bag_tags.specs.Manifest.{Reason, ◌>>=◌, digest_of, decoded_or, spelled_path, placed, named_path, checked_digest, without_marks, manifest_line}
+use Rattle.bag_line.specs.Reason.{Reason}
+use Rattle.bag_line.proofs.Reason.{IsReasonOf, then_reason, chosen}
+use Rattle.bag_tags.specs.Manifest.{digest_of, decoded_or, spelled_path, placed, named_path, checked_digest, without_marks, manifest_line}
 
 pub line_of_bad_digest : (kind : Kind) (alg : Alg) (line : List ℕ) (reason : Reason) → checked_digest alg (before_blank line) (after_blanks line) ≡ Err reason → manifest_line kind alg line ≡ Err reason
 unfolding manifest_line
@@ -35,40 +37,28 @@ IsReasonCode TagmanifestNamesPayload = Unit {0}
 IsReasonCode TagmanifestNamesTagmanifest = Unit {0}
 IsReasonCode other = ⊥
 
-abbrev IsReasonOf : {A : Type 0} → Result A Reason → Type 0
-IsReasonOf (Ok x) = Unit {0}
-IsReasonOf (Err reason) = IsReasonCode reason.0
-
-then_reason : {A B : Type 0} (r : Result A Reason) (f : A → Result B Reason) → IsReasonOf r → ((x : A) → IsReasonOf (f x)) → IsReasonOf (r >>= f)
-then_reason (Ok x) f h k = k x
-then_reason (Err reason) f h k = h
-
-chosen : {A : Type 0} (b : Bool) (r s : Result A Reason) → IsReasonOf r → IsReasonOf s → IsReasonOf (cond b r s)
-chosen true r s h k = h
-chosen false r s h k = k
-
-decoded_reason : (o : Option (List ℕ)) (spelling : List ℕ) → IsReasonOf (decoded_or o spelling)
+decoded_reason : (o : Option (List ℕ)) (spelling : List ℕ) → IsReasonOf IsReasonCode (decoded_or o spelling)
 decoded_reason None spelling = tt
 decoded_reason (Some path) spelling = tt
 
-placed_reason : (kind : Kind) (path : List ℕ) → IsReasonOf (placed kind path)
-placed_reason Payload path = chosen (is_payload_path path) (Ok path) (Err (ManifestOutsidePayload, path)) tt tt
+placed_reason : (kind : Kind) (path : List ℕ) → IsReasonOf IsReasonCode (placed kind path)
+placed_reason Payload path = chosen IsReasonCode (is_payload_path path) (Ok path) (Err (ManifestOutsidePayload, path)) tt tt
 placed_reason Tag path =
-    chosen (is_payload_path path) (Err (TagmanifestNamesPayload, path)) _ tt
-    (chosen (is_manifest_name Tag path) (Err (TagmanifestNamesTagmanifest, path)) (Ok path) tt tt)
+    chosen IsReasonCode (is_payload_path path) (Err (TagmanifestNamesPayload, path)) _ tt
+    (chosen IsReasonCode (is_manifest_name Tag path) (Err (TagmanifestNamesTagmanifest, path)) (Ok path) tt tt)
 
-digest_reason : (alg : Alg) (digest rest : List ℕ) → IsReasonOf (checked_digest alg digest rest)
+digest_reason : (alg : Alg) (digest rest : List ℕ) → IsReasonOf IsReasonCode (checked_digest alg digest rest)
 digest_reason alg digest rest =
-    chosen (bytes_eq digest [] || not (list_all is_ascii_hexdigit digest) || bytes_eq rest []) (Err (ManifestLine, [])) _ tt
-    (chosen (not (length digest == hex_len alg)) (Err (DigestLength, digest)) (Ok (str_to_ascii_lowercase digest)) tt tt)
+    chosen IsReasonCode (bytes_eq digest [] || not (list_all is_ascii_hexdigit digest) || bytes_eq rest []) (Err (ManifestLine, [])) _ tt
+    (chosen IsReasonCode (not (length digest == hex_len alg)) (Err (DigestLength, digest)) (Ok (str_to_ascii_lowercase digest)) tt tt)
 
-line_reason : (kind : Kind) (alg : Alg) (line : List ℕ) → IsReasonOf (manifest_line kind alg line)
+line_reason : (kind : Kind) (alg : Alg) (line : List ℕ) → IsReasonOf IsReasonCode (manifest_line kind alg line)
 unfolding manifest_line
 line_reason kind alg line =
-    then_reason (digest_of alg line) _ (digest_reason alg (before_blank line) (after_blanks line))
-    (λ digest. then_reason (decoded_or (unescaped (spelled_path line)) (spelled_path line)) _ (decoded_reason (unescaped (spelled_path line)) (spelled_path line))
-    (λ path. then_reason (named_path kind path) _ (chosen (is_path path) (placed kind path) (Err (ManifestUnsafePath, path)) (placed_reason kind path) tt)
+    then_reason IsReasonCode (digest_of alg line) _ (digest_reason alg (before_blank line) (after_blanks line))
+    (λ digest. then_reason IsReasonCode (decoded_or (unescaped (spelled_path line)) (spelled_path line)) _ (decoded_reason (unescaped (spelled_path line)) (spelled_path line))
+    (λ path. then_reason IsReasonCode (named_path kind path) _ (chosen IsReasonCode (is_path path) (placed kind path) (Err (ManifestUnsafePath, path)) (placed_reason kind path) tt)
     (λ named. tt)))
 
 pub reason_code : (kind : Kind) (alg : Alg) (line : List ℕ) (reason : Reason) → manifest_line kind alg line ≡ Err reason → IsReasonCode reason.0
-reason_code kind alg line reason e = subst IsReasonOf e (line_reason kind alg line)
+reason_code kind alg line reason e = subst (IsReasonOf IsReasonCode) e (line_reason kind alg line)

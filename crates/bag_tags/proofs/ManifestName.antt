@@ -8,7 +8,8 @@ use Rattle.std.proofs.lemmas.Slice.Eq.{bytes_eq-Decides}
 use Rattle.bag_text.specs.Text.{after_prefix, without_prefix}
 use Rattle.bag_tags.specs.declared.kind.Kind.{Kind}
 use Rattle.bag_tags.specs.ManifestName.{prefix, manifest_name, is_alg_text, is_manifest_name}
-use Rattle.bag_line.proofs.Fronts.{drop_front, take_front}
+use Rattle.bag_line.proofs.Fronts.{take_front}
+use Rattle.bag_line.proofs.LineParts.{without_is}
 use Rattle.bag_line.proofs.PickedOut.{both_true}
 use Rattle.bag_line.proofs.Texts.{prefix_test}
 
@@ -27,9 +28,6 @@ none_test p t rest false e h same = let clash : false ≡ true = sym e ∙ (pref
 
 pub no_prefix : (p t rest : List ℕ) → after_prefix p t ≡ None → t ≢ p ++ rest
 no_prefix p t rest h = none_test p t rest (starts_with nat_eq t p) refl h
-
-pub without_is : (p rest : List ℕ) → without_prefix p (p ++ rest) ≡ rest
-without_is p rest = rw ((prefix_test p (p ++ rest)).1 rest refl) (drop_front p rest)
 
 abbrev pub IsNamed : Kind → List ℕ → List ℕ → Type 0
 IsNamed kind name alg = IsTrue (is_alg_text alg) × (name ≡ manifest_name kind alg)

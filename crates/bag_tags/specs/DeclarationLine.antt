@@ -1,13 +1,9 @@
 -- What the two lines of the declaration are made of (RFC 8493, 2.1.1), and the laws that their definitions keep.
 use Rattle.std.specs.Prelude.{ℕ, ◌≡◌, ◌≢◌, ◌↔◌, ◌++◌, not, List, [], Some, codes, IsTrue}
-use Rattle.std.specs.Char.{is_ascii_digit}
 use Rattle.std.specs.List.{list_all}
 use Rattle.bag_text.specs.Text.{is_blank}
+use Rattle.bag_line.specs.LineParts.{AreDigits}
 use Rattle.bag_tags.specs.Declaration.{version_of, encoding_of}
-
--- one or more ASCII digits
-abbrev pub AreDigits : List ℕ → Type 0
-AreDigits t = (t ≢ []) × IsTrue (list_all is_ascii_digit t)
 
 -- the label, then digits, a dot and digits
 abbrev pub IsVersionLine : List ℕ → List ℕ → Type 0

@@ -5,8 +5,9 @@ use Rattle.std.specs.Option.{option_to_list}
 use Rattle.bag_text.specs.Spelling.{unescaped}
 use Rattle.bag_text.specs.Text.{is_blank_line}
 use Rattle.bag_text.specs.declared.alg.Alg.{Alg}
-use Rattle.bag_text.specs.declared.code.Code.TheVariants.{NamedAgain, NotUtf8}
-use Rattle.bag_tags.specs.Manifest.{Reason, ◌>>=◌, decoded_or, named_path, manifest_line}
+use Rattle.bag_text.specs.declared.code.Code.TheVariants.{NamedAgain}
+use Rattle.bag_line.specs.Reason.{Reason, ◌>>=◌}
+use Rattle.bag_tags.specs.Manifest.{decoded_or, named_path, manifest_line}
 use Rattle.bag_tags.specs.declared.kind.Kind.{Kind}
 use Rattle.bag_line.specs.declared.fault.LineFault.{LineFault}
 use Rattle.bag_tags.specs.declared.manifest.ManifestEntry.{ManifestEntry}
@@ -91,6 +92,3 @@ abbrev pub judged_and_marked : Kind → Alg → List (List ℕ) → List Judged
 judged_and_marked kind alg all =
     let js = judged_all kind alg (enumerate_from 1 all) in
     map (marked_if_repeat js) js
-
-abbrev pub not_utf8 : LineFault
-not_utf8 = record { line = 0; code = NotUtf8; detail = [] }

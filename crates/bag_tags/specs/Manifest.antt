@@ -14,17 +14,9 @@ use Rattle.bag_text.specs.declared.code.Code.TheVariants.{NotUtf8, ManifestLine,
 use Rattle.bag_tags.specs.ManifestName.{is_manifest_name}
 use Rattle.bag_tags.specs.declared.kind.Kind.{Kind}
 use Rattle.bag_tags.specs.declared.kind.Kind.TheVariants.{Payload, Tag}
+use Rattle.bag_line.specs.Reason.{Reason, ◌>>=◌}
 use Rattle.bag_line.specs.declared.fault.LineFault.{LineFault}
 use Rattle.bag_tags.specs.declared.manifest.ManifestEntry.{ManifestEntry}
-
--- why a line doesn't read: a code, and a fault's detail
-abbrev pub Reason : Type 0
-Reason = Code × List ℕ
-
-infixl 10 ◌>>=◌
-abbrev pub ◌>>=◌ : {A B : Type 0} → Result A Reason → (A → Result B Reason) → Result B Reason
-(Ok x) >>= f = f x
-(Err reason) >>= f = Err reason
 
 -- the digest in lower case, where it is hex, has the algorithm's length, and something follows it
 abbrev pub checked_digest : Alg → List ℕ → List ℕ → Result (List ℕ) Reason

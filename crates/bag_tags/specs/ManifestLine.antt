@@ -1,35 +1,19 @@
 -- What a line of a manifest is made of (RFC 8493, 2.1.3 and 2.2.1), and the laws that its definition keeps.
-use Rattle.std.specs.Prelude.{ℕ, ◌≡◌, ◌≢◌, ◌⊎◌, ◌↔◌, ◌++◌, false, List, [], ◌∷◌, length, codes, IsTrue}
+use Rattle.std.specs.Prelude.{ℕ, ◌≡◌, ◌≢◌, ◌⊎◌, ◌↔◌, false, List, length, codes, IsTrue}
 use Rattle.std.specs.Char.{is_ascii_hexdigit}
 use Rattle.std.specs.List.{list_all}
 use Rattle.std.specs.Str.{str_to_ascii_lowercase}
 use Rattle.bag_text.specs.Alg.{hex_len}
 use Rattle.bag_text.specs.Path.{is_path, is_payload_path}
 use Rattle.bag_text.specs.Spelling.{Spells}
-use Rattle.bag_text.specs.Text.{is_blank, is_blank_line}
+use Rattle.bag_text.specs.Text.{is_blank_line}
 use Rattle.bag_text.specs.declared.alg.Alg.{Alg}
-use Rattle.bag_tags.specs.Manifest.{Reason, Reads, HasReason}
+use Rattle.bag_line.specs.LineParts.{IsCut, IsWithout}
+use Rattle.bag_line.specs.Reason.{Reason}
+use Rattle.bag_tags.specs.Manifest.{Reads, HasReason}
 use Rattle.bag_tags.specs.ManifestName.{manifest_name, is_alg_text}
 use Rattle.bag_tags.specs.declared.kind.Kind.{Kind}
 use Rattle.bag_tags.specs.declared.kind.Kind.TheVariants.{Payload, Tag}
-
--- a text that isn't empty and doesn't begin with a blank
-abbrev pub BeginsUnblank : List ℕ → Type 0
-BeginsUnblank t = (c : ℕ) × (more : List ℕ) × (t ≡ c ∷ more) × (is_blank c ≡ false)
-
--- hex digits, one or more blanks, and what follows them
-pub record IsParts (line hex rest : List ℕ) : Type 0 where
-  pub blanks : List ℕ
-  pub line_is : line ≡ hex ++ blanks ++ rest
-  pub some_digit : hex ≢ []
-  pub only_digits : IsTrue (list_all is_ascii_hexdigit hex)
-  pub some_blank : blanks ≢ []
-  pub only_blanks : IsTrue (list_all is_blank blanks)
-  pub begins : BeginsUnblank rest
-
--- the text behind a mark, or the text itself where the mark doesn't stand in front of it
-abbrev pub IsWithout : List ℕ → List ℕ → List ℕ → Type 0
-IsWithout mark text behind = (text ≡ mark ++ behind) ⊎ ((behind ≡ text) × ((more : List ℕ) → text ≢ mark ++ more))
 
 -- how the path is written: behind one *, as md5sum -b has it, and then one ./
 abbrev pub IsSpelling : List ℕ → List ℕ → Type 0
@@ -45,7 +29,8 @@ pub record ReadsAs (kind : Kind) (alg : Alg) (line digest path : List ℕ) : Typ
   pub hex : List ℕ
   pub rest : List ℕ
   pub spelling : List ℕ
-  pub parts : IsParts line hex rest
+  pub parts : IsCut line hex rest
+  pub only_digits : IsTrue (list_all is_ascii_hexdigit hex)
   pub hex_length : length hex ≡ hex_len alg
   pub in_lower_case : digest ≡ str_to_ascii_lowercase hex
   pub written : IsSpelling rest spelling

@@ -1,13 +1,17 @@
 -- Lines of a manifest that name a path again (RFC 8493, 2.1.3).
 use Rattle.std.specs.Prelude.{ℕ, ◌≡◌, ◌+◌, ◌<◌, ◌++◌, List, [], ◌∷◌, length, Some, if◌then◌else◌, slice_get, slice_index_or, IsTrue, Contains}
 use Rattle.std.specs.Borrow.{Bor}
+use Rattle.std.specs.Hash.FoldHasher.{initial, write, finish}
 use Rattle.std.specs.declared.cmp.Ordering.{Ordering}
 use Rattle.std.specs.declared.cmp.Ordering.TheVariants.{Less}
 use Rattle.std.specs.Ordering.{nat_cmp, on}
 use Rattle.bag_text.specs.Text.{text_cmp}
 use Rattle.bag_tags.specs.declared.manifest_line.Judged.{Judged}
-use Rattle.bag_tags.specs.Fingerprint.{fingerprint}
 use Rattle.bag_tags.specs.Judged.{names_path, text, is_repeat, as_repeat}
+
+-- A number of a text, the same for equal texts: it lets a sort tell most texts apart without reading them again.
+unfoldable pub fingerprint : List ℕ → ℕ
+fingerprint t = finish (write initial t)
 
 -- the order of lines
 abbrev pub line_cmp : Judged → Judged → Ordering

@@ -1,13 +1,11 @@
 //! What the two lines of the declaration say (RFC 8493, 2.1.1).
 ghost use Rattle.std.specs.Prelude.{◌≡◌, not};
-ghost use Rattle.std.specs.Char.{is_ascii_digit};
 ghost use Rattle.std.specs.List.{list_all};
 ghost use Rattle.std.specs.Option.{option_copied};
-ghost use Rattle.bag_text.specs.Number.{is_digits};
 ghost use Rattle.bag_text.specs.Text as texts;
 ghost use Rattle.bag_tags.specs.Declaration as spec;
 
-use bag_line::after_prefix;
+use bag_line::{after_prefix, is_digits};
 use bag_text::is_blank;
 
 /// The version that line 1 declares, where it reads.
@@ -32,19 +30,6 @@ fn is_version(text: &str) -> bool
         None => false,
         Some((major, minor)) => is_digits(major) && is_digits(minor),
     }
-}
-
-/// One or more ASCII digits.
-fn is_digits(text: &str) -> bool
-    ensures { result ≡ is_digits text.now }
-{
-    !text.is_empty() && has_digits_only(text)
-}
-
-fn has_digits_only(text: &str) -> bool
-    ensures { result ≡ list_all is_ascii_digit text.now }
-{
-    text.as_bytes().iter().all(|b| b.is_ascii_digit())
 }
 
 /// The encoding that line 2 declares, where it reads.

@@ -1,18 +1,19 @@
 //! Manifests (RFC 8493, 2.1.3 and 2.2.1).
-ghost use Rattle.std.specs.Prelude.{◌≡◌, ◌∷◌, ◌++◌, [], IfOk, OnOk, filter_map};
+ghost use Rattle.std.specs.Prelude.{◌≡◌, ◌++◌, IfOk, OnOk, filter_map};
 ghost use Rattle.std.specs.List.{enumerate_from};
 ghost use Rattle.std.specs.Option.{option_to_list};
 ghost use Rattle.std.specs.Ordering.{nat_cmp, on};
 ghost use Rattle.bag_text.specs.Lines as cut;
 ghost use Rattle.bag_text.specs.Order.{IsListOf};
-ghost use Rattle.bag_tags.specs.Judged.{judged_all, judged_and_marked, entry_of, fault_of, not_utf8};
+ghost use Rattle.bag_tags.specs.Judged.{judged_all, judged_and_marked, entry_of, fault_of};
 ghost use Rattle.bag_line.specs.LineFault.{AreFaults};
 ghost use Rattle.bag_tags.specs.Manifest.{IsEntry, IsManifestFault};
 
 use crate::manifest_line::{Judged, Verdict, judge};
 use crate::repeats::mark_repeats;
 use crate::{Kind, LineFault, Parsed};
-use bag_text::{Alg, Code, Items, Text, is_blank_line, lines, text_of};
+use bag_line::unread;
+use bag_text::{Alg, Items, Text, is_blank_line, lines, text_of};
 use std::alloc::{AllocError, Global};
 
 /// A line of a manifest that reads: the digest in lower case, and the path that is named.
@@ -40,23 +41,6 @@ pub fn read_manifest(
         Ok(text) => read_text(alloc, kind, alg, text),
         Err(_) => unread(alloc),
     }
-}
-
-/// Nothing is named in bytes that aren't UTF-8.
-fn unread(alloc: Global) -> Result<Parsed<ManifestEntry>, AllocError>
-    ensures items { IfOk result (λ parsed. parsed.items ≡ []) }
-    ensures faults { IfOk result (λ parsed. parsed.faults ≡ not_utf8 ∷ []) }
-{
-    let mut faults = Items::new(alloc);
-    faults.push(LineFault {
-        line: 0,
-        code: Code::NotUtf8,
-        detail: Text::empty(alloc),
-    })?;
-    Ok(Parsed {
-        items: Items::new(alloc),
-        faults,
-    })
 }
 
 fn read_text(

@@ -4,8 +4,7 @@ ghost use Rattle.std.specs.List.Sorted.{IsStrictlySortedBy};
 ghost use Rattle.std.specs.declared.cmp.Ordering.TheVariants.{Less};
 ghost use Rattle.bag_text.specs.Text.{text_cmp};
 ghost use Rattle.bag_tags.specs.Judged.{marked_if_repeat, text};
-ghost use Rattle.bag_tags.specs.Fingerprint.{fingerprint};
-ghost use Rattle.bag_tags.specs.Repeats.{line_cmp, pair_of, places_from, IsRepeatAt, IsMarked, AreAscending, FollowsSame, HasFingerprint};
+ghost use Rattle.bag_tags.specs.Repeats.{fingerprint, line_cmp, pair_of, places_from, IsRepeatAt, IsMarked, AreAscending, FollowsSame, HasFingerprint};
 
 use crate::manifest_line::Judged;
 use std::alloc::{AllocError, Global};
@@ -81,7 +80,7 @@ fn named_places(alloc: Global, all: &[Judged]) -> Result<Vec<(u64, &str, usize)>
 }
 
 /// A number of a path, which most often tells it from other paths.
-#[tactic(auto, unfolding(crate::specs::Fingerprint::fingerprint))]
+#[tactic(auto, unfolding(crate::specs::Repeats::fingerprint))]
 fn fingerprint(path: &str) -> u64
     ensures { result ≡ fingerprint path.now }
 {

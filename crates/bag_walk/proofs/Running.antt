@@ -3,22 +3,16 @@ use Rattle.std.proofs.Common.{◌≡◌, ℕ, inl, Bool, true, false, true≢fal
 use Rattle.std.proofs.lemmas.Grind.{common_steps}
 use Rattle.std.proofs.lemmas.List.Elements.{All-nil}
 use Rattle.std.specs.List.Sorted.{IsStrictlySortedBy}
-use Rattle.bag_text.specs.Code.{stage}
-use Rattle.bag_text.specs.declared.code.Code.{Code}
-use Rattle.bag_text.specs.declared.code.Code.TheVariants.{NoDeclaration, DeclarationNotUtf8, DeclarationLineCount, DeclarationLine, VersionUnsupported, EncodingUnsupported, NameClash}
-use Rattle.bag_text.proofs.ListOf.{same_members}
 use Rattle.bag_tree.specs.Bag.{Bag, IsBag}
 use Rattle.bag_tree.specs.Tree.{TreeState}
 use Rattle.bag_tree.specs.declared.fault.Stop.{Stop}
-use Rattle.bag_fault.specs.FaultOrder.{fault_cmp}
 use Rattle.bag_fault.specs.declared.fault.Fault.{Fault}
 use Rattle.bag_facts.specs.Facts.{IsFactsOf}
 use Rattle.bag_facts.specs.Stops.{IsOutOfMemory, MayStop}
 use Rattle.bag_facts.specs.Wanted.{IsWanted, OpensWanted}
 use Rattle.bag_facts.specs.declared.facts.Facts.{Facts}
-use Rattle.bag_facts.specs.declared.options.Depth.TheVariants.{Declaration}
 use Rattle.bag_facts.specs.declared.options.Options.{Options}
-use Rattle.bag_report.specs.Report.{Check, above, asks, IsReport, IsStageOf}
+use Rattle.bag_report.specs.Report.{above, IsReport}
 use Rattle.bag_output.specs.Ending.{limit_of, IsAnswered, MayEnd, ReachesEnd}
 use Rattle.bag_output.specs.Writer.{Closes, WritesReport}
 use Rattle.bag_output.specs.declared.outcome.Outcome.{Outcome}
@@ -26,32 +20,9 @@ use Rattle.bag_output.specs.declared.outcome.Outcome.TheVariants.{Clean, Faults,
 use Rattle.bag_output.specs.declared.outcome.Request.{Request}
 use Rattle.bag_output.proofs.Ending.{take_length, wrote_closed}
 use Rattle.bag_output.proofs.Writing.{Appends-nil}
-use Rattle.bag_walk.specs.Run.{check_of, IsAsked, IsRun}
+use Rattle.bag_walk.specs.Run.{IsAsked, IsRun}
 use Rattle.bag_walk.specs.Runner.{AreAskedOf, IsReportOf}
 use Rattle.bag_walk.proofs.Shown.{above_report, front_is_first, nothing_is_first}
-
--- at the depth of the declaration only the first stage is asked for
-asks_only_first : (clashes : Bool) (c : Code) → asks (record { depth = Declaration; clashes = clashes }) c ≡ true → stage c ≡ 1
-unfolding asks
-asks_only_first clashes NoDeclaration e = refl
-asks_only_first clashes DeclarationNotUtf8 e = refl
-asks_only_first clashes DeclarationLineCount e = refl
-asks_only_first clashes DeclarationLine e = refl
-asks_only_first clashes VersionUnsupported e = refl
-asks_only_first clashes EncodingUnsupported e = refl
-asks_only_first true NameClash e = let clash : false ≡ true = e in cc
-asks_only_first false NameClash e = let clash : false ≡ true = e in cc
-asks_only_first clashes other e = let clash : false ≡ true = e in cc
-
-first_alone : (options : Options) (c : Code) → options.depth ≡ Declaration → asks options c ≡ true → stage c ≡ 1
-first_alone options c d e =
-    let same : options ≡ record { depth = Declaration; clashes = options.clashes } = λ i. record { depth = d i; clashes = options.clashes } in
-    asks_only_first options.clashes c (subst (λ o. asks o c ≡ true) same e)
-
--- the first stage is then the whole report
-pub stage_is_report : (check : Check) (faults : List Fault) → check.options.depth ≡ Declaration → IsStageOf check 1 faults → IsReport check faults
-stage_is_report check faults d list =
-    same_members fault_cmp _ _ faults (λ f h. h.0) (λ f h. (h, first_alone check.options f.code d h.1)) list
 
 -- where no file was opened, none was that isn't wanted
 pub opens_none : (options : Options) (old new : TreeState) → new.openings ≡ old.openings → OpensWanted options old new
@@ -116,19 +87,18 @@ seen_of P true held of_held other = (held, (λ is. refl), of_held refl)
 seen_of P false held of_held other = (other.0, (λ is. absurd (true≢false (sym is))), other.1)
 
 -- the report of the bag that the facts are of
-pub report_of_facts : (old : TreeState) (request : Request) (facts : Facts) (faults : List Fault) → request.options.depth ≡ Declaration → facts.options ≡ request.options
+pub report_of_facts : (old : TreeState) (request : Request) (facts : Facts) (faults : List Fault) → facts.options ≡ request.options
     → IsBag old.bag → (IsTrue old.honest → IsFactsOf old.bag facts) → ((bag : Bag) × IsBag bag × IsFactsOf bag facts) → (IsTrue old.honest → IsTrue old.plain)
-    → ((bag : Bag) → IsFactsOf bag facts → IsStageOf (record { bag = bag; options = facts.options }) 1 faults) → IsReportOf old request faults
-report_of_facts old request facts faults depth same is_bag honest (bag_seen, bag_is, facts_are) plain staged =
+    → ((bag : Bag) → IsFactsOf bag facts → IsReport (record { bag = bag; options = facts.options }) faults) → IsReportOf old request faults
+report_of_facts old request facts faults same is_bag honest (bag_seen, bag_is, facts_are) plain reports =
     let picked = seen_of (λ bag. IsBag bag × IsFactsOf bag facts) old.honest old.bag (λ h. (is_bag, honest h)) (bag_seen, (bag_is, facts_are)) in
     let bag : Bag = picked.0 in
-    let first : IsStageOf (check_of bag request) 1 faults = subst (λ options. IsStageOf (record { bag = bag; options = options }) 1 faults) same (staged bag picked.2.1) in
     record {
       seen = bag;
       is_bag = picked.2.0;
       honest = picked.1;
       plain = plain;
-      report = stage_is_report (check_of bag request) faults depth first;
+      report = subst (λ options. IsReport (record { bag = bag; options = options }) faults) same (reports bag picked.2.1);
     }
 
 -- the part of a report above a cursor

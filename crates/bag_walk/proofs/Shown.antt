@@ -1,11 +1,10 @@
 -- The first faults of a set, and the report.
-use Rattle.std.proofs.Common.{◌≡◌, ℕ, zero, suc, ◌<◌, ◌≤◌, inl, inr, Bool, true, false, cond, List, [], ◌∷◌, length, take, min, filter, None, Contains, refl, ap, sym, ◌∙◌, subst, arith, nat_le}
+use Rattle.std.proofs.Common.{◌≡◌, ℕ, zero, suc, ◌<◌, ◌≤◌, inl, inr, true, false, cond, List, [], ◌∷◌, length, take, min, None, Contains, refl, ap, sym, ◌∙◌, subst, arith, nat_le}
 use Rattle.std.specs.List.{AllByRecursion}
 use Rattle.std.specs.List.Sorted.{IsStrictlySortedBy}
 use Rattle.std.specs.declared.cmp.Ordering.{Ordering}
 use Rattle.std.specs.declared.cmp.Ordering.TheVariants.{Less}
 use Rattle.std.specs.Cmp.{IsTotalOrder}
-use Rattle.std.proofs.lemmas.List.Kept.{IsStrictlySortedBy-filter}
 use Rattle.std.proofs.lemmas.Bool.Decides.{nat_tests}
 use Rattle.bag_text.specs.Order.{IsListOf}
 use Rattle.bag_text.proofs.ListOf.{contains_cases, contains_first, contains_behind, contains_nothing, member_has, same_lists}
@@ -16,6 +15,7 @@ use Rattle.bag_fault.specs.declared.fault.Fault.{Fault}
 use Rattle.bag_fault.proofs.Ascending.{not_both, not_less_than_itself}
 use Rattle.bag_fault.proofs.Ordered.{fault_cmp_total}
 use Rattle.bag_report.specs.Report.{IsReport, is_above, above}
+use Rattle.bag_report.proofs.Filtered.{filtered_list}
 use Rattle.bag_output.specs.Ending.{MayEnd, ReachesEnd, ideal, ended, limit_of}
 use Rattle.bag_output.specs.declared.outcome.Outcome.{Outcome}
 use Rattle.bag_output.specs.declared.outcome.Outcome.TheVariants.{Clean, Faults, Stopped, Rest, Unread, Unwritten}
@@ -90,44 +90,6 @@ module _ {A : Type 0} where
           ]) in
           let shorter : length s ≤ length xs = rest.0 in
           (omega arith, λ i. same i ∷ rest.1 i)
-
--- what passes a test
-kept : {A : Type 0} (p : A → Bool) (y : A) (xs : List A) (x : A) (b : Bool) → p y ≡ b → (Contains (filter p xs) x → Contains xs x × (p x ≡ true))
-    → Contains (cond b (y ∷ filter p xs) (filter p xs)) x → Contains (y ∷ xs) x × (p x ≡ true)
-kept p y xs x true e more d = elim (contains_cases y (filter p xs) x d) [
-  | inl same ↦ (subst (Contains (y ∷ xs)) same (contains_first y xs), sym (ap p same) ∙ e)
-  | inr h ↦ (let both = more h in (contains_behind y xs x both.0, both.1))
-]
-kept p y xs x false e more d = let both = more d in (contains_behind y xs x both.0, both.1)
-
-pub contains_filtered : {A : Type 0} (p : A → Bool) (xs : List A) (x : A) → Contains (filter p xs) x → Contains xs x × (p x ≡ true)
-contains_filtered p [] x c = absurd (contains_nothing x c)
-contains_filtered p (y ∷ xs) x c = kept p y xs x (p y) refl (λ d. contains_filtered p xs x d) c
-
-keeps : {A : Type 0} (p : A → Bool) (y : A) (xs : List A) (x : A) (b : Bool) → p y ≡ b → p x ≡ true → (Contains xs x → Contains (filter p xs) x)
-    → Contains (y ∷ xs) x → Contains (cond b (y ∷ filter p xs) (filter p xs)) x
-keeps p y xs x true e t more c = elim (contains_cases y xs x c) [
-  | inl same ↦ subst (Contains (y ∷ filter p xs)) same (contains_first y (filter p xs))
-  | inr h ↦ contains_behind y (filter p xs) x (more h)
-]
-keeps p y xs x false e t more c = elim (contains_cases y xs x c) [
-  | inl same ↦ (let clash : true ≡ false = sym t ∙ sym (ap p same) ∙ e in cc)
-  | inr h ↦ more h
-]
-
-pub filtered_contains : {A : Type 0} (p : A → Bool) (xs : List A) (x : A) → Contains xs x → p x ≡ true → Contains (filter p xs) x
-filtered_contains p [] x c t = absurd (contains_nothing x c)
-filtered_contains p (y ∷ xs) x c t = keeps p y xs x (p y) refl t (λ d. filtered_contains p xs x d t) c
-
--- the members of a list that pass a test
-pub filtered_list : {A : Type 0} (cmp : A → A → Ordering) (Member : A → Type 0) (p : A → Bool) (xs : List A) → IsListOf cmp Member xs → IsListOf cmp (λ x. Member x × (p x ≡ true)) (filter p xs)
-filtered_list cmp Member p xs list = record {
-  ascending = IsStrictlySortedBy-filter cmp p xs list.ascending;
-  members = λ x. (
-    (λ c. let both = contains_filtered p xs x c in ((list.members x).0 both.0, both.1)),
-    (λ h. filtered_contains p xs x ((list.members x).1 h.0) h.1),
-  );
-}
 
 -- without a cursor all faults are above it
 pub all_above : (faults : List Fault) → faults ≡ above None faults

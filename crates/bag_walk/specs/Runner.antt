@@ -1,13 +1,19 @@
 -- The faults that a run has at hand.
-use Rattle.std.specs.Prelude.{◌≡◌, IsTrue, List}
+use Rattle.std.specs.Prelude.{◌≡◌, ◌⊎◌, IsTrue, List}
 use Rattle.bag_text.specs.Order.{IsListOf}
 use Rattle.bag_tree.specs.Bag.{Bag, IsBag}
 use Rattle.bag_tree.specs.Tree.{TreeState}
 use Rattle.bag_fault.specs.FaultOrder.{fault_cmp}
 use Rattle.bag_fault.specs.declared.fault.Fault.{Fault}
+use Rattle.bag_facts.specs.declared.options.Depth.{Depth}
+use Rattle.bag_facts.specs.declared.options.Depth.TheVariants.{Declaration, Fast}
 use Rattle.bag_report.specs.Report.{IsReport}
 use Rattle.bag_output.specs.declared.outcome.Request.{Request}
 use Rattle.bag_walk.specs.Run.{check_of, IsAsked}
+
+-- a depth at which the files are not compared with the manifests
+abbrev pub IsBelowComplete : Depth → Type 0
+IsBelowComplete depth = (depth ≡ Declaration) ⊎ (depth ≡ Fast)
 
 -- all faults of the bag that the request asks for, in their order
 abbrev pub AreAsked : Bag → Request → List Fault → Type 0

@@ -1,13 +1,15 @@
 //! A whole run.
 ghost use Rattle.std.specs.Prelude.{◌≡◌, Some, IfOk, IfErr, OnOk};
 ghost use Rattle.std.specs.Option.{option_copied};
+ghost use Rattle.bag_tree.specs.Bag.{Bag};
 ghost use Rattle.bag_tree.specs.Tree.{Keeps};
+ghost use Rattle.bag_facts.specs.Facts.{IsFactsOf};
 ghost use Rattle.bag_facts.specs.Stops.{IsOutOfMemory, MayStop};
 ghost use Rattle.bag_facts.specs.Wanted.{OpensWanted};
-ghost use Rattle.bag_facts.specs.declared.options.Depth.TheVariants.{Declaration};
-ghost use Rattle.bag_report.specs.Report.{above};
+ghost use Rattle.bag_report.specs.Report.{IsReport, above};
+ghost use Rattle.bag_walk.specs.Openings.{OpensNoPayload};
 ghost use Rattle.bag_walk.specs.Run.{IsRun, IsRunByReport};
-ghost use Rattle.bag_walk.specs.Runner.{AreAskedOf, IsReportOf};
+ghost use Rattle.bag_walk.specs.Runner.{AreAskedOf, IsBelowComplete, IsReportOf};
 
 use bag_output::{Outcome, Request, close, write_report};
 use bag_report::{Facts, Fault, stage_faults};
@@ -17,11 +19,13 @@ use std::alloc::{AllocError, Global};
 /// Writes the faults of a tree's bag that the request asks for, one line each, and a closing line.
 ///
 /// Each line ends in LF. A fault's line is one write where the output takes it whole; the closing line takes no memory.
-/// The tree comes back, with the last file that was read open.
+/// The depth is below `Complete`, so that no payload file is read. The tree comes back, with the last file that was read
+/// open.
 pub fn run<T: Tree, W: Out>(alloc: Global, tree: T, request: Request, out: &mut W) -> (T, Outcome)
-    requires { request.options.depth ≡ Declaration }
+    requires { IsBelowComplete request.options.depth }
     ensures keeps { Keeps (T.state tree) (T.state result.0) }
     ensures opens { OpensWanted request.options (T.state tree) (T.state result.0) }
+    ensures payload { OpensNoPayload (T.state tree) (T.state result.0) }
     ensures untouched { request.limit ≡ Some 0 → result.0 ≡ tree }
     ensures run { IsRun (T.state tree) (T.state result.0) request (W.taken out.old) (W.taken out.new) (W.has_refused out.new) result.1 }
     ensures by_report { IsRunByReport (T.state tree) (T.state result.0) request (W.taken out.old) (W.taken out.new) (W.has_refused out.new) result.1 }
@@ -33,7 +37,6 @@ pub fn run<T: Tree, W: Out>(alloc: Global, tree: T, request: Request, out: &mut 
 
 /// The run, over a tree that is lent.
 fn run_over<T: Tree, W: Out>(alloc: Global, tree: &mut T, request: &Request, out: &mut W) -> Outcome
-    requires { request.now.options.depth ≡ Declaration }
     ensures keeps { Keeps (T.state tree.old) (T.state tree.new) }
     ensures opens { OpensWanted request.now.options (T.state tree.old) (T.state tree.new) }
     ensures untouched { request.now.limit ≡ Some 0 → tree.new ≡ tree.old }
@@ -51,7 +54,6 @@ fn run_over<T: Tree, W: Out>(alloc: Global, tree: &mut T, request: &Request, out
 
 /// The faults that are asked for, in their order.
 fn faults_asked<T: Tree>(alloc: Global, tree: &mut T, request: &Request) -> Result<Vec<Fault>, Stop>
-    requires { request.now.options.depth ≡ Declaration }
     ensures keeps { Keeps (T.state tree.old) (T.state tree.new) }
     ensures opens { OpensWanted request.now.options (T.state tree.old) (T.state tree.new) }
     ensures calm { OnOk result ((T.state tree.new).failures ≡ (T.state tree.old).failures) }
@@ -67,7 +69,6 @@ fn faults_asked<T: Tree>(alloc: Global, tree: &mut T, request: &Request) -> Resu
 
 /// The report of the tree's bag.
 fn report_of<T: Tree>(alloc: Global, tree: &mut T, request: &Request) -> Result<Vec<Fault>, Stop>
-    requires { request.now.options.depth ≡ Declaration }
     ensures keeps { Keeps (T.state tree.old) (T.state tree.new) }
     ensures opens { OpensWanted request.now.options (T.state tree.old) (T.state tree.new) }
     ensures calm { OnOk result ((T.state tree.new).failures ≡ (T.state tree.old).failures) }
@@ -75,10 +76,23 @@ fn report_of<T: Tree>(alloc: Global, tree: &mut T, request: &Request) -> Result<
     ensures stop { IfErr result (MayStop request.now.options (T.state tree.old) (T.state tree.new)) }
 {
     let facts = Facts::read(alloc, tree, request.options)?;
-    match stage_faults(alloc, &facts, 1) {
+    match faults_of(alloc, &facts) {
         Ok(faults) => Ok(faults),
         Err(AllocError) => Err(out_of_memory(alloc)),
     }
+}
+
+/// The faults of each stage that the depth reaches, stage after stage.
+fn faults_of(alloc: Global, facts: &Facts) -> Result<Vec<Fault>, AllocError>
+    ensures { IfOk result (λ faults. (bag : Bag) → IsFactsOf bag facts.now
+        → IsReport (record { bag = bag; options = facts.now.options }) faults.items) }
+{
+    let mut faults = Vec::new(alloc);
+    for stage in 1..=facts.options.depth.last_stage() {
+        let mut of_stage = stage_faults(alloc, facts, stage)?;
+        faults.append(&mut of_stage)?;
+    }
+    Ok(faults)
 }
 
 /// The faults of a report that are above a cursor: all where there is none.

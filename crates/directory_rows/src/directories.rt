@@ -1,11 +1,13 @@
 //! Checks of several directories.
-use crate::shelf::{Held, Refused, Row, Shelf, checked, plan_for};
+use crate::rows::sees_that;
+use crate::shelf::{Held, Refused, Row, Shelf, is_told, plan_for};
 use bag_cli::{WriterOut, perform_over};
+use std::alloc::{AllocError, Global};
 use std::test::Fail;
 
 const DECLARATION: &str = "BagIt-Version: 1.0\nTag-File-Character-Encoding: UTF-8\n";
 
-const ROWS: [Row; 3] = [
+const ROWS: &[Row] = &[
     Row {
         name: "good",
         places: &[
@@ -41,7 +43,7 @@ struct Checks {
     status: u8,
 }
 
-const CHECKS: [Checks; 7] = [
+const CHECKS: &[Checks] = &[
     Checks {
         names: &[],
         reports: &[],
@@ -79,38 +81,48 @@ const CHECKS: [Checks; 7] = [
     },
 ];
 
+/// Reports, one after the other.
+fn joined(alloc: Global, reports: &[&str]) -> Result<String, AllocError> {
+    let mut text = String::new(alloc);
+    for report in reports {
+        text.push_str(*report)?;
+    }
+    Ok(text)
+}
+
 #[test]
 fn each_directory_has_its_report(rt: HostRuntime) -> Result<(), Fail> {
-    for checks in CHECKS.iter() {
-        let (written, said, status) = checked(rt.alloc(), &ROWS, checks.names)?;
-        let mut expected = String::new(rt.alloc());
-        for report in checks.reports {
-            expected.push_str(*report)?;
-        }
-        assert_eq!(rt; written.as_slice(), expected.as_bytes());
-        assert_eq!(rt; said.len(), 0);
-        assert_eq!(rt; status, checks.status);
+    for checks in CHECKS {
+        let written = joined(rt.alloc(), checks.reports)?;
+        let written = written.as_str();
+        sees_that(
+            &rt,
+            is_told(rt.alloc(), ROWS, checks.names, written, checks.status)?,
+            written,
+        );
     }
     Ok(())
+}
+
+/// The status of a check of three directories whose output has this room.
+fn status_in(alloc: Global, room: &mut [u8], err: &mut Vec<u8>) -> Result<u8, Fail> {
+    let plan = plan_for(alloc, &["good", "no declaration", "good"])?;
+    let mut out = WriterOut::new(room);
+    Ok(perform_over(alloc, &Shelf { rows: ROWS }, &plan, &mut out, err))
 }
 
 #[test]
 fn an_output_that_refuses_in_the_second_report(rt: HostRuntime) -> Result<(), Fail> {
     let mut room = [0u8; 33];
-    let mut said = Vec::<u8>::new(rt.alloc());
-    let plan = plan_for(rt.alloc(), &["good", "no declaration", "good"])?;
-    let status = perform_over(
-        rt.alloc(),
-        &Shelf { rows: &ROWS },
-        &plan,
-        &mut WriterOut::new(room.as_mut_slice()),
-        &mut said,
+    let mut err = Vec::<u8>::new(rt.alloc());
+    let status = status_in(rt.alloc(), room.as_mut_slice(), &mut err)?;
+    let written = b"good has a good declaration\n101 n".as_slice();
+    sees_that(&rt, room.as_slice() == written, "output");
+    sees_that(
+        &rt,
+        err.as_slice() == b"bagit: output refused\n".as_slice(),
+        "error output",
     );
-    assert_eq!(rt;
-        room.as_slice(),
-        b"good has a good declaration\n101 n".as_slice()
-    );
-    assert_eq!(rt; said.as_slice(), b"bagit: output refused\n".as_slice());
-    assert_eq!(rt; status, 3);
+    sees_that(&rt, status == 3, "status");
     Ok(())
 }

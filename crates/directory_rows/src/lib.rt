@@ -6,6 +6,8 @@ mod directories;
 #[cfg(test)]
 mod refused_calls;
 #[cfg(test)]
+mod rows;
+#[cfg(test)]
 mod shelf;
 #[cfg(test)]
 mod shelf_disk;

@@ -1,5 +1,6 @@
 //! Checks of a disk whose calls are refused in turn.
-use crate::shelf::{Held, Refused, Row, checked};
+use crate::rows::sees_that;
+use crate::shelf::{Held, Refused, Row, is_told};
 use bag_disk::DiskFault;
 use std::alloc::{AllocError, Global};
 use std::test::Fail;
@@ -20,7 +21,7 @@ const ROW: Row = Row {
 };
 
 /// What stands there.
-const PATHS: [&str; 4] = ["bagit.txt", "data", "data/a", "manifest-md5.txt"];
+const PATHS: &[&str] = &["bagit.txt", "data", "data/a", "manifest-md5.txt"];
 
 /// What is written where no call is refused.
 const WHOLE: &str = "d has a good declaration\n";
@@ -53,7 +54,7 @@ struct Causes {
     file: &'static str,
 }
 
-const CAUSES: [Causes; 4] = [
+const CAUSES: &[Causes] = &[
     Causes {
         fault: DiskFault::Device,
         entered: "device",
@@ -104,35 +105,47 @@ fn expected(alloc: Global, causes: &Causes, number: u64) -> Result<String, Alloc
     format!(in alloc; "d unread {path} {cause}, faults: 0\n")
 }
 
-/// What is written where a call is refused, and the status.
-fn report(alloc: Global, refused: Refused) -> Result<(Vec<u8>, u8), Fail> {
+/// Whether this is written where a call is refused, with this status.
+fn is_reported(alloc: Global, refused: Refused, written: &str, status: u8) -> Result<bool, Fail> {
     let mut row = ROW;
     row.refused = refused;
-    let (written, _said, status) = checked(alloc, &[row], &["d"])?;
-    Ok((written, status))
+    is_told(alloc, &[row], &["d"], written, status)
+}
+
+/// Whether the report is the expected one where a numbered call is refused.
+fn is_expected(alloc: Global, causes: &Causes, number: u64) -> Result<bool, Fail> {
+    let expected = expected(alloc, causes, number)?;
+    is_reported(
+        alloc,
+        Refused::Numbered(number, causes.fault),
+        expected.as_str(),
+        3,
+    )
 }
 
 #[test]
 fn each_refused_call_is_told(rt: HostRuntime) -> Result<(), Fail> {
-    for causes in CAUSES.iter() {
+    for causes in CAUSES {
         for number in 0..OPENING + 2 {
-            let (written, status) = report(rt.alloc(), Refused::Numbered(number, causes.fault))?;
-            let expected = expected(rt.alloc(), causes, number)?;
-            assert_eq!(rt; written.as_slice(), expected.as_bytes(), "{number}");
-            assert_eq!(rt; status, 3);
+            assert!(rt; is_expected(rt.alloc(), causes, number)?, "{number}");
         }
     }
     Ok(())
 }
 
+/// Whether the device refuses a read of the declaration with this call, or there is no such call.
+fn is_read_or_none(alloc: Global, number: u64) -> Result<bool, Fail> {
+    let refused = Refused::Numbered(number, DiskFault::Device);
+    if is_reported(alloc, refused, WHOLE, 0)? {
+        return Ok(true);
+    }
+    is_reported(alloc, refused, UNREAD, 3)
+}
+
 #[test]
 fn a_later_call_is_a_read_or_none(rt: HostRuntime) -> Result<(), Fail> {
     for number in OPENING + 2..OPENING + 20 {
-        let refused = Refused::Numbered(number, DiskFault::Device);
-        let (written, status) = report(rt.alloc(), refused)?;
-        let is_whole = written.as_slice() == WHOLE.as_bytes() && status == 0;
-        let is_unread = written.as_slice() == UNREAD.as_bytes() && status == 3;
-        assert!(rt; is_whole || is_unread, "{number}");
+        assert!(rt; is_read_or_none(rt.alloc(), number)?, "{number}");
     }
     Ok(())
 }
@@ -140,20 +153,26 @@ fn a_later_call_is_a_read_or_none(rt: HostRuntime) -> Result<(), Fail> {
 #[test]
 fn a_call_past_the_last_is_none(rt: HostRuntime) -> Result<(), Fail> {
     let refused = Refused::Numbered(1000, DiskFault::Device);
-    let (written, status) = report(rt.alloc(), refused)?;
-    assert_eq!(rt; written.as_slice(), WHOLE.as_bytes());
-    assert_eq!(rt; status, 0);
+    sees_that(&rt, is_reported(rt.alloc(), refused, WHOLE, 0)?, WHOLE);
     Ok(())
+}
+
+/// Whether the report is the expected one where each look at a path is refused.
+fn is_look_told(alloc: Global, causes: &Causes, path: &'static str) -> Result<bool, Fail> {
+    let expected = format!(in alloc; "d unread - {}, faults: 0\n", causes.entered)?;
+    is_reported(
+        alloc,
+        Refused::EntryAt(path, causes.fault),
+        expected.as_str(),
+        3,
+    )
 }
 
 #[test]
 fn each_refused_look_is_told(rt: HostRuntime) -> Result<(), Fail> {
-    for causes in CAUSES.iter() {
-        for path in PATHS.iter() {
-            let (written, status) = report(rt.alloc(), Refused::EntryAt(*path, causes.fault))?;
-            let expected = format!(in rt.alloc(); "d unread - {}, faults: 0\n", causes.entered)?;
-            assert_eq!(rt; written.as_slice(), expected.as_bytes());
-            assert_eq!(rt; status, 3);
+    for causes in CAUSES {
+        for &path in PATHS {
+            sees_that(&rt, is_look_told(rt.alloc(), causes, path)?, path);
         }
     }
     Ok(())

@@ -125,15 +125,18 @@ pub(crate) fn plan_for(alloc: Global, names: &[&str]) -> Result<Plan, AllocError
     })
 }
 
-/// What the program writes where it checks directories, what it says beside it, and its status.
-pub(crate) fn checked(
+/// Whether the program writes this where it checks directories, says nothing beside it, and ends with this status.
+pub(crate) fn is_told(
     alloc: Global,
     rows: &[Row],
     names: &[&str],
-) -> Result<(Vec<u8>, Vec<u8>, u8), Fail> {
+    written: &str,
+    status: u8,
+) -> Result<bool, Fail> {
     let plan = plan_for(alloc, names)?;
     let mut out = WriterOut::new(Vec::<u8>::new(alloc));
     let mut err = Vec::<u8>::new(alloc);
-    let status = perform_over(alloc, &Shelf { rows }, &plan, &mut out, &mut err);
-    Ok((out.into_inner(), err, status))
+    let found = perform_over(alloc, &Shelf { rows }, &plan, &mut out, &mut err);
+    let is_written = out.into_inner().as_slice() == written.as_bytes();
+    Ok(is_written && err.is_empty() && found == status)
 }

@@ -68,7 +68,7 @@ pub(crate) fn listed<D: Disk + Drop>(alloc: Global, disk: D) -> Result<String, A
 }
 
 /// How opening and reading a whole file of a tree over a disk ends, where it is listed with this size.
-pub(crate) fn read<D: Disk + Drop>(
+fn read<D: Disk + Drop>(
     alloc: Global,
     disk: D,
     path: &str,
@@ -77,4 +77,30 @@ pub(crate) fn read<D: Disk + Drop>(
     let mut tree = FileTree::over(alloc, disk);
     let path = Text::from_str(alloc, path)?;
     Ok(read_whole(alloc, &mut tree, &FileEntry { path, size }))
+}
+
+/// Whether a file of a tree over a disk is read as this.
+pub(crate) fn is_read<D: Disk + Drop>(
+    alloc: Global,
+    disk: D,
+    path: &str,
+    bytes: &[u8],
+) -> Result<bool, AllocError> {
+    match read(alloc, disk, path, bytes.len() as u64)? {
+        Ok(found) => Ok(found.as_slice() == bytes),
+        Err(_) => Ok(false),
+    }
+}
+
+/// Whether reading a file of a tree over a disk, listed with this size, is refused so.
+pub(crate) fn is_refused<D: Disk + Drop>(
+    alloc: Global,
+    disk: D,
+    (path, size): (&str, u64),
+    fault: TreeFault,
+) -> Result<bool, AllocError> {
+    match read(alloc, disk, path, size)? {
+        Ok(_) => Ok(false),
+        Err(found) => Ok(found == fault),
+    }
 }

@@ -2,6 +2,8 @@
 #![tactic(auto)]
 
 #[cfg(test)]
+mod changes;
+#[cfg(test)]
 mod held;
 #[cfg(test)]
 mod listings;
@@ -15,5 +17,7 @@ mod openings;
 mod placings;
 #[cfg(test)]
 mod refusals;
+#[cfg(test)]
+mod rows;
 #[cfg(test)]
 mod swaps;

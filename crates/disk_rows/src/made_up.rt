@@ -3,7 +3,8 @@ ghost use Rattle.std.specs.Prelude.{is_some};
 ghost use Rattle.bag_disk.specs.SystemDisk.{system_state};
 ghost use Rattle.bag_disk.specs.BagBelow.{empty_disk};
 
-use crate::held::{listed, read};
+use crate::held::{is_refused, listed};
+use crate::rows::{sees, sees_that};
 use bag_disk::{Disk, DiskFault, Entry};
 use bag_text::{Items, Text};
 use bag_tree::TreeFault;
@@ -133,35 +134,47 @@ impl Disk for MadeUp {
     ghost is_disk = { λ _. empty_disk };
 }
 
+/// The word by which a tree over a disk of these refuses to be listed, or its listing.
+fn listed_as(alloc: Global, things: &[(&str, Standing)]) -> Result<String, AllocError> {
+    listed(alloc, MadeUp::new(alloc, things)?)
+}
+
+/// What stands on disks that name a path twice, or what is none.
+const ODD: &[[(&str, Standing); 3]] = &[
+    [
+        ("a", Standing::File),
+        ("b", Standing::Folder),
+        ("a", Standing::File),
+    ],
+    [
+        ("a", Standing::File),
+        (".", Standing::File),
+        ("..", Standing::Folder),
+    ],
+];
+
 #[test]
 fn lists_nothing_where_a_name_is_given_twice_or_is_no_path(rt: HostRuntime) -> Result<(), Fail> {
-    for things in [
-        [
-            ("a", Standing::File),
-            ("b", Standing::Folder),
-            ("a", Standing::File),
-        ],
-        [
-            ("a", Standing::File),
-            (".", Standing::File),
-            ("..", Standing::Folder),
-        ],
-    ] {
-        let disk = MadeUp::new(rt.alloc(), things.as_slice())?;
-        assert_eq!(rt; listed(rt.alloc(), disk)?.as_str(), "device");
+    for things in ODD {
+        sees(
+            &rt,
+            listed_as(rt.alloc(), things.as_slice())?.as_str(),
+            "device",
+        );
     }
     Ok(())
 }
 
+/// Whether nothing is opened where a disk has only this.
+fn is_unopened(alloc: Global, path: &str) -> Result<bool, AllocError> {
+    let disk = MadeUp::new(alloc, &[(path, Standing::File)])?;
+    is_refused(alloc, disk, (path, path.len() as u64), TreeFault::NotFound)
+}
+
 #[test]
 fn opens_nothing_beside_the_base_folder(rt: HostRuntime) -> Result<(), Fail> {
-    for path in ["../b", "", "b/"] {
-        let disk = MadeUp::new(rt.alloc(), &[(path, Standing::File)])?;
-        let found = read(rt.alloc(), disk, path, path.len() as u64)?;
-        assert!(rt;
-            found.is_err_and(|fault| fault == TreeFault::NotFound),
-            "{path}"
-        );
+    for &path in &["../b", "", "b/"] {
+        sees_that(&rt, is_unopened(rt.alloc(), path)?, path);
     }
     Ok(())
 }

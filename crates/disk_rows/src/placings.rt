@@ -1,8 +1,9 @@
 //! What can stand on a disk.
 use crate::held::{Held, Place, maybe_disk};
+use std::alloc::{AllocError, Global};
 use std::test::Fail;
 
-const DISKS: [&[Place]; 6] = [
+const DISKS: &[&[Place]] = &[
     &[],
     &[(b"a", Held::File("x"))],
     &[(b"a", Held::Folder), (b"a/b", Held::File("x"))],
@@ -11,7 +12,7 @@ const DISKS: [&[Place]; 6] = [
     &[(b"\xf0\x9f\x93\xa6", Held::Folder)],
 ];
 
-const NO_DISKS: [&[Place]; 15] = [
+const NO_DISKS: &[&[Place]] = &[
     &[(b"", Held::Folder)],
     &[(b"/a", Held::File(""))],
     &[(b"a", Held::Folder), (b"a/", Held::File(""))],
@@ -33,10 +34,15 @@ const NO_DISKS: [&[Place]; 15] = [
     &[(b"a\xc3", Held::Folder)],
 ];
 
+/// Whether there is a disk of this.
+fn is_disk(alloc: Global, places: &[Place]) -> Result<bool, AllocError> {
+    Ok(maybe_disk(alloc, places)?.is_some())
+}
+
 #[test]
 fn makes_a_disk_of_what_can_stand_on_one(rt: HostRuntime) -> Result<(), Fail> {
     for (index, places) in DISKS.iter().enumerate() {
-        assert!(rt; maybe_disk(rt.alloc(), *places)?.is_some(), "{index}");
+        assert!(rt; is_disk(rt.alloc(), *places)?, "{index}");
     }
     Ok(())
 }
@@ -44,7 +50,7 @@ fn makes_a_disk_of_what_can_stand_on_one(rt: HostRuntime) -> Result<(), Fail> {
 #[test]
 fn makes_no_disk_of_anything_else(rt: HostRuntime) -> Result<(), Fail> {
     for (index, places) in NO_DISKS.iter().enumerate() {
-        assert!(rt; maybe_disk(rt.alloc(), *places)?.is_none(), "{index}");
+        assert!(rt; !is_disk(rt.alloc(), *places)?, "{index}");
     }
     Ok(())
 }

@@ -1,10 +1,11 @@
 //! What is fetched, as tables.
+use crate::rows::sees;
 use bag_line::read_fetch;
-use std::alloc::Global;
+use std::alloc::{AllocError, Global};
 use std::test::Fail;
 
 /// Texts of `fetch.txt`, and what is read in them.
-const ROWS: [(&[u8], &str); 66] = [
+const ROWS: &[(&[u8], &str)] = &[
     // lines and their ends
     (b"", ""),
     (
@@ -92,7 +93,7 @@ const ROWS: [(&[u8], &str); 66] = [
 ];
 
 /// What `fetch.txt` says: each entry's line, URL, length and path, then each fault's code, line and detail.
-fn shown(alloc: Global, bytes: &[u8]) -> Result<String, Fail> {
+pub(crate) fn shown(alloc: Global, bytes: &[u8]) -> Result<String, Fail> {
     let parsed = read_fetch(alloc, bytes)?;
     let mut text = String::new(alloc);
     for entry in parsed.items.as_slice() {
@@ -113,27 +114,48 @@ fn shown(alloc: Global, bytes: &[u8]) -> Result<String, Fail> {
 
 #[test]
 fn reads_lines(rt: HostRuntime) -> Result<(), Fail> {
-    for (bytes, wanted) in ROWS {
-        assert_eq!(rt; shown(rt.alloc(), bytes)?.as_str(), wanted);
+    for &(bytes, wanted) in ROWS {
+        sees(&rt, shown(rt.alloc(), bytes)?.as_str(), wanted);
     }
     Ok(())
 }
 
-#[test]
-fn reads_thousands_of_lines(rt: HostRuntime) -> Result<(), Fail> {
-    let mut text = String::new(rt.alloc());
-    let mut wanted = String::new(rt.alloc());
-    for index in 0..5000u64 {
-        let line = index.wrapping_add(1);
-        write!(text, "http://a.example/{index} {index} ./data/%25{index}\n")?;
+/// A text of 5,000 lines, of which each tenth has a bad escape.
+fn thousands(alloc: Global) -> Result<String, AllocError> {
+    let mut text = String::new(alloc);
+    for line in 1..5001u64 {
+        let escape = if line % 10 == 0 { "%41" } else { "%25" };
         write!(
-            wanted,
-            "{line} http://a.example/{index} {index} data/%{index}|"
+            text,
+            "http://a.example/{line} {line} ./data/{escape}{line}\n"
         )?;
     }
-    assert_eq!(rt;
+    Ok(text)
+}
+
+/// What is read in it.
+fn thousands_shown(alloc: Global) -> Result<String, AllocError> {
+    let mut text = String::new(alloc);
+    let mut faults = String::new(alloc);
+    for line in 1..5001u64 {
+        if line % 10 == 0 {
+            write!(faults, "402 {line} data/%41{line}|")?;
+        } else {
+            write!(text, "{line} http://a.example/{line} {line} data/%{line}|")?;
+        }
+    }
+    text.push_str(faults.as_str())?;
+    Ok(text)
+}
+
+#[test]
+fn reads_thousands_of_lines(rt: HostRuntime) -> Result<(), Fail> {
+    let text = thousands(rt.alloc())?;
+    let wanted = thousands_shown(rt.alloc())?;
+    sees(
+        &rt,
         shown(rt.alloc(), text.as_bytes())?.as_str(),
-        wanted.as_str()
+        wanted.as_str(),
     );
     Ok(())
 }

@@ -9,3 +9,7 @@ mod fetches;
 mod looked_back;
 #[cfg(test)]
 mod oxums;
+#[cfg(test)]
+mod plain_fetches;
+#[cfg(test)]
+mod rows;

@@ -1,11 +1,14 @@
-//! A plain reader that looks back from each line, over all metadata of four lines of eight sorts.
-use crate::elements::shown;
-use bag_line::read_info;
+//! A plain reader that looks back from each line, over all metadata of four lines of eight sorts, and over lines that are
+//! put together from parts.
+use crate::elements::said;
+use crate::plain_fetches::combined;
+use crate::rows::sees;
 use bag_text::trim;
-use std::alloc::Global;
+use std::alloc::{AllocError, Global};
+use std::process::Abort;
 use std::test::Fail;
 
-fn line_of_sort(sort: u64) -> &'static str {
+fn line_of_sort<'a>(sort: u64) -> &'a str {
     match sort % 8 {
         0 => "",
         1 => " \t",
@@ -26,11 +29,26 @@ fn is_more(line: &str) -> bool {
     !is_first(line) && !trim(line).is_empty()
 }
 
-/// Of the sorts of lines that begin an element only these split.
+fn ends_with_blank(text: &str) -> bool {
+    text.ends_with(' ') || text.ends_with('\t')
+}
+
+/// The texts before and behind the first colon.
+fn around_colon(line: &str) -> Option<(&str, &str)> {
+    for (at, byte) in line.as_bytes().iter().enumerate() {
+        if *byte == b':' {
+            return line.get(..at).zip(line.get(at.saturating_add(1)..));
+        }
+    }
+    None
+}
+
+/// The label of a line that begins an element, and the part of the value that stands there.
 fn label_and_part(line: &str) -> Option<(&str, &str)> {
-    match line {
-        "a: b" => Some(("a", "b")),
-        "c:" => Some(("c", "")),
+    match around_colon(line) {
+        Some((label, part))
+            if is_first(label) && !ends_with_blank(label) && (part.is_empty() || !is_first(part)) =>
+            { Some((label, trim(part))) }
         _ => None,
     }
 }
@@ -93,6 +111,36 @@ fn write_faults(text: &mut String, lines: &[&str]) -> Result<(), Fail> {
     Ok(())
 }
 
+/// The ends of lines, in turn: so no line feed ends an empty line behind a carriage return, where both would be one end.
+const ENDS: [&str; 3] = ["\n", "\r", "\r\n"];
+
+/// These lines, each with its end, the first with that of this place.
+fn joined(alloc: Global, lines: &[&str], first_end: usize) -> Result<String, AllocError> {
+    let mut text = String::new(alloc);
+    for (place, line) in lines.iter().enumerate() {
+        text.push_str(line)?;
+        text.push_str(ENDS[place.wrapping_add(first_end) % ENDS.len()])?;
+    }
+    Ok(text)
+}
+
+/// What the plain reader reads in these lines.
+fn looked_back(alloc: Global, lines: &[&str]) -> Result<String, Fail> {
+    let mut text = write_elements(alloc, lines)?;
+    write_faults(&mut text, lines)?;
+    Ok(text)
+}
+
+/// The reader reads in these lines what the plain reader reads, whatever their ends.
+fn reads_alike(rt: &impl Abort, alloc: Global, lines: &[&str]) -> Result<(), Fail> {
+    let wanted = looked_back(alloc, lines)?;
+    for first_end in 0..ENDS.len() {
+        let text = joined(alloc, lines, first_end)?;
+        sees(rt, said(alloc, text.as_bytes())?.as_str(), wanted.as_str());
+    }
+    Ok(())
+}
+
 #[test]
 fn reads_as_a_reader_that_looks_back(rt: HostRuntime) -> Result<(), Fail> {
     for sorts in 0..4096u64 {
@@ -102,19 +150,34 @@ fn reads_as_a_reader_that_looks_back(rt: HostRuntime) -> Result<(), Fail> {
             line_of_sort(sorts / 64),
             line_of_sort(sorts / 512),
         ];
-        let mut text = String::new(rt.alloc());
-        for line in &lines {
-            text.push_str(line)?;
-            text.push('\n')?;
-        }
-        let mut wanted = write_elements(rt.alloc(), &lines)?;
-        write_faults(&mut wanted, &lines)?;
-        let parsed = read_info(rt.alloc(), text.as_bytes())?;
-        assert_eq!(rt;
-            shown(rt.alloc(), &parsed)?.as_str(),
-            wanted.as_str(),
-            "{text}"
-        );
+        reads_alike(&rt, rt.alloc(), &lines)?;
+    }
+    Ok(())
+}
+
+/// What a line may begin with, what may stand behind that, and what at its end.
+const PARTS: [&[&str]; 3] = [
+    &["a", "a ", "é", ""],
+    &[":", "::", ""],
+    &["", " ", "b", " b: c\t"],
+];
+
+/// The reader reads a line as the plain reader, whatever stands behind it.
+fn reads_before_each_sort(rt: &impl Abort, alloc: Global, line: &str) -> Result<(), Fail> {
+    for sort in 0..8u64 {
+        reads_alike(
+            rt,
+            alloc,
+            &[line, line_of_sort(sort), line, line_of_sort(7)],
+        )?;
+    }
+    Ok(())
+}
+
+#[test]
+fn splits_lines_at_their_first_colons(rt: HostRuntime) -> Result<(), Fail> {
+    for line in &combined(rt.alloc(), &PARTS)? {
+        reads_before_each_sort(&rt, rt.alloc(), line.as_str())?;
     }
     Ok(())
 }

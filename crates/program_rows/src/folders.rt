@@ -1,5 +1,6 @@
 //! Folders that the tests make on the disk.
 use crate::fresh::fresh_folder;
+use crate::rows::{sees, sees_that};
 use bag_store::{FileEntry, FileTree, Listing, Tree, TreeFault, read_whole};
 use bag_text::Text;
 use std::alloc::AllocError;
@@ -66,9 +67,12 @@ fn read(
     Ok(read_whole(rt.alloc(), &mut tree, &FileEntry { path, size }))
 }
 
-/// The bytes of a file that is listed with a size.
-fn bytes_of(rt: &HostRuntime, base: &str, path: &str, size: u64) -> Result<Vec<u8>, Fail> {
-    Ok(read(rt, base, path, size)??)
+/// Whether a file holds its path.
+fn holds_its_path(rt: &HostRuntime, base: &str, path: &str) -> Result<bool, AllocError> {
+    match read(rt, base, path, path.len() as u64)? {
+        Ok(bytes) => Ok(bytes.as_slice() == path.as_bytes()),
+        Err(_) => Ok(false),
+    }
 }
 
 /// Why a file that is listed with a size isn't read, if it isn't.
@@ -81,26 +85,28 @@ fn refusal_of(
     Ok(read(rt, base, path, size)?.err())
 }
 
-#[test]
-fn lists_files_by_the_bytes_of_their_paths(rt: HostRuntime) -> Result<(), Fail> {
-    let base = fresh_folder(&rt, "lists")?;
-    let base = base.as_str();
+/// Makes the folders and files of a test.
+fn make_all(rt: &HostRuntime, base: &str) -> io::Result<()> {
     make_folders(
-        &rt,
+        rt,
         base,
         &[".a", "a", "data", "data/sub", "empty", "empty/empty"],
     )?;
     make_files(
-        &rt,
+        rt,
         base,
         &["é", "a/b", "a.b", "a-b", "data/sub/x", ".b", ".a/.c"],
-    )?;
+    )
+}
+
+#[test]
+fn lists_files_by_the_bytes_of_their_paths(rt: HostRuntime) -> Result<(), Fail> {
+    let base = fresh_folder(&rt, "lists")?;
+    let base = base.as_str();
+    make_all(&rt, base)?;
     let expected = "true, .a/.c 5, .b 2, a-b 3, a.b 3, a/b 3, data/sub/x 10, é 2";
-    assert_eq!(rt; listed(&rt, base)?.as_str(), expected);
-    assert_eq!(rt;
-        bytes_of(&rt, base, "data/sub/x", 10)?.as_slice(),
-        b"data/sub/x".as_slice()
-    );
+    sees(&rt, listed(&rt, base)?.as_str(), expected);
+    sees_that(&rt, holds_its_path(&rt, base, "data/sub/x")?, "data/sub/x");
     fs::remove_dir_all(&rt, base)?;
     Ok(())
 }
@@ -140,13 +146,18 @@ fn refuses_what_is_no_file_below_it(rt: HostRuntime) -> Result<(), Fail> {
     let base = base.as_str();
     make_link(&rt, base)?;
     for &(path, expected) in LISTED {
-        assert_eq!(rt; listed_below(&rt, base, path)?.as_str(), expected);
+        sees(&rt, listed_below(&rt, base, path)?.as_str(), expected);
     }
-    assert_eq!(rt; listed(&rt, "")?.as_str(), "device");
     for &(path, fault) in UNREAD {
-        assert_eq!(rt; refusal_of(&rt, base, path, 8)?, Some(fault), "{path}");
+        sees_that(&rt, refusal_of(&rt, base, path, 8)? == Some(fault), path);
     }
     fs::remove_dir_all(&rt, base)?;
+    Ok(())
+}
+
+#[test]
+fn lists_nothing_below_an_empty_base(rt: HostRuntime) -> Result<(), Fail> {
+    sees(&rt, listed(&rt, "")?.as_str(), "device");
     Ok(())
 }
 
@@ -192,10 +203,8 @@ fn lists_deep_folders(rt: HostRuntime) -> Result<(), Fail> {
     let base = base.as_str();
     make_deep(&rt, base)?;
     let file = deep_place(&rt, base, "x")?;
-    assert_eq!(rt;
-        listed_with(&rt, base, file.as_str())?.len(),
-        2 * DEPTH + 10
-    );
+    let len = listed_with(&rt, base, file.as_str())?.len();
+    sees_that(&rt, len == 2 * DEPTH + 10, "length");
     remove_deep(&rt, base)?;
     Ok(())
 }
@@ -248,7 +257,7 @@ fn refuses_paths_that_the_system_finds_too_long(rt: HostRuntime) -> Result<(), F
     let tail = place(&rt, base, "tail")?;
     let (found, refusal) = asked(&rt, base, bag.as_str(), tail.as_str())?;
     fs::remove_dir(&rt, base)?;
-    assert_eq!(rt; found.as_str(), "device");
-    assert_eq!(rt; refusal, Some(TreeFault::Device));
+    sees(&rt, found.as_str(), "device");
+    sees_that(&rt, refusal == Some(TreeFault::Device), "reading");
     Ok(())
 }

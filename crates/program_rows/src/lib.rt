@@ -7,3 +7,5 @@ mod folders;
 mod fresh;
 #[cfg(test)]
 mod program;
+#[cfg(test)]
+mod rows;

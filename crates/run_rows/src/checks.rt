@@ -32,7 +32,26 @@ pub(crate) fn bag_with(
     Ok(tree)
 }
 
-/// A request for the faults of the declaration of a bag called `d`.
+/// A request for the faults of a bag called `d`.
+pub(crate) fn request_for(
+    alloc: Global,
+    options: Options,
+    after: Option<Fault>,
+    limit: Option<u64>,
+    quiet: bool,
+) -> Result<Request, AllocError>
+    ensures { IfOk result (λ request. request.options ≡ options) }
+{
+    Ok(Request {
+        options,
+        after,
+        limit,
+        quiet,
+        name: Text::from_str(alloc, "d")?,
+    })
+}
+
+/// A request for the faults of its declaration.
 pub(crate) fn request(
     alloc: Global,
     after: Option<Fault>,
@@ -41,16 +60,11 @@ pub(crate) fn request(
 ) -> Result<Request, AllocError>
     ensures { IfOk result (λ request. request.options.depth ≡ Declaration) }
 {
-    Ok(Request {
-        options: Options {
-            depth: Depth::Declaration,
-            clashes: false,
-        },
-        after,
-        limit,
-        quiet,
-        name: Text::from_str(alloc, "d")?,
-    })
+    let options = Options {
+        depth: Depth::Declaration,
+        clashes: false,
+    };
+    request_for(alloc, options, after, limit, quiet)
 }
 
 /// The exit status of a check that writes to this output.
@@ -66,16 +80,17 @@ fn status_of<T: Tree + Drop>(
     status(&outcome)
 }
 
-/// What a check writes, and its exit status.
-pub(crate) fn checked<T: Tree + Drop>(alloc: Global, tree: T, request: Request) -> (Vec<u8>, u8)
+/// Whether a check writes this, and ends with this exit status.
+pub(crate) fn is_checked<T: Tree + Drop>(
+    alloc: Global,
+    tree: T,
+    request: Request,
+    output: &str,
+    status: u8,
+) -> bool
     requires { request.options.depth ≡ Declaration }
 {
     let mut out = WriterOut::new(Vec::<u8>::new(alloc));
-    let status = status_of(alloc, tree, request, &mut out);
-    (out.into_inner(), status)
-}
-
-/// Whether this text was written, with this status.
-pub(crate) fn is_written(written: &(Vec<u8>, u8), output: &str, status: u8) -> bool {
-    written.0.as_slice() == output.as_bytes() && written.1 == status
+    let found = status_of(alloc, tree, request, &mut out);
+    out.into_inner().as_slice() == output.as_bytes() && found == status
 }

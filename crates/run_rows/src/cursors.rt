@@ -1,7 +1,6 @@
 //! Cursors and limits, on a bag whose declaration has two faults.
-use crate::checks::{
-    ENCODING_LINE, MARK_LINE, MARKED_LATIN, bag_with, checked, is_written, request,
-};
+use crate::checks::{ENCODING_LINE, MARK_LINE, MARKED_LATIN, bag_with, is_checked, request};
+use crate::rows::sees_that;
 use bag_report::Fault;
 use bag_store::WriterOut;
 use bag_walk::run;
@@ -84,7 +83,7 @@ const ROWS: &[Row] = &[
 ];
 
 /// The fault of a line.
-fn cursor(alloc: Global, line: Option<&str>) -> Result<Option<Fault>, Fail> {
+pub(crate) fn cursor(alloc: Global, line: Option<&str>) -> Result<Option<Fault>, Fail> {
     match line {
         None => Ok(None),
         Some(line) => Ok(Some(Fault::from_line(alloc, line)?)),
@@ -101,23 +100,19 @@ fn whole(alloc: Global, lines: &[&str], closing: &str) -> Result<String, Fail> {
     Ok(text)
 }
 
-/// What a check of a row writes, and its exit status.
-fn checked_row(alloc: Global, row: &Row) -> Result<(Vec<u8>, u8), Fail> {
+/// Whether a check writes what a row says, and ends with its exit status.
+fn is_right(alloc: Global, row: &Row) -> Result<bool, Fail> {
+    let output = whole(alloc, row.lines, row.closing)?;
     let after = cursor(alloc, row.after)?;
     let request = request(alloc, after, row.limit, false)?;
     let tree = bag_with(alloc, Some(MARKED_LATIN))?;
-    Ok(checked(alloc, tree, request))
+    Ok(is_checked(alloc, tree, request, output.as_str(), row.status))
 }
 
 #[test]
 fn cursors_and_limits(rt: HostRuntime) -> Result<(), Fail> {
     for (place, row) in ROWS.iter().enumerate() {
-        let expected = whole(rt.alloc(), row.lines, row.closing)?;
-        let written = checked_row(rt.alloc(), row)?;
-        assert!(rt;
-            is_written(&written, expected.as_str(), row.status),
-            "row {place}"
-        );
+        assert!(rt; is_right(rt.alloc(), row)?, "row {place}");
     }
     Ok(())
 }
@@ -134,7 +129,7 @@ fn openings(alloc: Global, limit: u64) -> Result<usize, Fail> {
 
 #[test]
 fn a_limit_of_no_faults_opens_no_file(rt: HostRuntime) -> Result<(), Fail> {
-    assert_eq!(rt; openings(rt.alloc(), 0)?, 0);
-    assert_eq!(rt; openings(rt.alloc(), 1)?, 1);
+    sees_that(&rt, openings(rt.alloc(), 0)? == 0, "limit 0");
+    sees_that(&rt, openings(rt.alloc(), 1)? == 1, "limit 1");
     Ok(())
 }

@@ -1,5 +1,6 @@
 //! The declaration of a bag.
-use crate::checks::{bag_with, checked, is_written, request};
+use crate::checks::{bag_with, is_checked, request};
+use crate::rows::sees_that;
 use bag_store::FileTree;
 use std::alloc::Global;
 use std::test::Fail;
@@ -74,21 +75,30 @@ const ROWS: &[Row] = &[
     },
 ];
 
-/// What a check of a bag in memory with this declaration writes, and its exit status.
-fn checked_in_memory(
-    alloc: Global,
-    bagit_txt: Option<&[u8]>,
-    quiet: bool,
-) -> Result<(Vec<u8>, u8), Fail> {
-    let tree = bag_with(alloc, bagit_txt)?;
-    Ok(checked(alloc, tree, request(alloc, None, None, quiet)?))
+/// Whether a check of a bag in memory with the row's declaration writes what the row says.
+fn is_right_in_memory(alloc: Global, row: &Row, quiet: bool) -> Result<bool, Fail> {
+    let output = if quiet && row.status == 0 {
+        ""
+    } else {
+        row.output
+    };
+    let tree = bag_with(alloc, row.bagit_txt)?;
+    let request = request(alloc, None, None, quiet)?;
+    Ok(is_checked(alloc, tree, request, output, row.status))
 }
 
 #[test]
 fn declarations_in_memory(rt: HostRuntime) -> Result<(), Fail> {
     for (place, row) in ROWS.iter().enumerate() {
-        let written = checked_in_memory(rt.alloc(), row.bagit_txt, false)?;
-        assert!(rt; is_written(&written, row.output, row.status), "row {place}");
+        assert!(rt; is_right_in_memory(rt.alloc(), row, false)?, "row {place}");
+    }
+    Ok(())
+}
+
+#[test]
+fn a_quiet_check_leaves_out_the_good_news_alone(rt: HostRuntime) -> Result<(), Fail> {
+    for (place, row) in ROWS.iter().enumerate() {
+        assert!(rt; is_right_in_memory(rt.alloc(), row, true)?, "row {place}");
     }
     Ok(())
 }
@@ -101,35 +111,41 @@ fn path_of(rt: &HostRuntime, test: &str) -> Result<String, Fail> {
 }
 
 /// A fresh folder for one test.
-fn fresh(rt: &HostRuntime, test: &str) -> Result<String, Fail> {
+pub(crate) fn fresh(rt: &HostRuntime, test: &str) -> Result<String, Fail> {
     let path = path_of(rt, test)?;
     let _ = fs::remove_dir_all(rt, path.as_str());
     fs::create_dir(rt, path.as_str())?;
     Ok(path)
 }
 
-/// What a check of a folder writes, and its exit status.
-fn checked_at(rt: &HostRuntime, base: &str) -> Result<(Vec<u8>, u8), Fail> {
+/// Whether a check of a folder writes this, and ends with this exit status.
+fn is_right_at(rt: &HostRuntime, base: &str, output: &str, status: u8) -> Result<bool, Fail> {
     let tree = FileTree::at(rt.clone()?, rt.alloc(), base)?;
-    Ok(checked(rt.alloc(), tree, request(rt.alloc(), None, None, false)?))
+    let request = request(rt.alloc(), None, None, false)?;
+    Ok(is_checked(rt.alloc(), tree, request, output, status))
 }
 
-/// What a check of a folder with this declaration writes, and its exit status.
-fn checked_on_the_disk(rt: &HostRuntime, bagit_txt: Option<&[u8]>) -> Result<(Vec<u8>, u8), Fail> {
-    let base = fresh(rt, "declarations")?;
+/// Writes a declaration into a folder, where there is one.
+fn write_declaration(rt: &HostRuntime, base: &str, bagit_txt: Option<&[u8]>) -> Result<(), Fail> {
     if let Some(bytes) = bagit_txt {
         fs::write(rt, format!(in rt.alloc(); "{base}/bagit.txt")?, bytes)?;
     }
-    let written = checked_at(rt, base.as_str())?;
+    Ok(())
+}
+
+/// Whether a check of a folder with the row's declaration writes what the row says.
+fn is_right_on_the_disk(rt: &HostRuntime, row: &Row) -> Result<bool, Fail> {
+    let base = fresh(rt, "declarations")?;
+    write_declaration(rt, base.as_str(), row.bagit_txt)?;
+    let holds = is_right_at(rt, base.as_str(), row.output, row.status)?;
     fs::remove_dir_all(rt, base.as_str())?;
-    Ok(written)
+    Ok(holds)
 }
 
 #[test]
 fn declarations_on_the_disk(rt: HostRuntime) -> Result<(), Fail> {
     for (place, row) in ROWS.iter().enumerate() {
-        let written = checked_on_the_disk(&rt, row.bagit_txt)?;
-        assert!(rt; is_written(&written, row.output, row.status), "row {place}");
+        assert!(rt; is_right_on_the_disk(&rt, row)?, "row {place}");
     }
     Ok(())
 }
@@ -138,21 +154,7 @@ fn declarations_on_the_disk(rt: HostRuntime) -> Result<(), Fail> {
 fn a_folder_that_is_not_there(rt: HostRuntime) -> Result<(), Fail> {
     let base = fresh(&rt, "nowhere")?;
     fs::remove_dir_all(&rt, base.as_str())?;
-    let (output, status) = checked_at(&rt, base.as_str())?;
-    assert_eq!(rt;
-        output.as_slice(),
-        b"d unread - device, faults: 0\n".as_slice()
-    );
-    assert_eq!(rt; status, 3);
-    Ok(())
-}
-
-#[test]
-fn a_quiet_check_leaves_out_the_good_news_alone(rt: HostRuntime) -> Result<(), Fail> {
-    for (place, row) in ROWS.iter().enumerate() {
-        let written = checked_in_memory(rt.alloc(), row.bagit_txt, true)?;
-        let expected = if row.status == 0 { "" } else { row.output };
-        assert!(rt; is_written(&written, expected, row.status), "row {place}");
-    }
+    let output = "d unread - device, faults: 0\n";
+    sees_that(&rt, is_right_at(&rt, base.as_str(), output, 3)?, output);
     Ok(())
 }

@@ -10,4 +10,18 @@ mod cursors;
 #[cfg(test)]
 mod declarations;
 #[cfg(test)]
+mod disks;
+#[cfg(test)]
+mod enlarged;
+#[cfg(test)]
+mod fast;
+#[cfg(test)]
+mod fast_folders;
+#[cfg(test)]
 mod narrow_outputs;
+#[cfg(test)]
+mod refused_reads;
+#[cfg(test)]
+mod rows;
+#[cfg(test)]
+mod thousands;

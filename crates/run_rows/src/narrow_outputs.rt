@@ -1,5 +1,6 @@
 //! Outputs that take a byte at a time, and outputs that run out of room.
 use crate::checks::{ENCODING_LINE, MARK_LINE, MARKED_LATIN, bag_with, request};
+use crate::rows::sees_that;
 use bag_store::WriterOut;
 use bag_walk::{Outcome, run, status};
 use std::alloc::Global;
@@ -53,30 +54,55 @@ fn whole(alloc: Global) -> Result<String, Fail> {
     Ok(format!(in alloc; "{MARK_LINE}{ENCODING_LINE}d has faults: 2\n")?)
 }
 
+/// Whether an output with this much room takes this text whole.
+fn is_whole(alloc: Global, text: &str, most: usize, room: usize) -> Result<bool, Fail> {
+    let (taken, outcome) = narrowly_checked(alloc, most, room)?;
+    Ok(taken.as_slice() == text.as_bytes() && status(&outcome) == 1)
+}
+
 #[test]
-fn an_output_that_takes_a_byte_at_a_time(rt: HostRuntime) -> Result<(), Fail> {
+fn outputs_with_just_enough_room(rt: HostRuntime) -> Result<(), Fail> {
     let text = whole(rt.alloc())?;
-    let (taken, outcome) = narrowly_checked(rt.alloc(), 1, usize::MAX)?;
-    assert_eq!(rt; taken.as_slice(), text.as_bytes());
-    assert_eq!(rt; status(&outcome), 1);
+    let text = text.as_str();
+    sees_that(
+        &rt,
+        is_whole(rt.alloc(), text, 1, usize::MAX)?,
+        "a byte at a time",
+    );
+    sees_that(
+        &rt,
+        is_whole(rt.alloc(), text, usize::MAX, text.len())?,
+        "room",
+    );
     Ok(())
+}
+
+/// How many whole fault lines so many bytes have.
+fn lines_in(count: usize) -> u64 {
+    let first = MARK_LINE.len();
+    u64::from(count >= first) + u64::from(count >= first.saturating_add(ENCODING_LINE.len()))
+}
+
+/// How many lines were written before the output refused.
+fn unwritten(outcome: &Outcome) -> Option<u64> {
+    match outcome {
+        Outcome::Unwritten(written) => Some(*written),
+        _ => None,
+    }
+}
+
+/// Whether an output with too little room takes the beginning of a text that fits, and the outcome counts its lines.
+fn is_cut(alloc: Global, text: &str, most: usize, room: usize) -> Result<bool, Fail> {
+    let (taken, outcome) = narrowly_checked(alloc, most, room)?;
+    let is_front = taken.len() == room && text.as_bytes().starts_with(&taken);
+    Ok(is_front && unwritten(&outcome) == Some(lines_in(room)))
 }
 
 /// Each room that is too small, with an output that takes so many bytes a call.
 fn refuses_at_each_place(rt: &impl Abort, alloc: Global, most: usize) -> Result<(), Fail> {
     let text = whole(alloc)?;
     for room in 0..text.len() {
-        let (taken, outcome) = narrowly_checked(alloc, most, room)?;
-        assert!(rt; text.as_bytes().starts_with(&taken), "room {room}");
-        assert_eq!(rt; taken.len(), room);
-        let first = MARK_LINE.len();
-        let lines = u64::from(room >= first)
-            + u64::from(room >= first.saturating_add(ENCODING_LINE.len()));
-        let written = match outcome {
-            Outcome::Unwritten(written) => Some(written),
-            _ => None,
-        };
-        assert_eq!(rt; written, Some(lines), "room {room}");
+        assert!(rt; is_cut(alloc, text.as_str(), most, room)?, "room {room}");
     }
     Ok(())
 }
@@ -85,13 +111,4 @@ fn refuses_at_each_place(rt: &impl Abort, alloc: Global, most: usize) -> Result<
 fn an_output_that_refuses_at_each_place(rt: HostRuntime) -> Result<(), Fail> {
     refuses_at_each_place(&rt, rt.alloc(), usize::MAX)?;
     refuses_at_each_place(&rt, rt.alloc(), 1)
-}
-
-#[test]
-fn an_output_with_just_enough_room(rt: HostRuntime) -> Result<(), Fail> {
-    let text = whole(rt.alloc())?;
-    let (taken, outcome) = narrowly_checked(rt.alloc(), usize::MAX, text.len())?;
-    assert_eq!(rt; taken.as_slice(), text.as_bytes());
-    assert_eq!(rt; status(&outcome), 1);
-    Ok(())
 }

@@ -1,4 +1,5 @@
 //! Fault lines, what is refused as one, and the order of faults.
+use crate::rows::{sees, sees_that};
 use bag_report::{CursorFault, Fault};
 use bag_text::{Code, Text};
 use std::alloc::{AllocError, Global};
@@ -48,8 +49,8 @@ fn is_read_back(alloc: Global, line: &str, text: &str) -> Result<bool, Fail> {
 fn each_text_is_encoded_and_read_back(rt: HostRuntime) -> Result<(), Fail> {
     for &(text, field) in TEXTS {
         let line = format!(in rt.alloc(); "604 name-clash {field} - - {field}")?;
-        assert_eq!(rt; encoded(rt.alloc(), text)?.as_str(), line.as_str());
-        assert!(rt; is_read_back(rt.alloc(), line.as_str(), text)?, "{field}");
+        sees(&rt, encoded(rt.alloc(), text)?.as_str(), line.as_str());
+        sees_that(&rt, is_read_back(rt.alloc(), line.as_str(), text)?, field);
     }
     Ok(())
 }
@@ -123,10 +124,10 @@ fn rewrite(alloc: Global, line: &str, text: &mut String) -> Result<(), Fail> {
 #[test]
 fn each_line_is_written_as_it_was_read(rt: HostRuntime) -> Result<(), Fail> {
     let mut buffer = String::new(rt.alloc());
-    for line in LINES {
-        assert!(rt; is_copied(rt.alloc(), line)?, "{line}");
+    for &line in LINES {
+        sees_that(&rt, is_copied(rt.alloc(), line)?, line);
         rewrite(rt.alloc(), line, &mut buffer)?;
-        assert_eq!(rt; buffer.strip_prefix("> "), Some(*line));
+        sees_that(&rt, buffer.strip_prefix("> ") == Some(line), line);
     }
     Ok(())
 }
@@ -316,11 +317,9 @@ const REFUSED: &[(&str, &str)] = &[
 
 #[test]
 fn other_texts_are_refused(rt: HostRuntime) {
-    for (reason, text) in REFUSED {
-        match Fault::from_line(rt.alloc(), text) {
-            Ok(read) => panic!(rt; "{reason}: {text} was read as {read:?}"),
-            Err(refusal) => assert_eq!(rt; refusal, CursorFault::NotALine, "{reason}"),
-        }
+    for &(reason, text) in REFUSED {
+        let refusal = Fault::from_line(rt.alloc(), text).err();
+        sees_that(&rt, refusal == Some(CursorFault::NotALine), reason);
     }
 }
 
@@ -363,9 +362,9 @@ fn descending(alloc: Global) -> Result<Vec<Fault>, Fail> {
 
 /// Each fault has the line at its place.
 fn sees_lines(rt: &impl Abort, alloc: Global, faults: &[Fault]) -> Result<(), Fail> {
-    assert_eq!(rt; faults.len(), ASCENDING.len());
+    sees_that(rt, faults.len() == ASCENDING.len(), "length");
     for (fault, line) in faults.iter().zip(ASCENDING) {
-        assert_eq!(rt; fault.to_line(alloc)?.as_str(), *line);
+        sees(rt, fault.to_line(alloc)?.as_str(), *line);
     }
     Ok(())
 }
@@ -377,11 +376,16 @@ fn faults_are_sorted_in_their_order(rt: HostRuntime) -> Result<(), Fail> {
     sees_lines(&rt, rt.alloc(), &faults)
 }
 
+/// Refusals, each with its text.
+const CURSOR_FAULTS: &[(CursorFault, &str)] = &[
+    (CursorFault::NotALine, "not a fault line"),
+    (CursorFault::Memory, "out of memory"),
+];
+
 #[test]
 fn refusals_have_their_texts(rt: HostRuntime) -> Result<(), Fail> {
-    let not_a_line = CursorFault::NotALine.to_string(rt.alloc())?;
-    assert_eq!(rt; not_a_line.as_str(), "not a fault line");
-    let memory = CursorFault::Memory.to_string(rt.alloc())?;
-    assert_eq!(rt; memory.as_str(), "out of memory");
+    for &(refusal, text) in CURSOR_FAULTS {
+        sees(&rt, refusal.to_string(rt.alloc())?.as_str(), text);
+    }
     Ok(())
 }

@@ -1,23 +1,31 @@
 //! Bags whose parts and manifests are judged, at each depth.
-use crate::stages::{Bag, Row, stage_text, text_of_lines};
+use crate::stages::{Bag, Row, has_text, text_of_lines};
 use crate::{manifests, parts};
-use bag_report::Depth;
+use bag_report::{Depth, Options};
 use std::test::Fail;
 
-/// Whether the faults of a stage have these lines, or there are none where the depth doesn't look at the stage.
-fn has_lines(
+/// Whether the faults of a stage have these lines, or there are none where the depth doesn't look at the stage. No stage of
+/// these looks for names that clash.
+pub(crate) fn has_lines(
     rt: &HostRuntime,
     bag: &Bag,
     (depth, has_stage): (Depth, bool),
     stage: u8,
     lines: &[&str],
 ) -> Result<bool, Fail> {
-    let text = stage_text(rt.alloc(), bag, depth, stage)?;
-    if !has_stage {
-        return Ok(text.is_empty());
+    let expected = if has_stage {
+        text_of_lines(rt.alloc(), lines)?
+    } else {
+        String::new(rt.alloc())
+    };
+    let mut tree = bag.tree(rt.alloc())?;
+    for clashes in [false, true] {
+        let options = Options { depth, clashes };
+        if !has_text(rt.alloc(), &mut tree, options, stage, expected.as_str())? {
+            return Ok(false);
+        }
     }
-    let expected = text_of_lines(rt.alloc(), lines)?;
-    Ok(text.as_str() == expected.as_str())
+    Ok(true)
 }
 
 /// Whether the faults of both stages are those of the row, at each depth.

@@ -5,12 +5,20 @@
 #[cfg(test)]
 mod faults;
 #[cfg(test)]
+mod fetched;
+#[cfg(test)]
 mod judged;
 #[cfg(test)]
 mod manifests;
 #[cfg(test)]
+mod metadata;
+#[cfg(test)]
 mod parts;
+#[cfg(test)]
+mod rows;
 #[cfg(test)]
 mod stages;
 #[cfg(test)]
 mod stores;
+#[cfg(test)]
+mod thousands;

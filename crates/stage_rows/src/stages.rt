@@ -1,5 +1,5 @@
 //! The faults of one stage of a bag in memory.
-use bag_report::{Depth, Facts, Fault, Options, stage_faults};
+use bag_report::{Facts, Fault, Options, stage_faults};
 use bag_store::MemoryTree;
 use bag_text::check_path;
 use std::alloc::{AllocError, Global};
@@ -19,13 +19,13 @@ pub(crate) struct Row {
 }
 
 /// Puts a file into a tree.
-fn put(tree: &mut MemoryTree, path: &str, bytes: &[u8]) -> Result<(), Fail> {
+pub(crate) fn put(tree: &mut MemoryTree, path: &str, bytes: &[u8]) -> Result<(), Fail> {
     check_path(path)?;
     Ok(tree.put_file(path, bytes)?)
 }
 
 impl Bag {
-    fn tree(&self, alloc: Global) -> Result<MemoryTree, Fail> {
+    pub(crate) fn tree(&self, alloc: Global) -> Result<MemoryTree, Fail> {
         let mut tree = MemoryTree::new(alloc);
         if self.has_data {
             tree.put_folder("data")?;
@@ -37,39 +37,45 @@ impl Bag {
     }
 }
 
-/// What the tag files of a bag say, as far as a check of this depth reads them.
-fn facts_of(alloc: Global, bag: &Bag, depth: Depth) -> Result<Facts, Fail> {
-    let options = Options {
-        depth,
-        clashes: false,
-    };
-    let mut tree = bag.tree(alloc)?;
-    match Facts::read(alloc, &mut tree, options) {
+/// What the tag files of a bag say, as far as a check with these options reads them.
+fn facts_of(alloc: Global, tree: &mut MemoryTree, options: Options) -> Result<Facts, Fail> {
+    match Facts::read(alloc, tree, options) {
         Ok(facts) => Ok(facts),
         Err(stop) => Err(Fail::from(stop.cause)),
     }
 }
 
 /// The faults of one stage.
-fn faults_of(alloc: Global, bag: &Bag, depth: Depth, stage: u8) -> Result<Vec<Fault>, Fail> {
-    let facts = facts_of(alloc, bag, depth)?;
+fn faults_of(
+    alloc: Global,
+    tree: &mut MemoryTree,
+    options: Options,
+    stage: u8,
+) -> Result<Vec<Fault>, Fail> {
+    let facts = facts_of(alloc, tree, options)?;
     Ok(stage_faults(alloc, &facts, stage)?)
 }
 
-/// The lines of the faults of one stage, each with its end.
-pub(crate) fn stage_text(
-    alloc: Global,
-    bag: &Bag,
-    depth: Depth,
-    stage: u8,
-) -> Result<String, Fail> {
-    let faults = faults_of(alloc, bag, depth, stage)?;
+/// The lines of these faults, each with its end.
+fn text_of_faults(alloc: Global, faults: &[Fault]) -> Result<String, AllocError> {
     let mut text = String::new(alloc);
-    for fault in &faults {
+    for fault in faults {
         fault.append_line(&mut text)?;
         text.push('\n')?;
     }
     Ok(text)
+}
+
+/// Whether the faults of one stage have these lines, each with its end.
+pub(crate) fn has_text(
+    alloc: Global,
+    tree: &mut MemoryTree,
+    options: Options,
+    stage: u8,
+    wanted: &str,
+) -> Result<bool, Fail> {
+    let faults = faults_of(alloc, tree, options, stage)?;
+    Ok(text_of_faults(alloc, &faults)?.as_str() == wanted)
 }
 
 /// Lines, each with its end.

@@ -1,4 +1,5 @@
 //! What no contract says of trees in memory and of writers: that the calls succeed while there is memory and room.
+use crate::rows::sees_that;
 use bag_store::{FileEntry, MemoryTree, Out, Refused, Tree, WriterOut, read_whole};
 use bag_text::check_path;
 use std::alloc::{AllocError, Global};
@@ -41,7 +42,8 @@ fn reads_each(
     bytes: &[u8],
 ) -> Result<(), Fail> {
     for entry in files {
-        assert!(rt; read_whole(alloc, tree, entry)?.as_slice() == bytes);
+        let found = read_whole(alloc, tree, entry)?;
+        sees_that(rt, found.as_slice() == bytes, entry.path.as_str());
     }
     Ok(())
 }
@@ -51,10 +53,10 @@ fn lists_and_reads(rt: &impl Abort, alloc: Global, count: usize, size: u32) -> R
     let bytes = bytes_of(alloc, size)?;
     let mut tree = tree_of(alloc, count, &bytes)?;
     let listing = tree.list()?;
-    assert!(rt; listing.has_data);
-    assert_eq!(rt; listing.files.as_slice().len(), count);
-    reads_each(rt, alloc, &mut tree, listing.files.as_slice(), &bytes)?;
-    assert_eq!(rt; tree.openings().len(), count);
+    let files = listing.files.as_slice();
+    assert!(rt; listing.has_data && files.len() == count, "{count}");
+    reads_each(rt, alloc, &mut tree, files, &bytes)?;
+    assert!(rt; tree.openings().len() == count, "{count}");
     Ok(())
 }
 
@@ -97,16 +99,26 @@ impl Write for Short {
     }
 }
 
+/// What is put into an output with room for three bytes, in order, and what each call answers.
+const PUTS: &[(&[u8], Result<usize, Refused>)] = &[
+    (b"ab", Ok(2)),
+    (b"cdef", Ok(1)),
+    (b"def", Err(Refused)),
+    (b"d", Err(Refused)),
+];
+
 #[test]
-fn a_writer_that_takes_nothing_has_refused(rt: HostRuntime) -> Result<(), Fail> {
+fn a_writer_that_takes_nothing_has_refused(rt: HostRuntime) {
     let mut out = WriterOut::new(Short {
         taken: Vec::new(rt.alloc()),
         room: 3,
     });
-    assert_eq!(rt; out.put(b"ab"), Ok(2));
-    assert_eq!(rt; out.put(b"cdef"), Ok(1));
-    assert_eq!(rt; out.put(b"def"), Err(Refused));
-    assert_eq!(rt; out.put(b"d"), Err(Refused));
-    assert_eq!(rt; out.into_inner().taken.as_slice(), b"abc".as_slice());
-    Ok(())
+    for &(bytes, answer) in PUTS {
+        assert!(rt; out.put(bytes) == answer, "{bytes:?}");
+    }
+    sees_that(
+        &rt,
+        out.into_inner().taken.as_slice() == b"abc".as_slice(),
+        "taken",
+    );
 }

@@ -1,4 +1,5 @@
 //! What `bagit.txt` declares, and where tag files stand, as tables.
+use crate::rows::{sees, sees_that};
 use bag_tags::{Declaration, Kind, TagName, manifest_alg, read_declaration};
 use bag_text::{Alg, Text};
 use std::alloc::{AllocError, Global};
@@ -83,7 +84,7 @@ const DECLARATIONS: &[(&[u8], &str)] = &[
 #[test]
 fn reads_declarations(rt: HostRuntime) -> Result<(), Fail> {
     for &(bytes, wanted) in DECLARATIONS {
-        assert_eq!(rt; said(rt.alloc(), bytes)?.as_str(), wanted);
+        sees(&rt, said(rt.alloc(), bytes)?.as_str(), wanted);
     }
     Ok(())
 }
@@ -106,7 +107,7 @@ const NAMES: &[(Kind, &str, Option<&str>)] = &[
 #[test]
 fn reads_the_names_of_manifests(rt: HostRuntime) {
     for &(kind, name, wanted) in NAMES {
-        assert!(rt; manifest_alg(kind, name) == wanted, "{name}");
+        sees_that(&rt, manifest_alg(kind, name) == wanted, name);
     }
 }
 
@@ -129,14 +130,21 @@ const PATHS: &[(&str, Option<TagName>)] = &[
     ("", None),
 ];
 
+/// Whether this tag file stands at a path, and at no other.
+fn is_at(alloc: Global, path: &str, wanted: Option<TagName>) -> Result<bool, AllocError> {
+    if TagName::at(path) != wanted {
+        return Ok(false);
+    }
+    match wanted {
+        Some(name) => Ok(name.path(alloc)?.as_str() == path),
+        None => Ok(true),
+    }
+}
+
 #[test]
 fn knows_the_tag_files(rt: HostRuntime) -> Result<(), Fail> {
     for &(path, wanted) in PATHS {
-        let name = TagName::at(path);
-        assert!(rt; name == wanted, "{path}");
-        if let Some(name) = name {
-            assert_eq!(rt; name.path(rt.alloc())?.as_str(), path);
-        }
+        sees_that(&rt, is_at(rt.alloc(), path, wanted)?, path);
     }
     Ok(())
 }

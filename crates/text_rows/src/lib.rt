@@ -6,4 +6,6 @@ mod declarations;
 #[cfg(test)]
 mod manifests;
 #[cfg(test)]
+mod rows;
+#[cfg(test)]
 mod texts;

@@ -1,4 +1,5 @@
 //! What manifests name, as tables.
+use crate::rows::{sees, sees_that};
 use bag_tags::{Kind, LineFault, ManifestEntry, Parsed, read_manifest};
 use bag_text::{Alg, Code};
 use std::alloc::{AllocError, Global};
@@ -25,11 +26,14 @@ fn shown(alloc: Global, parsed: &Parsed<ManifestEntry>) -> Result<String, Fail> 
     Ok(text)
 }
 
-/// What a manifest says in which `M` stands for a digest.
-fn said(alloc: Global, kind: Kind, alg: Alg, pattern: &str) -> Result<String, Fail> {
-    let text = pattern.replace(alloc, "M", EMPTY_MD5)?;
-    let parsed = read_manifest(alloc, kind, alg, text.as_bytes())?;
-    shown(alloc, &parsed)
+/// What is read in the bytes of a manifest.
+fn said(alloc: Global, kind: Kind, alg: Alg, bytes: &[u8]) -> Result<String, Fail> {
+    shown(alloc, &read_manifest(alloc, kind, alg, bytes)?)
+}
+
+/// A text in which each `M` has become a digest.
+fn filled(alloc: Global, pattern: &str) -> Result<String, AllocError> {
+    pattern.replace(alloc, "M", EMPTY_MD5)
 }
 
 /// Manifests in which `M` stands for a digest, each with what is read of it.
@@ -88,36 +92,44 @@ const MANIFESTS: &[(Kind, Alg, &str, &str)] = &[
     (Kind::Payload, Alg::Md5, "", ""),
 ];
 
+/// What is read in a manifest in which `M` stands for a digest.
+fn said_of(alloc: Global, kind: Kind, alg: Alg, pattern: &str) -> Result<String, Fail> {
+    said(
+        alloc,
+        kind,
+        alg,
+        filled(alloc, pattern)?.as_str().as_bytes(),
+    )
+}
+
 #[test]
 fn reads_lines_of_manifests(rt: HostRuntime) -> Result<(), Fail> {
     for &(kind, alg, pattern, wanted) in MANIFESTS {
-        let wanted = wanted.replace(rt.alloc(), "M", EMPTY_MD5)?;
-        assert_eq!(rt;
-            said(rt.alloc(), kind, alg, pattern)?.as_str(),
+        let wanted = filled(rt.alloc(), wanted)?;
+        sees(
+            &rt,
+            said_of(rt.alloc(), kind, alg, pattern)?.as_str(),
             wanted.as_str(),
-            "{pattern}"
         );
     }
     Ok(())
 }
 
-#[test]
-fn reads_upper_case_and_odd_line_ends(rt: HostRuntime) -> Result<(), Fail> {
-    let text =
-        "0CC175B9C0F1B6A831C399E269772661 *data/a\r92eb5ffee6ae2fec3ad71c777531578f\t./data/b";
-    let parsed = read_manifest(rt.alloc(), Kind::Payload, Alg::Md5, text.as_bytes())?;
-    assert_eq!(rt;
-        shown(rt.alloc(), &parsed)?.as_str(),
-        "1 0cc175b9c0f1b6a831c399e269772661 data/a|2 92eb5ffee6ae2fec3ad71c777531578f data/b|"
-    );
-    Ok(())
-}
+/// The bytes of payload manifests for md5, each with what is read in it.
+const BYTES: &[(&[u8], &str)] = &[
+    (
+        b"0CC175B9C0F1B6A831C399E269772661 *data/a\r92eb5ffee6ae2fec3ad71c777531578f\t./data/b",
+        "1 0cc175b9c0f1b6a831c399e269772661 data/a|2 92eb5ffee6ae2fec3ad71c777531578f data/b|",
+    ),
+    (b"d41d8cd98f00b204e9800998ecf8427e  data/a\n\xFF", "204 0 |"),
+];
 
 #[test]
-fn names_nothing_in_bytes_that_are_not_utf8(rt: HostRuntime) -> Result<(), Fail> {
-    let bytes = b"d41d8cd98f00b204e9800998ecf8427e  data/a\n\xFF";
-    let parsed = read_manifest(rt.alloc(), Kind::Payload, Alg::Md5, bytes)?;
-    assert_eq!(rt; shown(rt.alloc(), &parsed)?.as_str(), "204 0 |");
+fn reads_upper_case_odd_line_ends_and_bytes_that_are_not_utf8(rt: HostRuntime) -> Result<(), Fail> {
+    for &(bytes, wanted) in BYTES {
+        let found = said(rt.alloc(), Kind::Payload, Alg::Md5, bytes)?;
+        sees(&rt, found.as_str(), wanted);
+    }
     Ok(())
 }
 
@@ -144,26 +156,41 @@ fn thousands(alloc: Global) -> Result<String, AllocError> {
     Ok(text)
 }
 
+/// Whether an entry has the path and the line of its number.
+fn is_entry(alloc: Global, entry: &ManifestEntry, index: u64) -> Result<bool, AllocError> {
+    let line = index.wrapping_add(index / 10).wrapping_add(1);
+    Ok(entry.line == line && entry.path.as_str() == path_of(alloc, index)?.as_str())
+}
+
 /// Each entry has its path and its line.
 fn sees_entries(rt: &impl Abort, alloc: Global, entries: &[ManifestEntry]) -> Result<(), Fail> {
+    sees_that(rt, entries.len() == 5000, "count of entries");
     let mut index = 0u64;
     for entry in entries {
-        assert_eq!(rt; entry.path.as_str(), path_of(alloc, index)?.as_str());
-        assert_eq!(rt; entry.line, index.wrapping_add(index / 10).wrapping_add(1));
+        sees_that(rt, is_entry(alloc, entry, index)?, entry.path.as_str());
         index = index.wrapping_add(1);
     }
     Ok(())
 }
 
+/// Whether a fault has the path and the line of its number.
+fn is_fault(alloc: Global, fault: &LineFault, tenth: u64) -> Result<bool, AllocError> {
+    let line = tenth.wrapping_add(1).wrapping_mul(11);
+    let path = path_of(alloc, tenth.wrapping_mul(10))?;
+    Ok(
+        fault.code == Code::NamedAgain
+            && fault.line == line
+            && fault.detail.as_str() == path.as_str(),
+    )
+}
+
 /// Each fault has its path and its line.
 fn sees_faults(rt: &impl Abort, alloc: Global, faults: &[LineFault]) -> Result<(), Fail> {
+    sees_that(rt, faults.len() == 500, "count of faults");
     let mut tenth = 0u64;
     for fault in faults {
-        let path = path_of(alloc, tenth.wrapping_mul(10))?;
-        assert!(rt; fault.code == Code::NamedAgain);
-        assert_eq!(rt; fault.detail.as_str(), path.as_str());
+        sees_that(rt, is_fault(alloc, fault, tenth)?, fault.detail.as_str());
         tenth = tenth.wrapping_add(1);
-        assert_eq!(rt; fault.line, tenth.wrapping_mul(11));
     }
     Ok(())
 }
@@ -171,9 +198,12 @@ fn sees_faults(rt: &impl Abort, alloc: Global, faults: &[LineFault]) -> Result<(
 #[test]
 fn reads_thousands_of_unsorted_lines(rt: HostRuntime) -> Result<(), Fail> {
     let text = thousands(rt.alloc())?;
-    let parsed = read_manifest(rt.alloc(), Kind::Payload, Alg::Md5, text.as_bytes())?;
-    assert_eq!(rt; parsed.items.as_slice().len(), 5000);
-    assert_eq!(rt; parsed.faults.as_slice().len(), 500);
+    let parsed = read_manifest(
+        rt.alloc(),
+        Kind::Payload,
+        Alg::Md5,
+        text.as_str().as_bytes(),
+    )?;
     sees_entries(&rt, rt.alloc(), parsed.items.as_slice())?;
     sees_faults(&rt, rt.alloc(), parsed.faults.as_slice())
 }

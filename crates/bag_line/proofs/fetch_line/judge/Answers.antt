@@ -19,5 +19,5 @@ returns c =
     let behind = c.split_at_blanks.ensures.back in
     let next = c.split_at_blanks-2.ensures.front ∙ ap before_blank behind in
     let last = c.split_at_blanks-2.ensures.back ∙ ap after_blanks behind in
-    let written = ap (verdict_by_spelling _ _) c.without_prefix.ensures in
+    let written = ap (verdict_by_spelling _ _) c.spelling_in.ensures in
     IfOk-weaker c.judge_spelling.result _ _ (λ v e. e ∙ written ∙ line_with_parts c.args.line.now _ _ _ first next last (sym c.if-lacks_part.ensures)) c.judge_spelling.ensures

@@ -6,7 +6,7 @@ use Rattle.bag_text.proofs.Numbered.{length-numbered}
 use Rattle.std.specs.List.{slice_get}
 use Rattle.std.specs.List.{enumerate_from}
 use Rattle.bag_text.specs.Lines as cut
-use Rattle.bag_tags.proofs.Heads.{no_lines, first_line}
+use Rattle.bag_tags.proofs.DeclarationLines.{no_lines, first_line}
 use Rattle.bag_tags.proofs.declaration.first_lines.Goals as goal
 
 pub returns-in_default-clause-first : goal.returns-in_default-clause-first

@@ -2,7 +2,7 @@ use Rattle.std.proofs.Common.{sym, subst}
 use Rattle.std.specs.List.Sorted.{IsStrictlySortedBy}
 use Rattle.bag_text.specs.Lines as cut
 use Rattle.bag_tags.specs.Repeats.{line_cmp}
-use Rattle.bag_tags.proofs.JudgedLines.{judged_ascend}
+use Rattle.bag_tags.proofs.ManifestJudged.{judged_ascend}
 use Rattle.bag_tags.proofs.manifest.read_text.Goals as goal
 
 pub mark_repeats-requires : goal.mark_repeats-requires

@@ -3,7 +3,7 @@ use Rattle.std.specs.Cmp.Lexicographic.{same_text}
 use Rattle.std.proofs.lemmas.List.{length-map}
 use Rattle.std.proofs.lemmas.Slice.Eq.{bytes_eq-Decides}
 use Rattle.bag_tags.specs.Repeats.{pair_of}
-use Rattle.bag_tags.proofs.Followers.{AreFollowers, same_path, other_path, all_followers}
+use Rattle.bag_tags.proofs.RepeatsFollowers.{AreFollowers, same_path, other_path, all_followers}
 use Rattle.bag_tags.proofs.repeats.followers.Goals as goal
 use Rattle.bag_tags.proofs.repeats.followers.Goals.{then-is_same_path+in_ok-push, else-is_same_path}
 

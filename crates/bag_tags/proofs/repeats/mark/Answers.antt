@@ -2,7 +2,7 @@ use Rattle.std.proofs.Common.{◌≡◌, ◌<◌, length, get_or, take, sym, ap,
 use Rattle.std.specs.List.{slice_get}
 use Rattle.std.proofs.lemmas.List.{take_more}
 use Rattle.std.proofs.lemmas.Option.{slice_get-get_or}
-use Rattle.bag_tags.proofs.Marked.{one_marked, contains_at}
+use Rattle.bag_tags.proofs.RepeatsMarked.{one_marked, contains_at}
 use Rattle.bag_tags.proofs.repeats.mark.Goals as goal
 
 pub index_mut-requires : goal.index_mut-requires

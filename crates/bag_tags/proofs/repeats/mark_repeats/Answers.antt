@@ -2,7 +2,7 @@ use Rattle.std.proofs.Common.{ℕ, subst}
 use Rattle.std.specs.Prelude.{Contains, ◌↔◌}
 use Rattle.std.proofs.lemmas.Option.{slice_get_within}
 use Rattle.bag_tags.specs.Repeats.{IsRepeatAt}
-use Rattle.bag_tags.proofs.Marked.{marked_lines}
+use Rattle.bag_tags.proofs.RepeatsMarked.{marked_lines}
 use Rattle.bag_tags.proofs.repeats.mark_repeats.Goals as goal
 
 pub mark-requires : goal.mark-requires

@@ -6,8 +6,8 @@ use Rattle.std.proofs.lemmas.Result.{IfOk-weaker}
 use Rattle.std.proofs.lemmas.List.Sorted.{IsPermutation-map, All-permutation}
 use Rattle.bag_tags.specs.Repeats.{pair_of, places_from, HasFingerprint, AreAscending, FollowsSame}
 use Rattle.bag_text.proofs.ListOf.{contains_nothing}
-use Rattle.bag_tags.proofs.Ascending.{none_again}
-use Rattle.bag_tags.proofs.SortedPlaces.{sorted_places, follows_is_repeat, repeat_follows, pair_cmp}
+use Rattle.bag_tags.proofs.RepeatsAscending.{none_again}
+use Rattle.bag_tags.proofs.RepeatsPlaces.{sorted_places, follows_is_repeat, repeat_follows, pair_cmp}
 use Rattle.bag_tags.proofs.repeats.repeats.Goals as goal
 
 pub followers-requires : goal.followers-requires

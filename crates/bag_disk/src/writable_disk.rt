@@ -1,0 +1,94 @@
+//! The calls of a disk that change what stands on it.
+ghost use Rattle.std.specs.Prelude.{◌≡◌, ◌≤◌, List, ℕ, IfOk, OnOk, OnErr, IsErrOf, IsTrue, Option, None, Some, is_some, length, take};
+ghost use Rattle.bag_text.specs.Path.{is_path};
+ghost use Rattle.bag_disk.specs.Disk.{Has, IsReached, OnlyLooks, node};
+ghost use Rattle.bag_disk.specs.WritableDisk.{Appends, Closes, HasFile, KeepsOthers, MakesFile, MakesFolder, Moves};
+ghost use Rattle.bag_disk.specs.declared.disk.DiskFault.TheVariants.{Exists, Name, NotFound};
+
+use crate::disk::{Disk, DiskFault};
+
+/// The calls of a disk that make a bag, below a base folder. A path leads from the base folder.
+///
+/// An honest disk stays honest: what stands there is then what its own calls made of it. A call that is answered closes the
+/// file that is open for reading; one that is refused changes nothing. Of a path that leads through a link nothing is said.
+/// What a call made may be lost where the system stops; `sync` alone asks for more.
+pub trait WritableDisk: Disk {
+    /// The path of the file that is being written.
+    ghost written: { Self → Option (List ℕ) };
+
+    /// Makes an empty folder where nothing stands. Then no file is being written.
+    fn make_folder(&mut self, path: &str) -> Result<(), DiskFault>
+        requires { IsTrue (is_path path.now) }
+        ensures made { OnOk result (IsTrue (Self.state self.old).honest → IsReached (Self.state self.old).nodes path.now
+            → MakesFolder (Self.state self.old).nodes (Self.state self.new).nodes path.now) }
+        ensures closed { OnOk result (Closes (Self.state self.old) (Self.state self.new)) }
+        ensures ended { OnOk result (written self.new ≡ None) }
+        ensures taken { IsErrOf result Exists → IsTrue (Self.state self.old).honest → IsReached (Self.state self.old).nodes path.now
+            → Has (Self.state self.old).nodes path.now }
+        ensures absent { IsErrOf result NotFound → IsTrue (Self.state self.old).honest → IsReached (Self.state self.old).nodes path.now → ⊥ }
+        ensures same { OnErr result (OnlyLooks (Self.state self.old) (Self.state self.new)) }
+        ensures same_file { OnErr result (written self.new ≡ written self.old) };
+
+    /// Moves what stands at one path, with all that is below it, to another, without a copy. Then no file is being written.
+    /// A caller looks first whether something stands at the other: it might be replaced, and then nothing is said of what is
+    /// at or below the two.
+    fn rename(&mut self, from: &str, to: &str) -> Result<(), DiskFault>
+        requires from { IsTrue (is_path from.now) }
+        requires to { IsTrue (is_path to.now) }
+        ensures moved { OnOk result (IsTrue (Self.state self.old).honest
+            → IsReached (Self.state self.old).nodes from.now → IsReached (Self.state self.old).nodes to.now
+            → node (Self.state self.old).nodes to.now ≡ None → Moves (Self.state self.old).nodes (Self.state self.new).nodes from.now to.now) }
+        ensures others { OnOk result (IsTrue (Self.state self.old).honest
+            → IsReached (Self.state self.old).nodes from.now → IsReached (Self.state self.old).nodes to.now
+            → KeepsOthers (Self.state self.old).nodes (Self.state self.new).nodes from.now to.now) }
+        ensures closed { OnOk result (Closes (Self.state self.old) (Self.state self.new)) }
+        ensures ended { OnOk result (written self.new ≡ None) }
+        ensures taken { IsErrOf result Exists → IsTrue (Self.state self.old).honest → IsReached (Self.state self.old).nodes to.now
+            → Has (Self.state self.old).nodes to.now }
+        ensures absent { IsErrOf result NotFound → IsTrue (Self.state self.old).honest
+            → IsReached (Self.state self.old).nodes from.now → IsReached (Self.state self.old).nodes to.now
+            → node (Self.state self.old).nodes from.now ≡ None }
+        ensures same { OnErr result (OnlyLooks (Self.state self.old) (Self.state self.new)) }
+        ensures same_file { OnErr result (written self.new ≡ written self.old) };
+
+    /// Makes an empty file where nothing stands, which is then being written in place of any other.
+    fn create(&mut self, path: &str) -> Result<(), DiskFault>
+        requires { IsTrue (is_path path.now) }
+        ensures made { OnOk result (IsTrue (Self.state self.old).honest → IsReached (Self.state self.old).nodes path.now
+            → MakesFile (Self.state self.old).nodes (Self.state self.new).nodes path.now) }
+        ensures closed { OnOk result (Closes (Self.state self.old) (Self.state self.new)) }
+        ensures begun { OnOk result (IsTrue (is_some (written self.new))) }
+        ensures begun_there { OnOk result (IsTrue (Self.state self.old).honest → written self.new ≡ Some path.now) }
+        ensures taken { IsErrOf result Exists → IsTrue (Self.state self.old).honest → IsReached (Self.state self.old).nodes path.now
+            → Has (Self.state self.old).nodes path.now }
+        ensures absent { IsErrOf result NotFound → IsTrue (Self.state self.old).honest → IsReached (Self.state self.old).nodes path.now → ⊥ }
+        ensures same { OnErr result (OnlyLooks (Self.state self.old) (Self.state self.new)) }
+        ensures same_file { OnErr result (written self.new ≡ written self.old) };
+
+    /// Puts some first bytes, as many as it answers, behind those of the file that is being written. An honest disk refuses
+    /// it by `Memory` or `Device` alone.
+    fn write(&mut self, bytes: &[u8]) -> Result<usize, DiskFault>
+        requires { IsTrue (is_some (written self.old)) }
+        ensures within { IfOk result (λ n. n ≤ length bytes.now) }
+        ensures appended { IfOk result (λ n. IsTrue (Self.state self.old).honest → (path : List ℕ) → written self.old ≡ Some path
+            → HasFile (Self.state self.old).nodes path → Appends (Self.state self.old).nodes (Self.state self.new).nodes path (take n bytes.now)) }
+        ensures closed { OnOk result (Closes (Self.state self.old) (Self.state self.new)) }
+        ensures taken { IsErrOf result Exists → IsTrue (Self.state self.old).honest → ⊥ }
+        ensures absent { IsErrOf result NotFound → IsTrue (Self.state self.old).honest → ⊥ }
+        ensures unnamed { IsErrOf result Name → IsTrue (Self.state self.old).honest → ⊥ }
+        ensures same { OnErr result (OnlyLooks (Self.state self.old) (Self.state self.new)) }
+        ensures same_file { written self.new ≡ written self.old };
+
+    /// Has the device keep the file that was written, and ends its writing. What is kept is the system's word: no contract
+    /// says what outlasts a stop of the system. An honest disk refuses it by `Memory` or `Device` alone.
+    fn sync(&mut self) -> Result<(), DiskFault>
+        requires { IsTrue (is_some (written self.old)) }
+        ensures kept { OnOk result ((Self.state self.new).nodes ≡ (Self.state self.old).nodes) }
+        ensures closed { OnOk result (Closes (Self.state self.old) (Self.state self.new)) }
+        ensures ended { OnOk result (written self.new ≡ None) }
+        ensures taken { IsErrOf result Exists → IsTrue (Self.state self.old).honest → ⊥ }
+        ensures absent { IsErrOf result NotFound → IsTrue (Self.state self.old).honest → ⊥ }
+        ensures unnamed { IsErrOf result Name → IsTrue (Self.state self.old).honest → ⊥ }
+        ensures same { OnErr result (OnlyLooks (Self.state self.old) (Self.state self.new)) }
+        ensures same_file { OnErr result (written self.new ≡ written self.old) };
+}

@@ -1,0 +1,32 @@
+-- When a disk in memory refuses a change.
+use Rattle.std.specs.Prelude.{ℕ, ◌≡◌, ◌⊎◌, List, Option, None, Some}
+use Rattle.bag_disk.specs.Disk.{Nodes, Has, IsDisk, IsReached, node}
+use Rattle.bag_disk.specs.DiskBag.{bytes_of}
+use Rattle.bag_disk.specs.WritableDisk.{moved}
+use Rattle.bag_disk.specs.declared.disk.DiskFault.{DiskFault}
+use Rattle.bag_disk.specs.declared.disk.DiskFault.TheVariants.{NotFound, Exists, Name, Memory, Device}
+
+-- Something new isn't made at a path where its folder isn't there, where something stands, or for want of memory.
+abbrev pub MayRefuseAdding : Nodes → List ℕ → DiskFault → Type 0
+MayRefuseAdding nodes path NotFound = ¬ (IsReached nodes path)
+MayRefuseAdding nodes path Exists = Has nodes path
+MayRefuseAdding nodes path Name = ⊥
+MayRefuseAdding nodes path Memory = Unit {0}
+MayRefuseAdding nodes path Device = ⊥
+
+-- Nothing is moved where nothing stands, where the folder to move to isn't there, where something stands, where that
+-- can't stand on a disk, as a folder below itself, or for want of memory.
+abbrev pub MayRefuseMoving : Nodes → List ℕ → List ℕ → DiskFault → Type 0
+MayRefuseMoving nodes from to NotFound = (node nodes from ≡ None) ⊎ ¬ (IsReached nodes to)
+MayRefuseMoving nodes from to Exists = Has nodes to
+MayRefuseMoving nodes from to Name = ⊥
+MayRefuseMoving nodes from to Memory = Unit {0}
+MayRefuseMoving nodes from to Device = ¬ (IsDisk (moved from to nodes))
+
+-- Nothing is written where no file stands that is being written, or for want of memory.
+abbrev pub MayRefuseWriting : Nodes → Option (List ℕ) → DiskFault → Type 0
+MayRefuseWriting nodes written NotFound = ⊥
+MayRefuseWriting nodes written Exists = ⊥
+MayRefuseWriting nodes written Name = ⊥
+MayRefuseWriting nodes written Memory = Unit {0}
+MayRefuseWriting nodes written Device = (path : List ℕ) → written ≡ Some path → bytes_of (node nodes path) ≡ None

@@ -1,0 +1,84 @@
+-- A fault of a bag is one of the set of its stage, and each set has faults of its stage.
+use Rattle.std.proofs.Common.{◌≡◌, ◌≢◌, inl, inr, ℕ, zero, suc, List, [], sym, ◌∙◌, subst}
+use Rattle.bag_text.specs.Code.{stage}
+use Rattle.bag_text.specs.Order.{IsListOf}
+use Rattle.bag_text.specs.declared.code.Code.TheVariants.{NameClash}
+use Rattle.bag_text.proofs.ListOf.{nothing_listed, same_members}
+use Rattle.bag_tree.specs.Bag.{Bag}
+use Rattle.bag_fault.specs.FaultOrder.{fault_cmp}
+use Rattle.bag_fault.specs.declared.fault.Fault.{Fault}
+use Rattle.bag_stages.specs.DeclarationStage.{IsOfDeclaration}
+use Rattle.bag_stages.specs.FetchStage.{IsOfFetch}
+use Rattle.bag_stages.specs.ManifestsStage.{IsOfManifests}
+use Rattle.bag_stages.specs.MetadataStage.{IsOfMetadata}
+use Rattle.bag_stages.specs.PartsStage.{IsOfParts}
+use Rattle.bag_stages.proofs.DeclarationFaults.{declaration_of_stage_one}
+use Rattle.bag_stages.proofs.FetchFaults.{fetch_of_stage_four}
+use Rattle.bag_stages.proofs.ManifestFaults.{manifests_of_stage_five}
+use Rattle.bag_stages.proofs.MetadataFaults.{metadata_of_stage_three}
+use Rattle.bag_stages.proofs.PartFaults.{parts_of_stage_two}
+use Rattle.bag_report.specs.Is.{Is}
+use Rattle.bag_report.specs.Stages.{IsFoundAt}
+
+-- the first of a row, or one of the others, by its number from 0
+abbrev pick : {A : Type 1} → A → (ℕ → A) → ℕ → A
+pick first others zero = first
+pick first others (suc k) = others k
+
+-- the set of a stage
+abbrev IsOf : Bag → ℕ → Fault → Type 0
+IsOf bag =
+    pick (λ f. ⊥) (pick (IsOfDeclaration bag) (pick (IsOfParts bag) (pick (IsOfMetadata bag) (pick (IsOfFetch bag) (pick (IsOfManifests bag) (λ k f. ⊥))))))
+
+module _ (bag : Bag) (f : Fault) where
+  of_its_stage : (k : ℕ) → stage f.code ≡ k → IsOf bag k f → IsOf bag (stage f.code) f
+  of_its_stage k e h = subst (λ n. IsOf bag n f) (sym e) h
+
+  in_its_stage : Is bag f → IsOf bag (stage f.code) f
+  unfolding Is
+  in_its_stage (inl h) = of_its_stage 1 (declaration_of_stage_one bag f h) h
+  in_its_stage (inr (inl h)) = of_its_stage 2 (parts_of_stage_two bag f h) h
+  in_its_stage (inr (inr (inl h))) = of_its_stage 3 (metadata_of_stage_three bag f h) h
+  in_its_stage (inr (inr (inr (inl h)))) = of_its_stage 4 (fetch_of_stage_four bag f h) h
+  in_its_stage (inr (inr (inr (inr h)))) = of_its_stage 5 (manifests_of_stage_five bag f h) h
+
+  pub none_clashes : Is bag f → f.code ≢ NameClash
+  none_clashes h e = subst (λ c. IsOf bag (stage c) f) e (in_its_stage h)
+
+-- the list of a stage's set has the faults of the bag that are of the stage
+module _ (bag : Bag) (faults : List Fault) where
+  stage_found : (k : ℕ) → ((f : Fault) → IsOf bag k f → IsFoundAt bag k f) → IsListOf fault_cmp (IsOf bag k) faults → IsListOf fault_cmp (IsFoundAt bag k) faults
+  stage_found k found list =
+      same_members fault_cmp (IsOf bag k) _ faults found (λ f h. subst (λ n. IsOf bag n f) h.1 (in_its_stage bag f h.0)) list
+
+  pub stage_one : IsListOf fault_cmp (IsOfDeclaration bag) faults → IsListOf fault_cmp (IsFoundAt bag 1) faults
+  unfolding Is
+  stage_one = stage_found 1 (λ f h. (inl h, declaration_of_stage_one bag f h))
+
+  pub stage_two : IsListOf fault_cmp (IsOfParts bag) faults → IsListOf fault_cmp (IsFoundAt bag 2) faults
+  unfolding Is
+  stage_two = stage_found 2 (λ f h. (inr (inl h), parts_of_stage_two bag f h))
+
+  pub stage_three : IsListOf fault_cmp (IsOfMetadata bag) faults → IsListOf fault_cmp (IsFoundAt bag 3) faults
+  unfolding Is
+  stage_three = stage_found 3 (λ f h. (inr (inr (inl h)), metadata_of_stage_three bag f h))
+
+  pub stage_four : IsListOf fault_cmp (IsOfFetch bag) faults → IsListOf fault_cmp (IsFoundAt bag 4) faults
+  unfolding Is
+  stage_four = stage_found 4 (λ f h. (inr (inr (inr (inl h))), fetch_of_stage_four bag f h))
+
+  pub stage_five : IsListOf fault_cmp (IsOfManifests bag) faults → IsListOf fault_cmp (IsFoundAt bag 5) faults
+  unfolding Is
+  stage_five = stage_found 5 (λ f h. (inr (inr (inr (inr h))), manifests_of_stage_five bag f h))
+
+  -- and no other number has faults
+  pub no_stage : (k : ℕ) → k ≢ 1 → k ≢ 2 → k ≢ 3 → k ≢ 4 → k ≢ 5 → faults ≡ [] → IsListOf fault_cmp (IsFoundAt bag k) faults
+  unfolding Is
+  no_stage k one two three four five none = rw none (nothing_listed fault_cmp _
+      (λ f h. elim h.0 [
+        | inl m ↦ one (sym h.1 ∙ declaration_of_stage_one bag f m)
+        | inr (inl m) ↦ two (sym h.1 ∙ parts_of_stage_two bag f m)
+        | inr (inr (inl m)) ↦ three (sym h.1 ∙ metadata_of_stage_three bag f m)
+        | inr (inr (inr (inl m))) ↦ four (sym h.1 ∙ fetch_of_stage_four bag f m)
+        | inr (inr (inr (inr m))) ↦ five (sym h.1 ∙ manifests_of_stage_five bag f m)
+      ]))

@@ -1,0 +1,19 @@
+-- What a stage finds, and which of it is asked for.
+use Rattle.std.specs.Prelude.{ℕ, ◌≡◌, Bool, true}
+use Rattle.bag_text.specs.Code.{stage}
+use Rattle.bag_text.specs.declared.code.Code.{Code}
+use Rattle.bag_text.specs.declared.code.Code.TheVariants.{NoOxum}
+use Rattle.bag_tree.specs.Bag.{Bag}
+use Rattle.bag_fault.specs.declared.fault.Fault.{Fault}
+use Rattle.bag_facts.specs.declared.options.Depth.{Depth}
+use Rattle.bag_report.specs.Is.{Is}
+use Rattle.bag_report.specs.Report.{is_fast}
+
+-- a fault of the bag that this stage looks for
+abbrev pub IsFoundAt : Bag → ℕ → Fault → Type 0
+IsFoundAt bag k f = Is bag f × (stage f.code ≡ k)
+
+-- whether faults of a code are asked for at a depth that reaches their stage
+abbrev pub is_chosen : Depth → Code → Bool
+is_chosen depth NoOxum = is_fast depth
+is_chosen depth other = true

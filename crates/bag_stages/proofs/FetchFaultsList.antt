@@ -1,0 +1,72 @@
+-- Every bag has a list of the faults of its list of files to fetch.
+use Rattle.std.proofs.Common.{◌≡◌, ◌⊎◌, ℕ, List, Bool, true, false, Option, None, Some, map, refl, sym, ◌∙◌, subst}
+use Rattle.std.specs.List.{enumerate_from}
+use Rattle.std.specs.Str.{is_utf8}
+use Rattle.bag_text.specs.Lines.{lines_of_file}
+use Rattle.bag_text.specs.declared.alg.Alg.{Alg}
+use Rattle.bag_line.specs.FetchVerdict.{entries, faults}
+use Rattle.bag_line.specs.declared.fault.LineFault.{LineFault}
+use Rattle.bag_line.specs.declared.fetch.FetchEntry.{FetchEntry}
+use Rattle.bag_line.proofs.FetchFaults.{entries_of_lines, faults_of_text}
+use Rattle.bag_tags.specs.declared.kind.Kind.TheVariants.{Payload}
+use Rattle.bag_tree.specs.Bag.{Bag, file, has_file}
+use Rattle.bag_fault.specs.declared.fault.Fault.{Fault}
+use Rattle.bag_stages.specs.FaultFields.{in_file}
+use Rattle.bag_stages.specs.FetchFaults.{IsNotInManifest, IsNotInSome, not_in_manifest}
+use Rattle.bag_stages.specs.FetchStage.{fetch_txt, FetchFaultsAreListed, HasFetch, IsOfFetch}
+use Rattle.bag_stages.specs.HasList.{HasList}
+use Rattle.bag_stages.specs.TagFiles.{manifest_of, lines_in, named_in, HasSupported, Names}
+use Rattle.bag_stages.proofs.BagLists.{over_algs}
+use Rattle.bag_stages.proofs.FetchFaults.{IsOfLine, lines_listed, no_line_fault, of_some, some_is}
+use Rattle.bag_stages.proofs.HasLists.{Decided, true_or_not, both_decided, nothing, one_where, same_set, either, for_each}
+use Rattle.bag_stages.proofs.ManifestsList.{missing_or_not}
+
+module _ (bag : Bag) where
+  of_bytes : (bytes : List ℕ) (b : Bool) → file bag fetch_txt ≡ Some bytes → is_utf8 bytes ≡ b → HasList (IsOfLine bag)
+  of_bytes bytes true e text =
+      let lines : List LineFault = faults (enumerate_from 1 (lines_of_file bytes)) in
+      (map (in_file fetch_txt None) lines, (lines_listed bag bytes lines e text (faults_of_text bytes text)).members)
+  of_bytes bytes false e lacks =
+      nothing (IsOfLine bag) (λ f. no_line_fault bag f (λ other there.
+      let same : bytes ≡ other = (let both : Some bytes ≡ Some other = sym e ∙ there in cc) in subst (λ b. is_utf8 b ≡ false) same lacks))
+
+  of_lines : (content : Option (List ℕ)) → file bag fetch_txt ≡ content → HasList (IsOfLine bag)
+  of_lines None e = nothing (IsOfLine bag) (λ f h. let clash : None ≡ Some h.0.2.0 = sym e ∙ h.0.2.1 in cc)
+  of_lines (Some bytes) e = of_bytes bytes (is_utf8 bytes) e refl
+
+  fetched : HasList (HasFetch bag)
+  fetched = (entries (enumerate_from 1 (lines_in bag fetch_txt)), (entries_of_lines (lines_in bag fetch_txt)).members)
+
+  -- the payload manifest that is there doesn't name this file
+  abbrev Lacks : Alg → FetchEntry → Type 0
+  Lacks alg e = HasSupported bag Payload alg × ¬ (Names bag Payload alg e.path)
+
+  abbrev IsLacking : Alg → FetchEntry → Fault → Type 0
+  IsLacking alg e f = Lacks alg e × (f ≡ not_in_manifest fetch_txt alg e)
+
+  abbrev LacksSome : Alg → Fault → Type 0
+  LacksSome alg f = (e : FetchEntry) × HasFetch bag e × IsLacking alg e f
+
+  lacks_or_not : (alg : Alg) (e : FetchEntry) → Decided (Lacks alg e)
+  lacks_or_not alg e = both_decided _ _ (true_or_not (has_file bag (manifest_of Payload alg))) (missing_or_not (named_in bag Payload alg) e.path)
+
+  to_not_in : (alg : Alg) (f : Fault) → LacksSome alg f → IsNotInManifest bag alg f
+  to_not_in alg f (e, has, ((there, lacks), is)) =
+      subst (IsNotInManifest bag alg) (sym is) (refl, (e, record { path_is = refl; alg_is = refl; line_is = refl; detail_is = refl }, has, there, lacks))
+
+  from_not_in : (alg : Alg) (f : Fault) → IsNotInManifest bag alg f → LacksSome alg f
+  from_not_in alg f (code, (e, at, has, there, lacks)) = (
+    e,
+    has,
+    ((there, lacks), (λ i. record { code = code i; path = at.path_is i; alg = at.alg_is i; line = at.line_is i; detail = at.detail_is i })),
+  )
+
+  of_alg : (alg : Alg) → HasList (IsNotInManifest bag alg)
+  of_alg alg =
+      same_set (LacksSome alg) (IsNotInManifest bag alg) (to_not_in alg) (from_not_in alg)
+      (for_each (IsLacking alg) (λ e. one_where (not_in_manifest fetch_txt alg e) (Lacks alg e) (lacks_or_not alg e)) (HasFetch bag) fetched)
+
+pub fetch_faults_are_listed : FetchFaultsAreListed
+fetch_faults_are_listed bag =
+    same_set (λ f. IsOfLine bag f ⊎ IsNotInSome bag f) (IsOfFetch bag) (some_is bag) (of_some bag)
+    (either (IsOfLine bag) (IsNotInSome bag) (of_lines bag (file bag fetch_txt) refl) (over_algs (IsNotInManifest bag) (of_alg bag)))

@@ -1,0 +1,269 @@
+-- The faults of the elements that tell the payload's size are those of the bag.
+use Rattle.std.proofs.Common.{◌≡◌, ◌≢◌, ◌<◌, ◌≤◌, ◌↔◌, inl, inr, ◌++◌, ℕ, List, [], ◌∷◌, map, Option, None, Some, Bool, true, false, cond, refl, sym, ap, ◌∙◌, subst, arith, Contains, eqb}
+use Rattle.std.specs.List.Sorted.{IsStrictlySortedBy}
+use Rattle.std.specs.Ordering.{nat_cmp, on}
+use Rattle.std.specs.declared.cmp.Ordering.{Ordering}
+use Rattle.std.specs.declared.cmp.Ordering.TheVariants.{Less}
+use Rattle.std.proofs.lemmas.Bool.Decides.{Decides-eqb}
+use Rattle.std.proofs.lemmas.List.Kept.{IsStrictlySortedBy-filter}
+use Rattle.bag_text.specs.Code.{stage}
+use Rattle.bag_text.specs.Order.{IsListOf}
+use Rattle.bag_text.specs.declared.code.Code.{Code}
+use Rattle.bag_text.specs.declared.code.Code.TheVariants.{InfoLine, OxumMalformed, OxumAgain, OxumDiffers, NoOxum}
+use Rattle.bag_text.proofs.ListOf.{contains_cases, contains_first, contains_behind, contains_nothing, contains_front, contains_back, contains_either, each_from_members, member_has, ascending_joined}
+use Rattle.bag_line.specs.Info.{IsElement}
+use Rattle.bag_line.specs.LineFault.{line_fault}
+use Rattle.bag_line.specs.Oxum.{oxum_of}
+use Rattle.bag_line.specs.declared.info.Element.{Element}
+use Rattle.bag_line.specs.declared.oxum.Oxum.{Oxum}
+use Rattle.bag_line.proofs.PickedOut.{both_true}
+use Rattle.bag_line.proofs.FaultOrder.{lower}
+use Rattle.bag_tree.specs.Bag.{Bag}
+use Rattle.bag_fault.specs.declared.fault.Fault.{Fault}
+use Rattle.bag_fault.specs.FaultOrder.{fault_cmp}
+use Rattle.bag_facts.proofs.Mapped.{mapped_contains, contains_mapped, kept, passed}
+use Rattle.bag_stages.specs.FaultFields.{At, in_file}
+use Rattle.bag_stages.specs.Metadata.{bag_info_txt, HasElement, HasFirst, HasLater}
+use Rattle.bag_stages.specs.MetadataStage.{oxum_label, MetadataHolds, IsOfMetadata, pair}
+use Rattle.bag_stages.specs.OxumFaults.{same_oxum, of_element, again, no_oxum, is_oxum, oxums, differs, told_faults, first_faults, oxum_faults}
+use Rattle.bag_stages.specs.Payload.{oxum, oxum_text}
+use Rattle.bag_stages.specs.TagFiles.{lines_in}
+use Rattle.bag_stages.proofs.InFile.{less_in_file}
+
+abbrev pub by_line : Element → Element → Ordering
+by_line = on (λ e. e.line) nat_cmp
+
+-- two sizes are one just where they are found to be
+same_sizes : (a b : Oxum) → same_oxum a b ≡ true → a ≡ b
+same_sizes a b e =
+    let both = both_true (eqb a.octets b.octets) (eqb a.streams b.streams) e in
+    let octets : a.octets ≡ b.octets = (Decides-eqb a.octets b.octets).0 both.0 in
+    let streams : a.streams ≡ b.streams = (Decides-eqb a.streams b.streams).0 both.1 in
+    λ i. record { octets = octets i; streams = streams i }
+
+itself : (a : Oxum) → same_oxum a a ≡ true
+itself a = rw ((Decides-eqb a.octets a.octets).1 refl, (Decides-eqb a.streams a.streams).1 refl) refl
+
+other_size : (a b : Oxum) → same_oxum a b ≡ false → a ≢ b
+other_size a b e same = let clash : false ≡ true = sym e ∙ ap (same_oxum a) (sym same) ∙ itself a in cc
+
+-- the fields of a fault of an element, and the fault that has them
+of_fields : (code : Code) (e : Element) (detail : List ℕ) → At (of_element bag_info_txt code e detail) bag_info_txt None e.line detail
+of_fields code e detail = record { path_is = refl; alg_is = refl; line_is = refl; detail_is = refl }
+
+fields_of : (f : Fault) (code : Code) (line : ℕ) (detail : List ℕ) → f.code ≡ code → At f bag_info_txt None line detail → f ≡ in_file bag_info_txt None (line_fault line code detail)
+fields_of f code line detail e at = λ i. record { code = e i; path = at.path_is i; alg = at.alg_is i; line = at.line_is i; detail = at.detail_is i }
+
+-- faults of two elements stand in the order of these
+less_of_elements : (c d : Code) (x y : Element) (s t : List ℕ) → nat_cmp x.line y.line ≡ Less → stage c ≡ stage d
+    → fault_cmp (of_element bag_info_txt c x s) (of_element bag_info_txt d y t) ≡ Less
+less_of_elements c d x y s t low same = less_in_file bag_info_txt None (line_fault x.line c s) (line_fault y.line d t) same (rw low refl)
+
+again_ascend : (later : List Element) → IsStrictlySortedBy by_line later → IsStrictlySortedBy fault_cmp (map (again bag_info_txt) later)
+unfolding IsStrictlySortedBy
+again_ascend [] s = tt
+again_ascend (x ∷ later) s = (
+  each_from_members _ (map (again bag_info_txt) later)
+      (λ f c. let at = contains_mapped (again bag_info_txt) later f c in
+      subst (λ g. fault_cmp (again bag_info_txt x) g ≡ Less) at.2 (less_of_elements OxumAgain OxumAgain x at.0 x.value at.0.value (member_has _ later at.0 s.0 at.1) refl)),
+  again_ascend later s.1,
+)
+
+module _ (found : Oxum) where
+  -- the first has one fault at most
+  differs_ascend : (e : Element) (b : Bool) → IsStrictlySortedBy fault_cmp (cond b [] (differs bag_info_txt found e ∷ []))
+  unfolding IsStrictlySortedBy
+  differs_ascend e true = tt
+  differs_ascend e false = (tt, tt)
+
+  told_ascend : (e : Element) (o : Option Oxum) → IsStrictlySortedBy fault_cmp (told_faults bag_info_txt found e o)
+  unfolding IsStrictlySortedBy
+  told_ascend e None = (tt, tt)
+  told_ascend e (Some told) = differs_ascend e (same_oxum told found)
+
+  -- and it is of the element
+  abbrev IsOfElement : Element → Fault → Type 0
+  IsOfElement e f = (code : Code) × (detail : List ℕ) × (stage code ≡ 3) × (of_element bag_info_txt code e detail ≡ f)
+
+  differs_of : (e : Element) (b : Bool) (f : Fault) → Contains (cond b [] (differs bag_info_txt found e ∷ [])) f → IsOfElement e f
+  differs_of e true f c = absurd (contains_nothing f c)
+  differs_of e false f c = elim (contains_cases (differs bag_info_txt found e) [] f c) [
+    | inl same ↦ (OxumDiffers, pair e.value (oxum_text found), refl, same)
+    | inr none ↦ absurd (contains_nothing f none)
+  ]
+
+  told_of : (e : Element) (o : Option Oxum) (f : Fault) → Contains (told_faults bag_info_txt found e o) f → IsOfElement e f
+  told_of e None f c = elim (contains_cases (of_element bag_info_txt OxumMalformed e e.value) [] f c) [
+    | inl same ↦ (OxumMalformed, e.value, refl, same)
+    | inr none ↦ absurd (contains_nothing f none)
+  ]
+  told_of e (Some told) f c = differs_of e (same_oxum told found) f c
+
+  -- the faults stand in the order of their elements
+  all_ascend : (xs : List Element) → IsStrictlySortedBy by_line xs → IsStrictlySortedBy fault_cmp (oxum_faults bag_info_txt found xs)
+  unfolding IsStrictlySortedBy
+  all_ascend [] s = (tt, tt)
+  all_ascend (first ∷ later) s =
+      ascending_joined fault_cmp (first_faults bag_info_txt found first) (map (again bag_info_txt) later) (told_ascend first (oxum_of first.value)) (again_ascend later s.1)
+      (λ x y a b.
+      let of = told_of first (oxum_of first.value) x a in
+      let more = contains_mapped (again bag_info_txt) later y b in
+      subst (λ f. fault_cmp f y ≡ Less) of.3
+      (subst (λ g. fault_cmp (of_element bag_info_txt of.0 first of.1) g ≡ Less) more.2
+      (less_of_elements of.0 OxumAgain first more.0 of.1 more.0.value (member_has _ later more.0 s.0 more.1) of.2)))
+
+-- what the codes of these faults say
+module _ (bag : Bag) where
+  abbrev pub IsOfOxum : Fault → Type 0
+  IsOfOxum f = IsOfMetadata bag f × (f.code ≢ InfoLine)
+
+  none_is : ((e : Element) → ¬ (HasElement bag oxum_label e)) → IsOfOxum (no_oxum bag_info_txt)
+  unfolding IsOfMetadata MetadataHolds
+  none_is none = ((record { path_is = refl; alg_is = refl; line_is = refl; detail_is = refl }, none), λ e. cc)
+
+  again_is : (e : Element) → HasLater bag oxum_label e → IsOfOxum (again bag_info_txt e)
+  unfolding IsOfMetadata MetadataHolds
+  again_is e later = ((e, of_fields OxumAgain e e.value, later), λ c. cc)
+
+  malformed_is : (e : Element) → HasFirst bag oxum_label e → oxum_of e.value ≡ None → IsOfOxum (of_element bag_info_txt OxumMalformed e e.value)
+  unfolding IsOfMetadata MetadataHolds
+  malformed_is e first none = ((e, of_fields OxumMalformed e e.value, first, none), λ c. cc)
+
+  differs_is : (e : Element) (told : Oxum) → HasFirst bag oxum_label e → oxum_of e.value ≡ Some told → told ≢ oxum bag → IsOfOxum (differs bag_info_txt (oxum bag) e)
+  unfolding IsOfMetadata MetadataHolds
+  differs_is e told first is other = ((e, told, of_fields OxumDiffers e (pair e.value (oxum_text (oxum bag))), first, is, other), λ c. cc)
+
+  told_by : (b : Bool) (e : Element) (told : Oxum) (f : Fault) → HasFirst bag oxum_label e → oxum_of e.value ≡ Some told → same_oxum told (oxum bag) ≡ b
+      → Contains (cond b [] (differs bag_info_txt (oxum bag) e ∷ [])) f → IsOfOxum f
+  told_by true e told f first is same c = absurd (contains_nothing f c)
+  told_by false e told f first is same c = elim (contains_cases (differs bag_info_txt (oxum bag) e) [] f c) [
+    | inl at ↦ subst IsOfOxum at (differs_is e told first is (other_size told (oxum bag) same))
+    | inr none ↦ absurd (contains_nothing f none)
+  ]
+
+  told_is : (e : Element) (o : Option Oxum) (f : Fault) → HasFirst bag oxum_label e → oxum_of e.value ≡ o → Contains (told_faults bag_info_txt (oxum bag) e o) f → IsOfOxum f
+  told_is e None f first is c = elim (contains_cases (of_element bag_info_txt OxumMalformed e e.value) [] f c) [
+    | inl at ↦ subst IsOfOxum at (malformed_is e first is)
+    | inr none ↦ absurd (contains_nothing f none)
+  ]
+  told_is e (Some told) f first is c = told_by (same_oxum told (oxum bag)) e told f first is refl c
+
+  -- and the faults that they are said of are there
+  malformed_in : (e : Element) (f : Fault) → f.code ≡ OxumMalformed → At f bag_info_txt None e.line e.value → oxum_of e.value ≡ None → Contains (first_faults bag_info_txt (oxum bag) e) f
+  malformed_in e f code at none =
+      let made : Fault = of_element bag_info_txt OxumMalformed e e.value in
+      subst (λ o. Contains (told_faults bag_info_txt (oxum bag) e o) f) (sym none)
+      (subst (Contains (made ∷ [])) (sym (fields_of f OxumMalformed e.line e.value code at)) (contains_first made []))
+
+  found_other : (told : Oxum) (b : Bool) → same_oxum told (oxum bag) ≡ b → told ≢ oxum bag → b ≡ false
+  found_other told true e other = absurd (other (same_sizes told (oxum bag) e))
+  found_other told false e other = refl
+
+  differs_in : (e : Element) (told : Oxum) (f : Fault) → f.code ≡ OxumDiffers → At f bag_info_txt None e.line (pair e.value (oxum_text (oxum bag))) → oxum_of e.value ≡ Some told → told ≢ oxum bag
+      → Contains (first_faults bag_info_txt (oxum bag) e) f
+  differs_in e told f code at is other =
+      let made : Fault = differs bag_info_txt (oxum bag) e in
+      subst (λ o. Contains (told_faults bag_info_txt (oxum bag) e o) f) (sym is)
+      (subst (λ b. Contains (cond b [] (made ∷ [])) f) (sym (found_other told (same_oxum told (oxum bag)) refl other))
+      (subst (Contains (made ∷ [])) (sym (fields_of f OxumDiffers e.line (pair e.value (oxum_text (oxum bag))) code at)) (contains_first made [])))
+
+  again_in : (e : Element) (later : List Element) (f : Fault) → f.code ≡ OxumAgain → At f bag_info_txt None e.line e.value → Contains later e → Contains (map (again bag_info_txt) later) f
+  again_in e later f code at c =
+      subst (Contains (map (again bag_info_txt) later)) (sym (fields_of f OxumAgain e.line e.value code at)) (mapped_contains (again bag_info_txt) later e c)
+
+  -- no element tells the size
+  module _ (list : IsListOf by_line (HasElement bag oxum_label) []) where
+    lacks : (e : Element) → ¬ (HasElement bag oxum_label e)
+    lacks e h = contains_nothing e ((list.members e).1 h)
+
+    none_by : (f : Fault) (c : Code) → f.code ≡ c → c ≢ InfoLine → MetadataHolds bag f c → f ≡ no_oxum bag_info_txt
+    unfolding MetadataHolds
+    none_by f InfoLine e other h = absurd (other refl)
+    none_by f OxumMalformed e other (d, at, first, none) = absurd (lacks d first.0)
+    none_by f OxumAgain e other (d, at, later) = absurd (lacks d later.0)
+    none_by f OxumDiffers e other (d, told, at, first, is, differs) = absurd (lacks d first.0)
+    none_by f NoOxum e other (at, none) = fields_of f NoOxum 0 [] e at
+    none_by f c e other h = absurd h
+
+  -- the first element and the later ones
+  module _ (first : Element) (later : List Element) (list : IsListOf by_line (HasElement bag oxum_label) (first ∷ later)) where
+    below : (e : Element) → Contains later e → first.line < e.line
+    unfolding IsStrictlySortedBy
+    below e c = lower first.line e.line (member_has _ later e list.ascending.0 c)
+
+    there : HasElement bag oxum_label first
+    there = (list.members first).0 (contains_first first later)
+
+    first_is : HasFirst bag oxum_label first
+    first_is = (
+      there,
+      λ d h. elim (contains_cases first later d ((list.members d).1 h)) [
+        | inl same ↦ (let lines : first.line ≡ d.line = ap (λ (e : Element). e.line) same in omega (arith, lines))
+        | inr c ↦ (let low : first.line < d.line = below d c in omega (arith, low))
+      ],
+    )
+
+    later_is : (e : Element) → Contains later e → HasLater bag oxum_label e
+    later_is e c = ((list.members e).0 (contains_behind first later e c), (first, there, below e c))
+
+    only_first : (e : Element) → HasFirst bag oxum_label e → e ≡ first
+    only_first e h = elim (contains_cases first later e ((list.members e).1 h.0)) [
+      | inl same ↦ sym same
+      | inr c ↦ (let low : first.line < e.line = below e c in let high : e.line ≤ first.line = h.1 first there in absurd (omega (arith, low, high)))
+    ]
+
+    behind_first : (e : Element) → HasLater bag oxum_label e → Contains later e
+    behind_first e (h, (d, k, low)) = elim (contains_cases first later e ((list.members e).1 h)) [
+      | inl same ↦ (let high : first.line ≤ d.line = first_is.1 d k in let lines : first.line ≡ e.line = ap (λ (x : Element). x.line) same in absurd (omega (arith, low, high, lines)))
+      | inr c ↦ c
+    ]
+
+    abbrev Firsts : List Fault
+    Firsts = first_faults bag_info_txt (oxum bag) first
+
+    abbrev Laters : List Fault
+    Laters = map (again bag_info_txt) later
+
+    some_is : (f : Fault) → Contains (Firsts ++ Laters) f → IsOfOxum f
+    some_is f c = elim (contains_either Firsts Laters f c) [
+      | inl a ↦ told_is first (oxum_of first.value) f first_is refl a
+      | inr b ↦ (let at = contains_mapped (again bag_info_txt) later f b in subst IsOfOxum at.2 (again_is at.0 (later_is at.0 at.1)))
+    ]
+
+    some_by : (f : Fault) (c : Code) → f.code ≡ c → c ≢ InfoLine → MetadataHolds bag f c → Contains (Firsts ++ Laters) f
+    unfolding MetadataHolds
+    some_by f InfoLine e other h = absurd (other refl)
+    some_by f OxumMalformed e other (d, at, is, none) =
+        contains_front Firsts Laters f (subst (λ x. Contains (first_faults bag_info_txt (oxum bag) x) f) (only_first d is) (malformed_in d f e at none))
+    some_by f OxumAgain e other (d, at, is) = contains_back Firsts Laters f (again_in d later f e at (behind_first d is))
+    some_by f OxumDiffers e other (d, told, at, is, tells, differs) =
+        contains_front Firsts Laters f (subst (λ x. Contains (first_faults bag_info_txt (oxum bag) x) f) (only_first d is) (differs_in d told f e at tells differs))
+    some_by f NoOxum e other (at, none) = absurd (none first there)
+    some_by f c e other h = absurd h
+
+  oxum_members : (xs : List Element) → IsListOf by_line (HasElement bag oxum_label) xs → (f : Fault) → Contains (oxum_faults bag_info_txt (oxum bag) xs) f ↔ IsOfOxum f
+  unfolding IsOfMetadata
+  oxum_members [] list f = (
+    λ c. elim (contains_cases (no_oxum bag_info_txt) [] f c) [
+      | inl same ↦ subst IsOfOxum same (none_is (lacks list))
+      | inr none ↦ absurd (contains_nothing f none)
+    ],
+    λ h. subst (Contains (no_oxum bag_info_txt ∷ [])) (sym (none_by list f f.code refl h.1 h.0)) (contains_first (no_oxum bag_info_txt) []),
+  )
+  oxum_members (first ∷ later) list f = (some_is first later list f, λ h. some_by first later list f f.code refl h.1 h.0)
+
+  -- the elements that have the label
+  oxums_listed : (elements : List Element) → IsListOf by_line (IsElement (lines_in bag bag_info_txt)) elements → IsListOf by_line (HasElement bag oxum_label) (oxums elements)
+  oxums_listed elements list = record {
+    ascending = IsStrictlySortedBy-filter by_line is_oxum elements list.ascending;
+    members = λ e. (
+      λ c. let k = kept is_oxum elements e c in ((list.members e).0 k.1, k.0),
+      λ h. passed is_oxum elements e h.1 ((list.members e).1 h.0),
+    );
+  }
+
+  -- the faults of the elements
+  pub oxum_listed : (elements : List Element) → IsListOf by_line (IsElement (lines_in bag bag_info_txt)) elements → IsListOf fault_cmp IsOfOxum (oxum_faults bag_info_txt (oxum bag) (oxums elements))
+  oxum_listed elements list =
+      let of = oxums_listed elements list in
+      record { ascending = all_ascend (oxum bag) (oxums elements) of.ascending; members = oxum_members (oxums elements) of }

@@ -1,0 +1,49 @@
+-- The size of the payload among the files of a listing is that of the bag's.
+use Rattle.std.proofs.Common.{◌≡◌, ◌+◌, ℕ, List, [], ◌∷◌, length, map, filter, sum_by, Bool, true, false, cond, refl, sym, ap, ◌∙◌}
+use Rattle.std.proofs.lemmas.List.{length-map}
+use Rattle.std.proofs.lemmas.List.Sums.{sum_by-cons}
+use Rattle.bag_text.specs.Path.{is_payload_path}
+use Rattle.bag_tree.specs.Bag.{Bag, files_of}
+use Rattle.bag_tree.specs.Listing.{IsOrdered, IsListingOf}
+use Rattle.bag_tree.specs.declared.listing.FileEntry.{FileEntry}
+use Rattle.bag_tree.specs.declared.listing.Listing.{Listing}
+use Rattle.bag_tree.proofs.ListingLaw.{listings_are_of_the_bag}
+use Rattle.bag_stages.specs.Payload.{oxum, oxum_of_files}
+use Rattle.bag_stages.specs.PayloadSize.{payload_entries, listed_oxum}
+
+abbrev Held : Type 0
+Held = List ℕ × List ℕ
+
+abbrev entry_of : Held → FileEntry
+entry_of e = record { path = e.0; size = length e.1 }
+
+abbrev payload_of : List Held → List Held
+payload_of files = filter (λ e. is_payload_path e.0) files
+
+kept_by : (b : Bool) (e : Held) (files : List Held) → payload_entries (map entry_of files) ≡ map entry_of (payload_of files)
+    → cond b (entry_of e ∷ payload_entries (map entry_of files)) (payload_entries (map entry_of files)) ≡ map entry_of (cond b (e ∷ payload_of files) (payload_of files))
+kept_by true e files rest = ap (λ es. entry_of e ∷ es) rest
+kept_by false e files rest = rest
+
+kept : (files : List Held) → payload_entries (map entry_of files) ≡ map entry_of (payload_of files)
+kept [] = refl
+kept (e ∷ files) = kept_by (is_payload_path e.0) e files (kept files)
+
+summed : (files : List Held) → sum_by (λ (entry : FileEntry). entry.size) (map entry_of files) ≡ sum_by (λ (e : Held). length e.1) files
+summed [] = refl
+summed (e ∷ files) =
+    sum_by-cons (λ (entry : FileEntry). entry.size) (entry_of e) (map entry_of files)
+    ∙ ap (λ n. length e.1 + n) (summed files)
+    ∙ sym (sum_by-cons (λ (e : Held). length e.1) e files)
+
+entries_size : (files : List Held) → listed_oxum (map entry_of files) ≡ oxum_of_files (payload_of files)
+entries_size files =
+    let octets : sum_by (λ (entry : FileEntry). entry.size) (payload_entries (map entry_of files)) ≡ sum_by (λ (e : Held). length e.1) (payload_of files) =
+    ap (sum_by (λ (entry : FileEntry). entry.size)) (kept files) ∙ summed (payload_of files) in
+    let streams : length (payload_entries (map entry_of files)) ≡ length (payload_of files) =
+    ap length (kept files) ∙ length-map (payload_of files) entry_of in
+    λ i. record { octets = octets i; streams = streams i }
+
+-- the files of a bag's listing have the payload's size
+pub listed_size : (bag : Bag) (listing : Listing) → IsOrdered listing.files → IsListingOf bag listing → listed_oxum listing.files ≡ oxum bag
+listed_size bag listing ordered of = ap listed_oxum (listings_are_of_the_bag bag listing ordered of) ∙ entries_size (files_of bag)

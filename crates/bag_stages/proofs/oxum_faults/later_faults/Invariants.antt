@@ -1,0 +1,6 @@
+use Rattle.std.proofs.Common.{◌≡◌, map, take}
+use Rattle.bag_stages.specs.OxumFaults as told
+use Rattle.bag_stages.proofs.oxum_faults.later_faults.Given as goal
+
+abbrev pub invariant-loop-element : goal.invariant-loop-element
+invariant-loop-element l = l.faults.items ≡ map (told.again l.path) (told.oxums (take l.element-index l.elements))

@@ -1,0 +1,54 @@
+-- Stage 4: what is a fault of the list of files to fetch (RFC 8493, 2.2.3).
+use Rattle.std.specs.Prelude.{ℕ, ◌≡◌, List, None, Some}
+use Rattle.bag_text.specs.Code.{stage}
+use Rattle.bag_text.specs.declared.alg.Alg.{Alg}
+use Rattle.bag_text.specs.declared.code.Code.{Code}
+use Rattle.bag_text.specs.declared.code.Code.TheVariants.{FetchLine, FetchEscape, FetchUnsafePath, FetchOutsidePayload, FetchNotInManifest}
+use Rattle.bag_line.specs.Fetch.{IsFetch, IsFetchFault}
+use Rattle.bag_line.specs.declared.fetch.FetchEntry.{FetchEntry}
+use Rattle.bag_tags.specs.TagName.{tag_path}
+use Rattle.bag_tags.specs.declared.kind.Kind.TheVariants.{Payload}
+use Rattle.bag_tags.specs.declared.tag_name.TagName.TheVariants.{Fetch}
+use Rattle.bag_tree.specs.Bag.{Bag}
+use Rattle.bag_fault.specs.declared.fault.Fault.{Fault}
+use Rattle.bag_stages.specs.FaultFields.{At, InFile}
+use Rattle.bag_stages.specs.HasList.{HasList}
+use Rattle.bag_stages.specs.TagFiles.{lines_in, HasSupported, Names}
+
+abbrev pub fetch_txt : List ℕ
+fetch_txt = tag_path Fetch
+
+-- a line of fetch.txt that reads
+abbrev pub HasFetch : Bag → FetchEntry → Type 0
+HasFetch bag e = IsFetch (lines_in bag fetch_txt) e
+
+-- what a code says of a bag and the other fields of the fault
+module _ (bag : Bag) (f : Fault) where
+  -- this is wrong with a line of the list
+  abbrev pub InFetch : Type 0
+  InFetch = InFile bag f fetch_txt None IsFetchFault
+
+  unfoldable pub FetchHolds : Code → Type 0
+  -- the form of a line, and the path in it
+  FetchHolds FetchLine = InFetch
+  FetchHolds FetchEscape = InFetch
+  FetchHolds FetchUnsafePath = InFetch
+  FetchHolds FetchOutsidePayload = InFetch
+  -- a payload manifest doesn't name the file that is to be fetched
+  FetchHolds FetchNotInManifest =
+      (e : FetchEntry) × (alg : Alg) × At f fetch_txt (Some alg) e.line e.path
+      × HasFetch bag e × HasSupported bag Payload alg × ¬ (Names bag Payload alg e.path)
+  -- codes of other stages
+  FetchHolds other = ⊥
+
+-- the fault is one of the bag's list of files to fetch: what its code says holds
+unfoldable pub IsOfFetch : Bag → Fault → Type 0
+IsOfFetch bag f = FetchHolds bag f f.code
+
+-- the law: these faults are of the fourth stage
+abbrev pub FetchFaultsAreOfStageFour : Type 0
+FetchFaultsAreOfStageFour = (bag : Bag) (f : Fault) → IsOfFetch bag f → stage f.code ≡ 4
+
+-- the law: every bag has a list of these faults
+abbrev pub FetchFaultsAreListed : Type 0
+FetchFaultsAreListed = (bag : Bag) → HasList (IsOfFetch bag)

@@ -1,0 +1,54 @@
+-- Stage 3: what is a fault of the metadata and of its Payload-Oxum (RFC 8493, 2.2.2).
+use Rattle.std.specs.Prelude.{ℕ, ◌≡◌, ◌≢◌, ◌++◌, List, [], None, Some, codes}
+use Rattle.bag_text.specs.Code.{stage}
+use Rattle.bag_text.specs.declared.code.Code.{Code}
+use Rattle.bag_text.specs.declared.code.Code.TheVariants.{InfoLine, OxumMalformed, OxumAgain, OxumDiffers, NoOxum}
+use Rattle.bag_line.specs.Info.{IsInfoFault}
+use Rattle.bag_line.specs.Oxum.{oxum_of}
+use Rattle.bag_line.specs.declared.info.Element.{Element}
+use Rattle.bag_line.specs.declared.oxum.Oxum.{Oxum}
+use Rattle.bag_tree.specs.Bag.{Bag}
+use Rattle.bag_fault.specs.declared.fault.Fault.{Fault}
+use Rattle.bag_stages.specs.FaultFields.{At, InFile}
+use Rattle.bag_stages.specs.HasList.{HasList}
+use Rattle.bag_stages.specs.Metadata.{bag_info_txt, HasElement, HasFirst, HasLater}
+use Rattle.bag_stages.specs.Payload.{oxum, oxum_text}
+
+-- the label of the element that tells the payload's size
+abbrev pub oxum_label : List ℕ
+oxum_label = codes "Payload-Oxum"
+
+-- two texts with a colon between them
+abbrev pub pair : List ℕ → List ℕ → List ℕ
+pair a b = a ++ codes ":" ++ b
+
+-- what a code says of a bag and the other fields of the fault
+module _ (bag : Bag) (f : Fault) where
+  unfoldable pub MetadataHolds : Code → Type 0
+  -- a line that should begin an element and doesn't, or goes on with none
+  MetadataHolds InfoLine = InFile bag f bag_info_txt None IsInfoFault
+  -- the first Payload-Oxum doesn't read
+  MetadataHolds OxumMalformed =
+      (e : Element) × At f bag_info_txt None e.line e.value × HasFirst bag oxum_label e × (oxum_of e.value ≡ None)
+  -- there is a second one
+  MetadataHolds OxumAgain = (e : Element) × At f bag_info_txt None e.line e.value × HasLater bag oxum_label e
+  -- the first one reads, and the payload has another size
+  MetadataHolds OxumDiffers =
+      (e : Element) × (sums : Oxum) × At f bag_info_txt None e.line (pair e.value (oxum_text (oxum bag)))
+      × HasFirst bag oxum_label e × (oxum_of e.value ≡ Some sums) × (sums ≢ oxum bag)
+  -- there is none
+  MetadataHolds NoOxum = At f bag_info_txt None 0 [] × ((e : Element) → ¬ (HasElement bag oxum_label e))
+  -- codes of other stages
+  MetadataHolds other = ⊥
+
+-- the fault is one of the bag's metadata: what its code says holds
+unfoldable pub IsOfMetadata : Bag → Fault → Type 0
+IsOfMetadata bag f = MetadataHolds bag f f.code
+
+-- the law: these faults are of the third stage
+abbrev pub MetadataFaultsAreOfStageThree : Type 0
+MetadataFaultsAreOfStageThree = (bag : Bag) (f : Fault) → IsOfMetadata bag f → stage f.code ≡ 3
+
+-- the law: every bag has a list of these faults
+abbrev pub MetadataFaultsAreListed : Type 0
+MetadataFaultsAreListed = (bag : Bag) → HasList (IsOfMetadata bag)

@@ -1,0 +1,52 @@
+-- The faults of the elements of the label Payload-Oxum (RFC 8493, 2.2.2), of the payload's size.
+use Rattle.std.specs.Prelude.{ℕ, ◌==◌, ◌&&◌, Bool, List, [], ◌∷◌, ◌++◌, Option, None, Some, map, filter, if◌then◌else◌}
+use Rattle.bag_text.specs.Text.{same_label}
+use Rattle.bag_text.specs.declared.code.Code.{Code}
+use Rattle.bag_text.specs.declared.code.Code.TheVariants.{OxumMalformed, OxumAgain, OxumDiffers, NoOxum}
+use Rattle.bag_line.specs.LineFault.{line_fault}
+use Rattle.bag_line.specs.Oxum.{oxum_of}
+use Rattle.bag_line.specs.declared.info.Element.{Element}
+use Rattle.bag_line.specs.declared.oxum.Oxum.{Oxum}
+use Rattle.bag_fault.specs.declared.fault.Fault.{Fault}
+use Rattle.bag_stages.specs.FaultFields.{in_file, of_whole}
+use Rattle.bag_stages.specs.MetadataStage.{oxum_label, pair}
+use Rattle.bag_stages.specs.Payload.{oxum_text}
+
+abbrev pub is_oxum : Element → Bool
+is_oxum e = same_label e.label oxum_label
+
+-- the elements of the label, in their order
+abbrev pub oxums : List Element → List Element
+oxums elements = filter is_oxum elements
+
+abbrev pub same_oxum : Oxum → Oxum → Bool
+same_oxum a b = a.octets == b.octets && a.streams == b.streams
+
+module _ (path : List ℕ) where
+  -- a fault of an element
+  abbrev pub of_element : Code → Element → List ℕ → Fault
+  of_element code e detail = in_file path None (line_fault e.line code detail)
+
+  abbrev pub again : Element → Fault
+  again e = of_element OxumAgain e e.value
+
+  -- that there is no such element
+  abbrev pub no_oxum : Fault
+  no_oxum = of_whole NoOxum path []
+
+  module _ (found : Oxum) where
+    abbrev pub differs : Element → Fault
+    differs e = of_element OxumDiffers e (pair e.value (oxum_text found))
+
+    abbrev pub told_faults : Element → Option Oxum → List Fault
+    told_faults e None = of_element OxumMalformed e e.value ∷ []
+    told_faults e (Some told) = if same_oxum told found then [] else differs e ∷ []
+
+    -- the first one doesn't read, or tells another size
+    abbrev pub first_faults : Element → List Fault
+    first_faults e = told_faults e (oxum_of e.value)
+
+    -- the faults of all of them
+    abbrev pub oxum_faults : List Element → List Fault
+    oxum_faults [] = no_oxum ∷ []
+    oxum_faults (first ∷ later) = first_faults first ++ map again later

@@ -1,0 +1,109 @@
+//! Stage 4: the list of files to fetch.
+ghost use Rattle.std.specs.Prelude.{◌≡◌, ◌≢◌, IfOk};
+ghost use Rattle.bag_text.specs.Order.{IsListOf};
+ghost use Rattle.bag_tree.specs.Bag.{Bag};
+ghost use Rattle.bag_fault.specs.FaultOrder.{fault_cmp};
+ghost use Rattle.bag_facts.specs.Facts.{IsFactsOf};
+ghost use Rattle.bag_facts.specs.TagFacts.{AreByPath};
+ghost use Rattle.bag_facts.specs.declared.options.Depth.TheVariants.{Declaration};
+ghost use Rattle.bag_stages.specs.FetchFaults.{not_in_manifest, AreByLine, AreFetched, IsNotInManifest, IsNotInSome, IsNotNamedAmong};
+ghost use Rattle.bag_stages.specs.FetchStage.{fetch_txt, IsOfFetch};
+
+use crate::tag_file::faults_in_file;
+use bag_facts::{Facts, Manifest};
+use bag_fault::Fault;
+use bag_tags::{FetchEntry, Kind, TagName};
+use bag_text::{Alg, Code, Text};
+use std::alloc::{AllocError, Global};
+
+/// The faults of `fetch.txt` (RFC 8493, 2.2.3), of facts read for more than the declaration: those of its lines, and then,
+/// for each payload manifest, the files that it doesn't name. Bytes that aren't UTF-8 have none. Fails only where memory
+/// runs out.
+pub fn fetch_faults(alloc: Global, facts: &Facts) -> Result<Vec<Fault>, AllocError>
+    ensures { IfOk result (λ faults. (bag : Bag) → IsFactsOf bag facts.now → facts.now.options.depth ≢ Declaration
+        → IsListOf fault_cmp (IsOfFetch bag) faults.items) }
+{
+    let Some(list) = facts.fetch_list() else {
+        return Ok(Vec::new(alloc));
+    };
+    if !list.is_text {
+        return Ok(Vec::new(alloc));
+    }
+    let path = TagName::Fetch.path(alloc)?;
+    let mut faults = faults_in_file(alloc, &path, None, list.faults.as_slice())?;
+    let mut of_manifests = unnamed_in_all(alloc, facts, &path, list.entries.as_slice())?;
+    faults.append(&mut of_manifests)?;
+    Ok(faults)
+}
+
+/// The faults that payload manifests don't name files to fetch, one manifest after another.
+fn unnamed_in_all(
+    alloc: Global,
+    facts: &Facts,
+    path: &Text,
+    entries: &[FetchEntry],
+) -> Result<Vec<Fault>, AllocError>
+    ensures { IfOk result (λ faults. (bag : Bag) → IsFactsOf bag facts.now → facts.now.options.depth ≢ Declaration
+        → path.now ≡ fetch_txt → AreFetched bag entries.now → IsListOf fault_cmp (IsNotInSome bag) faults.items) }
+{
+    let mut faults = Vec::new(alloc);
+    for alg in Alg::ALL {
+        let mut of_alg = unnamed_in(alloc, facts, path, entries, alg)?;
+        faults.append(&mut of_alg)?;
+    }
+    Ok(faults)
+}
+
+/// The faults that the payload manifest of an algorithm doesn't name files to fetch, where it is there.
+fn unnamed_in(
+    alloc: Global,
+    facts: &Facts,
+    path: &Text,
+    entries: &[FetchEntry],
+    alg: Alg,
+) -> Result<Vec<Fault>, AllocError>
+    ensures { IfOk result (λ faults. (bag : Bag) → IsFactsOf bag facts.now → facts.now.options.depth ≢ Declaration
+        → path.now ≡ fetch_txt → AreFetched bag entries.now → IsListOf fault_cmp (IsNotInManifest bag alg) faults.items) }
+{
+    match facts.manifest(Kind::Payload, alg) {
+        Some(manifest) => unnamed_faults(alloc, path, manifest, entries),
+        None => Ok(Vec::new(alloc)),
+    }
+}
+
+/// The faults that a payload manifest doesn't name files to fetch, in the order of their lines.
+fn unnamed_faults(
+    alloc: Global,
+    path: &Text,
+    manifest: &Manifest,
+    entries: &[FetchEntry],
+) -> Result<Vec<Fault>, AllocError>
+    ensures { IfOk result (λ faults. AreByPath manifest.now.entries → AreByLine entries.now
+        → IsListOf fault_cmp (IsNotNamedAmong path.now manifest.now.alg manifest.now.entries entries.now) faults.items) }
+{
+    let mut faults = Vec::new(alloc);
+    for entry in entries {
+        if !manifest.names(&entry.path) {
+            faults.push(unnamed_fault(alloc, path, manifest.alg, entry)?)?;
+        }
+    }
+    Ok(faults)
+}
+
+/// The fault that a payload manifest doesn't name a file to fetch.
+fn unnamed_fault(
+    alloc: Global,
+    path: &Text,
+    alg: Alg,
+    entry: &FetchEntry,
+) -> Result<Fault, AllocError>
+    ensures { IfOk result (λ fault. fault ≡ not_in_manifest path.now alg entry.now) }
+{
+    Ok(Fault {
+        code: Code::FetchNotInManifest,
+        path: path.copy(alloc)?,
+        alg: Some(alg),
+        line: entry.line,
+        detail: entry.path.copy(alloc)?,
+    })
+}

@@ -1,0 +1,122 @@
+//! The faults of `Payload-Oxum`.
+ghost use Rattle.std.specs.Prelude.{◌≡◌, ◌∷◌, [], IfOk, map, position};
+ghost use Rattle.bag_stages.specs.OxumFaults as told;
+ghost use Rattle.bag_stages.specs.PayloadSize.{listed_oxum};
+
+use crate::payload_size::{PayloadSize, payload_size};
+use crate::tag_file::whole_file;
+use bag_fault::Fault;
+use bag_line::{Element, oxum_of};
+use bag_text::{Code, Text, same_label};
+use bag_tree::FileEntry;
+use std::alloc::{AllocError, Global};
+
+/// The faults of the elements that tell the payload's size (RFC 8493, 2.2.2), where the payload is among these files: the
+/// first of them counts, and there should be no other.
+pub(crate) fn oxum_faults(
+    alloc: Global,
+    path: &Text,
+    elements: &[Element],
+    files: &[FileEntry],
+) -> Result<Vec<Fault>, AllocError>
+    ensures { IfOk result (λ faults. faults.items ≡ told.oxum_faults path.now (listed_oxum files.now) (told.oxums elements.now)) }
+{
+    let Some(at) = first_oxum(elements) else {
+        return no_oxum(alloc, path);
+    };
+    let mut faults = first_faults(alloc, path, &elements[at], files)?;
+    let mut again = later_faults(alloc, path, &elements[at + 1..])?;
+    faults.append(&mut again)?;
+    Ok(faults)
+}
+
+/// Where the first element stands that tells the payload's size.
+fn first_oxum(elements: &[Element]) -> Option<usize>
+    ensures { result ≡ position told.is_oxum elements.now }
+{
+    elements.iter().position(|element| is_oxum(element))
+}
+
+/// Whether an element tells the payload's size.
+fn is_oxum(element: &Element) -> bool
+    ensures { result ≡ told.is_oxum element.now }
+{
+    same_label(element.label.as_str(), "Payload-Oxum")
+}
+
+/// That no element tells the payload's size.
+pub(crate) fn no_oxum(alloc: Global, path: &Text) -> Result<Vec<Fault>, AllocError>
+    ensures { IfOk result (λ faults. faults.items ≡ told.no_oxum path.now ∷ []) }
+{
+    Ok(vec![in alloc; whole_file(alloc, Code::NoOxum, path, "")?]?)
+}
+
+/// The fault of the first element that tells the payload's size, if it has one.
+fn first_faults(
+    alloc: Global,
+    path: &Text,
+    element: &Element,
+    files: &[FileEntry],
+) -> Result<Vec<Fault>, AllocError>
+    ensures { IfOk result (λ faults. faults.items ≡ told.first_faults path.now (listed_oxum files.now) element.now) }
+{
+    let Some(size) = oxum_of(element.value.as_str()) else {
+        return Ok(vec![in alloc; value_fault(alloc, Code::OxumMalformed, path, element)?]?);
+    };
+    let found = payload_size(files);
+    if u128::from(size.octets) == found.octets && size.streams == found.streams {
+        return Ok(Vec::new(alloc));
+    }
+    Ok(vec![in alloc; size_fault(alloc, path, element, found)?]?)
+}
+
+/// The faults of the later elements that tell the payload's size.
+fn later_faults(alloc: Global, path: &Text, elements: &[Element]) -> Result<Vec<Fault>, AllocError>
+    ensures { IfOk result (λ faults. faults.items ≡ map (told.again path.now) (told.oxums elements.now)) }
+{
+    let mut faults = Vec::new(alloc);
+    for element in elements {
+        if is_oxum(element) {
+            faults.push(value_fault(alloc, Code::OxumAgain, path, element)?)?;
+        }
+    }
+    Ok(faults)
+}
+
+/// A fault of an element's value.
+fn value_fault(
+    alloc: Global,
+    code: Code,
+    path: &Text,
+    element: &Element,
+) -> Result<Fault, AllocError>
+    ensures { IfOk result (λ fault. fault ≡ told.of_element path.now code element.now element.now.value) }
+{
+    Ok(Fault {
+        code,
+        path: path.copy(alloc)?,
+        alg: None,
+        line: element.line,
+        detail: element.value.copy(alloc)?,
+    })
+}
+
+/// The fault of an element that tells another size than the payload has.
+fn size_fault(
+    alloc: Global,
+    path: &Text,
+    element: &Element,
+    found: PayloadSize,
+) -> Result<Fault, AllocError>
+    ensures { IfOk result (λ fault. fault ≡ told.differs path.now found element.now) }
+{
+    let PayloadSize { octets, streams } = found;
+    let detail = format!(in alloc; "{}:{octets}.{streams}", element.value)?;
+    Ok(Fault {
+        code: Code::OxumDiffers,
+        path: path.copy(alloc)?,
+        alg: None,
+        line: element.line,
+        detail: Text::from_string(detail),
+    })
+}
