@@ -6,11 +6,11 @@
 #
 # usage: bench/lines.sh [PROGRAM] [RUNS]
 #
-# PROGRAM is crates/bench_lines/out/bench_lines by default, which `rt run` leaves there.
+# PROGRAM is crates/bench/out/bench by default, which `rt run` leaves there.
 set -euo pipefail
 source "$(dirname "$0")/time.sh"
 
-program=$(realpath "${1:-$(dirname "$0")/../crates/bench_lines/out/bench_lines}")
+program=$(realpath "${1:-$(dirname "$0")/../crates/bench/out/bench}")
 runs=${2:-5}
 lines=500000
 size=60
@@ -41,9 +41,9 @@ measure() {
     "${kind}_lines" "$lines" $((2 * size)) >"$work/longer"
     for ((run = 0; run < runs; run++)); do
         counted=$(least "$counted" "$(milliseconds wc -l "$work/once")")
-        once=$(least "$once" "$(milliseconds "$program" "$work/once")")
-        more=$(least "$more" "$(milliseconds "$program" "$work/more")")
-        longer=$(least "$longer" "$(milliseconds "$program" "$work/longer")")
+        once=$(least "$once" "$(milliseconds "$program" lines "$work/once")")
+        more=$(least "$more" "$(milliseconds "$program" lines "$work/more")")
+        longer=$(least "$longer" "$(milliseconds "$program" lines "$work/longer")")
     done
     awk -v kind="$kind" -v counted="$counted" -v once="$once" -v more="$more" -v longer="$longer" 'BEGIN {
         printf "%s lines: %d ms, wc -l: %d ms; twice as many: %d ms, ratio: %.2f; twice as long: %d ms, ratio: %.2f\n",

@@ -6,11 +6,11 @@
 #
 # usage: bench/manifest.sh [PROGRAM] [RUNS]
 #
-# PROGRAM is crates/bench_tag_files/out/bench_tag_files by default, which `rt run` leaves there.
+# PROGRAM is crates/bench/out/bench by default, which `rt run` leaves there.
 set -euo pipefail
 source "$(dirname "$0")/time.sh"
 
-program=$(realpath "${1:-$(dirname "$0")/../crates/bench_tag_files/out/bench_tag_files}")
+program=$(realpath "${1:-$(dirname "$0")/../crates/bench/out/bench}")
 runs=${2:-5}
 lines=1000000
 

@@ -5,11 +5,11 @@
 #
 # usage: bench/reading.sh [PROGRAM] [RUNS]
 #
-# PROGRAM is crates/bench_reading/out/bench_reading by default, which `rt run` leaves there.
+# PROGRAM is crates/bench/out/bench by default, which `rt run` leaves there.
 set -euo pipefail
 source "$(dirname "$0")/time.sh"
 
-program=$(realpath "${1:-$(dirname "$0")/../crates/bench_reading/out/bench_reading}")
+program=$(realpath "${1:-$(dirname "$0")/../crates/bench/out/bench}")
 runs=${2:-5}
 folders=200
 files_in_each=500

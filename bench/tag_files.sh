@@ -10,11 +10,11 @@
 #
 # usage: bench/tag_files.sh [PROGRAM] [RUNS]
 #
-# PROGRAM is crates/bench_tag_files/out/bench_tag_files by default, which `rt run` leaves there.
+# PROGRAM is crates/bench/out/bench by default, which `rt run` leaves there.
 set -euo pipefail
 source "$(dirname "$0")/time.sh"
 
-program=$(realpath "${1:-$(dirname "$0")/../crates/bench_tag_files/out/bench_tag_files}")
+program=$(realpath "${1:-$(dirname "$0")/../crates/bench/out/bench}")
 runs=${2:-9}
 
 work=$(mktemp -d /tmp/bagit-tag-files.XXXXXX)
@@ -98,11 +98,11 @@ def not_named(folder):
         faults += sum(path not in named for _, _, _, path in files)
     return faults
 
-for path in sys.argv[2:]:
-    if sys.argv[1] == "faults":
+for reader, path in zip(sys.argv[1::2], sys.argv[2::2]):
+    if reader == "faults":
         print(f"tag files: 3, faults: {not_named(path)}")
     else:
-        items, faults = (elements if sys.argv[1] == "info" else fetched)(text_of(path))
+        items, faults = (elements if reader == "info" else fetched)(text_of(path))
         print(f"items: {len(items)}, faults: {faults}")
 PYTHON
 
@@ -110,10 +110,10 @@ peer() {
     python3 "$work/peer.py" "$@"
 }
 
-# The path of a file, so many times.
+# A reader and the path of a file, so many times.
 times() {
     local time
-    for ((time = 0; time < $1; time++)); do echo "$work/$2"; done
+    for ((time = 0; time < $1; time++)); do printf '%s\n' "$2" "$work/$3"; done
 }
 
 # Prints both ratios for a kind of file: its reader, how many lines, and how often they are read in a run.
@@ -121,13 +121,13 @@ measure() {
     local kind=$1 reader=$2 lines=$3 often=$4 peer= read= read_twice= run
     "$kind" "$lines" >"$work/once"
     "$kind" $((2 * lines)) >"$work/twice"
-    mapfile -t once < <(times "$often" once)
-    mapfile -t twice < <(times "$often" twice)
+    mapfile -t once < <(times "$often" "$reader" once)
+    mapfile -t twice < <(times "$often" "$reader" twice)
     diff <("$program" "$reader" "$work/once") <(peer "$reader" "$work/once")
     for ((run = 0; run < runs; run++)); do
-        peer=$(least "$peer" "$(milliseconds peer "$reader" "${once[@]}")")
-        read=$(least "$read" "$(milliseconds "$program" "$reader" "${once[@]}")")
-        read_twice=$(least "$read_twice" "$(milliseconds "$program" "$reader" "${twice[@]}")")
+        peer=$(least "$peer" "$(milliseconds peer "${once[@]}")")
+        read=$(least "$read" "$(milliseconds "$program" "${once[@]}")")
+        read_twice=$(least "$read_twice" "$(milliseconds "$program" "${twice[@]}")")
     done
     awk -v kind="$kind" -v lines="$lines" -v often="$often" -v peer="$peer" -v once="$read" -v twice="$read_twice" 'BEGIN {
         printf "%s, %d lines: %.1f ms, Python: %.1f ms, ratio: %.2f; twice the lines: %.1f ms, ratio: %.2f\n",

@@ -6,7 +6,7 @@ use Rattle.std.specs.declared.result.Result.{Result}
 use Rattle.std.specs.declared.result.Result.TheVariants.{Ok, Err}
 use Rattle.bag_tree.specs.Tree.{TreeState}
 use Rattle.bag_disk.specs.Disk.{DiskState}
-use Rattle.bag_disk.specs.FileTree.{tree_state}
+use Rattle.bag_file_tree.specs.FileTree.{tree_state}
 use Rattle.bag_plan.specs.declared.plan.Action.{Action}
 use Rattle.bag_plan.specs.declared.plan.Action.TheVariants.{Check}
 use Rattle.bag_output.specs.Closing.{status}

@@ -3,3 +3,4 @@ pub mod Performed
 pub mod Program
 pub mod Sample
 pub mod Status
+pub mod Words

@@ -1,14 +1,21 @@
 -- What the program writes, and its exit status.
-use Rattle.std.specs.Prelude.{ℕ, ◌≡◌, ◌⊎◌, Bool, true, false, List, [], ◌∷◌, Option, None, codes, max}
+use Rattle.std.specs.Prelude.{ℕ, ◌≡◌, ◌≢◌, ◌⊎◌, Bool, true, false, IsTrue, List, [], ◌∷◌, Option, None, codes, length, max, min}
+use Rattle.std.specs.Io.KnownBytes.{Appends}
+use Rattle.std.specs.List.{concat}
+use Rattle.bag_tree.specs.Bag.{Bag}
 use Rattle.bag_tree.specs.Tree.{TreeState}
 use Rattle.bag_disk.specs.Disk.{DiskState}
-use Rattle.bag_disk.specs.FileTree.{tree_state}
+use Rattle.bag_file_tree.specs.DiskBag.{bag_of}
+use Rattle.bag_file_tree.specs.FileTree.{tree_state}
+use Rattle.bag_fault.specs.declared.fault.Fault.{Fault}
 use Rattle.bag_facts.specs.declared.options.Depth.TheVariants.{Declaration}
 use Rattle.bag_output.specs.Closing.{status}
+use Rattle.bag_output.specs.Ending.{ideal, limit_of, lines_of_run}
 use Rattle.bag_output.specs.declared.outcome.Outcome.{Outcome}
 use Rattle.bag_output.specs.declared.outcome.Outcome.TheVariants.{Clean, Faults, Stopped, Rest, Unread, Unwritten}
 use Rattle.bag_output.specs.declared.outcome.Request.{Request}
-use Rattle.bag_walk.specs.Run.{IsRun, IsRunByReport}
+use Rattle.bag_report.specs.Report.{IsReport, first}
+use Rattle.bag_walk.specs.Run.{IsRun, IsRunByReport, check_of}
 use Rattle.bag_plan.specs.declared.plan.Action.{Action}
 use Rattle.bag_plan.specs.declared.plan.Action.TheVariants.{Sample, Check}
 use Rattle.bag_plan.specs.declared.plan.Plan.{Plan}
@@ -75,3 +82,21 @@ names_of Check directories = directories
 -- the bags of a plan were checked, on disks that hold this below each base folder
 abbrev pub IsPerformed : (List ℕ → DiskState) → Plan → Option (List ℕ) → Option (List ℕ) → ℕ → Type 0
 IsPerformed below plan before after n = AreChecksOf (trees_of below plan.action) (names_of plan.action plan.directories) before after n
+
+-- the faults of a report that a request shows where nothing is refused
+abbrev pub shown_of : Request → List Fault → List Fault
+shown_of request report = first (min (limit_of request) (length report)) report
+
+-- Unless a read, a write or a growth was refused, the output took the lines of the bag's report and the closing line, and
+-- the status tells whether there are faults.
+abbrev pub TellsReport : Bag → List ℕ → Option (List ℕ) → Option (List ℕ) → ℕ → Type 0
+TellsReport bag name before after n =
+    n ≢ 3 → (report : List Fault) → IsReport (check_of bag (request_of name)) report
+    → (n ≡ status (ideal (request_of name) report))
+    × Appends before after (concat (lines_of_run (request_of name) (shown_of (request_of name) report) (ideal (request_of name) report)))
+
+-- the law: over an honest disk, the check of one directory tells the report of the bag that stands there
+abbrev pub HonestDisksAreTold : Type 0
+HonestDisksAreTold =
+    (below : List ℕ → DiskState) (name : List ℕ) (before after : Option (List ℕ)) (n : ℕ) → IsTrue (below name).honest
+    → IsPerformed below (record { action = Check; directories = name ∷ [] }) before after n → TellsReport (bag_of (below name).nodes) name before after n

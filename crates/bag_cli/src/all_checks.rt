@@ -1,42 +1,40 @@
 //! Does what a plan says.
-ghost use Rattle.std.specs.Prelude.{◌≡◌, ◌∷◌, [], MatchOption, codes, false};
-ghost use Rattle.bag_disk.specs.FileTree.{tree_state};
-ghost use Rattle.bag_disk.specs.SystemDisk.{system_state};
+ghost use Rattle.std.specs.Prelude.{◌≡◌, ◌∷◌, [], MatchOption, codes};
+ghost use Rattle.bag_file_tree.specs.FileTree.{tree_state};
 ghost use Rattle.bag_cli.specs.Performed.{AreChecksOf, IsLastCheck, IsPerformed, IsWholeCheck};
 ghost use Rattle.bag_cli.specs.Sample.{sample_state};
 ghost use Rattle.bag_cli.specs.Status.{IsStatus, whole_status};
 
 use crate::check::{check_folder, check_sample};
-use crate::disks::{Disks, SystemDisks};
+use crate::disks::Disks;
 use bag_plan::{Action, Plan};
 use bag_text::Text;
 use bag_tree::Out;
 use bag_walk::{Outcome, status};
 use std::alloc::{AllocError, Global};
 use std::io::Write;
-use std::rt::Files;
 
 /// The exit status where a read, a write or a growth was refused.
 const REFUSED: u8 = 3;
 
-/// Does a plan on the system's disks: writes the reports to `out`, one line each, and what is refused beside them to
-/// `err`.
+/// Does a plan on the disks that a runtime reaches: writes the reports to `out`, one line each, and what is refused beside
+/// them to `err`.
 ///
 /// Gives the exit status: 0 where no bag has a fault, 1 where one has, and 3 where a read, a write or a growth was
 /// refused; over several folders the greatest. Where `out` refuses, it stops. Unless the status is 3, `out` took a whole
 /// report for each bag of the plan.
 pub fn perform<R, O, E>(rt: &R, plan: &Plan, out: &mut O, err: &mut E) -> u8
 where
-    R: Files + AllocGlobal + Clone + Drop,
+    R: Disks + AllocGlobal,
     O: Out,
     E: Write,
     ensures status { IsStatus result }
-    ensures performed { IsPerformed (λ _. system_state [] false) plan.now (O.taken out.old) (O.taken out.new) result }
+    ensures performed { IsPerformed (R.below rt.now) plan.now (O.taken out.old) (O.taken out.new) result }
 {
-    perform_over(rt.alloc(), &SystemDisks::new(rt), plan, out, err)
+    perform_over(rt.alloc(), rt, plan, out, err)
 }
 
-/// Does a plan on any disks, as `perform` on the system's.
+/// Does a plan on any disks, as `perform` on those of a runtime.
 pub fn perform_over<D, O, E>(alloc: Global, disks: &D, plan: &Plan, out: &mut O, err: &mut E) -> u8
 where
     D: Disks,

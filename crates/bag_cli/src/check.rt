@@ -1,12 +1,12 @@
 //! One check: the report of one bag.
 ghost use Rattle.std.specs.Prelude.{◌≡◌, IfOk, OnErr, codes};
-ghost use Rattle.bag_disk.specs.FileTree.{tree_state};
+ghost use Rattle.bag_file_tree.specs.FileTree.{tree_state};
 ghost use Rattle.bag_cli.specs.Performed.{IsCheckOf, request_of};
 ghost use Rattle.bag_cli.specs.Sample.{sample_state};
 
 use crate::disks::Disks;
 use crate::sample::sample_tree;
-use bag_disk::FileTree;
+use bag_file_tree::FileTree;
 use bag_report::{Depth, Options};
 use bag_text::Text;
 use bag_tree::{Out, Tree};

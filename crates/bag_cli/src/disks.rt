@@ -24,22 +24,8 @@ pub trait Disks {
         ensures base { IfOk result (λ disk. is_below disk base.now) };
 }
 
-/// The system's disks, of which nothing is promised.
-#[derive(Drop)]
-pub(crate) struct SystemDisks<'a, R> {
-    rt: &'a R,
-}
-
-impl<'a, R: Files + AllocGlobal + Clone + Drop> SystemDisks<'a, R> {
-    /// The disks of the system that this runtime reaches.
-    pub(crate) fn new(rt: &'a R) -> SystemDisks<'a, R>
-        ensures { result.rt.now ≡ rt.now }
-    {
-        SystemDisks { rt }
-    }
-}
-
-impl<'a, R: Files + AllocGlobal + Clone + Drop> Disks for SystemDisks<'a, R> {
+/// The disks that a runtime of the system reaches, of which nothing is promised.
+impl<R: Files + AllocGlobal + Clone + Drop> Disks for R {
     type Disk = SystemDisk<R>;
 
     ghost below = { λ _ _. system_state [] false };
@@ -47,6 +33,6 @@ impl<'a, R: Files + AllocGlobal + Clone + Drop> Disks for SystemDisks<'a, R> {
     ghost is_below = { λ disk base. base_of disk ≡ base };
 
     fn disk(&self, alloc: Global, base: &str) -> Result<SystemDisk<R>, AllocError> {
-        SystemDisk::new(self.rt.clone()?, alloc, base)
+        SystemDisk::new(self.clone()?, alloc, base)
     }
 }

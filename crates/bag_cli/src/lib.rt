@@ -8,6 +8,7 @@
 mod all_checks;
 mod check;
 mod disks;
+pub mod laws;
 mod sample;
 mod whole_program;
 mod words;
@@ -17,3 +18,4 @@ pub use bag_plan::{Action, Plan, Usage, plan_of, refuse_words};
 pub use bag_tree::WriterOut;
 pub use disks::Disks;
 pub use whole_program::{program, run_program};
+pub use words::Words;

@@ -1,15 +1,15 @@
 //! The whole program.
 ghost use Rattle.bag_plan.specs.Plan.{texts};
-ghost use Rattle.bag_cli.specs.Program.{IsProgram, IsSystemProgram};
+ghost use Rattle.std.specs.Prelude.{map, string_bytes};
+ghost use Rattle.bag_cli.specs.Program.{IsProgram, IsProgramOrNone, IsStarted};
 
 use crate::all_checks::perform_over;
-use crate::disks::{Disks, SystemDisks};
-use crate::words::{asked_words, texts_of};
-use bag_plan::{plan_of, refuse_words};
+use crate::disks::Disks;
+use crate::words::{Words, asked_words, texts_of};
+use bag_plan::{Usage, plan_of, refuse_words};
 use bag_tree::Out;
 use std::alloc::Global;
 use std::io::Write;
-use std::rt::{Env, Files};
 
 /// Does what the words ask for, without the program's name, and gives the exit status.
 ///
@@ -28,32 +28,33 @@ where
     }
 }
 
-/// Does on the system's disks what the words ask for that the program was started with, and gives the exit status.
+/// Does what the words ask for that the program was started with, on the disks that its runtime reaches, and gives the exit
+/// status.
 ///
 /// A word that isn't UTF-8 is refused.
 pub fn run_program<R, O, E>(rt: &R, out: &mut O, err: &mut E) -> u8
 where
-    R: Env + Files + AllocGlobal + Clone + Drop,
+    R: Words + Disks + AllocGlobal,
     O: Out,
     E: Write,
-    ensures { IsSystemProgram (O.taken out.old) (O.taken out.new) result }
+    ensures { IsStarted (R.answers rt.now) (R.below rt.now) (O.taken out.old) (O.taken out.new) result }
 {
-    match asked_words(rt) {
+    match asked_words(rt.alloc(), rt) {
         Ok(words) => run_words(rt, &words, out, err),
         Err(usage) => refuse_words(usage, err),
     }
 }
 
-/// Does on the system's disks what words ask for.
+/// Does what words ask for.
 fn run_words<R, O, E>(rt: &R, words: &[String], out: &mut O, err: &mut E) -> u8
 where
-    R: Files + AllocGlobal + Clone + Drop,
+    R: Disks + AllocGlobal,
     O: Out,
     E: Write,
-    ensures { IsSystemProgram (O.taken out.old) (O.taken out.new) result }
+    ensures { IsProgramOrNone (R.below rt.now) (map string_bytes words.now) (O.taken out.old) (O.taken out.new) result }
 {
     match texts_of(rt.alloc(), words) {
-        Ok(texts) => program(rt.alloc(), &SystemDisks::new(rt), &texts, out, err),
-        Err(usage) => refuse_words(usage, err),
+        Ok(texts) => program(rt.alloc(), rt, &texts, out, err),
+        Err(_) => refuse_words(Usage::Memory, err),
     }
 }

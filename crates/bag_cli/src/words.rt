@@ -1,25 +1,46 @@
 //! The words that the program was started with.
+ghost use Rattle.std.specs.Prelude.{◌≡◌, ◌≢◌, IfOk, List, Result, ⊤, drop, map, string_bytes, ℕ};
+ghost use Rattle.std.specs.IoError.{error_kind};
+ghost use Rattle.std.specs.declared.io.ErrorKind.TheVariants.{OutOfMemory};
+ghost use Rattle.std.specs.Vec.Iter.{into_iter_items};
+ghost use Rattle.bag_plan.specs.Plan.{texts};
+ghost use Rattle.bag_plan.specs.declared.usage.Usage.{Usage};
+ghost use Rattle.bag_plan.specs.declared.usage.Usage.TheVariants.{Memory, Refused};
+ghost use Rattle.bag_cli.specs.Words.{MayHaveAsked, answered};
+
 use bag_plan::Usage;
 use std::alloc::{AllocError, Global};
 use std::env::{self, Args};
 use std::io::{self, ErrorKind};
 use std::rt::Env;
 
-/// The words, without the program's name. A word that isn't UTF-8 is refused.
-pub(crate) fn asked_words<R: Env + AllocGlobal>(rt: &R) -> Result<Vec<String>, Usage> {
-    Ok(words_of(rt)?.skip(1).collect(rt.alloc())?)
+/// What gives the words that a program was started with.
+pub trait Words {
+    /// What it may answer: the words with the program's name first, or why there are none.
+    ghost answers: { Self → Result (List (List ℕ)) Usage → Type 0 };
+
+    /// The words, with the program's name first. A word that isn't UTF-8 is refused.
+    fn words(&self) -> Result<Args, Usage>
+        ensures { answers self.now (answered result) };
 }
 
-/// The words, with the program's name first.
-fn words_of<R: Env + AllocGlobal>(rt: &R) -> Result<Args, Usage> {
-    match env::args(rt) {
-        Ok(words) => Ok(words),
-        Err(error) => Err(usage_of(&error)),
+/// The words that a runtime was started with, of which std says nothing.
+impl<R: Env + AllocGlobal> Words for R {
+    ghost answers = { λ _ _. ⊤ };
+
+    fn words(&self) -> Result<Args, Usage> {
+        match env::args(self) {
+            Ok(words) => Ok(words),
+            Err(error) => Err(usage_of(&error)),
+        }
     }
 }
 
 /// Why there are no words.
-fn usage_of(error: &io::Error) -> Usage {
+fn usage_of(error: &io::Error) -> Usage
+    ensures memory { error_kind error.now ≡ OutOfMemory → result ≡ Memory }
+    ensures refused { error_kind error.now ≢ OutOfMemory → result ≡ Refused }
+{
     if error.kind() == ErrorKind::OutOfMemory {
         Usage::Memory
     } else {
@@ -27,7 +48,23 @@ fn usage_of(error: &io::Error) -> Usage {
     }
 }
 
+/// The words, without the program's name.
+pub(crate) fn asked_words<W: Words>(alloc: Global, started: &W) -> Result<Vec<String>, Usage>
+    ensures { MayHaveAsked (W.answers started.now) result }
+{
+    Ok(without_name(alloc, started.words()?)?)
+}
+
+/// Words but the first.
+fn without_name(alloc: Global, words: Args) -> Result<Vec<String>, AllocError>
+    ensures { IfOk result (λ asked. asked.items ≡ drop 1 (into_iter_items words)) }
+{
+    words.skip(1).collect(alloc)
+}
+
 /// The texts of words that are owned.
-pub(crate) fn texts_of(alloc: Global, words: &[String]) -> Result<Vec<&str>, Usage> {
-    Ok(words.iter().map(|word| word.as_str()).collect(alloc)?)
+pub(crate) fn texts_of(alloc: Global, words: &[String]) -> Result<Vec<&str>, AllocError>
+    ensures { IfOk result (λ all. texts all.items ≡ map string_bytes words.now) }
+{
+    words.iter().map(|word| word.as_str()).collect(alloc)
 }

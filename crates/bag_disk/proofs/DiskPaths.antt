@@ -6,9 +6,8 @@ use Rattle.std.proofs.lemmas.Bool.{cases_lt, false≢true}
 use Rattle.std.proofs.lemmas.List.{length-take}
 use Rattle.std.proofs.Math.Seq.{take-append_seam, get_or-append_seam}
 use Rattle.bag_text.specs.Path.{slash, under, is_path}
-use Rattle.bag_disk.specs.Disk.{Nodes, node, IsDisk, IsReached}
+use Rattle.bag_disk.specs.Disk.{Nodes, node, IsDisk, IsReached, IsReachedTo}
 use Rattle.bag_disk.specs.Disk.Node.{Folder}
-use Rattle.bag_disk.specs.FolderWalk.{IsReachedTo}
 
 -- a path at one of its slashes
 pub at_slash : (path folder : List ℕ) (end : ℕ) → end < length path → get_or path end 0 ≡ slash → folder ≡ take end path → path ≡ under folder (drop (end + 1) path)

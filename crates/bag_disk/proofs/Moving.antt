@@ -13,10 +13,10 @@ use Rattle.std.specs.Str.{bytes_eq}
 use Rattle.bag_text.specs.Text.{text_cmp}
 use Rattle.bag_text.specs.Path.{slash, under}
 use Rattle.bag_tree.proofs.SameText.{one_text, text_itself, same_test}
-use Rattle.bag_disk.specs.BagBelow.{none_below, t_true}
 use Rattle.bag_disk.specs.Disk.{Nodes, Node, node}
 use Rattle.bag_disk.specs.WritableDisk.{is_within, moved, renamed, with_renamed, MovedIsThere}
 use Rattle.bag_disk.proofs.DiskPaths.{none_below_no_folder}
+use Rattle.bag_disk.proofs.NodeEntries.{none_below, t_true}
 
 abbrev or_else : Option Node → Option Node → Option Node
 or_else None other = other

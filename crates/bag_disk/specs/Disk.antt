@@ -1,5 +1,7 @@
 -- What stands below a base folder of a disk.
-use Rattle.std.specs.Prelude.{ℕ, ◌≡◌, ◌≢◌, ◌<◌, Bool, true, false, IsTrue, IsUtf8, List, [], ◌∷◌, length, All, Contains, Option, Some, is_some}
+use Rattle.std.specs.Prelude.{ℕ, ◌≡◌, ◌≢◌, ◌<◌, Bool, true, false, IsTrue, IsUtf8, List, [], ◌∷◌, length, All, Contains, Option, Some, None, is_some}
+use Rattle.std.proofs.Common.{◌∙◌, ap, sym}
+use Rattle.std.proofs.lemmas.Bool.{false≢true}
 use Rattle.std.specs.FinMap as map
 use Rattle.std.specs.List.{list_all}
 use Rattle.bag_text.specs.Text.{text_cmp}
@@ -19,6 +21,19 @@ abbrev pub is_plain_node : Node → Bool
 is_plain_node (File bytes) = true
 is_plain_node Folder = true
 is_plain_node Other = false
+
+-- the bytes of a regular file
+abbrev pub bytes_of : Option Node → Option (List ℕ)
+bytes_of (Some (File bytes)) = Some bytes
+bytes_of (Some Folder) = None
+bytes_of (Some Other) = None
+bytes_of None = None
+
+abbrev pub is_folder_node : Option Node → Bool
+is_folder_node None = false
+is_folder_node (Some (File bytes)) = false
+is_folder_node (Some Folder) = true
+is_folder_node (Some Other) = false
 
 -- what stands at each path below the base folder
 abbrev pub Nodes : Type 0
@@ -63,12 +78,25 @@ IsFolder nodes (c ∷ path) = node nodes (c ∷ path) ≡ Some Folder
 abbrev pub IsReached : Nodes → List ℕ → Type 0
 IsReached nodes path = (folder rest : List ℕ) → path ≡ under folder rest → node nodes folder ≡ Some Folder
 
+-- each folder on the way to the path, up to a length, is a folder
+abbrev pub IsReachedTo : Nodes → List ℕ → ℕ → Type 0
+IsReachedTo nodes path end = (folder rest : List ℕ) → path ≡ under folder rest → length folder < end → node nodes folder ≡ Some Folder
+
 -- what every disk has: paths, each in a folder, those of files and folders in UTF-8, and bytes
 pub record IsDisk (nodes : Nodes) : Type 0 where
   pub paths : (path : List ℕ) → Has nodes path → IsTrue (is_path path)
   pub texts : (path : List ℕ) (n : Node) → node nodes path ≡ Some n → n ≢ Other → IsUtf8 path
   pub folders : (path : List ℕ) → Has nodes path → IsReached nodes path
   pub bytes : (path content : List ℕ) → node nodes path ≡ Some (File content) → All (λ b. b < 256) content
+
+-- where nothing stands
+pub empty_disk : IsDisk map.empty
+empty_disk = record {
+  texts = λ path n is. absurd (false≢true (sym (ap is_some (map.get-empty text_cmp path)) ∙ ap is_some is));
+  paths = λ path has. absurd (false≢true (sym (ap is_some (map.get-empty text_cmp path)) ∙ has));
+  folders = λ path has. absurd (false≢true (sym (ap is_some (map.get-empty text_cmp path)) ∙ has));
+  bytes = λ path content is. absurd (false≢true (ap is_some (sym (map.get-empty text_cmp path) ∙ is)));
+}
 
 -- what is answered of a node
 abbrev pub entry_of : Node → Entry

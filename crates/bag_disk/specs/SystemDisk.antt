@@ -6,7 +6,7 @@ use Rattle.bag_disk.specs.declared.system_disk.SystemDisk.{SystemDisk}
 
 -- the path of the base folder
 abbrev pub base_of : {R F D : Type 0} → SystemDisk R F D → List ℕ
-base_of disk = disk.base
+base_of disk = disk.base.path
 
 -- Nothing is promised of what the system's disk holds: it isn't honest. What was opened and whether a file is open is
 -- known.

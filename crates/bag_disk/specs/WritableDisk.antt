@@ -3,9 +3,8 @@ use Rattle.std.specs.Prelude.{ℕ, ◌≡◌, ◌||◌, Bool, false, IsTrue, Lis
 use Rattle.std.specs.List.{starts_with}
 use Rattle.std.specs.FinMap as map
 use Rattle.bag_text.specs.Path.{slash, under}
-use Rattle.bag_disk.specs.Disk.{DiskState, Nodes, Node, node, Has, IsDisk, IsFileWith}
+use Rattle.bag_disk.specs.Disk.{DiskState, Nodes, Node, node, Has, IsDisk, IsFileWith, bytes_of}
 use Rattle.bag_disk.specs.Disk.Node.{File, Folder}
-use Rattle.bag_disk.specs.DiskBag.{bytes_of}
 
 -- what stands there, with a folder at the path
 abbrev pub with_folder : Nodes → List ℕ → Nodes

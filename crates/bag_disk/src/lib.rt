@@ -1,30 +1,23 @@
-//! Trees of the files on a disk.
+//! Disks: what answers the system's calls below a base folder.
 //!
 //! ```
-//! let mut tree = FileTree::at(rt, alloc, "deposit")?;
-//! let listing = tree.list()?;
+//! let mut disk = SystemDisk::new(rt, alloc, "deposit")?;
+//! disk.enter("data")?;
 //! ```
 //!
-//! A `FileTree` stands over any `Disk`, a few calls of the system below a base folder, and is proved for each honest one.
-//! `FileTree::at` is the tree over the system's disk, of which nothing is promised. A `WritableDisk` has the calls that make
-//! a bag besides.
+//! A `Disk` says what stands at its paths, a `WritableDisk` has the calls that make a bag besides. What an honest disk answers
+//! is what stands there. `SystemDisk` hands each call to the system, of which nothing is promised.
 #![tactic(auto)]
 
-mod answered;
+mod base_folder;
 mod disk;
-mod file_tree;
-mod folder_walk;
 pub mod laws;
-mod limit;
-mod listing;
 mod location;
-mod opening;
-mod path_order;
-mod refusal;
 mod system_disk;
+mod system_fault;
 mod writable_disk;
 
 pub use disk::{Disk, DiskFault, Entry};
-pub use file_tree::FileTree;
+pub use location::path_in;
 pub use system_disk::SystemDisk;
 pub use writable_disk::WritableDisk;

@@ -1,23 +1,17 @@
 //! The system's disk.
-ghost use Rattle.std.specs.Prelude.{◌≡◌, ◌++◌, ◌∷◌, [], IfOk, IsErrOf, None, OnErr, OnOk, Some, is_some, false};
-ghost use Rattle.std.specs.Fs.{IsDir, IsFile, dir_entry_name, file_type, metadata_len};
-ghost use Rattle.bag_disk.specs.FileTree.{disk_of, tree_state};
-ghost use Rattle.bag_disk.specs.Location.{location_below};
+ghost use Rattle.std.specs.Prelude.{◌≡◌, ◌++◌, ◌∷◌, [], IfOk, None, OnErr, OnOk, Some, is_some, false};
+ghost use Rattle.std.specs.Fs.{dir_entry_name};
 ghost use Rattle.bag_disk.specs.SystemDisk.{base_of, system_state, written_state};
-ghost use Rattle.bag_disk.specs.BagBelow.{empty_disk};
-ghost use Rattle.bag_disk.specs.declared.disk.DiskFault.TheVariants.{Memory, NotFound};
-ghost use Rattle.bag_disk.specs.declared.disk.Entry.TheVariants.{File, Folder, Other};
+ghost use Rattle.bag_disk.specs.Disk.{empty_disk};
 
-use crate::FileTree;
+use crate::base_folder::BaseFolder;
 use crate::disk::{Disk, DiskFault, Entry};
-use crate::location::Location;
+use crate::system_fault::answer_of;
 use crate::writable_disk::WritableDisk;
 use bag_text::{Items, Text};
-use bag_tree::Tree;
-use std::alloc::{AllocError, AllocFailed, Global};
-use std::fs::{DirEntry, Metadata, OpenFile, ReadDir};
-use std::io;
-use std::io::{ErrorKind, Read, Write};
+use std::alloc::{AllocError, Global};
+use std::fs::{DirEntry, OpenFile, ReadDir};
+use std::io::{Read, Write};
 use std::rt::Files;
 
 /// The system's calls, below a base folder, of which nothing is promised. The base folder may be a link to a folder.
@@ -25,55 +19,11 @@ use std::rt::Files;
 pub struct SystemDisk<R: Files> {
     rt: R,
     alloc: Global,
-    base: Text,
+    base: BaseFolder,
     openings: Items<Text>,
     opened: Option<R::File>,
     written: Option<R::File>,
     entered: Option<ReadDir<R, Global>>,
-}
-
-impl From<AllocError> for DiskFault {
-    ghost from_gives = { λ _ fault. fault ≡ Memory };
-
-    fn from(_: AllocError) -> Self {
-        DiskFault::Memory
-    }
-}
-
-impl<T: Drop> From<AllocFailed<T>> for DiskFault {
-    ghost from_gives = { λ _ fault. fault ≡ Memory };
-
-    fn from(_: AllocFailed<T>) -> Self {
-        DiskFault::Memory
-    }
-}
-
-impl DiskFault {
-    /// Which error of the system is which fault.
-    fn of(error: &io::Error) -> DiskFault {
-        match error.kind() {
-            ErrorKind::NotFound | ErrorKind::NotADirectory => DiskFault::NotFound,
-            ErrorKind::AlreadyExists => DiskFault::Exists,
-            ErrorKind::InvalidFilename => DiskFault::Name,
-            ErrorKind::OutOfMemory => DiskFault::Memory,
-            _ => DiskFault::Device,
-        }
-    }
-}
-
-/// What stands where metadata is of, which follows no link.
-fn entry_of(metadata: &Metadata) -> Entry
-    ensures file { IsFile (file_type metadata.now) → result ≡ File (metadata_len metadata.now) }
-    ensures folder { IsDir (file_type metadata.now) → result ≡ Folder }
-    ensures other { ¬ IsFile (file_type metadata.now) → ¬ IsDir (file_type metadata.now) → result ≡ Other }
-{
-    if metadata.is_file() {
-        Entry::File(metadata.len())
-    } else if metadata.is_dir() {
-        Entry::Folder
-    } else {
-        Entry::Other
-    }
 }
 
 /// The name of what stands in a folder.
@@ -84,26 +34,6 @@ fn name_of<R: Files>(alloc: Global, entry: &DirEntry<R, Global>) -> Result<Optio
 }
 
 impl<R: Files> SystemDisk<R> {
-    /// Where a path below the base folder stands. Below an empty base folder nothing does.
-    fn location(&self, path: &str) -> Result<Location, DiskFault>
-        ensures nowhere { self.now.base ≡ [] → IsErrOf result NotFound }
-        ensures location { IfOk result (λ location. location.text ≡ location_below self.now.base path.now) }
-    {
-        if self.base.is_empty() {
-            return Err(DiskFault::NotFound);
-        }
-        Ok(Location::below(self.alloc, self.base.as_str(), path)?)
-    }
-
-    /// Opens the file at a path.
-    fn file(&self, path: &str) -> Result<R::File, DiskFault> {
-        let location = self.location(path)?;
-        match location.open(&self.rt) {
-            Ok(file) => Ok(file),
-            Err(error) => Err(DiskFault::of(&error)),
-        }
-    }
-
     /// Closes the file that is being read and the one that is being written.
     fn close_all(&mut self)
         ensures openings { self.new.openings ≡ self.old.openings }
@@ -128,22 +58,12 @@ impl<R: Files + AllocGlobal + Clone + Drop> Disk for SystemDisk<R> {
     ghost state = { λ disk. system_state disk.openings (is_some disk.opened) };
 
     fn entry_at(&self, path: &str) -> Result<Entry, DiskFault> {
-        let location = self.location(path)?;
-        match location.metadata(&self.rt) {
-            Ok(metadata) => Ok(entry_of(&metadata)),
-            Err(error) => Err(DiskFault::of(&error)),
-        }
+        self.base.entry(&self.rt, path)
     }
 
     fn enter(&mut self, folder: &str) -> Result<(), DiskFault> {
-        let location = self.location(folder)?;
-        match location.entries(&self.rt) {
-            Ok(entries) => {
-                self.entered = Some(entries);
-                Ok(())
-            }
-            Err(error) => Err(DiskFault::of(&error)),
-        }
+        self.entered = Some(self.base.entries(&self.rt, folder)?);
+        Ok(())
     }
 
     fn next_name(&mut self) -> Result<Option<Text>, DiskFault> {
@@ -159,7 +79,7 @@ impl<R: Files + AllocGlobal + Clone + Drop> Disk for SystemDisk<R> {
 
     fn open(&mut self, path: &str) -> Result<(), DiskFault> {
         self.opened = None;
-        let file = self.file(path)?;
+        let file = self.base.open(&self.rt, path)?;
         self.note(path)?;
         self.opened = Some(file);
         Ok(())
@@ -177,10 +97,7 @@ impl<R: Files + AllocGlobal + Clone + Drop> Disk for SystemDisk<R> {
         let Some(file) = &mut self.opened else {
             return Err(DiskFault::Device);
         };
-        match file.read(buffer) {
-            Ok(count) => Ok(count),
-            Err(error) => Err(DiskFault::of(&error)),
-        }
+        answer_of(file.read(buffer))
     }
 
     ghost is_disk = { λ _. empty_disk };
@@ -190,64 +107,40 @@ impl<R: Files + AllocGlobal + Clone + Drop> WritableDisk for SystemDisk<R> {
     ghost written = { λ disk. written_state (is_some disk.written) };
 
     fn make_folder(&mut self, path: &str) -> Result<(), DiskFault> {
-        let location = self.location(path)?;
-        match location.make_folder(&self.rt) {
-            Ok(()) => {
-                self.close_all();
-                Ok(())
-            }
-            Err(error) => Err(DiskFault::of(&error)),
-        }
+        self.base.make_folder(&self.rt, path)?;
+        self.close_all();
+        Ok(())
     }
 
     fn rename(&mut self, from: &str, to: &str) -> Result<(), DiskFault> {
-        let from = self.location(from)?;
-        let to = self.location(to)?;
-        match from.rename(&self.rt, &to) {
-            Ok(()) => {
-                self.close_all();
-                Ok(())
-            }
-            Err(error) => Err(DiskFault::of(&error)),
-        }
+        self.base.rename(&self.rt, from, to)?;
+        self.close_all();
+        Ok(())
     }
 
     fn create(&mut self, path: &str) -> Result<(), DiskFault> {
-        let location = self.location(path)?;
-        match location.create(&self.rt) {
-            Ok(file) => {
-                self.opened = None;
-                self.written = Some(file);
-                Ok(())
-            }
-            Err(error) => Err(DiskFault::of(&error)),
-        }
+        let file = self.base.create(&self.rt, path)?;
+        self.opened = None;
+        self.written = Some(file);
+        Ok(())
     }
 
     fn write(&mut self, bytes: &[u8]) -> Result<usize, DiskFault> {
         let Some(file) = &mut self.written else {
             return Err(DiskFault::Device);
         };
-        match file.write(bytes) {
-            Ok(count) => {
-                self.opened = None;
-                Ok(count)
-            }
-            Err(error) => Err(DiskFault::of(&error)),
-        }
+        let count = answer_of(file.write(bytes))?;
+        self.opened = None;
+        Ok(count)
     }
 
     fn sync(&mut self) -> Result<(), DiskFault> {
         let Some(file) = &self.written else {
             return Err(DiskFault::Device);
         };
-        match file.sync_all() {
-            Ok(()) => {
-                self.close_all();
-                Ok(())
-            }
-            Err(error) => Err(DiskFault::of(&error)),
-        }
+        answer_of(file.sync_all())?;
+        self.close_all();
+        Ok(())
     }
 }
 
@@ -260,22 +153,11 @@ impl<R: Files + AllocGlobal + Clone + Drop> SystemDisk<R> {
         Ok(SystemDisk {
             rt,
             alloc,
-            base: Text::from_str(alloc, base)?,
+            base: BaseFolder::new(alloc, base)?,
             openings: Items::new(alloc),
             opened: None,
             written: None,
             entered: None,
         })
-    }
-}
-
-impl<R: Files + AllocGlobal + Clone + Drop> FileTree<SystemDisk<R>> {
-    /// The tree below a base folder of the system's disk, at which it doesn't look yet.
-    pub fn at(rt: R, alloc: Global, base: &str) -> Result<FileTree<SystemDisk<R>>, AllocError>
-        ensures base { IfOk result (λ tree. base_of (disk_of tree) ≡ base.now) }
-        ensures state { IfOk result (λ tree. ⟦<FileTree<SystemDisk<R>> as Tree>⟧.state tree ≡ tree_state (system_state [] false) 0) }
-    {
-        let disk = SystemDisk::new(rt, alloc, base)?;
-        Ok(FileTree::over(alloc, disk))
     }
 }

@@ -26,7 +26,7 @@ below : (path : Vec ℕ Global) (held : Held) → AllByRecursion (λ y. held_cmp
 below path [] h = refl
 below path (e ∷ held) h = and_from _ _ (ap is_lt h.0) (below path held h.1)
 
-ascending : (held : Held) → IsStrictlySortedBy held_cmp (keys_of held) → is_sorted text_cmp (entries_of held) ≡ true
+pub ascending : (held : Held) → IsStrictlySortedBy held_cmp (keys_of held) → is_sorted text_cmp (entries_of held) ≡ true
 unfolding IsStrictlySortedBy
 ascending [] s = refl
 ascending (e ∷ held) s = and_from _ _ (below e.0 held s.0) (ascending held s.1)

@@ -1,3 +1,4 @@
+pub mod HeldCopied
 pub mod HeldMoved
 pub mod HeldNames
 pub mod HeldNodes

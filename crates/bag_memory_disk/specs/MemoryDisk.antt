@@ -2,8 +2,7 @@
 use Rattle.std.specs.Prelude.{ℕ, ◌≡◌, Bool, true, false, List, [], Option, Some, None, Result, Ok, Err, drop, bytes_eq, if◌then◌else◌}
 use Rattle.std.specs.List.{list_any}
 use Rattle.std.specs.Option.{option_map}
-use Rattle.bag_disk.specs.Disk.{DiskState, Nodes, Node, entry_of, node}
-use Rattle.bag_disk.specs.DiskBag.{bytes_of}
+use Rattle.bag_disk.specs.Disk.{DiskState, Nodes, Node, entry_of, node, bytes_of}
 use Rattle.bag_disk.specs.declared.disk.Entry.{Entry}
 use Rattle.bag_disk.specs.declared.disk.DiskFault.{DiskFault}
 use Rattle.bag_disk.specs.declared.disk.DiskFault.TheVariants.{NotFound, Exists, Name, Memory, Device}

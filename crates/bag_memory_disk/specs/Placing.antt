@@ -3,9 +3,8 @@ use Rattle.std.specs.Prelude.{ℕ, ◌≡◌, ◌≢◌, Bool, true, false, IsTr
 use Rattle.std.specs.List.{list_all}
 use Rattle.std.specs.Str.{is_utf8}
 use Rattle.bag_text.specs.Path.{is_path, under}
-use Rattle.bag_disk.specs.Disk.{Nodes, Node, node, Has, IsReached, is_plain_node}
+use Rattle.bag_disk.specs.Disk.{Nodes, Node, node, Has, IsReached, is_plain_node, is_folder_node}
 use Rattle.bag_disk.specs.Disk.Node.{File, Folder, Other}
-use Rattle.bag_disk.specs.DiskBag.{is_folder_node}
 
 -- what is no Other has a name in UTF-8
 abbrev pub IsNamed : List ℕ → Node → Type 0

@@ -4,9 +4,8 @@ use Rattle.std.proofs.Common.{refl, ap, sym, ◌∙◌}
 use Rattle.std.proofs.lemmas.Bool.{and_parts, ltb-true, false≢true}
 use Rattle.std.proofs.lemmas.List.Elements.{All-nil, All-cons}
 use Rattle.std.proofs.lemmas.Str.{IsUtf8-from_is_utf8}
-use Rattle.bag_disk.specs.Disk.{Nodes, Node, IsDisk, is_plain_node}
+use Rattle.bag_disk.specs.Disk.{Nodes, Node, IsDisk, is_plain_node, is_folder_node}
 use Rattle.bag_disk.specs.Disk.Node.{File, Folder, Other}
-use Rattle.bag_disk.specs.DiskBag.{is_folder_node}
 use Rattle.bag_memory_disk.specs.Placing.{PassesAsDisk, are_bytes, has_bytes, is_plain_found}
 
 -- numbers that pass the test are below 256

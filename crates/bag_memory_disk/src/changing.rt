@@ -15,7 +15,7 @@ use std::alloc::{AllocError, Global};
 use std::collections::BTreeMap;
 
 /// Puts a node in place of what stood at a path.
-fn put_node(
+pub(crate) fn put_node(
     nodes: &mut BTreeMap<Vec<u8>, Node>,
     path: Vec<u8>,
     node: Node,

@@ -1,7 +1,6 @@
 //! What a disk in memory holds, by its paths.
 ghost use Rattle.std.specs.Prelude.{◌≡◌, IfOk, MatchOption, None, Some, map};
-ghost use Rattle.bag_disk.specs.Disk.{entry_of, node};
-ghost use Rattle.bag_disk.specs.DiskBag.{is_folder_node};
+ghost use Rattle.bag_disk.specs.Disk.{entry_of, node, is_folder_node};
 ghost use Rattle.bag_memory_disk.specs.Held.{below, name_in, names_in, node_of, nodes_of};
 
 use bag_disk::Entry;

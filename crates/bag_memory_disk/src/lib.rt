@@ -10,6 +10,7 @@
 #![tactic(auto)]
 
 mod changing;
+mod copying;
 mod held;
 mod memory_disk;
 mod placing;

@@ -3,6 +3,7 @@ ghost use Rattle.bag_memory_disk.specs.Held.{nodes_of};
 ghost use Rattle.bag_memory_disk.specs.Placing.{PassesAsDisk};
 
 use crate::changing::{add_node, append, moved};
+use crate::copying::copied;
 use crate::held::{Node, names_in, node_at};
 use crate::placing::{are_placed, is_reached};
 use crate::reading::read_at;
@@ -52,7 +53,7 @@ pub struct MemoryDisk {
 }
 
 impl MemoryDisk {
-    ghost use Rattle.std.specs.Prelude.{◌≡◌, ◌++◌, ◌∷◌, [], MatchOption, OnOk, OnErr};
+    ghost use Rattle.std.specs.Prelude.{◌≡◌, ◌++◌, ◌∷◌, [], IfOk, MatchOption, OnOk, OnErr};
     ghost use Rattle.bag_disk.specs.Disk.{IsDisk};
     ghost use Rattle.bag_memory_disk.specs.MemoryDisk.{fresh, not_honest, barred_of, state_of};
 
@@ -93,6 +94,14 @@ impl MemoryDisk {
             named: 0,
             written: None,
         }
+    }
+
+    /// A disk that holds the same. None of its folders is barred, no file of it is swapped, and nothing is open.
+    pub fn fresh_copy(&self, alloc: Global) -> Result<MemoryDisk, AllocError>
+        ensures disk { IfOk result (λ disk. state_of disk ≡ fresh (state_of self.now).nodes) }
+        ensures open { IfOk result (λ disk. barred_of disk ≡ []) }
+    {
+        Ok(MemoryDisk::with_nodes(alloc, copied(alloc, &self.nodes)?))
     }
 
     /// From now on the folder may not be read: entering it answers `Device`. The empty path is the base folder.

@@ -6,6 +6,8 @@ use Rattle.bag_fault.specs.FaultOrder.{fault_cmp}
 use Rattle.bag_fault.specs.declared.fault.Fault.{Fault}
 use Rattle.bag_fault.proofs.Ordered.{fault_cmp_total, fault_cmp_same}
 use Rattle.bag_facts.proofs.Mapped.{kept, passed}
+use Rattle.bag_completeness.specs.CompletenessStage.{IsOfCompleteness}
+use Rattle.bag_completeness.proofs.CompletenessList.{completeness_faults_are_listed}
 use Rattle.bag_stages.specs.DeclarationStage.{IsOfDeclaration}
 use Rattle.bag_stages.specs.FetchStage.{IsOfFetch}
 use Rattle.bag_stages.specs.HasList.{HasList}
@@ -29,7 +31,8 @@ faults_are_listed bag =
     either (IsOfDeclaration bag) _ (declaration_faults_are_listed bag)
     (either (IsOfParts bag) _ (part_faults_are_listed bag)
     (either (IsOfMetadata bag) _ (metadata_faults_are_listed bag)
-    (either (IsOfFetch bag) (IsOfManifests bag) (fetch_faults_are_listed bag) (manifest_faults_are_listed bag))))
+    (either (IsOfFetch bag) _ (fetch_faults_are_listed bag)
+    (either (IsOfManifests bag) (IsOfCompleteness bag) (manifest_faults_are_listed bag) (completeness_faults_are_listed bag)))))
 
 -- those that are asked for
 reported_are_listed : (check : Check) → HasList (IsReported check)

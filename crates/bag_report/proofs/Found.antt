@@ -1,5 +1,5 @@
 -- A fault of a bag is one of the set of its stage, and each set has faults of its stage.
-use Rattle.std.proofs.Common.{◌≡◌, ◌≢◌, inl, inr, ℕ, zero, suc, List, [], sym, ◌∙◌, subst}
+use Rattle.std.proofs.Common.{◌≡◌, ◌≢◌, inl, inr, ℕ, zero, suc, List, [], Bool, true, arith, ap, sym, ◌∙◌, subst}
 use Rattle.bag_text.specs.Code.{stage}
 use Rattle.bag_text.specs.Order.{IsListOf}
 use Rattle.bag_text.specs.declared.code.Code.TheVariants.{NameClash}
@@ -7,6 +7,8 @@ use Rattle.bag_text.proofs.ListOf.{nothing_listed, same_members}
 use Rattle.bag_tree.specs.Bag.{Bag}
 use Rattle.bag_fault.specs.FaultOrder.{fault_cmp}
 use Rattle.bag_fault.specs.declared.fault.Fault.{Fault}
+use Rattle.bag_completeness.specs.CompletenessStage.{IsOfCompleteness, IsSoughtInStageSix}
+use Rattle.bag_completeness.proofs.CompletenessFaults.{completeness_of_stage_six}
 use Rattle.bag_stages.specs.DeclarationStage.{IsOfDeclaration}
 use Rattle.bag_stages.specs.FetchStage.{IsOfFetch}
 use Rattle.bag_stages.specs.ManifestsStage.{IsOfManifests}
@@ -28,7 +30,7 @@ pick first others (suc k) = others k
 -- the set of a stage
 abbrev IsOf : Bag → ℕ → Fault → Type 0
 IsOf bag =
-    pick (λ f. ⊥) (pick (IsOfDeclaration bag) (pick (IsOfParts bag) (pick (IsOfMetadata bag) (pick (IsOfFetch bag) (pick (IsOfManifests bag) (λ k f. ⊥))))))
+    pick (λ f. ⊥) (pick (IsOfDeclaration bag) (pick (IsOfParts bag) (pick (IsOfMetadata bag) (pick (IsOfFetch bag) (pick (IsOfManifests bag) (pick (IsOfCompleteness bag) (λ k f. ⊥)))))))
 
 module _ (bag : Bag) (f : Fault) where
   of_its_stage : (k : ℕ) → stage f.code ≡ k → IsOf bag k f → IsOf bag (stage f.code) f
@@ -40,45 +42,59 @@ module _ (bag : Bag) (f : Fault) where
   in_its_stage (inr (inl h)) = of_its_stage 2 (parts_of_stage_two bag f h) h
   in_its_stage (inr (inr (inl h))) = of_its_stage 3 (metadata_of_stage_three bag f h) h
   in_its_stage (inr (inr (inr (inl h)))) = of_its_stage 4 (fetch_of_stage_four bag f h) h
-  in_its_stage (inr (inr (inr (inr h)))) = of_its_stage 5 (manifests_of_stage_five bag f h) h
-
-  pub none_clashes : Is bag f → f.code ≢ NameClash
-  none_clashes h e = subst (λ c. IsOf bag (stage c) f) e (in_its_stage h)
+  in_its_stage (inr (inr (inr (inr (inl h))))) = of_its_stage 5 (manifests_of_stage_five bag f h) h
+  in_its_stage (inr (inr (inr (inr (inr h))))) = of_its_stage 6 (completeness_of_stage_six bag f h) h
 
 -- the list of a stage's set has the faults of the bag that are of the stage
-module _ (bag : Bag) (faults : List Fault) where
-  stage_found : (k : ℕ) → ((f : Fault) → IsOf bag k f → IsFoundAt bag k f) → IsListOf fault_cmp (IsOf bag k) faults → IsListOf fault_cmp (IsFoundAt bag k) faults
-  stage_found k found list =
-      same_members fault_cmp (IsOf bag k) _ faults found (λ f h. subst (λ n. IsOf bag n f) h.1 (in_its_stage bag f h.0)) list
+module _ (clashes : Bool) (bag : Bag) (faults : List Fault) where
+  not_clash : (k : ℕ) (f : Fault) → k ≢ 6 → stage f.code ≡ k → f.code ≡ NameClash → clashes ≡ true
+  not_clash k f other at is = absurd (other (sym at ∙ ap stage is))
 
-  pub stage_one : IsListOf fault_cmp (IsOfDeclaration bag) faults → IsListOf fault_cmp (IsFoundAt bag 1) faults
-  unfolding Is
-  stage_one = stage_found 1 (λ f h. (inl h, declaration_of_stage_one bag f h))
+  stage_found : (k : ℕ) → k ≢ 6 → ((f : Fault) → IsOf bag k f → Is bag f × (stage f.code ≡ k)) → IsListOf fault_cmp (IsOf bag k) faults
+      → IsListOf fault_cmp (IsFoundAt clashes bag k) faults
+  stage_found k other found list =
+      same_members fault_cmp (IsOf bag k) _ faults
+      (λ f h. let is = found f h in (is.0, is.1, not_clash k f other is.1))
+      (λ f h. subst (λ n. IsOf bag n f) h.1 (in_its_stage bag f h.0))
+      list
 
-  pub stage_two : IsListOf fault_cmp (IsOfParts bag) faults → IsListOf fault_cmp (IsFoundAt bag 2) faults
+  pub stage_one : IsListOf fault_cmp (IsOfDeclaration bag) faults → IsListOf fault_cmp (IsFoundAt clashes bag 1) faults
   unfolding Is
-  stage_two = stage_found 2 (λ f h. (inr (inl h), parts_of_stage_two bag f h))
+  stage_one = stage_found 1 (λ e. omega (arith, e)) (λ f h. (inl h, declaration_of_stage_one bag f h))
 
-  pub stage_three : IsListOf fault_cmp (IsOfMetadata bag) faults → IsListOf fault_cmp (IsFoundAt bag 3) faults
+  pub stage_two : IsListOf fault_cmp (IsOfParts bag) faults → IsListOf fault_cmp (IsFoundAt clashes bag 2) faults
   unfolding Is
-  stage_three = stage_found 3 (λ f h. (inr (inr (inl h)), metadata_of_stage_three bag f h))
+  stage_two = stage_found 2 (λ e. omega (arith, e)) (λ f h. (inr (inl h), parts_of_stage_two bag f h))
 
-  pub stage_four : IsListOf fault_cmp (IsOfFetch bag) faults → IsListOf fault_cmp (IsFoundAt bag 4) faults
+  pub stage_three : IsListOf fault_cmp (IsOfMetadata bag) faults → IsListOf fault_cmp (IsFoundAt clashes bag 3) faults
   unfolding Is
-  stage_four = stage_found 4 (λ f h. (inr (inr (inr (inl h))), fetch_of_stage_four bag f h))
+  stage_three = stage_found 3 (λ e. omega (arith, e)) (λ f h. (inr (inr (inl h)), metadata_of_stage_three bag f h))
 
-  pub stage_five : IsListOf fault_cmp (IsOfManifests bag) faults → IsListOf fault_cmp (IsFoundAt bag 5) faults
+  pub stage_four : IsListOf fault_cmp (IsOfFetch bag) faults → IsListOf fault_cmp (IsFoundAt clashes bag 4) faults
   unfolding Is
-  stage_five = stage_found 5 (λ f h. (inr (inr (inr (inr h))), manifests_of_stage_five bag f h))
+  stage_four = stage_found 4 (λ e. omega (arith, e)) (λ f h. (inr (inr (inr (inl h))), fetch_of_stage_four bag f h))
+
+  pub stage_five : IsListOf fault_cmp (IsOfManifests bag) faults → IsListOf fault_cmp (IsFoundAt clashes bag 5) faults
+  unfolding Is
+  stage_five = stage_found 5 (λ e. omega (arith, e)) (λ f h. (inr (inr (inr (inr (inl h)))), manifests_of_stage_five bag f h))
+
+  -- of the sixth those that are looked for
+  pub stage_six : IsListOf fault_cmp (IsSoughtInStageSix clashes bag) faults → IsListOf fault_cmp (IsFoundAt clashes bag 6) faults
+  unfolding Is
+  stage_six =
+      same_members fault_cmp (IsSoughtInStageSix clashes bag) _ faults
+      (λ f h. (inr (inr (inr (inr (inr h.0)))), completeness_of_stage_six bag f h.0, h.1))
+      (λ f h. (subst (λ n. IsOf bag n f) h.1 (in_its_stage bag f h.0), h.2))
 
   -- and no other number has faults
-  pub no_stage : (k : ℕ) → k ≢ 1 → k ≢ 2 → k ≢ 3 → k ≢ 4 → k ≢ 5 → faults ≡ [] → IsListOf fault_cmp (IsFoundAt bag k) faults
+  pub no_stage : (k : ℕ) → k ≢ 1 → k ≢ 2 → k ≢ 3 → k ≢ 4 → k ≢ 5 → k ≢ 6 → faults ≡ [] → IsListOf fault_cmp (IsFoundAt clashes bag k) faults
   unfolding Is
-  no_stage k one two three four five none = rw none (nothing_listed fault_cmp _
+  no_stage k one two three four five six none = rw none (nothing_listed fault_cmp _
       (λ f h. elim h.0 [
         | inl m ↦ one (sym h.1 ∙ declaration_of_stage_one bag f m)
         | inr (inl m) ↦ two (sym h.1 ∙ parts_of_stage_two bag f m)
         | inr (inr (inl m)) ↦ three (sym h.1 ∙ metadata_of_stage_three bag f m)
         | inr (inr (inr (inl m))) ↦ four (sym h.1 ∙ fetch_of_stage_four bag f m)
-        | inr (inr (inr (inr m))) ↦ five (sym h.1 ∙ manifests_of_stage_five bag f m)
+        | inr (inr (inr (inr (inl m)))) ↦ five (sym h.1 ∙ manifests_of_stage_five bag f m)
+        | inr (inr (inr (inr (inr m)))) ↦ six (sym h.1 ∙ completeness_of_stage_six bag f m)
       ]))

@@ -2,6 +2,7 @@
 use Rattle.std.specs.Prelude.{◌⊎◌}
 use Rattle.bag_tree.specs.Bag.{Bag}
 use Rattle.bag_fault.specs.declared.fault.Fault.{Fault}
+use Rattle.bag_completeness.specs.CompletenessStage.{IsOfCompleteness}
 use Rattle.bag_stages.specs.DeclarationStage.{IsOfDeclaration}
 use Rattle.bag_stages.specs.FetchStage.{IsOfFetch}
 use Rattle.bag_stages.specs.ManifestsStage.{IsOfManifests}
@@ -22,3 +23,5 @@ Is bag f =
     ⊎ IsOfFetch bag f
     -- 5: manifests (2.1.3 and 2.2.1)
     ⊎ IsOfManifests bag f
+    -- 6: a complete bag (3), and names that differ by normal form alone
+    ⊎ IsOfCompleteness bag f

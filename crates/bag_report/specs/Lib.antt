@@ -1,3 +1,6 @@
+pub use Rattle.bag_completeness.specs.ClashStage
+pub use Rattle.bag_completeness.specs.Clashes
+pub use Rattle.bag_completeness.specs.CompletenessStage
 pub use Rattle.bag_facts.specs.Facts
 pub use Rattle.bag_facts.specs.Options
 pub use Rattle.bag_facts.specs.Stops

@@ -2,16 +2,16 @@
 use Rattle.std.specs.Prelude.{ℕ, ◌≡◌, Bool, true}
 use Rattle.bag_text.specs.Code.{stage}
 use Rattle.bag_text.specs.declared.code.Code.{Code}
-use Rattle.bag_text.specs.declared.code.Code.TheVariants.{NoOxum}
+use Rattle.bag_text.specs.declared.code.Code.TheVariants.{NoOxum, NameClash}
 use Rattle.bag_tree.specs.Bag.{Bag}
 use Rattle.bag_fault.specs.declared.fault.Fault.{Fault}
 use Rattle.bag_facts.specs.declared.options.Depth.{Depth}
 use Rattle.bag_report.specs.Is.{Is}
 use Rattle.bag_report.specs.Report.{is_fast}
 
--- a fault of the bag that this stage looks for
-abbrev pub IsFoundAt : Bag → ℕ → Fault → Type 0
-IsFoundAt bag k f = Is bag f × (stage f.code ≡ k)
+-- a fault of the bag that this stage looks for: a clash of names only where clashes are
+abbrev pub IsFoundAt : Bool → Bag → ℕ → Fault → Type 0
+IsFoundAt clashes bag k f = Is bag f × (stage f.code ≡ k) × (f.code ≡ NameClash → clashes ≡ true)
 
 -- whether faults of a code are asked for at a depth that reaches their stage
 abbrev pub is_chosen : Depth → Code → Bool

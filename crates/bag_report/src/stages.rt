@@ -8,6 +8,7 @@ ghost use Rattle.bag_facts.specs.declared.options.Depth.TheVariants.{Declaration
 ghost use Rattle.bag_report.specs.Report.{IsStageOf};
 ghost use Rattle.bag_report.specs.Stages.{is_chosen, IsFoundAt};
 
+use bag_completeness::completeness_faults;
 use bag_facts::{Depth, Facts};
 use bag_fault::Fault;
 use bag_stages::{
@@ -17,7 +18,7 @@ use bag_text::Code;
 use std::alloc::{AllocError, Global};
 
 /// The faults of one stage that are asked for, in their order. None are where the depth doesn't reach the stage. Stages 1
-/// to 5 are looked at, and for every other number there are none yet. Fails only where memory runs out.
+/// to 6 are looked at, and for every other number there are none yet. Fails only where memory runs out.
 pub fn stage_faults(alloc: Global, facts: &Facts, stage: u8) -> Result<Vec<Fault>, AllocError>
     ensures { IfOk result (λ faults. (bag : Bag) → IsFactsOf bag facts.now
         → IsStageOf (record { bag = bag; options = facts.now.options }) stage faults.items) }
@@ -31,10 +32,11 @@ pub fn stage_faults(alloc: Global, facts: &Facts, stage: u8) -> Result<Vec<Fault
     Ok(faults)
 }
 
-/// The faults that a stage finds, of facts that were read for it.
+/// The faults that a stage looks for, of facts that were read for it: clashes of names only where they are asked for.
 fn found_faults(alloc: Global, facts: &Facts, stage: u8) -> Result<Vec<Fault>, AllocError>
     ensures { IfOk result (λ faults. (bag : Bag) → IsFactsOf bag facts.now
-        → (1 < stage → facts.now.options.depth ≢ Declaration) → IsListOf fault_cmp (IsFoundAt bag stage) faults.items) }
+        → (1 < stage → facts.now.options.depth ≢ Declaration)
+        → IsListOf fault_cmp (IsFoundAt facts.now.options.clashes bag stage) faults.items) }
 {
     match stage {
         1 => declaration_faults(alloc, facts),
@@ -42,6 +44,7 @@ fn found_faults(alloc: Global, facts: &Facts, stage: u8) -> Result<Vec<Fault>, A
         3 => metadata_faults(alloc, facts),
         4 => fetch_faults(alloc, facts),
         5 => manifest_faults(alloc, facts),
+        6 => completeness_faults(alloc, facts),
         _ => Ok(Vec::new(alloc)),
     }
 }

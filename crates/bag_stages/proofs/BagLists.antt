@@ -38,7 +38,7 @@ text_listed kind path = text_by kind path (is_manifest_name kind path) refl
 
 module _ (bag : Bag) where
   -- the paths of the files
-  files_listed : HasList (HasFile bag)
+  pub files_listed : HasList (HasFile bag)
   files_listed = (
     keys bag.files,
     λ path. (

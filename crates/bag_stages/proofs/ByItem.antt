@@ -17,11 +17,9 @@ module _ {I : Type 0} (IsOf : I → Fault → Type 0) where
   pub no_items : IsListOf fault_cmp (OfSome []) []
   no_items = nothing_listed fault_cmp (OfSome []) (λ f h. contains_nothing h.0 h.1)
 
--- the faults of items are ordered as these
-module _ {I : Type 0} (item_cmp : I → I → Ordering) (IsOf : I → Fault → Type 0)
-    (less : (i j : I) (x y : Fault) → IsOf i x → IsOf j y → item_cmp i j ≡ Less → fault_cmp x y ≡ Less) where
+module _ {I : Type 0} (item_cmp : I → I → Ordering) where
   -- the first items are less than the next
-  before_next : (items : List I) (i : ℕ) (item first : I) → IsStrictlySortedBy item_cmp items → i < length items → item ≡ get_or items i item
+  pub before_next : (items : List I) (i : ℕ) (item first : I) → IsStrictlySortedBy item_cmp items → i < length items → item ≡ get_or items i item
       → Contains (take i items) first → item_cmp first item ≡ Less
   unfolding IsStrictlySortedBy
   before_next [] i item first s lt e c = absurd (omega arith)
@@ -32,6 +30,9 @@ module _ {I : Type 0} (item_cmp : I → I → Ordering) (IsOf : I → Fault → 
     | inr d ↦ before_next items i item first s.1 (omega arith) e d
   ]
 
+-- the faults of items are ordered as these
+module _ {I : Type 0} (item_cmp : I → I → Ordering) (IsOf : I → Fault → Type 0)
+    (less : (i j : I) (x y : Fault) → IsOf i x → IsOf j y → item_cmp i j ≡ Less → fault_cmp x y ≡ Less) where
   -- the faults of the first items, and those of the next
   pub one_item_more : (items : List I) (i : ℕ) (item : I) (faults of_item : List Fault) → IsStrictlySortedBy item_cmp items
       → i < length items → item ≡ get_or items i item → IsListOf fault_cmp (OfSome IsOf (take i items)) faults
@@ -49,4 +50,4 @@ module _ {I : Type 0} (item_cmp : I → I → Ordering) (IsOf : I → Fault → 
         | inr b ↦ elim (contains_cases item [] h.0 b) [ inl same ↦ inr (subst (λ j. IsOf j f) (sym same) h.2) | inr none ↦ absurd (contains_nothing h.0 none) ]
       ])
       (joined fault_cmp (OfSome IsOf before) (IsOf item) faults of_item list of_next
-      (λ x y a b. less a.0 item x y a.2 b (before_next items i item a.0 s lt e a.1))))
+      (λ x y a b. less a.0 item x y a.2 b (before_next item_cmp items i item a.0 s lt e a.1))))

@@ -154,11 +154,11 @@ module _ (bag : Bag) (alg : Alg) (bytes : List ℕ) (named : List ManifestEntry)
   not_in_listed faults list = same_members fault_cmp _ _ faults to_not_in from_not_in list
 
 -- what was read of a file is of its bytes, and a file of which nothing was read isn't there
-read_bytes : {A : Type 0} (IsOf : List ℕ → A → Type 0) (content : Option (List ℕ)) (x : A) → IsReadOf IsOf content (Some x) → (bytes : List ℕ) × (content ≡ Some bytes) × IsOf bytes x
+pub read_bytes : {A : Type 0} (IsOf : List ℕ → A → Type 0) (content : Option (List ℕ)) (x : A) → IsReadOf IsOf content (Some x) → (bytes : List ℕ) × (content ≡ Some bytes) × IsOf bytes x
 read_bytes IsOf None x read = absurd read
 read_bytes IsOf (Some bytes) x read = (bytes, refl, read)
 
-not_there : {A : Type 0} (IsOf : List ℕ → A → Type 0) (content : Option (List ℕ)) → IsReadOf IsOf content None → content ≡ None
+pub not_there : {A : Type 0} (IsOf : List ℕ → A → Type 0) (content : Option (List ℕ)) → IsReadOf IsOf content None → content ≡ None
 not_there IsOf None read = refl
 not_there IsOf (Some bytes) read = absurd read
 

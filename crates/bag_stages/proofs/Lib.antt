@@ -16,4 +16,5 @@ pub mod OxumFaults
 pub mod PartFaults
 pub mod PartsList
 pub mod PayloadSize
+pub mod ReadManifest
 pub mod Sorted

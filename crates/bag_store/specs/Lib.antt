@@ -1,9 +1,12 @@
 pub use Rattle.bag_tree.specs.Bag
 pub use Rattle.bag_tree.specs.Cause
-pub use Rattle.bag_disk.specs.BagBelow
+pub use Rattle.bag_file_tree.specs.BagBelow
+pub use Rattle.bag_digest.specs.Digest
+pub use Rattle.bag_digest.specs.Digests
 pub use Rattle.bag_disk.specs.Disk
-pub use Rattle.bag_disk.specs.DiskBag
-pub use Rattle.bag_disk.specs.FileTree
+pub use Rattle.bag_file_tree.specs.DiskBag
+pub use Rattle.bag_digest.specs.File
+pub use Rattle.bag_file_tree.specs.FileTree
 pub use Rattle.bag_tree.specs.Listing
 pub use Rattle.bag_memory.specs.Memory
 pub use Rattle.bag_memory.specs.MemoryView

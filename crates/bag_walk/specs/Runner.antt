@@ -6,14 +6,14 @@ use Rattle.bag_tree.specs.Tree.{TreeState}
 use Rattle.bag_fault.specs.FaultOrder.{fault_cmp}
 use Rattle.bag_fault.specs.declared.fault.Fault.{Fault}
 use Rattle.bag_facts.specs.declared.options.Depth.{Depth}
-use Rattle.bag_facts.specs.declared.options.Depth.TheVariants.{Declaration, Fast}
+use Rattle.bag_facts.specs.declared.options.Depth.TheVariants.{Declaration, Fast, Complete}
 use Rattle.bag_report.specs.Report.{IsReport}
 use Rattle.bag_output.specs.declared.outcome.Request.{Request}
 use Rattle.bag_walk.specs.Run.{check_of, IsAsked}
 
--- a depth at which the files are not compared with the manifests
-abbrev pub IsBelowComplete : Depth → Type 0
-IsBelowComplete depth = (depth ≡ Declaration) ⊎ (depth ≡ Fast)
+-- a depth at which no digest is compared
+abbrev pub IsBelowFull : Depth → Type 0
+IsBelowFull depth = (depth ≡ Declaration) ⊎ (depth ≡ Fast) ⊎ (depth ≡ Complete)
 
 -- all faults of the bag that the request asks for, in their order
 abbrev pub AreAsked : Bag → Request → List Fault → Type 0

@@ -9,7 +9,7 @@ ghost use Rattle.bag_facts.specs.Wanted.{OpensWanted};
 ghost use Rattle.bag_report.specs.Report.{IsReport, above};
 ghost use Rattle.bag_walk.specs.Openings.{OpensNoPayload};
 ghost use Rattle.bag_walk.specs.Run.{IsRun, IsRunByReport};
-ghost use Rattle.bag_walk.specs.Runner.{AreAskedOf, IsBelowComplete, IsReportOf};
+ghost use Rattle.bag_walk.specs.Runner.{AreAskedOf, IsBelowFull, IsReportOf};
 
 use bag_output::{Outcome, Request, close, write_report};
 use bag_report::{Facts, Fault, stage_faults};
@@ -19,10 +19,9 @@ use std::alloc::{AllocError, Global};
 /// Writes the faults of a tree's bag that the request asks for, one line each, and a closing line.
 ///
 /// Each line ends in LF. A fault's line is one write where the output takes it whole; the closing line takes no memory.
-/// The depth is below `Complete`, so that no payload file is read. The tree comes back, with the last file that was read
-/// open.
+/// The depth is below `Full`, so that no payload file is read. The tree comes back, with the last file that was read open.
 pub fn run<T: Tree, W: Out>(alloc: Global, tree: T, request: Request, out: &mut W) -> (T, Outcome)
-    requires { IsBelowComplete request.options.depth }
+    requires { IsBelowFull request.options.depth }
     ensures keeps { Keeps (T.state tree) (T.state result.0) }
     ensures opens { OpensWanted request.options (T.state tree) (T.state result.0) }
     ensures payload { OpensNoPayload (T.state tree) (T.state result.0) }

@@ -1,6 +1,6 @@
 //! A disk of a shelf, of which nothing is claimed.
 ghost use Rattle.std.specs.Prelude.{◌≡◌, [], false};
-ghost use Rattle.bag_disk.specs.BagBelow.{empty_disk};
+ghost use Rattle.bag_disk.specs.Disk.{empty_disk};
 ghost use Rattle.bag_disk.specs.SystemDisk.{system_state};
 ghost use Rattle.bag_memory_disk.specs.MemoryDisk.{state_of};
 ghost use Rattle.directory_rows.specs.Shelf.{IsUnopened, unclaimed};

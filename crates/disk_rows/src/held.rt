@@ -1,5 +1,6 @@
 //! Disks in memory from tables, and trees over disks.
-use bag_disk::{Disk, FileTree};
+use bag_disk::Disk;
+use bag_file_tree::FileTree;
 use bag_memory_disk::{MemoryDisk, Node};
 use bag_text::Text;
 use bag_tree::{FileEntry, Listing, Tree, TreeFault, read_whole};

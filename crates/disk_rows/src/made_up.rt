@@ -1,7 +1,7 @@
 //! Trees over disks that no disk is: what they name stands twice, or at no path.
 ghost use Rattle.std.specs.Prelude.{is_some};
 ghost use Rattle.bag_disk.specs.SystemDisk.{system_state};
-ghost use Rattle.bag_disk.specs.BagBelow.{empty_disk};
+ghost use Rattle.bag_disk.specs.Disk.{empty_disk};
 
 use crate::held::{is_refused, listed};
 use crate::rows::{sees, sees_that};

@@ -1,8 +1,9 @@
 //! More files than a tree may have.
 ghost use Rattle.bag_disk.specs.SystemDisk.{system_state};
-ghost use Rattle.bag_disk.specs.BagBelow.{empty_disk};
+ghost use Rattle.bag_disk.specs.Disk.{empty_disk};
 
-use bag_disk::{Disk, DiskFault, Entry, FileTree};
+use bag_disk::{Disk, DiskFault, Entry};
+use bag_file_tree::FileTree;
 use bag_text::{Items, Text};
 use bag_tree::{Tree, TreeFault};
 use std::alloc::{AllocError, Global};

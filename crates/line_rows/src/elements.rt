@@ -2,6 +2,7 @@
 use crate::rows::sees;
 use bag_line::{Element, Parsed, read_info};
 use std::alloc::{AllocError, Global};
+use std::process::Abort;
 use std::test::Fail;
 
 /// What metadata says: each element's line, label and value, then each fault's code, line and detail.
@@ -27,8 +28,15 @@ pub(crate) fn said(alloc: Global, bytes: &[u8]) -> Result<String, Fail> {
     shown(alloc, &read_info(alloc, bytes)?)
 }
 
-/// Texts whose lines stand by themselves, each with what is read in it.
-const SINGLE_LINES: &[(&str, &str)] = &[
+/// What is wanted is read in a text.
+fn sees_said(rt: &impl Abort, alloc: Global, text: &str, wanted: &str) -> Result<(), Fail> {
+    sees(rt, said(alloc, text.as_bytes())?.as_str(), wanted);
+    Ok(())
+}
+
+/// Texts of metadata, each with what is read in it.
+const ROWS: &[(&str, &str)] = &[
+    // lines by themselves
     ("", ""),
     ("\n", ""),
     (" \t", ""),
@@ -58,18 +66,7 @@ const SINGLE_LINES: &[(&str, &str)] = &[
     ("# a comment", "301 1 |"),
     ("Payload-Oxum: 3.2", "1<Payload-Oxum><3.2>|"),
     ("é: ü", "1<é><ü>|"),
-];
-
-#[test]
-fn reads_single_lines(rt: HostRuntime) -> Result<(), Fail> {
-    for &(text, wanted) in SINGLE_LINES {
-        sees(&rt, said(rt.alloc(), text.as_bytes())?.as_str(), wanted);
-    }
-    Ok(())
-}
-
-/// Texts with continuations, each with what is read in it.
-const CONTINUATIONS: &[(&str, &str)] = &[
+    // continuations
     ("a: b\n c\n", "1<a><b\nc>|"),
     ("a: b\n\tc d \n  e", "1<a><b\nc d\ne>|"),
     ("a:\n b", "1<a><\nb>|"),
@@ -92,9 +89,9 @@ const CONTINUATIONS: &[(&str, &str)] = &[
 ];
 
 #[test]
-fn reads_continuations(rt: HostRuntime) -> Result<(), Fail> {
-    for &(text, wanted) in CONTINUATIONS {
-        sees(&rt, said(rt.alloc(), text.as_bytes())?.as_str(), wanted);
+fn reads_lines_of_metadata(rt: HostRuntime) -> Result<(), Fail> {
+    for &(text, wanted) in ROWS {
+        sees_said(&rt, rt.alloc(), text, wanted)?;
     }
     Ok(())
 }
@@ -123,12 +120,7 @@ fn repeated(alloc: Global, front: &str, part: &str, back: &str) -> Result<String
 fn reads_a_value_of_many_parts(rt: HostRuntime) -> Result<(), Fail> {
     let text = repeated(rt.alloc(), "a: part\n", "  part \n\n", "b\n c\n")?;
     let wanted = repeated(rt.alloc(), "1<a><part", "\npart", ">|301 8002 |")?;
-    sees(
-        &rt,
-        said(rt.alloc(), text.as_bytes())?.as_str(),
-        wanted.as_str(),
-    );
-    Ok(())
+    sees_said(&rt, rt.alloc(), text.as_str(), wanted.as_str())
 }
 
 /// A text of 5,000 elements of two lines, each with a line behind it that is none.
@@ -159,10 +151,5 @@ fn thousands_said(alloc: Global) -> Result<String, AllocError> {
 fn reads_thousands_of_elements(rt: HostRuntime) -> Result<(), Fail> {
     let text = thousands(rt.alloc())?;
     let wanted = thousands_said(rt.alloc())?;
-    sees(
-        &rt,
-        said(rt.alloc(), text.as_bytes())?.as_str(),
-        wanted.as_str(),
-    );
-    Ok(())
+    sees_said(&rt, rt.alloc(), text.as_str(), wanted.as_str())
 }

@@ -1,9 +1,11 @@
 //! Payload files whose sizes add up to more than 64 bits can hold.
 ghost use Rattle.bag_memory_disk.specs.MemoryDisk.{not_honest};
 
+use crate::checks::{is_checked, request_of};
 use crate::disks::disk;
-use crate::fast::{after_check, request_of};
-use bag_disk::{Disk, DiskFault, Entry, FileTree};
+use bag_disk::{Disk, DiskFault, Entry};
+use bag_file_tree::FileTree;
+use bag_report::{Depth, Options};
 use bag_text::{Text, is_payload};
 use std::alloc::Global;
 use std::test::Fail;
@@ -57,11 +59,14 @@ const OUTPUT: &str =
 
 /// Whether a check of such a disk writes that.
 fn is_right(alloc: Global) -> Result<bool, Fail> {
-    let request = request_of(alloc, false, None, None)?;
+    let options = Options {
+        depth: Depth::Fast,
+        clashes: false,
+    };
+    let request = request_of(alloc, options, None, None)?;
     let disk = disk(alloc)?;
     let tree = FileTree::over(alloc, Enlarged { disk });
-    let (_tree, holds) = after_check(alloc, tree, request, (OUTPUT, 1));
-    Ok(holds)
+    Ok(is_checked(alloc, tree, request, OUTPUT, 1))
 }
 
 #[test]

@@ -4,7 +4,13 @@
 #![tactic(auto)]
 
 #[cfg(test)]
+mod bags;
+#[cfg(test)]
 mod checks;
+#[cfg(test)]
+mod clashing;
+#[cfg(test)]
+mod complete;
 #[cfg(test)]
 mod cursors;
 #[cfg(test)]
@@ -16,7 +22,7 @@ mod enlarged;
 #[cfg(test)]
 mod fast;
 #[cfg(test)]
-mod fast_folders;
+mod folders;
 #[cfg(test)]
 mod narrow_outputs;
 #[cfg(test)]

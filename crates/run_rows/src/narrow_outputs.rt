@@ -1,6 +1,8 @@
 //! Outputs that take a byte at a time, and outputs that run out of room.
-use crate::checks::{ENCODING_LINE, MARK_LINE, MARKED_LATIN, bag_with, request};
+use crate::bags::tree_of;
+use crate::checks::{ENCODING_LINE, MARK_LINE, MARKED, request_of};
 use crate::rows::sees_that;
+use bag_report::{Depth, Options};
 use bag_store::WriterOut;
 use bag_walk::{Outcome, run, status};
 use std::alloc::Global;
@@ -39,8 +41,13 @@ fn narrowly_checked(alloc: Global, most: usize, room: usize) -> Result<(Vec<u8>,
         most,
         room,
     });
-    let tree = bag_with(alloc, Some(MARKED_LATIN))?;
-    let (_tree, outcome) = run(alloc, tree, request(alloc, None, None, false)?, &mut out);
+    let options = Options {
+        depth: Depth::Declaration,
+        clashes: false,
+    };
+    let request = request_of(alloc, options, None, None)?;
+    let tree = tree_of(alloc, MARKED)?;
+    let (_tree, outcome) = run(alloc, tree, request, &mut out);
     let Narrow {
         taken,
         most: _,

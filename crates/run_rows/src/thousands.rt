@@ -1,17 +1,19 @@
 //! A check at depth Fast that writes thousands of faults.
-use crate::checks::bag_with;
-use crate::fast::{DECLARATION, after_check, request_of};
+use crate::bags::{DECLARED, tree_of};
+use crate::checks::{is_checked, request_of};
+use crate::declarations::BARE;
+use bag_report::{Depth, Options};
 use bag_store::MemoryTree;
 use std::alloc::{AllocError, Global};
 use std::test::Fail;
 
 /// A bag without a payload file, whose metadata says so 2,000 times.
-fn tree(alloc: Global) -> Result<MemoryTree, AllocError> {
+fn tree(alloc: Global) -> Result<MemoryTree, Fail> {
     let mut text = String::new(alloc);
     for _ in 0..2000 {
         text.push_str("Payload-Oxum: 0.0\n")?;
     }
-    let mut tree = bag_with(alloc, Some(DECLARATION))?;
+    let mut tree = tree_of(alloc, &[DECLARED, BARE])?;
     tree.put_file("bag-info.txt", text.as_bytes())?;
     Ok(tree)
 }
@@ -29,9 +31,12 @@ fn output(alloc: Global) -> Result<String, AllocError> {
 /// Whether a check writes that.
 fn is_right(alloc: Global) -> Result<bool, Fail> {
     let output = output(alloc)?;
-    let request = request_of(alloc, false, None, None)?;
-    let (_tree, holds) = after_check(alloc, tree(alloc)?, request, (output.as_str(), 1));
-    Ok(holds)
+    let options = Options {
+        depth: Depth::Fast,
+        clashes: false,
+    };
+    let request = request_of(alloc, options, None, None)?;
+    Ok(is_checked(alloc, tree(alloc)?, request, output.as_str(), 1))
 }
 
 #[test]

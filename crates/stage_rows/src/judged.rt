@@ -2,6 +2,8 @@
 use crate::stages::{Bag, Row, has_text, text_of_lines};
 use crate::{manifests, parts};
 use bag_report::{Depth, Options};
+use bag_store::MemoryTree;
+use std::alloc::Global;
 use std::test::Fail;
 
 /// Whether the faults of a stage have these lines, or there are none where the depth doesn't look at the stage. No stage of
@@ -19,9 +21,20 @@ pub(crate) fn has_lines(
         String::new(rt.alloc())
     };
     let mut tree = bag.tree(rt.alloc())?;
+    has_text_anyway(rt.alloc(), &mut tree, depth, stage, expected.as_str())
+}
+
+/// Whether the faults of a stage have these lines, whether clashes of names are looked for or not.
+fn has_text_anyway(
+    alloc: Global,
+    tree: &mut MemoryTree,
+    depth: Depth,
+    stage: u8,
+    wanted: &str,
+) -> Result<bool, Fail> {
     for clashes in [false, true] {
         let options = Options { depth, clashes };
-        if !has_text(rt.alloc(), &mut tree, options, stage, expected.as_str())? {
+        if !has_text(alloc, tree, options, stage, wanted)? {
             return Ok(false);
         }
     }

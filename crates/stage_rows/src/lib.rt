@@ -3,6 +3,10 @@
 #![tactic(auto)]
 
 #[cfg(test)]
+mod clashes;
+#[cfg(test)]
+mod completeness;
+#[cfg(test)]
 mod faults;
 #[cfg(test)]
 mod fetched;
@@ -15,6 +19,8 @@ mod metadata;
 #[cfg(test)]
 mod parts;
 #[cfg(test)]
+mod plain_completeness;
+#[cfg(test)]
 mod rows;
 #[cfg(test)]
 mod stages;
@@ -22,3 +28,5 @@ mod stages;
 mod stores;
 #[cfg(test)]
 mod thousands;
+#[cfg(test)]
+mod thousands_of_names;

@@ -25,15 +25,22 @@ pub(crate) fn put(tree: &mut MemoryTree, path: &str, bytes: &[u8]) -> Result<(),
 }
 
 impl Bag {
+    /// A tree of the bag.
     pub(crate) fn tree(&self, alloc: Global) -> Result<MemoryTree, Fail> {
         let mut tree = MemoryTree::new(alloc);
+        self.fill(&mut tree)?;
+        Ok(tree)
+    }
+
+    /// Puts what the bag holds into a tree.
+    pub(crate) fn fill(&self, tree: &mut MemoryTree) -> Result<(), Fail> {
         if self.has_data {
             tree.put_folder("data")?;
         }
         for (path, bytes) in self.files {
-            put(&mut tree, path, bytes)?;
+            put(tree, path, bytes)?;
         }
-        Ok(tree)
+        Ok(())
     }
 }
 

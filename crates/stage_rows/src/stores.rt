@@ -23,14 +23,13 @@ fn put(alloc: Global, tree: &mut MemoryTree, index: usize, bytes: &[u8]) -> Resu
     Ok(tree.put_file(path.as_str(), bytes)?)
 }
 
-/// A tree of so many files with the same bytes.
-fn tree_of(alloc: Global, count: usize, bytes: &[u8]) -> Result<MemoryTree, Fail> {
-    let mut tree = MemoryTree::new(alloc);
+/// Puts so many files with the same bytes into a tree.
+fn fill(alloc: Global, tree: &mut MemoryTree, count: usize, bytes: &[u8]) -> Result<(), Fail> {
     tree.put_folder("data")?;
     for index in 0..count {
-        put(alloc, &mut tree, index, bytes)?;
+        put(alloc, tree, index, bytes)?;
     }
-    Ok(tree)
+    Ok(())
 }
 
 /// Each of these files is read as these bytes.
@@ -48,16 +47,33 @@ fn reads_each(
     Ok(())
 }
 
-/// A tree of so many files of this size lists them, and reads each.
-fn lists_and_reads(rt: &impl Abort, alloc: Global, count: usize, size: u32) -> Result<(), Fail> {
-    let bytes = bytes_of(alloc, size)?;
-    let mut tree = tree_of(alloc, count, &bytes)?;
+/// A tree lists so many files, and reads each as these bytes.
+fn reads_all(
+    rt: &impl Abort,
+    alloc: Global,
+    tree: &mut MemoryTree,
+    count: usize,
+    bytes: &[u8],
+) -> Result<(), Fail> {
     let listing = tree.list()?;
     let files = listing.files.as_slice();
     assert!(rt; listing.has_data && files.len() == count, "{count}");
-    reads_each(rt, alloc, &mut tree, files, &bytes)?;
+    reads_each(rt, alloc, tree, files, bytes)?;
     assert!(rt; tree.openings().len() == count, "{count}");
     Ok(())
+}
+
+/// A tree of so many files of this size lists them, and reads each. It is empty at first.
+fn lists_and_reads(
+    rt: &impl Abort,
+    alloc: Global,
+    tree: &mut MemoryTree,
+    count: usize,
+    size: u32,
+) -> Result<(), Fail> {
+    let bytes = bytes_of(alloc, size)?;
+    fill(alloc, tree, count, &bytes)?;
+    reads_all(rt, alloc, tree, count, &bytes)
 }
 
 /// Counts of files, and their sizes.
@@ -74,7 +90,8 @@ const SIZES: &[(usize, u32)] = &[
 #[test]
 fn files_in_memory_are_listed_and_read(rt: HostRuntime) -> Result<(), Fail> {
     for &(count, size) in SIZES {
-        lists_and_reads(&rt, rt.alloc(), count, size)?;
+        let mut tree = MemoryTree::new(rt.alloc());
+        lists_and_reads(&rt, rt.alloc(), &mut tree, count, size)?;
     }
     Ok(())
 }

@@ -1,7 +1,7 @@
 use Rattle.std.proofs.Common.{rules, ◌≡◌, ℕ, List, max, subst, arith}
 use Rattle.std.proofs.lemmas.List.{drop_all}
 use Rattle.bag_tree.specs.Tree.{TreeState}
-use Rattle.bag_disk.specs.FileTree.{tree_state}
+use Rattle.bag_file_tree.specs.FileTree.{tree_state}
 use Rattle.bag_cli.specs.Performed.{IsLastCheck, IsWholeCheck}
 use Rattle.bag_cli.proofs.Checks.{all_whole, at_last, none_yet, one_more, whole_status_in}
 use Rattle.bag_cli.proofs.all_checks.check_all.Goals as goal

@@ -1,5 +1,5 @@
 use Rattle.std.proofs.Common.{◌≤◌}
-use Rattle.bag_disk.specs.FileTree.{tree_state}
+use Rattle.bag_file_tree.specs.FileTree.{tree_state}
 use Rattle.bag_cli.proofs.Checks.{ChecksTo}
 use Rattle.bag_cli.proofs.all_checks.check_all.Given as goal
 

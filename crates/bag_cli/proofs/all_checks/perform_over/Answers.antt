@@ -1,4 +1,4 @@
-use Rattle.bag_disk.specs.FileTree.{tree_state}
+use Rattle.bag_file_tree.specs.FileTree.{tree_state}
 use Rattle.bag_cli.proofs.Checks.{checks_status, performed_check}
 use Rattle.bag_cli.proofs.all_checks.perform_over.Goals as goal
 

@@ -1,6 +1,6 @@
 use Rattle.std.proofs.Common.{refl, ap, sym, ◌∙◌, take, drop, ◌+◌}
 use Rattle.std.proofs.lemmas.Bool.{false≢true}
-use Rattle.bag_disk.specs.DiskBag.{is_folder_node}
+use Rattle.bag_disk.specs.Disk.{is_folder_node}
 use Rattle.bag_disk.proofs.DiskPaths.{at_slash}
 use Rattle.bag_memory_disk.proofs.placing.is_reached.Goals as goal
 

@@ -1,4 +1,4 @@
-use Rattle.bag_disk.specs.FolderWalk.{IsReachedTo}
+use Rattle.bag_disk.specs.Disk.{IsReachedTo}
 use Rattle.bag_memory_disk.specs.Held.{nodes_of}
 use Rattle.bag_memory_disk.proofs.placing.is_reached.Given as goal
 

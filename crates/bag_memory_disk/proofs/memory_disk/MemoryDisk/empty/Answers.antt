@@ -1,6 +1,5 @@
 use Rattle.std.proofs.Common.{sym, subst}
-use Rattle.bag_disk.specs.BagBelow.{empty_disk}
-use Rattle.bag_disk.specs.Disk.{IsDisk}
+use Rattle.bag_disk.specs.Disk.{empty_disk, IsDisk}
 use Rattle.bag_memory_disk.specs.Held.{nodes_of}
 use Rattle.bag_memory_disk.proofs.memory_disk.MemoryDisk.empty.Goals as goal
 

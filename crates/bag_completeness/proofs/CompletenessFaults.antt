@@ -1,0 +1,122 @@
+-- The faults of completeness and of names.
+use Rattle.std.proofs.Common.{◌≡◌, ◌⊎◌, inl, inr, ◌++◌, List, [], true, false, Some, refl, sym, ap, ◌∙◌, subst, is_lt}
+use Rattle.std.specs.List.Sorted.{IsPermutation, IsSortedBy}
+use Rattle.bag_text.specs.Code.{stage}
+use Rattle.bag_text.specs.Order.{IsListOf}
+use Rattle.bag_text.specs.declared.alg.Alg.{Alg}
+use Rattle.bag_text.specs.declared.alg.Alg.TheVariants.{Md5}
+use Rattle.bag_text.specs.declared.code.Code.{Code}
+use Rattle.bag_text.specs.declared.code.Code.TheVariants.{PayloadFileMissing, TagFileMissing, PayloadFileNotListed, NameClash}
+use Rattle.bag_text.proofs.ListOf.{same_members}
+use Rattle.bag_tags.specs.declared.kind.Kind.{Kind}
+use Rattle.bag_tags.specs.declared.kind.Kind.TheVariants.{Payload, Tag}
+use Rattle.bag_tree.specs.Bag.{Bag}
+use Rattle.bag_fault.specs.FaultOrder.{fault_cmp}
+use Rattle.bag_fault.specs.declared.fault.Fault.{Fault}
+use Rattle.bag_stages.specs.FaultFields.{At}
+use Rattle.bag_completeness.specs.ClashStage.{IsClashFault}
+use Rattle.bag_completeness.specs.CompletenessFaults.{of_file, missing_code, HasEachOnce, IsIncomplete, IsMissingFromSome, IsUnlistedInSome}
+use Rattle.bag_completeness.specs.CompletenessStage.{CompletenessFaultsAreOfStageSix, CompletenessHolds, IsOfCompleteness, IsSoughtInStageSix}
+use Rattle.bag_completeness.proofs.EachOnce.{both_once, once_listed, sorted_once}
+
+-- what a fault of a file says in its fields
+module _ (f : Fault) (code : Code) (alg : Alg) where
+  fields : f ≡ of_file code alg f.path → At f f.path (Some alg) 0 []
+  fields is = record { path_is = refl; alg_is = ap (λ (x : Fault). x.alg) is; line_is = ap (λ (x : Fault). x.line) is; detail_is = ap (λ (x : Fault). x.detail) is }
+
+  from_fields : f.code ≡ code → At f f.path (Some alg) 0 [] → f ≡ of_file code alg f.path
+  from_fields e at = λ i. record { code = e i; path = f.path; alg = at.alg_is i; line = at.line_is i; detail = at.detail_is i }
+
+-- what the codes of the stage say
+module _ (bag : Bag) (f : Fault) where
+  holds_stage : (c : Code) → CompletenessHolds bag f c → stage c ≡ 6
+  unfolding CompletenessHolds
+  holds_stage PayloadFileMissing h = refl
+  holds_stage TagFileMissing h = refl
+  holds_stage PayloadFileNotListed h = refl
+  holds_stage NameClash h = refl
+  holds_stage other h = absurd h
+
+  missing_code_is : (kind : Kind) → IsMissingFromSome bag kind f → f.code ≡ missing_code kind
+  missing_code_is kind (alg, (is, wrong)) = ap (λ (x : Fault). x.code) is
+
+  unlisted_code_is : IsUnlistedInSome bag f → f.code ≡ PayloadFileNotListed
+  unlisted_code_is (alg, (is, wrong)) = ap (λ (x : Fault). x.code) is
+
+  missing_holds : (kind : Kind) → IsMissingFromSome bag kind f → CompletenessHolds bag f (missing_code kind)
+  unfolding CompletenessHolds
+  missing_holds Payload (alg, (is, (named, lacks))) = (alg, fields f PayloadFileMissing alg is, named, lacks)
+  missing_holds Tag (alg, (is, (named, lacks))) = (alg, fields f TagFileMissing alg is, named, lacks)
+
+  unlisted_holds : IsUnlistedInSome bag f → CompletenessHolds bag f PayloadFileNotListed
+  unfolding CompletenessHolds
+  unlisted_holds (alg, (is, (here, supported, lacks))) = (alg, fields f PayloadFileNotListed alg is, here, supported, lacks)
+
+  pub incomplete_is : IsIncomplete bag f → IsOfCompleteness bag f
+  unfolding IsOfCompleteness
+  incomplete_is (inl (inl h)) = subst (CompletenessHolds bag f) (sym (missing_code_is Payload h)) (missing_holds Payload h)
+  incomplete_is (inl (inr h)) = subst (CompletenessHolds bag f) (sym (missing_code_is Tag h)) (missing_holds Tag h)
+  incomplete_is (inr h) = subst (CompletenessHolds bag f) (sym (unlisted_code_is h)) (unlisted_holds h)
+
+  no_clash : IsIncomplete bag f → f.code ≡ NameClash → ⊥
+  no_clash (inl (inl h)) e = let clash : PayloadFileMissing ≡ NameClash = sym (missing_code_is Payload h) ∙ e in cc
+  no_clash (inl (inr h)) e = let clash : TagFileMissing ≡ NameClash = sym (missing_code_is Tag h) ∙ e in cc
+  no_clash (inr h) e = let clash : PayloadFileNotListed ≡ NameClash = sym (unlisted_code_is h) ∙ e in cc
+
+  of_holds : (c : Code) → f.code ≡ c → CompletenessHolds bag f c → IsIncomplete bag f ⊎ (f.code ≡ NameClash)
+  unfolding CompletenessHolds
+  of_holds PayloadFileMissing e (alg, at, named, lacks) = inl (inl (inl (alg, (from_fields f PayloadFileMissing alg e at, (named, lacks)))))
+  of_holds TagFileMissing e (alg, at, named, lacks) = inl (inl (inr (alg, (from_fields f TagFileMissing alg e at, (named, lacks)))))
+  of_holds PayloadFileNotListed e (alg, at, here, supported, lacks) = inl (inr (alg, (from_fields f PayloadFileNotListed alg e at, (here, supported, lacks))))
+  of_holds NameClash e h = inr e
+  of_holds other e h = absurd h
+
+  pub is_incomplete : IsOfCompleteness bag f → IsIncomplete bag f ⊎ (f.code ≡ NameClash)
+  unfolding IsOfCompleteness
+  is_incomplete h = of_holds f.code refl h
+
+  pub either_is : IsIncomplete bag f ⊎ IsClashFault bag f → IsOfCompleteness bag f
+  either_is (inl h) = incomplete_is h
+  either_is (inr h) = h.0
+
+  pub is_either : IsOfCompleteness bag f → IsIncomplete bag f ⊎ IsClashFault bag f
+  is_either h = elim (is_incomplete h) [ inl a ↦ inl a | inr e ↦ inr (h, e) ]
+
+  missing_apart : IsMissingFromSome bag Payload f → IsMissingFromSome bag Tag f → ⊥
+  missing_apart h k = let clash : PayloadFileMissing ≡ TagFileMissing = sym (missing_code_is Payload h) ∙ missing_code_is Tag k in cc
+
+  unlisted_apart : IsMissingFromSome bag Payload f ⊎ IsMissingFromSome bag Tag f → IsUnlistedInSome bag f → ⊥
+  unlisted_apart (inl h) k = let clash : PayloadFileMissing ≡ PayloadFileNotListed = sym (missing_code_is Payload h) ∙ unlisted_code_is k in cc
+  unlisted_apart (inr h) k = let clash : TagFileMissing ≡ PayloadFileNotListed = sym (missing_code_is Tag h) ∙ unlisted_code_is k in cc
+
+pub completeness_of_stage_six : CompletenessFaultsAreOfStageSix
+unfolding IsOfCompleteness
+completeness_of_stage_six bag f h = holds_stage bag f f.code h
+
+any_fault : Fault
+any_fault = of_file PayloadFileMissing Md5 []
+
+module _ (bag : Bag) where
+  -- the three kinds one after another
+  pub incomplete_once : (payload tag unlisted : List Fault) → HasEachOnce (IsMissingFromSome bag Payload) payload → HasEachOnce (IsMissingFromSome bag Tag) tag
+      → HasEachOnce (IsUnlistedInSome bag) unlisted → HasEachOnce (IsIncomplete bag) ((payload ++ tag) ++ unlisted)
+  incomplete_once payload tag unlisted p t u =
+      both_once _ _ (payload ++ tag) unlisted (unlisted_apart bag) (both_once _ _ payload tag (missing_apart bag) p t) u
+
+  -- sorted, without the clashes or with them
+  pub without_clashes : (files all : List Fault) → HasEachOnce (IsIncomplete bag) files → IsPermutation files all → IsSortedBy (λ x y. is_lt (fault_cmp x y)) all
+      → IsListOf fault_cmp (IsSoughtInStageSix false bag) all
+  without_clashes files all once perm sorted =
+      same_members fault_cmp _ _ all
+      (λ f h. (incomplete_is bag f h, λ e. absurd (no_clash bag f h e)))
+      (λ f h. elim (is_incomplete bag f h.0) [ inl a ↦ a | inr e ↦ (let clash : false ≡ true = h.1 e in cc) ])
+      (sorted_once (IsIncomplete bag) files all any_fault once perm sorted)
+
+  pub with_clashes : (files names all : List Fault) → HasEachOnce (IsIncomplete bag) files → IsListOf fault_cmp (IsClashFault bag) names → IsPermutation (files ++ names) all
+      → IsSortedBy (λ x y. is_lt (fault_cmp x y)) all → IsListOf fault_cmp (IsSoughtInStageSix true bag) all
+  with_clashes files names all once list perm sorted =
+      same_members fault_cmp _ _ all
+      (λ f h. (either_is bag f h, λ e. refl))
+      (λ f h. is_either bag f h.0)
+      (sorted_once (λ f. IsIncomplete bag f ⊎ IsClashFault bag f) (files ++ names) all any_fault
+      (both_once _ _ files names (λ f h k. no_clash bag f h k.1) once (once_listed _ names list)) perm sorted)

@@ -1,0 +1,12 @@
+pub mod ClashFaults
+pub mod ClashList
+pub mod ClashStage
+pub mod CompletenessFaults
+pub mod CompletenessList
+pub mod EachOnce
+pub mod FaultsOfPaths
+pub mod LeastNames
+pub mod MissingFaults
+pub mod PayloadNames
+pub mod Sought
+pub mod UnlistedFaults

@@ -1,0 +1,68 @@
+-- The faults of completeness, one manifest at a time.
+use Rattle.std.specs.Prelude.{ℕ, ◌≡◌, ◌↔◌, ◌⊎◌, true, List, [], Some, Contains}
+use Rattle.std.specs.List.{IsDistinct}
+use Rattle.std.specs.Ordering.{eq_by_cmp}
+use Rattle.bag_text.specs.Path.{is_payload_path}
+use Rattle.bag_text.specs.declared.alg.Alg.{Alg}
+use Rattle.bag_text.specs.declared.code.Code.{Code}
+use Rattle.bag_text.specs.declared.code.Code.TheVariants.{PayloadFileMissing, TagFileMissing, PayloadFileNotListed}
+use Rattle.bag_tags.specs.declared.kind.Kind.{Kind}
+use Rattle.bag_tags.specs.declared.kind.Kind.TheVariants.{Payload, Tag}
+use Rattle.bag_tags.specs.declared.manifest.ManifestEntry.{ManifestEntry}
+use Rattle.bag_tree.specs.Bag.{Bag, LacksFile}
+use Rattle.bag_fault.specs.FaultOrder.{fault_cmp}
+use Rattle.bag_fault.specs.declared.fault.Fault.{Fault}
+use Rattle.bag_facts.specs.TagFacts.{entry_paths}
+use Rattle.bag_stages.specs.TagFiles.{HasSupported, Names}
+use Rattle.bag_completeness.specs.CompletenessStage.{IsPayloadFile}
+
+-- a list of exactly these, each once and in any order
+pub record HasEachOnce (IsMember : Fault → Type 0) (faults : List Fault) : Type 0 where
+  pub once : IsDistinct (eq_by_cmp fault_cmp) faults
+  pub members : (f : Fault) → Contains faults f ↔ IsMember f
+
+-- the fault of a file, by the manifest of an algorithm
+abbrev pub of_file : Code → Alg → List ℕ → Fault
+of_file code alg path = record { code = code; path = path; alg = Some alg; line = 0; detail = [] }
+
+-- that fault of a path of which this holds
+abbrev pub IsOfPath : Code → Alg → (List ℕ → Type 0) → Fault → Type 0
+IsOfPath code alg IsWrong f = (f ≡ of_file code alg f.path) × IsWrong f.path
+
+-- that fault of such a path among these
+abbrev pub IsOfPathAmong : Code → Alg → (List ℕ → Type 0) → List (List ℕ) → Fault → Type 0
+IsOfPathAmong code alg IsWrong paths f = Contains paths f.path × IsOfPath code alg IsWrong f
+
+-- what a file is that a manifest of a kind names, and that isn't there
+abbrev pub missing_code : Kind → Code
+missing_code Payload = PayloadFileMissing
+missing_code Tag = TagFileMissing
+
+-- the manifest of an algorithm names a file that isn't there
+abbrev pub IsMissing : Bag → Kind → Alg → Fault → Type 0
+IsMissing bag kind alg f = IsOfPath (missing_code kind) alg (λ path. Names bag kind alg path × LacksFile bag path) f
+
+-- some manifest names it
+abbrev pub IsMissingFromSome : Bag → Kind → Fault → Type 0
+IsMissingFromSome bag kind f = (alg : Alg) × IsMissing bag kind alg f
+
+-- a payload file that the payload manifest of an algorithm doesn't name
+abbrev pub IsUnlisted : Bag → Alg → Fault → Type 0
+IsUnlisted bag alg f =
+    IsOfPath PayloadFileNotListed alg (λ path. IsPayloadFile bag path × HasSupported bag Payload alg × ¬ (Names bag Payload alg path)) f
+
+-- some payload manifest doesn't name it
+abbrev pub IsUnlistedInSome : Bag → Fault → Type 0
+IsUnlistedInSome bag f = (alg : Alg) × IsUnlisted bag alg f
+
+-- the path of a payload file, and none of these entries has it
+abbrev pub IsUnlistedPath : List ManifestEntry → List ℕ → Type 0
+IsUnlistedPath entries path = (is_payload_path path ≡ true) × ¬ (Contains (entry_paths entries) path)
+
+-- the faults of such paths among these
+abbrev pub IsUnlistedAmong : Alg → List ManifestEntry → List (List ℕ) → Fault → Type 0
+IsUnlistedAmong alg entries = IsOfPathAmong PayloadFileNotListed alg (IsUnlistedPath entries)
+
+-- a file is missing, or isn't listed
+abbrev pub IsIncomplete : Bag → Fault → Type 0
+IsIncomplete bag f = (IsMissingFromSome bag Payload f ⊎ IsMissingFromSome bag Tag f) ⊎ IsUnlistedInSome bag f

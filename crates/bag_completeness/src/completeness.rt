@@ -1,0 +1,45 @@
+//! Stage 6: completeness, and clashes of names.
+ghost use Rattle.std.specs.Prelude.{◌≡◌, ◌≢◌, IfOk};
+ghost use Rattle.bag_text.specs.Order.{IsListOf};
+ghost use Rattle.bag_tree.specs.Bag.{Bag};
+ghost use Rattle.bag_fault.specs.FaultOrder.{fault_cmp};
+ghost use Rattle.bag_facts.specs.Facts.{IsFactsOf};
+ghost use Rattle.bag_facts.specs.declared.options.Depth.TheVariants.{Declaration};
+ghost use Rattle.bag_completeness.specs.CompletenessFaults.{HasEachOnce, IsIncomplete};
+ghost use Rattle.bag_completeness.specs.CompletenessStage.{IsSoughtInStageSix};
+
+use crate::clashes::clash_faults;
+use crate::missing::missing_faults;
+use crate::unlisted::unlisted_faults;
+use bag_facts::Facts;
+use bag_fault::Fault;
+use bag_tags::Kind;
+use std::alloc::{AllocError, Global};
+
+/// The faults of completeness (RFC 8493, 3), of facts read for more than the declaration, and where the options ask for
+/// them the clashes of names. Fails only where memory runs out.
+pub fn completeness_faults(alloc: Global, facts: &Facts) -> Result<Vec<Fault>, AllocError>
+    ensures { IfOk result (λ faults. (bag : Bag) → IsFactsOf bag facts.now → facts.now.options.depth ≢ Declaration
+        → IsListOf fault_cmp (IsSoughtInStageSix facts.now.options.clashes bag) faults.items) }
+{
+    let mut faults = faults_of_files(alloc, facts)?;
+    if facts.options.clashes {
+        let mut of_names = clash_faults(alloc, facts)?;
+        faults.append(&mut of_names)?;
+    }
+    faults.sort_unstable();
+    Ok(faults)
+}
+
+/// The faults that files are missing or aren't listed, one manifest after another.
+fn faults_of_files(alloc: Global, facts: &Facts) -> Result<Vec<Fault>, AllocError>
+    ensures { IfOk result (λ faults. (bag : Bag) → IsFactsOf bag facts.now → facts.now.options.depth ≢ Declaration
+        → HasEachOnce (IsIncomplete bag) faults.items) }
+{
+    let mut faults = missing_faults(alloc, facts, Kind::Payload)?;
+    let mut of_tags = missing_faults(alloc, facts, Kind::Tag)?;
+    let mut of_payload = unlisted_faults(alloc, facts)?;
+    faults.append(&mut of_tags)?;
+    faults.append(&mut of_payload)?;
+    Ok(faults)
+}

@@ -1,0 +1,23 @@
+//! The faults of a complete bag (RFC 8493, 3), of what was read of it: files that manifests name and that aren't there,
+//! payload files that payload manifests don't name, and names that differ by normal form alone.
+//!
+//! ```
+//! let facts = Facts::read(alloc, &mut tree, options)?;
+//! for fault in &completeness_faults(alloc, &facts)? {
+//!     let line = fault.to_line(alloc)?;
+//! }
+//! ```
+//!
+//! No file is opened.
+#![tactic(auto)]
+
+mod clashes;
+mod completeness;
+mod file_fault;
+pub mod laws;
+mod missing;
+mod names;
+mod seek;
+mod unlisted;
+
+pub use completeness::completeness_faults;

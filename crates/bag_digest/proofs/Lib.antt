@@ -1,0 +1,2 @@
+pub mod SumsOf
+pub mod Updates

@@ -1,0 +1,5 @@
+pub mod Digest
+pub mod Digests
+pub mod File
+pub mod Hasher
+pub mod Sums

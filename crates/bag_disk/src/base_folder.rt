@@ -1,0 +1,107 @@
+//! The system's calls below a base folder.
+ghost use Rattle.std.specs.Prelude.{◌≡◌, [], IfOk, IsErrOf};
+ghost use Rattle.std.specs.Fs.{IsDir, IsFile, file_type, metadata_len};
+ghost use Rattle.bag_disk.specs.Location.{location_below};
+ghost use Rattle.bag_disk.specs.declared.disk.DiskFault.TheVariants.{NotFound};
+ghost use Rattle.bag_disk.specs.declared.disk.Entry.TheVariants.{File, Folder, Other};
+
+use crate::disk::{DiskFault, Entry};
+use crate::location::location_below;
+use crate::system_fault::answer_of;
+use bag_text::Text;
+use std::alloc::{AllocError, Global};
+use std::fs;
+use std::fs::{Metadata, OpenOptions, ReadDir};
+use std::rt::Files;
+
+/// A base folder of the system. Each call takes a path below it, and is one call of the system's where that path stands.
+#[derive(Drop)]
+pub(crate) struct BaseFolder {
+    alloc: Global,
+    path: Text,
+}
+
+impl BaseFolder {
+    /// The base folder at a path of the system's.
+    pub(crate) fn new(alloc: Global, path: &str) -> Result<BaseFolder, AllocError>
+        ensures { IfOk result (λ base. base.path ≡ path.now) }
+    {
+        Ok(BaseFolder {
+            alloc,
+            path: Text::from_str(alloc, path)?,
+        })
+    }
+
+    /// What stands at a path, where no link at its end is followed.
+    pub(crate) fn entry<R: Files>(&self, rt: &R, path: &str) -> Result<Entry, DiskFault> {
+        let location = self.location(path)?;
+        let metadata = answer_of(fs::symlink_metadata(rt, location.as_str()))?;
+        Ok(entry_of(&metadata))
+    }
+
+    /// What stands in a folder.
+    pub(crate) fn entries<R: Files + AllocGlobal + Clone + Drop>(
+        &self,
+        rt: &R,
+        folder: &str,
+    ) -> Result<ReadDir<R, Global>, DiskFault> {
+        let location = self.location(folder)?;
+        answer_of(fs::read_dir(rt, location.as_str()))
+    }
+
+    /// Opens the file at a path.
+    pub(crate) fn open<R: Files>(&self, rt: &R, path: &str) -> Result<R::File, DiskFault> {
+        let location = self.location(path)?;
+        answer_of(fs::open(rt, location.as_str()))
+    }
+
+    /// Makes a folder at a path.
+    pub(crate) fn make_folder<R: Files>(&self, rt: &R, path: &str) -> Result<(), DiskFault> {
+        let location = self.location(path)?;
+        answer_of(fs::create_dir(rt, location.as_str()))
+    }
+
+    /// Moves what stands at one path to another.
+    pub(crate) fn rename<R: Files>(&self, rt: &R, from: &str, to: &str) -> Result<(), DiskFault> {
+        let from = self.location(from)?;
+        let to = self.location(to)?;
+        answer_of(fs::rename(rt, from.as_str(), to.as_str()))
+    }
+
+    /// Makes a file at a path, open for writing. It replaces none.
+    pub(crate) fn create<R: Files>(&self, rt: &R, path: &str) -> Result<R::File, DiskFault> {
+        let location = self.location(path)?;
+        answer_of(
+            OpenOptions::new()
+                .write(true)
+                .create_new(true)
+                .open(rt, location.as_str()),
+        )
+    }
+
+    /// Where a path stands. Below an empty base folder nothing does.
+    fn location(&self, path: &str) -> Result<Text, DiskFault>
+        ensures nowhere { self.now.path ≡ [] → IsErrOf result NotFound }
+        ensures location { IfOk result (λ text. text ≡ location_below self.now.path path.now) }
+    {
+        if self.path.is_empty() {
+            return Err(DiskFault::NotFound);
+        }
+        Ok(location_below(self.alloc, self.path.as_str(), path)?)
+    }
+}
+
+/// What stands where metadata is of, which follows no link.
+fn entry_of(metadata: &Metadata) -> Entry
+    ensures file { IsFile (file_type metadata.now) → result ≡ File (metadata_len metadata.now) }
+    ensures folder { IsDir (file_type metadata.now) → result ≡ Folder }
+    ensures other { ¬ IsFile (file_type metadata.now) → ¬ IsDir (file_type metadata.now) → result ≡ Other }
+{
+    if metadata.is_file() {
+        Entry::File(metadata.len())
+    } else if metadata.is_dir() {
+        Entry::Folder
+    } else {
+        Entry::Other
+    }
+}

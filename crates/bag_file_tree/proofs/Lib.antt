@@ -1,0 +1,6 @@
+pub mod DiskCount
+pub mod DiskSteps
+pub mod PathOrder
+pub mod Plain
+pub mod Refusals
+pub mod WholeWalk

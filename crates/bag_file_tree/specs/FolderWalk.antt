@@ -1,0 +1,66 @@
+-- What a walk over the folders of a disk has found.
+use Rattle.std.specs.Prelude.{ℕ, ◌≡◌, ◌⊎◌, List, [], ◌∷◌, ◌++◌, map, Some, length, Contains}
+use Rattle.bag_text.specs.Path.{under}
+use Rattle.bag_disk.specs.Location.{path_in}
+use Rattle.bag_disk.specs.Disk.{Nodes, node, Has, IsFolder}
+use Rattle.bag_disk.specs.Disk.Node.{File}
+use Rattle.bag_disk.specs.declared.disk.Entry.{Entry}
+use Rattle.bag_disk.specs.declared.disk.Entry.TheVariants as entry
+use Rattle.bag_tree.specs.declared.listing.FileEntry.{FileEntry}
+
+-- what stands below a folder; all does below the base folder
+abbrev pub IsBelow : List ℕ → List ℕ → Type 0
+IsBelow [] path = Unit {0}
+IsBelow (c ∷ folder) path = (rest : List ℕ) × (path ≡ under (c ∷ folder) rest)
+
+-- what stands at a path, or below it
+abbrev pub IsAtOrBelow : List ℕ → List ℕ → Type 0
+IsAtOrBelow top path = (path ≡ top) ⊎ ((rest : List ℕ) × (path ≡ under top rest))
+
+-- the entry is a file of the disk
+abbrev pub IsFileOf : Nodes → FileEntry → Type 0
+IsFileOf nodes entry = (bytes : List ℕ) × (node nodes entry.path ≡ Some (File bytes)) × (entry.size ≡ length bytes)
+
+abbrev pub paths_of : List FileEntry → List (List ℕ)
+paths_of files = map (λ file. file.path) files
+
+-- What was found, and what is still to be listed: folders, and in one folder the paths that weren't looked at.
+pub record Walked (nodes : Nodes) (files : List FileEntry) (folders listed pending : List (List ℕ)) : Type 0 where
+  pub are_files : (entry : FileEntry) → Contains files entry → IsFileOf nodes entry
+  pub are_folders : (folder : List ℕ) → Contains folders folder → IsFolder nodes folder
+  pub were_folders : (folder : List ℕ) → Contains listed folder → IsFolder nodes folder
+  pub all : (path : List ℕ) → Has nodes path →
+      Contains (paths_of files) path ⊎ (Contains listed path ⊎ (Contains folders path
+      ⊎ (((folder : List ℕ) × Contains folders folder × IsBelow folder path)
+      ⊎ ((top : List ℕ) × Contains pending top × IsAtOrBelow top path))))
+
+-- each of these stands there
+abbrev pub AreThere : Nodes → List FileEntry → Type 0
+AreThere nodes files = (entry : FileEntry) → Contains files entry → Has nodes entry.path
+
+-- each of these is a folder that is there
+abbrev pub AreFolders : Nodes → List (List ℕ) → Type 0
+AreFolders nodes folders = (folder : List ℕ) → Contains folders folder → IsFolder nodes folder
+
+-- all that was found stands there
+pub record AllStand (nodes : Nodes) (files : List FileEntry) (folders listed : List (List ℕ)) : Type 0 where
+  pub are_there : AreThere nodes files
+  pub are_folders : AreFolders nodes folders
+  pub were_folders : AreFolders nodes listed
+
+-- One folder is being listed: these of its names weren't looked at.
+pub record Listing (nodes : Nodes) (files : List FileEntry) (folders listed : List (List ℕ)) (folder : List ℕ) (names : List (List ℕ)) : Type 0 where
+  pub walked : Walked nodes files folders (listed ++ folder ∷ []) (map (path_in folder) names)
+  pub there : (name : List ℕ) → Contains names name → Has nodes (path_in folder name)
+
+-- the files with what stands at one more path
+abbrev pub files_with : List FileEntry → List ℕ → Entry → List FileEntry
+files_with files path (entry.File size) = files ++ record { path = path; size = size } ∷ []
+files_with files path entry.Folder = files
+files_with files path entry.Other = files
+
+-- the folders with what stands at one more path
+abbrev pub folders_with : List (List ℕ) → List ℕ → Entry → List (List ℕ)
+folders_with folders path (entry.File size) = folders
+folders_with folders path entry.Folder = folders ++ path ∷ []
+folders_with folders path entry.Other = folders

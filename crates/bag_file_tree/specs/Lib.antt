@@ -1,0 +1,5 @@
+pub mod BagBelow
+pub mod DiskBag
+pub mod FileTree
+pub mod FolderWalk
+pub mod Refusal

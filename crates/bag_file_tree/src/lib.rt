@@ -1,0 +1,23 @@
+//! Trees of the files on a disk.
+//!
+//! ```
+//! let mut tree = FileTree::at(rt, alloc, "deposit")?;
+//! let listing = tree.list()?;
+//! ```
+//!
+//! A `FileTree` stands over any `Disk`, a few calls of the system below a base folder, and is proved for each honest one.
+//! `FileTree::at` is the tree over the system's disk, of which nothing is promised.
+#![tactic(auto)]
+
+mod answered;
+mod file_tree;
+mod folder_walk;
+pub mod laws;
+mod limit;
+mod listing;
+mod opening;
+mod path;
+mod path_order;
+mod refusal;
+
+pub use file_tree::FileTree;

@@ -1,0 +1,36 @@
+//! Reads files and folders, and prints what it found: the scripts of `bench/` measure it. Each two words are a reader and the
+//! path that it reads.
+#![tactic(auto)]
+
+mod checks;
+mod folders;
+mod lines;
+mod tag_files;
+
+use std::{env, io};
+
+/// Prints what a reader finds at a path.
+fn print_found(rt: &HostRuntime, reader: &str, path: &str) -> io::Result<()> {
+    match reader {
+        "lines" => lines::print_file(rt, path),
+        "list" => folders::print_folder(rt, path, false),
+        "read" => folders::print_folder(rt, path, true),
+        "info" | "fetch" | "manifest" => tag_files::print_file(rt, reader, path),
+        "facts" => tag_files::print_folder(rt, path, false),
+        "faults" => tag_files::print_folder(rt, path, true),
+        "complete" => checks::write_report(rt, path, false),
+        "clashes" => checks::write_report(rt, path, true),
+        _ => println!(rt;
+            "readers: lines list read info fetch manifest facts faults complete clashes"
+        ),
+    }
+}
+
+fn main(rt: HostRuntime) -> io::Result<()> {
+    let words: Vec<String> = env::args(&rt)?.skip(1).collect(rt.alloc())?;
+    let (pairs, _) = words.as_slice().as_chunks::<2>();
+    for [reader, path] in pairs {
+        print_found(&rt, reader.as_str(), path.as_str())?;
+    }
+    Ok(())
+}

@@ -1,0 +1,169 @@
+//! That the digests are the published ones, in whatever pieces their bytes come.
+use crate::pieces::{by_bytes, in_two_pieces, whole};
+use bag_store::{HexFault, Sums};
+use bag_text::{Alg, AlgSet};
+use std::alloc::Global;
+use std::process::Abort;
+use std::test::Fail;
+
+/// Texts, each with its digest by an algorithm, as RFC 1321 and FIPS 180 publish them, and those that they don't have as the
+/// programs of coreutils print them.
+const VALUES: &[(Alg, &str, &str)] = &[
+    (Alg::Md5, "", "d41d8cd98f00b204e9800998ecf8427e"),
+    (Alg::Md5, "a", "0cc175b9c0f1b6a831c399e269772661"),
+    (Alg::Md5, "b", "92eb5ffee6ae2fec3ad71c777531578f"),
+    (Alg::Md5, "abc", "900150983cd24fb0d6963f7d28e17f72"),
+    (
+        Alg::Md5,
+        "message digest",
+        "f96b697d7cb7938d525a2f31aaf161d0",
+    ),
+    (
+        Alg::Md5,
+        "abcdefghijklmnopqrstuvwxyz",
+        "c3fcd3d76192e4007dfb496cca67e13b",
+    ),
+    (
+        Alg::Md5,
+        "ABCDEFGHIJKLMNOPQRSTUVWXYZabcdefghijklmnopqrstuvwxyz0123456789",
+        "d174ab98d277d9f5a5611c2c9f419d9f",
+    ),
+    (
+        Alg::Md5,
+        "12345678901234567890123456789012345678901234567890123456789012345678901234567890",
+        "57edf4a22be3c955ac49da2e2107b67a",
+    ),
+    (Alg::Sha1, "", "da39a3ee5e6b4b0d3255bfef95601890afd80709"),
+    (Alg::Sha1, "a", "86f7e437faa5a7fce15d1ddcb9eaeaea377667b8"),
+    (Alg::Sha1, "abc", "a9993e364706816aba3e25717850c26c9cd0d89d"),
+    (
+        Alg::Sha1,
+        "abcdbcdecdefdefgefghfghighijhijkijkljklmklmnlmnomnopnopq",
+        "84983e441c3bd26ebaae4aa1f95129e5e54670f1",
+    ),
+    (
+        Alg::Sha256,
+        "",
+        "e3b0c44298fc1c149afbf4c8996fb92427ae41e4649b934ca495991b7852b855",
+    ),
+    (
+        Alg::Sha256,
+        "abc",
+        "ba7816bf8f01cfea414140de5dae2223b00361a396177a9cb410ff61f20015ad",
+    ),
+    (
+        Alg::Sha256,
+        "abcdbcdecdefdefgefghfghighijhijkijkljklmklmnlmnomnopnopq",
+        "248d6a61d20638b8e5c026930c3e6039a33ce45964ff2167f6ecedd419db06c1",
+    ),
+    (
+        Alg::Sha512,
+        "",
+        "cf83e1357eefb8bdf1542850d66d8007d620e4050b5715dc83f4a921d36ce9ce47d0d13c5d85f2b0ff8318d2877eec2f63b931bd47417a81a538327af927da3e",
+    ),
+    (
+        Alg::Sha512,
+        "abc",
+        "ddaf35a193617abacc417349ae20413112e6fa4e89a97ea20a9eeee64b55d39a2192992a274fc1a836ba3c23a3feebbd454d4423643ce80e2a9ac94fa54ca49f",
+    ),
+    (
+        Alg::Sha512,
+        "abcdefghbcdefghicdefghijdefghijkefghijklfghijklmghijklmnhijklmnoijklmnopjklmnopqklmnopqrlmnopqrsmnopqrstnopqrstu",
+        "8e959b75dae313da8cf4f72814fc143f8f7779c6eb9f7fa17299aeadb6889018501d289e4900f7e4331b99dec4b5433ac7d329eeb6dd26545e96e55b874be909",
+    ),
+];
+
+/// The digests of a million times the letter `a`.
+const OF_A_MILLION: &[(Alg, &str)] = &[
+    (Alg::Md5, "7707d6ae4e027c70eea2a935c2296f21"),
+    (Alg::Sha1, "34aa973cd4c4daa4f61eeb2bdbad27316534016f"),
+    (
+        Alg::Sha256,
+        "cdc76e5c9914fb9281a1c7e284d73e67f1809a48a497200e046d39ccc7112cd0",
+    ),
+    (
+        Alg::Sha512,
+        "e718483d0ce769644e2e42c7bc15b4638e1f98b13b2044285632a803afa973ebde0ff244877ea60a4cb0432ce577c31beb009c5c2c49aa2e4eadb217ad8cc09b",
+    ),
+];
+
+/// The set of every algorithm.
+fn every_alg() -> AlgSet {
+    let mut algs = AlgSet::empty();
+    for alg in Alg::ALL {
+        algs = algs.with(alg);
+    }
+    algs
+}
+
+/// The digest by an algorithm is this text, and no other.
+fn is_value(
+    rt: &impl Abort,
+    alloc: Global,
+    sums: &Sums,
+    alg: Alg,
+    value: &str,
+) -> Result<(), Fail> {
+    let found = sums.hex(alloc, alg)?;
+    assert_eq!(rt; found.as_str(), value);
+    assert!(rt; sums.is_spelled(alg, value), "{value}");
+    let upper = value.to_ascii_uppercase(alloc)?;
+    assert!(rt; !sums.is_spelled(alg, upper.as_str()), "{upper}");
+    assert!(rt; !sums.is_spelled(alg, ""), "{value}");
+    Ok(())
+}
+
+#[test]
+fn digests_are_the_published_ones(rt: HostRuntime) -> Result<(), Fail> {
+    for &(alg, text, value) in VALUES {
+        let sums = whole(every_alg(), text.as_bytes());
+        is_value(&rt, rt.alloc(), &sums, alg, value)?;
+    }
+    Ok(())
+}
+
+#[test]
+fn pieces_have_the_digest_of_the_whole(rt: HostRuntime) -> Result<(), Fail> {
+    for &(alg, text, value) in VALUES {
+        let bytes = text.as_bytes();
+        let sums = by_bytes(every_alg(), bytes);
+        is_value(&rt, rt.alloc(), &sums, alg, value)?;
+        for place in 0..=bytes.len() {
+            let sums = in_two_pieces(every_alg(), bytes, place);
+            is_value(&rt, rt.alloc(), &sums, alg, value)?;
+        }
+    }
+    Ok(())
+}
+
+#[test]
+fn a_million_letters_have_the_published_digests(rt: HostRuntime) -> Result<(), Fail> {
+    let text = vec![in rt.alloc(); b'a'; 1_000_000]?;
+    let sums = whole(every_alg(), &text);
+    for &(alg, value) in OF_A_MILLION {
+        is_value(&rt, rt.alloc(), &sums, alg, value)?;
+    }
+    Ok(())
+}
+
+/// Only the algorithms that were asked for have a digest, and each of them has.
+#[test]
+fn no_other_algorithm_has_a_digest(rt: HostRuntime) -> Result<(), Fail> {
+    for asked in Alg::ALL {
+        let sums = whole(AlgSet::empty().with(asked), b"");
+        for &(alg, text, value) in VALUES {
+            let found = sums.hex(rt.alloc(), alg).err();
+            let wanted = if alg == asked {
+                None
+            } else {
+                Some(HexFault::NotAsked)
+            };
+            assert!(rt; found == wanted, "{value}");
+            assert!(rt;
+                sums.is_spelled(alg, value) == (alg == asked && text == ""),
+                "{value}"
+            );
+        }
+    }
+    Ok(())
+}
