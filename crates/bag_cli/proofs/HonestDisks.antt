@@ -7,7 +7,7 @@ use Rattle.bag_disk.specs.Disk.{DiskState}
 use Rattle.bag_file_tree.specs.DiskBag.{bag_of}
 use Rattle.bag_file_tree.specs.FileTree.{tree_state}
 use Rattle.bag_fault.specs.declared.fault.Fault.{Fault}
-use Rattle.bag_facts.specs.Stops.{MayStop}
+use Rattle.bag_walk.specs.Stops.{MayStop}
 use Rattle.bag_output.specs.Closing.{status}
 use Rattle.bag_output.specs.Ending.{ideal, limit_of, lines_of_run}
 use Rattle.bag_output.specs.declared.outcome.Outcome.{Outcome}

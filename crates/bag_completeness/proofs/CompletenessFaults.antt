@@ -1,5 +1,5 @@
 -- The faults of completeness and of names.
-use Rattle.std.proofs.Common.{◌≡◌, ◌⊎◌, inl, inr, ◌++◌, List, [], true, false, Some, refl, sym, ap, ◌∙◌, subst, is_lt}
+use Rattle.std.proofs.Common.{◌≡◌, ◌⊎◌, inl, inr, ◌++◌, List, [], Bool, true, false, Some, refl, sym, ap, ◌∙◌, subst, is_lt}
 use Rattle.std.specs.List.Sorted.{IsPermutation, IsSortedBy}
 use Rattle.bag_text.specs.Code.{stage}
 use Rattle.bag_text.specs.Order.{IsListOf}
@@ -7,14 +7,14 @@ use Rattle.bag_text.specs.declared.alg.Alg.{Alg}
 use Rattle.bag_text.specs.declared.alg.Alg.TheVariants.{Md5}
 use Rattle.bag_text.specs.declared.code.Code.{Code}
 use Rattle.bag_text.specs.declared.code.Code.TheVariants.{PayloadFileMissing, TagFileMissing, PayloadFileNotListed, NameClash}
-use Rattle.bag_text.proofs.ListOf.{same_members}
+use Rattle.bag_text.proofs.ListOf.{nothing_listed, same_members}
 use Rattle.bag_tags.specs.declared.kind.Kind.{Kind}
 use Rattle.bag_tags.specs.declared.kind.Kind.TheVariants.{Payload, Tag}
 use Rattle.bag_tree.specs.Bag.{Bag}
 use Rattle.bag_fault.specs.FaultOrder.{fault_cmp}
 use Rattle.bag_fault.specs.declared.fault.Fault.{Fault}
 use Rattle.bag_stages.specs.FaultFields.{At}
-use Rattle.bag_completeness.specs.ClashStage.{IsClashFault}
+use Rattle.bag_completeness.specs.ClashStage.{IsClashFault, IsSoughtClash}
 use Rattle.bag_completeness.specs.CompletenessFaults.{of_file, missing_code, HasEachOnce, IsIncomplete, IsMissingFromSome, IsUnlistedInSome}
 use Rattle.bag_completeness.specs.CompletenessStage.{CompletenessFaultsAreOfStageSix, CompletenessHolds, IsOfCompleteness, IsSoughtInStageSix}
 use Rattle.bag_completeness.proofs.EachOnce.{both_once, once_listed, sorted_once}
@@ -103,20 +103,24 @@ module _ (bag : Bag) where
   incomplete_once payload tag unlisted p t u =
       both_once _ _ (payload ++ tag) unlisted (unlisted_apart bag) (both_once _ _ payload tag (missing_apart bag) p t) u
 
-  -- sorted, without the clashes or with them
-  pub without_clashes : (files all : List Fault) → HasEachOnce (IsIncomplete bag) files → IsPermutation files all → IsSortedBy (λ x y. is_lt (fault_cmp x y)) all
-      → IsListOf fault_cmp (IsSoughtInStageSix false bag) all
-  without_clashes files all once perm sorted =
-      same_members fault_cmp _ _ all
-      (λ f h. (incomplete_is bag f h, λ e. absurd (no_clash bag f h e)))
-      (λ f h. elim (is_incomplete bag f h.0) [ inl a ↦ a | inr e ↦ (let clash : false ≡ true = h.1 e in cc) ])
-      (sorted_once (IsIncomplete bag) files all any_fault once perm sorted)
+  -- the clashes where they are looked for
+  pub clashes_sought : (clashes : Bool) (names : List Fault) → clashes ≡ true → IsListOf fault_cmp (IsClashFault bag) names → IsListOf fault_cmp (IsSoughtClash clashes bag) names
+  clashes_sought clashes names asked list = same_members fault_cmp _ _ names (λ f h. (h, asked)) (λ f h. h.0) list
 
-  pub with_clashes : (files names all : List Fault) → HasEachOnce (IsIncomplete bag) files → IsListOf fault_cmp (IsClashFault bag) names → IsPermutation (files ++ names) all
-      → IsSortedBy (λ x y. is_lt (fault_cmp x y)) all → IsListOf fault_cmp (IsSoughtInStageSix true bag) all
-  with_clashes files names all once list perm sorted =
-      same_members fault_cmp _ _ all
-      (λ f h. (either_is bag f h, λ e. refl))
-      (λ f h. is_either bag f h.0)
-      (sorted_once (λ f. IsIncomplete bag f ⊎ IsClashFault bag f) (files ++ names) all any_fault
-      (both_once _ _ files names (λ f h k. no_clash bag f h k.1) once (once_listed _ names list)) perm sorted)
+  pub no_clashes_sought : (clashes : Bool) → clashes ≡ false → IsListOf fault_cmp (IsSoughtClash clashes bag) []
+  no_clashes_sought clashes unasked = nothing_listed fault_cmp _ (λ f h. let clash : false ≡ true = sym unasked ∙ h.1 in cc)
+
+  sought_is : (clashes : Bool) (f : Fault) → IsIncomplete bag f ⊎ IsSoughtClash clashes bag f → IsSoughtInStageSix clashes bag f
+  sought_is clashes f (inl h) = (incomplete_is bag f h, λ e. absurd (no_clash bag f h e))
+  sought_is clashes f (inr h) = (h.0.0, λ e. h.1)
+
+  is_sought : (clashes : Bool) (f : Fault) → IsSoughtInStageSix clashes bag f → IsIncomplete bag f ⊎ IsSoughtClash clashes bag f
+  is_sought clashes f h = elim (is_either bag f h.0) [ inl a ↦ inl a | inr clash ↦ inr (clash, h.1 clash.1) ]
+
+  -- both, sorted
+  pub all_sought : (clashes : Bool) (files names all : List Fault) → HasEachOnce (IsIncomplete bag) files → IsListOf fault_cmp (IsSoughtClash clashes bag) names
+      → IsPermutation (files ++ names) all → IsSortedBy (λ x y. is_lt (fault_cmp x y)) all → IsListOf fault_cmp (IsSoughtInStageSix clashes bag) all
+  all_sought clashes files names all once list perm sorted =
+      same_members fault_cmp _ _ all (sought_is clashes) (is_sought clashes)
+      (sorted_once (λ f. IsIncomplete bag f ⊎ IsSoughtClash clashes bag f) (files ++ names) all any_fault
+      (both_once _ _ files names (λ f h k. no_clash bag f h k.0.1) once (once_listed _ names list)) perm sorted)

@@ -1,5 +1,5 @@
 -- The faults of names that differ by normal form alone, and what they leave.
-use Rattle.std.specs.Prelude.{ℕ, ◌≡◌, ◌++◌, List, map}
+use Rattle.std.specs.Prelude.{ℕ, ◌≡◌, ◌++◌, Bool, true, List, map}
 use Rattle.std.specs.List.Sorted.{IsPermutation}
 use Rattle.bag_text.specs.Order.{IsListOf}
 use Rattle.bag_text.specs.Text.{text_cmp}
@@ -13,6 +13,10 @@ use Rattle.bag_completeness.specs.CompletenessStage.{IsOfCompleteness, IsPayload
 -- a fault that a name isn't the least of its class
 abbrev pub IsClashFault : Bag → Fault → Type 0
 IsClashFault bag f = IsOfCompleteness bag f × (f.code ≡ NameClash)
+
+-- such a fault where clashes are looked for
+abbrev pub IsSoughtClash : Bool → Bag → Fault → Type 0
+IsSoughtClash clashes bag f = IsClashFault bag f × (clashes ≡ true)
 
 -- the law: the names of these faults and the least names of the classes are together all names, none twice
 abbrev pub ClashesAndLeastsAreAllNames : Type 0

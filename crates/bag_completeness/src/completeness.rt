@@ -5,6 +5,7 @@ ghost use Rattle.bag_tree.specs.Bag.{Bag};
 ghost use Rattle.bag_fault.specs.FaultOrder.{fault_cmp};
 ghost use Rattle.bag_facts.specs.Facts.{IsFactsOf};
 ghost use Rattle.bag_facts.specs.declared.options.Depth.TheVariants.{Declaration};
+ghost use Rattle.bag_completeness.specs.ClashStage.{IsSoughtClash};
 ghost use Rattle.bag_completeness.specs.CompletenessFaults.{HasEachOnce, IsIncomplete};
 ghost use Rattle.bag_completeness.specs.CompletenessStage.{IsSoughtInStageSix};
 
@@ -23,10 +24,8 @@ pub fn completeness_faults(alloc: Global, facts: &Facts) -> Result<Vec<Fault>, A
         → IsListOf fault_cmp (IsSoughtInStageSix facts.now.options.clashes bag) faults.items) }
 {
     let mut faults = faults_of_files(alloc, facts)?;
-    if facts.options.clashes {
-        let mut of_names = clash_faults(alloc, facts)?;
-        faults.append(&mut of_names)?;
-    }
+    let mut of_names = clashes_asked(alloc, facts)?;
+    faults.append(&mut of_names)?;
     faults.sort_unstable();
     Ok(faults)
 }
@@ -42,4 +41,17 @@ fn faults_of_files(alloc: Global, facts: &Facts) -> Result<Vec<Fault>, AllocErro
     faults.append(&mut of_tags)?;
     faults.append(&mut of_payload)?;
     Ok(faults)
+}
+
+/// The clashes of names where the options ask for them, and else none.
+fn clashes_asked(alloc: Global, facts: &Facts) -> Result<Vec<Fault>, AllocError>
+    ensures { IfOk result (λ faults. (bag : Bag) → IsFactsOf bag facts.now → facts.now.options.depth ≢ Declaration
+        → IsListOf fault_cmp (IsSoughtClash facts.now.options.clashes bag) faults.items) }
+{
+    let is_asked = facts.options.clashes;
+    if is_asked {
+        clash_faults(alloc, facts)
+    } else {
+        Ok(Vec::new(alloc))
+    }
 }

@@ -6,12 +6,12 @@ ghost use Rattle.bag_disk.specs.declared.disk.DiskFault.TheVariants.{NotFound};
 ghost use Rattle.bag_disk.specs.declared.disk.Entry.TheVariants.{File, Folder, Other};
 
 use crate::disk::{DiskFault, Entry};
-use crate::location::location_below;
+use crate::location::{is_location, location_below};
 use crate::system_fault::answer_of;
 use bag_text::Text;
 use std::alloc::{AllocError, Global};
 use std::fs;
-use std::fs::{Metadata, OpenOptions, ReadDir};
+use std::fs::{DirEntry, Metadata, OpenOptions, ReadDir};
 use std::rt::Files;
 
 /// A base folder of the system. Each call takes a path below it, and is one call of the system's where that path stands.
@@ -35,8 +35,21 @@ impl BaseFolder {
     /// What stands at a path, where no link at its end is followed.
     pub(crate) fn entry<R: Files>(&self, rt: &R, path: &str) -> Result<Entry, DiskFault> {
         let location = self.location(path)?;
-        let metadata = answer_of(fs::symlink_metadata(rt, location.as_str()))?;
-        Ok(entry_of(&metadata))
+        entry_at(rt, location.as_str())
+    }
+
+    /// The same. The path is often that of what was named last, which knows its location.
+    pub(crate) fn entry_beside<R: Files>(
+        &self,
+        rt: &R,
+        named: &DirEntry<R, Global>,
+        path: &str,
+    ) -> Result<Entry, DiskFault> {
+        let location = named.path().as_str();
+        if is_location(location, self.path.as_str(), path) {
+            return entry_at(rt, location);
+        }
+        self.entry(rt, path)
     }
 
     /// What stands in a folder.
@@ -89,6 +102,12 @@ impl BaseFolder {
         }
         Ok(location_below(self.alloc, self.path.as_str(), path)?)
     }
+}
+
+/// What stands where this is for the system.
+fn entry_at<R: Files>(rt: &R, location: &str) -> Result<Entry, DiskFault> {
+    let metadata = answer_of(fs::symlink_metadata(rt, location))?;
+    Ok(entry_of(&metadata))
 }
 
 /// What stands where metadata is of, which follows no link.

@@ -1,5 +1,5 @@
 //! Paths below a base folder, and where they stand for the system.
-ghost use Rattle.std.specs.Prelude.{◌≡◌, IfOk};
+ghost use Rattle.std.specs.Prelude.{◌≡◌, ◌≢◌, [], IfOk, IsTrue};
 ghost use Rattle.bag_disk.specs.Location.{path_in, location_below};
 ghost use Rattle.bag_text.specs.Path as spec;
 
@@ -36,4 +36,21 @@ pub(crate) fn location_below(alloc: Global, base: &str, path: &str) -> Result<Te
         return Text::from_str(alloc, base);
     }
     joined(alloc, base, path)
+}
+
+/// Whether a text is where a path below a base folder stands for the system; below an empty base folder nothing does.
+pub(crate) fn is_location(text: &str, base: &str, path: &str) -> bool
+    ensures below_some { IsTrue result → base.now ≢ [] }
+    ensures location { IsTrue result → text.now ≡ location_below base.now path.now }
+{
+    if base.is_empty() || path.is_empty() {
+        return false;
+    }
+    let Some(below) = text.strip_prefix(base) else {
+        return false;
+    };
+    let Some(rest) = below.strip_prefix('/') else {
+        return false;
+    };
+    rest == path
 }

@@ -24,6 +24,8 @@ pub struct SystemDisk<R: Files> {
     opened: Option<R::File>,
     written: Option<R::File>,
     entered: Option<ReadDir<R, Global>>,
+    /// What was named last.
+    named: Option<DirEntry<R, Global>>,
 }
 
 /// The name of what stands in a folder.
@@ -58,7 +60,10 @@ impl<R: Files + AllocGlobal + Clone + Drop> Disk for SystemDisk<R> {
     ghost state = { λ disk. system_state disk.openings (is_some disk.opened) };
 
     fn entry_at(&self, path: &str) -> Result<Entry, DiskFault> {
-        self.base.entry(&self.rt, path)
+        match &self.named {
+            Some(named) => self.base.entry_beside(&self.rt, named, path),
+            None => self.base.entry(&self.rt, path),
+        }
     }
 
     fn enter(&mut self, folder: &str) -> Result<(), DiskFault> {
@@ -72,7 +77,11 @@ impl<R: Files + AllocGlobal + Clone + Drop> Disk for SystemDisk<R> {
         };
         match entered.next() {
             None => Ok(None),
-            Some(Ok(entry)) => name_of(self.alloc, &entry),
+            Some(Ok(entry)) => {
+                let name = name_of(self.alloc, &entry);
+                self.named = Some(entry);
+                name
+            }
             Some(Err(error)) => Err(DiskFault::of(&error)),
         }
     }
@@ -158,6 +167,7 @@ impl<R: Files + AllocGlobal + Clone + Drop> SystemDisk<R> {
             opened: None,
             written: None,
             entered: None,
+            named: None,
         })
     }
 }

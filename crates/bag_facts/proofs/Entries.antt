@@ -1,5 +1,7 @@
 -- The entries of a manifest.
-use Rattle.std.proofs.Common.{◌≡◌, ◌≢◌, ℕ, List, [], Bool, sym, ◌∙◌, ◌↔◌, Contains, IsTrue, Result, length}
+use Rattle.std.proofs.Common.{◌≡◌, ◌≢◌, ◌<◌, ◌≤◌, ℕ, List, [], Bool, true, false, Option, None, Some, MatchOption, Bor, refl, ap, sym, ◌∙◌, subst, ◌↔◌, Contains, IsTrue, Result, Err, length, get_or, arith}
+use Rattle.std.specs.List.{HoldsAt}
+use Rattle.std.specs.Option.{is_some, option_copied}
 use Rattle.std.specs.Result.{is_ok}
 use Rattle.std.specs.Cmp.{nat_cmp_total, tied_itself}
 use Rattle.std.specs.List.Sorted.{IsPermutation, IsSortedByKey, IsBinarySearchResult, IsSearchInRange}
@@ -17,7 +19,8 @@ use Rattle.bag_line.specs.LineFault.{AreFaults}
 use Rattle.bag_tags.specs.Manifest.{IsEntry, IsManifestFault}
 use Rattle.bag_tags.proofs.ManifestEntries.{entry_of_path_once}
 use Rattle.bag_facts.specs.TagFacts.{IsManifestOf, AreByPath, entry_paths}
-use Rattle.bag_facts.proofs.ByPath.{sorted_once, found}
+use Rattle.bag_facts.proofs.ByPath.{sorted_once, found, text_same}
+use Rattle.bag_facts.proofs.Mapped.{mapped_contains}
 
 some_entry : ManifestEntry
 some_entry = record { line = 0; digest = []; path = [] }
@@ -35,8 +38,29 @@ parsed_is kind alg bytes is_text items entries faults text list perm sorted wron
   faults = wrong;
 }
 
--- a search by path tells whether an entry has it
-pub named_found : (entries seen : List ManifestEntry) (path : List ℕ) (r : Result ℕ ℕ) (b : Bool) → seen ≡ entries → b ≡ is_ok r → AreByPath entries → IsSearchInRange r (length seen)
-    → IsBinarySearchResult (λ e. text_cmp e.path path) seen r → IsTrue b ↔ Contains (entry_paths entries) path
-named_found entries seen path r b same ok ordered within at =
-    rw (ok, sym same) (found (λ e. e.path) seen some_entry path r (rw same ordered) within at)
+module _ (entries : List ManifestEntry) (path : List ℕ) where
+  -- the entry at a path, or none
+  abbrev pub IsEntryAt : Option ManifestEntry → Type 0
+  IsEntryAt o = MatchOption o (¬ (Contains (entry_paths entries) path)) (λ entry. Contains entries entry × (entry.path ≡ path))
+
+  -- a search by path that ended at a place found an entry of that path there
+  pub entry_found : (i : ℕ) (o : Option (Bor ManifestEntry)) → i < length entries → HoldsAt (λ e. text_cmp e.path path ≡ Equal) entries i
+      → MatchOption o (length entries ≤ i) (λ x. (i < length entries) × HoldsAt (λ e. x.now ≡ e) entries i) → IsEntryAt (option_copied o)
+  entry_found i None lt at past = absurd (omega arith)
+  entry_found i (Some x) lt at got = (
+    (i, lt, sym (got.1 x.now)),
+    ap (λ (e : ManifestEntry). e.path) (got.1 x.now) ∙ text_same (get_or entries i x.now).path path (at x.now),
+  )
+
+  -- one that ended at no place found that there is none
+  pub no_entry_found : (i : ℕ) (r : Result ℕ ℕ) → r ≡ Err i → AreByPath entries → IsSearchInRange r (length entries) → IsBinarySearchResult (λ e. text_cmp e.path path) entries r
+      → ¬ (Contains (entry_paths entries) path)
+  no_entry_found i r is ordered within at c =
+      let clash : false ≡ true = sym (ap is_ok is) ∙ (found (λ e. e.path) entries some_entry path r ordered within at).1 c in cc
+
+-- whether there is such an entry
+pub named_found : (entries seen : List ManifestEntry) (path : List ℕ) (o : Option (Bor ManifestEntry)) (b : Bool) → seen ≡ entries → b ≡ is_some o → IsEntryAt seen path (option_copied o)
+    → IsTrue b ↔ Contains (entry_paths entries) path
+named_found entries seen path None b same is none = rw (is, sym same) (λ e. cc, λ c. absurd (none c))
+named_found entries seen path (Some x) b same is there =
+    rw (is, sym same) (λ _. subst (Contains (entry_paths seen)) there.1 (mapped_contains (λ e. e.path) seen x.now there.0), λ _. refl)

@@ -1,7 +1,10 @@
+pub mod AlgsOf
 pub mod ByPath
 pub mod Entries
+pub mod EntriesRead
 pub mod Known
 pub mod ListedFiles
+pub mod ListedPaths
 pub mod Mapped
 pub mod Opens
 pub mod Parsed

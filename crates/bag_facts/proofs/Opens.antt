@@ -11,11 +11,11 @@ use Rattle.bag_tree.specs.declared.listing.FileEntry.{FileEntry}
 use Rattle.bag_facts.specs.Wanted.{IsWanted, AreWanted, OpensAll, OpensFirst, OpensUpTo, OpensWanted}
 use Rattle.bag_facts.specs.declared.options.Options.{Options}
 
-all_along : {A : Type 0} (P : A → Type 0) (xs : List A) → AllByRecursion P xs → All P xs
+pub all_along : {A : Type 0} (P : A → Type 0) (xs : List A) → AllByRecursion P xs → All P xs
 all_along P [] h = All-nil P
 all_along P (x ∷ xs) h = All-cons P x xs h.0 (all_along P xs h.1)
 
-front_ascends : (xs ys : List (List ℕ)) → IsStrictlySortedBy text_cmp (xs ++ ys) → IsStrictlySortedBy text_cmp xs
+pub front_ascends : (xs ys : List (List ℕ)) → IsStrictlySortedBy text_cmp (xs ++ ys) → IsStrictlySortedBy text_cmp xs
 unfolding IsStrictlySortedBy
 front_ascends [] ys s = tt
 front_ascends (x ∷ xs) ys s = (each_from_members _ xs (λ y c. member_has _ (xs ++ ys) y s.0 (contains_front xs ys y c)), front_ascends xs ys s.1)

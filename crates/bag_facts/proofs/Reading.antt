@@ -15,7 +15,7 @@ use Rattle.bag_tree.specs.declared.listing.Listing.{Listing}
 use Rattle.bag_tree.specs.declared.fault.Stop.{Stop}
 use Rattle.bag_tree.specs.declared.fault.TreeFault.{TreeFault}
 use Rattle.bag_tree.specs.declared.fault.TreeFault.TheVariants.{Device, Special, Name, NotFound, TooMany, Changed, NoneOpen, Memory, Exists}
-use Rattle.bag_facts.specs.Stops.{MayRefuseFacts, MayStop}
+use Rattle.bag_facts.specs.Stops.{MayRefuseFacts, MayStopReading}
 use Rattle.bag_facts.specs.TagReader.{AreListed, AreTexts, IsWhole, ReadsWanted, StopsReading, read_path}
 use Rattle.bag_facts.specs.Wanted.{IsWanted, AreWanted, OpensFirst, OpensUpTo, paths_of}
 use Rattle.bag_facts.specs.declared.options.Options.{Options}
@@ -39,7 +39,7 @@ keeps_itself old = record { bag = refl; plain = refl; honest = refl; entries = r
 later_failure : (old mid new : TreeState) → Keeps old mid → FailsOver mid new → FailsOver old new
 later_failure old mid new k (failed, other) = (omega arith, λ honest. sym k.plain ∙ other (k.honest ∙ honest))
 
-later_refusal : (old mid new : TreeState) (cause : TreeFault) → Keeps old mid → MayRefuseFacts mid new cause → MayRefuseFacts old new cause
+pub later_refusal : (old mid new : TreeState) (cause : TreeFault) → Keeps old mid → MayRefuseFacts mid new cause → MayRefuseFacts old new cause
 later_refusal old mid new Device k h = omega arith
 later_refusal old mid new Special k h = later_failure old mid new k h
 later_refusal old mid new Name k h = later_failure old mid new k h
@@ -198,7 +198,7 @@ listing_refusal old new other h last = (h, last)
 
 -- a refused listing stops reading the facts
 pub listing_stop : (options : Options) (old new : TreeState) (cause : TreeFault) (stop : Stop) → stop.cause ≡ cause → stop.path ≡ [] → new.openings ≡ old.openings
-    → MayRefuse ⊥ ⊥ old new cause → new.last ≡ Refused cause → MayStop options old new stop
+    → MayRefuse ⊥ ⊥ old new cause → new.last ≡ Refused cause → MayStopReading options old new stop
 listing_stop options old new cause stop same none unopened h last =
     let both = listing_refusal old new cause h last in record {
       cause = subst (MayRefuseFacts old new) (sym same) both.0;
@@ -209,7 +209,7 @@ listing_stop options old new cause stop same none unopened h last =
 
 -- what stops reading after a listing stops reading the facts
 pub facts_stop : (options : Options) (listing : Listing) (files : List FileEntry) (old mid new : TreeState) (stop : Stop) → Keeps old mid → files ≡ listing.files
-    → (IsTrue old.honest → IsListingOf old.bag listing) → ((IsTrue mid.honest → AreListed mid.bag files) → StopsReading options mid new stop) → MayStop options old new stop
+    → (IsTrue old.honest → IsListingOf old.bag listing) → ((IsTrue mid.honest → AreListed mid.bag files) → StopsReading options mid new stop) → MayStopReading options old new stop
 facts_stop options listing files old mid new stop k e listed stops =
     let are : IsTrue mid.honest → AreListed mid.bag files =
     λ honest. subst (AreListed mid.bag) (sym e) (subst (λ bag. AreListed bag listing.files) (sym k.bag) (listed (sym k.honest ∙ honest)).files) in

@@ -39,7 +39,7 @@ IsOfFile options old stop = IsWanted options stop.path × (IsTrue old.honest →
 
 -- A stop tells the cause, which is the tree's own answer but for want of memory, and the file that was refused. It names
 -- none for want of memory, and where it was the listing that was refused.
-pub record MayStop (options : Options) (old new : TreeState) (stop : Stop) : Type 0 where
+pub record MayStopReading (options : Options) (old new : TreeState) (stop : Stop) : Type 0 where
   pub cause : MayRefuseFacts old new stop.cause
   pub answered : CameFromTree new stop.cause
   pub path : IsOutOfMemory stop ⊎ IsOfListing old new stop ⊎ IsOfFile options old stop

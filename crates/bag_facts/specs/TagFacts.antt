@@ -1,5 +1,5 @@
 -- What is known of one tag file is what its bytes say.
-use Rattle.std.specs.Prelude.{◌≡◌, ℕ, Bool, List, Option, None, Some, map}
+use Rattle.std.specs.Prelude.{◌≡◌, ℕ, Bool, List, [], Option, None, Some, map}
 use Rattle.std.specs.List.Sorted.{IsStrictlySortedBy}
 use Rattle.std.specs.Ordering.{nat_cmp, on}
 use Rattle.std.specs.Str.{is_utf8}
@@ -101,3 +101,9 @@ entry_paths entries = map (λ entry. entry.path) entries
 -- entries in the order of their paths, each path once
 abbrev pub AreByPath : List ManifestEntry → Type 0
 AreByPath entries = IsStrictlySortedBy (on (λ entry. entry.path) text_cmp) entries
+
+-- these are the entries of a manifest with these bytes, in the order of their paths; none where it isn't there
+abbrev pub AreEntriesOf : Kind → Alg → Option (List ℕ) → List ManifestEntry → Type 0
+AreEntriesOf kind alg None entries = entries ≡ []
+AreEntriesOf kind alg (Some bytes) entries =
+    IsListOf (on (λ entry. entry.path) text_cmp) (IsEntry kind alg (lines_of_file bytes)) entries

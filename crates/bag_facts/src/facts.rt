@@ -1,21 +1,23 @@
 //! What is read of a bag.
-ghost use Rattle.std.specs.Prelude.{◌≡◌, ◌≢◌, ◌⊎◌, [], IsTrue, IfOk, IfErr, OnOk, OnErr, MatchOption, Any, Contains, codes};
+ghost use Rattle.std.specs.Prelude.{◌≡◌, ◌≢◌, ◌⊎◌, ◌↔◌, [], IsTrue, IfOk, IfErr, OnOk, OnErr, MatchOption, Any, Contains, codes};
 ghost use Rattle.std.specs.Option.{option_copied};
+ghost use Rattle.bag_text.specs.declared.alg.Alg.{Alg as Named};
 ghost use Rattle.bag_tags.specs.TagName.{tag_path};
 ghost use Rattle.bag_tags.specs.declared.tag_name.TagName.TheVariants as file_of;
-ghost use Rattle.bag_tree.specs.Bag.{Bag, IsBag, file};
+ghost use Rattle.bag_tree.specs.Bag.{Bag, IsBag, HasFile, file};
 ghost use Rattle.bag_tree.specs.Tree.{Keeps};
 ghost use Rattle.bag_facts.specs.Facts.{AreParsed};
-ghost use Rattle.bag_facts.specs.TagFacts.{name_of, IsReadOf, IsDeclarationOf, IsMetadataOf, IsFetchListOf, IsManifestNamed, IsNamed};
+ghost use Rattle.bag_facts.specs.TagFacts.{name_of, AreEntriesOf, IsReadOf, IsDeclarationOf, IsMetadataOf, IsFetchListOf, IsManifestNamed, IsNamed};
 ghost use Rattle.bag_facts.specs.Wanted.{ForListing, OpensAll, OpensFirst, OpensUpTo, OpensWanted, Wants};
 ghost use Rattle.bag_facts.specs.declared.options.Depth.TheVariants as depth_of;
-ghost use Rattle.bag_facts.specs.Stops.{MayStop};
+ghost use Rattle.bag_facts.specs.Stops.{MayStopReading};
 
+use crate::manifest_path::has_manifest;
 use crate::tag_reader::{TagBytes, read_tag_files};
-use crate::{FetchList, Manifest, Metadata, Options, TagFacts};
-use bag_tags::{Declaration, Kind, TagName};
-use bag_text::{Alg, Items};
-use bag_tree::{Listing, Stop, Tree, TreeFault};
+use crate::{Depth, FetchList, Manifest, Metadata, Options, TagFacts};
+use bag_tags::{Declaration, Kind, ManifestEntry, TagName};
+use bag_text::{Alg, AlgSet, Items};
+use bag_tree::{FileEntry, Listing, Stop, Tree, TreeFault};
 use std::alloc::{AllocError, Global};
 
 /// What the checks need to know of a bag: its files, and its tag files, parsed once.
@@ -51,7 +53,7 @@ impl Facts {
         ensures facts { IfOk result (λ facts. IsTrue (T.state tree.old).honest → IsFactsOf (T.state tree.old).bag facts) }
         ensures seen { IfOk result (λ facts. (bag : Bag) × IsBag bag × IsFactsOf bag facts) }
         ensures plain { OnOk result (IsTrue (T.state tree.old).honest → IsTrue (T.state tree.old).plain) }
-        ensures stop { IfErr result (MayStop options (T.state tree.old) (T.state tree.new)) }
+        ensures stop { IfErr result (MayStopReading options (T.state tree.old) (T.state tree.new)) }
     {
         let listing = match tree.list() {
             Ok(listing) => listing,
@@ -123,6 +125,52 @@ impl Facts {
             return None;
         };
         Some(manifest)
+    }
+
+    /// What the facts were read for.
+    pub fn options(&self) -> Options
+        ensures { result ≡ self.now.options }
+    {
+        self.options
+    }
+
+    /// The files of the bag, in the order of their paths by bytes.
+    pub fn files(&self) -> &[FileEntry]
+        ensures { result.now ≡ self.now.listing.files }
+    {
+        self.listing.files.as_slice()
+    }
+
+    /// The algorithms of which the bag has a manifest of this kind (RFC 8493, 2.1.3 and 2.2.1), whatever the facts were
+    /// read for.
+    pub fn algs(&self, kind: Kind) -> AlgSet
+        ensures { (bag : Bag) → IsFactsOf bag self.now
+            → (alg : Named) → Contains result alg ↔ HasFile bag (tag_path (file_of.Manifest kind alg)) }
+    {
+        let files = self.listing.files.as_slice();
+        let mut algs = AlgSet::empty();
+        for alg in Alg::ALL {
+            if has_manifest(files, kind, alg) {
+                algs = algs.with(alg);
+            }
+        }
+        algs
+    }
+
+    /// The entries of a manifest, in the order of their paths by bytes: none where it isn't there, or the facts were read
+    /// for the declaration alone.
+    pub fn entries(&self, kind: Kind, alg: Alg) -> &[ManifestEntry]
+        ensures entries { (bag : Bag) → IsFactsOf bag self.now → self.now.options.depth ≢ depth_of.Declaration
+            → AreEntriesOf kind alg (file bag (tag_path (file_of.Manifest kind alg))) result.now }
+        ensures none { (bag : Bag) → IsFactsOf bag self.now → self.now.options.depth ≡ depth_of.Declaration → result.now ≡ [] }
+    {
+        if self.options.depth == Depth::Declaration {
+            return &[];
+        }
+        match self.manifest(kind, alg) {
+            Some(manifest) => manifest.entries.as_slice(),
+            None => &[],
+        }
     }
 
     /// What is known of a tag file, where it is there and wanted.

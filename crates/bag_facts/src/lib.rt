@@ -15,6 +15,7 @@
 mod facts;
 mod fetch_list;
 mod manifest;
+mod manifest_path;
 mod metadata;
 mod options;
 mod tag_facts;
@@ -23,7 +24,8 @@ mod utf8;
 
 pub use facts::Facts;
 pub use fetch_list::FetchList;
-pub use manifest::Manifest;
+pub use manifest::{Manifest, entry_at};
 pub use metadata::Metadata;
 pub use options::{Depth, Options};
 pub use tag_facts::TagFacts;
+pub use tag_reader::stop_at;

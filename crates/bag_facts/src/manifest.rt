@@ -1,5 +1,6 @@
 //! What is known of a manifest.
-ghost use Rattle.std.specs.Prelude.{◌≡◌, ◌↔◌, IsTrue, IfOk, Contains};
+ghost use Rattle.std.specs.Prelude.{◌≡◌, ◌↔◌, IsTrue, IfOk, Contains, MatchOption};
+ghost use Rattle.std.specs.Option.{option_copied};
 ghost use Rattle.std.specs.List.Sorted.{IsPermutation, IsSortedByKey};
 ghost use Rattle.bag_text.specs.Text.{text_cmp};
 ghost use Rattle.bag_facts.specs.TagFacts.{entry_paths, AreByPath, IsManifestOf};
@@ -39,7 +40,7 @@ impl Manifest {
             kind,
             alg,
             is_text: is_text(faults.as_slice()),
-            entries: sorted_by_path(items),
+            entries: sorted_by_path(items)?,
             faults,
         })
     }
@@ -48,19 +49,64 @@ impl Manifest {
     pub fn names(&self, path: &Text) -> bool
         ensures { AreByPath self.now.entries → IsTrue result ↔ Contains (entry_paths self.now.entries) path.now }
     {
-        self.entries
-            .as_slice()
-            .binary_search_by(|entry| entry.path.cmp(path))
-            .is_ok()
+        entry_at(self.entries.as_slice(), path).is_some()
     }
 }
 
-/// Entries in the order of their paths.
-fn sorted_by_path(entries: Items<ManifestEntry>) -> Items<ManifestEntry>
-    ensures sorted { IsSortedByKey (λ entry. entry.path) text_cmp result }
-    ensures permutation { IsPermutation entries result }
+/// The entry of a path among entries in the order of their paths, found in time log n of these.
+pub fn entry_at<'a>(entries: &'a [ManifestEntry], path: &Text) -> Option<&'a ManifestEntry>
+    ensures { AreByPath entries.now → MatchOption (option_copied result) (¬ (Contains (entry_paths entries.now) path.now))
+        (λ entry. Contains entries.now entry × (entry.path ≡ path.now)) }
+{
+    let Ok(place) = entries.binary_search_by(|entry| entry.path.cmp(path)) else {
+        return None;
+    };
+    entries.get(place)
+}
+
+/// Entries in the order of their paths. The keys tell most paths apart, so that the second sort finds them in order.
+fn sorted_by_path(entries: Items<ManifestEntry>) -> Result<Items<ManifestEntry>, AllocError>
+    ensures sorted { IfOk result (IsSortedByKey (λ entry. entry.path) text_cmp) }
+    ensures permutation { IfOk result (IsPermutation entries) }
 {
     let mut entries = entries.into_vec();
+    let skipped = common_len(entries.as_slice());
+    entries.sort_by_cached_key(|entry| key_behind(entry.path.as_str().as_bytes(), skipped))?;
     entries.sort_unstable_by(|a, b| a.path.cmp(&b.path));
-    Items::from_vec(entries)
+    Ok(Items::from_vec(entries))
+}
+
+/// How many bytes the paths of all entries begin alike.
+fn common_len(entries: &[ManifestEntry]) -> usize {
+    let Some(first) = entries.first() else {
+        return 0;
+    };
+    let mut common = first.path.as_str().as_bytes();
+    for entry in entries {
+        common = common_front(common, entry.path.as_str().as_bytes());
+    }
+    common.len()
+}
+
+/// What both begin with.
+fn common_front<'a>(first: &'a [u8], second: &[u8]) -> &'a [u8] {
+    let alike = first.iter().zip(second).take_while(|(a, b)| a == b).count();
+    first.get(..alike).unwrap_or(first)
+}
+
+/// The sixteen bytes behind so many, as a number that stands in the order of the bytes; behind the last stand zeros.
+fn key_behind(bytes: &[u8], skipped: usize) -> u128 {
+    let rest = bytes.get(skipped..).unwrap_or(&[]);
+    match rest.first_chunk::<16>() {
+        Some(front) => u128::from_be_bytes(*front),
+        None => padded_key(rest),
+    }
+}
+
+fn padded_key(bytes: &[u8]) -> u128 {
+    let mut front = [0u8; 16];
+    for (place, byte) in front.iter_mut().zip(bytes) {
+        *place = *byte;
+    }
+    u128::from_be_bytes(front)
 }

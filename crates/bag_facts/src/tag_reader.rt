@@ -102,8 +102,8 @@ fn wanted_at(options: Options, path: &str) -> Option<TagName>
     }
 }
 
-/// A refusal of a file. Where there is no memory for its path, that is the cause.
-fn stop_at(alloc: Global, cause: TreeFault, path: &Text) -> Stop
+/// The stop of a refusal of a file. Where there is no memory for its path, that is the cause; want of memory names no file.
+pub fn stop_at(alloc: Global, cause: TreeFault, path: &Text) -> Stop
     ensures stop { IsStopAt cause path.now result }
 {
     if cause == TreeFault::Memory {

@@ -1,5 +1,6 @@
 pub mod DiskCount
 pub mod DiskSteps
+pub mod FoundPaths
 pub mod PathOrder
 pub mod Plain
 pub mod Refusals

@@ -1,6 +1,6 @@
 -- What a walk over the folders of a disk has found.
-use Rattle.std.specs.Prelude.{ℕ, ◌≡◌, ◌⊎◌, List, [], ◌∷◌, ◌++◌, map, Some, length, Contains}
-use Rattle.bag_text.specs.Path.{under}
+use Rattle.std.specs.Prelude.{ℕ, ◌≡◌, ◌⊎◌, List, [], ◌∷◌, ◌++◌, map, Some, length, All, Contains, IsTrue}
+use Rattle.bag_text.specs.Path.{is_path, under}
 use Rattle.bag_disk.specs.Location.{path_in}
 use Rattle.bag_disk.specs.Disk.{Nodes, node, Has, IsFolder}
 use Rattle.bag_disk.specs.Disk.Node.{File}
@@ -64,3 +64,15 @@ abbrev pub folders_with : List (List ℕ) → List ℕ → Entry → List (List 
 folders_with folders path (entry.File size) = folders
 folders_with folders path entry.Folder = folders ++ path ∷ []
 folders_with folders path entry.Other = folders
+
+-- the base folder, or a path
+abbrev pub IsFolderPath : List ℕ → Type 0
+IsFolderPath folder = (folder ≡ []) ⊎ IsTrue (is_path folder)
+
+-- the texts of these files are paths
+abbrev pub ArePaths : List FileEntry → Type 0
+ArePaths files = All (λ file. IsTrue (is_path file.path)) files
+
+-- and each of these folders has one or is the base folder
+abbrev pub AllArePaths : List FileEntry → List (List ℕ) → Type 0
+AllArePaths files folders = ArePaths files × All IsFolderPath folders

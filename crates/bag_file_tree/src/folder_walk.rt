@@ -1,7 +1,7 @@
 //! A walk over the folders of a disk.
 ghost use Rattle.std.specs.Prelude.{◌≡◌, ◌<◌, ◌≤◌, ◌+◌, ◌∷◌, ◌++◌, [], ℕ, List, IfOk, IfErr, OnOk, IsTrue, false, vec_len};
 ghost use Rattle.bag_disk.specs.Disk.{Has, OnlyLooks, is_plain};
-ghost use Rattle.bag_file_tree.specs.FolderWalk.{Walked, AllStand, Listing, files_with, folders_with};
+ghost use Rattle.bag_file_tree.specs.FolderWalk.{Walked, AllArePaths, AllStand, IsFolderPath, Listing, files_with, folders_with};
 ghost use Rattle.bag_disk.specs.Location.{path_in};
 ghost use Rattle.bag_disk.specs.declared.disk.Entry.TheVariants.{Other};
 ghost use Rattle.bag_file_tree.specs.Refusal.{IsDue};
@@ -48,6 +48,8 @@ impl FolderWalk {
 
     /// Adds what stands in one folder. Where there is too much, all that was found so far stands in the walk.
     pub(crate) fn list_folder<D: Disk>(&mut self, disk: &mut D, folder: Text) -> Result<(), Refusal>
+        requires { IsFolderPath folder }
+        ensures paths { OnOk result (AllArePaths self.old.files.items self.old.folders.items → AllArePaths self.new.files.items self.new.folders.items) }
         ensures looks { OnlyLooks (D.state disk.old) (D.state disk.new) }
         ensures walked { OnOk result (IsTrue (D.state disk.old).honest
             → Walked (D.state disk.old).nodes self.old.files.items (self.old.folders.items ++ folder ∷ []) self.old.listed.items []
@@ -73,6 +75,8 @@ impl FolderWalk {
 
     /// Adds what stands at each name that is left of a folder.
     fn list_names<D: Disk>(&mut self, disk: &mut D, folder: &str) -> Result<(), Refusal>
+        requires { IsFolderPath folder.now }
+        ensures paths { OnOk result (AllArePaths self.old.files.items self.old.folders.items → AllArePaths self.new.files.items self.new.folders.items) }
         ensures looks { OnlyLooks (D.state disk.old) (D.state disk.new) }
         ensures walked { OnOk result (IsTrue (D.state disk.old).honest → (listed : List (List ℕ))
             → Listing (D.state disk.old).nodes self.old.files.items self.old.folders.items listed folder.now (D.state disk.old).names
@@ -100,7 +104,9 @@ impl FolderWalk {
 
     /// Adds what stands at a name of a folder.
     fn add<D: Disk>(&mut self, disk: &D, folder: &str, name: &str) -> Result<(), Refusal>
-        requires { 0 < self.old.room }
+        requires has_room { 0 < self.old.room }
+        requires folder { IsFolderPath folder.now }
+        ensures paths { OnOk result (AllArePaths self.old.files.items self.old.folders.items → AllArePaths self.new.files.items self.new.folders.items) }
         ensures walked { OnOk result (IsTrue (D.state disk.now).honest → Has (D.state disk.now).nodes (path_in folder.now name.now)
             → (listed pending : List (List ℕ))
             → Walked (D.state disk.now).nodes self.old.files.items self.old.folders.items listed (path_in folder.now name.now ∷ pending)
@@ -113,10 +119,10 @@ impl FolderWalk {
         ensures room { OnOk result (self.new.room + 1 ≡ self.old.room) }
     {
         self.room -= 1;
-        let path = path_in(self.alloc, folder, name)?;
-        if !is_path(path.as_str()) {
+        if !is_path(name) {
             return Err(Refusal::Device);
         }
+        let path = path_in(self.alloc, folder, name)?;
         match disk.entry_at(path.as_str()) {
             Ok(entry) => self.put(path, entry),
             Err(fault) => Err(Refusal::at_known(fault)),

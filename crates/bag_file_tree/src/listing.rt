@@ -7,12 +7,12 @@ ghost use Rattle.bag_tree.specs.Listing.{IsOrdered, HasItsFolder, IsListingOf};
 ghost use Rattle.bag_tree.specs.Tree.{most_entries};
 ghost use Rattle.bag_disk.specs.Disk.{OnlyLooks, is_plain};
 ghost use Rattle.bag_file_tree.specs.DiskBag.{bag_of};
-ghost use Rattle.bag_file_tree.specs.FolderWalk.{Walked};
+ghost use Rattle.bag_file_tree.specs.FolderWalk.{ArePaths, Walked};
 ghost use Rattle.bag_file_tree.specs.Refusal.{HasOther, IsDue};
 
 use crate::folder_walk::FolderWalk;
 use crate::limit::no_room;
-use crate::path_order::{all_differ, are_paths, sort_by_path};
+use crate::path_order::{all_differ, sort_by_path};
 use crate::refusal::Refusal;
 use bag_disk::Disk;
 use bag_text::{Items, Text, is_payload};
@@ -37,6 +37,7 @@ pub(crate) fn list_below<D: Disk>(disk: &mut D, alloc: Global) -> Result<Listing
 
 /// Finds all that stands below the base folder.
 fn walk<D: Disk>(disk: &mut D, alloc: Global) -> Result<FolderWalk, Refusal>
+    ensures paths { IfOk result (λ walk. ArePaths walk.files.items) }
     ensures looks { OnlyLooks (D.state disk.old) (D.state disk.new) }
     ensures walked { IfOk result (λ walk. IsTrue (D.state disk.old).honest
         → Walked (D.state disk.old).nodes walk.files.items [] walk.listed.items []) }
@@ -54,9 +55,10 @@ fn walk<D: Disk>(disk: &mut D, alloc: Global) -> Result<FolderWalk, Refusal>
     Ok(walk)
 }
 
-/// The listing of what was found: its files sorted, where all are paths, no two have the same, and the payload folder was
-/// found where files in it were.
+/// The listing of what was found: its files sorted, where no two have the same path, and the payload folder was found where
+/// files in it were.
 fn listing_of(walk: FolderWalk) -> Result<Listing, Refusal>
+    requires { ArePaths walk.files.items }
     ensures ordered { IfOk result (λ listing. IsOrdered listing.files) }
     ensures files { IfOk result (λ listing. IsPermutation walk.files.items listing.files) }
     ensures data { IfOk result HasItsFolder }
@@ -67,7 +69,7 @@ fn listing_of(walk: FolderWalk) -> Result<Listing, Refusal>
     let has_data = has_data(listed.as_slice());
     let mut files = files;
     sort_by_path(&mut files);
-    if !are_paths(files.as_slice()) || !all_differ(files.as_slice()) {
+    if !all_differ(files.as_slice()) {
         return Err(Refusal::Device);
     }
     if !has_data && has_payload(files.as_slice()) {

@@ -1,10 +1,8 @@
 //! Files in the order of their paths.
-ghost use Rattle.std.specs.Prelude.{◌↔◌, All, IsTrue, map};
+ghost use Rattle.std.specs.Prelude.{◌↔◌, IsTrue, map};
 ghost use Rattle.std.specs.List.Sorted.{IsPermutation, IsSortedByKey, IsStrictlySortedBy};
-ghost use Rattle.bag_text.specs.Path.{is_path};
 ghost use Rattle.bag_text.specs.Text.{text_cmp};
 
-use crate::path::is_path;
 use bag_tree::FileEntry;
 
 /// Sorts files by the bytes of their paths.
@@ -13,13 +11,6 @@ pub(crate) fn sort_by_path(files: &mut Vec<FileEntry>)
     ensures permutation { IsPermutation files.old.items files.new.items }
 {
     files.sort_unstable_by(|a, b| a.path.cmp(&b.path));
-}
-
-/// Whether the texts of all files are paths.
-pub(crate) fn are_paths(files: &[FileEntry]) -> bool
-    ensures { IsTrue result ↔ All (λ file. IsTrue (is_path file.path)) files.now }
-{
-    files.iter().all(|file| is_path(file.path.as_str()))
 }
 
 /// Whether no two of the sorted files have the same path.

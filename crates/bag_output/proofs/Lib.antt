@@ -1,3 +1,4 @@
 pub mod Ending
 pub mod Lines
+pub mod Standing
 pub mod Writing

@@ -1,7 +1,7 @@
 //! What a run writes: a line for each fault, and the line that ends a report.
 //!
 //! ```
-//! let outcome = write_report(alloc, &faults, &request, &mut out);
+//! let outcome = write_rest(alloc, &faults, 0, &request, &mut out);
 //! let exit = status(&outcome);
 //! ```
 //!
@@ -14,4 +14,4 @@ mod report_writer;
 mod write;
 
 pub use outcome::{Outcome, Request, status};
-pub use report_writer::{close, write_report};
+pub use report_writer::{Progress, close, write_lines, write_rest};

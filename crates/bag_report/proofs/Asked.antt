@@ -35,6 +35,13 @@ asked_is_reached options NoOxum e = fast_reaches options.depth e
 asked_is_reached options NameClash e = reached options.depth 6 (and_parts _ _ e).1
 asked_is_reached options other e = reached options.depth (stage other) e
 
+-- at depth Full the faults of the seventh stage are
+pub asked_at_full : (options : Options) (c : Code) → options.depth ≡ Full → stage c ≡ 7 → asks options c ≡ true
+unfolding asks
+asked_at_full options NoOxum e at = absurd (omega (arith, at))
+asked_at_full options NameClash e at = absurd (omega (arith, at))
+asked_at_full options other e at = reaches options.depth (stage other) (subst (λ d. stage other ≤ last_stage d) (sym e) (omega (arith, at)))
+
 -- a clash of names is asked for only where clashes are
 asked_clash : (options : Options) (c : Code) → asks options c ≡ true → c ≡ NameClash → options.clashes ≡ true
 unfolding asks

@@ -20,6 +20,8 @@ use Rattle.bag_stages.proofs.HasLists.{either}
 use Rattle.bag_stages.proofs.ManifestsList.{manifest_faults_are_listed}
 use Rattle.bag_stages.proofs.MetadataList.{metadata_faults_are_listed}
 use Rattle.bag_stages.proofs.PartsList.{part_faults_are_listed}
+use Rattle.bag_validity.specs.ValidityStage.{IsOfValidity}
+use Rattle.bag_validity.proofs.ValidityList.{validity_faults_are_listed}
 use Rattle.bag_report.specs.Is.{Is}
 use Rattle.bag_report.specs.Report.{Check, asks, IsReported, EachBagHasAReport}
 use Rattle.bag_report.proofs.AscendingList.{ascending_list}
@@ -32,7 +34,8 @@ faults_are_listed bag =
     (either (IsOfParts bag) _ (part_faults_are_listed bag)
     (either (IsOfMetadata bag) _ (metadata_faults_are_listed bag)
     (either (IsOfFetch bag) _ (fetch_faults_are_listed bag)
-    (either (IsOfManifests bag) (IsOfCompleteness bag) (manifest_faults_are_listed bag) (completeness_faults_are_listed bag)))))
+    (either (IsOfManifests bag) _ (manifest_faults_are_listed bag)
+    (either (IsOfCompleteness bag) (IsOfValidity bag) (completeness_faults_are_listed bag) (validity_faults_are_listed bag))))))
 
 -- those that are asked for
 reported_are_listed : (check : Check) → HasList (IsReported check)

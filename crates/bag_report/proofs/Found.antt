@@ -14,11 +14,13 @@ use Rattle.bag_stages.specs.FetchStage.{IsOfFetch}
 use Rattle.bag_stages.specs.ManifestsStage.{IsOfManifests}
 use Rattle.bag_stages.specs.MetadataStage.{IsOfMetadata}
 use Rattle.bag_stages.specs.PartsStage.{IsOfParts}
+use Rattle.bag_validity.specs.ValidityStage.{IsOfValidity}
 use Rattle.bag_stages.proofs.DeclarationFaults.{declaration_of_stage_one}
 use Rattle.bag_stages.proofs.FetchFaults.{fetch_of_stage_four}
 use Rattle.bag_stages.proofs.ManifestFaults.{manifests_of_stage_five}
 use Rattle.bag_stages.proofs.MetadataFaults.{metadata_of_stage_three}
 use Rattle.bag_stages.proofs.PartFaults.{parts_of_stage_two}
+use Rattle.bag_validity.proofs.ValidityFaults.{validity_of_stage_seven}
 use Rattle.bag_report.specs.Is.{Is}
 use Rattle.bag_report.specs.Stages.{IsFoundAt}
 
@@ -30,7 +32,7 @@ pick first others (suc k) = others k
 -- the set of a stage
 abbrev IsOf : Bag → ℕ → Fault → Type 0
 IsOf bag =
-    pick (λ f. ⊥) (pick (IsOfDeclaration bag) (pick (IsOfParts bag) (pick (IsOfMetadata bag) (pick (IsOfFetch bag) (pick (IsOfManifests bag) (pick (IsOfCompleteness bag) (λ k f. ⊥)))))))
+    pick (λ f. ⊥) (pick (IsOfDeclaration bag) (pick (IsOfParts bag) (pick (IsOfMetadata bag) (pick (IsOfFetch bag) (pick (IsOfManifests bag) (pick (IsOfCompleteness bag) (pick (IsOfValidity bag) (λ k f. ⊥))))))))
 
 module _ (bag : Bag) (f : Fault) where
   of_its_stage : (k : ℕ) → stage f.code ≡ k → IsOf bag k f → IsOf bag (stage f.code) f
@@ -43,7 +45,16 @@ module _ (bag : Bag) (f : Fault) where
   in_its_stage (inr (inr (inl h))) = of_its_stage 3 (metadata_of_stage_three bag f h) h
   in_its_stage (inr (inr (inr (inl h)))) = of_its_stage 4 (fetch_of_stage_four bag f h) h
   in_its_stage (inr (inr (inr (inr (inl h))))) = of_its_stage 5 (manifests_of_stage_five bag f h) h
-  in_its_stage (inr (inr (inr (inr (inr h))))) = of_its_stage 6 (completeness_of_stage_six bag f h) h
+  in_its_stage (inr (inr (inr (inr (inr (inl h)))))) = of_its_stage 6 (completeness_of_stage_six bag f h) h
+  in_its_stage (inr (inr (inr (inr (inr (inr h)))))) = of_its_stage 7 (validity_of_stage_seven bag f h) h
+
+  -- of the seventh stage are the faults of validity
+  pub of_validity : Is bag f → stage f.code ≡ 7 → IsOfValidity bag f
+  of_validity h e = subst (λ n. IsOf bag n f) e (in_its_stage h)
+
+  pub is_of_validity : IsOfValidity bag f → Is bag f
+  unfolding Is
+  is_of_validity h = inr (inr (inr (inr (inr (inr h)))))
 
 -- the list of a stage's set has the faults of the bag that are of the stage
 module _ (clashes : Bool) (bag : Bag) (faults : List Fault) where
@@ -83,18 +94,19 @@ module _ (clashes : Bool) (bag : Bag) (faults : List Fault) where
   unfolding Is
   stage_six =
       same_members fault_cmp (IsSoughtInStageSix clashes bag) _ faults
-      (λ f h. (inr (inr (inr (inr (inr h.0)))), completeness_of_stage_six bag f h.0, h.1))
+      (λ f h. (inr (inr (inr (inr (inr (inl h.0))))), completeness_of_stage_six bag f h.0, h.1))
       (λ f h. (subst (λ n. IsOf bag n f) h.1 (in_its_stage bag f h.0), h.2))
 
   -- and no other number has faults
-  pub no_stage : (k : ℕ) → k ≢ 1 → k ≢ 2 → k ≢ 3 → k ≢ 4 → k ≢ 5 → k ≢ 6 → faults ≡ [] → IsListOf fault_cmp (IsFoundAt clashes bag k) faults
+  pub no_stage : (k : ℕ) → k ≢ 1 → k ≢ 2 → k ≢ 3 → k ≢ 4 → k ≢ 5 → k ≢ 6 → k ≢ 7 → faults ≡ [] → IsListOf fault_cmp (IsFoundAt clashes bag k) faults
   unfolding Is
-  no_stage k one two three four five six none = rw none (nothing_listed fault_cmp _
+  no_stage k one two three four five six seven none = rw none (nothing_listed fault_cmp _
       (λ f h. elim h.0 [
         | inl m ↦ one (sym h.1 ∙ declaration_of_stage_one bag f m)
         | inr (inl m) ↦ two (sym h.1 ∙ parts_of_stage_two bag f m)
         | inr (inr (inl m)) ↦ three (sym h.1 ∙ metadata_of_stage_three bag f m)
         | inr (inr (inr (inl m))) ↦ four (sym h.1 ∙ fetch_of_stage_four bag f m)
         | inr (inr (inr (inr (inl m)))) ↦ five (sym h.1 ∙ manifests_of_stage_five bag f m)
-        | inr (inr (inr (inr (inr m)))) ↦ six (sym h.1 ∙ completeness_of_stage_six bag f m)
+        | inr (inr (inr (inr (inr (inl m))))) ↦ six (sym h.1 ∙ completeness_of_stage_six bag f m)
+        | inr (inr (inr (inr (inr (inr m))))) ↦ seven (sym h.1 ∙ validity_of_stage_seven bag f m)
       ]))

@@ -8,6 +8,7 @@ use Rattle.bag_stages.specs.FetchStage.{IsOfFetch}
 use Rattle.bag_stages.specs.ManifestsStage.{IsOfManifests}
 use Rattle.bag_stages.specs.MetadataStage.{IsOfMetadata}
 use Rattle.bag_stages.specs.PartsStage.{IsOfParts}
+use Rattle.bag_validity.specs.ValidityStage.{IsOfValidity}
 
 -- The fault is one of the bag: what its code says holds, at the stage that looks for it. The other stages are not looked
 -- for yet.
@@ -25,3 +26,5 @@ Is bag f =
     ⊎ IsOfManifests bag f
     -- 6: a complete bag (3), and names that differ by normal form alone
     ⊎ IsOfCompleteness bag f
+    -- 7: a valid bag (3)
+    ⊎ IsOfValidity bag f

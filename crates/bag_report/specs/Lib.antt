@@ -17,6 +17,8 @@ pub use Rattle.bag_stages.specs.PartsStage
 pub use Rattle.bag_stages.specs.Payload
 pub use Rattle.bag_stages.specs.FaultFields
 pub use Rattle.bag_stages.specs.TagFiles
+pub use Rattle.bag_validity.specs.SummedFiles
+pub use Rattle.bag_validity.specs.ValidityStage
 pub mod Is
 pub mod Report
 pub mod Stages

@@ -8,8 +8,8 @@
 //! }
 //! ```
 //!
-//! Of RFC 8493 it keeps what a complete bag has (3). What is read of a bag is in `bag_facts`, faults and their lines are in
-//! `bag_fault`, and the faults of each stage are in `bag_stages` and `bag_completeness`.
+//! Of RFC 8493 it keeps what a complete bag and a valid one have (3). What is read of a bag is in `bag_facts`, faults and
+//! their lines are in `bag_fault`, and the faults of each stage are in `bag_stages`, `bag_completeness` and `bag_validity`.
 #![tactic(auto)]
 
 pub mod laws;

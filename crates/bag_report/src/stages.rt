@@ -1,5 +1,5 @@
 //! The faults of a bag, stage by stage.
-ghost use Rattle.std.specs.Prelude.{◌≡◌, ◌≢◌, ◌<◌, IfOk};
+ghost use Rattle.std.specs.Prelude.{◌≡◌, ◌≢◌, ◌<◌, [], IfOk};
 ghost use Rattle.bag_text.specs.Order.{IsListOf};
 ghost use Rattle.bag_tree.specs.Bag.{Bag};
 ghost use Rattle.bag_fault.specs.FaultOrder.{fault_cmp};
@@ -18,10 +18,12 @@ use bag_text::Code;
 use std::alloc::{AllocError, Global};
 
 /// The faults of one stage that are asked for, in their order. None are where the depth doesn't reach the stage. Stages 1
-/// to 6 are looked at, and for every other number there are none yet. Fails only where memory runs out.
+/// to 6 are looked at; the seventh needs the files, so that for it and every other number there are none. Fails only where
+/// memory runs out.
 pub fn stage_faults(alloc: Global, facts: &Facts, stage: u8) -> Result<Vec<Fault>, AllocError>
-    ensures { IfOk result (λ faults. (bag : Bag) → IsFactsOf bag facts.now
+    ensures faults { IfOk result (λ faults. (bag : Bag) → IsFactsOf bag facts.now → stage ≢ 7
         → IsStageOf (record { bag = bag; options = facts.now.options }) stage faults.items) }
+    ensures seventh { IfOk result (λ faults. stage ≡ 7 → faults.items ≡ []) }
 {
     let depth = facts.options.depth;
     if stage > depth.last_stage() {
@@ -34,9 +36,10 @@ pub fn stage_faults(alloc: Global, facts: &Facts, stage: u8) -> Result<Vec<Fault
 
 /// The faults that a stage looks for, of facts that were read for it: clashes of names only where they are asked for.
 fn found_faults(alloc: Global, facts: &Facts, stage: u8) -> Result<Vec<Fault>, AllocError>
-    ensures { IfOk result (λ faults. (bag : Bag) → IsFactsOf bag facts.now
-        → (1 < stage → facts.now.options.depth ≢ Declaration)
+    ensures faults { IfOk result (λ faults. (bag : Bag) → IsFactsOf bag facts.now
+        → stage ≢ 7 → (1 < stage → facts.now.options.depth ≢ Declaration)
         → IsListOf fault_cmp (IsFoundAt facts.now.options.clashes bag stage) faults.items) }
+    ensures seventh { IfOk result (λ faults. stage ≡ 7 → faults.items ≡ []) }
 {
     match stage {
         1 => declaration_faults(alloc, facts),

@@ -9,8 +9,8 @@
 //! ```
 //!
 //! Of RFC 8493 it keeps the structure of a bag: files by path, and the payload folder (2, 2.1.2), and the digests of files
-//! (2.4). What a tree means is in `bag_tree`; trees in memory are in `bag_memory`, disks in `bag_disk`, trees of the files on
-//! a disk in `bag_file_tree`, and digests in `bag_digest`.
+//! (2.4). What a tree means is in `bag_tree`; trees in memory are in `bag_memory`, trees for tests in `bag_test_trees`, disks
+//! in `bag_disk`, trees of the files on a disk in `bag_file_tree`, and digests in `bag_digest`.
 #![tactic(auto)]
 
 pub mod laws;
@@ -19,6 +19,7 @@ pub use bag_digest::{Digests, HexFault, Sums, digest_file};
 pub use bag_disk::{Disk, DiskFault, Entry, SystemDisk, WritableDisk};
 pub use bag_file_tree::FileTree;
 pub use bag_memory::MemoryTree;
+pub use bag_test_trees::{FailTree, SkewTree};
 pub use bag_tree::{
     FileEntry, Listing, Out, Refused, Stop, Tree, TreeFault, WriterOut, read_whole,
 };

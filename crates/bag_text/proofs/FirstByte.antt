@@ -1,10 +1,13 @@
 -- The first byte that passes a test, by a search of bytes.
-use Rattle.std.proofs.Common.{◌≡◌, ℕ, zero, suc, ◌<◌, Bool, true, false, not, List, [], ◌∷◌, length, get_or, refl, arith, Option, None, Some, position}
+use Rattle.std.proofs.Common.{◌≡◌, ℕ, zero, suc, ◌+◌, ◌-◌, ◌<◌, ◌≤◌, Bool, true, false, not, List, [], ◌∷◌, length, get_or, take, drop, refl, sym, ap, ◌∙◌, inl, inr, arith, Option, None, Some, position}
 use Rattle.std.specs.Prelude.{All, IfNone}
-use Rattle.std.specs.List.{prefix_len}
+use Rattle.std.specs.List.{list_all, prefix_len}
+use Rattle.std.specs.Option.{unwrap_or}
+use Rattle.std.proofs.lemmas.Bool.{cases_lt}
 use Rattle.std.proofs.lemmas.Bool.Decides.{nat_tests}
-use Rattle.std.proofs.lemmas.List.{get_or_default}
-use Rattle.memchr.specs.Find.{IsFirstByte}
+use Rattle.std.proofs.lemmas.List.{get_or_default, get_or-take, get_or-drop, length-take-le, length-drop}
+use Rattle.std.proofs.lemmas.List.Folds.{list_all_at}
+use Rattle.memchr.specs.Find.{IsFirstByte, Nowhere, Passes}
 
 abbrev fails : (ℕ → Bool) → ℕ → Bool
 fails p = λ x. not (p x)
@@ -37,3 +40,21 @@ first_byte p xs (Some k) h =
 pub no_byte : (p : ℕ → Bool) (xs : List ℕ) (r : Option ℕ) → IsFirstByte p xs r → IfNone r (All (λ b. p b ≡ false) xs)
 no_byte p xs None h = λ k d l. rw (get_or_default xs k d 0 l) (not_true _ (h k (omega arith) l))
 no_byte p xs (Some k) h = tt
+
+-- as many bytes fail as stand before it, or all
+pub first_len : (p : ℕ → Bool) (xs : List ℕ) (r : Option ℕ) → IsFirstByte p xs r → unwrap_or r (length xs) ≡ prefix_len (fails p) xs
+first_len p xs None h = sym (no_place_len p xs (λ i l. not_true _ (h i (omega arith) l)))
+first_len p xs (Some k) h = sym (place_len p xs k h.0.high h.1 (λ i b. not_true _ (h.0.before i (omega arith) b)))
+
+-- no byte passes as far as a block in which each one fails
+pub block_fails : (p : ℕ → Bool) (xs : List ℕ) (i n : ℕ) → i + n ≤ length xs → Nowhere (Passes p xs) 0 i → list_all (fails p) (take n (drop i xs)) ≡ true → Nowhere (Passes p xs) 0 (i + n)
+block_fails p xs i n within before none k low high passes = elim (cases_lt k i) [
+  | inl h ↦ before k low h passes
+  | inr h ↦ (
+      let step : i + (k - i) ≡ k = omega arith in
+      let at : get_or (take n (drop i xs)) (k - i) 0 ≡ get_or xs k 0 =
+      get_or-take n (drop i xs) (k - i) 0 (omega arith) ∙ get_or-drop i xs (k - i) 0 ∙ ap (λ j. get_or xs j 0) step in
+      let size : length (take n (drop i xs)) ≡ n = length-take-le n (drop i xs) (omega (arith, length-drop i xs)) in
+      let clash : true ≡ false = sym none ∙ list_all_at (fails p) (take n (drop i xs)) (k - i) 0 (omega (arith, size)) (ap (fails p) at ∙ ap not passes) in
+      cc)
+]

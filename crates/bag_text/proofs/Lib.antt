@@ -1,10 +1,12 @@
 pub mod AlgSets
 pub mod Blanks
+pub mod Codes
 pub mod FirstByte
 pub mod FirstLine
 pub mod LineLaws
 pub mod ListOf
 pub mod Numbered
+pub mod PathReading
 pub mod Paths
 pub mod SpellingLaws
 pub mod Spellings

@@ -7,14 +7,14 @@ use Rattle.std.proofs.lemmas.List.Splits.{slice_split_none, slice_split_at, leng
 use Rattle.std.proofs.lemmas.List.Sums.{AllPass-from_list_all, list_all-from_AllPass}
 use Rattle.bag_text.specs.Path.{slash, components, is_component, PathsAreJoinedComponents}
 
-abbrev is_slash : ℕ → Bool
+abbrev pub is_slash : ℕ → Bool
 is_slash c = eqb c slash
 
 -- no character of a component is a slash
 abbrev IsClean : List ℕ → Type 0
 IsClean part = All (λ c. c ≢ slash) part
 
-not_slash : (c : ℕ) → c ≢ slash → is_slash c ≡ false
+pub not_slash : (c : ℕ) → c ≢ slash → is_slash c ≡ false
 not_slash c h = grind (arith, nat_tests)
 
 is_no_slash : (c : ℕ) → is_slash c ≡ false → c ≢ slash
@@ -53,7 +53,7 @@ components_clean : (t : List ℕ) → AllByRecursion IsClean (components t)
 components_clean [] = (clean_nil, tt)
 components_clean (c ∷ t) = clean_next c (components t) _ refl (components_clean t)
 
-some_component : (t : List ℕ) → components t ≢ []
+pub some_component : (t : List ℕ) → components t ≢ []
 some_component t e = absurd (omega (arith, length-slice_split is_slash t, ap length e))
 
 -- a path is its components with a slash between each two

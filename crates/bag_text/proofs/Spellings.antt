@@ -1,10 +1,12 @@
 -- Reading and writing spellings piece by piece.
-use Rattle.std.proofs.Common.{◌≡◌, ◌≢◌, ◌↔◌, IsTrue, ℕ, suc, ◌<◌, ◌≤◌, List, [], ◌∷◌, ◌++◌, length, get_or, Option, Some, None, Bool, true, false, ◌&&◌, ◌||◌, refl, sym, ap, ◌∙◌, arith, eqb, append_assoc, append-nil, encode_utf8, nat_lt, lit<}
+use Rattle.std.proofs.Common.{◌≡◌, ◌≢◌, ◌↔◌, IsTrue, ℕ, suc, ◌<◌, ◌≤◌, List, [], ◌∷◌, ◌++◌, length, get_or, Option, Some, None, Bool, true, false, not, ◌&&◌, ◌||◌, refl, sym, ap, ◌∙◌, arith, eqb, append_assoc, append-nil, encode_utf8, nat_lt, lit<}
 use Rattle.std.specs.Char.{to_ascii_lowercase}
+use Rattle.std.specs.List.{list_all}
 use Rattle.std.specs.Option.{option_map}
 use Rattle.std.specs.Str.{IsUtf8, IsCharBoundary, NoCharPasses, encode_utf8_all, bytes_eq}
 use Rattle.std.proofs.lemmas.Bool.Decides.{nat_tests}
 use Rattle.std.proofs.lemmas.List.Concat.{flat_map-append}
+use Rattle.std.proofs.lemmas.List.Folds.{list_all_at}
 use Rattle.std.proofs.lemmas.Str.{NoCharPasses-byte, encodes-append, IsCharBoundary-after_ascii}
 use Rattle.bag_text.specs.Spelling.{percent, escaped, both, unescaped, escape_one, escape}
 use Rattle.bag_text.proofs.SpellingLaws.{unescaped_plain}
@@ -58,6 +60,12 @@ unescaped_front (c ∷ front) rest h =
 
 pub unescaped_whole : (t : List ℕ) → ((i : ℕ) → i < length t → get_or t i 0 ≢ percent) → unescaped t ≡ Some t
 unescaped_whole t h = ap unescaped (sym (append-nil t)) ∙ unescaped_front t [] h ∙ ap {B = Option (List ℕ)} Some (append-nil t)
+
+-- a text without a % is read as itself
+pub unescaped_without : (t : List ℕ) → list_all (λ c. not (eqb c percent)) t ≡ true → unescaped t ≡ Some t
+unescaped_without t none =
+    unescaped_whole t
+    (λ i l same. (let clash : true ≡ false = sym none ∙ list_all_at (λ c. not (eqb c percent)) t i 0 l (ap (λ c. not (eqb c percent)) same) in cc))
 
 -- the path as far as it is read, one more piece and one more character
 pub read_more : (path plain : List ℕ) (c : ℕ) (o : Option (List ℕ)) → option_map (λ more. path ++ more) (option_map (λ more. plain ++ more) (both (Some c) o)) ≡ option_map (λ more. ((path ++ plain) ++ c ∷ []) ++ more) o

@@ -3,6 +3,12 @@ ghost use Rattle.std.specs.Prelude.{◌≡◌, ◌≤◌, length, not};
 ghost use Rattle.std.specs.List.{prefix_len, suffix_len};
 ghost use Rattle.bag_text.specs.Text as spec;
 
+use super::byte_search::first_of_two;
+
+const SPACE: u8 = b' ';
+
+const TAB: u8 = b'\t';
+
 /// A text without the spaces and tabs at both ends, as a slice of it.
 pub fn trim(text: &str) -> &str
     ensures { result.now ≡ spec.trim text.now }
@@ -64,12 +70,12 @@ fn before_blank(bytes: &[u8]) -> usize
     ensures count { result ≡ prefix_len (λ c. not (spec.is_blank c)) bytes.now }
     ensures within { result ≤ length bytes.now }
 {
-    bytes.iter().take_while(|b| !is_blank(**b)).count()
+    first_of_two(SPACE, TAB, bytes).unwrap_or(bytes.len())
 }
 
 /// Whether a byte is a space or a tab.
 pub fn is_blank(byte: u8) -> bool
     ensures { result ≡ spec.is_blank byte }
 {
-    byte == b' ' || byte == b'\t'
+    byte == SPACE || byte == TAB
 }

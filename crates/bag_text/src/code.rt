@@ -1,10 +1,12 @@
 //! The codes of faults.
-ghost use Rattle.std.specs.Prelude.{◌≡◌, ◌≢◌, ◌==◌, MatchOption, find};
+ghost use Rattle.std.specs.Prelude.{◌≡◌, ◌≢◌, ◌==◌, MatchOption, find, map};
 ghost use Rattle.bag_text.specs.Code as spec;
 ghost use Rattle.bag_text.specs.declared.code.Code.{Code};
 
+use std::fmt;
+
 /// What a fault says. The first digit of its number is the stage of the check that finds it.
-#[derive(Clone, Copy, Debug, PartialEq, Eq, PartialOrd, Ord)]
+#[derive(Clone, Copy, PartialEq, Eq, PartialOrd, Ord)]
 pub enum Code {
     /// There is no `bagit.txt` (RFC 8493, 2.1.1).
     NoDeclaration = 101,
@@ -104,56 +106,62 @@ pub enum Code {
     SerializationRequired = 813,
 }
 
-/// Every code, in the order of the numbers.
-const ALL: [Code; 48] = [
-    Code::NoDeclaration,
-    Code::DeclarationNotUtf8,
-    Code::DeclarationLineCount,
-    Code::DeclarationLine,
-    Code::VersionUnsupported,
-    Code::EncodingUnsupported,
-    Code::NoPayloadFolder,
-    Code::NoPayloadManifest,
-    Code::AlgorithmUnsupported,
-    Code::NotUtf8,
-    Code::InfoLine,
-    Code::OxumMalformed,
-    Code::OxumAgain,
-    Code::OxumDiffers,
-    Code::NoOxum,
-    Code::FetchLine,
-    Code::FetchEscape,
-    Code::FetchUnsafePath,
-    Code::FetchOutsidePayload,
-    Code::FetchNotInManifest,
-    Code::ManifestLine,
-    Code::DigestLength,
-    Code::ManifestEscape,
-    Code::ManifestUnsafePath,
-    Code::ManifestOutsidePayload,
-    Code::TagmanifestNamesPayload,
-    Code::TagmanifestNamesTagmanifest,
-    Code::NamedAgain,
-    Code::PayloadManifestNotListed,
-    Code::PayloadFileMissing,
-    Code::TagFileMissing,
-    Code::PayloadFileNotListed,
-    Code::NameClash,
-    Code::PayloadSumDiffers,
-    Code::TagSumDiffers,
-    Code::ProfileIdentifier,
-    Code::LabelRequired,
-    Code::LabelRepeated,
-    Code::ValueNotAllowed,
-    Code::ManifestRequired,
-    Code::ManifestNotAllowed,
-    Code::TagmanifestRequired,
-    Code::TagmanifestNotAllowed,
-    Code::TagFileRequired,
-    Code::TagFileNotAllowed,
-    Code::FetchNotAllowed,
-    Code::VersionNotAccepted,
-    Code::SerializationRequired,
+/// Every code with its word, in the order of the numbers.
+const CODES: [(Code, &str); 48] = [
+    (Code::NoDeclaration, "no-declaration"),
+    (Code::DeclarationNotUtf8, "declaration-not-utf8"),
+    (Code::DeclarationLineCount, "declaration-line-count"),
+    (Code::DeclarationLine, "declaration-line"),
+    (Code::VersionUnsupported, "version-unsupported"),
+    (Code::EncodingUnsupported, "encoding-unsupported"),
+    (Code::NoPayloadFolder, "no-payload-folder"),
+    (Code::NoPayloadManifest, "no-payload-manifest"),
+    (Code::AlgorithmUnsupported, "algorithm-unsupported"),
+    (Code::NotUtf8, "not-utf8"),
+    (Code::InfoLine, "info-line"),
+    (Code::OxumMalformed, "oxum-malformed"),
+    (Code::OxumAgain, "oxum-again"),
+    (Code::OxumDiffers, "oxum-differs"),
+    (Code::NoOxum, "no-oxum"),
+    (Code::FetchLine, "fetch-line"),
+    (Code::FetchEscape, "fetch-escape"),
+    (Code::FetchUnsafePath, "fetch-unsafe-path"),
+    (Code::FetchOutsidePayload, "fetch-outside-payload"),
+    (Code::FetchNotInManifest, "fetch-not-in-manifest"),
+    (Code::ManifestLine, "manifest-line"),
+    (Code::DigestLength, "digest-length"),
+    (Code::ManifestEscape, "manifest-escape"),
+    (Code::ManifestUnsafePath, "manifest-unsafe-path"),
+    (Code::ManifestOutsidePayload, "manifest-outside-payload"),
+    (Code::TagmanifestNamesPayload, "tagmanifest-names-payload"),
+    (
+        Code::TagmanifestNamesTagmanifest,
+        "tagmanifest-names-tagmanifest",
+    ),
+    (Code::NamedAgain, "named-again"),
+    (
+        Code::PayloadManifestNotListed,
+        "payload-manifest-not-listed",
+    ),
+    (Code::PayloadFileMissing, "payload-file-missing"),
+    (Code::TagFileMissing, "tag-file-missing"),
+    (Code::PayloadFileNotListed, "payload-file-not-listed"),
+    (Code::NameClash, "name-clash"),
+    (Code::PayloadSumDiffers, "payload-sum-differs"),
+    (Code::TagSumDiffers, "tag-sum-differs"),
+    (Code::ProfileIdentifier, "profile-identifier"),
+    (Code::LabelRequired, "label-required"),
+    (Code::LabelRepeated, "label-repeated"),
+    (Code::ValueNotAllowed, "value-not-allowed"),
+    (Code::ManifestRequired, "manifest-required"),
+    (Code::ManifestNotAllowed, "manifest-not-allowed"),
+    (Code::TagmanifestRequired, "tagmanifest-required"),
+    (Code::TagmanifestNotAllowed, "tagmanifest-not-allowed"),
+    (Code::TagFileRequired, "tag-file-required"),
+    (Code::TagFileNotAllowed, "tag-file-not-allowed"),
+    (Code::FetchNotAllowed, "fetch-not-allowed"),
+    (Code::VersionNotAccepted, "version-not-accepted"),
+    (Code::SerializationRequired, "serialization-required"),
 ];
 
 impl Code {
@@ -168,69 +176,43 @@ impl Code {
     pub fn word(self) -> &'static str
         ensures { result.now ≡ spec.word self }
     {
-        match self {
-            Code::NoDeclaration => "no-declaration",
-            Code::DeclarationNotUtf8 => "declaration-not-utf8",
-            Code::DeclarationLineCount => "declaration-line-count",
-            Code::DeclarationLine => "declaration-line",
-            Code::VersionUnsupported => "version-unsupported",
-            Code::EncodingUnsupported => "encoding-unsupported",
-            Code::NoPayloadFolder => "no-payload-folder",
-            Code::NoPayloadManifest => "no-payload-manifest",
-            Code::AlgorithmUnsupported => "algorithm-unsupported",
-            Code::NotUtf8 => "not-utf8",
-            Code::InfoLine => "info-line",
-            Code::OxumMalformed => "oxum-malformed",
-            Code::OxumAgain => "oxum-again",
-            Code::OxumDiffers => "oxum-differs",
-            Code::NoOxum => "no-oxum",
-            Code::FetchLine => "fetch-line",
-            Code::FetchEscape => "fetch-escape",
-            Code::FetchUnsafePath => "fetch-unsafe-path",
-            Code::FetchOutsidePayload => "fetch-outside-payload",
-            Code::FetchNotInManifest => "fetch-not-in-manifest",
-            Code::ManifestLine => "manifest-line",
-            Code::DigestLength => "digest-length",
-            Code::ManifestEscape => "manifest-escape",
-            Code::ManifestUnsafePath => "manifest-unsafe-path",
-            Code::ManifestOutsidePayload => "manifest-outside-payload",
-            Code::TagmanifestNamesPayload => "tagmanifest-names-payload",
-            Code::TagmanifestNamesTagmanifest => "tagmanifest-names-tagmanifest",
-            Code::NamedAgain => "named-again",
-            Code::PayloadManifestNotListed => "payload-manifest-not-listed",
-            Code::PayloadFileMissing => "payload-file-missing",
-            Code::TagFileMissing => "tag-file-missing",
-            Code::PayloadFileNotListed => "payload-file-not-listed",
-            Code::NameClash => "name-clash",
-            Code::PayloadSumDiffers => "payload-sum-differs",
-            Code::TagSumDiffers => "tag-sum-differs",
-            Code::ProfileIdentifier => "profile-identifier",
-            Code::LabelRequired => "label-required",
-            Code::LabelRepeated => "label-repeated",
-            Code::ValueNotAllowed => "value-not-allowed",
-            Code::ManifestRequired => "manifest-required",
-            Code::ManifestNotAllowed => "manifest-not-allowed",
-            Code::TagmanifestRequired => "tagmanifest-required",
-            Code::TagmanifestNotAllowed => "tagmanifest-not-allowed",
-            Code::TagFileRequired => "tag-file-required",
-            Code::TagFileNotAllowed => "tag-file-not-allowed",
-            Code::FetchNotAllowed => "fetch-not-allowed",
-            Code::VersionNotAccepted => "version-not-accepted",
-            Code::SerializationRequired => "serialization-required",
-        }
+        word_in(&CODES, self)
     }
 
     /// The code of a number, or `None` where no code has it.
     pub fn from_number(number: u16) -> Option<Code>
         ensures { MatchOption result ((code : Code) → spec.number code ≢ number) (λ code. spec.number code ≡ number) }
     {
-        first_numbered(&ALL, number)
+        let Some((code, _)) = first_numbered(&CODES, number) else {
+            return None;
+        };
+        Some(code)
     }
 }
 
-/// The first of these codes that has the number.
-fn first_numbered(codes: &[Code], number: u16) -> Option<Code>
-    ensures { result ≡ find (λ code. spec.number code == number) codes.now }
+impl fmt::Debug for Code {
+    fn fmt<W: fmt::Write>(&self, f: &mut fmt::Formatter<W>) -> fmt::Result {
+        f.write_str(self.word())
+    }
+}
+
+/// The first of these codes that has the number, with its word.
+fn first_numbered(codes: &[(Code, &'static str)], number: u16) -> Option<(Code, &'static str)>
+    ensures { result ≡ find (λ pair. spec.number pair.0 == number) codes.now }
 {
-    codes.iter().copied().find(|code| code.number() == number)
+    codes
+        .iter()
+        .copied()
+        .find(|(code, _)| code.number() == number)
+}
+
+/// The word beside a code in the table of every code.
+fn word_in(codes: &[(Code, &'static str)], code: Code) -> &'static str
+    requires { map (λ pair. (pair.0, pair.1.now)) codes.now ≡ spec.words }
+    ensures { result.now ≡ spec.word code }
+{
+    let Some((_, word)) = first_numbered(codes, code.number()) else {
+        unreachable!()
+    };
+    word
 }

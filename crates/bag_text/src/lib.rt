@@ -14,6 +14,7 @@
 mod alg;
 mod alg_set;
 mod blank;
+mod byte_search;
 mod code;
 mod items;
 mod label;

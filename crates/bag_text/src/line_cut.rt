@@ -5,7 +5,7 @@ ghost use Rattle.std.specs.List.{enumerate_from};
 ghost use Rattle.bag_text.specs.LineEnd.{is_line_end, end_len};
 ghost use Rattle.bag_text.specs.Lines.{lines};
 
-use memchr::memchr2;
+use super::byte_search::first_of_two;
 
 const LINE_FEED: u8 = b'\n';
 
@@ -73,7 +73,7 @@ fn line_end(bytes: &[u8]) -> Option<usize>
     ensures found { result ≡ position is_line_end bytes.now }
     ensures none { IfNone result (All (λ b. is_line_end b ≡ false) bytes.now) }
 {
-    memchr2(LINE_FEED, CARRIAGE_RETURN, bytes)
+    first_of_two(LINE_FEED, CARRIAGE_RETURN, bytes)
 }
 
 /// Where the next line begins, after the end that begins at this place.

@@ -1,6 +1,7 @@
 //! Paths of files in a bag.
 ghost use Rattle.std.specs.Prelude.{◌≡◌, true, false, MatchResult};
 ghost use Rattle.bag_text.specs.Path as spec;
+ghost use Rattle.bag_text.specs.PathPart.{with_byte, is_name};
 
 use thiserror::Error;
 
@@ -9,15 +10,61 @@ use thiserror::Error;
 #[error("not a path inside the bag")]
 pub struct Unsafe;
 
+const SLASH: u8 = b'/';
+
+const DOT: u8 = b'.';
+
+/// What a component is as far as it is read.
+#[derive(Clone, Copy)]
+enum Part {
+    /// It has no byte.
+    Empty,
+    /// It is `.`.
+    Dot,
+    /// It is `..`.
+    TwoDots,
+    /// It is anything else.
+    Name,
+}
+
+impl Part {
+    /// The component with one byte more.
+    fn with(self, byte: u8) -> Part
+        ensures { result ≡ with_byte self byte }
+    {
+        match self {
+            Part::Empty if byte == DOT => Part::Dot,
+            Part::Dot if byte == DOT => Part::TwoDots,
+            _ => Part::Name,
+        }
+    }
+
+    /// Whether it may stand in a path.
+    fn is_name(self) -> bool
+        ensures { result ≡ is_name self }
+    {
+        match self {
+            Part::Empty | Part::Dot | Part::TwoDots => false,
+            Part::Name => true,
+        }
+    }
+}
+
 /// Whether a text is a path: components joined by `/`, none of them empty, `.` or `..` (RFC 8493, 2 and 5.1).
 pub fn check_path(text: &str) -> Result<(), Unsafe>
     ensures { MatchResult result (λ _. spec.is_path text.now ≡ true) (λ _. spec.is_path text.now ≡ false) }
 {
-    if text.split('/').all(is_component) {
-        Ok(())
-    } else {
-        Err(Unsafe)
+    let mut part = Part::Empty;
+    for byte in text.as_bytes() {
+        if *byte != SLASH {
+            part = part.with(*byte);
+        } else if part.is_name() {
+            part = Part::Empty;
+        } else {
+            return Err(Unsafe);
+        }
     }
+    if part.is_name() { Ok(()) } else { Err(Unsafe) }
 }
 
 /// Whether a text is the path of a payload file: one whose first component is `data`, and that has a second
@@ -29,10 +76,4 @@ pub fn is_payload(text: &str) -> bool
         return false;
     };
     first == "data" && check_path(text).is_ok()
-}
-
-fn is_component(part: &str) -> bool
-    ensures { result ≡ spec.is_component part.now }
-{
-    !part.is_empty() && part != "." && part != ".."
 }

@@ -1,5 +1,6 @@
 //! How paths are written in manifests and `fetch.txt`.
-ghost use Rattle.std.specs.Prelude.{◌≡◌, ◌≢◌, ◌↔◌, ◌<◌, ◌∷◌, length, IfOk, IfSome, IsErrOf, IsTrue, MatchOption, string_bytes, encode_utf8};
+ghost use Rattle.std.specs.Prelude.{◌≡◌, ◌≢◌, ◌==◌, ◌↔◌, ◌<◌, ◌∷◌, length, not, IfOk, IfSome, IsErrOf, IsTrue, MatchOption, string_bytes, encode_utf8};
+ghost use Rattle.std.specs.List.{list_all};
 ghost use Rattle.bag_text.specs.Spelling as spec;
 
 use std::alloc::{AllocError, Global};
@@ -48,10 +49,24 @@ pub fn unescape_path(alloc: Global, text: &str) -> Result<String, PathFault>
     ensures ok { IfOk result (λ path. spec.unescaped text.now ≡ Some (string_bytes path)) }
     ensures bad_escape { IsErrOf result PathFault.BadEscape ↔ (spec.unescaped text.now ≡ None) }
 {
+    if has_no_percent(text.as_bytes()) {
+        return Ok(String::from_str(alloc, text)?);
+    }
     if has_bad_escape(text) {
         return Err(PathFault::BadEscape);
     }
     Ok(decode(alloc, text)?)
+}
+
+/// Whether a text has no escape, as most have none. It takes no branch for a byte, so that many are tested at once.
+fn has_no_percent(bytes: &[u8]) -> bool
+    ensures { result ≡ list_all (λ c. not (c == spec.percent)) bytes.now }
+{
+    let mut all = true;
+    for byte in bytes {
+        all &= *byte != b'%';
+    }
+    all
 }
 
 /// Whether a `%` begins no escape.

@@ -1,6 +1,11 @@
 pub mod ByReport
 pub mod CursorLaw
+pub mod Early
+pub mod NamedFiles
 pub mod Openings
+pub mod Parts
 pub mod Running
 pub mod Shown
 pub mod StageByStage
+pub mod SummedFiles
+pub mod Summing

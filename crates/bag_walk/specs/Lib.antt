@@ -6,3 +6,5 @@ pub mod Cursor
 pub mod Openings
 pub mod Run
 pub mod Runner
+pub mod Stops
+pub mod Validity

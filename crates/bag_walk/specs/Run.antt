@@ -1,5 +1,5 @@
 -- What a run shows, what it writes, and how it ends.
-use Rattle.std.specs.Prelude.{ℕ, ◌<◌, ◌≤◌, ◌≡◌, Bool, true, List, Option, IsTrue, length, min, Contains}
+use Rattle.std.specs.Prelude.{ℕ, ◌<◌, ◌≤◌, ◌≡◌, ◌≢◌, ◌⊎◌, Bool, true, List, Option, IsTrue, length, min, Contains}
 use Rattle.std.specs.List.Sorted.{IsStrictlySortedBy}
 use Rattle.std.specs.declared.cmp.Ordering.TheVariants.{Less}
 use Rattle.bag_tree.specs.Bag.{Bag, IsBag}
@@ -7,12 +7,13 @@ use Rattle.bag_tree.specs.Tree.{TreeState}
 use Rattle.bag_tree.specs.declared.fault.Stop.{Stop}
 use Rattle.bag_fault.specs.FaultOrder.{fault_cmp}
 use Rattle.bag_fault.specs.declared.fault.Fault.{Fault}
-use Rattle.bag_facts.specs.Stops.{MayStop}
+use Rattle.bag_facts.specs.declared.options.Depth.TheVariants.{Full}
 use Rattle.bag_report.specs.Report.{Check, IsReported, IsReport, is_above, above, first}
 use Rattle.bag_output.specs.Ending.{limit_of, ideal, IsAnswered, MayEnd, ReachesEnd, Wrote}
 use Rattle.bag_output.specs.declared.outcome.Outcome.{Outcome}
 use Rattle.bag_output.specs.declared.outcome.Outcome.TheVariants.{Unread}
 use Rattle.bag_output.specs.declared.outcome.Request.{Request}
+use Rattle.bag_walk.specs.Stops.{MayStop}
 
 -- what the report is of that a request asks for
 abbrev pub check_of : Bag → Request → Check
@@ -22,13 +23,19 @@ check_of bag request = record { bag = bag; options = request.options }
 abbrev pub IsAsked : Bag → Request → Fault → Type 0
 IsAsked bag request f = IsReported (check_of bag request) f × (is_above request.after f ≡ true)
 
+-- What a run sees is one bag: that of an honest tree, or of any tree below depth Full, where each file is read once at
+-- most.
+abbrev pub SeesOneBag : TreeState → Request → Type 0
+SeesOneBag old request = IsTrue old.honest ⊎ (request.options.depth ≢ Full)
+
 -- these are the first faults of a set: ascending, all in it, and none skipped
 pub record AreFirst (Member : Fault → Type 0) (shown : List Fault) : Type 0 where
   pub ascending : IsStrictlySortedBy fault_cmp shown
   pub members : (f : Fault) → Contains shown f → Member f
   pub none_skipped : (f g : Fault) → Member f → Contains shown g → fault_cmp f g ≡ Less → Contains shown f
 
--- The run theorem. Whatever the tree, a run sees a bag, which is an honest tree's bag. It shows the first faults of that
+-- The run theorem. Whatever the tree, a run sees a bag, which is an honest tree's bag; at depth Full, where tag files are
+-- read once more for their digests, nothing is said of what another tree's run shows. It shows the first faults of that
 -- bag that are asked for, and where the end is reached they are all. It ends in a way that the request and the refusals
 -- allow, at a refused read where the device failed. What it writes is the lines of those faults and its closing line, or
 -- where the output refuses a proper prefix of that. Over an honest tree a run that is answered has seen that only files
@@ -43,8 +50,8 @@ pub record IsRun (old new : TreeState) (request : Request) (before after : Optio
   pub calm : IsAnswered ending → new.failures ≡ old.failures
   pub plain : IsTrue old.honest → IsAnswered ending → 0 < limit_of request → IsTrue old.plain
   pub wrote : Wrote request shown ending before after refused outcome
-  pub faults : AreFirst (IsAsked seen request) shown
-  pub all_shown : ReachesEnd ending → (f : Fault) → IsAsked seen request f → Contains shown f
+  pub faults : SeesOneBag old request → AreFirst (IsAsked seen request) shown
+  pub all_shown : SeesOneBag old request → ReachesEnd ending → (f : Fault) → IsAsked seen request f → Contains shown f
 
 -- The run that shows the first k of these faults and ends so: all of them up to the limit, or fewer and a refusal.
 abbrev pub EndsAt : Request → List Fault → (Stop → Type 0) → ℕ → Outcome → Type 0

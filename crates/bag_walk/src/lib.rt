@@ -11,6 +11,7 @@
 
 pub mod laws;
 mod runner;
+mod validity;
 
 pub use bag_output::{Outcome, Request, status};
 pub use runner::run;

@@ -1,17 +1,18 @@
-//! Checks whether a folder is complete, and whether its names clash, and writes the report: `bench/completeness.sh` measures
-//! it.
+//! Checks a folder, and writes the report: `bench/completeness.sh` and `bench/digests.sh` measure it.
 use bag_report::{Depth, Options};
 use bag_store::{FileTree, WriterOut};
 use bag_text::Text;
 use bag_walk::{Request, run};
 use std::io;
 
-/// Writes the report of a folder at depth Complete.
-pub(crate) fn write_report(rt: &HostRuntime, path: &str, clashes: bool) -> io::Result<()> {
-    let options = Options {
-        depth: Depth::Complete,
-        clashes,
-    };
+/// Writes the report of a folder at a depth.
+pub(crate) fn write_report(
+    rt: &HostRuntime,
+    path: &str,
+    depth: Depth,
+    clashes: bool,
+) -> io::Result<()> {
+    let options = Options { depth, clashes };
     let request = Request {
         options,
         after: None,

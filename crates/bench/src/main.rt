@@ -3,10 +3,12 @@
 #![tactic(auto)]
 
 mod checks;
+mod digests;
 mod folders;
 mod lines;
 mod tag_files;
 
+use bag_report::Depth;
 use std::{env, io};
 
 /// Prints what a reader finds at a path.
@@ -18,11 +20,10 @@ fn print_found(rt: &HostRuntime, reader: &str, path: &str) -> io::Result<()> {
         "info" | "fetch" | "manifest" => tag_files::print_file(rt, reader, path),
         "facts" => tag_files::print_folder(rt, path, false),
         "faults" => tag_files::print_folder(rt, path, true),
-        "complete" => checks::write_report(rt, path, false),
-        "clashes" => checks::write_report(rt, path, true),
-        _ => println!(rt;
-            "readers: lines list read info fetch manifest facts faults complete clashes"
-        ),
+        "complete" => checks::write_report(rt, path, Depth::Complete, false),
+        "clashes" => checks::write_report(rt, path, Depth::Complete, true),
+        "valid" => checks::write_report(rt, path, Depth::Full, false),
+        _ => digests::print_folder(rt, reader, path),
     }
 }
 

@@ -24,7 +24,7 @@ const REFUSED: &[(&str, u64, TreeFault)] = &[
 ];
 
 /// So many bytes, of which no neighbours are alike.
-fn bytes_of(alloc: Global, size: u32) -> Result<Vec<u8>, AllocError> {
+pub(crate) fn bytes_of(alloc: Global, size: u32) -> Result<Vec<u8>, AllocError> {
     (0..size).map(|index| (index % 251) as u8).collect(alloc)
 }
 

@@ -1,9 +1,16 @@
-//! Worked examples of digests, as tables: the published values, texts in pieces, and files of trees in memory.
+//! Worked examples of digests, as tables: the published values, texts in pieces, files of trees in memory, and
+//! trees of which a call is refused.
 #![tactic(auto)]
 
+#[cfg(test)]
+mod failing;
 #[cfg(test)]
 mod files;
 #[cfg(test)]
 mod pieces;
+#[cfg(test)]
+mod refused_calls;
+#[cfg(test)]
+mod skewed;
 #[cfg(test)]
 mod values;

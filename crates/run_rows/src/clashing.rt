@@ -1,6 +1,7 @@
 //! Checks at depth Complete of bags with two names that differ by normal form alone.
-use crate::bags::{DECLARED, Files, Row, sees_rows};
+use crate::bags::{Row, sees_rows};
 use bag_report::{Depth, Options};
+use row_bags::{DECLARED, Files};
 use std::test::Fail;
 
 /// Two names of one class, both named.

@@ -1,6 +1,7 @@
 //! Checks at depth Complete: all but the digests. None of these bags has two names of one class.
-use crate::bags::{DECLARED, Row, sees_rows};
+use crate::bags::{Row, sees_rows};
 use bag_report::{Depth, Options};
+use row_bags::DECLARED;
 use std::test::Fail;
 
 /// The rows of depth Complete, whether clashes of names are looked for or not.

@@ -1,10 +1,11 @@
 //! Cursors and limits, on a bag whose declaration has two faults.
-use crate::bags::{Row, sees_rows, tree_of};
-use crate::checks::{MARKED, request_of};
-use crate::rows::sees_that;
+use crate::bags::{Row, sees_rows};
+use crate::compare::sees_that;
+use crate::marked::MARKED;
 use bag_report::{Depth, Options};
 use bag_store::WriterOut;
 use bag_walk::run;
+use row_bags::{request_of, tree_of};
 use std::alloc::Global;
 use std::test::Fail;
 

@@ -1,7 +1,7 @@
 //! The declaration of a bag.
-use crate::bags::{Files, Row, sees_rows, tree_of};
-use crate::checks::{is_checked, request_for};
+use crate::bags::{Row, sees_rows};
 use bag_report::{Depth, Options};
+use row_bags::{Files, is_checked, request_for, tree_of};
 use std::alloc::Global;
 use std::test::Fail;
 

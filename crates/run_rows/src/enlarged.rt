@@ -1,12 +1,12 @@
 //! Payload files whose sizes add up to more than 64 bits can hold.
 ghost use Rattle.bag_memory_disk.specs.MemoryDisk.{not_honest};
 
-use crate::checks::{is_checked, request_of};
 use crate::disks::disk;
 use bag_disk::{Disk, DiskFault, Entry};
 use bag_file_tree::FileTree;
 use bag_report::{Depth, Options};
 use bag_text::{Text, is_payload};
+use row_bags::{is_checked, request_of};
 use std::alloc::Global;
 use std::test::Fail;
 

@@ -1,6 +1,7 @@
 //! Checks at depth Fast: the declaration, the parts, and the payload's size beside `Payload-Oxum`.
-use crate::bags::{DECLARATION, Files, Row, sees_rows};
+use crate::bags::{Row, sees_rows};
 use bag_report::{Depth, Options};
+use row_bags::{DECLARATION, Files};
 use std::test::Fail;
 
 /// No payload file.

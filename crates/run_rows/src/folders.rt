@@ -1,53 +1,16 @@
 //! The checks of the tables, of folders on the disk.
-ghost use Rattle.bag_walk.specs.Runner.{IsBelowFull};
-
-use crate::bags::{Files, Row};
-use crate::checks::{is_checked, request_of};
-use crate::rows::sees_that;
+use crate::bags::Row;
+use crate::compare::sees_that;
 use crate::{clashing, complete, declarations, fast};
 use bag_report::{Depth, Options};
 use bag_store::FileTree;
-use std::process::{self, Abort};
+use row_bags::{fresh, is_checked, request_of, write_bag};
+use std::fs;
+use std::process::Abort;
 use std::test::Fail;
-use std::{env, fs};
-
-/// Where a test's folder stands.
-fn path_of(rt: &HostRuntime, test: &str) -> Result<String, Fail> {
-    let folder = env::temp_dir(rt)?;
-    let id = process::id(rt.process());
-    Ok(format!(in rt.alloc(); "{}/rows-{test}-{id}", folder.as_path().display())?)
-}
-
-/// A fresh folder for one test.
-fn fresh(rt: &HostRuntime, test: &str) -> Result<String, Fail> {
-    let path = path_of(rt, test)?;
-    let _ = fs::remove_dir_all(rt, path.as_str());
-    fs::create_dir(rt, path.as_str())?;
-    Ok(path)
-}
-
-fn write_files(rt: &HostRuntime, base: &str, files: Files) -> Result<(), Fail> {
-    for &(path, bytes) in files {
-        fs::write(rt, format!(in rt.alloc(); "{base}/{path}")?, bytes)?;
-    }
-    Ok(())
-}
-
-/// Writes the files of a bag into a folder, and makes a payload folder where there is a file.
-fn write_bag(rt: &HostRuntime, base: &str, bag: &[Files]) -> Result<(), Fail> {
-    if !bag.is_empty() {
-        fs::create_dir(rt, format!(in rt.alloc(); "{base}/data")?)?;
-    }
-    for files in bag {
-        write_files(rt, base, files)?;
-    }
-    Ok(())
-}
 
 /// Whether a check of a folder writes what a row says, and ends with its exit status.
-fn is_right_at(rt: &HostRuntime, base: &str, row: &Row, options: Options) -> Result<bool, Fail>
-    requires { IsBelowFull options.depth }
-{
+fn is_right_at(rt: &HostRuntime, base: &str, row: &Row, options: Options) -> Result<bool, Fail> {
     let request = request_of(rt.alloc(), options, row.after, row.limit)?;
     let tree = FileTree::at(rt.clone()?, rt.alloc(), base)?;
     Ok(is_checked(rt.alloc(), tree, request, row.output, row.status))
@@ -59,9 +22,7 @@ fn is_right_on_the_disk(
     test: &str,
     row: &Row,
     options: Options,
-) -> Result<bool, Fail>
-    requires { IsBelowFull options.depth }
-{
+) -> Result<bool, Fail> {
     let base = fresh(rt, test)?;
     write_bag(rt, base.as_str(), row.bag)?;
     let holds = is_right_at(rt, base.as_str(), row, options)?;
@@ -76,9 +37,7 @@ fn sees_rows(
     test: &str,
     rows: &[Row],
     options: Options,
-) -> Result<(), Fail>
-    requires { IsBelowFull options.depth }
-{
+) -> Result<(), Fail> {
     for (place, row) in rows.iter().enumerate() {
         assert!(abort;
             is_right_on_the_disk(rt, test, row, options)?,

@@ -6,9 +6,9 @@
 #[cfg(test)]
 mod bags;
 #[cfg(test)]
-mod checks;
-#[cfg(test)]
 mod clashing;
+#[cfg(test)]
+mod compare;
 #[cfg(test)]
 mod complete;
 #[cfg(test)]
@@ -24,10 +24,10 @@ mod fast;
 #[cfg(test)]
 mod folders;
 #[cfg(test)]
+mod marked;
+#[cfg(test)]
 mod narrow_outputs;
 #[cfg(test)]
 mod refused_reads;
-#[cfg(test)]
-mod rows;
 #[cfg(test)]
 mod thousands;

@@ -1,10 +1,10 @@
 //! Outputs that take a byte at a time, and outputs that run out of room.
-use crate::bags::tree_of;
-use crate::checks::{ENCODING_LINE, MARK_LINE, MARKED, request_of};
-use crate::rows::sees_that;
+use crate::compare::sees_that;
+use crate::marked::{ENCODING_LINE, MARK_LINE, MARKED};
 use bag_report::{Depth, Options};
 use bag_store::WriterOut;
 use bag_walk::{Outcome, run, status};
+use row_bags::{request_of, tree_of};
 use std::alloc::Global;
 use std::io::{self, Write};
 use std::process::Abort;

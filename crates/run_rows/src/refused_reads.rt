@@ -1,12 +1,10 @@
 //! Checks at the depths Fast and Complete of a disk that refuses a call.
-ghost use Rattle.bag_walk.specs.Runner.{IsBelowFull};
-
-use crate::checks::{is_checked, request_of};
 use crate::disks::disk;
 use bag_disk::DiskFault;
 use bag_file_tree::FileTree;
 use bag_memory_disk::{Call, RefusingDisk};
 use bag_report::{Depth, Options};
+use row_bags::{is_checked, request_of};
 use std::alloc::Global;
 use std::process::Abort;
 use std::test::Fail;
@@ -36,9 +34,7 @@ const UNNAMED: &str = "603 payload-file-not-listed data/a sha256 - -\n\
                        d has faults: 2\n";
 
 /// Whether this is written where a call is refused, with this exit status.
-fn is_told(alloc: Global, options: Options, row: &Refused) -> Result<bool, Fail>
-    requires { IsBelowFull options.depth }
-{
+fn is_told(alloc: Global, options: Options, row: &Refused) -> Result<bool, Fail> {
     let &(number, output, status) = row;
     let request = request_of(alloc, options, None, None)?;
     let disk = RefusingDisk::over(disk(alloc)?, Call::Numbered(number), DiskFault::Device);
@@ -47,9 +43,7 @@ fn is_told(alloc: Global, options: Options, row: &Refused) -> Result<bool, Fail>
 }
 
 /// Each row is told.
-fn sees_rows(rt: &impl Abort, alloc: Global, options: Options, whole: Refused) -> Result<(), Fail>
-    requires { IsBelowFull options.depth }
-{
+fn sees_rows(rt: &impl Abort, alloc: Global, options: Options, whole: Refused) -> Result<(), Fail> {
     for row in ROWS {
         assert!(rt; is_told(alloc, options, row)?, "call {}", row.0);
     }

@@ -1,9 +1,8 @@
 //! A check at depth Fast that writes thousands of faults.
-use crate::bags::{DECLARED, tree_of};
-use crate::checks::{is_checked, request_of};
 use crate::declarations::BARE;
 use bag_report::{Depth, Options};
 use bag_store::MemoryTree;
+use row_bags::{DECLARED, is_checked, request_of, tree_of};
 use std::alloc::{AllocError, Global};
 use std::test::Fail;
 

@@ -1,5 +1,5 @@
 //! Fault lines, what is refused as one, and the order of faults.
-use crate::rows::{sees, sees_that};
+use crate::compare::{sees, sees_that};
 use bag_report::{CursorFault, Fault};
 use bag_text::{Code, Text};
 use std::alloc::{AllocError, Global};

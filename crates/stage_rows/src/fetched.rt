@@ -1,6 +1,5 @@
 //! Lists of files to fetch, beside the manifests of the payload.
-use crate::metadata::{NO_LINES, Row, is_judged};
-use crate::stages::Bag;
+use row_bags::{Bag, NO_LINES, StageRow as Row, is_judged};
 use std::test::Fail;
 
 const ROWS: &[Row] = &[
@@ -138,7 +137,7 @@ const ROWS: &[Row] = &[
 fn files_to_fetch_of_bags(rt: HostRuntime) -> Result<(), Fail> {
     for (place, row) in ROWS.iter().enumerate() {
         assert!(rt;
-            is_judged(&rt, &row.bag, 4, NO_LINES, row.lines)?,
+            is_judged(rt.alloc(), &row.bag, 4, NO_LINES, row.lines)?,
             "row {place}"
         );
     }

@@ -1,11 +1,9 @@
-//! Worked examples of trees in memory, of stages and of fault lines, as tables: what a bag in memory holds, and the lines
-//! of its faults.
+//! Worked examples of trees in memory, of the stages below completeness, and of fault lines, as tables: what a bag in memory
+//! holds, and the lines of its faults.
 #![tactic(auto)]
 
 #[cfg(test)]
-mod clashes;
-#[cfg(test)]
-mod completeness;
+mod compare;
 #[cfg(test)]
 mod faults;
 #[cfg(test)]
@@ -19,14 +17,6 @@ mod metadata;
 #[cfg(test)]
 mod parts;
 #[cfg(test)]
-mod plain_completeness;
-#[cfg(test)]
-mod rows;
-#[cfg(test)]
-mod stages;
-#[cfg(test)]
 mod stores;
 #[cfg(test)]
 mod thousands;
-#[cfg(test)]
-mod thousands_of_names;

@@ -1,5 +1,6 @@
 //! Manifests: the faults of their lines, and payload manifests that a tag manifest doesn't name.
-use crate::stages::{Bag, Row};
+use crate::judged::Row;
+use row_bags::Bag;
 
 pub(crate) const ROWS: &[Row] = &[
     Row {

@@ -1,14 +1,6 @@
 //! The metadata of a bag and its Payload-Oxum, beside the payload that is listed.
-use crate::judged::has_lines;
-use crate::stages::Bag;
-use bag_report::Depth;
+use row_bags::{Bag, StageRow as Row, is_judged};
 use std::test::Fail;
-
-/// A bag, and the lines of its faults in one stage.
-pub(crate) struct Row {
-    pub(crate) bag: Bag,
-    pub(crate) lines: &'static [&'static str],
-}
 
 const ROWS: &[Row] = &[
     // where the size stands
@@ -222,36 +214,12 @@ fn without_no_oxum(lines: &'static [&'static str]) -> &'static [&'static str] {
     }
 }
 
-/// What a stage has that isn't looked at.
-pub(crate) const NO_LINES: &[&str] = &[];
-
-/// Whether a stage has these lines at depth Fast, and those above it.
-pub(crate) fn is_judged(
-    rt: &HostRuntime,
-    bag: &Bag,
-    stage: u8,
-    at_fast: &'static [&'static str],
-    above: &'static [&'static str],
-) -> Result<bool, Fail> {
-    for (depth, lines) in [
-        (Depth::Declaration, NO_LINES),
-        (Depth::Fast, at_fast),
-        (Depth::Complete, above),
-        (Depth::Full, above),
-    ] {
-        if !has_lines(rt, bag, (depth, true), stage, lines)? {
-            return Ok(false);
-        }
-    }
-    Ok(true)
-}
-
 #[test]
 fn metadata_of_bags(rt: HostRuntime) -> Result<(), Fail> {
     for (place, row) in ROWS.iter().enumerate() {
         let above = without_no_oxum(row.lines);
         assert!(rt;
-            is_judged(&rt, &row.bag, 3, row.lines, above)?,
+            is_judged(rt.alloc(), &row.bag, 3, row.lines, above)?,
             "row {place}"
         );
     }

@@ -1,5 +1,6 @@
 //! The parts of a bag: its payload folder, and which tag files are read.
-use crate::stages::{Bag, Row};
+use crate::judged::Row;
+use row_bags::Bag;
 
 pub(crate) const ROWS: &[Row] = &[
     Row {

@@ -1,5 +1,5 @@
 //! What no contract says of trees in memory and of writers: that the calls succeed while there is memory and room.
-use crate::rows::sees_that;
+use crate::compare::sees_that;
 use bag_store::{FileEntry, MemoryTree, Out, Refused, Tree, WriterOut, read_whole};
 use bag_text::check_path;
 use std::alloc::{AllocError, Global};

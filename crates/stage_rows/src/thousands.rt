@@ -1,8 +1,8 @@
 //! A bag with 2,000 lines of metadata, and with as many files to fetch.
-use crate::rows::sees_that;
-use crate::stages::{has_text, put};
+use crate::compare::sees_that;
 use bag_report::{Depth, Options};
 use bag_store::MemoryTree;
+use row_bags::{has_text, put};
 use std::alloc::{AllocError, Global};
 use std::test::Fail;
 

@@ -4,3 +4,6 @@ use Rattle.bag_stages.proofs.payload_size.payload_size.Goals as goal
 
 pub loop-entry-preserved : goal.loop-entry-preserved
 loop-entry-preserved c = grind (arith, common_steps)
+
+pub returns : goal.returns
+returns c = grind (arith, common_steps)

@@ -1,15 +1,24 @@
-use Rattle.std.proofs.Common.{◌∙◌, sym, lit<, rules, tests}
-use Rattle.std.proofs.lemmas.Iterator.Search.{all_from_yields_List}
-use Rattle.std.proofs.lemmas.Iterator.Splits.{YieldsList-from_str_split}
-use Rattle.bag_text.specs.Path as spec
+use Rattle.std.proofs.Common.{◌≡◌, ◌∙◌, sym, ap, subst, true, ◌+◌, ◌<◌, length, get_or}
+use Rattle.bag_text.specs.declared.path.Part.{Part}
+use Rattle.bag_text.proofs.Paths.{is_slash, not_slash}
+use Rattle.bag_text.proofs.PathReading.{IsReadTo, read_start, read_byte, read_slash}
+use Rattle.bag_text.proofs.path.check_path.Goals.{then-byte-ne-SLASH, else-byte-ne-SLASH+then-is_name}
 use Rattle.bag_text.proofs.path.check_path.Goals as goal
 
-pub returns-then-all : goal.returns-then-all
-returns-then-all c =
-    let all = all_from_yields_List spec.is_component _ _ c.all.result c.all.ensures.ran (YieldsList-from_str_split 47 c.args.text.now (lit< tt) c.split.ensures.text c.split.ensures.has_more c.split.ensures.pattern) (λ x b q k. search (rules, tests)) in
-    sym all ∙ c.if-all.true
+pub loop-byte-init : goal.loop-byte-init
+loop-byte-init c = read_start c.args.text.now
 
-pub returns-else-all : goal.returns-else-all
-returns-else-all c =
-    let all = all_from_yields_List spec.is_component _ _ c.all.result c.all.ensures.ran (YieldsList-from_str_split 47 c.args.text.now (lit< tt) c.split.ensures.text c.split.ensures.has_more c.split.ensures.pattern) (λ x b q k. search (rules, tests)) in
-    sym all ∙ c.if-all.false
+pub loop-byte-preserved : goal.loop-byte-preserved
+loop-byte-preserved c =
+    let text = c.args.text.now in
+    let place = c.loop-byte.byte-index in
+    let within : place < length text = rw c.as_bytes-byte-items.ensures.value at c.loop-byte-test.true in
+    elim c.if-byte-ne-SLASH.branch [
+      | then-byte-ne-SLASH w ↦ (
+          let other = not_slash (get_or text place 0) (rw c.as_bytes-byte-items.ensures.value at w.if-byte-ne-SLASH.true) in
+          let made = rw c.as_bytes-byte-items.ensures.value at w.with-part.ensures in
+          subst (λ (x : Part). IsReadTo x text (place + 1)) (sym (w.part-is ∙ made)) (read_byte c.loop-byte.part text place within other c.loop-byte.invariant))
+      | else-byte-ne-SLASH+then-is_name w ↦ (
+          let slash : is_slash (get_or text place 0) ≡ true = ap is_slash (rw c.as_bytes-byte-items.ensures.value at w.if-byte-ne-SLASH.false) in
+          subst (λ (x : Part). IsReadTo x text (place + 1)) (sym w.part-is) (read_slash c.loop-byte.part text place within slash (sym w.is_name.ensures ∙ w.if-is_name.true) c.loop-byte.invariant))
+    ]

@@ -1,6 +1,6 @@
 use Rattle.std.proofs.Common.{◌≡◌, ◌≢◌, ◌⊎◌, inr, [], map, sym, subst}
 use Rattle.bag_tree.specs.declared.listing.Listing.{Listing}
-use Rattle.bag_facts.specs.Stops.{MayStop}
+use Rattle.bag_facts.specs.Stops.{MayStopReading}
 use Rattle.bag_facts.specs.TagReader.{read_path}
 use Rattle.bag_facts.specs.Wanted.{AreWanted, ForListing, OpensAll, OpensFirst, OpensUpTo}
 use Rattle.bag_facts.proofs.Known.{known_honest, known_seen}
@@ -43,7 +43,7 @@ returns-in_err-read-clause-stop g c =
     let old = g.T.Tree.state c.args.tree.now in
     let mid = g.T.Tree.state c.list.new.self in
     let new = g.T.Tree.state c.read_tag_files.new.tree in
-    passed_on c.from_residual.result c.in_err-read.field-0.0 (MayStop c.args.options old new) c.from_residual.ensures.1
+    passed_on c.from_residual.result c.in_err-read.field-0.0 (MayStopReading c.args.options old new) c.from_residual.ensures.1
     (facts_stop c.args.options c.in-Ok.listing c.as_slice.result.now old mid new c.in_err-read.field-0.0 c.list.ensures.keeps c.as_slice.ensures c.in-Ok.ensures.honest c.in_err-read.ensures.stop)
 
 pub returns-in-Ok-of-clause-opens : goal.returns-in-Ok-of-clause-opens

@@ -5,7 +5,7 @@ use Rattle.bag_file_tree.proofs.Refusals.{due_of_name}
 use Rattle.bag_file_tree.proofs.folder_walk.FolderWalk.list_names.Goals as goal
 
 pub loop-self-init : goal.loop-self-init
-loop-self-init g c = (looks_at_first (g.D.Disk.state c.args.disk.now), λ honest listed now. now, refl, omega arith)
+loop-self-init g c = (looks_at_first (g.D.Disk.state c.args.disk.now), λ honest listed now. now, refl, omega arith, λ paths. paths)
 
 pub loop-self-preserved : goal.loop-self-preserved
 loop-self-preserved g c =
@@ -18,7 +18,11 @@ loop-self-preserved g c =
           c.in_ok-add-in-Ok-Some.ensures.walked honest (c.loop-self.invariant.1 honest listed begun),
       c.in_ok-add-in-Ok-Some.ensures.listed ∙ c.loop-self.invariant.2,
       omega (arith, c.in_ok-add-in-Ok-Some.ensures.left, c.loop-self.invariant.3),
+      λ paths. c.in_ok-add-in-Ok-Some.ensures.paths (c.loop-self.invariant.4 paths),
     )
+
+pub returns-in-Ok-None-clause-paths : goal.returns-in-Ok-None-clause-paths
+returns-in-Ok-None-clause-paths g c = c.loop-self.invariant.4
 
 pub returns-in-Ok-None-clause-walked : goal.returns-in-Ok-None-clause-walked
 returns-in-Ok-None-clause-walked g c = λ honest listed begun.

@@ -1,0 +1,6 @@
+pub mod JsonTexts
+pub mod Orders
+pub mod PatternLaws
+pub mod Patterns
+pub mod Shapes
+pub mod TextSets

@@ -1,0 +1,95 @@
+-- What is read of an object is in the order of its keys.
+use Rattle.std.proofs.Common.{◌≡◌, ℕ, Bool, true, false, cond, List, [], ◌∷◌, Option, Some, None, String, Global, refl, sym, ap, subst, ◌∙◌, string_bytes, codes}
+use Rattle.std.specs.Option.{ForSome, option_map, option_and_then, is_some}
+use Rattle.std.specs.List.{AllByRecursion}
+use Rattle.std.specs.List.Sorted.{IsStrictlySortedBy}
+use Rattle.std.specs.declared.cmp.Ordering.TheVariants.{Less}
+use Rattle.std.specs.Map.{keys_of}
+use Rattle.std.specs.String.{string_cmp}
+use Rattle.std.proofs.lemmas.List.Kept.{IsStrictlySortedBy-filter}
+use Rattle.serde_json.specs.Data.{Data, Members, no_members, member}
+use Rattle.serde_json.specs.Find.{get, as_object, as_array}
+use Rattle.serde_json.specs.View.{members_view}
+use Rattle.serde_json.specs.declared.value.Value.{Value}
+use Rattle.bag_text.specs.Text.{text_cmp}
+use Rattle.bag_profile.specs.declared.label.LabelRule.{LabelRule}
+use Rattle.bag_profile.specs.Label.{IsOrderly, labels, optional, flag, allowed_values, label_rule, rules_of}
+use Rattle.bag_profile.specs.Unchecked.{keys, unchecked_of}
+use Rattle.bag_profile.specs.TextSet.{IsAscending, texts, texts_of, text_set}
+use Rattle.bag_profile.proofs.TextSets.{ascending_with_texts, ascending_nothing}
+
+abbrev Entry : Type 0
+Entry = String Global × Value
+
+below_keys : (e : Entry) (es : List Entry) → AllByRecursion (λ k. string_cmp e.0 k ≡ Less) (keys_of es) → AllByRecursion (λ t. text_cmp (string_bytes e.0) t ≡ Less) (keys (members_view es))
+below_keys e [] all = tt
+below_keys e (f ∷ es) all = (all.0, below_keys e es all.1)
+
+-- the keys of a map ascend as texts
+pub keys_ascend : (es : List Entry) → IsStrictlySortedBy string_cmp (keys_of es) → IsAscending (keys (members_view es))
+unfolding IsStrictlySortedBy
+keys_ascend [] up = tt
+keys_ascend (e ∷ es) up = (below_keys e es up.0, keys_ascend es up.1)
+
+pub unchecked_ascend : (es : List Entry) → IsStrictlySortedBy string_cmp (keys_of es) → IsAscending (unchecked_of (members_view es))
+unfolding unchecked_of
+unchecked_ascend es up = IsStrictlySortedBy-filter text_cmp _ (keys (members_view es)) (keys_ascend es up)
+
+set_ascends : (o : Option (List (List ℕ))) → ForSome (option_map text_set o) IsAscending
+set_ascends None = λ x e. cc
+set_ascends (Some ts) = λ x e. let is : text_set ts ≡ x = cc in subst IsAscending is (ascending_with_texts [] ts ascending_nothing)
+
+texts_ascend : (d : Data) → ForSome (texts d) IsAscending
+unfolding texts
+texts_ascend d = set_ascends (option_and_then texts_of (as_array d))
+
+values_at : (o : Option Data) → ForSome (optional [] texts o) IsAscending
+values_at None = λ x e. let is : [] ≡ x = cc in subst IsAscending is ascending_nothing
+values_at (Some d) = texts_ascend d
+
+rule_at : (b : Bool) (label : List ℕ) (required repeatable : Option Bool) (values : Option (List (List ℕ))) (rule : LabelRule) → ForSome values IsAscending
+    → cond b (option_and_then (λ x. option_and_then (λ y. option_map (λ z. record { label = label; required = x; repeatable = y; values = z }) values) repeatable) required) None ≡ Some rule
+    → (rule.label ≡ label) × IsAscending rule.values
+rule_at false label required repeatable values rule up e = absurd (cc)
+rule_at true label None repeatable values rule up e = absurd (cc)
+rule_at true label (Some x) None values rule up e = absurd (cc)
+rule_at true label (Some x) (Some y) None rule up e = absurd (cc)
+rule_at true label (Some x) (Some y) (Some z) rule up e =
+    let made : LabelRule = record { label = label; required = x; repeatable = y; values = z } in
+    let is : made ≡ rule = cc in
+    (sym (ap (λ r. r.label) is), subst (λ r. IsAscending r.values) is (up z refl))
+
+rule_is : (label : List ℕ) (d : Data) (rule : LabelRule) → label_rule label d ≡ Some rule → (rule.label ≡ label) × IsAscending rule.values
+unfolding label_rule
+rule_is label d rule e =
+    rule_at (is_some (as_object d)) label (flag (codes "required") false d) (flag (codes "repeatable") true d) (allowed_values d) rule (values_at (get (codes "values") d)) e
+
+abbrev AreRules : Members → List LabelRule → Type 0
+AreRules ms rules = (labels rules ≡ keys ms) × AllByRecursion (λ rule. IsAscending rule.values) rules
+
+more_rules : (label : List ℕ) (ms : Members) (first : Option LabelRule) (rest : Option (List LabelRule)) (rules : List LabelRule)
+    → ((rule : LabelRule) → first ≡ Some rule → (rule.label ≡ label) × IsAscending rule.values) → ((more : List LabelRule) → rest ≡ Some more → AreRules ms more)
+    → (d : Data) → option_and_then (λ rule. option_map (λ more. rule ∷ more) rest) first ≡ Some rules → AreRules (member label d ms) rules
+more_rules label ms None rest rules one more d e = absurd (cc)
+more_rules label ms (Some rule) None rules one more d e = absurd (cc)
+more_rules label ms (Some rule) (Some others) rules one more d e =
+    let is : rule ∷ others ≡ rules = cc in
+    let here = one rule refl in
+    let there = more others refl in
+    subst (AreRules (member label d ms)) is (
+      ap (λ x. x ∷ labels others) here.0 ∙ ap (λ x. label ∷ x) there.0,
+      (here.1, there.1),
+    )
+
+rules_are : (ms : Members) (rules : List LabelRule) → rules_of ms ≡ Some rules → AreRules ms rules
+rules_are no_members rules e = let is : [] ≡ rules = cc in subst (AreRules no_members) is (refl, tt)
+rules_are (member label d ms) rules e =
+    more_rules label ms (label_rule label d) (rules_of ms) rules (λ rule is. rule_is label d rule is) (λ more is. rules_are ms more is) d e
+
+pub rules_orderly : (es : List Entry) (rules : List LabelRule) → IsStrictlySortedBy string_cmp (keys_of es) → rules_of (members_view es) ≡ Some rules → IsOrderly rules
+rules_orderly es rules up e =
+    let are = rules_are (members_view es) rules e in
+    (subst IsAscending (sym are.0) (keys_ascend es up), are.1)
+
+pub no_rules : IsOrderly []
+no_rules = (ascending_nothing, tt)

@@ -1,0 +1,240 @@
+-- A value is read where it has its shape, and the first fault is told.
+use Rattle.std.proofs.Common.{◌≡◌, ℕ, Bool, true, false, cond, not, ◌&&◌, List, [], ◌∷◌, Option, Some, None, Result, Ok, Err, refl, sym, ap, ◌∙◌, codes}
+use Rattle.std.specs.Prelude.{find}
+use Rattle.std.specs.Option.{option_or, option_map, option_and_then, is_some}
+use Rattle.serde_json.specs.Data.{Data, Items, no_items, item, Members, no_members, member}
+use Rattle.serde_json.specs.Find.{get, as_bool, as_str, as_array, as_object}
+use Rattle.bag_profile.specs.declared.fault.ProfileFault.{ProfileFault}
+use Rattle.bag_profile.specs.declared.fault.ProfileFault.TheVariants.{WrongShape}
+use Rattle.bag_profile.specs.declared.key.Key.{Key}
+use Rattle.bag_profile.specs.declared.key.Key.TheVariants as key
+use Rattle.bag_profile.specs.declared.label.LabelRule.{LabelRule}
+use Rattle.bag_profile.specs.Answer.{◌>>=◌, shaped, at, present, needed}
+use Rattle.bag_profile.specs.Key.{key_name}
+use Rattle.bag_profile.specs.Label.{optional, flag, allowed_values, label_rule, rules_of, label_rules}
+use Rattle.bag_profile.specs.NameLists.{texts_at, name_rules, name_lists_of}
+use Rattle.bag_profile.specs.Read.{as_record, identifier_of, labels_of, of_object, profile_of}
+use Rattle.bag_profile.specs.Shape as spec
+use Rattle.bag_profile.specs.Terms.{serialization_named, allow_fetch_of, serialization_of, terms_of}
+use Rattle.bag_profile.specs.TextSet.{texts, texts_of, text_set}
+
+abbrev Fault : Type 0
+Fault = Option ProfileFault
+
+-- ---- shapes
+
+is_mapped : {A B : Type 0} (f : A → B) (o : Option A) → is_some (option_map f o) ≡ is_some o
+is_mapped f None = refl
+is_mapped f (Some x) = refl
+
+both_are : {A B C : Type 0} (f : A → B → C) (o : Option A) (p : Option B) → is_some (option_and_then (λ x. option_map (f x) p) o) ≡ (is_some o && is_some p)
+both_are f None p = refl
+both_are f (Some x) p = is_mapped (f x) p
+
+texts_are : (xs : Items) → is_some (texts_of xs) ≡ spec.are_texts xs
+texts_are no_items = refl
+texts_are (item x xs) = both_are (λ t ts. t ∷ ts) (as_str x) (texts_of xs) ∙ ap (λ b. is_some (as_str x) && b) (texts_are xs)
+
+passed_on : {A B : Type 0} (f : A → Option B) (test : A → Bool) → ((x : A) → is_some (f x) ≡ test x) → (o : Option A) → is_some (option_and_then f o) ≡ spec.passes test o
+passed_on f test h None = refl
+passed_on f test h (Some x) = h x
+
+texts_shape : (d : Data) → is_some (texts d) ≡ spec.is_list_of_texts d
+unfolding texts
+texts_shape d = is_mapped text_set (option_and_then texts_of (as_array d)) ∙ passed_on texts_of spec.are_texts texts_are (as_array d)
+
+optional_shape : {A : Type 0} (default : A) (shape : Data → Option A) (test : Data → Bool) → ((d : Data) → is_some (shape d) ≡ test d) → (o : Option Data) → is_some (optional default shape o) ≡ spec.may_be test o
+optional_shape default shape test h None = refl
+optional_shape default shape test h (Some d) = h d
+
+abbrev rule_made : List ℕ → Bool → Bool → List (List ℕ) → LabelRule
+rule_made label required repeatable values = record { label = label; required = required; repeatable = repeatable; values = values }
+
+rule_parts : (b : Bool) (label : List ℕ) (required repeatable : Option Bool) (values : Option (List (List ℕ)))
+    → is_some (cond b (option_and_then (λ x. option_and_then (λ y. option_map (λ z. rule_made label x y z) values) repeatable) required) None)
+    ≡ (b && is_some required && is_some repeatable && is_some values)
+rule_parts false label required repeatable values = refl
+rule_parts true label None repeatable values = refl
+rule_parts true label (Some x) None values = refl
+rule_parts true label (Some x) (Some y) None = refl
+rule_parts true label (Some x) (Some y) (Some z) = refl
+
+may_be_boolean : (default : Bool) (o : Option Data) → is_some (optional default as_bool o) ≡ spec.may_be spec.is_boolean o
+may_be_boolean default o = optional_shape default as_bool spec.is_boolean (λ d. refl) o
+
+rule_shape : (label : List ℕ) (d : Data) → is_some (label_rule label d) ≡ spec.is_rule d
+unfolding label_rule
+rule_shape label d =
+    let object_is = is_some (as_object d) in
+    let repeatable = flag (codes "repeatable") true d in
+    let values = allowed_values d in
+    rule_parts object_is label (flag (codes "required") false d) repeatable values
+    ∙ ap (λ b. object_is && b && is_some repeatable && is_some values) (may_be_boolean false (get (codes "required") d))
+    ∙ ap (λ b. object_is && spec.may_be spec.is_boolean (get (codes "required") d) && b && is_some values) (may_be_boolean true (get (codes "repeatable") d))
+    ∙ ap (λ b. object_is && spec.may_be spec.is_boolean (get (codes "required") d) && spec.may_be spec.is_boolean (get (codes "repeatable") d) && b)
+    (optional_shape [] texts spec.is_list_of_texts texts_shape (get (codes "values") d))
+
+rules_are : (ms : Members) → is_some (rules_of ms) ≡ spec.are_rules ms
+rules_are no_members = refl
+rules_are (member label d rest) =
+    both_are (λ rule rules. rule ∷ rules) (label_rule label d) (rules_of rest)
+    ∙ ap (λ b. b && is_some (rules_of rest)) (rule_shape label d)
+    ∙ ap (λ b. spec.is_rule d && b) (rules_are rest)
+
+labels_shape : (d : Data) → is_some (label_rules d) ≡ spec.has_shape key.BagInfo d
+unfolding label_rules
+labels_shape d = passed_on rules_of spec.are_rules rules_are (as_object d)
+
+serialization_shape : (d : Data) → is_some (option_and_then serialization_named (as_str d)) ≡ spec.has_shape key.Serialization d
+serialization_shape d = passed_on serialization_named (λ text. is_some (serialization_named text)) (λ text. refl) (as_str d)
+
+-- ---- the fault at a key
+
+abbrev wrong : Data → Key → Fault
+wrong d k = cond (spec.is_wrong d k) (Some (WrongShape k)) None
+
+shaped_fault : {A : Type 0} (k : Key) (o : Option A) → spec.fault_of (shaped k o) ≡ cond (is_some o) None (Some (WrongShape k))
+shaped_fault k None = refl
+shaped_fault k (Some x) = refl
+
+turned : (b : Bool) (fault : Fault) → cond b None fault ≡ cond (not b) fault None
+turned true fault = refl
+turned false fault = refl
+
+at_fault : {A : Type 0} (k : Key) (default : A) (shape : Data → Option A) (d : Data) → ((v : Data) → is_some (shape v) ≡ spec.has_shape k v) → spec.fault_of (at k default shape d) ≡ wrong d k
+at_fault k default shape d h =
+    let value = get (key_name k) d in
+    shaped_fault k (optional default shape value)
+    ∙ ap (λ b. cond b None (Some (WrongShape k))) (optional_shape default shape (spec.has_shape k) h value)
+    ∙ turned (spec.may_be (spec.has_shape k) value) (Some (WrongShape k))
+
+texts_fault : (k : Key) (d : Data) → ((v : Data) → spec.is_list_of_texts v ≡ spec.has_shape k v) → spec.fault_of (texts_at k d) ≡ wrong d k
+unfolding texts_at
+texts_fault k d h = at_fault k None (λ v. option_map Some (texts v)) d (λ v. is_mapped Some (texts v) ∙ texts_shape v ∙ h v)
+
+labels_fault : (d : Data) → spec.fault_of (labels_of d) ≡ wrong d key.BagInfo
+unfolding labels_of
+labels_fault d = at_fault key.BagInfo [] label_rules d labels_shape
+
+allow_fetch_fault : (d : Data) → spec.fault_of (allow_fetch_of d) ≡ wrong d key.AllowFetch
+unfolding allow_fetch_of
+allow_fetch_fault d = at_fault key.AllowFetch true as_bool d (λ v. refl)
+
+serialization_fault : (d : Data) → spec.fault_of (serialization_of d) ≡ wrong d key.Serialization
+unfolding serialization_of
+serialization_fault d = at_fault key.Serialization _ (λ v. option_and_then serialization_named (as_str v)) d serialization_shape
+
+-- ---- one key after the other
+
+-- the first fault of two steps
+in_order : {A B : Type 0} (r : Result A ProfileFault) (f : A → Result B ProfileFault) (first later : Fault) → spec.fault_of r ≡ first → ((x : A) → spec.fault_of (f x) ≡ later) → spec.fault_of (r >>= f) ≡ option_or first later
+in_order (Ok x) f first later e h = h x ∙ ap (λ o. option_or o later) e
+in_order (Err fault) f first later e h = ap (λ o. option_or o later) e
+
+names_fault : (required allowed : Key) (d : Data) → ((v : Data) → spec.is_list_of_texts v ≡ spec.has_shape required v) → ((v : Data) → spec.is_list_of_texts v ≡ spec.has_shape allowed v)
+    → spec.fault_of (name_rules required allowed d) ≡ option_or (wrong d required) (option_or (wrong d allowed) None)
+names_fault required allowed d h i =
+    in_order (texts_at required d) _ (wrong d required) (option_or (wrong d allowed) None) (texts_fault required d h) (λ x.
+    in_order (texts_at allowed d) _ (wrong d allowed) None (texts_fault allowed d i) (λ y. refl))
+
+abbrev pair_fault : Data → Key → Key → Fault
+pair_fault d required allowed = option_or (wrong d required) (option_or (wrong d allowed) None)
+
+abbrev lists_fault : Data → Fault
+lists_fault d =
+    option_or (pair_fault d key.ManifestsRequired key.ManifestsAllowed)
+    (option_or (pair_fault d key.TagManifestsRequired key.TagManifestsAllowed)
+    (option_or (pair_fault d key.TagFilesRequired key.TagFilesAllowed) None))
+
+name_lists_fault : (d : Data) → spec.fault_of (name_lists_of d) ≡ lists_fault d
+name_lists_fault d =
+    in_order (name_rules key.ManifestsRequired key.ManifestsAllowed d) _ _ _ (names_fault key.ManifestsRequired key.ManifestsAllowed d (λ v. refl) (λ v. refl)) (λ x.
+    in_order (name_rules key.TagManifestsRequired key.TagManifestsAllowed d) _ _ _ (names_fault key.TagManifestsRequired key.TagManifestsAllowed d (λ v. refl) (λ v. refl)) (λ y.
+    in_order (name_rules key.TagFilesRequired key.TagFilesAllowed d) _ _ None (names_fault key.TagFilesRequired key.TagFilesAllowed d (λ v. refl) (λ v. refl)) (λ z. refl)))
+
+abbrev three_fault : Data → Fault
+three_fault d = option_or (wrong d key.AllowFetch) (option_or (wrong d key.AcceptBagItVersion) (option_or (wrong d key.Serialization) None))
+
+terms_fault : (d : Data) → spec.fault_of (terms_of d) ≡ three_fault d
+terms_fault d =
+    in_order (allow_fetch_of d) _ _ _ (allow_fetch_fault d) (λ x.
+    in_order (texts_at key.AcceptBagItVersion d) _ _ _ (texts_fault key.AcceptBagItVersion d (λ v. refl)) (λ y.
+    in_order (serialization_of d) _ _ None (serialization_fault d) (λ z. refl)))
+
+-- ---- the identifier
+
+info_at : {B : Type 0} (info : Data) (m : Option Members) (f : Data → Result B ProfileFault)
+    → spec.fault_of (shaped key.ProfileInfo (option_map (λ _. info) m) >>= f) ≡ option_or (cond (is_some m) None (Some (WrongShape key.ProfileInfo))) (spec.fault_of (f info))
+info_at info None f = refl
+info_at info (Some m) f = refl
+
+text_at : (o : Option Data) → spec.fault_of (present key.ProfileIdentifier as_str o) ≡ spec.needed_fault key.ProfileIdentifier o
+text_at None = refl
+text_at (Some d) = shaped_fault key.ProfileIdentifier (as_str d)
+
+abbrev two_fault : Option Data → Fault
+two_fault o = option_or (spec.needed_fault key.ProfileInfo o) (spec.needed_fault key.ProfileIdentifier (option_and_then (get (key_name key.ProfileIdentifier)) o))
+
+identifier_at : (o : Option Data) → spec.fault_of (present key.ProfileInfo as_record o >>= needed key.ProfileIdentifier as_str) ≡ two_fault o
+identifier_at None = refl
+identifier_at (Some info) =
+    info_at info (as_object info) (needed key.ProfileIdentifier as_str)
+    ∙ ap (option_or (spec.needed_fault key.ProfileInfo (Some info))) (text_at (get (key_name key.ProfileIdentifier) info))
+
+identifier_fault : (d : Data) → spec.fault_of (identifier_of d) ≡ two_fault (get (key_name key.ProfileInfo) d)
+unfolding identifier_of
+identifier_fault d = identifier_at (get (key_name key.ProfileInfo) d)
+
+-- ---- all keys
+
+found_at : (b : Bool) (k : Key) (o : Option Key) → option_map WrongShape (cond b (Some k) o) ≡ option_or (cond b (Some (WrongShape k)) None) (option_map WrongShape o)
+found_at true k o = refl
+found_at false k o = refl
+
+-- the fault at the first key of wrong shape
+abbrev each_wrong : Data → List Key → Fault
+each_wrong d [] = None
+each_wrong d (k ∷ ks) = option_or (wrong d k) (each_wrong d ks)
+
+first_wrong : (d : Data) (ks : List Key) → option_map WrongShape (find (spec.is_wrong d) ks) ≡ each_wrong d ks
+first_wrong d [] = refl
+first_wrong d (k ∷ ks) = found_at (spec.is_wrong d k) k (find (spec.is_wrong d) ks) ∙ ap (option_or (wrong d k)) (first_wrong d ks)
+
+regrouped : (i j l a b c e f g h m n : Fault)
+    → option_or (option_or i j) (option_or l (option_or (option_or (option_or a (option_or b None)) (option_or (option_or c (option_or e None)) (option_or (option_or f (option_or g None)) None))) (option_or (option_or h (option_or m (option_or n None))) None)))
+    ≡ option_or i (option_or j (option_or l (option_or a (option_or b (option_or c (option_or e (option_or f (option_or g (option_or h (option_or m (option_or n None)))))))))))
+regrouped (Some x) j l a b c e f g h m n = refl
+regrouped None (Some x) l a b c e f g h m n = refl
+regrouped None None (Some x) a b c e f g h m n = refl
+regrouped None None None (Some x) b c e f g h m n = refl
+regrouped None None None None (Some x) c e f g h m n = refl
+regrouped None None None None None (Some x) e f g h m n = refl
+regrouped None None None None None None (Some x) f g h m n = refl
+regrouped None None None None None None None (Some x) g h m n = refl
+regrouped None None None None None None None None (Some x) h m n = refl
+regrouped None None None None None None None None None (Some x) m n = refl
+regrouped None None None None None None None None None None (Some x) n = refl
+regrouped None None None None None None None None None None None (Some x) = refl
+regrouped None None None None None None None None None None None None = refl
+
+object_fault : (d : Data) (members : Members) → spec.fault_of (of_object d members) ≡ spec.first_fault_of_object d
+object_fault d members =
+    let info = get (key_name key.ProfileInfo) d in
+    let steps : spec.fault_of (of_object d members) ≡ option_or (two_fault info) (option_or (wrong d key.BagInfo) (option_or (lists_fault d) (option_or (three_fault d) None))) =
+    in_order (identifier_of d) _ (two_fault info) (option_or (wrong d key.BagInfo) (option_or (lists_fault d) (option_or (three_fault d) None))) (identifier_fault d) (λ x.
+    in_order (labels_of d) _ (wrong d key.BagInfo) (option_or (lists_fault d) (option_or (three_fault d) None)) (labels_fault d) (λ y.
+    in_order (name_lists_of d) _ (lists_fault d) (option_or (three_fault d) None) (name_lists_fault d) (λ z.
+    in_order (terms_of d) _ (three_fault d) None (terms_fault d) (λ w. refl)))) in
+    steps
+    ∙ regrouped _ _ (wrong d key.BagInfo) (wrong d key.ManifestsRequired) (wrong d key.ManifestsAllowed) (wrong d key.TagManifestsRequired) (wrong d key.TagManifestsAllowed)
+    (wrong d key.TagFilesRequired) (wrong d key.TagFilesAllowed) (wrong d key.AllowFetch) (wrong d key.AcceptBagItVersion) (wrong d key.Serialization)
+    ∙ ap (λ o. option_or (spec.needed_fault key.ProfileInfo info) (option_or (spec.needed_fault key.ProfileIdentifier (option_and_then (get (key_name key.ProfileIdentifier)) info)) o))
+    (sym (first_wrong d spec.optional_keys))
+
+whole_at : (d : Data) (m : Option Members) → spec.fault_of (shaped key.Whole m >>= of_object d) ≡ cond (is_some m) (spec.first_fault_of_object d) (Some (WrongShape key.Whole))
+whole_at d None = refl
+whole_at d (Some members) = object_fault d members
+
+pub first_fault_is_told : spec.FirstFaultIsTold
+unfolding profile_of
+first_fault_is_told d = whole_at d (as_object d)

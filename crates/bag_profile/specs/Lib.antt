@@ -1,0 +1,11 @@
+pub mod Answer
+pub mod Key
+pub mod Label
+pub mod NameLists
+pub mod Pattern
+pub mod Profile
+pub mod Read
+pub mod Shape
+pub mod Terms
+pub mod TextSet
+pub mod Unchecked

@@ -1,0 +1,38 @@
+-- Which manifests and tag files a bag must have, and which it may have (BagIt Profiles Specification, Manifests-Required,
+-- Manifests-Allowed, Tag-Manifests-Required, Tag-Manifests-Allowed, Tag-Files-Required, Tag-Files-Allowed).
+use Rattle.std.specs.Prelude.{ℕ, List, Option, Some, None, Result, Ok, option_map}
+use Rattle.std.specs.Option.{ForSome}
+use Rattle.serde_json.specs.Data.{Data}
+use Rattle.bag_profile.specs.declared.fault.ProfileFault.{ProfileFault}
+use Rattle.bag_profile.specs.declared.key.Key.{Key}
+use Rattle.bag_profile.specs.declared.key.Key.TheVariants.{ManifestsRequired, ManifestsAllowed, TagManifestsRequired, TagManifestsAllowed, TagFilesRequired, TagFilesAllowed}
+use Rattle.bag_profile.specs.declared.name_lists.NameRules.{NameRules}
+use Rattle.bag_profile.specs.declared.name_lists.NameLists.{NameLists}
+use Rattle.bag_profile.specs.Answer.{◌>>=◌, at}
+use Rattle.bag_profile.specs.TextSet.{texts, IsAscending}
+
+-- the set of texts at a key; none where it is absent
+unfoldable pub texts_at : Key → Data → Result (Option (List (List ℕ))) ProfileFault
+texts_at key = at key None (λ d. option_map Some (texts d))
+
+-- the two lists at two keys
+abbrev pub name_rules : Key → Key → Data → Result NameRules ProfileFault
+name_rules required_key allowed_key d = do
+  required ← texts_at required_key d
+  allowed ← texts_at allowed_key d
+  Ok record { required = required; allowed = allowed }
+
+-- the six lists, in the order of their keys
+abbrev pub name_lists_of : Data → Result NameLists ProfileFault
+name_lists_of d = do
+  manifests ← name_rules ManifestsRequired ManifestsAllowed d
+  tag_manifests ← name_rules TagManifestsRequired TagManifestsAllowed d
+  tag_files ← name_rules TagFilesRequired TagFilesAllowed d
+  Ok record { manifests = manifests; tag_manifests = tag_manifests; tag_files = tag_files }
+
+-- the lists that are there ascend
+abbrev pub IsAscendingPair : NameRules → Type 0
+IsAscendingPair rules = ForSome rules.required IsAscending × ForSome rules.allowed IsAscending
+
+abbrev pub AreAscending : NameLists → Type 0
+AreAscending lists = IsAscendingPair lists.manifests × IsAscendingPair lists.tag_manifests × IsAscendingPair lists.tag_files

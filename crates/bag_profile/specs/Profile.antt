@@ -1,0 +1,35 @@
+-- What a profile says (BagIt Profiles Specification, Implementation Details).
+use Rattle.std.specs.Prelude.{ℕ, List, Option}
+use Rattle.std.specs.Option.{ForSome}
+use Rattle.bag_profile.specs.Label as label
+use Rattle.bag_profile.specs.NameLists.{AreAscending}
+use Rattle.bag_profile.specs.TextSet.{IsAscending}
+use Rattle.bag_profile.specs.declared.label.LabelRule.{LabelRule}
+use Rattle.bag_profile.specs.declared.name_lists.NameLists.{NameLists}
+use Rattle.bag_profile.specs.declared.rule.ListRule.{ListRule}
+use Rattle.bag_profile.specs.declared.rule.ListRule.TheVariants.{ManifestsRequired, ManifestsAllowed, TagManifestsRequired, TagManifestsAllowed, TagFilesRequired, TagFilesAllowed, AcceptBagItVersion}
+use Rattle.bag_profile.specs.declared.terms.Terms.{Terms}
+
+pub record Profile : Type 0 where
+  pub identifier : List ℕ
+  -- ascending by the labels, each once
+  pub labels : List LabelRule
+  -- each list ascends and has each name once; none where its key is absent
+  pub names : NameLists
+  pub terms : Terms
+  -- the keys that are passed over, ascending
+  pub unchecked : List (List ℕ)
+
+abbrev pub names : Profile → ListRule → Option (List (List ℕ))
+names profile ManifestsRequired = profile.names.manifests.required
+names profile ManifestsAllowed = profile.names.manifests.allowed
+names profile TagManifestsRequired = profile.names.tag_manifests.required
+names profile TagManifestsAllowed = profile.names.tag_manifests.allowed
+names profile TagFilesRequired = profile.names.tag_files.required
+names profile TagFilesAllowed = profile.names.tag_files.allowed
+names profile AcceptBagItVersion = profile.terms.versions
+
+-- all lists ascend
+abbrev pub IsOrderly : Profile → Type 0
+IsOrderly profile =
+    label.IsOrderly profile.labels × AreAscending profile.names × ForSome profile.terms.versions IsAscending × IsAscending profile.unchecked

@@ -1,0 +1,19 @@
+//! Laws of the definitions, each the contract of a function that does nothing.
+ghost use Rattle.bag_profile.specs.Pattern.{MatchesArePieces};
+ghost use Rattle.bag_profile.specs.Shape.{FirstFaultIsTold};
+ghost use Rattle.bag_profile.specs.TextSet.{TextSetsAreLists};
+
+/// A name matches a pattern where it is what stands between the stars, with some text at each star.
+pub fn matches_are_pieces()
+    ensures { MatchesArePieces }
+{}
+
+/// A list that is read as a set is the ascending list of its texts.
+pub fn text_sets_are_lists()
+    ensures { TextSetsAreLists }
+{}
+
+/// A value is a profile where all keys have their shapes, and else its first fault is told.
+pub fn first_fault_is_told()
+    ensures { FirstFaultIsTold }
+{}

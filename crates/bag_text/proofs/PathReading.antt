@@ -1,0 +1,105 @@
+-- Paths that are read byte by byte.
+use Rattle.std.proofs.Common.{◌≡◌, ◌≢◌, ℕ, suc, ◌+◌, ◌<◌, Bool, true, false, not, cond, ◌&&◌, List, [], ◌∷◌, ◌++◌, length, get_or, drop, refl, sym, ap, ◌∙◌, eqb, arith, append_assoc, append-nil}
+use Rattle.std.specs.List.{list_all, onto_first}
+use Rattle.std.proofs.Math.Seq.{drop-cons, drop-length}
+use Rattle.bag_text.specs.Path.{slash, components, is_component, is_path}
+use Rattle.bag_text.specs.PathPart.{part_of, with_byte, is_name}
+use Rattle.bag_text.specs.declared.path.Part.{Part}
+use Rattle.bag_text.specs.declared.path.Part.TheVariants.{Empty, Dot, TwoDots, Name}
+use Rattle.bag_text.proofs.Paths.{is_slash, some_component}
+
+second_byte : (b : Bool) (c : ℕ) → cond (b && eqb c 46) TwoDots Name ≡ with_byte (cond b Dot Name) c
+second_byte true c = refl
+second_byte false c = refl
+
+third_byte : (b : Bool) (c : ℕ) → Name ≡ with_byte (cond b TwoDots Name) c
+third_byte true c = refl
+third_byte false c = refl
+
+part_more : (p : List ℕ) (c : ℕ) → part_of (p ++ c ∷ []) ≡ with_byte (part_of p) c
+part_more [] c = refl
+part_more (x ∷ []) c = second_byte (eqb x 46) c
+part_more (x ∷ y ∷ []) c = third_byte (eqb x 46 && eqb y 46) c
+part_more (x ∷ y ∷ z ∷ rest) c = refl
+
+one_byte : (b : Bool) → (not (b && true) && not (b && false)) ≡ is_name (cond b Dot Name)
+one_byte true = refl
+one_byte false = refl
+
+two_bytes : (b d : Bool) → (not (b && false) && not (b && (d && true))) ≡ is_name (cond (b && d) TwoDots Name)
+two_bytes true true = refl
+two_bytes true false = refl
+two_bytes false d = refl
+
+more_bytes : (b d : Bool) → (not (b && false) && not (b && (d && false))) ≡ true
+more_bytes true true = refl
+more_bytes true false = refl
+more_bytes false d = refl
+
+name_test : (p : List ℕ) → is_component p ≡ is_name (part_of p)
+name_test [] = refl
+name_test (x ∷ []) = one_byte (eqb x 46)
+name_test (x ∷ y ∷ []) = two_bytes (eqb x 46) (eqb y 46)
+name_test (x ∷ y ∷ z ∷ rest) = more_bytes (eqb x 46) (eqb y 46)
+
+-- the components of a text behind the front of its first one
+abbrev behind : List ℕ → List (List ℕ) → List (List ℕ)
+behind p [] = p ∷ []
+behind p (part ∷ parts) = (p ++ part) ∷ parts
+
+abbrev are_good : List ℕ → List ℕ → Bool
+are_good p t = list_all is_component (behind p (components t))
+
+behind_nothing : (parts : List (List ℕ)) → parts ≢ [] → behind [] parts ≡ parts
+behind_nothing [] some = absurd (some refl)
+behind_nothing (part ∷ parts) some = refl
+
+behind_more : (p : List ℕ) (c : ℕ) (parts : List (List ℕ)) → behind p (onto_first c parts) ≡ behind (p ++ c ∷ []) parts
+behind_more p c [] = refl
+behind_more p c (part ∷ parts) = ap (λ x. x ∷ parts) (sym (append_assoc p (c ∷ []) part))
+
+good_start : (t : List ℕ) → is_path t ≡ are_good [] t
+good_start t = ap (list_all is_component) (sym (behind_nothing (components t) (some_component t)))
+
+good_byte : (p : List ℕ) (c : ℕ) (t : List ℕ) → is_slash c ≡ false → are_good p (c ∷ t) ≡ are_good (p ++ c ∷ []) t
+good_byte p c t e = rw e (ap (list_all is_component) (behind_more p c (components t)))
+
+good_slash : (p : List ℕ) (c : ℕ) (t : List ℕ) → is_slash c ≡ true → are_good p (c ∷ t) ≡ (is_name (part_of p) && are_good [] t)
+good_slash p c t e = rw (e, append-nil p, name_test p) (ap (λ b. is_name (part_of p) && b) (good_start t))
+
+and_true : (b : Bool) → (b && true) ≡ b
+and_true true = refl
+and_true false = refl
+
+good_end : (p : List ℕ) → are_good p [] ≡ is_name (part_of p)
+good_end p = ap (λ x. is_component x && true) (append-nil p) ∙ and_true (is_component p) ∙ name_test p
+
+-- the components before place k are good, and the one that begins there is this so far
+abbrev pub IsReadTo : Part → List ℕ → ℕ → Type 0
+IsReadTo part t k = (p : List ℕ) × (part ≡ part_of p) × (is_path t ≡ are_good p (drop k t))
+
+pub read_start : (t : List ℕ) → IsReadTo Empty t 0
+read_start t = ([], refl, good_start t)
+
+at : (t : List ℕ) (k : ℕ) → k < length t → drop k t ≡ get_or t k 0 ∷ drop (k + 1) t
+at t k h = let step : suc k ≡ k + 1 = omega arith in drop-cons t k 0 h ∙ ap (λ j. get_or t k 0 ∷ drop j t) step
+
+pub read_byte : (part : Part) (t : List ℕ) (k : ℕ) → k < length t → is_slash (get_or t k 0) ≡ false → IsReadTo part t k → IsReadTo (with_byte part (get_or t k 0)) t (k + 1)
+read_byte part t k h other (p, is, good) = (
+  p ++ get_or t k 0 ∷ [],
+  ap (λ x. with_byte x (get_or t k 0)) is ∙ sym (part_more p (get_or t k 0)),
+  good ∙ ap (are_good p) (at t k h) ∙ good_byte p (get_or t k 0) (drop (k + 1) t) other,
+)
+
+slash_read : (part : Part) (t : List ℕ) (k : ℕ) → k < length t → is_slash (get_or t k 0) ≡ true → IsReadTo part t k → is_path t ≡ (is_name part && are_good [] (drop (k + 1) t))
+slash_read part t k h slash (p, is, good) =
+    good ∙ ap (are_good p) (at t k h) ∙ good_slash p (get_or t k 0) (drop (k + 1) t) slash ∙ ap (λ x. is_name x && are_good [] (drop (k + 1) t)) (sym is)
+
+pub read_slash : (part : Part) (t : List ℕ) (k : ℕ) → k < length t → is_slash (get_or t k 0) ≡ true → is_name part ≡ true → IsReadTo part t k → IsReadTo Empty t (k + 1)
+read_slash part t k h slash name read = ([], refl, slash_read part t k h slash read ∙ ap (λ b. b && are_good [] (drop (k + 1) t)) name)
+
+pub read_bad : (part : Part) (t : List ℕ) (k : ℕ) → k < length t → is_slash (get_or t k 0) ≡ true → is_name part ≡ false → IsReadTo part t k → is_path t ≡ false
+read_bad part t k h slash bad read = slash_read part t k h slash read ∙ ap (λ b. b && are_good [] (drop (k + 1) t)) bad
+
+pub read_end : (part : Part) (t : List ℕ) (k : ℕ) → k ≡ length t → IsReadTo part t k → is_path t ≡ is_name part
+read_end part t k end (p, is, good) = good ∙ ap (are_good p) (ap (λ j. drop j t) end ∙ drop-length t) ∙ good_end p ∙ ap is_name (sym is)

@@ -1,0 +1,6 @@
+pub mod EntriesNaming
+pub mod NamesByKind
+pub mod SumFaults
+pub mod SummedFiles
+pub mod ValidityFaults
+pub mod ValidityList

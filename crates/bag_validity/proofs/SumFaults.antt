@@ -1,0 +1,123 @@
+-- The faults of one file's digests, one manifest after another.
+use Rattle.std.proofs.Common.{◌≡◌, ◌≢◌, ◌<◌, ◌≤◌, ◌+◌, ◌++◌, inl, inr, ℕ, List, length, take, get_or, Option, None, Some, sym, ap, ◌∙◌, subst, append-nil, Contains}
+use Rattle.std.specs.Option.{option_to_list}
+use Rattle.std.specs.Ordering.{on}
+use Rattle.std.specs.declared.cmp.Ordering.TheVariants.{Less}
+use Rattle.std.proofs.lemmas.List.{get_or_default, take_all}
+use Rattle.bag_text.specs.Alg.{algs, rank_cmp}
+use Rattle.bag_text.specs.Code.{stage}
+use Rattle.bag_text.specs.Order.{IsListOf, IsOnly}
+use Rattle.bag_text.specs.Text.{text_cmp}
+use Rattle.bag_text.specs.declared.alg.Alg.{Alg}
+use Rattle.bag_text.proofs.AlgSets.{each_is_listed, list_ascends}
+use Rattle.bag_text.proofs.ListOf.{nothing_listed, only_listed, same_members}
+use Rattle.bag_tags.specs.Manifest.{IsEntry}
+use Rattle.bag_tags.specs.declared.kind.Kind.{Kind}
+use Rattle.bag_tags.specs.declared.manifest.ManifestEntry.{ManifestEntry}
+use Rattle.bag_tags.proofs.ManifestEntries.{entry_named, entry_of_path_once}
+use Rattle.bag_tree.specs.Bag.{Bag, file}
+use Rattle.bag_digest.specs.Digest.{digest, sum_at}
+use Rattle.bag_fault.specs.FaultOrder.{fault_cmp}
+use Rattle.bag_fault.specs.declared.fault.Fault.{Fault}
+use Rattle.bag_facts.specs.TagFacts.{entry_paths, AreEntriesOf}
+use Rattle.bag_facts.proofs.Mapped.{mapped_contains}
+use Rattle.bag_stages.specs.TagFiles.{lines_in, lines_or_none, manifest_of, Names}
+use Rattle.bag_stages.proofs.ByItem.{OfSome, one_item_more}
+use Rattle.bag_stages.proofs.InFile.{less_by_alg}
+use Rattle.bag_validity.specs.SumFaults.{fault_of_sum, IsOfAlg, TellsOfSum}
+use Rattle.bag_validity.specs.SummedFiles.{kind_of, AreSumsFor}
+use Rattle.bag_validity.specs.ValidityStage.{IsEntryIn, IsOfFile}
+use Rattle.bag_validity.proofs.NamesByKind.{names_by_kind}
+use Rattle.bag_validity.proofs.ValidityFaults.{entry_of_validity, validity_of_entry}
+
+entries_by : (kind : Kind) (alg : Alg) (content : Option (List ℕ)) (entries : List ManifestEntry) → AreEntriesOf kind alg content entries
+    → IsListOf (on (λ e. e.path) text_cmp) (IsEntry kind alg (lines_or_none content)) entries
+entries_by kind alg None entries none =
+    subst (IsListOf (on (λ e. e.path) text_cmp) (IsEntry kind alg (lines_or_none None))) (sym none)
+    (nothing_listed _ (IsEntry kind alg (lines_or_none None)) (λ e h. let clash : None ≡ Some h.0 = h.1.1 in cc))
+entries_by kind alg (Some bytes) entries list = list
+
+-- one manifest
+module _ (bag : Bag) (path : List ℕ) (kind : Kind) (alg : Alg) (entries : List ManifestEntry) (are : AreEntriesOf kind alg (file bag (manifest_of kind alg)) entries) where
+  pub listed : IsListOf (on (λ e. e.path) text_cmp) (IsEntryIn bag kind alg) entries
+  listed = entries_by kind alg (file bag (manifest_of kind alg)) entries are
+
+  -- one that doesn't name the file
+  pub none_by_alg : ¬ (Contains (entry_paths entries) path) → IsOnly (IsOfAlg bag path kind alg) None
+  none_by_alg lacks f h = lacks (subst (Contains (entry_paths entries)) h.3 (mapped_contains (λ e. e.path) entries h.0 ((listed.members h.0).1 h.2)))
+
+  -- one that names it, and its digests
+  module _ (content : List ℕ) (sums : List (Option (List ℕ))) (there : file bag path ≡ Some content) (sums_are : AreSumsFor bag path content sums)
+      (entry : ManifestEntry) (c : Contains entries entry) (at : entry.path ≡ path) where
+    is_in : IsEntryIn bag kind alg entry
+    is_in = (listed.members entry).0 c
+
+    asked : sum_at sums alg ≡ Some (digest alg content)
+    asked = sums_are.2.each alg (sums_are.1 kind alg (subst (Names bag kind alg) at (entry_named kind alg (lines_in bag (manifest_of kind alg)) entry is_in)))
+
+    same_entry : (f : Fault) (h : IsOfAlg bag path kind alg f) → h.0 ≡ entry
+    same_entry f h = entry_of_path_once kind alg (lines_in bag (manifest_of kind alg)) h.0 entry h.2 is_in (h.3 ∙ sym at)
+
+    same_content : (f : Fault) (h : IsOfAlg bag path kind alg f) → h.1 ≡ content
+    same_content f h = let both : Some h.1 ≡ Some content = sym h.4 ∙ there in cc
+
+    pub told_by_alg : (fault : Option Fault) → TellsOfSum kind alg entry (sum_at sums alg) fault → IsOnly (IsOfAlg bag path kind alg) fault
+    told_by_alg None right = λ f h. elim right [
+      | inl none ↦ (let clash : None ≡ Some (digest alg content) = sym none ∙ asked in cc)
+      | inr same ↦ (let both : Some entry.digest ≡ Some (digest alg content) = sym same ∙ asked in
+          let is : entry.digest ≡ digest alg content = cc in
+          absurd (h.5 (ap (λ (e : ManifestEntry). e.digest) (same_entry f h) ∙ is ∙ sym (ap (digest alg) (same_content f h)))))
+    ]
+    told_by_alg (Some g) (found, at_found, differ, is) =
+        let both : Some found ≡ Some (digest alg content) = sym at_found ∙ asked in
+        let same : found ≡ digest alg content = cc in
+        let told : g ≡ fault_of_sum kind alg entry (digest alg content) = is ∙ ap (fault_of_sum kind alg entry) same in (
+          (entry, content, is_in, at, there, subst (λ d. entry.digest ≢ d) same differ, told),
+          λ f h. h.6 ∙ (λ i. fault_of_sum kind alg (same_entry f h i) (digest alg (same_content f h i))) ∙ sym told,
+        )
+
+module _ (bag : Bag) (path : List ℕ) (kind : Kind) where
+  less_of_alg : (a b : Alg) (x y : Fault) → IsOfAlg bag path kind a x → IsOfAlg bag path kind b y → rank_cmp a b ≡ Less → fault_cmp x y ≡ Less
+  less_of_alg a b x y h k before =
+      let first : x.alg ≡ Some a = ap (λ (f : Fault). f.alg) h.6 in
+      let second : y.alg ≡ Some b = ap (λ (f : Fault). f.alg) k.6 in
+      less_by_alg x y (ap (λ (f : Fault). stage f.code) h.6 ∙ sym (ap (λ (f : Fault). stage f.code) k.6))
+      (ap (λ (f : Fault). f.path) h.6 ∙ h.3 ∙ sym (ap (λ (f : Fault). f.path) k.6 ∙ k.3)) (rw (first, second) before)
+
+  -- the manifests of the first algorithms, and of the next
+  pub one_alg_more : (i : ℕ) (any : Alg) (faults : List Fault) (fault : Option Fault) → i < length algs → IsListOf fault_cmp (OfSome (IsOfAlg bag path kind) (take i algs)) faults
+      → IsOnly (IsOfAlg bag path kind (get_or algs i any)) fault → IsListOf fault_cmp (OfSome (IsOfAlg bag path kind) (take (i + 1) algs)) (faults ++ option_to_list fault)
+  one_alg_more i any faults fault lt list only =
+      let alg : Alg = get_or algs i any in
+      one_item_more rank_cmp (IsOfAlg bag path kind) less_of_alg algs i alg faults (option_to_list fault) list_ascends lt (sym (get_or_default algs i alg any lt)) list
+      (only_listed fault_cmp (IsOfAlg bag path kind alg) fault only)
+
+  pub no_alg_more : (i : ℕ) (any : Alg) (faults : List Fault) → i < length algs → IsListOf fault_cmp (OfSome (IsOfAlg bag path kind) (take i algs)) faults
+      → IsOnly (IsOfAlg bag path kind (get_or algs i any)) None → IsListOf fault_cmp (OfSome (IsOfAlg bag path kind) (take (i + 1) algs)) faults
+  no_alg_more i any faults lt list only =
+      subst (IsListOf fault_cmp (OfSome (IsOfAlg bag path kind) (take (i + 1) algs))) (append-nil faults) (one_alg_more i any faults None lt list only)
+
+  to_file : (f : Fault) → OfSome (IsOfAlg bag path kind) algs f → IsOfFile bag path f
+  to_file f (alg, c, (entry, content, listed, at, there, differ, is)) =
+      (entry_of_validity bag f (kind, (alg, (entry, listed, (content, ap (file bag) at ∙ there, differ, is)))), ap (λ (f : Fault). f.path) is ∙ at)
+
+  from_file : kind ≡ kind_of path → (f : Fault) → IsOfFile bag path f → OfSome (IsOfAlg bag path kind) algs f
+  from_file right f (valid, of_path) =
+      let some = validity_of_entry bag f valid in
+      let alg : Alg = some.1.0 in
+      let entry : ManifestEntry = some.1.1.0 in
+      let at : entry.path ≡ path = sym (ap (λ (f : Fault). f.path) some.1.1.2.3) ∙ of_path in
+      let named : Names bag some.0 alg path = subst (Names bag some.0 alg) at (entry_named some.0 alg (lines_in bag (manifest_of some.0 alg)) entry some.1.1.1) in
+      let same : some.0 ≡ kind = names_by_kind bag some.0 alg path named ∙ sym right in (
+        alg,
+        each_is_listed alg,
+        subst (λ k. IsOfAlg bag path k alg f) same
+            (entry, some.1.1.2.0, some.1.1.1, at, sym (ap (file bag) at) ∙ some.1.1.2.1, some.1.1.2.2, some.1.1.2.3),
+      )
+
+  -- those of the kind that may name the file are all
+  pub all_algs : kind ≡ kind_of path → (i : ℕ) (faults : List Fault) → length algs ≤ i → IsListOf fault_cmp (OfSome (IsOfAlg bag path kind) (take i algs)) faults
+      → IsListOf fault_cmp (IsOfFile bag path) faults
+  all_algs right i faults le list =
+      same_members fault_cmp _ _ faults to_file (from_file right)
+      (subst (λ some. IsListOf fault_cmp (OfSome (IsOfAlg bag path kind) some) faults) (take_all i algs le) list)

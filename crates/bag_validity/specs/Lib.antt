@@ -1,0 +1,3 @@
+pub mod SumFaults
+pub mod SummedFiles
+pub mod ValidityStage

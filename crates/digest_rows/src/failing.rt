@@ -1,0 +1,94 @@
+//! Trees of which a call is refused.
+ghost use Rattle.std.specs.Prelude.{◌<◌, length};
+
+use crate::files::bytes_of;
+use bag_store::{FailTree, FileEntry, MemoryTree, TreeFault, digest_file};
+use bag_text::{Alg, AlgSet, Text};
+use std::alloc::{AllocError, Global};
+use std::process::Abort;
+use std::test::Fail;
+
+const PATH: &str = "data/x";
+
+/// The digests of `abc`, as RFC 1321 and FIPS 180 publish them.
+const OF_ABC: &[(Alg, &str)] = &[
+    (Alg::Md5, "900150983cd24fb0d6963f7d28e17f72"),
+    (Alg::Sha1, "a9993e364706816aba3e25717850c26c9cd0d89d"),
+];
+
+/// How many bytes the files have of which the calls are counted.
+const SIZES: &[u32] = &[0, 1, 2, 3, 7, 64];
+
+/// A tree with the file `abc`, of which the call of this number is refused.
+fn failing(alloc: Global, k: u64) -> Result<FailTree<MemoryTree>, AllocError> {
+    let mut tree = MemoryTree::new(alloc);
+    tree.put_file(PATH, b"abc")?;
+    Ok(FailTree::new(tree, k))
+}
+
+fn entry(alloc: Global, size: u64) -> Result<FileEntry, AllocError> {
+    Ok(FileEntry {
+        path: Text::from_str(alloc, PATH)?,
+        size,
+    })
+}
+
+/// Reads a byte at a time: an opening, three reads that give a byte, and one at the end.
+#[test]
+fn the_fifth_call_is_the_last(rt: HostRuntime) -> Result<(), Fail> {
+    let alloc = rt.alloc();
+    let entry = entry(alloc, 3)?;
+    for &(alg, wanted) in OF_ABC {
+        let algs = AlgSet::empty().with(alg);
+        for k in 1..=5 {
+            let refused = digest_file(&mut failing(alloc, k)?, &entry, algs, &mut [0; 1]).err();
+            assert!(rt; refused == Some(TreeFault::Device), "{k}");
+        }
+        let sums = digest_file(&mut failing(alloc, 6)?, &entry, algs, &mut [0; 1])?;
+        assert_eq!(rt; sums.hex(alloc, alg)?.as_str(), wanted);
+    }
+    Ok(())
+}
+
+/// What refuses the digests of a file of so many bytes, where the call of this number is refused.
+fn refused(
+    alloc: Global,
+    size: u32,
+    k: u64,
+    buffer: &mut [u8],
+) -> Result<Option<TreeFault>, AllocError>
+    requires { 0 < length buffer.old }
+{
+    let mut tree = MemoryTree::new(alloc);
+    tree.put_file(PATH, &bytes_of(alloc, size)?)?;
+    let entry = entry(alloc, u64::from(size))?;
+    Ok(digest_file(&mut FailTree::new(tree, k), &entry, AlgSet::empty(), buffer).err())
+}
+
+/// A pass makes a call for the opening, one for each piece, and one for the end: at most two more than there are bytes.
+fn takes_few_calls(rt: &impl Abort, alloc: Global, size: u32, buffer: &mut [u8]) -> Result<(), Fail>
+    requires { 0 < length buffer.old }
+{
+    let calls = u64::from(size).div_ceil(buffer.len() as u64) + 2;
+    for k in 1..=u64::from(size) + 3 {
+        let wanted = if k <= calls {
+            Some(TreeFault::Device)
+        } else {
+            None
+        };
+        assert!(rt; refused(alloc, size, k, buffer)? == wanted, "{size} {k}");
+    }
+    assert!(rt; calls <= u64::from(size) + 2, "{size}");
+    Ok(())
+}
+
+#[test]
+fn a_pass_takes_few_calls(rt: HostRuntime) -> Result<(), Fail> {
+    for &size in SIZES {
+        takes_few_calls(&rt, rt.alloc(), size, &mut [0; 1])?;
+        takes_few_calls(&rt, rt.alloc(), size, &mut [0; 2])?;
+        takes_few_calls(&rt, rt.alloc(), size, &mut [0; 3])?;
+        takes_few_calls(&rt, rt.alloc(), size, &mut [0; 64])?;
+    }
+    Ok(())
+}

@@ -1,0 +1,68 @@
+//! Requests, and what checks write.
+use bag_report::{Fault, Options};
+use bag_store::{Tree, WriterOut};
+use bag_text::Text;
+use bag_walk::{Request, run, status};
+use std::alloc::{AllocError, Global};
+use std::test::Fail;
+
+/// A request for the faults of a bag called `d`.
+pub fn request_for(
+    alloc: Global,
+    options: Options,
+    after: Option<Fault>,
+    limit: Option<u64>,
+    quiet: bool,
+) -> Result<Request, AllocError> {
+    Ok(Request {
+        options,
+        after,
+        limit,
+        quiet,
+        name: Text::from_str(alloc, "d")?,
+    })
+}
+
+/// The fault of a line.
+fn cursor(alloc: Global, line: Option<&str>) -> Result<Option<Fault>, Fail> {
+    match line {
+        None => Ok(None),
+        Some(line) => Ok(Some(Fault::from_line(alloc, line)?)),
+    }
+}
+
+/// A request for the faults of a bag called `d`, above the fault of a line and up to a limit.
+pub fn request_of(
+    alloc: Global,
+    options: Options,
+    after: Option<&str>,
+    limit: Option<u64>,
+) -> Result<Request, Fail> {
+    let after = cursor(alloc, after)?;
+    Ok(request_for(alloc, options, after, limit, false)?)
+}
+
+/// The tree after a check, and whether it wrote this and ended with this exit status.
+pub fn after_check<T: Tree + Drop>(
+    alloc: Global,
+    tree: T,
+    request: Request,
+    wanted: (&str, u8),
+) -> (T, bool) {
+    let mut out = WriterOut::new(Vec::<u8>::new(alloc));
+    let (tree, outcome) = run(alloc, tree, request, &mut out);
+    let is_written = out.into_inner().as_slice() == wanted.0.as_bytes();
+    (tree, is_written && status(&outcome) == wanted.1)
+}
+
+/// Whether a check writes this, and ends with this exit status.
+pub fn is_checked<T: Tree + Drop>(
+    alloc: Global,
+    tree: T,
+    request: Request,
+    output: &str,
+    status: u8,
+) -> bool {
+    let (_tree, holds) = after_check(alloc, tree, request, (output, status));
+    holds
+}

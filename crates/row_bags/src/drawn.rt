@@ -1,0 +1,11 @@
+//! Numbers that generated bags are drawn by.
+
+/// Scatters bytes over a number.
+pub fn mixed(number: u64, bytes: &[u8]) -> u64 {
+    let mut mixed = number;
+    for byte in bytes {
+        mixed = (mixed ^ u64::from(*byte)).wrapping_mul(0xbf58_476d_1ce4_e5b9);
+        mixed ^= mixed >> 32;
+    }
+    mixed
+}

@@ -1,0 +1,98 @@
+//! Bags whose faults of one stage are judged, at each depth.
+use crate::bags::put;
+use crate::stages::{has_text, text_of_lines};
+use bag_report::{Depth, Options};
+use bag_store::MemoryTree;
+use std::alloc::Global;
+use std::test::Fail;
+
+/// What a bag holds.
+pub struct Bag {
+    pub has_data: bool,
+    pub files: &'static [(&'static str, &'static [u8])],
+}
+
+/// A bag, and the lines of its faults in one stage.
+pub struct StageRow {
+    pub bag: Bag,
+    pub lines: &'static [&'static str],
+}
+
+impl Bag {
+    /// A tree of the bag.
+    pub fn tree(&self, alloc: Global) -> Result<MemoryTree, Fail> {
+        let mut tree = MemoryTree::new(alloc);
+        self.fill(&mut tree)?;
+        Ok(tree)
+    }
+
+    /// Puts what the bag holds into a tree.
+    pub fn fill(&self, tree: &mut MemoryTree) -> Result<(), Fail> {
+        if self.has_data {
+            tree.put_folder("data")?;
+        }
+        for (path, bytes) in self.files {
+            put(tree, path, bytes)?;
+        }
+        Ok(())
+    }
+}
+
+/// Whether the faults of a stage have these lines, or there are none where the depth doesn't look at the stage. No stage of
+/// these looks for names that clash.
+pub fn has_lines(
+    alloc: Global,
+    bag: &Bag,
+    (depth, has_stage): (Depth, bool),
+    stage: u8,
+    lines: &[&str],
+) -> Result<bool, Fail> {
+    let expected = if has_stage {
+        text_of_lines(alloc, lines)?
+    } else {
+        String::new(alloc)
+    };
+    let mut tree = bag.tree(alloc)?;
+    has_text_anyway(alloc, &mut tree, depth, stage, expected.as_str())
+}
+
+/// Whether the faults of a stage have these lines, whether clashes of names are looked for or not.
+fn has_text_anyway(
+    alloc: Global,
+    tree: &mut MemoryTree,
+    depth: Depth,
+    stage: u8,
+    wanted: &str,
+) -> Result<bool, Fail> {
+    for clashes in [false, true] {
+        let options = Options { depth, clashes };
+        if !has_text(alloc, tree, options, stage, wanted)? {
+            return Ok(false);
+        }
+    }
+    Ok(true)
+}
+
+/// What a stage has that isn't looked at.
+pub const NO_LINES: &[&str] = &[];
+
+/// Whether a stage has these lines at depth Fast, and those above it.
+pub fn is_judged(
+    alloc: Global,
+    bag: &Bag,
+    stage: u8,
+    at_fast: &'static [&'static str],
+    above: &'static [&'static str],
+) -> Result<bool, Fail> {
+    for (depth, lines) in [
+        (Depth::Declaration, NO_LINES),
+        (Depth::Fast, at_fast),
+        (Depth::Complete, above),
+        (Depth::Full, above),
+    ] {
+        if !has_lines(alloc, bag, (depth, true), stage, lines)? {
+            return Ok(false);
+        }
+    }
+    Ok(true)
+}

@@ -1,0 +1,16 @@
+//! What worked examples share: bags in memory, requests, what a check of a bag writes, and the lines of a stage's faults.
+#![tactic(auto)]
+
+mod bags;
+mod checks;
+mod drawn;
+mod folders;
+mod judged;
+mod stages;
+
+pub use bags::{DECLARATION, DECLARED, Files, put, put_files, tree_of};
+pub use checks::{after_check, is_checked, request_for, request_of};
+pub use drawn::mixed;
+pub use folders::{fresh, write_bag};
+pub use judged::{Bag, NO_LINES, StageRow, has_lines, is_judged};
+pub use stages::{facts_of, has_text, text_of_lines};
