@@ -102,19 +102,15 @@ fn write_line(
     expected: usize,
     found: usize,
 ) -> Result<(), AllocError> {
-    for piece in [
-        manifest.front,
-        path,
-        " ",
-        manifest.alg,
-        " - ",
-        manifest.digests[expected % 3],
-        ":",
-        manifest.digests[found % 3],
-        "\n",
-    ] {
-        text.push_str(piece)?;
-    }
+    text.push_str(manifest.front)?;
+    text.push_str(path)?;
+    text.push_str(" ")?;
+    text.push_str(manifest.alg)?;
+    text.push_str(" - ")?;
+    text.push_str(manifest.digests[expected % 3])?;
+    text.push_str(":")?;
+    text.push_str(manifest.digests[found % 3])?;
+    text.push_str("\n")?;
     Ok(())
 }
 

@@ -17,7 +17,7 @@ const OF_B: &str = "92eb5ffee6ae2fec3ad71c777531578f";
 
 /// The path of a file. A later one is greater.
 fn path_of(alloc: Global, number: usize) -> Result<String, Fail> {
-    Ok(format!(in alloc; "data/{}", number + 10_000)?)
+    Ok(format!(in alloc; "data/{}", number.saturating_add(10_000))?)
 }
 
 /// A bag of thousands of files, each `a`, whose manifest gives each this digest.
