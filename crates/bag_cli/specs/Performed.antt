@@ -25,12 +25,12 @@ use Rattle.bag_cli.specs.Sample.{sample_state}
 abbrev pub request_of : List ℕ → Request
 request_of name = record { options = record { depth = Declaration; clashes = false }; after = None; limit = None; quiet = false; name = name }
 
--- A check is a run over this tree: it shows the faults of the tree's bag wherever the tree is honest.
+-- A check is a run over this tree, without a profile: it shows the faults of the tree's bag wherever the tree is honest.
 pub record IsCheckOf (tree : TreeState) (name : List ℕ) (before after : Option (List ℕ)) (outcome : Outcome) : Type 0 where
   pub new : TreeState
   pub refused : Bool
-  pub run : IsRun tree new (request_of name) before after refused outcome
-  pub by_report : IsRunByReport tree new (request_of name) before after refused outcome
+  pub run : IsRun tree new None (request_of name) before after refused outcome
+  pub by_report : IsRunByReport tree new None (request_of name) before after refused outcome
 
 -- the output took the whole report
 abbrev pub is_written : Outcome → Bool
@@ -91,7 +91,7 @@ shown_of request report = first (min (limit_of request) (length report)) report
 -- the status tells whether there are faults.
 abbrev pub TellsReport : Bag → List ℕ → Option (List ℕ) → Option (List ℕ) → ℕ → Type 0
 TellsReport bag name before after n =
-    n ≢ 3 → (report : List Fault) → IsReport (check_of bag (request_of name)) report
+    n ≢ 3 → (report : List Fault) → IsReport (check_of bag None (request_of name)) report
     → (n ≡ status (ideal (request_of name) report))
     × Appends before after (concat (lines_of_run (request_of name) (shown_of (request_of name) report) (ideal (request_of name) report)))
 

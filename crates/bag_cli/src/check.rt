@@ -46,7 +46,7 @@ fn check<T: Tree + Drop, O: Out>(
     ensures nothing { OnErr result (O.taken out.new ≡ O.taken out.old) }
 {
     let request = request_named(alloc, name)?;
-    let (_tree, outcome) = run(alloc, tree, request, out);
+    let (_tree, outcome) = run(alloc, tree, None, request, out);
     Ok(outcome)
 }
 

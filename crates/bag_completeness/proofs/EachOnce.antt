@@ -1,5 +1,5 @@
 -- Lists that have each of a set once: two that share nothing, one for each algorithm, and sorted.
-use Rattle.std.proofs.Common.{◌≡◌, ◌<◌, ◌≤◌, ◌⊎◌, inl, inr, ◌+◌, ◌++◌, ℕ, List, [], ◌∷◌, length, take, get_or, Some, is_lt, sym, ◌∙◌, subst}
+use Rattle.std.proofs.Common.{◌≡◌, ◌<◌, ◌≤◌, ◌⊎◌, ◌+◌, ◌++◌, ℕ, List, [], length, take, get_or, Some, is_lt, sym, ◌∙◌, subst}
 use Rattle.std.specs.Cmp.{nat_cmp_total, tied_itself}
 use Rattle.std.specs.List.Sorted.{IsPermutation, IsSortedBy}
 use Rattle.std.specs.declared.cmp.Ordering.TheVariants.{Less, Equal}
@@ -9,12 +9,12 @@ use Rattle.bag_text.specs.Alg.{algs, rank, rank_cmp}
 use Rattle.bag_text.specs.Order.{IsListOf}
 use Rattle.bag_text.specs.declared.alg.Alg.{Alg}
 use Rattle.bag_text.proofs.AlgSets.{each_is_listed, list_ascends}
-use Rattle.bag_text.proofs.ListOf.{contains_cases, contains_first, contains_nothing, contains_front, contains_back, contains_either, nothing_listed}
+use Rattle.bag_text.proofs.ListOf.{contains_nothing, nothing_listed}
 use Rattle.bag_fault.specs.FaultOrder.{fault_cmp}
 use Rattle.bag_fault.specs.declared.fault.Fault.{Fault}
 use Rattle.bag_fault.proofs.Ordered.{fault_cmp_total, fault_cmp_same}
 use Rattle.bag_facts.proofs.Mapped.{take_one_more}
-use Rattle.bag_stages.proofs.ByItem.{OfSome, before_next}
+use Rattle.bag_stages.proofs.ByItem.{OfSome, before_next, of_last_or_before, of_one_more}
 use Rattle.bag_stages.proofs.ByPath.{take_whole}
 use Rattle.bag_stages.proofs.Sorted as sorted
 use Rattle.bag_completeness.specs.CompletenessFaults.{HasEachOnce}
@@ -60,15 +60,7 @@ module _ (IsOf : Alg → Fault → Type 0) (told : (alg : Alg) (f : Fault) → I
       let before : List Alg = take i algs in
       let at : alg ≡ get_or algs i alg = sym (get_or_default algs i alg any lt) in
       subst (λ some. HasEachOnce (OfSome IsOf some) (faults ++ of_alg)) (sym (take_one_more algs i alg lt at))
-      (same_once _ _ (faults ++ of_alg)
-      (λ f h. elim h [
-        | inl a ↦ (a.0, contains_front before (alg ∷ []) a.0 a.1, a.2)
-        | inr b ↦ (alg, contains_back before (alg ∷ []) alg (contains_first alg []), b)
-      ])
-      (λ f h. elim (contains_either before (alg ∷ []) h.0 h.1) [
-        | inl a ↦ inl (h.0, a, h.2)
-        | inr b ↦ elim (contains_cases alg [] h.0 b) [ inl same ↦ inr (subst (λ a. IsOf a f) (sym same) h.2) | inr none ↦ absurd (contains_nothing h.0 none) ]
-      ])
+      (same_once _ _ (faults ++ of_alg) (of_one_more IsOf before alg) (of_last_or_before IsOf before alg)
       (both_once (OfSome IsOf before) (IsOf alg) faults of_alg
       (λ f h k. not_below h.0 alg (one_alg h.0 alg (sym (told h.0 f h.2) ∙ told alg f k)) (before_next rank_cmp algs i alg h.0 list_ascends lt at h.1))
       first next))

@@ -1,39 +1,18 @@
 -- The faults of paths, by the manifest of one algorithm.
 use Rattle.std.proofs.Common.{◌≡◌, ◌<◌, ◌≤◌, ◌+◌, ◌++◌, ◌∷◌, ℕ, List, [], length, take, get_or, map, refl, sym, ap, ◌∙◌, subst, Contains, append-nil}
 use Rattle.std.specs.List.Sorted.{IsStrictlySortedBy}
-use Rattle.std.specs.Ordering.{on}
 use Rattle.std.specs.declared.cmp.Ordering.TheVariants.{Less}
 use Rattle.bag_text.specs.Code.{stage}
 use Rattle.bag_text.specs.Order.{IsListOf}
 use Rattle.bag_text.specs.Text.{text_cmp}
 use Rattle.bag_text.specs.declared.alg.Alg.{Alg}
 use Rattle.bag_text.specs.declared.code.Code.{Code}
-use Rattle.bag_text.proofs.ListOf.{contains_nothing, each_from_members, member_has, nothing_listed, one_listed, same_members}
+use Rattle.bag_text.proofs.ListOf.{contains_nothing, nothing_listed, one_listed, same_members}
 use Rattle.bag_fault.specs.FaultOrder.{fault_cmp}
 use Rattle.bag_fault.specs.declared.fault.Fault.{Fault}
-use Rattle.bag_facts.proofs.Mapped.{contains_mapped, mapped_contains}
 use Rattle.bag_stages.proofs.ByPath.{one_item_more, take_whole}
 use Rattle.bag_stages.proofs.InFile.{less_by_path}
 use Rattle.bag_completeness.specs.CompletenessFaults.{of_file, IsOfPath, IsOfPathAmong}
-
--- items in the order of their paths, and the ascending list of these
-module _ {I : Type 0} (path_of : I → List ℕ) where
-  pub paths_ascend : (items : List I) → IsStrictlySortedBy (on path_of text_cmp) items → IsStrictlySortedBy text_cmp (map path_of items)
-  unfolding IsStrictlySortedBy
-  paths_ascend [] s = tt
-  paths_ascend (x ∷ items) s = (
-    each_from_members _ (map path_of items)
-        (λ p c. let at = contains_mapped path_of items p c in subst (λ q. text_cmp (path_of x) q ≡ Less) at.2 (member_has _ items at.0 s.0 at.1)),
-    paths_ascend items s.1,
-  )
-
-  pub items_ascend : (items : List I) → IsStrictlySortedBy text_cmp (map path_of items) → IsStrictlySortedBy (on path_of text_cmp) items
-  unfolding IsStrictlySortedBy
-  items_ascend [] s = tt
-  items_ascend (x ∷ items) s = (
-    each_from_members _ items (λ y c. member_has _ (map path_of items) (path_of y) s.0 (mapped_contains path_of items y c)),
-    items_ascend items s.1,
-  )
 
 module _ (code : Code) (alg : Alg) (IsWrong : List ℕ → Type 0) where
   abbrev Found : Fault → Type 0

@@ -26,13 +26,13 @@ use Rattle.bag_facts.specs.TagFacts.{entry_paths, IsManifestNamed, IsReadOf}
 use Rattle.bag_facts.specs.TagReader.{AreListed}
 use Rattle.bag_facts.specs.Wanted.{paths_of}
 use Rattle.bag_facts.specs.declared.manifest.Manifest.{Manifest}
+use Rattle.bag_facts.proofs.ByPath.{paths_ascend}
 use Rattle.bag_facts.proofs.ListedFiles.{file_listed, listed_file}
 use Rattle.bag_facts.proofs.Mapped.{kept, passed, take_one_more, taken_cases}
 use Rattle.bag_stages.specs.TagFiles.{manifest_of, Names}
 use Rattle.bag_stages.proofs.ReadManifest.{entry_names, names_entry, names_nothing}
 use Rattle.bag_completeness.specs.CompletenessStage.{IsPayloadName}
 use Rattle.bag_completeness.specs.Names.{texts_of, IsNameOf}
-use Rattle.bag_completeness.proofs.FaultsOfPaths.{paths_ascend}
 
 abbrev pub Lent : Type 0
 Lent = Bor (List ℕ)

@@ -1,2 +1,3 @@
+pub mod Spelled
 pub mod SumsOf
 pub mod Updates

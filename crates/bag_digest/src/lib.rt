@@ -2,7 +2,7 @@
 //!
 //! ```
 //! let sums = digest_file(&mut tree, entry, algs, &mut buffer)?;
-//! if !sums.is_spelled(Alg::Sha256, line.digest.as_str()) {
+//! if !sums.is_digest(Alg::Sha256, line.digest.bytes()) {
 //!     report(sums.hex(alloc, Alg::Sha256)?);
 //! }
 //! ```

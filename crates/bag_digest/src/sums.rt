@@ -78,6 +78,16 @@ impl Sums {
         }
     }
 
+    /// Whether the algorithm was asked for, and its digest is these bytes.
+    pub fn is_digest(&self, alg: Alg, bytes: &[u8]) -> bool
+        ensures { IsTrue result ↔ (sum_at self.now alg ≡ Some (encode_lower bytes.now)) }
+    {
+        match self.bytes(alg) {
+            Some(found) => are_same(found, bytes),
+            None => false,
+        }
+    }
+
     /// The digest by this algorithm.
     fn bytes(&self, alg: Alg) -> Option<&[u8]>
         ensures { MatchOption result (sum_at self.now alg ≡ None) (λ bytes. (length bytes.now ≤ 64) × (sum_at self.now alg ≡ Some (encode_lower bytes.now))) }
@@ -87,6 +97,13 @@ impl Sums {
             None => None,
         }
     }
+}
+
+/// Whether both are spelled in one way.
+fn are_same(found: &[u8], bytes: &[u8]) -> bool
+    ensures { IsTrue result ↔ (encode_lower found.now ≡ encode_lower bytes.now) }
+{
+    found == bytes
 }
 
 /// Whether the text is the bytes in lower-case hex.

@@ -82,6 +82,16 @@ module _ {A : Type 0} (key : A → List ℕ) where
           );
         }
 
+  -- the texts of items that stand in their order ascend
+  pub paths_ascend : (xs : List A) → IsStrictlySortedBy (on key text_cmp) xs → IsStrictlySortedBy text_cmp (map key xs)
+  unfolding IsStrictlySortedBy
+  paths_ascend [] s = tt
+  paths_ascend (x ∷ xs) s = (
+    each_from_members _ (map key xs)
+        (λ p c. let at = contains_mapped key xs p c in subst (λ q. text_cmp (key x) q ≡ Less) at.2 (member_has _ xs at.0 s.0 at.1)),
+    paths_ascend xs s.1,
+  )
+
   -- items stand in the order of their texts where these ascend
   pub items_ascend : (xs : List A) → IsStrictlySortedBy text_cmp (map key xs) → IsStrictlySortedBy (on key text_cmp) xs
   unfolding IsStrictlySortedBy

@@ -45,6 +45,12 @@ pub opens_all_later : (options : Options) (files : List FileEntry) (old mid new 
     → new.openings ≡ mid.openings ++ paths → OpensAll options files old new
 opens_all_later options files old mid new paths e are o = (paths, are, o ∙ ap (λ before. before ++ paths) e)
 
+-- with all that were wanted no other is opened
+pub opened_wanted : (options : Options) (files : List FileEntry) (old mid new : TreeState) (paths : List (List ℕ)) → mid.openings ≡ old.openings → AreWanted options files paths
+    → new.openings ≡ mid.openings ++ paths → OpensWanted options old new
+opened_wanted options files old mid new paths e are o =
+    opens_wanted options files old new (opens_all_first options files old new (opens_all_later options files old mid new paths e are o))
+
 pub opens_up_to_later : (options : Options) (files : List FileEntry) (path : List ℕ) (old mid new : TreeState) → mid.openings ≡ old.openings → OpensUpTo options files path mid new
     → OpensUpTo options files path old new
 opens_up_to_later options files path old mid new e o = (

@@ -1,11 +1,12 @@
 -- How much of a bag is checked.
-use Rattle.std.specs.Prelude.{ℕ}
+use Rattle.std.specs.Prelude.{ℕ, ◌==◌, ◌||◌, Bool, nat_le}
 use Rattle.bag_facts.specs.declared.options.Depth.{Depth}
 use Rattle.bag_facts.specs.declared.options.Depth.TheVariants.{Declaration, Fast, Complete, Full}
 
--- the last stage of a depth
-abbrev pub last_stage : Depth → ℕ
-last_stage Declaration = 1
-last_stage Fast = 3
-last_stage Complete = 6
-last_stage Full = 7
+-- Whether a depth looks at a stage: each up to its last, and at every depth but Declaration the eighth, which needs a
+-- profile.
+abbrev pub reaches : Depth → ℕ → Bool
+reaches Declaration k = nat_le k 1
+reaches Fast k = nat_le k 3 || k == 8
+reaches Complete k = nat_le k 6 || k == 8
+reaches Full k = nat_le k 8

@@ -83,7 +83,10 @@ fn common_len(entries: &[ManifestEntry]) -> usize {
     };
     let mut common = first.path.as_str().as_bytes();
     for entry in entries {
-        common = common_front(common, entry.path.as_str().as_bytes());
+        let path = entry.path.as_str().as_bytes();
+        if !path.starts_with(common) {
+            common = common_front(common, path);
+        }
     }
     common.len()
 }

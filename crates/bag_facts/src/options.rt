@@ -1,6 +1,6 @@
 //! What is asked of a check.
 ghost use Rattle.std.specs.Prelude.{◌≡◌, ◌↔◌, IsTrue};
-ghost use Rattle.bag_facts.specs.Options.{last_stage};
+ghost use Rattle.bag_facts.specs.Options.{reaches};
 ghost use Rattle.bag_facts.specs.Wanted.{Wants};
 
 use bag_tags::TagName;
@@ -19,15 +19,15 @@ pub enum Depth {
 }
 
 impl Depth {
-    /// The last stage of the check that is looked at, from 1.
-    pub fn last_stage(self) -> u8
-        ensures { result ≡ last_stage self }
+    /// Whether a stage of the check, from 1 to 8, is looked at; the eighth has faults only where there is a profile.
+    pub fn has_stage(self, stage: u8) -> bool
+        ensures { result ≡ reaches self stage }
     {
         match self {
-            Depth::Declaration => 1,
-            Depth::Fast => 3,
-            Depth::Complete => 6,
-            Depth::Full => 7,
+            Depth::Declaration => stage <= 1,
+            Depth::Fast => stage <= 3 || stage == 8,
+            Depth::Complete => stage <= 6 || stage == 8,
+            Depth::Full => stage <= 8,
         }
     }
 }

@@ -1,6 +1,7 @@
 -- The faults of a stage that are asked for.
-use Rattle.std.proofs.Common.{◌≡◌, ◌≢◌, ◌<◌, ◌≤◌, ◌&&◌, ℕ, List, [], true, refl, ap, sym, subst, ◌∙◌, filter, arith, nat_le}
+use Rattle.std.proofs.Common.{◌≡◌, ◌≢◌, ◌<◌, ◌&&◌, ℕ, List, [], true, false, refl, ap, sym, subst, ◌∙◌, filter, arith}
 use Rattle.std.proofs.lemmas.Bool.{and_parts}
+use Rattle.std.proofs.lemmas.Bool.Decides.{nat_tests}
 use Rattle.bag_text.specs.Code.{stage}
 use Rattle.bag_text.specs.Order.{IsListOf}
 use Rattle.bag_text.specs.declared.code.Code.{Code}
@@ -8,7 +9,7 @@ use Rattle.bag_text.specs.declared.code.Code.TheVariants.{NoOxum, NameClash}
 use Rattle.bag_text.proofs.ListOf.{nothing_listed, same_members}
 use Rattle.bag_fault.specs.FaultOrder.{fault_cmp}
 use Rattle.bag_fault.specs.declared.fault.Fault.{Fault}
-use Rattle.bag_facts.specs.Options.{last_stage}
+use Rattle.bag_facts.specs.Options.{reaches}
 use Rattle.bag_facts.specs.declared.options.Depth.{Depth}
 use Rattle.bag_facts.specs.declared.options.Depth.TheVariants.{Declaration, Fast, Complete, Full}
 use Rattle.bag_facts.specs.declared.options.Options.{Options}
@@ -16,31 +17,32 @@ use Rattle.bag_report.specs.Report.{Check, asks, is_fast, IsStageOf}
 use Rattle.bag_report.specs.Stages.{is_chosen, IsFoundAt}
 use Rattle.bag_report.proofs.Filtered.{filtered_list}
 
-reaches : (d : Depth) (k : ℕ) → k ≤ last_stage d → nat_le k (last_stage d) ≡ true
-reaches d k h = grind (arith)
-
-reached : (d : Depth) (k : ℕ) → nat_le k (last_stage d) ≡ true → k ≤ last_stage d
-reached d k e = grind (arith)
-
-fast_reaches : (d : Depth) → is_fast d ≡ true → 3 ≤ last_stage d
-fast_reaches Fast e = omega arith
+fast_reaches : (d : Depth) → is_fast d ≡ true → reaches d 3 ≡ true
+fast_reaches Fast e = refl
 fast_reaches Declaration e = cc
 fast_reaches Complete e = cc
 fast_reaches Full e = cc
 
 -- what is asked for is of a stage that the depth reaches
-pub asked_is_reached : (options : Options) (c : Code) → asks options c ≡ true → stage c ≤ last_stage options.depth
+pub asked_is_reached : (options : Options) (c : Code) → asks options c ≡ true → reaches options.depth (stage c) ≡ true
 unfolding asks
 asked_is_reached options NoOxum e = fast_reaches options.depth e
-asked_is_reached options NameClash e = reached options.depth 6 (and_parts _ _ e).1
-asked_is_reached options other e = reached options.depth (stage other) e
+asked_is_reached options NameClash e = (and_parts _ _ e).1
+asked_is_reached options other e = e
 
 -- at depth Full the faults of the seventh stage are
 pub asked_at_full : (options : Options) (c : Code) → options.depth ≡ Full → stage c ≡ 7 → asks options c ≡ true
 unfolding asks
 asked_at_full options NoOxum e at = absurd (omega (arith, at))
 asked_at_full options NameClash e at = absurd (omega (arith, at))
-asked_at_full options other e at = reaches options.depth (stage other) (subst (λ d. stage other ≤ last_stage d) (sym e) (omega (arith, at)))
+asked_at_full options other e at = subst (λ n. reaches options.depth n ≡ true) (sym at) (subst (λ d. reaches d 7 ≡ true) (sym e) refl)
+
+-- and no other depth reaches it
+pub seven_not_reached : (d : Depth) → d ≢ Full → reaches d 7 ≡ false
+seven_not_reached Declaration below = refl
+seven_not_reached Fast below = refl
+seven_not_reached Complete below = refl
+seven_not_reached Full below = absurd (below refl)
 
 -- a clash of names is asked for only where clashes are
 asked_clash : (options : Options) (c : Code) → asks options c ≡ true → c ≡ NameClash → options.clashes ≡ true
@@ -48,32 +50,33 @@ unfolding asks
 asked_clash options c e is = (and_parts _ _ (subst (λ d. asks options d ≡ true) is e)).0
 
 -- and where the depth reaches the stage, what is chosen of what is looked for is asked for
-chosen_is_asked : (options : Options) (c : Code) → (c ≡ NameClash → options.clashes ≡ true) → stage c ≤ last_stage options.depth → asks options c ≡ is_chosen options.depth c
+chosen_is_asked : (options : Options) (c : Code) → (c ≡ NameClash → options.clashes ≡ true) → reaches options.depth (stage c) ≡ true → asks options c ≡ is_chosen options.depth c
 unfolding asks
 chosen_is_asked options NoOxum sought reach = refl
-chosen_is_asked options NameClash sought reach = ap (λ b. b && nat_le 6 (last_stage options.depth)) (sought refl) ∙ reaches options.depth 6 reach
-chosen_is_asked options other sought reach = reaches options.depth (stage other) reach
+chosen_is_asked options NameClash sought reach = ap (λ b. b && reaches options.depth 6) (sought refl) ∙ reach
+chosen_is_asked options other sought reach = reach
 
 module _ (check : Check) (k : ℕ) (faults : List Fault) where
-  -- nothing is asked for above the last stage of the depth
-  pub too_deep : last_stage check.options.depth < k → faults ≡ [] → IsStageOf check k faults
-  too_deep deep none = rw none (nothing_listed fault_cmp _
-      (λ f h. let reach : stage f.code ≤ last_stage check.options.depth = asked_is_reached check.options f.code h.0.1 in absurd (omega (arith, reach, deep, h.1))))
+  -- nothing is asked for of a stage that the depth doesn't reach
+  pub not_reached : reaches check.options.depth k ≡ false → faults ≡ [] → IsStageOf check k faults
+  not_reached beyond none = rw none (nothing_listed fault_cmp _
+      (λ f h. let reach : reaches check.options.depth k ≡ true = subst (λ n. reaches check.options.depth n ≡ true) h.1 (asked_is_reached check.options f.code h.0.1) in
+      let clash : true ≡ false = sym reach ∙ beyond in cc))
 
   -- the chosen ones of the faults that a stage finds which the depth reaches
-  pub chosen_of_stage : k ≤ last_stage check.options.depth → IsListOf fault_cmp (IsFoundAt check.options.clashes check.bag k) faults
+  pub chosen_of_stage : reaches check.options.depth k ≡ true → IsListOf fault_cmp (IsFoundAt check.options.clashes check.bag check.profile k) faults
       → IsStageOf check k (filter (λ f. is_chosen check.options.depth f.code) faults)
   chosen_of_stage reach list =
-      let IsFound : Fault → Type 0 = IsFoundAt check.options.clashes check.bag k in
-      let asked = λ (f : Fault) (h : IsFound f). chosen_is_asked check.options f.code h.2 (subst (λ n. n ≤ last_stage check.options.depth) (sym h.1) reach) in
+      let IsFound : Fault → Type 0 = IsFoundAt check.options.clashes check.bag check.profile k in
+      let asked = λ (f : Fault) (h : IsFound f). chosen_is_asked check.options f.code h.2 (subst (λ n. reaches check.options.depth n ≡ true) (sym h.1) reach) in
       same_members fault_cmp (λ f. IsFound f × (is_chosen check.options.depth f.code ≡ true)) _ _
       (λ f h. ((h.0.0, asked f h.0 ∙ h.1), h.0.1))
       (λ f h. let found : IsFound f = (h.0.0, h.1, asked_clash check.options f.code h.0.1) in (found, sym (asked f found) ∙ h.0.1))
       (filtered_list fault_cmp IsFound (λ f. is_chosen check.options.depth f.code) faults list)
 
--- a depth that reaches the second stage reads more than the declaration
-pub reads_more : (d : Depth) (k : ℕ) → k ≤ last_stage d → 1 < k → d ≢ Declaration
-reads_more Declaration k h two = absurd (omega arith)
+-- a depth that reaches a stage above the first reads more than the declaration
+pub reads_more : (d : Depth) (k : ℕ) → reaches d k ≡ true → 1 < k → d ≢ Declaration
+reads_more Declaration k h two = absurd (grind (arith, nat_tests, h, two))
 reads_more Fast k h two = λ e. cc
 reads_more Complete k h two = λ e. cc
 reads_more Full k h two = λ e. cc

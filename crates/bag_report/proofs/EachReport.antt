@@ -1,5 +1,5 @@
 -- Every bag has a report.
-use Rattle.std.proofs.Common.{filter}
+use Rattle.std.proofs.Common.{filter, Option}
 use Rattle.bag_text.proofs.ListOf.{same_members}
 use Rattle.bag_tree.specs.Bag.{Bag}
 use Rattle.bag_fault.specs.FaultOrder.{fault_cmp}
@@ -8,6 +8,9 @@ use Rattle.bag_fault.proofs.Ordered.{fault_cmp_total, fault_cmp_same}
 use Rattle.bag_facts.proofs.Mapped.{kept, passed}
 use Rattle.bag_completeness.specs.CompletenessStage.{IsOfCompleteness}
 use Rattle.bag_completeness.proofs.CompletenessList.{completeness_faults_are_listed}
+use Rattle.bag_conformance.specs.ConformanceStage.{IsOfConformance}
+use Rattle.bag_conformance.proofs.ConformanceFaultsLaws.{conformance_faults_are_listed}
+use Rattle.bag_profile.specs.Profile.{Profile}
 use Rattle.bag_stages.specs.DeclarationStage.{IsOfDeclaration}
 use Rattle.bag_stages.specs.FetchStage.{IsOfFetch}
 use Rattle.bag_stages.specs.HasList.{HasList}
@@ -27,20 +30,21 @@ use Rattle.bag_report.specs.Report.{Check, asks, IsReported, EachBagHasAReport}
 use Rattle.bag_report.proofs.AscendingList.{ascending_list}
 
 -- the faults of a bag, stage by stage
-faults_are_listed : (bag : Bag) → HasList (Is bag)
+faults_are_listed : (bag : Bag) (profile : Option Profile) → HasList (Is bag profile)
 unfolding Is
-faults_are_listed bag =
+faults_are_listed bag profile =
     either (IsOfDeclaration bag) _ (declaration_faults_are_listed bag)
     (either (IsOfParts bag) _ (part_faults_are_listed bag)
     (either (IsOfMetadata bag) _ (metadata_faults_are_listed bag)
     (either (IsOfFetch bag) _ (fetch_faults_are_listed bag)
     (either (IsOfManifests bag) _ (manifest_faults_are_listed bag)
-    (either (IsOfCompleteness bag) (IsOfValidity bag) (completeness_faults_are_listed bag) (validity_faults_are_listed bag))))))
+    (either (IsOfCompleteness bag) _ (completeness_faults_are_listed bag)
+    (either (IsOfValidity bag) (IsOfConformance bag profile) (validity_faults_are_listed bag) (conformance_faults_are_listed bag profile)))))))
 
 -- those that are asked for
 reported_are_listed : (check : Check) → HasList (IsReported check)
 reported_are_listed check =
-    let all = faults_are_listed check.bag in
+    let all = faults_are_listed check.bag check.profile in
     let is_asked = λ (f : Fault). asks check.options f.code in (
       filter is_asked all.0,
       λ f. (

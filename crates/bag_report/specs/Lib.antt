@@ -1,6 +1,8 @@
 pub use Rattle.bag_completeness.specs.ClashStage
 pub use Rattle.bag_completeness.specs.Clashes
 pub use Rattle.bag_completeness.specs.CompletenessStage
+pub use Rattle.bag_conformance.specs.ConformanceStage
+pub use Rattle.bag_conformance.specs.ProfileRules
 pub use Rattle.bag_facts.specs.Facts
 pub use Rattle.bag_facts.specs.Options
 pub use Rattle.bag_facts.specs.Stops
@@ -8,6 +10,8 @@ pub use Rattle.bag_facts.specs.TagFacts
 pub use Rattle.bag_facts.specs.Wanted
 pub use Rattle.bag_fault.specs.FaultLine
 pub use Rattle.bag_fault.specs.FaultOrder
+pub use Rattle.bag_profile.specs.Pattern
+pub use Rattle.bag_profile.specs.Profile
 pub use Rattle.bag_stages.specs.DeclarationStage
 pub use Rattle.bag_stages.specs.FetchStage
 pub use Rattle.bag_stages.specs.ManifestsStage

@@ -1,5 +1,5 @@
 -- The report of a bag: its faults that are asked for, in order.
-use Rattle.std.specs.Prelude.{ℕ, ◌≡◌, ◌&&◌, Bool, true, false, List, Option, Some, None, nat_le, filter, take}
+use Rattle.std.specs.Prelude.{ℕ, ◌≡◌, ◌&&◌, Bool, true, false, List, Option, Some, None, filter, take}
 use Rattle.std.specs.Ordering.{is_lt}
 use Rattle.bag_text.specs.Code.{stage}
 use Rattle.bag_text.specs.Order.{IsListOf}
@@ -8,34 +8,32 @@ use Rattle.bag_text.specs.declared.code.Code.TheVariants.{NoOxum, NameClash}
 use Rattle.bag_tree.specs.Bag.{Bag}
 use Rattle.bag_fault.specs.FaultOrder.{fault_cmp}
 use Rattle.bag_fault.specs.declared.fault.Fault.{Fault}
-use Rattle.bag_facts.specs.Options.{last_stage}
+use Rattle.bag_facts.specs.Options.{reaches}
 use Rattle.bag_facts.specs.declared.options.Depth.{Depth}
 use Rattle.bag_facts.specs.declared.options.Depth.TheVariants.{Fast}
 use Rattle.bag_facts.specs.declared.options.Options.{Options}
+use Rattle.bag_profile.specs.Profile.{Profile}
 use Rattle.bag_report.specs.Is.{Is}
 
 -- what a report is of
 pub record Check : Type 0 where
   pub bag : Bag
+  pub profile : Option Profile
   pub options : Options
 
 abbrev pub is_fast : Depth → Bool
 is_fast Fast = true
 is_fast other = false
 
--- whether a stage is looked at
-abbrev pub has_stage : Options → ℕ → Bool
-has_stage options k = nat_le k (last_stage options.depth)
-
 -- whether faults of a code are asked for
 unfoldable pub asks : Options → Code → Bool
 asks options NoOxum = is_fast options.depth
-asks options NameClash = options.clashes && has_stage options (stage NameClash)
-asks options code = has_stage options (stage code)
+asks options NameClash = options.clashes && reaches options.depth (stage NameClash)
+asks options code = reaches options.depth (stage code)
 
 -- a fault of the bag that is asked for
 abbrev pub IsReported : Check → Fault → Type 0
-IsReported check f = Is check.bag f × (asks check.options f.code ≡ true)
+IsReported check f = Is check.bag check.profile f × (asks check.options f.code ≡ true)
 
 -- the ascending list of exactly these
 abbrev pub IsReport : Check → List Fault → Type 0

@@ -2,14 +2,15 @@
 //!
 //! ```
 //! let facts = Facts::read(alloc, &mut tree, options)?;
-//! for fault in &stage_faults(alloc, &facts, 5)? {
+//! for fault in &stage_faults(alloc, &facts, Some(&profile), 8)? {
 //!     let line = fault.to_line(alloc)?;
 //!     let same = Fault::from_line(alloc, line.as_str())?;
 //! }
 //! ```
 //!
 //! Of RFC 8493 it keeps what a complete bag and a valid one have (3). What is read of a bag is in `bag_facts`, faults and
-//! their lines are in `bag_fault`, and the faults of each stage are in `bag_stages`, `bag_completeness` and `bag_validity`.
+//! their lines are in `bag_fault`, profiles are in `bag_profile`, and the faults of each stage are in `bag_stages`,
+//! `bag_completeness`, `bag_validity` and `bag_conformance`.
 #![tactic(auto)]
 
 pub mod laws;
@@ -17,4 +18,5 @@ mod stages;
 
 pub use bag_facts::{Depth, Facts, FetchList, Manifest, Metadata, Options, TagFacts};
 pub use bag_fault::{CursorFault, Fault, field_pieces};
+pub use bag_profile::{Profile, ProfileFault};
 pub use stages::stage_faults;

@@ -1,5 +1,5 @@
 -- Faults that are found item by item, of items in an order.
-use Rattle.std.proofs.Common.{◌≡◌, ◌<◌, zero, suc, inl, inr, ◌+◌, ◌++◌, ◌∷◌, ℕ, List, [], length, take, get_or, sym, subst, arith, Contains}
+use Rattle.std.proofs.Common.{◌≡◌, ◌<◌, zero, suc, ◌⊎◌, inl, inr, ◌+◌, ◌++◌, ◌∷◌, ℕ, List, [], length, take, get_or, sym, subst, arith, Contains}
 use Rattle.std.specs.List.Sorted.{IsStrictlySortedBy}
 use Rattle.std.specs.declared.cmp.Ordering.{Ordering}
 use Rattle.std.specs.declared.cmp.Ordering.TheVariants.{Less}
@@ -16,6 +16,17 @@ module _ {I : Type 0} (IsOf : I → Fault → Type 0) where
 
   pub no_items : IsListOf fault_cmp (OfSome []) []
   no_items = nothing_listed fault_cmp (OfSome []) (λ f h. contains_nothing h.0 h.1)
+
+  -- a fault of one more of these is of one before it or of the last
+  pub of_one_more : (before : List I) (item : I) (f : Fault) → OfSome before f ⊎ IsOf item f → OfSome (before ++ item ∷ []) f
+  of_one_more before item f (inl a) = (a.0, contains_front before (item ∷ []) a.0 a.1, a.2)
+  of_one_more before item f (inr b) = (item, contains_back before (item ∷ []) item (contains_first item []), b)
+
+  pub of_last_or_before : (before : List I) (item : I) (f : Fault) → OfSome (before ++ item ∷ []) f → OfSome before f ⊎ IsOf item f
+  of_last_or_before before item f h = elim (contains_either before (item ∷ []) h.0 h.1) [
+    | inl a ↦ inl (h.0, a, h.2)
+    | inr b ↦ elim (contains_cases item [] h.0 b) [ inl same ↦ inr (subst (λ j. IsOf j f) (sym same) h.2) | inr none ↦ absurd (contains_nothing h.0 none) ]
+  ]
 
 module _ {I : Type 0} (item_cmp : I → I → Ordering) where
   -- the first items are less than the next
@@ -40,14 +51,6 @@ module _ {I : Type 0} (item_cmp : I → I → Ordering) (IsOf : I → Fault → 
   one_item_more items i item faults of_item s lt e list of_next =
       let before : List I = take i items in
       subst (λ some. IsListOf fault_cmp (OfSome IsOf some) (faults ++ of_item)) (sym (take_one_more items i item lt e))
-      (same_members fault_cmp _ _ (faults ++ of_item)
-      (λ f h. elim h [
-        | inl a ↦ (a.0, contains_front before (item ∷ []) a.0 a.1, a.2)
-        | inr b ↦ (item, contains_back before (item ∷ []) item (contains_first item []), b)
-      ])
-      (λ f h. elim (contains_either before (item ∷ []) h.0 h.1) [
-        | inl a ↦ inl (h.0, a, h.2)
-        | inr b ↦ elim (contains_cases item [] h.0 b) [ inl same ↦ inr (subst (λ j. IsOf j f) (sym same) h.2) | inr none ↦ absurd (contains_nothing h.0 none) ]
-      ])
+      (same_members fault_cmp _ _ (faults ++ of_item) (of_one_more IsOf before item) (of_last_or_before IsOf before item)
       (joined fault_cmp (OfSome IsOf before) (IsOf item) faults of_item list of_next
       (λ x y a b. less a.0 item x y a.2 b (before_next item_cmp items i item a.0 s lt e a.1))))

@@ -1,6 +1,7 @@
 pub mod DeclarationFaults
 pub mod DeclarationLineParts
 pub mod DeclarationLines
+pub mod HexDigits
 pub mod ManifestCodes
 pub mod ManifestEntries
 pub mod ManifestFaults
@@ -8,6 +9,7 @@ pub mod ManifestJudged
 pub mod ManifestLine
 pub mod ManifestLineParts
 pub mod ManifestName
+pub mod RepeatsApart
 pub mod RepeatsAscending
 pub mod RepeatsFollowers
 pub mod RepeatsMarked

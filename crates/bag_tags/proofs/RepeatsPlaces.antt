@@ -65,7 +65,7 @@ only_first n j x true c =
 only_first n j x false c = absurd (contains_nothing x c)
 
 -- and each line that reads has its pair
-named_place : (n : ℕ) (all : List Judged) (k : ℕ) (path : List ℕ) → Names all k path → Contains (places_from n all) (path, n + k)
+pub named_place : (n : ℕ) (all : List Judged) (k : ℕ) (path : List ℕ) → Names all k path → Contains (places_from n all) (path, n + k)
 named_place n [] k path (j, e, w, t) = cc
 named_place n (j ∷ js) zero path (i, e, w, t) =
     let same : j ≡ i = cc in
@@ -177,7 +177,7 @@ lt_test m n h = grind (arith, nat_tests)
 pub test_lt : (m n : ℕ) → nat_lt m n ≡ true → m < n
 test_lt m n e = grind (arith, nat_tests)
 
-get_or_default : (xs : List (List ℕ × ℕ)) (k : ℕ) (x d : List ℕ × ℕ) → k < length xs → get_or xs k x ≡ x → get_or xs k d ≡ x
+pub get_or_default : (xs : List (List ℕ × ℕ)) (k : ℕ) (x d : List ℕ × ℕ) → k < length xs → get_or xs k x ≡ x → get_or xs k d ≡ x
 get_or_default xs k x d w e = get_or_from_slice_get xs k x d (slice_get-get_or xs k x w ∙ ap Some e)
 
 -- a line before this one names the path that this one names

@@ -1,6 +1,7 @@
 -- Lines of a manifest that name a path again (RFC 8493, 2.1.3).
-use Rattle.std.specs.Prelude.{ℕ, ◌≡◌, ◌+◌, ◌<◌, ◌++◌, List, [], ◌∷◌, length, Some, if◌then◌else◌, slice_get, slice_index_or, IsTrue, Contains}
+use Rattle.std.specs.Prelude.{ℕ, ◌≡◌, ◌+◌, ◌<◌, ◌++◌, List, [], ◌∷◌, length, map, nat_eq, Some, if◌then◌else◌, slice_get, slice_index_or, IsTrue, Contains}
 use Rattle.std.specs.Borrow.{Bor}
+use Rattle.std.specs.List.{IsDistinct}
 use Rattle.std.specs.Hash.FoldHasher.{initial, write, finish}
 use Rattle.std.specs.declared.cmp.Ordering.{Ordering}
 use Rattle.std.specs.declared.cmp.Ordering.TheVariants.{Less}
@@ -46,6 +47,14 @@ pair_of x = (x.1.now, x.2)
 abbrev pub places_from : ℕ → List Judged → List (List ℕ × ℕ)
 places_from n [] = []
 places_from n (j ∷ js) = (if names_path j then (text j, n) ∷ [] else []) ++ places_from (n + 1) js
+
+-- the fingerprints of these paths
+abbrev pub fingerprints_from : ℕ → List Judged → List ℕ
+fingerprints_from n all = map (λ x. fingerprint x.0) (places_from n all)
+
+-- no two of them are the same
+abbrev pub AreApart : List Judged → Type 0
+AreApart all = IsDistinct nat_eq (fingerprints_from 0 all)
 
 -- the place stands behind another of the same path, among the first so many pairs
 abbrev pub FollowsBelow : List (List ℕ × ℕ) → ℕ → ℕ → Type 0

@@ -3,7 +3,7 @@
 //! ```
 //! let manifest = read_manifest(alloc, Kind::Payload, Alg::Sha256, &bytes)?;
 //! for entry in manifest.items.as_slice() {
-//!     let (path, digest) = (entry.path.as_str(), entry.digest.as_str());
+//!     let (path, digest) = (entry.path.as_str(), entry.digest.bytes());
 //! }
 //! ```
 //!
@@ -14,6 +14,7 @@
 mod declaration;
 mod declaration_faults;
 mod declaration_line;
+mod digest;
 mod kind;
 pub mod laws;
 mod manifest;
@@ -24,6 +25,7 @@ mod tag_name;
 
 pub use bag_line::{Element, FetchEntry, LineFault, Oxum, Parsed, oxum_of, read_fetch, read_info};
 pub use declaration::{Declaration, read_declaration};
+pub use digest::Digest;
 pub use kind::Kind;
 pub use manifest::{ManifestEntry, read_manifest};
 pub use manifest_name::manifest_alg;

@@ -11,16 +11,16 @@ ghost use Rattle.bag_tags.specs.Manifest.{IsEntry, IsManifestFault};
 
 use crate::manifest_line::{Judged, Verdict, judge};
 use crate::repeats::mark_repeats;
-use crate::{Kind, LineFault, Parsed};
+use crate::{Digest, Kind, LineFault, Parsed};
 use bag_line::unread;
 use bag_text::{Alg, Items, Text, is_blank_line, lines, text_of};
 use std::alloc::{AllocError, Global};
 
-/// A line of a manifest that reads: the digest in lower case, and the path that is named.
+/// A line of a manifest that reads: the digest, and the path that is named.
 #[derive(Debug, Drop)]
 pub struct ManifestEntry {
     pub line: u64,
-    pub digest: Text,
+    pub digest: Digest,
     pub path: Text,
 }
 

@@ -2,12 +2,11 @@
 ghost use Rattle.std.specs.Prelude.{◌≡◌, true, false, Ok, Err, IfOk, MatchOption, MatchResult};
 ghost use Rattle.std.specs.Char.{is_ascii_hexdigit};
 ghost use Rattle.std.specs.List.{list_all};
-ghost use Rattle.std.specs.Str.{str_to_ascii_lowercase};
 ghost use Rattle.bag_tags.specs.Judged as judged;
 ghost use Rattle.bag_tags.specs.Manifest as spec;
 
-use crate::Kind;
 use crate::manifest_name::is_manifest_name;
+use crate::{Digest, Kind};
 use bag_line::without_prefix;
 use bag_text::{
     Alg, Code, PathFault, Text, check_path, is_payload, split_at_blanks, unescape_path,
@@ -18,8 +17,8 @@ use std::mem;
 /// What a line says, or why it doesn't read.
 #[derive(Debug, Drop)]
 pub(crate) enum Verdict {
-    /// The digest in lower case, and the path that is named.
-    Entry { digest: Text, path: Text },
+    /// The digest, and the path that is named.
+    Entry { digest: Digest, path: Text },
     /// What is wrong with the line.
     Fault { code: Code, detail: Text },
 }
@@ -62,7 +61,7 @@ pub(crate) fn judge(alloc: Global, kind: Kind, alg: Alg, line: &str) -> Result<V
 {
     let (digest, rest) = split_at_blanks(line);
     match check_digest(alg, digest, rest) {
-        Ok(()) => judge_spelling(alloc, kind, digest, without_marks(rest)),
+        Ok(read) => judge_spelling(alloc, kind, read, without_marks(rest)),
         Err((code, detail)) => fault(alloc, code, detail),
     }
 }
@@ -71,23 +70,23 @@ pub(crate) fn judge(alloc: Global, kind: Kind, alg: Alg, line: &str) -> Result<V
 fn judge_spelling(
     alloc: Global,
     kind: Kind,
-    digest: &str,
+    digest: Digest,
     spelling: &str,
 ) -> Result<Verdict, AllocError>
-    ensures { IfOk result (λ v. v ≡ judged.verdict_by_spelling kind (str_to_ascii_lowercase digest.now) spelling.now) }
+    ensures { IfOk result (λ v. v ≡ judged.verdict_by_spelling kind digest spelling.now) }
 {
     match unescape_path(alloc, spelling) {
-        Ok(path) => judge_path(alloc, kind, digest, Text::from_string(path)),
+        Ok(path) => Ok(judge_path(kind, digest, Text::from_string(path))),
         Err(PathFault::BadEscape) => fault(alloc, Code::ManifestEscape, spelling),
         Err(PathFault::Memory) => Err(AllocError),
     }
 }
 
-/// Whether the digest is hex of the algorithm's length, and something follows it; else the code and the detail of
+/// The digest, where it is hex of the algorithm's length and something follows it; else the code and the detail of
 /// what is wrong.
-fn check_digest<'a>(alg: Alg, digest: &'a str, rest: &str) -> Result<(), (Code, &'a str)>
+fn check_digest<'a>(alg: Alg, digest: &'a str, rest: &str) -> Result<Digest, (Code, &'a str)>
     ensures { MatchResult result
-        (λ _. spec.checked_digest alg digest.now rest.now ≡ Ok (str_to_ascii_lowercase digest.now))
+        (λ read. spec.checked_digest alg digest.now rest.now ≡ Ok read)
         (λ why. spec.checked_digest alg digest.now rest.now ≡ Err (why.0, why.1.now)) }
 {
     if digest.is_empty() || !is_hex(digest.as_bytes()) || rest.is_empty() {
@@ -96,7 +95,7 @@ fn check_digest<'a>(alg: Alg, digest: &'a str, rest: &str) -> Result<(), (Code, 
     if digest.len() != alg.hex_len() {
         return Err((Code::DigestLength, digest));
     }
-    Ok(())
+    Ok(Digest::of_digits(alg, digest.as_bytes()))
 }
 
 /// Whether all bytes are hex digits. It takes no branch for a byte, as none could be foretold in a digest.
@@ -124,15 +123,12 @@ fn without_marks(rest: &str) -> &str
 }
 
 /// Judges a line by the path that is written in it.
-fn judge_path(alloc: Global, kind: Kind, digest: &str, path: Text) -> Result<Verdict, AllocError>
-    ensures { IfOk result (λ v. v ≡ judged.verdict_by_path kind (str_to_ascii_lowercase digest.now) path) }
+fn judge_path(kind: Kind, digest: Digest, path: Text) -> Verdict
+    ensures { result ≡ judged.verdict_by_path kind digest path }
 {
     match misplaced(kind, path.as_str()) {
-        None => Ok(Verdict::Entry {
-            digest: Text::from_string(digest.to_ascii_lowercase(alloc)?),
-            path,
-        }),
-        Some(code) => Ok(Verdict::Fault { code, detail: path }),
+        None => Verdict::Entry { digest, path },
+        Some(code) => Verdict::Fault { code, detail: path },
     }
 }
 

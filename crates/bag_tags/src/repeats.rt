@@ -1,10 +1,10 @@
 //! Lines of a manifest that name a path again.
 ghost use Rattle.std.specs.Prelude.{◌≡◌, ◌↔◌, ◌<◌, ℕ, IfOk, OnOk, All, Contains, IsTrue, bytes_eq, length, map};
-ghost use Rattle.std.specs.List.Sorted.{IsStrictlySortedBy};
+ghost use Rattle.std.specs.List.Sorted.{IsStrictlyIncreasing, IsStrictlySortedBy};
 ghost use Rattle.std.specs.declared.cmp.Ordering.TheVariants.{Less};
 ghost use Rattle.bag_text.specs.Text.{text_cmp};
 ghost use Rattle.bag_tags.specs.Judged.{marked_if_repeat, text};
-ghost use Rattle.bag_tags.specs.Repeats.{fingerprint, line_cmp, pair_of, places_from, IsRepeatAt, IsMarked, AreAscending, FollowsSame, HasFingerprint};
+ghost use Rattle.bag_tags.specs.Repeats.{fingerprint, fingerprints_from, line_cmp, pair_of, places_from, AreApart, IsRepeatAt, IsMarked, AreAscending, FollowsSame, HasFingerprint};
 
 use crate::manifest_line::Judged;
 use std::alloc::{AllocError, Global};
@@ -38,6 +38,9 @@ fn repeats(alloc: Global, all: &[Judged]) -> Result<Vec<usize>, AllocError>
     if is_ascending(all) {
         return Ok(Vec::new(alloc));
     }
+    if fingerprints_differ(alloc, all)? {
+        return Ok(Vec::new(alloc));
+    }
     let mut named = named_places(alloc, all)?;
     named.sort_unstable();
     followers(alloc, named.as_slice())
@@ -63,6 +66,41 @@ fn is_below(first: &Judged, second: &Judged) -> bool
         (Some(before), Some(after)) => before.cmp(after).is_lt(),
         _ => false,
     }
+}
+
+/// Whether the paths of lines that read have different fingerprints, so that none is named again. Sorted alone, these
+/// take little time.
+fn fingerprints_differ(alloc: Global, all: &[Judged]) -> Result<bool, AllocError>
+    ensures { IfOk result (λ differ. IsTrue differ → AreApart all.now) }
+{
+    let mut fingerprints = fingerprints(alloc, all)?;
+    fingerprints.sort_unstable();
+    Ok(is_increasing(fingerprints.as_slice()))
+}
+
+/// The fingerprint of the path of each line that reads.
+fn fingerprints(alloc: Global, all: &[Judged]) -> Result<Vec<u64>, AllocError>
+    ensures { IfOk result (λ found. found.items ≡ fingerprints_from 0 all.now) }
+{
+    let mut found = Vec::with_capacity(alloc, all.len())?;
+    for judged in all {
+        if let Some(path) = judged.path() {
+            found.push(fingerprint(path))?;
+        }
+    }
+    Ok(found)
+}
+
+/// Whether each number is greater than the one before it.
+fn is_increasing(numbers: &[u64]) -> bool
+    ensures { IsTrue result → IsStrictlyIncreasing numbers.now }
+{
+    for k in 1..numbers.len() {
+        if numbers[k - 1] >= numbers[k] {
+            return false;
+        }
+    }
+    true
 }
 
 /// The path of each line that reads, with its fingerprint and the line's place.

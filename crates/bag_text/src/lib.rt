@@ -8,7 +8,7 @@
 //! ```
 //!
 //! Of RFC 8493 it keeps how lines of tag files end (2.3), what a path is (2.1.2, 5.1), how manifests spell it (2.1.3), and
-//! the algorithms (2.4).
+//! the algorithms (2.4). Texts and lists that own their memory are in `bag_owned`.
 #![tactic(auto)]
 
 mod alg;
@@ -16,23 +16,20 @@ mod alg_set;
 mod blank;
 mod byte_search;
 mod code;
-mod items;
 mod label;
 pub mod laws;
 mod line_cut;
 mod path;
 mod read_text;
 mod spelling;
-mod text;
 
 pub use alg::Alg;
 pub use alg_set::AlgSet;
+pub use bag_owned::{Items, Text};
 pub use blank::{is_blank, is_blank_line, split_at_blanks, trim};
 pub use code::Code;
-pub use items::Items;
 pub use label::same_label;
 pub use line_cut::Lines;
 pub use path::{Unsafe, check_path, is_payload};
 pub use read_text::{BYTE_ORDER_MARK, NotUtf8, lines, text_of};
 pub use spelling::{PathFault, escape_path, unescape_path};
-pub use text::Text;

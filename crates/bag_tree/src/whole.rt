@@ -1,11 +1,17 @@
 //! A whole file.
-ghost use Rattle.std.specs.Prelude.{◌≡◌, ◌∷◌, ◌++◌, [], Some, IsTrue, IfOk, IfErr, OnOk, vec_len};
+ghost use Rattle.std.specs.Prelude.{◌≡◌, ◌<◌, ◌∷◌, ◌++◌, [], Some, IsTrue, IfOk, IfErr, OnOk, length, vec_len};
 ghost use Rattle.bag_tree.specs.Bag.{file};
 ghost use Rattle.bag_tree.specs.Tree.{Keeps, OpensAtMost};
 ghost use Rattle.bag_tree.specs.Whole.{MayRefuseWhole};
 
 use crate::{FileEntry, Tree, TreeFault};
 use std::alloc::Global;
+
+/// How many bytes are read at once.
+const PIECE_BYTES: u64 = 65_536;
+
+/// The most bytes for which room is taken before they are read, as a listing may say more than is there.
+const MOST_ROOM: u64 = 16_777_216;
 
 /// The bytes of a listed file, which is opened once at most. More or fewer bytes than it was listed with are `Changed`.
 pub fn read_whole<T: Tree>(
@@ -21,11 +27,44 @@ pub fn read_whole<T: Tree>(
     ensures whole { IfOk result (λ bytes. IsTrue (T.state tree.old).honest → file (T.state tree.old).bag entry.now.path ≡ Some bytes.items) }
     ensures refused { IfErr result (MayRefuseWhole (T.state tree.old) (T.state tree.new) entry.now) }
 {
+    let mut buffer = Vec::new(alloc);
+    buffer.resize(piece_len(entry.size), 0)?;
+    let room = entry.size.min(MOST_ROOM);
+    let bytes = Vec::with_capacity(alloc, room as usize)?;
+    read_pieces(tree, entry, bytes, buffer.as_mut_slice())
+}
+
+/// How many bytes of a file of a size are read at once: one more than it has, where it is small, which shows that it ends.
+fn piece_len(size: u64) -> usize
+    ensures { 0 < result }
+{
+    if size < PIECE_BYTES {
+        size as usize + 1
+    } else {
+        PIECE_BYTES as usize
+    }
+}
+
+/// The bytes of a listed file, which are read through a buffer.
+fn read_pieces<T: Tree>(
+    tree: &mut T,
+    entry: &FileEntry,
+    mut bytes: Vec<u8>,
+    buffer: &mut [u8],
+) -> Result<Vec<u8>, TreeFault>
+    requires empty { bytes.items ≡ [] }
+    requires buffer { 0 < length buffer.old }
+    ensures keeps { Keeps (T.state tree.old) (T.state tree.new) }
+    ensures calm { OnOk result ((T.state tree.new).failures ≡ (T.state tree.old).failures) }
+    ensures opens { OpensAtMost (T.state tree.old) (T.state tree.new) entry.now.path }
+    ensures opened { OnOk result ((T.state tree.new).openings ≡ (T.state tree.old).openings ++ entry.now.path ∷ []) }
+    ensures size { IfOk result (λ bytes. vec_len bytes ≡ entry.now.size) }
+    ensures whole { IfOk result (λ bytes. IsTrue (T.state tree.old).honest → file (T.state tree.old).bag entry.now.path ≡ Some bytes.items) }
+    ensures refused { IfErr result (MayRefuseWhole (T.state tree.old) (T.state tree.new) entry.now) }
+{
     tree.open_file(entry.path.as_str())?;
-    let mut buffer = [0u8; 4096];
-    let mut bytes = Vec::new(alloc);
     loop {
-        let count = tree.read(&mut buffer)?;
+        let count = tree.read(buffer)?;
         if count == 0 {
             break;
         }

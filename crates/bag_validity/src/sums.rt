@@ -71,7 +71,7 @@ fn sum_fault(
 ) -> Result<Option<Fault>, AllocError>
     ensures { IfOk result (TellsOfSum kind alg entry.now (sum_at sums.now alg)) }
 {
-    if sums.is_spelled(alg, entry.digest.as_str()) {
+    if sums.is_digest(alg, entry.digest.bytes()) {
         return Ok(None);
     }
     match sums.hex(alloc, alg) {
@@ -96,7 +96,7 @@ fn fault_of_sum(
         path: entry.path.copy(alloc)?,
         alg: Some(alg),
         line: 0,
-        detail: expected_and_found(alloc, entry.digest.as_str(), found)?,
+        detail: expected_and_found(alloc, entry.digest.to_text(alloc)?.as_str(), found)?,
     })
 }
 

@@ -1,5 +1,5 @@
 -- What a run opens.
-use Rattle.std.specs.Prelude.{ℕ, ◌≡◌, ◌≢◌, ◌++◌, ◌≤◌, List, [], All, IsTrue, true, filter, length}
+use Rattle.std.specs.Prelude.{ℕ, ◌≡◌, ◌≢◌, ◌++◌, ◌≤◌, List, [], Option, All, IsTrue, true, filter, length}
 use Rattle.std.specs.List.Sorted.{IsStrictlySortedBy}
 use Rattle.bag_text.specs.Path.{is_payload_path}
 use Rattle.bag_text.specs.Text.{text_cmp}
@@ -11,6 +11,7 @@ use Rattle.bag_fault.specs.declared.fault.Fault.{Fault}
 use Rattle.bag_facts.specs.Wanted.{IsWanted, OpensWanted}
 use Rattle.bag_facts.specs.declared.options.Depth.TheVariants.{Full}
 use Rattle.bag_facts.specs.declared.options.Options.{Options}
+use Rattle.bag_profile.specs.Profile.{Profile}
 use Rattle.bag_stages.specs.TagFiles.{Names}
 use Rattle.bag_validity.specs.SummedFiles.{IsSummed}
 use Rattle.bag_output.specs.Ending.{limit_of}
@@ -43,7 +44,7 @@ pub record OpensListed (options : Options) (old new : TreeState) : Type 0 where
   pub are_listed : IsTrue old.honest → All (λ path. is_payload_path path ≡ true → IsListed old.bag path) paths
 
 -- where the faults of stages 1 to 6 that the request asks for reach its limit, tag files alone were read
-abbrev pub LooksNoFurther : TreeState → TreeState → Request → Type 0
-LooksNoFurther old new request =
-    IsTrue old.honest → (early : List Fault) → AreEarly old.bag request early → limit_of request ≤ length early
+abbrev pub LooksNoFurther : TreeState → TreeState → Option Profile → Request → Type 0
+LooksNoFurther old new profile request =
+    IsTrue old.honest → (early : List Fault) → AreEarly old.bag profile request early → limit_of request ≤ length early
     → OpensWanted request.options old new

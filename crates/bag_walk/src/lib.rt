@@ -1,7 +1,7 @@
 //! Runs of a check: the faults of a bag, one line after the other.
 //!
 //! ```
-//! let (tree, outcome) = run(alloc, tree, request, &mut out);
+//! let (tree, outcome) = run(alloc, tree, Some(&profile), request, &mut out);
 //! let exit = status(&outcome);
 //! ```
 //!

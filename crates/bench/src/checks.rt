@@ -24,6 +24,7 @@ pub(crate) fn write_report(
     let _checked = run(
         rt.alloc(),
         tree,
+        None,
         request,
         &mut WriterOut::new(io::writer(rt)),
     );

@@ -6,6 +6,7 @@ mod checks;
 mod digests;
 mod folders;
 mod lines;
+mod profiles;
 mod tag_files;
 
 use bag_report::Depth;
@@ -20,6 +21,8 @@ fn print_found(rt: &HostRuntime, reader: &str, path: &str) -> io::Result<()> {
         "info" | "fetch" | "manifest" => tag_files::print_file(rt, reader, path),
         "facts" => tag_files::print_folder(rt, path, false),
         "faults" => tag_files::print_folder(rt, path, true),
+        "profile" => profiles::print_folder(rt, path, false),
+        "conforms" => profiles::print_folder(rt, path, true),
         "complete" => checks::write_report(rt, path, Depth::Complete, false),
         "clashes" => checks::write_report(rt, path, Depth::Complete, true),
         "valid" => checks::write_report(rt, path, Depth::Full, false),

@@ -27,7 +27,7 @@ fn manifest_counts(alloc: Global, bytes: &[u8]) -> Result<(usize, usize), AllocE
 }
 
 /// What the tag files of a folder say.
-fn facts_of(rt: &HostRuntime, path: &str) -> Result<Facts, TreeFault> {
+pub(crate) fn facts_of(rt: &HostRuntime, path: &str) -> Result<Facts, TreeFault> {
     let options = Options {
         depth: Depth::Complete,
         clashes: false,
@@ -44,7 +44,7 @@ fn facts_of(rt: &HostRuntime, path: &str) -> Result<Facts, TreeFault> {
 fn folder_counts(rt: &HostRuntime, path: &str, judges: bool) -> Result<(usize, usize), TreeFault> {
     let facts = facts_of(rt, path)?;
     let faults = if judges {
-        stage_faults(rt.alloc(), &facts, 4)?.len()
+        stage_faults(rt.alloc(), &facts, None, 4)?.len()
     } else {
         0
     };

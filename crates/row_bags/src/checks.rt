@@ -1,4 +1,9 @@
 //! Requests, and what checks write.
+ghost use Rattle.std.specs.Prelude.{◌≡◌, false, IfOk, codes};
+ghost use Rattle.std.specs.Option.{option_copied};
+ghost use Rattle.bag_store.specs.Tree.{Keeps};
+ghost use Rattle.row_bags.specs.Cursor.{IsCursor};
+
 use bag_report::{Fault, Options};
 use bag_store::{Tree, WriterOut};
 use bag_text::Text;
@@ -13,7 +18,10 @@ pub fn request_for(
     after: Option<Fault>,
     limit: Option<u64>,
     quiet: bool,
-) -> Result<Request, AllocError> {
+) -> Result<Request, AllocError>
+    ensures asks { IfOk result (λ request. (request.options ≡ options) × (request.after ≡ after) × (request.limit ≡ limit)) }
+    ensures tells { IfOk result (λ request. (request.quiet ≡ quiet) × (request.name ≡ codes "d")) }
+{
     Ok(Request {
         options,
         after,
@@ -24,7 +32,9 @@ pub fn request_for(
 }
 
 /// The fault of a line.
-fn cursor(alloc: Global, line: Option<&str>) -> Result<Option<Fault>, Fail> {
+fn cursor(alloc: Global, line: Option<&str>) -> Result<Option<Fault>, Fail>
+    ensures { IfOk result (IsCursor (option_copied line.entry)) }
+{
     match line {
         None => Ok(None),
         Some(line) => Ok(Some(Fault::from_line(alloc, line)?)),
@@ -37,7 +47,10 @@ pub fn request_of(
     options: Options,
     after: Option<&str>,
     limit: Option<u64>,
-) -> Result<Request, Fail> {
+) -> Result<Request, Fail>
+    ensures asks { IfOk result (λ request. (request.options ≡ options) × IsCursor (option_copied after.entry) request.after × (request.limit ≡ limit)) }
+    ensures tells { IfOk result (λ request. (request.quiet ≡ false) × (request.name ≡ codes "d")) }
+{
     let after = cursor(alloc, after)?;
     Ok(request_for(alloc, options, after, limit, false)?)
 }
@@ -48,9 +61,11 @@ pub fn after_check<T: Tree + Drop>(
     tree: T,
     request: Request,
     wanted: (&str, u8),
-) -> (T, bool) {
+) -> (T, bool)
+    ensures { Keeps (T.state tree) (T.state result.0) }
+{
     let mut out = WriterOut::new(Vec::<u8>::new(alloc));
-    let (tree, outcome) = run(alloc, tree, request, &mut out);
+    let (tree, outcome) = run(alloc, tree, None, request, &mut out);
     let is_written = out.into_inner().as_slice() == wanted.0.as_bytes();
     (tree, is_written && status(&outcome) == wanted.1)
 }

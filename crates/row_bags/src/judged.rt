@@ -1,5 +1,10 @@
 //! Bags whose faults of one stage are judged, at each depth.
-use crate::bags::put;
+ghost use Rattle.std.specs.Prelude.{◌≡◌, IfOk, OnOk};
+ghost use Rattle.bag_store.specs.Memory.{empty_bag};
+ghost use Rattle.bag_store.specs.MemoryView.{state_of};
+ghost use Rattle.row_bags.specs.Judged.{with_held};
+
+use crate::bags::put_files;
 use crate::stages::{has_text, text_of_lines};
 use bag_report::{Depth, Options};
 use bag_store::MemoryTree;
@@ -20,21 +25,22 @@ pub struct StageRow {
 
 impl Bag {
     /// A tree of the bag.
-    pub fn tree(&self, alloc: Global) -> Result<MemoryTree, Fail> {
+    pub fn tree(&self, alloc: Global) -> Result<MemoryTree, Fail>
+        ensures { IfOk result (λ tree. (state_of tree).bag ≡ with_held empty_bag self.now) }
+    {
         let mut tree = MemoryTree::new(alloc);
         self.fill(&mut tree)?;
         Ok(tree)
     }
 
     /// Puts what the bag holds into a tree.
-    pub fn fill(&self, tree: &mut MemoryTree) -> Result<(), Fail> {
+    pub fn fill(&self, tree: &mut MemoryTree) -> Result<(), Fail>
+        ensures { OnOk result ((state_of tree.new).bag ≡ with_held (state_of tree.old).bag self.now) }
+    {
         if self.has_data {
             tree.put_folder("data")?;
         }
-        for (path, bytes) in self.files {
-            put(tree, path, bytes)?;
-        }
-        Ok(())
+        put_files(tree, self.files)
     }
 }
 

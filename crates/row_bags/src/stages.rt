@@ -1,11 +1,22 @@
 //! The faults of one stage, as lines.
+ghost use Rattle.std.specs.Prelude.{◌≡◌, ◌∷◌, ◌++◌, [], IfOk, string_bytes};
+ghost use Rattle.std.specs.List.{flat_map};
+ghost use Rattle.bag_store.specs.MemoryView.{state_of};
+ghost use Rattle.bag_store.specs.Tree.{Keeps};
+ghost use Rattle.bag_report.specs.FaultLine.{fault_line};
+ghost use Rattle.bag_report.specs.Facts.{IsFactsOf};
+
 use bag_report::{Facts, Fault, Options, stage_faults};
 use bag_store::MemoryTree;
 use std::alloc::{AllocError, Global};
 use std::test::Fail;
 
 /// What the tag files of a bag say, as far as a check with these options reads them.
-pub fn facts_of(alloc: Global, tree: &mut MemoryTree, options: Options) -> Result<Facts, Fail> {
+pub fn facts_of(alloc: Global, tree: &mut MemoryTree, options: Options) -> Result<Facts, Fail>
+    ensures keeps { Keeps (state_of tree.old) (state_of tree.new) }
+    ensures options { IfOk result (λ facts. facts.options ≡ options) }
+    ensures facts { IfOk result (λ facts. IsFactsOf (state_of tree.old).bag facts) }
+{
     match Facts::read(alloc, tree, options) {
         Ok(facts) => Ok(facts),
         Err(stop) => Err(Fail::from(stop.cause)),
@@ -20,11 +31,13 @@ fn faults_of(
     stage: u8,
 ) -> Result<Vec<Fault>, Fail> {
     let facts = facts_of(alloc, tree, options)?;
-    Ok(stage_faults(alloc, &facts, stage)?)
+    Ok(stage_faults(alloc, &facts, None, stage)?)
 }
 
 /// The lines of these faults, each with its end.
-fn text_of_faults(alloc: Global, faults: &[Fault]) -> Result<String, AllocError> {
+fn text_of_faults(alloc: Global, faults: &[Fault]) -> Result<String, AllocError>
+    ensures { IfOk result (λ text. string_bytes text ≡ flat_map (λ fault. fault_line fault ++ 10 ∷ []) faults.now) }
+{
     let mut text = String::new(alloc);
     for fault in faults {
         fault.append_line(&mut text)?;
@@ -46,7 +59,9 @@ pub fn has_text(
 }
 
 /// Lines, each with its end.
-pub fn text_of_lines(alloc: Global, lines: &[&str]) -> Result<String, AllocError> {
+pub fn text_of_lines(alloc: Global, lines: &[&str]) -> Result<String, AllocError>
+    ensures { IfOk result (λ text. string_bytes text ≡ flat_map (λ line. line.now ++ 10 ∷ []) lines.now) }
+{
     let mut text = String::new(alloc);
     for line in lines {
         text.push_str(line)?;

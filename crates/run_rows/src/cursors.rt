@@ -98,7 +98,7 @@ fn openings(alloc: Global, limit: u64) -> Result<usize, Fail> {
     let request = request_of(alloc, OPTIONS, None, Some(limit))?;
     let tree = tree_of(alloc, MARKED)?;
     let mut out = WriterOut::new(Vec::<u8>::new(alloc));
-    let (tree, _outcome) = run(alloc, tree, request, &mut out);
+    let (tree, _outcome) = run(alloc, tree, None, request, &mut out);
     let _bytes = out.into_inner();
     Ok(tree.openings().len())
 }

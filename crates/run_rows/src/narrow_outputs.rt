@@ -47,7 +47,7 @@ fn narrowly_checked(alloc: Global, most: usize, room: usize) -> Result<(Vec<u8>,
     };
     let request = request_of(alloc, options, None, None)?;
     let tree = tree_of(alloc, MARKED)?;
-    let (_tree, outcome) = run(alloc, tree, request, &mut out);
+    let (_tree, outcome) = run(alloc, tree, None, request, &mut out);
     let Narrow {
         taken,
         most: _,

@@ -13,7 +13,7 @@ fn shown(alloc: Global, parsed: &Parsed<ManifestEntry>) -> Result<String, Fail> 
     let mut text = String::new(alloc);
     for entry in parsed.items.as_slice() {
         let line = entry.line;
-        let digest = entry.digest.as_str();
+        let digest = entry.digest.to_text(alloc)?;
         let path = entry.path.as_str();
         write!(text, "{line} {digest} {path}|")?;
     }

@@ -188,7 +188,7 @@ fn lines_of_seven(alloc: Global, report: &str) -> Result<String, AllocError> {
 fn is_found(alloc: Global, tree: MemoryTree, bag: u64) -> Result<bool, Fail> {
     let mut out = WriterOut::new(Vec::<u8>::new(alloc));
     let request = request_of(alloc, full(false), None, None)?;
-    let (_tree, _outcome) = run(alloc, tree, request, &mut out);
+    let (_tree, _outcome) = run(alloc, tree, None, request, &mut out);
     let report = String::from_utf8(out.into_inner())?;
     let found = lines_of_seven(alloc, report.as_str())?;
     Ok(found == plain_lines(alloc, bag)?)

@@ -144,7 +144,7 @@ fn output_of(alloc: Global, row: &Row, call: u64) -> Result<String, Fail> {
     let mut out = WriterOut::new(Vec::<u8>::new(alloc));
     let request = request_of(alloc, full(false), None, None)?;
     let tree = FailTree::new(tree_of(alloc, row.bag)?, call);
-    let (_tree, _outcome) = run(alloc, tree, request, &mut out);
+    let (_tree, _outcome) = run(alloc, tree, None, request, &mut out);
     Ok(String::from_utf8(out.into_inner())?)
 }
 

@@ -1,6 +1,7 @@
 use Rattle.std.proofs.Common.{◌≡◌, ◌↔◌, ℕ, List, false, true, sym, ◌∙◌, Contains, IsTrue}
 use Rattle.bag_facts.specs.Wanted.{paths_of}
-use Rattle.bag_completeness.proofs.FaultsOfPaths.{all_paths, no_path_yet, paths_ascend, right_path_more, wrong_path_more}
+use Rattle.bag_facts.proofs.ByPath.{paths_ascend}
+use Rattle.bag_completeness.proofs.FaultsOfPaths.{all_paths, no_path_yet, right_path_more, wrong_path_more}
 use Rattle.bag_completeness.proofs.Sought.{follows_next, follows_none, found_in_all}
 use Rattle.bag_completeness.proofs.missing.missing_in.Goals as goal
 use Rattle.bag_completeness.proofs.missing.missing_in.Goals.{then-not-is_listed+in_ok-file_fault+in_ok-push, else-not-is_listed}

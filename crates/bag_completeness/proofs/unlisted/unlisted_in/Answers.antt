@@ -1,8 +1,9 @@
 use Rattle.std.proofs.Common.{◌≡◌, ◌↔◌, false, true, sym, ◌∙◌, Contains, IsTrue}
 use Rattle.bag_text.specs.declared.code.Code.TheVariants.{PayloadFileNotListed}
 use Rattle.bag_facts.specs.TagFacts.{entry_paths}
+use Rattle.bag_facts.proofs.ByPath.{items_ascend, paths_ascend}
 use Rattle.bag_completeness.specs.CompletenessFaults.{IsUnlistedPath}
-use Rattle.bag_completeness.proofs.FaultsOfPaths.{all_paths, items_ascend, no_path_yet, paths_ascend, right_path_more, wrong_path_more}
+use Rattle.bag_completeness.proofs.FaultsOfPaths.{all_paths, no_path_yet, right_path_more, wrong_path_more}
 use Rattle.bag_completeness.proofs.Sought.{follows_next, follows_none, found_in_all, not_in, unsought}
 use Rattle.bag_completeness.proofs.unlisted.unlisted_in.Goals as goal
 use Rattle.bag_completeness.proofs.unlisted.unlisted_in.Goals.{then-is_unlisted+in_ok-file_fault+in_ok-push, else-is_unlisted}

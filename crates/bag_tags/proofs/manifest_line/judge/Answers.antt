@@ -1,7 +1,5 @@
 use Rattle.std.proofs.Common.{◌∙◌, sym, ap}
-use Rattle.std.specs.Str.{str_to_ascii_lowercase}
 use Rattle.std.proofs.lemmas.Result.{IfOk-weaker}
-use Rattle.bag_text.specs.Text.{before_blank}
 use Rattle.bag_tags.specs.Judged.{verdict_of}
 use Rattle.bag_tags.proofs.ManifestLine.{line_of_bad_digest, line_of_good_digest}
 use Rattle.bag_tags.proofs.manifest_line.judge.Goals as goal
@@ -12,8 +10,8 @@ returns-in-Ok c =
     let front = c.split_at_blanks.ensures.front in
     let back = c.split_at_blanks.ensures.back in
     let spelled = c.without_marks.ensures in
-    let same = line_of_good_digest c.args.kind c.args.alg line (str_to_ascii_lowercase (before_blank line)) (rw (front, back) at c.in-Ok.ensures) in
-    IfOk-weaker c.judge_spelling.result _ _ (λ j e. e ∙ rw (spelled, front, back) same) c.judge_spelling.ensures
+    let same = line_of_good_digest c.args.kind c.args.alg line c.in-Ok.read (rw (front, back) at c.in-Ok.ensures) in
+    IfOk-weaker c.judge_spelling.result _ _ (λ j e. e ∙ rw (spelled, back) same) c.judge_spelling.ensures
 
 pub returns-in-Err : goal.returns-in-Err
 returns-in-Err c =

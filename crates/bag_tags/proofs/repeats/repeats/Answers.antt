@@ -4,8 +4,9 @@ use Rattle.std.specs.List.Sorted.{IsPermutation, IsSortedBy}
 use Rattle.std.specs.Ordering.{is_lt}
 use Rattle.std.proofs.lemmas.Result.{IfOk-weaker}
 use Rattle.std.proofs.lemmas.List.Sorted.{IsPermutation-map, All-permutation}
-use Rattle.bag_tags.specs.Repeats.{pair_of, places_from, HasFingerprint, AreAscending, FollowsSame}
+use Rattle.bag_tags.specs.Repeats.{pair_of, places_from, HasFingerprint, AreApart, AreAscending, FollowsSame}
 use Rattle.bag_text.proofs.ListOf.{contains_nothing}
+use Rattle.bag_tags.proofs.RepeatsApart.{none_named_again}
 use Rattle.bag_tags.proofs.RepeatsAscending.{none_again}
 use Rattle.bag_tags.proofs.RepeatsPlaces.{sorted_places, follows_is_repeat, repeat_follows, pair_cmp}
 use Rattle.bag_tags.proofs.repeats.repeats.Goals as goal
@@ -21,6 +22,14 @@ returns-then-is_ascending c =
     λ i. (
       λ d. absurd (contains_nothing i (subst (λ xs. Contains xs i) c.new.ensures.items d)),
       λ r. absurd (none_again c.args.all.now up c.requires i r),
+    )
+
+pub returns-then-branch : goal.returns-then-branch
+returns-then-branch c =
+    let apart : AreApart c.args.all.now = c.in_ok-fingerprints_differ.ensures c.if-branch.true in
+    λ i. (
+      λ d. absurd (contains_nothing i (subst (λ xs. Contains xs i) c.new-then-branch.ensures.items d)),
+      λ r. absurd (none_named_again c.args.all.now apart c.requires i r),
     )
 
 pub returns : goal.returns

@@ -4,7 +4,7 @@ use Rattle.bag_facts.specs.Stops.{MayStopReading}
 use Rattle.bag_facts.specs.TagReader.{read_path}
 use Rattle.bag_facts.specs.Wanted.{AreWanted, ForListing, OpensAll, OpensFirst, OpensUpTo}
 use Rattle.bag_facts.proofs.Known.{known_honest, known_seen}
-use Rattle.bag_facts.proofs.Opens.{opens_none, opens_wanted, opens_all_first, opens_later, opens_all_later, opens_up_to_later}
+use Rattle.bag_facts.proofs.Opens.{opened_wanted, opens_none, opens_wanted, opens_all_first, opens_later, opens_all_later, opens_up_to_later}
 use Rattle.bag_facts.proofs.PassedOn.{passed_on, on_error}
 use Rattle.bag_facts.proofs.Reading.{facts_stop, listing_stop}
 use Rattle.bag_facts.proofs.facts.Facts.read.Goals as goal
@@ -48,23 +48,13 @@ returns-in_err-read-clause-stop g c =
 
 pub returns-in-Ok-of-clause-opens : goal.returns-in-Ok-of-clause-opens
 returns-in-Ok-of-clause-opens g c =
-    let old = g.T.Tree.state c.args.tree.now in
-    let mid = g.T.Tree.state c.list.new.self in
-    let new = g.T.Tree.state c.read_tag_files.new.tree in
-    let files = c.as_slice.result.now in
-    opens_wanted c.args.options files old new
-    (opens_all_first c.args.options files old new
-    (opens_all_later c.args.options files old mid new (map read_path c.in_ok-read.read.items) c.list.ensures.openings c.in_ok-read.ensures.wanted c.in_ok-read.ensures.opened))
+    opened_wanted c.args.options c.as_slice.result.now (g.T.Tree.state c.args.tree.now) (g.T.Tree.state c.list.new.self) (g.T.Tree.state c.read_tag_files.new.tree)
+    (map read_path c.in_ok-read.read.items) c.list.ensures.openings c.in_ok-read.ensures.wanted c.in_ok-read.ensures.opened
 
 pub returns-in-Err-of-clause-opens : goal.returns-in-Err-of-clause-opens
 returns-in-Err-of-clause-opens g c =
-    let old = g.T.Tree.state c.args.tree.now in
-    let mid = g.T.Tree.state c.list.new.self in
-    let new = g.T.Tree.state c.read_tag_files.new.tree in
-    let files = c.as_slice.result.now in
-    opens_wanted c.args.options files old new
-    (opens_all_first c.args.options files old new
-    (opens_all_later c.args.options files old mid new (map read_path c.in_ok-read.read.items) c.list.ensures.openings c.in_ok-read.ensures.wanted c.in_ok-read.ensures.opened))
+    opened_wanted c.args.options c.as_slice.result.now (g.T.Tree.state c.args.tree.now) (g.T.Tree.state c.list.new.self) (g.T.Tree.state c.read_tag_files.new.tree)
+    (map read_path c.in_ok-read.read.items) c.list.ensures.openings c.in_ok-read.ensures.wanted c.in_ok-read.ensures.opened
 
 pub returns-in-Ok-of-clause-facts : goal.returns-in-Ok-of-clause-facts
 returns-in-Ok-of-clause-facts g c =

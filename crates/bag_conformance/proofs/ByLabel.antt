@@ -1,0 +1,151 @@
+-- Elements that are sorted by their labels, and the run of one label among them.
+use Rattle.std.proofs.Common.{◌≡◌, ◌≤◌, zero, suc, ◌+◌, ℕ, List, [], ◌∷◌, length, take, drop, filter, get_or, Bool, true, false, not, ◌&&◌, cond, Bor, eqb, refl, sym, ap, ◌∙◌, subst, arith}
+use Rattle.std.specs.Cmp.Lexicographic.{nat_list_cmp_total}
+use Rattle.std.specs.Cmp.{tied_itself}
+use Rattle.std.specs.List.{AllWithin}
+use Rattle.std.specs.List.Sorted.{IsNonDecreasingBy, IsPartitionedBy, IsPartitionPoint, IsStableBy, ties}
+use Rattle.std.specs.Ordering.{is_lt, ordering_index, ordering_reverse}
+use Rattle.std.specs.Str.{bytes_eq, str_to_ascii_lowercase}
+use Rattle.std.specs.declared.cmp.Ordering.{Ordering}
+use Rattle.std.specs.declared.cmp.Ordering.TheVariants.{Less, Equal, Greater}
+use Rattle.std.proofs.lemmas.Bool.Decides.{Decides-eqb}
+use Rattle.std.proofs.lemmas.List.{get_or-drop, length-drop}
+use Rattle.std.proofs.lemmas.List.Elements.{filter_agree}
+use Rattle.std.proofs.lemmas.List.Sorted.{IsNonDecreasingBy-drop, searchable_from_sorted}
+use Rattle.std.proofs.lemmas.Slice.Eq.{bytes_eq-Decides}
+use Rattle.bag_text.specs.Text.{same_label, text_cmp}
+use Rattle.bag_line.specs.declared.info.Element.{Element}
+use Rattle.bag_facts.proofs.ByPath.{text_same}
+use Rattle.bag_conformance.specs.ElementFaults.{lent, labelled}
+use Rattle.bag_conformance.specs.LabelOrder.{label_cmp, folded_label, IsByLabel}
+
+-- what passes a test in a list whose front fails it, and in one whose front passes it and whose rest fails it
+module _ {X : Type 0} (p : X → Bool) where
+  kept_rest : (xs : List X) (i : ℕ) → AllWithin (λ x. p x ≡ false) xs 0 i → i ≤ length xs → filter p xs ≡ filter p (drop i xs)
+  kept_rest xs zero fails within = refl
+  kept_rest [] (suc i) fails within = refl
+  kept_rest (x ∷ xs) (suc i) fails within =
+      let first : p x ≡ false = fails 0 x (omega arith) (omega arith) in
+      ap (λ b. cond b (x ∷ filter p xs) (filter p xs)) first ∙ kept_rest xs i (λ k d low high. fails (suc k) d (omega arith) (omega arith)) (omega arith)
+
+  kept_front : (xs : List X) (n : ℕ) → AllWithin (λ x. p x ≡ true) xs 0 n → AllWithin (λ x. p x ≡ false) xs n (length xs) → n ≤ length xs → filter p xs ≡ take n xs
+  kept_front [] zero passes fails within = refl
+  kept_front [] (suc n) passes fails within = refl
+  kept_front (x ∷ xs) zero passes fails within =
+      let first : p x ≡ false = fails 0 x (omega arith) (omega arith) in
+      ap (λ b. cond b (x ∷ filter p xs) (filter p xs)) first
+      ∙ kept_front xs zero (λ k d low high. absurd (omega arith)) (λ k d low high. fails (suc k) d (omega arith) (omega arith)) (omega arith)
+  kept_front (x ∷ xs) (suc n) passes fails within =
+      let first : p x ≡ true = passes 0 x (omega arith) (omega arith) in
+      ap (λ b. cond b (x ∷ filter p xs) (filter p xs)) first
+      ∙ ap (λ ys. x ∷ ys)
+      (kept_front xs n (λ k d low high. passes (suc k) d (omega arith) (omega arith)) (λ k d low high. fails (suc k) d (omega arith) (omega arith)) (omega arith))
+
+-- a test of what is lent
+kept_lent_by : (b : Bool) (p : Element → Bool) (x : Bor Element) (xs : List (Bor Element)) → filter p (lent xs) ≡ lent (filter (λ y. p y.now) xs)
+    → cond b (x.now ∷ filter p (lent xs)) (filter p (lent xs)) ≡ lent (cond b (x ∷ filter (λ y. p y.now) xs) (filter (λ y. p y.now) xs))
+kept_lent_by true p x xs e = ap (λ ys. x.now ∷ ys) e
+kept_lent_by false p x xs e = e
+
+kept_lent : (p : Element → Bool) (xs : List (Bor Element)) → filter p (lent xs) ≡ lent (filter (λ y. p y.now) xs)
+kept_lent p [] = refl
+kept_lent p (x ∷ xs) = kept_lent_by (p x.now) p x xs (kept_lent p xs)
+
+-- what an answer tells: that a text is below another, and that both are one
+lower_ranks : (o : Ordering) → is_lt o ≡ true → ordering_index o ≡ 0
+lower_ranks Less e = refl
+lower_ranks Equal e = cc
+lower_ranks Greater e = cc
+
+ranks_lower : (o : Ordering) → ordering_index o ≡ 0 → is_lt o ≡ true
+ranks_lower Less e = refl
+ranks_lower Equal e = absurd (omega (arith, e))
+ranks_lower Greater e = absurd (omega (arith, e))
+
+no_lower : (o : Ordering) → is_lt o ≡ false → 1 ≤ ordering_index o
+no_lower Less e = cc
+no_lower Equal e = omega arith
+no_lower Greater e = omega arith
+
+same_by : (a b : List ℕ) (r : Bool) (o : Ordering) → bytes_eq a b ≡ r → text_cmp a b ≡ o → r ≡ eqb (ordering_index o) 1
+same_by a b true o is e =
+    let tied : o ≡ Equal = sym e ∙ sym (ap (text_cmp a) ((bytes_eq-Decides a b).0 is)) ∙ tied_itself nat_list_cmp_total a in
+    subst (λ q. true ≡ eqb (ordering_index q) 1) (sym tied) refl
+same_by a b false Less is e = refl
+same_by a b false Equal is e = let clash : false ≡ true = sym is ∙ (bytes_eq-Decides a b).1 (text_same a b e) in cc
+same_by a b false Greater is e = refl
+
+same_ranks : (a b : List ℕ) → bytes_eq a b ≡ eqb (ordering_index (text_cmp a b)) 1
+same_ranks a b = same_by a b (bytes_eq a b) (text_cmp a b) refl refl
+
+tied_by : (o : Ordering) → (not (is_lt (ordering_reverse o)) && not (is_lt o)) ≡ eqb (ordering_index o) 1
+tied_by Less = refl
+tied_by Equal = refl
+tied_by Greater = refl
+
+tied : (a b : List ℕ) → (not (is_lt (text_cmp a b)) && not (is_lt (text_cmp b a))) ≡ bytes_eq b a
+tied a b =
+    ap (λ o. not (is_lt o) && not (is_lt (text_cmp b a))) (nat_list_cmp_total.antisymm a b)
+    ∙ tied_by (text_cmp b a) ∙ sym (same_ranks b a)
+
+-- a stable sort by the labels keeps the elements of each label in their order
+abbrev pub comes_before : Bor Element → Bor Element → Bool
+comes_before x y = is_lt (text_cmp (folded_label x) (folded_label y))
+
+pub labels_stay : (old new : List (Bor Element)) (elements : List Element) → lent old ≡ elements → IsStableBy comes_before old new → (label : List ℕ) → labelled label (lent new) ≡ labelled label elements
+labels_stay old new elements is stable label =
+    let one : Bor Element = record { ref_ptr = (0, 0); now = record { line = 0; label = label; value = [] } } in
+    let agree : (x : Bor Element) → same_label x.now.label label ≡ ties comes_before one x = λ x. sym (tied (str_to_ascii_lowercase label) (str_to_ascii_lowercase x.now.label)) in
+    let has : Bor Element → Bool = λ x. same_label x.now.label label in
+    kept_lent (λ e. same_label e.label label) new
+    ∙ ap lent (filter_agree has (ties comes_before one) agree new ∙ stable one ∙ sym (filter_agree has (ties comes_before one) agree old))
+    ∙ sym (kept_lent (λ e. same_label e.label label) old) ∙ ap (labelled label) is
+
+-- the run of a label
+module _ (label : List ℕ) where
+  abbrev rank : Bor Element → ℕ
+  rank e = ordering_index (label_cmp e.now.label label)
+
+  abbrev pub is_below : Bor Element → Bool
+  is_below e = is_lt (label_cmp e.now.label label)
+
+  abbrev pub has_label : Bor Element → Bool
+  has_label e = same_label e.now.label label
+
+  label_ranks : (e : Bor Element) → has_label e ≡ eqb (rank e) 1
+  label_ranks e = same_ranks (str_to_ascii_lowercase e.now.label) (str_to_ascii_lowercase label)
+
+  below_lacks : (e : Bor Element) → is_below e ≡ true → has_label e ≡ false
+  below_lacks e below = label_ranks e ∙ ap (λ n. eqb n 1) (lower_ranks (label_cmp e.now.label label) below)
+
+  module _ (elements : List (Bor Element)) (sorted : IsByLabel elements) where
+    rises : IsNonDecreasingBy rank elements
+    rises = searchable_from_sorted nat_list_cmp_total folded_label elements (str_to_ascii_lowercase label) sorted
+
+    -- those below the label stand first
+    pub below_first : IsPartitionedBy is_below elements
+    below_first i j d low high below =
+        let x : Bor Element = get_or elements i d in
+        let y : Bor Element = get_or elements j d in
+        let up : rank x ≤ rank y = rises i j d low high in
+        let least : rank y ≡ 0 = lower_ranks (label_cmp y.now.label label) below in
+        ranks_lower (label_cmp x.now.label label) (omega (arith, up, least))
+
+    module _ (i : ℕ) (split : IsPartitionPoint (λ e. is_below e ≡ true) (λ e. is_below e ≡ false) elements i) where
+      -- and then those that have it
+      pub label_first : IsPartitionedBy has_label (drop i elements)
+      label_first j k d low high has =
+          let x : Bor Element = get_or (drop i elements) j d in
+          let y : Bor Element = get_or (drop i elements) k d in
+          let up : rank x ≤ rank y = IsNonDecreasingBy-drop rank i elements rises j k d low high in
+          let here : rank y ≡ 1 = (Decides-eqb (rank y) 1).0 (sym (label_ranks y) ∙ has) in
+          let not_below : is_below x ≡ false = ap is_below (get_or-drop i elements j d) ∙ split.1 (i + j) d (omega arith) (omega (arith, length-drop i elements)) in
+          let above : 1 ≤ rank x = no_lower (label_cmp x.now.label label) not_below in
+          label_ranks x ∙ (Decides-eqb (rank x) 1).1 (omega (arith, up, here, above))
+
+      pub run_is : (k : ℕ) → i ≤ length elements → k ≤ length (drop i elements) → IsPartitionPoint (λ e. has_label e ≡ true) (λ e. has_label e ≡ false) (drop i elements) k
+          → lent (take k (drop i elements)) ≡ labelled label (lent elements)
+      run_is k within inside part =
+          let rest = kept_rest has_label elements i (λ j d low high. below_lacks (get_or elements j d) (split.0 j d low high)) within in
+          let run = kept_front has_label (drop i elements) k part.0 part.1 inside in
+          ap lent (sym (rest ∙ run)) ∙ sym (kept_lent (λ e. same_label e.label label) elements)

@@ -1,0 +1,51 @@
+-- The faults of a bag and a profile are of the eighth stage, and a list has them.
+use Rattle.std.proofs.Common.{◌≡◌, None, Some, refl}
+use Rattle.bag_text.specs.Code.{stage}
+use Rattle.bag_text.specs.declared.code.Code.{Code}
+use Rattle.bag_text.specs.declared.code.Code.TheVariants.{ProfileIdentifier, LabelRequired, LabelRepeated, ValueNotAllowed, ManifestRequired, ManifestNotAllowed, TagmanifestRequired, TagmanifestNotAllowed, TagFileRequired, TagFileNotAllowed, FetchNotAllowed, VersionNotAccepted, SerializationRequired}
+use Rattle.bag_tags.specs.declared.kind.Kind.TheVariants.{Payload, Tag}
+use Rattle.bag_tree.specs.Bag.{Bag}
+use Rattle.bag_fault.specs.declared.fault.Fault.{Fault}
+use Rattle.bag_profile.specs.Profile.{Profile}
+use Rattle.bag_stages.proofs.HasLists.{nothing, same_set, either}
+use Rattle.bag_conformance.specs.ConformanceFaults.{IsOfElements, IsOfKind, IsOfTagFiles, IsOfWhole}
+use Rattle.bag_conformance.specs.ConformanceStage.{ConformanceHolds, IsOfProfile, ConformanceFaultsAreListed, ConformanceFaultsAreOfStageEight}
+use Rattle.bag_conformance.proofs.ConformanceLists.{elements_listed, kind_listed, tag_files_listed, whole_listed}
+use Rattle.bag_conformance.proofs.Parts.{IsOfBothKinds, IsOfSome, of_some, is_of_some}
+
+module _ (bag : Bag) (profile : Profile) (f : Fault) where
+  holds_stage : (c : Code) → ConformanceHolds bag profile f c → stage c ≡ 8
+  unfolding ConformanceHolds
+  holds_stage ProfileIdentifier h = refl
+  holds_stage LabelRequired h = refl
+  holds_stage LabelRepeated h = refl
+  holds_stage ValueNotAllowed h = refl
+  holds_stage ManifestRequired h = refl
+  holds_stage ManifestNotAllowed h = refl
+  holds_stage TagmanifestRequired h = refl
+  holds_stage TagmanifestNotAllowed h = refl
+  holds_stage TagFileRequired h = refl
+  holds_stage TagFileNotAllowed h = refl
+  holds_stage FetchNotAllowed h = refl
+  holds_stage VersionNotAccepted h = refl
+  holds_stage SerializationRequired h = refl
+  holds_stage other h = absurd h
+
+  of_stage_eight : IsOfProfile bag profile f → stage f.code ≡ 8
+  unfolding IsOfProfile
+  of_stage_eight h = holds_stage f.code h
+
+pub conformance_faults_are_of_stage_eight : ConformanceFaultsAreOfStageEight
+conformance_faults_are_of_stage_eight bag None f h = absurd h
+conformance_faults_are_of_stage_eight bag (Some profile) f h = of_stage_eight bag profile f h
+
+pub conformance_faults_are_listed : ConformanceFaultsAreListed
+conformance_faults_are_listed bag None = nothing _ (λ f h. h)
+conformance_faults_are_listed bag (Some profile) =
+    same_set (IsOfSome bag profile) (IsOfProfile bag profile) (of_some bag profile) (is_of_some bag profile)
+    (either _ (IsOfWhole bag profile)
+    (either _ (IsOfTagFiles bag profile)
+    (either (IsOfElements bag profile) (IsOfBothKinds bag profile) (elements_listed bag profile)
+    (either (λ f. IsOfKind bag profile f Payload) (λ f. IsOfKind bag profile f Tag) (kind_listed bag profile Payload) (kind_listed bag profile Tag)))
+    (tag_files_listed bag profile))
+    (whole_listed bag profile))

@@ -1,0 +1,26 @@
+-- The faults of a set, put in their order, each once.
+use Rattle.std.proofs.Common.{List, refl, Contains}
+use Rattle.std.specs.List.{dedup}
+use Rattle.std.specs.List.Sorted.{IsPermutation, IsSorted}
+use Rattle.std.specs.Ordering.{eq_by_cmp}
+use Rattle.std.proofs.lemmas.Cmp.{eq_by_cmp_equiv}
+use Rattle.std.proofs.lemmas.List.Kept.{Contains-dedup, Contains-from_dedup, IsStrictlySortedBy-dedup}
+use Rattle.std.proofs.lemmas.List.Sorted.{IsPermutation-sym, Contains-permutation}
+use Rattle.bag_text.specs.Order.{IsListOf}
+use Rattle.bag_fault.specs.FaultOrder.{fault_cmp}
+use Rattle.bag_fault.specs.declared.fault.Fault.{Fault}
+use Rattle.bag_fault.proofs.Ordered.{fault_cmp_total, equal_faults_are_one}
+use Rattle.bag_conformance.specs.ConformanceFaults.{AreAll}
+
+module _ (Member : Fault → Type 0) (faults sorted : List Fault) (all : AreAll Member faults) (perm : IsPermutation faults sorted) where
+  is_member : (f : Fault) → Contains (dedup (eq_by_cmp fault_cmp) sorted) f → Member f
+  is_member f c = (all f).0 (Contains-permutation sorted faults f (IsPermutation-sym faults sorted perm) (Contains-from_dedup (eq_by_cmp fault_cmp) sorted f c))
+
+  has_member : (f : Fault) → Member f → Contains (dedup (eq_by_cmp fault_cmp) sorted) f
+  has_member f m = Contains-dedup (eq_by_cmp_equiv fault_cmp_total) (λ x y e. (equal_faults_are_one x y).0 e) sorted f (Contains-permutation faults sorted f perm ((all f).1 m))
+
+  pub sorted_listed : IsSorted fault_cmp sorted → IsListOf fault_cmp Member (dedup (eq_by_cmp fault_cmp) sorted)
+  sorted_listed in_order = record {
+    ascending = IsStrictlySortedBy-dedup fault_cmp_total (λ x y. refl) sorted in_order;
+    members = λ f. (is_member f, has_member f);
+  }

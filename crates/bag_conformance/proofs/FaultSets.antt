@@ -1,0 +1,87 @@
+-- Sets of faults that a list has: in other words, one after the other, of one fault at most, and item by item.
+use Rattle.std.proofs.Common.{◌≡◌, ◌<◌, ◌≤◌, ◌⊎◌, inl, inr, ◌+◌, ◌++◌, ℕ, None, List, [], ◌∷◌, length, take, get_or, Contains, ap, sym, ◌∙◌, subst}
+use Rattle.bag_text.specs.declared.code.Code.{Code}
+use Rattle.bag_text.proofs.ListOf.{contains_back, contains_cases, contains_either, contains_first, contains_front, contains_nothing}
+use Rattle.bag_fault.specs.declared.fault.Fault.{Fault}
+use Rattle.bag_facts.proofs.Mapped.{take_one_more, taken_cases}
+use Rattle.bag_stages.specs.FaultFields.{At, of_whole}
+use Rattle.bag_stages.proofs.ByPath.{take_whole}
+use Rattle.bag_stages.proofs.Sorted.{either_listed}
+use Rattle.bag_conformance.specs.ConformanceFaults.{AreAll}
+
+-- a set in other words
+pub same_all : (P Q : Fault → Type 0) (faults : List Fault) → ((f : Fault) → P f → Q f) → ((f : Fault) → Q f → P f) → AreAll P faults → AreAll Q faults
+same_all P Q faults to from all f = (λ c. to f ((all f).0 c), λ q. (all f).1 (from f q))
+
+-- two sets, one after the other
+pub both_all : (P Q : Fault → Type 0) (xs ys both : List Fault) → both ≡ xs ++ ys → AreAll P xs → AreAll Q ys → AreAll (λ f. P f ⊎ Q f) both
+both_all P Q xs ys both made p q = rw made (either_listed P Q xs ys p q)
+
+-- a set of none
+pub none_all : (P : Fault → Type 0) (faults : List Fault) → faults ≡ [] → ((f : Fault) → ¬ (P f)) → AreAll P faults
+none_all P faults made none f = rw made (λ c. absurd (contains_nothing f c), λ p. absurd (none f p))
+
+-- a set of one
+pub one_all : (P : Fault → Type 0) (faults : List Fault) (x : Fault) → faults ≡ x ∷ [] → P x → ((f : Fault) → P f → f ≡ x) → AreAll P faults
+one_all P faults x made is only f =
+    rw made (
+      (λ c. elim (contains_cases x [] f c) [ inl same ↦ subst P same is | inr none ↦ absurd (contains_nothing f none) ]),
+      (λ p. subst (Contains (x ∷ [])) (sym (only f p)) (contains_first x [])),
+    )
+
+-- a fault of a whole file has these fields, and one with these fields is that
+pub whole_at : (f : Fault) (code : Code) (path : List ℕ) → f ≡ of_whole code path [] → At f path None 0 []
+whole_at f code path e = record {
+  path_is = ap (λ (x : Fault). x.path) e;
+  alg_is = ap (λ (x : Fault). x.alg) e;
+  line_is = ap (λ (x : Fault). x.line) e;
+  detail_is = ap (λ (x : Fault). x.detail) e;
+}
+
+pub code_at : (f : Fault) (code : Code) (path : List ℕ) → f ≡ of_whole code path [] → f.code ≡ code
+code_at f code path e = ap (λ (x : Fault). x.code) e
+
+pub at_whole : (f : Fault) (code : Code) (path : List ℕ) → f.code ≡ code → At f path None 0 [] → f ≡ of_whole code path []
+at_whole f code path e at = λ i. record { code = e i; path = at.path_is i; alg = at.alg_is i; line = at.line_is i; detail = at.detail_is i }
+
+module _ {I : Type 0} (fault_of : I → Fault) (Holds : I → Type 0) where
+  -- the faults of those of these items of which it holds
+  abbrev pub FaultsOf : List I → Fault → Type 0
+  FaultsOf items f = (item : I) × Contains items item × (f ≡ fault_of item) × Holds item
+
+  module _ (items : List I) (i : ℕ) (item : I) (faults : List Fault) (lt : i < length items) (is : item ≡ get_or items i item) (so_far : AreAll (FaultsOf (take i items)) faults) where
+    earlier : (f : Fault) → FaultsOf (take i items) f → FaultsOf (take (i + 1) items) f
+    earlier f h =
+        (h.0, subst (λ some. Contains some h.0) (sym (take_one_more items i item lt is)) (contains_front (take i items) (item ∷ []) h.0 h.1), h.2, h.3)
+
+    here : Contains (take (i + 1) items) item
+    here = subst (λ some. Contains some item) (sym (take_one_more items i item lt is)) (contains_back (take i items) (item ∷ []) item (contains_first item []))
+
+    -- it holds of the next
+    pub one_more : (x : Fault) (now : List Fault) → now ≡ faults ++ x ∷ [] → x ≡ fault_of item → Holds item → AreAll (FaultsOf (take (i + 1) items)) now
+    one_more x now made e holds f =
+        rw made (
+          (λ c. elim (contains_either faults (x ∷ []) f c) [
+            | inl a ↦ earlier f ((so_far f).0 a)
+            | inr b ↦ elim (contains_cases x [] f b) [ inl same ↦ (item, here, sym same ∙ e, holds) | inr none ↦ absurd (contains_nothing f none) ]
+          ]),
+          (λ h. elim (taken_cases items i item h.0 lt is h.1) [
+            | inl a ↦ contains_front faults (x ∷ []) f ((so_far f).1 (h.0, a, h.2, h.3))
+            | inr same ↦ contains_back faults (x ∷ []) f (subst (Contains (x ∷ [])) (e ∙ ap fault_of same ∙ sym h.2) (contains_first x []))
+          ]),
+        )
+
+    -- it doesn't hold of the next
+    pub one_other : (now : List Fault) → now ≡ faults → ¬ (Holds item) → AreAll (FaultsOf (take (i + 1) items)) now
+    one_other now made fails f =
+        rw made (
+          (λ c. earlier f ((so_far f).0 c)),
+          (λ h. elim (taken_cases items i item h.0 lt is h.1) [
+            | inl a ↦ (so_far f).1 (h.0, a, h.2, h.3)
+            | inr same ↦ absurd (fails (subst Holds (sym same) h.3))
+          ]),
+        )
+
+  -- which are all
+  pub all_items : (items : List I) (i : ℕ) (faults : List Fault) → length items ≤ i → AreAll (FaultsOf (take i items)) faults → AreAll (FaultsOf items) faults
+  all_items items i faults le so_far = subst (λ some. AreAll (FaultsOf some) faults) (take_whole items i le) so_far

@@ -1,0 +1,15 @@
+pub mod ByLabel
+pub mod ConformanceFaultsLaws
+pub mod ConformanceLists
+pub mod Decisions
+pub mod EachOnce
+pub mod ElementFaults
+pub mod FaultSets
+pub mod FilesThere
+pub mod ItemFaults
+pub mod LabelRule
+pub mod Manifests
+pub mod Parts
+pub mod Rules
+pub mod TagFiles
+pub mod WholeBag

@@ -1,0 +1,106 @@
+-- The faults of manifests that are lacking, or may not be there.
+use Rattle.std.proofs.Common.{◌≡◌, ◌↔◌, ℕ, Bool, true, Option, None, Some, List, [], Contains, IsTrue, MatchOption, refl, sym, ap, ◌∙◌, subst}
+use Rattle.std.specs.Prelude.{◌≢◌}
+use Rattle.std.specs.Borrow.{Bor}
+use Rattle.std.specs.Option.{is_some}
+use Rattle.bag_tags.specs.ManifestName.{is_alg_text, manifest_name}
+use Rattle.bag_tags.specs.declared.kind.Kind.{Kind}
+use Rattle.bag_tree.specs.Bag.{Bag, HasFile}
+use Rattle.bag_tree.specs.declared.listing.FileEntry.{FileEntry}
+use Rattle.bag_fault.specs.declared.fault.Fault.{Fault}
+use Rattle.bag_facts.specs.TagReader.{AreListed}
+use Rattle.bag_profile.specs.Profile.{Profile}
+use Rattle.bag_profile.specs.declared.rule.ListRule.{ListRule}
+use Rattle.bag_stages.specs.FaultFields.{of_whole}
+use Rattle.bag_stages.specs.TagFiles.{HasManifest}
+use Rattle.bag_stages.proofs.PartFaults.{one_alg}
+use Rattle.bag_conformance.specs.ConformanceFaults.{AreAll, required_code, other_code}
+use Rattle.bag_conformance.specs.ConformanceStage.{allowed_manifests, required_manifests, LacksManifest, HasOtherManifest}
+use Rattle.bag_conformance.specs.NotAllowed.{IsOtherManifest}
+use Rattle.bag_conformance.specs.ProfileRules.{Excludes, Lists}
+use Rattle.bag_conformance.proofs.FaultSets.{FaultsOf, same_all, whole_at, code_at, at_whole}
+use Rattle.bag_conformance.proofs.FilesThere.{fault_of, HoldsOf, IsOfFile, files_all}
+
+-- the names of the list of a kind
+pub listed_as : (profile : Profile) (kind : Kind) (required : List (List ℕ)) (rule : ListRule) → rule ≡ required_manifests kind → ((name : List ℕ) → Contains required name ↔ Lists profile rule name)
+    → (name : List ℕ) → Contains required name ↔ Lists profile (required_manifests kind) name
+listed_as profile kind required rule is are = subst (λ r. (name : List ℕ) → Contains required name ↔ Lists profile r name) is are
+
+module _ (bag : Bag) (profile : Profile) (kind : Kind) where
+  abbrev pub lacking_fault : List ℕ → Fault
+  lacking_fault name = of_whole (required_code kind) (manifest_name kind name) []
+
+  abbrev pub IsLacking : List ℕ → Type 0
+  IsLacking name = ¬ (HasManifest bag kind name)
+
+  abbrev pub Lacks : Fault → Type 0
+  Lacks f = (f.code ≡ required_code kind) × LacksManifest bag profile f kind
+
+  -- the names that must be there, and aren't
+  pub lacking_all : (required : List (List ℕ)) (faults : List Fault) → ((name : List ℕ) → Contains required name ↔ Lists profile (required_manifests kind) name)
+      → AreAll (FaultsOf lacking_fault IsLacking required) faults → AreAll Lacks faults
+  lacking_all required faults are all =
+      same_all (FaultsOf lacking_fault IsLacking required) Lacks faults
+      (λ f h.
+      let path = manifest_name kind h.0 in
+      (code_at f (required_code kind) path h.2, (h.0, whole_at f (required_code kind) path h.2, (are h.0).0 h.1, h.3)))
+      (λ f h.
+      let name = h.1.0 in
+      (name, (are name).1 h.1.2, at_whole f (required_code kind) (manifest_name kind name) h.0 h.1.1, h.1.3))
+      all
+
+  abbrev pub HasOther : Fault → Type 0
+  HasOther f = (f.code ≡ other_code kind) × HasOtherManifest bag profile f kind
+
+  abbrev pub IsOther : Fault → Type 0
+  IsOther = IsOfFile (other_code kind) (IsOtherManifest profile kind) bag
+
+  to_other : (f : Fault) → IsOther f → HasOther f
+  to_other f h =
+      let other = h.3 in
+      let alg = other.0 in (
+        code_at f (other_code kind) h.0 h.2,
+        (
+          alg,
+          whole_at f (other_code kind) (manifest_name kind alg) (h.2 ∙ ap (λ p. of_whole (other_code kind) p []) other.2),
+          (other.1, subst (HasFile bag) other.2 h.1),
+          other.3,
+        ),
+      )
+
+  from_other : (f : Fault) → HasOther f → IsOther f
+  from_other f h =
+      let alg = h.1.0 in
+      let path = manifest_name kind alg in
+      (path, h.1.2.1, at_whole f (other_code kind) path h.0 h.1.1, (alg, h.1.2.0, refl, h.1.3))
+
+  -- the files that may not be there
+  pub other_all : (files : List FileEntry) (faults : List Fault) → AreListed bag files
+      → AreAll (FaultsOf (fault_of (other_code kind) (IsOtherManifest profile kind)) (HoldsOf (other_code kind) (IsOtherManifest profile kind)) files) faults → AreAll HasOther faults
+  other_all files faults listed all =
+      same_all IsOther HasOther faults to_other from_other (files_all (other_code kind) (IsOtherManifest profile kind) bag files listed faults all)
+
+-- what the name of a path tells of the manifest there
+module _ (kind : Kind) (path : List ℕ) where
+  abbrev IsNamed : List ℕ → Type 0
+  IsNamed alg = IsTrue (is_alg_text alg) × (path ≡ manifest_name kind alg)
+
+  abbrev IsUnnamed : Type 0
+  IsUnnamed = (alg : List ℕ) → IsTrue (is_alg_text alg) → path ≢ manifest_name kind alg
+
+  -- the manifest of a name is there where the file is
+  pub has_by : (bag : Bag) (name : List ℕ) (o : Option (Bor (List ℕ))) (has : Bool) → path ≡ manifest_name kind name → MatchOption o IsUnnamed (λ alg. IsNamed alg.now) → true ≡ is_some o
+      → IsTrue has ↔ HasFile bag path → IsTrue has ↔ HasManifest bag kind name
+  has_by bag name None has at named some tells = cc
+  has_by bag name (Some alg) has at named some tells = (
+    λ yes. (subst (λ a. IsTrue (is_alg_text a)) (one_alg kind kind alg.now name (sym named.1 ∙ at)) named.0, subst (HasFile bag) at (tells.0 yes)),
+    λ h. tells.1 (subst (HasFile bag) (sym at) h.1),
+  )
+
+  -- it may not be there where the list lacks its algorithm
+  pub other_by : (profile : Profile) (alg : List ℕ) (rule : ListRule) (b : Bool) → IsNamed alg → rule ≡ allowed_manifests kind → IsTrue b ↔ Excludes profile rule alg
+      → IsTrue b ↔ IsOtherManifest profile kind path
+  other_by profile alg rule b named is tells = (
+    λ yes. (alg, named.0, named.1, subst (λ r. Excludes profile r alg) is (tells.0 yes)),
+    λ h. tells.1 (subst (Excludes profile rule) (one_alg kind kind h.0 alg (sym h.2 ∙ named.1)) (subst (λ r. Excludes profile r h.0) (sym is) h.3)),
+  )

@@ -1,0 +1,86 @@
+-- The faults of a profile are those of its parts.
+use Rattle.std.proofs.Common.{◌≡◌, ◌⊎◌, inl, inr, List, ◌++◌, refl, sym, subst}
+use Rattle.bag_text.specs.declared.code.Code.{Code}
+use Rattle.bag_text.specs.declared.code.Code.TheVariants.{ProfileIdentifier, LabelRequired, LabelRepeated, ValueNotAllowed, ManifestRequired, ManifestNotAllowed, TagmanifestRequired, TagmanifestNotAllowed, TagFileRequired, TagFileNotAllowed, FetchNotAllowed, VersionNotAccepted, SerializationRequired}
+use Rattle.bag_tags.specs.declared.kind.Kind.TheVariants.{Payload, Tag}
+use Rattle.bag_tree.specs.Bag.{Bag}
+use Rattle.bag_fault.specs.declared.fault.Fault.{Fault}
+use Rattle.bag_profile.specs.Profile.{Profile}
+use Rattle.bag_conformance.specs.ConformanceStage.{ConformanceHolds, IsOfProfile}
+use Rattle.bag_conformance.specs.ConformanceFaults.{AreAll, IsOfElements, IsOfKind, IsOfTagFiles, IsOfWhole}
+use Rattle.bag_conformance.proofs.FaultSets.{both_all, same_all}
+
+module _ (bag : Bag) (profile : Profile) where
+  abbrev pub IsOfBothKinds : Fault → Type 0
+  IsOfBothKinds f = IsOfKind bag profile f Payload ⊎ IsOfKind bag profile f Tag
+
+  -- one set after the other, in the order in which they are found
+  abbrev pub IsOfSome : Fault → Type 0
+  IsOfSome f = ((IsOfElements bag profile f ⊎ IsOfBothKinds f) ⊎ IsOfTagFiles bag profile f) ⊎ IsOfWhole bag profile f
+
+  module _ (f : Fault) where
+    row : (c : Code) → f.code ≡ c → ConformanceHolds bag profile f c → IsOfProfile bag profile f
+    unfolding IsOfProfile
+    row c e h = subst (ConformanceHolds bag profile f) (sym e) h
+
+    of_elements : IsOfElements bag profile f → IsOfProfile bag profile f
+    unfolding ConformanceHolds
+    of_elements (inl (e, h)) = row ProfileIdentifier e h
+    of_elements (inr (inl (e, h))) = row LabelRequired e h
+    of_elements (inr (inr (inl (e, h)))) = row LabelRepeated e h
+    of_elements (inr (inr (inr (e, h)))) = row ValueNotAllowed e h
+
+    of_manifests : IsOfBothKinds f → IsOfProfile bag profile f
+    unfolding ConformanceHolds
+    of_manifests (inl (inl (e, h))) = row ManifestRequired e h
+    of_manifests (inl (inr (e, h))) = row ManifestNotAllowed e h
+    of_manifests (inr (inl (e, h))) = row TagmanifestRequired e h
+    of_manifests (inr (inr (e, h))) = row TagmanifestNotAllowed e h
+
+    of_tag_files : IsOfTagFiles bag profile f → IsOfProfile bag profile f
+    unfolding ConformanceHolds
+    of_tag_files (inl (e, h)) = row TagFileRequired e h
+    of_tag_files (inr (inl (e, h))) = row TagFileNotAllowed e h
+    of_tag_files (inr (inr (e, h))) = row FetchNotAllowed e h
+
+    of_whole : IsOfWhole bag profile f → IsOfProfile bag profile f
+    unfolding ConformanceHolds
+    of_whole (inl (e, h)) = row VersionNotAccepted e h
+    of_whole (inr (e, h)) = row SerializationRequired e h
+
+    pub of_some : IsOfSome f → IsOfProfile bag profile f
+    of_some (inl (inl (inl h))) = of_elements h
+    of_some (inl (inl (inr h))) = of_manifests h
+    of_some (inl (inr h)) = of_tag_files h
+    of_some (inr h) = of_whole h
+
+    some_by : (c : Code) → f.code ≡ c → ConformanceHolds bag profile f c → IsOfSome f
+    unfolding ConformanceHolds
+    some_by ProfileIdentifier e h = inl (inl (inl (inl (e, h))))
+    some_by LabelRequired e h = inl (inl (inl (inr (inl (e, h)))))
+    some_by LabelRepeated e h = inl (inl (inl (inr (inr (inl (e, h))))))
+    some_by ValueNotAllowed e h = inl (inl (inl (inr (inr (inr (e, h))))))
+    some_by ManifestRequired e h = inl (inl (inr (inl (inl (e, h)))))
+    some_by ManifestNotAllowed e h = inl (inl (inr (inl (inr (e, h)))))
+    some_by TagmanifestRequired e h = inl (inl (inr (inr (inl (e, h)))))
+    some_by TagmanifestNotAllowed e h = inl (inl (inr (inr (inr (e, h)))))
+    some_by TagFileRequired e h = inl (inr (inl (e, h)))
+    some_by TagFileNotAllowed e h = inl (inr (inr (inl (e, h))))
+    some_by FetchNotAllowed e h = inl (inr (inr (inr (e, h))))
+    some_by VersionNotAccepted e h = inr (inl (e, h))
+    some_by SerializationRequired e h = inr (inr (e, h))
+    some_by other e h = absurd h
+
+    pub is_of_some : IsOfProfile bag profile f → IsOfSome f
+    unfolding IsOfProfile
+    is_of_some h = some_by f.code refl h
+
+  -- the parts together
+  pub parts_all : (elements manifests tag_files whole two three all : List Fault) → two ≡ elements ++ manifests → three ≡ two ++ tag_files → all ≡ three ++ whole
+      → AreAll (IsOfElements bag profile) elements → AreAll IsOfBothKinds manifests → AreAll (IsOfTagFiles bag profile) tag_files → AreAll (IsOfWhole bag profile) whole
+      → AreAll (IsOfProfile bag profile) all
+  parts_all elements manifests tag_files whole two three all make_two make_three make_all e m t w =
+      same_all IsOfSome (IsOfProfile bag profile) all (λ f h. of_some f h) (λ f h. is_of_some f h)
+      (both_all _ (IsOfWhole bag profile) three whole all make_all
+      (both_all _ (IsOfTagFiles bag profile) two tag_files three make_three
+      (both_all (IsOfElements bag profile) IsOfBothKinds elements manifests two make_two e m) t) w)

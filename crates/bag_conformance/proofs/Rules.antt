@@ -1,0 +1,136 @@
+-- What a profile's lists say of a name, where they are there and where they aren't.
+use Rattle.std.proofs.Common.{◌≡◌, ◌↔◌, ℕ, List, [], length, Bool, true, false, not, Option, None, Some, Result, refl, ap, sym, ◌∙◌, subst, Contains, IsTrue, MatchOption}
+use Rattle.std.specs.Borrow.{Bor}
+use Rattle.std.specs.Option.{is_some}
+use Rattle.std.specs.Result.{is_ok}
+use Rattle.std.specs.List.{list_any}
+use Rattle.std.specs.List.Sorted.{IsBinarySearchResult, IsSearchInRange, IsStrictlySortedBy}
+use Rattle.std.specs.Prelude.{◌≢◌}
+use Rattle.std.proofs.lemmas.List.{map-id}
+use Rattle.bag_text.specs.Path.{is_payload_path}
+use Rattle.bag_text.specs.Text.{text_cmp}
+use Rattle.bag_text.proofs.ListOf.{contains_nothing}
+use Rattle.bag_line.proofs.PickedOut.{any_from, from_any}
+use Rattle.bag_tags.specs.ManifestName.{is_alg_text, manifest_name}
+use Rattle.bag_tags.specs.TagName.{tag_path}
+use Rattle.bag_tags.specs.declared.kind.Kind.{Kind}
+use Rattle.bag_tags.specs.declared.kind.Kind.TheVariants.{Payload, Tag}
+use Rattle.bag_tags.specs.declared.tag_name.TagName.{TagName}
+use Rattle.bag_tags.specs.declared.tag_name.TagName.TheVariants as tag_name
+use Rattle.bag_tags.proofs.TagPaths.{name_is_text}
+use Rattle.bag_text.specs.Alg.{name}
+use Rattle.bag_profile.specs.Pattern.{matches}
+use Rattle.bag_profile.specs.Profile.{Profile, names}
+use Rattle.bag_profile.specs.declared.rule.ListRule.{ListRule}
+use Rattle.bag_facts.proofs.ByPath.{found}
+use Rattle.bag_conformance.specs.ProfileRules.{Lists, Excludes, MatchesNone, IsFreeTagFile}
+
+-- a search tells whether a name is among ascending ones
+pub name_found : (texts : List (List ℕ)) (text : List ℕ) (r : Result ℕ ℕ) (b : Bool) → b ≡ is_ok r → IsStrictlySortedBy text_cmp texts → IsSearchInRange r (length texts)
+    → IsBinarySearchResult (λ y. text_cmp y text) texts r → IsTrue b ↔ Contains texts text
+name_found texts text r b ok up within at = rw ok (rw (map-id texts) at (found (λ y. y) texts [] text r up within at))
+
+module _ (profile : Profile) (rule : ListRule) where
+  -- there is one list
+  one_list : (some other : List (List ℕ)) → Some some ≡ names profile rule → names profile rule ≡ Some other → other ≡ some
+  one_list some other e h = let same : Some some ≡ Some other = e ∙ h in cc
+
+  no_list : (other : List (List ℕ)) → None ≡ names profile rule → names profile rule ≡ Some other → ⊥
+  no_list other e h = let clash : None ≡ Some other = e ∙ h in cc
+
+  pub lists_some : (some : List (List ℕ)) → Some some ≡ names profile rule → (text : List ℕ) → Contains some text ↔ Lists profile rule text
+  lists_some some e text = (
+    λ c. (some, sym e, c),
+    λ h. subst (λ those. Contains those text) (one_list some h.0 e h.1) h.2,
+  )
+
+  pub lists_none : (some : List (List ℕ)) → some ≡ [] → None ≡ names profile rule → (text : List ℕ) → Contains some text ↔ Lists profile rule text
+  lists_none some empty e text = (
+    λ c. absurd (contains_nothing text (subst (λ those. Contains those text) empty c)),
+    λ h. absurd (no_list h.0 e h.1),
+  )
+
+  pub excludes_some : (some : List (List ℕ)) → Some some ≡ names profile rule → (text : List ℕ) (b : Bool) → IsTrue b ↔ Contains some text → IsTrue (not b) ↔ Excludes profile rule text
+  excludes_some some e text true tells = (
+    λ no. cc,
+    λ h. absurd (h.2 (subst (λ those. Contains those text) (sym (one_list some h.0 e h.1)) (tells.0 refl))),
+  )
+  excludes_some some e text false tells = (
+    λ yes. (some, sym e, λ c. let clash : false ≡ true = tells.1 c in cc),
+    λ h. refl,
+  )
+
+  pub excludes_none : None ≡ names profile rule → (text : List ℕ) → IsTrue false ↔ Excludes profile rule text
+  excludes_none e text = (λ no. cc, λ h. absurd (no_list h.0 e h.1))
+
+  all_fail : (some : List (List ℕ)) (text : List ℕ) → list_any (λ p. matches p text) some ≡ false → (p : List ℕ) → Contains some p → (b : Bool) → matches p text ≡ b → b ≡ false
+  all_fail some text none p c true e = sym (any_from (λ q. matches q text) some p c e) ∙ none
+  all_fail some text none p c false e = refl
+
+  pub matches_none_some : (some : List (List ℕ)) → Some some ≡ names profile rule → (text : List ℕ) (b : Bool) → b ≡ list_any (λ p. matches p text) some → IsTrue (not b) ↔ MatchesNone profile rule text
+  matches_none_some some e text true tells = (
+    λ no. cc,
+    λ h.
+        let one = from_any (λ p. matches p text) some (sym tells) in
+        let fails : matches one.0 text ≡ false = h.2 one.0 (subst (λ those. Contains those one.0) (sym (one_list some h.0 e h.1)) one.1) in
+        let clash : true ≡ false = sym one.2 ∙ fails in
+        cc,
+  )
+  matches_none_some some e text false tells = (
+    λ yes. (some, sym e, λ p c. all_fail some text (sym tells) p c (matches p text) refl),
+    λ h. refl,
+  )
+
+  pub matches_none_none : None ≡ names profile rule → (text : List ℕ) → IsTrue false ↔ MatchesNone profile rule text
+  matches_none_none e text = (λ no. cc, λ h. absurd (no_list h.0 e h.1))
+
+-- which tag files other rules don't speak of
+module _ (path : List ℕ) where
+  abbrev pub NoManifest : Kind → Type 0
+  NoManifest kind = (alg : List ℕ) → IsTrue (is_alg_text alg) → path ≢ manifest_name kind alg
+
+  abbrev pub NoTag : Type 0
+  NoTag = (tag : TagName) → tag_path tag ≢ path
+
+  free_at_none : IsFreeTagFile path → NoTag
+  free_at_none free tag_name.Declaration e = free.no_declaration (sym e)
+  free_at_none free tag_name.Info e = free.no_info (sym e)
+  free_at_none free tag_name.Fetch e = free.no_fetch (sym e)
+  free_at_none free (tag_name.Manifest kind alg) e = free.no_manifest kind (name alg) (name_is_text alg) (sym e)
+
+  no_manifest_by : NoManifest Payload → NoManifest Tag → (kind : Kind) → NoManifest kind
+  no_manifest_by p t Payload = p
+  no_manifest_by p t Tag = t
+
+  pub free_from : is_payload_path path ≡ false → NoTag → NoManifest Payload → NoManifest Tag → IsFreeTagFile path
+  free_from outside at p t = record {
+    outside_payload = outside;
+    no_declaration = λ e. at tag_name.Declaration (sym e);
+    no_info = λ e. at tag_name.Info (sym e);
+    no_fetch = λ e. at tag_name.Fetch (sym e);
+    no_manifest = no_manifest_by p t;
+  }
+
+  abbrev AtTag : Option TagName → Type 0
+  AtTag o = MatchOption o NoTag (λ tag. tag_path tag ≡ path)
+
+  pub none_at : (o : Option TagName) (b : Bool) → AtTag o → is_some o ≡ not b → b ≡ true → NoTag
+  none_at None b at e is = at
+  none_at (Some tag) b at e is = let clash : true ≡ false = e ∙ ap not is in cc
+
+  pub at_none : (o : Option TagName) (b : Bool) → AtTag o → is_some o ≡ not b → IsFreeTagFile path → b ≡ true
+  at_none None true at e free = refl
+  at_none None false at e free = cc
+  at_none (Some tag) b at e free = absurd (free_at_none free tag at)
+
+  abbrev OfManifest : Kind → Option (Bor (List ℕ)) → Type 0
+  OfManifest kind o = MatchOption o (NoManifest kind) (λ alg. IsTrue (is_alg_text alg.now) × (path ≡ manifest_name kind alg.now))
+
+  pub none_named : (kind : Kind) (o : Option (Bor (List ℕ))) (b : Bool) → OfManifest kind o → is_some o ≡ not b → b ≡ true → NoManifest kind
+  none_named kind None b of e is = of
+  none_named kind (Some alg) b of e is = let clash : true ≡ false = e ∙ ap not is in cc
+
+  pub named_none : (kind : Kind) (o : Option (Bor (List ℕ))) (b : Bool) → OfManifest kind o → is_some o ≡ not b → IsFreeTagFile path → b ≡ true
+  named_none kind None true of e free = refl
+  named_none kind None false of e free = cc
+  named_none kind (Some alg) b of e free = absurd (free.no_manifest kind alg.now of.0 of.1)

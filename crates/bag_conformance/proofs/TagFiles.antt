@@ -1,0 +1,96 @@
+-- The faults of other tag files that are lacking, or may not be there.
+use Rattle.std.proofs.Common.{◌≡◌, ◌↔◌, ◌⊎◌, inl, inr, ℕ, List, [], ◌++◌, Contains, refl, sym, ap, subst}
+use Rattle.bag_text.specs.declared.code.Code.TheVariants.{TagFileRequired, TagFileNotAllowed, FetchNotAllowed}
+use Rattle.bag_tree.specs.Bag.{Bag, HasFile}
+use Rattle.bag_tree.specs.declared.listing.FileEntry.{FileEntry}
+use Rattle.bag_fault.specs.declared.fault.Fault.{Fault}
+use Rattle.bag_facts.specs.TagReader.{AreListed}
+use Rattle.bag_profile.specs.Profile.{Profile}
+use Rattle.bag_profile.specs.declared.rule.ListRule.TheVariants.{TagFilesRequired}
+use Rattle.bag_stages.specs.FaultFields.{of_whole}
+use Rattle.bag_conformance.specs.ConformanceFaults.{AreAll, IsOfTagFiles}
+use Rattle.bag_conformance.specs.ConformanceStage.{LacksTagFile, HasOtherTagFile, HasFetch}
+use Rattle.bag_conformance.specs.NotAllowed.{IsOtherTagFile}
+use Rattle.bag_conformance.specs.ProfileRules.{Lists}
+use Rattle.bag_conformance.proofs.FaultSets.{FaultsOf, same_all, both_all, whole_at, code_at, at_whole}
+use Rattle.bag_conformance.proofs.FilesThere.{fault_of, HoldsOf, IsOfFile, files_all}
+
+module _ (bag : Bag) (profile : Profile) where
+  abbrev pub lacking_fault : List ℕ → Fault
+  lacking_fault path = of_whole TagFileRequired path []
+
+  abbrev pub IsLacking : List ℕ → Type 0
+  IsLacking path = ¬ (HasFile bag path)
+
+  abbrev pub Lacks : Fault → Type 0
+  Lacks f = (f.code ≡ TagFileRequired) × LacksTagFile bag profile f
+
+  to_lacking : (required : List (List ℕ)) → ((path : List ℕ) → Contains required path ↔ Lists profile TagFilesRequired path) → (f : Fault)
+      → FaultsOf lacking_fault IsLacking required f → Lacks f
+  to_lacking required are f (path, c, is, lacks) =
+      let at : f.path ≡ path = ap (λ (x : Fault). x.path) is in
+      let fields = whole_at f TagFileRequired path is in (
+        code_at f TagFileRequired path is,
+        (
+          record { path_is = refl; alg_is = fields.alg_is; line_is = fields.line_is; detail_is = fields.detail_is },
+          subst (Lists profile TagFilesRequired) (sym at) ((are path).0 c),
+          λ has. lacks (subst (HasFile bag) at has),
+        ),
+      )
+
+  -- the files that must be there, and aren't
+  pub lacking_all : (required : List (List ℕ)) (faults : List Fault) → ((path : List ℕ) → Contains required path ↔ Lists profile TagFilesRequired path)
+      → AreAll (FaultsOf lacking_fault IsLacking required) faults → AreAll Lacks faults
+  lacking_all required faults are all =
+      same_all (FaultsOf lacking_fault IsLacking required) Lacks faults (to_lacking required are)
+      (λ f h. (f.path, (are f.path).1 h.1.1, at_whole f TagFileRequired f.path h.0 h.1.0, h.1.2))
+      all
+
+  abbrev pub HasOther : Fault → Type 0
+  HasOther f = (f.code ≡ TagFileNotAllowed) × HasOtherTagFile bag profile f
+
+  abbrev pub IsOther : Fault → Type 0
+  IsOther = IsOfFile TagFileNotAllowed (IsOtherTagFile profile) bag
+
+  to_other : (f : Fault) → IsOther f → HasOther f
+  to_other f (path, has, is, other) =
+      let at : f.path ≡ path = ap (λ (x : Fault). x.path) is in
+      let fields = whole_at f TagFileNotAllowed path is in
+      let here : IsOtherTagFile profile f.path = subst (IsOtherTagFile profile) (sym at) other in (
+        code_at f TagFileNotAllowed path is,
+        (
+          record { path_is = refl; alg_is = fields.alg_is; line_is = fields.line_is; detail_is = fields.detail_is },
+          subst (HasFile bag) (sym at) has,
+          here.0,
+          here.1,
+        ),
+      )
+
+  from_other : (f : Fault) → HasOther f → IsOther f
+  from_other f h = (f.path, h.1.1, at_whole f TagFileNotAllowed f.path h.0 h.1.0, (h.1.2, h.1.3))
+
+  -- the files that may not be there
+  pub other_all : (files : List FileEntry) (faults : List Fault) → AreListed bag files
+      → AreAll (FaultsOf (fault_of TagFileNotAllowed (IsOtherTagFile profile)) (HoldsOf TagFileNotAllowed (IsOtherTagFile profile)) files) faults → AreAll HasOther faults
+  other_all files faults listed all =
+      same_all IsOther HasOther faults to_other from_other (files_all TagFileNotAllowed (IsOtherTagFile profile) bag files listed faults all)
+
+  abbrev pub HasSomeFetch : Fault → Type 0
+  HasSomeFetch f = (f.code ≡ FetchNotAllowed) × HasFetch bag profile f
+
+  assigned : (f : Fault) → (Lacks f ⊎ HasOther f) ⊎ HasSomeFetch f → IsOfTagFiles bag profile f
+  assigned f (inl (inl h)) = inl h
+  assigned f (inl (inr h)) = inr (inl h)
+  assigned f (inr h) = inr (inr h)
+
+  grouped : (f : Fault) → IsOfTagFiles bag profile f → (Lacks f ⊎ HasOther f) ⊎ HasSomeFetch f
+  grouped f (inl h) = inl (inl h)
+  grouped f (inr (inl h)) = inl (inr h)
+  grouped f (inr (inr h)) = inr h
+
+  -- the three together
+  pub tag_files_all : (lacking others of_fetch two three : List Fault) → two ≡ lacking ++ others → three ≡ two ++ of_fetch → AreAll Lacks lacking → AreAll HasOther others → AreAll HasSomeFetch of_fetch
+      → AreAll (IsOfTagFiles bag profile) three
+  tag_files_all lacking others of_fetch two three make_two make_three l o t =
+      same_all (λ f. (Lacks f ⊎ HasOther f) ⊎ HasSomeFetch f) (IsOfTagFiles bag profile) three assigned grouped
+      (both_all (λ f. Lacks f ⊎ HasOther f) HasSomeFetch two of_fetch three make_three (both_all Lacks HasOther lacking others two make_two l o) t)

@@ -1,0 +1,95 @@
+-- The faults of a bag as a whole.
+use Rattle.std.proofs.Common.{◌≡◌, ◌≢◌, inl, inr, ◌++◌, ℕ, List, [], ◌∷◌, Option, None, Some, refl, sym, ap, ◌∙◌, subst}
+use Rattle.std.specs.Option.{option_and_then}
+use Rattle.bag_text.specs.declared.code.Code.TheVariants.{VersionNotAccepted, SerializationRequired}
+use Rattle.bag_tags.specs.Declaration.{declared_version}
+use Rattle.bag_tree.specs.Bag.{Bag, file}
+use Rattle.bag_fault.specs.declared.fault.Fault.{Fault}
+use Rattle.bag_profile.specs.Profile.{Profile}
+use Rattle.bag_profile.specs.declared.rule.ListRule.TheVariants.{AcceptBagItVersion}
+use Rattle.bag_profile.specs.declared.terms.Serialization.TheVariants.{Required}
+use Rattle.bag_stages.specs.FaultFields.{of_bag}
+use Rattle.bag_stages.specs.TagFiles.{bagit_txt}
+use Rattle.bag_conformance.specs.ConformanceFaults.{AreAll, IsOfWhole}
+use Rattle.bag_conformance.specs.ConformanceStage.{HasOtherVersion, IsToBeSerialized}
+use Rattle.bag_conformance.specs.NotAllowed.{other_version}
+use Rattle.bag_conformance.specs.ProfileRules.{Excludes}
+use Rattle.bag_conformance.proofs.FaultSets.{same_all, both_all, none_all, one_all, whole_at, code_at, at_whole}
+
+-- the version that a bag declares
+abbrev pub version_in : Option (List ℕ) → Option (List ℕ)
+version_in content = option_and_then declared_version content
+
+-- the bytes that declare it
+declares : (content : Option (List ℕ)) (version : List ℕ) → version_in content ≡ Some version → (bytes : List ℕ) × (content ≡ Some bytes) × (declared_version bytes ≡ Some version)
+declares None version e = cc
+declares (Some bytes) version e = (bytes, refl, e)
+
+module _ (bag : Bag) (profile : Profile) where
+  abbrev pub HasOther : Fault → Type 0
+  HasOther f = (f.code ≡ VersionNotAccepted) × HasOtherVersion bag profile f
+
+  declared_in : (bytes version : List ℕ) → file bag bagit_txt ≡ Some bytes → declared_version bytes ≡ Some version → version_in (file bag bagit_txt) ≡ Some version
+  declared_in bytes version there e = ap version_in there ∙ e
+
+  -- no version is declared
+  pub undeclared_all : (faults : List Fault) → faults ≡ [] → None ≡ version_in (file bag bagit_txt) → AreAll HasOther faults
+  undeclared_all faults made none =
+      none_all HasOther faults made
+      (λ f h. let clash : None ≡ Some h.1.1 = none ∙ declared_in h.1.0 h.1.1 h.1.3 h.1.4 in cc)
+
+  -- a version is declared
+  module _ (version : List ℕ) (is : Some version ≡ version_in (file bag bagit_txt)) where
+    same_version : (f : Fault) → (h : HasOther f) → h.1.1 ≡ version
+    same_version f h = let one : Some h.1.1 ≡ Some version = sym (is ∙ declared_in h.1.0 h.1.1 h.1.3 h.1.4) in cc
+
+    -- that is accepted
+    pub accepted_all : (faults : List Fault) → faults ≡ [] → ¬ (Excludes profile AcceptBagItVersion version) → AreAll HasOther faults
+    accepted_all faults made accepts =
+        none_all HasOther faults made (λ f h. accepts (subst (Excludes profile AcceptBagItVersion) (same_version f h) h.1.5))
+
+    is_other : (x : Fault) → x ≡ other_version version → Excludes profile AcceptBagItVersion version → HasOther x
+    is_other x e excluded =
+        let from = declares (file bag bagit_txt) version (sym is) in (
+          ap (λ (y : Fault). y.code) e,
+          (
+            from.0,
+            version,
+            record {
+              path_is = ap (λ (y : Fault). y.path) e;
+              alg_is = ap (λ (y : Fault). y.alg) e;
+              line_is = ap (λ (y : Fault). y.line) e;
+              detail_is = ap (λ (y : Fault). y.detail) e;
+            },
+            from.1,
+            from.2,
+            excluded,
+          ),
+        )
+
+    only_other : (x f : Fault) → x ≡ other_version version → HasOther f → f ≡ x
+    only_other x f e h =
+        let at = h.1.2 in
+        let one : f ≡ other_version h.1.1 = λ i. record { code = h.0 i; path = at.path_is i; alg = at.alg_is i; line = at.line_is i; detail = at.detail_is i } in
+        one ∙ ap other_version (same_version f h) ∙ sym e
+
+    -- that isn't
+    pub excluded_all : (faults : List Fault) (x : Fault) → faults ≡ x ∷ [] → x ≡ other_version version → Excludes profile AcceptBagItVersion version → AreAll HasOther faults
+    excluded_all faults x made e excluded = one_all HasOther faults x made (is_other x e excluded) (λ f h. only_other x f e h)
+
+  abbrev pub IsSerialized : Fault → Type 0
+  IsSerialized f = (f.code ≡ SerializationRequired) × IsToBeSerialized bag profile f
+
+  -- the profile asks for one file
+  pub serialized_all : (of_version faults : List Fault) (x : Fault) → AreAll HasOther of_version → x ≡ of_bag SerializationRequired → faults ≡ of_version ++ x ∷ [] → profile.terms.serialization ≡ Required
+      → AreAll (IsOfWhole bag profile) faults
+  serialized_all of_version faults x of_others is made asks =
+      both_all HasOther IsSerialized of_version (x ∷ []) faults made of_others
+      (one_all IsSerialized (x ∷ []) x refl (code_at x SerializationRequired [] is, (whole_at x SerializationRequired [] is, asks))
+      (λ f h. at_whole f SerializationRequired [] h.0 h.1.0 ∙ sym is))
+
+  -- and it doesn't
+  pub folder_all : (of_version faults : List Fault) → AreAll HasOther of_version → faults ≡ of_version → profile.terms.serialization ≢ Required → AreAll (IsOfWhole bag profile) faults
+  folder_all of_version faults of_others made other =
+      subst (AreAll (IsOfWhole bag profile)) (sym made)
+      (same_all HasOther (IsOfWhole bag profile) of_version (λ f h. inl h) (λ f h. elim h [ inl a ↦ a | inr b ↦ absurd (other b.1.1) ]) of_others)

@@ -1,0 +1,9 @@
+use Rattle.bag_conformance.proofs.Parts.{parts_all}
+use Rattle.bag_conformance.proofs.conformance.faults_of_parts.Goals as goal
+
+pub returns : goal.returns
+returns c = λ bag facts deep.
+    parts_all bag c.args.profile.now c.in_ok-faults.faults.items c.in_ok-of_manifests.of_manifests.items c.in_ok-of_tag_files.of_tag_files.items c.in_ok-of_whole.of_whole.items
+    c.append.new.self.items c.append-2.new.self.items c.append-3.new.self.items
+    c.in_ok-append.ensures.items c.in_ok-append-2.ensures.items c.in_ok-append-3.ensures.items
+    (c.in_ok-faults.ensures bag facts deep) (c.in_ok-of_manifests.ensures bag facts deep) (c.in_ok-of_tag_files.ensures bag facts deep) (c.in_ok-of_whole.ensures bag facts deep)

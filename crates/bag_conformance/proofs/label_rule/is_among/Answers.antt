@@ -1,0 +1,14 @@
+use Rattle.std.proofs.Common.{◌↔◌, sym, subst, Contains, IsTrue}
+use Rattle.std.specs.Result.{is_ok}
+use Rattle.std.proofs.lemmas.List.{map-id}
+use Rattle.bag_facts.proofs.ByPath.{found}
+use Rattle.bag_conformance.proofs.label_rule.is_among.Goals as goal
+
+pub returns : goal.returns
+returns c =
+    let texts = c.args.texts.now in
+    let text = c.args.text.now in
+    let search = c.binary_search in
+    subst (λ r. IsTrue r ↔ Contains texts text) (sym c.is_ok.ensures.value)
+    (subst (λ ts. IsTrue (is_ok search.result) ↔ Contains ts text) (map-id texts)
+    (found (λ t. t) texts text text search.result c.requires search.ensures.bound search.ensures.position))

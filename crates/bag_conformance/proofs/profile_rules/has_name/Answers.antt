@@ -1,0 +1,10 @@
+use Rattle.std.proofs.Common.{rules, of_calls}
+use Rattle.std.proofs.lemmas.Fn.{always_returns_same}
+use Rattle.bag_text.specs.Text.{text_cmp}
+use Rattle.bag_conformance.proofs.Rules.{name_found}
+use Rattle.bag_conformance.proofs.profile_rules.has_name.Goals as goal
+
+pub returns : goal.returns
+returns c = λ ascending.
+    name_found c.args.names.now c.args.name.now c.binary_search_by.result c.is_ok.result c.is_ok.ensures.value ascending c.binary_search_by.ensures.bound
+    (c.binary_search_by.ensures.position (λ listed. text_cmp listed c.args.name.now) (always_returns_same _ _ _ (λ a r f called. search (rules, of_calls))))

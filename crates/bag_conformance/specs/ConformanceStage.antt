@@ -1,0 +1,141 @@
+-- Stage 8: where a bag doesn't conform to a profile (BagIt Profiles Specification, Implementation Details).
+use Rattle.std.specs.Prelude.{ℕ, ◌≡◌, ◌≢◌, true, false, List, [], Option, None, Some, Contains, codes}
+use Rattle.bag_text.specs.Code.{stage}
+use Rattle.bag_text.specs.declared.code.Code.{Code}
+use Rattle.bag_text.specs.declared.code.Code.TheVariants.{ProfileIdentifier, LabelRequired, LabelRepeated, ValueNotAllowed, ManifestRequired, ManifestNotAllowed, TagmanifestRequired, TagmanifestNotAllowed, TagFileRequired, TagFileNotAllowed, FetchNotAllowed, VersionNotAccepted, SerializationRequired}
+use Rattle.bag_line.specs.declared.info.Element.{Element}
+use Rattle.bag_tags.specs.Declaration.{declared_version}
+use Rattle.bag_tags.specs.ManifestName.{manifest_name}
+use Rattle.bag_tags.specs.TagName.{tag_path}
+use Rattle.bag_tags.specs.declared.kind.Kind.{Kind}
+use Rattle.bag_tags.specs.declared.kind.Kind.TheVariants.{Payload, Tag}
+use Rattle.bag_tags.specs.declared.tag_name.TagName.TheVariants.{Fetch}
+use Rattle.bag_tree.specs.Bag.{Bag, file, HasFile}
+use Rattle.bag_fault.specs.declared.fault.Fault.{Fault}
+use Rattle.bag_profile.specs.Profile.{Profile}
+use Rattle.bag_profile.specs.declared.label.LabelRule.{LabelRule}
+use Rattle.bag_profile.specs.declared.rule.ListRule.{ListRule}
+use Rattle.bag_profile.specs.declared.rule.ListRule.TheVariants.{ManifestsRequired, ManifestsAllowed, TagManifestsRequired, TagManifestsAllowed, TagFilesRequired, TagFilesAllowed, AcceptBagItVersion}
+use Rattle.bag_profile.specs.declared.terms.Serialization.TheVariants.{Required}
+use Rattle.bag_stages.specs.FaultFields.{At}
+use Rattle.bag_stages.specs.HasList.{HasList}
+use Rattle.bag_stages.specs.Metadata.{bag_info_txt, HasElement, HasLater}
+use Rattle.bag_stages.specs.MetadataStage.{pair}
+use Rattle.bag_stages.specs.TagFiles.{bagit_txt, HasManifest}
+use Rattle.bag_conformance.specs.ProfileRules.{Lists, Excludes, MatchesNone, IsFreeTagFile}
+
+-- the label of the element that names the profile
+abbrev pub identifier_label : List ℕ
+identifier_label = codes "BagIt-Profile-Identifier"
+
+abbrev pub fetch_txt : List ℕ
+fetch_txt = tag_path Fetch
+
+-- the lists of manifests that a bag must have, and that it may have
+abbrev pub required_manifests : Kind → ListRule
+required_manifests Payload = ManifestsRequired
+required_manifests Tag = TagManifestsRequired
+
+abbrev pub allowed_manifests : Kind → ListRule
+allowed_manifests Payload = ManifestsAllowed
+allowed_manifests Tag = TagManifestsAllowed
+
+-- what the other fields of a fault say of a bag and a profile
+module _ (bag : Bag) (profile : Profile) (f : Fault) where
+  -- no element of bag-info.txt names the profile
+  abbrev pub LacksIdentifier : Type 0
+  LacksIdentifier =
+      At f bag_info_txt None 0 profile.identifier
+      × ((e : Element) → HasElement bag identifier_label e → e.value ≢ profile.identifier)
+
+  -- an element must be there, and isn't
+  abbrev pub LacksLabel : Type 0
+  LacksLabel =
+      (rule : LabelRule) × At f bag_info_txt None 0 rule.label × Contains profile.labels rule
+      × (rule.required ≡ true) × ((e : Element) → ¬ (HasElement bag rule.label e))
+
+  -- an element that may be there once, and isn't the first of its label
+  abbrev pub RepeatsLabel : Type 0
+  RepeatsLabel =
+      (rule : LabelRule) × (e : Element) × At f bag_info_txt None e.line rule.label × Contains profile.labels rule
+      × (rule.repeatable ≡ false) × HasLater bag rule.label e
+
+  -- an element whose value isn't one of those that are allowed; all are where none is named
+  abbrev pub HasOtherValue : Type 0
+  HasOtherValue =
+      (rule : LabelRule) × (e : Element) × At f bag_info_txt None e.line (pair rule.label e.value) × Contains profile.labels rule
+      × (rule.values ≢ []) × HasElement bag rule.label e × ¬ (Contains rule.values e.value)
+
+  -- a manifest must be there, and isn't
+  abbrev pub LacksManifest : Kind → Type 0
+  LacksManifest kind =
+      (name : List ℕ) × At f (manifest_name kind name) None 0 [] × Lists profile (required_manifests kind) name
+      × ¬ (HasManifest bag kind name)
+
+  -- a manifest is there, of any algorithm, that may not be
+  abbrev pub HasOtherManifest : Kind → Type 0
+  HasOtherManifest kind =
+      (alg : List ℕ) × At f (manifest_name kind alg) None 0 [] × HasManifest bag kind alg
+      × Excludes profile (allowed_manifests kind) alg
+
+  -- a file must be there, and isn't
+  abbrev pub LacksTagFile : Type 0
+  LacksTagFile = At f f.path None 0 [] × Lists profile TagFilesRequired f.path × ¬ (HasFile bag f.path)
+
+  -- a tag file is there that no pattern allows
+  abbrev pub HasOtherTagFile : Type 0
+  HasOtherTagFile =
+      At f f.path None 0 [] × HasFile bag f.path × IsFreeTagFile f.path × MatchesNone profile TagFilesAllowed f.path
+
+  -- fetch.txt is there, and may not be
+  abbrev pub HasFetch : Type 0
+  HasFetch = At f fetch_txt None 0 [] × (profile.terms.allow_fetch ≡ false) × HasFile bag fetch_txt
+
+  -- the bag declares a version that isn't accepted
+  abbrev pub HasOtherVersion : Type 0
+  HasOtherVersion =
+      (bytes version : List ℕ) × At f bagit_txt None 1 version × (file bag bagit_txt ≡ Some bytes)
+      × (declared_version bytes ≡ Some version) × Excludes profile AcceptBagItVersion version
+
+  -- the profile asks for one file, and a bag in a folder is none
+  abbrev pub IsToBeSerialized : Type 0
+  IsToBeSerialized = At f [] None 0 [] × (profile.terms.serialization ≡ Required)
+
+  unfoldable pub ConformanceHolds : Code → Type 0
+  -- bag-info.txt
+  ConformanceHolds ProfileIdentifier = LacksIdentifier
+  ConformanceHolds LabelRequired = LacksLabel
+  ConformanceHolds LabelRepeated = RepeatsLabel
+  ConformanceHolds ValueNotAllowed = HasOtherValue
+  -- manifests, of any algorithm
+  ConformanceHolds ManifestRequired = LacksManifest Payload
+  ConformanceHolds ManifestNotAllowed = HasOtherManifest Payload
+  ConformanceHolds TagmanifestRequired = LacksManifest Tag
+  ConformanceHolds TagmanifestNotAllowed = HasOtherManifest Tag
+  -- tag files
+  ConformanceHolds TagFileRequired = LacksTagFile
+  ConformanceHolds TagFileNotAllowed = HasOtherTagFile
+  ConformanceHolds FetchNotAllowed = HasFetch
+  -- the bag as a whole
+  ConformanceHolds VersionNotAccepted = HasOtherVersion
+  ConformanceHolds SerializationRequired = IsToBeSerialized
+  -- codes of other stages
+  ConformanceHolds other = ⊥
+
+-- the bag doesn't conform to the profile in this: what the fault's code says holds
+unfoldable pub IsOfProfile : Bag → Profile → Fault → Type 0
+IsOfProfile bag profile f = ConformanceHolds bag profile f f.code
+
+-- the same where there is a profile; without one there is no such fault
+abbrev pub IsOfConformance : Bag → Option Profile → Fault → Type 0
+IsOfConformance bag None f = ⊥
+IsOfConformance bag (Some profile) f = IsOfProfile bag profile f
+
+-- the law: these faults are of the eighth stage
+abbrev pub ConformanceFaultsAreOfStageEight : Type 0
+ConformanceFaultsAreOfStageEight =
+    (bag : Bag) (profile : Option Profile) (f : Fault) → IsOfConformance bag profile f → stage f.code ≡ 8
+
+-- the law: every bag and every profile have a list of these faults
+abbrev pub ConformanceFaultsAreListed : Type 0
+ConformanceFaultsAreListed = (bag : Bag) (profile : Option Profile) → HasList (IsOfConformance bag profile)

@@ -1,0 +1,6 @@
+pub mod ConformanceFaults
+pub mod ConformanceStage
+pub mod ElementFaults
+pub mod LabelOrder
+pub mod NotAllowed
+pub mod ProfileRules

@@ -1,0 +1,69 @@
+//! Stage 8: what a profile asks of a bag.
+ghost use Rattle.std.specs.Prelude.{◌≡◌, ◌≢◌, ◌⊎◌, IfOk};
+ghost use Rattle.bag_text.specs.Order.{IsListOf};
+ghost use Rattle.bag_tags.specs.declared.kind.Kind.TheVariants.{Payload, Tag};
+ghost use Rattle.bag_tree.specs.Bag.{Bag};
+ghost use Rattle.bag_fault.specs.FaultOrder.{fault_cmp};
+ghost use Rattle.bag_facts.specs.Facts.{IsFactsOf};
+ghost use Rattle.bag_facts.specs.declared.options.Depth.TheVariants.{Declaration};
+ghost use Rattle.bag_conformance.specs.ConformanceFaults.{AreAll, IsOfKind};
+ghost use Rattle.bag_conformance.specs.ConformanceStage.{IsOfProfile};
+
+use crate::elements::element_faults;
+use crate::manifest_names::manifest_faults;
+use crate::tag_files::tag_file_faults;
+use crate::whole_bag::whole_faults;
+use bag_facts::Facts;
+use bag_fault::Fault;
+use bag_profile::Profile;
+use bag_tags::Kind;
+use std::alloc::{AllocError, Global};
+
+/// Where a bag doesn't conform to a profile, of facts read for more than the declaration. Fails only where memory runs out.
+pub fn conformance_faults(
+    alloc: Global,
+    facts: &Facts,
+    profile: &Profile,
+) -> Result<Vec<Fault>, AllocError>
+    ensures { IfOk result (λ faults. (bag : Bag) → IsFactsOf bag facts.now → facts.now.options.depth ≢ Declaration
+        → IsListOf fault_cmp (IsOfProfile bag profile.now) faults.items) }
+{
+    let mut faults = faults_of_parts(alloc, facts, profile)?;
+    faults.sort_unstable();
+    faults.dedup();
+    Ok(faults)
+}
+
+/// The faults of all parts of a bag, in no order.
+fn faults_of_parts(
+    alloc: Global,
+    facts: &Facts,
+    profile: &Profile,
+) -> Result<Vec<Fault>, AllocError>
+    ensures { IfOk result (λ faults. (bag : Bag) → IsFactsOf bag facts.now → facts.now.options.depth ≢ Declaration
+        → AreAll (IsOfProfile bag profile.now) faults.items) }
+{
+    let mut faults = element_faults(alloc, facts, profile)?;
+    let mut of_manifests = faults_of_manifests(alloc, facts, profile)?;
+    faults.append(&mut of_manifests)?;
+    let mut of_tag_files = tag_file_faults(alloc, facts, profile)?;
+    faults.append(&mut of_tag_files)?;
+    let mut of_whole = whole_faults(alloc, facts, profile)?;
+    faults.append(&mut of_whole)?;
+    Ok(faults)
+}
+
+/// The faults of manifests of both kinds.
+fn faults_of_manifests(
+    alloc: Global,
+    facts: &Facts,
+    profile: &Profile,
+) -> Result<Vec<Fault>, AllocError>
+    ensures { IfOk result (λ faults. (bag : Bag) → IsFactsOf bag facts.now → facts.now.options.depth ≢ Declaration
+        → AreAll (λ f. IsOfKind bag profile.now f Payload ⊎ IsOfKind bag profile.now f Tag) faults.items) }
+{
+    let mut faults = manifest_faults(alloc, facts, profile, Kind::Payload)?;
+    let mut of_tag_manifests = manifest_faults(alloc, facts, profile, Kind::Tag)?;
+    faults.append(&mut of_tag_manifests)?;
+    Ok(faults)
+}

@@ -1,0 +1,26 @@
+//! A fault of `bag-info.txt`.
+ghost use Rattle.std.specs.Prelude.{◌≡◌, IfOk};
+ghost use Rattle.bag_conformance.specs.ElementFaults as told;
+
+use bag_fault::Fault;
+use bag_tags::TagName;
+use bag_text::{Code, Text};
+use std::alloc::{AllocError, Global};
+
+/// A fault of a line of `bag-info.txt`, or of the whole file where the line is 0.
+pub(crate) fn info_fault(
+    alloc: Global,
+    code: Code,
+    line: u64,
+    detail: Text,
+) -> Result<Fault, AllocError>
+    ensures { IfOk result (λ fault. fault ≡ told.in_info code line detail) }
+{
+    Ok(Fault {
+        code,
+        path: TagName::Info.path(alloc)?,
+        alg: None,
+        line,
+        detail,
+    })
+}

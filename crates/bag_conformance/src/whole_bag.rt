@@ -1,0 +1,87 @@
+//! What a profile asks of a bag as a whole.
+ghost use Rattle.std.specs.Prelude.{◌≡◌, ◌≢◌, IfOk, option_and_then};
+ghost use Rattle.std.specs.Option.{option_copied};
+ghost use Rattle.bag_text.specs.declared.code.Code.TheVariants.{VersionNotAccepted, SerializationRequired};
+ghost use Rattle.bag_tags.specs.Declaration as declared;
+ghost use Rattle.bag_tree.specs.Bag.{Bag, file};
+ghost use Rattle.bag_facts.specs.Facts.{IsFactsOf};
+ghost use Rattle.bag_facts.specs.declared.options.Depth.TheVariants.{Declaration};
+ghost use Rattle.bag_stages.specs.FaultFields.{of_bag};
+ghost use Rattle.bag_stages.specs.TagFiles.{bagit_txt};
+ghost use Rattle.bag_conformance.specs.ConformanceFaults.{AreAll, IsOfWhole};
+ghost use Rattle.bag_conformance.specs.ConformanceStage.{HasOtherVersion};
+ghost use Rattle.bag_conformance.specs.NotAllowed.{other_version};
+
+use crate::profile_rules::excludes;
+use bag_facts::Facts;
+use bag_fault::Fault;
+use bag_profile::{ListRule, Profile, Serialization};
+use bag_tags::TagName;
+use bag_text::{Code, Text};
+use std::alloc::{AllocError, Global};
+
+/// The faults that the version isn't accepted, and that the bag is to be serialized (BagIt Profiles Specification,
+/// Accept-BagIt-Version, Serialization).
+pub(crate) fn whole_faults(
+    alloc: Global,
+    facts: &Facts,
+    profile: &Profile,
+) -> Result<Vec<Fault>, AllocError>
+    ensures { IfOk result (λ faults. (bag : Bag) → IsFactsOf bag facts.now → facts.now.options.depth ≢ Declaration
+        → AreAll (IsOfWhole bag profile.now) faults.items) }
+{
+    let mut faults = version_faults(alloc, facts, profile)?;
+    if profile.serialization() == Serialization::Required {
+        faults.push(serialization_fault(alloc))?;
+    }
+    Ok(faults)
+}
+
+/// The fault that the bag declares a version that isn't accepted.
+fn version_faults(alloc: Global, facts: &Facts, profile: &Profile) -> Result<Vec<Fault>, AllocError>
+    ensures { IfOk result (λ faults. (bag : Bag) → IsFactsOf bag facts.now
+        → AreAll (λ f. (f.code ≡ VersionNotAccepted) × HasOtherVersion bag profile.now f) faults.items) }
+{
+    let Some(version) = declared_version(facts) else {
+        return Ok(Vec::new(alloc));
+    };
+    if !excludes(profile, ListRule::AcceptBagItVersion, version.as_str()) {
+        return Ok(Vec::new(alloc));
+    }
+    Ok(vec![in alloc; version_fault(alloc, version)?]?)
+}
+
+/// The version that the bag declares, where line 1 of `bagit.txt` reads.
+fn declared_version(facts: &Facts) -> Option<&Text>
+    ensures { (bag : Bag) → IsFactsOf bag facts.now
+        → option_copied result ≡ option_and_then declared.declared_version (file bag bagit_txt) }
+{
+    let Some(declaration) = facts.declaration() else {
+        return None;
+    };
+    declaration.version.as_ref()
+}
+
+fn version_fault(alloc: Global, version: &Text) -> Result<Fault, AllocError>
+    ensures { IfOk result (λ fault. fault ≡ other_version version.now) }
+{
+    Ok(Fault {
+        code: Code::VersionNotAccepted,
+        path: TagName::Declaration.path(alloc)?,
+        alg: None,
+        line: 1,
+        detail: version.copy(alloc)?,
+    })
+}
+
+fn serialization_fault(alloc: Global) -> Fault
+    ensures { result ≡ of_bag SerializationRequired }
+{
+    Fault {
+        code: Code::SerializationRequired,
+        path: Text::empty(alloc),
+        alg: None,
+        line: 0,
+        detail: Text::empty(alloc),
+    }
+}

@@ -1,0 +1,6 @@
+use Rattle.bag_text.proofs.ListOf.{nothing_listed}
+use Rattle.bag_fault.specs.FaultOrder.{fault_cmp}
+use Rattle.bag_report.proofs.stages.profile_faults.Goals as goal
+
+pub returns-in-None : goal.returns-in-None
+returns-in-None c = λ bag facts deep. rw (c.in-None.is, c.new.ensures.items) (nothing_listed fault_cmp _ (λ f h. h))

@@ -1,0 +1,56 @@
+use Rattle.std.proofs.Common.{rules, inl, inr, ◌∙◌, arith, sym, subst, IsTrue}
+use Rattle.std.proofs.lemmas.Grind.{common_steps}
+use Rattle.bag_tree.proofs.Reading.{read_all, read_more, given_some, longer_than, ended_after}
+use Rattle.bag_tree.proofs.whole.read_pieces.Goals as goal
+
+pub loop-bytes-preserved : goal.loop-bytes-preserved
+loop-bytes-preserved g c = record {
+  keeps = search rules;
+  calm = c.in_ok-count.ensures.calm ∙ c.loop-bytes.invariant.calm;
+  opened = c.read.ensures.openings ∙ c.loop-bytes.invariant.opened;
+  file_open = c.in_ok-count.ensures.file_open.1;
+  given = grind (arith, common_steps);
+  within = grind (arith, common_steps);
+  honest = λ h.
+      let still : IsTrue (g.T.Tree.state c.loop-bytes.tree).honest = subst IsTrue (sym c.loop-bytes.invariant.keeps.honest) h in
+      rw c.in_ok-extend_from_slice.ensures.items (read_more _ _ _ _ _ _ (c.loop-bytes.invariant.honest h) (c.in_ok-count.ensures.honest still));
+}
+
+pub returns-then-len-entry-clause-whole : goal.returns-then-len-entry-clause-whole
+returns-then-len-entry-clause-whole g c h =
+    let still : IsTrue (g.T.Tree.state c.loop-bytes.tree).honest = subst IsTrue (sym c.loop-bytes.invariant.keeps.honest) h in
+    read_all _ _ _ _ _ (c.loop-bytes.invariant.honest h) (rw c.if-count-eq0.true at (c.in_ok-count.ensures.honest still))
+
+pub returns-in_err-count-clause-opens : goal.returns-in_err-count-clause-opens
+returns-in_err-count-clause-opens g c = inr (c.read.ensures.openings ∙ c.loop-bytes.invariant.opened)
+
+pub returns-then-entry-len-clause-opens : goal.returns-then-entry-len-clause-opens
+returns-then-entry-len-clause-opens g c = inr (c.read.ensures.openings ∙ c.loop-bytes.invariant.opened)
+
+pub returns-in_err-extend_from_slice-clause-opens : goal.returns-in_err-extend_from_slice-clause-opens
+returns-in_err-extend_from_slice-clause-opens g c = inr (c.read.ensures.openings ∙ c.loop-bytes.invariant.opened)
+
+pub returns-then-len-entry-clause-opens : goal.returns-then-len-entry-clause-opens
+returns-then-len-entry-clause-opens g c = inr (c.read.ensures.openings ∙ c.loop-bytes.invariant.opened)
+
+pub returns-else-len-entry-clause-opens : goal.returns-else-len-entry-clause-opens
+returns-else-len-entry-clause-opens g c = inr (c.read.ensures.openings ∙ c.loop-bytes.invariant.opened)
+
+pub returns-then-len-entry-clause-opened : goal.returns-then-len-entry-clause-opened
+returns-then-len-entry-clause-opened g c = c.read.ensures.openings ∙ c.loop-bytes.invariant.opened
+
+pub returns-then-entry-len-clause-refused : goal.returns-then-entry-len-clause-refused
+returns-then-entry-len-clause-refused g c = (
+  inl (c.in_ok-count.ensures.last ∙ given_some _ (omega (arith, c.if-count-eq0.false)), grind (arith, common_steps)),
+  λ h.
+      let still : IsTrue (g.T.Tree.state c.loop-bytes.tree).honest = subst IsTrue (sym c.loop-bytes.invariant.keeps.honest) h in
+      longer_than _ _ _ _ _ _ _ (c.loop-bytes.invariant.honest h) (c.in_ok-count.ensures.honest still) (grind (arith, common_steps)),
+)
+
+pub returns-else-len-entry-clause-refused : goal.returns-else-len-entry-clause-refused
+returns-else-len-entry-clause-refused g c = (
+  inr (rw c.if-count-eq0.true at c.in_ok-count.ensures.last, grind (arith, common_steps)),
+  λ h.
+      let still : IsTrue (g.T.Tree.state c.loop-bytes.tree).honest = subst IsTrue (sym c.loop-bytes.invariant.keeps.honest) h in
+      ended_after _ _ _ _ _ _ (c.loop-bytes.invariant.honest h) (rw c.if-count-eq0.true at (c.in_ok-count.ensures.honest still)) (grind (arith, common_steps)),
+)
