@@ -343,18 +343,17 @@ fn labels(rt: HostRuntime) -> Result<(), Fail> {
     Ok(())
 }
 
+/// Whether a bag's metadata is passed over.
+fn is_unread(alloc: Global, mut tree: MemoryTree) -> Result<bool, Fail> {
+    is_found(alloc, &mut tree, RULES, UNREAD)
+}
+
 #[test]
 fn metadata_that_is_not_read(rt: HostRuntime) -> Result<(), Fail> {
     let info = b"BagIt-Profile-Identifier: urn:p\nA: x\nA: y\n\xFF\n";
-    let mut tree = tree_with(rt.alloc(), info)?;
-    assert!(rt;
-        is_found(rt.alloc(), &mut tree, RULES, UNREAD)?,
-        "not UTF-8"
-    );
-    let mut tree = tree_of(rt.alloc(), &[DECLARED])?;
-    assert!(rt;
-        is_found(rt.alloc(), &mut tree, RULES, UNREAD)?,
-        "not there"
-    );
+    let tree = tree_with(rt.alloc(), info)?;
+    assert!(rt; is_unread(rt.alloc(), tree)?, "not UTF-8");
+    let tree = tree_of(rt.alloc(), &[DECLARED])?;
+    assert!(rt; is_unread(rt.alloc(), tree)?, "not there");
     Ok(())
 }

@@ -2,6 +2,7 @@
 //! rule, and through all rules for each element.
 use crate::compare::sees_that;
 use crate::rows::{has_text, profile_of};
+use bag_profile::Profile;
 use bag_report::Depth;
 use bag_store::MemoryTree;
 use row_bags::{DECLARED, mixed, put, tree_of};
@@ -243,15 +244,24 @@ fn has_each_kind(lines: &str) -> bool {
     true
 }
 
+/// Whether the elements have the faults of these lines.
+fn are_found(alloc: Global, profile: &Profile, wanted: &str) -> Result<bool, Fail> {
+    let mut tree = tree(alloc)?;
+    has_text(alloc, &mut tree, profile, Depth::Fast, wanted)
+}
+
+/// Whether they have them by a profile with these keys.
+fn are_found_by(alloc: Global, keys: &str, wanted: &str) -> Result<bool, Fail> {
+    let profile = profile_of(alloc, keys)?;
+    are_found(alloc, &profile, wanted)
+}
+
 #[test]
 fn thousands_of_elements(rt: HostRuntime) -> Result<(), Fail> {
-    let alloc = rt.alloc();
-    let keys = keys(alloc)?;
-    let profile = profile_of(alloc, keys.as_str())?;
-    let wanted = plain_lines(alloc)?;
+    let keys = keys(rt.alloc())?;
+    let wanted = plain_lines(rt.alloc())?;
     sees_that(&rt, has_each_kind(wanted.as_str()), "kinds");
-    let mut tree = tree(alloc)?;
-    let holds = has_text(alloc, &mut tree, &profile, Depth::Fast, wanted.as_str())?;
+    let holds = are_found_by(rt.alloc(), keys.as_str(), wanted.as_str())?;
     sees_that(&rt, holds, "elements");
     Ok(())
 }

@@ -59,10 +59,29 @@ pub(crate) fn is_found(
     keys: &str,
     lines: &[&str],
 ) -> Result<bool, Fail> {
-    let profile = profile_of(alloc, keys)?;
     let wanted = text_of_lines(alloc, lines)?;
+    has_text_by(alloc, tree, keys, wanted.as_str())
+}
+
+/// Whether a bag and a profile with these keys have faults of this text, at each depth that looks for them.
+fn has_text_by(
+    alloc: Global,
+    tree: &mut MemoryTree,
+    keys: &str,
+    wanted: &str,
+) -> Result<bool, Fail> {
+    let profile = profile_of(alloc, keys)?;
+    has_text_at_each_depth(alloc, tree, &profile, wanted)
+}
+
+fn has_text_at_each_depth(
+    alloc: Global,
+    tree: &mut MemoryTree,
+    profile: &Profile,
+    wanted: &str,
+) -> Result<bool, Fail> {
     for depth in [Depth::Fast, Depth::Complete, Depth::Full] {
-        if !has_text(alloc, tree, &profile, depth, wanted.as_str())? {
+        if !has_text(alloc, tree, profile, depth, wanted)? {
             return Ok(false);
         }
     }

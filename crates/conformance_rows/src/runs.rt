@@ -342,6 +342,11 @@ fn profile_with(alloc: Global, keys: Option<&str>) -> Result<Option<Profile>, Fa
 /// Whether a check writes what a row says, and ends with its exit status.
 fn is_right(alloc: Global, row: &Row) -> Result<bool, Fail> {
     let profile = profile_with(alloc, row.keys)?;
+    is_right_by(alloc, row, profile.as_ref())
+}
+
+/// The same, by a profile or without one.
+fn is_right_by(alloc: Global, row: &Row, profile: Option<&Profile>) -> Result<bool, Fail> {
     let options = Options {
         depth: row.depth,
         clashes: false,
@@ -349,7 +354,7 @@ fn is_right(alloc: Global, row: &Row) -> Result<bool, Fail> {
     let request = request_of(alloc, options, row.after, row.limit)?;
     let tree = tree_of(alloc, row.bag)?;
     let mut out = WriterOut::new(Vec::<u8>::new(alloc));
-    let (_tree, outcome) = run(alloc, tree, profile.as_ref(), request, &mut out);
+    let (_tree, outcome) = run(alloc, tree, profile, request, &mut out);
     let is_written = out.into_inner().as_slice() == row.output.as_bytes();
     Ok(is_written && status(&outcome) == row.status)
 }

@@ -1,6 +1,7 @@
 //! What profiles ask of bags as a whole, and bags with faults of every kind.
 use crate::compare::sees_that;
 use crate::rows::{NAMED, Row, profile_of, sees_rows};
+use bag_text::Text;
 use row_bags::DECLARED;
 use std::alloc::Global;
 use std::test::Fail;
@@ -235,11 +236,16 @@ fn faults_of_several_kinds(rt: HostRuntime) -> Result<(), Fail> {
 /// Whether the keys of a profile that aren't checked are these, one after another.
 fn has_unchecked(alloc: Global, keys: &str, wanted: &str) -> Result<bool, Fail> {
     let profile = profile_of(alloc, keys)?;
-    let mut text = String::new(alloc);
-    for key in profile.unchecked() {
-        write!(text, "{key} ")?;
+    are_joined(alloc, profile.unchecked(), wanted)
+}
+
+/// Whether texts, with a space behind each, are this text.
+fn are_joined(alloc: Global, texts: &[Text], wanted: &str) -> Result<bool, Fail> {
+    let mut joined = String::new(alloc);
+    for text in texts {
+        write!(joined, "{text} ")?;
     }
-    Ok(text.as_str() == wanted)
+    Ok(joined.as_str() == wanted)
 }
 
 #[test]
