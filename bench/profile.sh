@@ -3,7 +3,7 @@
 # profile of 1,000 labels with 100 values each and of 1,000 patterns, of which each file's is among the last. Of the elements
 # none has a fault, or each has one. Beside it stands what the bag and the profile take to be read, and how much longer twice
 # as many elements take. Counted is the processor time that the program takes, its own and the system's, the least of several
-# runs; each run does the same several times.
+# runs; each run reads both once and looks for the faults 50 times.
 #
 # usage: bench/profile.sh [PROGRAM] [RUNS]
 #
@@ -18,7 +18,7 @@ labels=1000
 values=100
 patterns=1000
 files=100
-often=10
+often=50
 
 work=$(mktemp -d /tmp/bagit-profile.XXXXXX)
 trap 'rm -rf "$work"' EXIT
@@ -59,39 +59,29 @@ make_bag() {
     profile >"$bag.json"
 }
 
-# A reader and the path of a bag, several times.
-times() {
-    local time
-    for ((time = 0; time < often; time++)); do printf '%s\n' "$1" "$work/$2"; done
-}
+# The time that a reader takes over a bag.
+time_of() { milliseconds "$program" "$1" "$work/$2"; }
 
-# The least time of a reader over a bag.
-least_of() {
-    local best= run words
-    mapfile -t words < <(times "$1" "$2")
-    for ((run = 0; run < runs; run++)); do
-        best=$(least "$best" "$(milliseconds "$program" "${words[@]}")")
-    done
-    echo "$best"
-}
-
-# Prints the ratio for a kind of values, which begin with a word.
+# Prints the ratio for a kind of values, which begin with a word. The four times of a run are taken one after the other, so that
+# whatever else the machine does meets them alike.
 measure() {
-    local kind=$1 word=$2 faults=$3 read judged read_twice judged_twice
+    local kind=$1 word=$2 faults=$3 run read= judged= read_twice= judged_twice=
     make_bag once "$elements" "$word"
     make_bag twice $((2 * elements)) "$word"
     diff <("$program" conforms "$work/once") <(echo "tag files: 3, faults: $faults")
     diff <("$program" conforms "$work/twice") <(echo "tag files: 3, faults: $((2 * faults))")
-    read=$(least_of profile once)
-    judged=$(least_of conforms once)
-    read_twice=$(least_of profile twice)
-    judged_twice=$(least_of conforms twice)
+    for ((run = 0; run < runs; run++)); do
+        read=$(least "$read" "$(time_of profile once)")
+        judged=$(least "$judged" "$(time_of conforms-often once)")
+        read_twice=$(least "$read_twice" "$(time_of profile twice)")
+        judged_twice=$(least "$judged_twice" "$(time_of conforms-often twice)")
+    done
     awk -v kind="$kind" -v often="$often" -v read="$read" -v judged="$judged" -v read_twice="$read_twice" -v judged_twice="$judged_twice" 'BEGIN {
         once = (judged - read) / often
         twice = (judged_twice - read_twice) / often
         over = twice / once > 2.3 ? sprintf(", over the bar by %.2f", twice / once - 2.3) : ""
         printf "%s values: %.1f ms, reading: %.1f ms; twice the elements: %.1f ms, ratio: %.2f (at most 2.30%s)\n",
-            kind, once, read / often, twice, twice / once, over
+            kind, once, read, twice, twice / once, over
     }'
 }
 

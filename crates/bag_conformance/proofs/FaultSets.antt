@@ -1,5 +1,7 @@
 -- Sets of faults that a list has: in other words, one after the other, of one fault at most, and item by item.
 use Rattle.std.proofs.Common.{◌≡◌, ◌<◌, ◌≤◌, ◌⊎◌, inl, inr, ◌+◌, ◌++◌, ℕ, None, List, [], ◌∷◌, length, take, get_or, Contains, ap, sym, ◌∙◌, subst}
+use Rattle.std.specs.List.Sorted.{IsPermutation}
+use Rattle.std.proofs.lemmas.List.Sorted.{IsPermutation-sym, Contains-permutation}
 use Rattle.bag_text.specs.declared.code.Code.{Code}
 use Rattle.bag_text.proofs.ListOf.{contains_back, contains_cases, contains_either, contains_first, contains_front, contains_nothing}
 use Rattle.bag_fault.specs.declared.fault.Fault.{Fault}
@@ -16,6 +18,11 @@ same_all P Q faults to from all f = (λ c. to f ((all f).0 c), λ q. (all f).1 (
 -- two sets, one after the other
 pub both_all : (P Q : Fault → Type 0) (xs ys both : List Fault) → both ≡ xs ++ ys → AreAll P xs → AreAll Q ys → AreAll (λ f. P f ⊎ Q f) both
 both_all P Q xs ys both made p q = rw made (either_listed P Q xs ys p q)
+
+-- a set in another order
+pub permuted_all : (P : Fault → Type 0) (xs ys : List Fault) → IsPermutation xs ys → AreAll P xs → AreAll P ys
+permuted_all P xs ys perm all f =
+    (λ c. (all f).0 (Contains-permutation ys xs f (IsPermutation-sym xs ys perm) c), λ p. Contains-permutation xs ys f perm ((all f).1 p))
 
 -- a set of none
 pub none_all : (P : Fault → Type 0) (faults : List Fault) → faults ≡ [] → ((f : Fault) → ¬ (P f)) → AreAll P faults

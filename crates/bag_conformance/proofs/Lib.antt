@@ -11,5 +11,6 @@ pub mod LabelRule
 pub mod Manifests
 pub mod Parts
 pub mod Rules
+pub mod RulesInTurn
 pub mod TagFiles
 pub mod WholeBag

@@ -10,6 +10,7 @@ ghost use Rattle.bag_conformance.specs.ConformanceFaults.{AreAll, IsOfKind};
 ghost use Rattle.bag_conformance.specs.ConformanceStage.{IsOfProfile};
 
 use crate::elements::element_faults;
+use crate::joined::joined;
 use crate::manifest_names::manifest_faults;
 use crate::tag_files::tag_file_faults;
 use crate::whole_bag::whole_faults;
@@ -29,7 +30,8 @@ pub fn conformance_faults(
         → IsListOf fault_cmp (IsOfProfile bag profile.now) faults.items) }
 {
     let mut faults = faults_of_parts(alloc, facts, profile)?;
-    faults.sort_unstable();
+    // The faults of elements ascend already: a stable sort keeps such runs.
+    faults.sort()?;
     faults.dedup();
     Ok(faults)
 }
@@ -43,14 +45,13 @@ fn faults_of_parts(
     ensures { IfOk result (λ faults. (bag : Bag) → IsFactsOf bag facts.now → facts.now.options.depth ≢ Declaration
         → AreAll (IsOfProfile bag profile.now) faults.items) }
 {
-    let mut faults = element_faults(alloc, facts, profile)?;
-    let mut of_manifests = faults_of_manifests(alloc, facts, profile)?;
-    faults.append(&mut of_manifests)?;
-    let mut of_tag_files = tag_file_faults(alloc, facts, profile)?;
-    faults.append(&mut of_tag_files)?;
-    let mut of_whole = whole_faults(alloc, facts, profile)?;
-    faults.append(&mut of_whole)?;
-    Ok(faults)
+    let of_elements = element_faults(alloc, facts, profile)?;
+    let of_manifests = faults_of_manifests(alloc, facts, profile)?;
+    let so_far = joined(of_elements, of_manifests)?;
+    let of_tag_files = tag_file_faults(alloc, facts, profile)?;
+    let of_parts = joined(so_far, of_tag_files)?;
+    let of_whole = whole_faults(alloc, facts, profile)?;
+    joined(of_parts, of_whole)
 }
 
 /// The faults of manifests of both kinds.
@@ -62,8 +63,7 @@ fn faults_of_manifests(
     ensures { IfOk result (λ faults. (bag : Bag) → IsFactsOf bag facts.now → facts.now.options.depth ≢ Declaration
         → AreAll (λ f. IsOfKind bag profile.now f Payload ⊎ IsOfKind bag profile.now f Tag) faults.items) }
 {
-    let mut faults = manifest_faults(alloc, facts, profile, Kind::Payload)?;
-    let mut of_tag_manifests = manifest_faults(alloc, facts, profile, Kind::Tag)?;
-    faults.append(&mut of_tag_manifests)?;
-    Ok(faults)
+    let of_manifests = manifest_faults(alloc, facts, profile, Kind::Payload)?;
+    let of_tag_manifests = manifest_faults(alloc, facts, profile, Kind::Tag)?;
+    joined(of_manifests, of_tag_manifests)
 }

@@ -16,6 +16,7 @@ ghost use Rattle.bag_conformance.specs.LabelOrder.{IsByLabel};
 
 use crate::by_label::{by_label, labelled};
 use crate::info_fault::info_fault;
+use crate::joined::joined;
 use crate::label_rule::rule_faults;
 use bag_facts::Facts;
 use bag_fault::Fault;
@@ -24,8 +25,8 @@ use bag_profile::{LabelRule, Profile};
 use bag_text::{Code, Text};
 use std::alloc::{AllocError, Global};
 
-/// The faults of the elements of `bag-info.txt`: the profile isn't named, a label is lacking or stands there again, a value
-/// isn't allowed (BagIt Profiles Specification, Bag-Info).
+/// The faults of the elements of `bag-info.txt`, by their lines: the profile isn't named, a label is lacking or stands there
+/// again, a value isn't allowed (BagIt Profiles Specification, Bag-Info).
 pub(crate) fn element_faults(
     alloc: Global,
     facts: &Facts,
@@ -36,9 +37,10 @@ pub(crate) fn element_faults(
 {
     let sorted = by_label(alloc, elements_of(facts))?;
     let naming = labelled(sorted.as_slice(), "BagIt-Profile-Identifier");
-    let mut faults = identifier_faults(alloc, profile.identifier(), naming)?;
-    let mut of_rules = rules_faults(alloc, sorted.as_slice(), profile.labels())?;
-    faults.append(&mut of_rules)?;
+    let of_name = identifier_faults(alloc, profile.identifier(), naming)?;
+    let of_rules = rules_faults(alloc, sorted.as_slice(), profile.labels())?;
+    let mut faults = joined(of_name, of_rules)?;
+    faults.sort_by_key(|fault| fault.line)?;
     Ok(faults)
 }
 
@@ -90,8 +92,7 @@ fn rules_faults(
     let mut faults = Vec::new(alloc);
     for rule in rules {
         let found = labelled(sorted, rule.label.as_str());
-        let mut of_rule = rule_faults(alloc, rule, found)?;
-        faults.append(&mut of_rule)?;
+        faults = joined(faults, rule_faults(alloc, rule, found)?)?;
     }
     Ok(faults)
 }

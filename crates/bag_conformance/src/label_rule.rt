@@ -5,6 +5,7 @@ ghost use Rattle.bag_stages.specs.MetadataStage as spec;
 ghost use Rattle.bag_conformance.specs.ElementFaults as told;
 
 use crate::info_fault::info_fault;
+use crate::joined::joined;
 use bag_fault::Fault;
 use bag_line::Element;
 use bag_profile::LabelRule;
@@ -20,12 +21,11 @@ pub(crate) fn rule_faults(
     requires { IsAscending rule.now.values }
     ensures { IfOk result (λ faults. faults.items ≡ told.rule_faults rule.now (told.lent found.now)) }
 {
-    let mut faults = required_faults(alloc, rule, found)?;
-    let mut repeated = repeated_faults(alloc, rule, found)?;
-    let mut of_values = value_faults(alloc, rule, found)?;
-    faults.append(&mut repeated)?;
-    faults.append(&mut of_values)?;
-    Ok(faults)
+    let required = required_faults(alloc, rule, found)?;
+    let repeated = repeated_faults(alloc, rule, found)?;
+    let of_count = joined(required, repeated)?;
+    let of_values = value_faults(alloc, rule, found)?;
+    joined(of_count, of_values)
 }
 
 /// That an element is lacking.

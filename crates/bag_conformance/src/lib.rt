@@ -16,6 +16,7 @@ mod elements;
 mod file_fault;
 mod has_file;
 mod info_fault;
+mod joined;
 mod label_rule;
 pub mod laws;
 mod manifest_names;

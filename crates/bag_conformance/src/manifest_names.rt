@@ -12,6 +12,7 @@ ghost use Rattle.bag_conformance.specs.NotAllowed.{IsOtherManifest};
 
 use crate::file_fault::file_fault;
 use crate::has_file::has_file;
+use crate::joined::joined;
 use crate::profile_rules::{excludes, listed};
 use bag_facts::Facts;
 use bag_fault::Fault;
@@ -31,10 +32,9 @@ pub(crate) fn manifest_faults(
     ensures { IfOk result (λ faults. (bag : Bag) → IsFactsOf bag facts.now → facts.now.options.depth ≢ Declaration
         → AreAll (λ f. IsOfKind bag profile.now f kind) faults.items) }
 {
-    let mut faults = lacking_manifests(alloc, facts, profile, kind)?;
-    let mut others = other_manifests(alloc, facts, profile, kind)?;
-    faults.append(&mut others)?;
-    Ok(faults)
+    let lacking = lacking_manifests(alloc, facts, profile, kind)?;
+    let others = other_manifests(alloc, facts, profile, kind)?;
+    joined(lacking, others)
 }
 
 /// The faults that manifests must be there, and aren't. A name that no manifest can have is always lacking.

@@ -10,6 +10,7 @@ ghost use Rattle.bag_conformance.specs.NotAllowed.{IsOtherTagFile};
 
 use crate::file_fault::file_fault;
 use crate::has_file::has_file;
+use crate::joined::joined;
 use crate::profile_rules::{is_free_tag_file, listed, matches_none};
 use bag_facts::Facts;
 use bag_fault::Fault;
@@ -28,12 +29,11 @@ pub(crate) fn tag_file_faults(
     ensures { IfOk result (λ faults. (bag : Bag) → IsFactsOf bag facts.now → facts.now.options.depth ≢ Declaration
         → AreAll (IsOfTagFiles bag profile.now) faults.items) }
 {
-    let mut faults = lacking_tag_files(alloc, facts, profile)?;
-    let mut others = other_tag_files(alloc, facts, profile)?;
-    faults.append(&mut others)?;
-    let mut of_fetch = fetch_faults(alloc, facts, profile)?;
-    faults.append(&mut of_fetch)?;
-    Ok(faults)
+    let lacking = lacking_tag_files(alloc, facts, profile)?;
+    let others = other_tag_files(alloc, facts, profile)?;
+    let faults = joined(lacking, others)?;
+    let of_fetch = fetch_faults(alloc, facts, profile)?;
+    joined(faults, of_fetch)
 }
 
 /// The faults that files must be there, and aren't.

@@ -1,3 +1,4 @@
+pub mod Below
 pub mod DiskPaths
 pub mod Moving
 pub mod NodeEntries

@@ -6,6 +6,9 @@ ghost use Rattle.bag_text.specs.Path as spec;
 use bag_text::Text;
 use std::alloc::{AllocError, Global};
 
+/// What stands between the components of a path.
+const SEPARATOR: u8 = b'/';
+
 /// The path of what stands in a folder, where the empty folder is the base folder.
 pub fn path_in(alloc: Global, folder: &str, name: &str) -> Result<Text, AllocError>
     ensures { IfOk result (λ path. path ≡ path_in folder.now name.now) }
@@ -46,11 +49,11 @@ pub(crate) fn is_location(text: &str, base: &str, path: &str) -> bool
     if base.is_empty() || path.is_empty() {
         return false;
     }
-    let Some(below) = text.strip_prefix(base) else {
+    let Some(below) = text.as_bytes().strip_prefix(base.as_bytes()) else {
         return false;
     };
-    let Some(rest) = below.strip_prefix('/') else {
+    let Some((separator, rest)) = below.split_first() else {
         return false;
     };
-    rest == path
+    *separator == SEPARATOR && rest == path.as_bytes()
 }

@@ -12,7 +12,7 @@ ghost use Rattle.bag_file_tree.specs.Refusal.{HasOther, IsDue};
 
 use crate::folder_walk::FolderWalk;
 use crate::limit::no_room;
-use crate::path_order::{all_differ, sort_by_path};
+use crate::path_order::{all_differ, sort_by_key, sort_by_path};
 use crate::refusal::Refusal;
 use bag_disk::Disk;
 use bag_text::{Items, Text, is_payload};
@@ -68,6 +68,7 @@ fn listing_of(walk: FolderWalk) -> Result<Listing, Refusal>
     let FolderWalk { files, listed, .. } = walk;
     let has_data = has_data(listed.as_slice());
     let mut files = files;
+    sort_by_key(&mut files)?;
     sort_by_path(&mut files);
     if !all_differ(files.as_slice()) {
         return Err(Refusal::Device);

@@ -29,7 +29,7 @@ empty_passes = record {
 }
 
 -- a folder of a set with one more is that one or was there
-folder_cases : (P : List ℕ → Type 0) (folders : set.FinSet text_cmp) (name q : List ℕ) → P name → (set.contains folders q ≡ true → P q) → set.contains (set.insert folders name) q ≡ true → P q
+pub folder_cases : (P : List ℕ → Type 0) (folders : set.FinSet text_cmp) (name q : List ℕ) → P name → (set.contains folders q ≡ true → P q) → set.contains (set.insert folders name) q ≡ true → P q
 folder_cases P folders name q here there has =
     elim (eq_by_cmp text_cmp q name) as (λ b. eq_by_cmp text_cmp q name ≡ b → (b || set.contains folders q) ≡ true → P q) [
       | true ↦ λ same _. subst P (sym (one_text q name same)) here
@@ -39,7 +39,7 @@ folder_cases P folders name q here there has =
 pub folder_stays : (folders : set.FinSet text_cmp) (name q : List ℕ) → set.contains folders q ≡ true → set.contains (set.insert folders name) q ≡ true
 folder_stays folders name q has = contains-insert nat_list_cmp_total folders name q ∙ or_right (eq_by_cmp text_cmp q name) _ has
 
-folder_is_there : (folders : set.FinSet text_cmp) (name : List ℕ) → set.contains (set.insert folders name) name ≡ true
+pub folder_is_there : (folders : set.FinSet text_cmp) (name : List ℕ) → set.contains (set.insert folders name) name ≡ true
 folder_is_there folders name = contains-insert nat_list_cmp_total folders name name ∙ or_left (eq_by_cmp text_cmp name name) _ (text_itself name)
 
 pub folder_passes : (bag : Bag) (name : List ℕ) → is_text_name name ≡ true → PassesAsBag bag → PassesAsBag (with_folder bag name)

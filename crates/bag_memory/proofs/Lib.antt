@@ -1,5 +1,8 @@
+pub mod Changed
 pub mod Folders
 pub mod InMemory
 pub mod Listed
 pub mod MemoryFiles
+pub mod MovedBag
+pub mod MovedFiles
 pub mod Parents

@@ -1,3 +1,4 @@
+pub mod Changing
 pub mod Memory
 pub mod MemoryLaw
 pub mod MemoryView

@@ -7,8 +7,10 @@
 //! ```
 #![tactic(auto)]
 
+mod changing;
 mod file_map;
 mod folder_set;
 mod memory_tree;
+mod moved;
 
 pub use memory_tree::MemoryTree;

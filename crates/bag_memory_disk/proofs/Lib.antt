@@ -5,3 +5,4 @@ pub mod HeldNodes
 pub mod HeldPut
 pub mod Placed
 pub mod PutPlaced
+pub mod RefusedCalls

@@ -2,14 +2,14 @@
 ghost use Rattle.std.specs.Prelude.{◌≡◌, ◌∷◌, ◌++◌, [], IfErr, IfOk, None, OnErr, OnOk, Some};
 ghost use Rattle.std.specs.FinMap as map;
 ghost use Rattle.bag_text.specs.Path.{slash};
-ghost use Rattle.bag_disk.specs.Disk.{IsReached, node};
+ghost use Rattle.bag_disk.specs.Disk.{IsDisk, IsReached, node};
 ghost use Rattle.bag_disk.specs.WritableDisk as changed;
-ghost use Rattle.bag_disk.specs.WritableDisk.{Appends};
-ghost use Rattle.bag_memory_disk.specs.Changing.{MayRefuseAdding, MayRefuseWriting};
+ghost use Rattle.bag_disk.specs.WritableDisk.{Appends, Moves};
+ghost use Rattle.bag_memory_disk.specs.Changing.{MayRefuseAdding, MayRefuseMoving, MayRefuseWriting};
 ghost use Rattle.bag_memory_disk.specs.Held.{node_of, nodes_of};
 
 use crate::held::{Node, SLASH, node_at};
-use crate::placing::is_reached;
+use crate::placing::{are_placed, is_reached};
 use bag_disk::DiskFault;
 use std::alloc::{AllocError, Global};
 use std::collections::BTreeMap;
@@ -70,8 +70,33 @@ pub(crate) fn append(
     Ok(())
 }
 
+/// What is held when what stands at `from` has become `to`, a free place in a folder that is there.
+pub(crate) fn moved_to(
+    alloc: Global,
+    nodes: &BTreeMap<Vec<u8>, Node>,
+    from: &[u8],
+    to: &[u8],
+) -> Result<BTreeMap<Vec<u8>, Node>, DiskFault>
+    ensures moved { IfOk result (λ moved. Moves (nodes_of nodes.now.entries) (nodes_of moved.entries) from.now to.now) }
+    ensures disk { IfOk result (λ moved. IsDisk (nodes_of moved.entries)) }
+    ensures free { OnOk result (node (nodes_of nodes.now.entries) to.now ≡ None) }
+    ensures refused { IfErr result (MayRefuseMoving (nodes_of nodes.now.entries) from.now to.now) }
+{
+    if node_at(nodes, from).is_none() || !is_reached(nodes, to) {
+        return Err(DiskFault::NotFound);
+    }
+    if node_at(nodes, to).is_some() {
+        return Err(DiskFault::Exists);
+    }
+    let moved = moved(alloc, nodes, from, to)?;
+    if !are_placed(&moved) {
+        return Err(DiskFault::Device);
+    }
+    Ok(moved)
+}
+
 /// What is held when `from` has become `to`, with all that is below it.
-pub(crate) fn moved(
+fn moved(
     alloc: Global,
     nodes: &BTreeMap<Vec<u8>, Node>,
     from: &[u8],
@@ -84,7 +109,7 @@ pub(crate) fn moved(
     let mut moved = BTreeMap::new(alloc);
     for (path, node) in nodes.iter() {
         let place = renamed(alloc, from, front.as_slice(), to, path.as_slice())?;
-        put_node(&mut moved, place, node.copy(alloc)?)?;
+        put_node(&mut moved, place, node.clone()?)?;
     }
     Ok(moved)
 }

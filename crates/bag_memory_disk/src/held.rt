@@ -32,13 +32,14 @@ impl Node {
             Node::Other => Entry::Other,
         }
     }
+}
 
-    /// A copy of its own.
-    pub(crate) fn copy(&self, alloc: Global) -> Result<Node, AllocError>
-        ensures { IfOk result (λ copy. node_of copy ≡ node_of self.now) }
-    {
+impl Clone for Node {
+    ghost is_clone = { λ node clone. node_of clone ≡ node_of node };
+
+    fn clone(&self) -> Result<Node, AllocError> {
         match self {
-            Node::File(bytes) => Ok(Node::File(bytes.as_slice().to_vec(alloc)?)),
+            Node::File(bytes) => Ok(Node::File(bytes.clone()?)),
             Node::Folder => Ok(Node::Folder),
             Node::Other => Ok(Node::Other),
         }

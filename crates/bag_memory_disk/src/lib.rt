@@ -10,7 +10,6 @@
 #![tactic(auto)]
 
 mod changing;
-mod copying;
 mod held;
 mod memory_disk;
 mod placing;

@@ -2,10 +2,9 @@
 ghost use Rattle.bag_memory_disk.specs.Held.{nodes_of};
 ghost use Rattle.bag_memory_disk.specs.Placing.{PassesAsDisk};
 
-use crate::changing::{add_node, append, moved};
-use crate::copying::copied;
+use crate::changing::{add_node, append, moved_to};
 use crate::held::{Node, names_in, node_at};
-use crate::placing::{are_placed, is_reached};
+use crate::placing::are_placed;
 use crate::reading::read_at;
 use bag_disk::{Disk, DiskFault, Entry, WritableDisk};
 use bag_text::{Items, Text};
@@ -101,7 +100,7 @@ impl MemoryDisk {
         ensures disk { IfOk result (λ disk. state_of disk ≡ fresh (state_of self.now).nodes) }
         ensures open { IfOk result (λ disk. barred_of disk ≡ []) }
     {
-        Ok(MemoryDisk::with_nodes(alloc, copied(alloc, &self.nodes)?))
+        Ok(MemoryDisk::with_nodes(alloc, self.nodes.clone()?))
     }
 
     /// From now on the folder may not be read: entering it answers `Device`. The empty path is the base folder.
@@ -325,19 +324,10 @@ impl WritableDisk for MemoryDisk {
         ensures barred { barred_of self.new ≡ barred_of self.old }
         ensures refused { IfErr result (MayRefuseMoving (state_of self.old).nodes from.now to.now) }
     {
-        if node_at(&self.nodes, from.as_bytes()).is_none()
-            || !is_reached(&self.nodes, to.as_bytes())
-        {
-            return Err(DiskFault::NotFound);
+        match moved_to(self.alloc, &self.nodes, from.as_bytes(), to.as_bytes()) {
+            Ok(moved) => self.nodes = moved,
+            Err(fault) => return Err(fault),
         }
-        if node_at(&self.nodes, to.as_bytes()).is_some() {
-            return Err(DiskFault::Exists);
-        }
-        let moved = moved(self.alloc, &self.nodes, from.as_bytes(), to.as_bytes())?;
-        if !are_placed(&moved) {
-            return Err(DiskFault::Device);
-        }
-        self.nodes = moved;
         self.open = None;
         self.written = None;
         Ok(())

@@ -9,7 +9,8 @@
 //! ```
 //!
 //! Of RFC 8493 it keeps the structure of a bag: files by path, and the payload folder (2, 2.1.2), and the digests of files
-//! (2.4). What a tree means is in `bag_tree`; trees in memory are in `bag_memory`, trees for tests in `bag_test_trees`, disks
+//! (2.4). What a tree means is in `bag_tree`, and what its changes are in
+//! `bag_write_tree`; trees in memory are in `bag_memory`, trees for tests in `bag_test_trees`, disks
 //! in `bag_disk`, trees of the files on a disk in `bag_file_tree`, and digests in `bag_digest`.
 #![tactic(auto)]
 
@@ -23,3 +24,4 @@ pub use bag_test_trees::{FailTree, SkewTree};
 pub use bag_tree::{
     FileEntry, Listing, Out, Refused, Stop, Tree, TreeFault, WriterOut, read_whole,
 };
+pub use bag_write_tree::WriteTree;

@@ -16,6 +16,9 @@ use bag_line::unread;
 use bag_text::{Alg, Items, Text, is_blank_line, lines, text_of};
 use std::alloc::{AllocError, Global};
 
+/// The least bytes of a line that reads beside its digest: a blank, a path, and the line's end.
+const SHORTEST_REST: usize = 3;
+
 /// A line of a manifest that reads: the digest, and the path that is named.
 #[derive(Debug, Drop)]
 pub struct ManifestEntry {
@@ -61,7 +64,7 @@ fn read_text(
 fn judge_all(alloc: Global, kind: Kind, alg: Alg, text: &str) -> Result<Vec<Judged>, AllocError>
     ensures { IfOk result (λ all. all.items ≡ judged_all kind alg (enumerate_from 1 (cut.lines text.now))) }
 {
-    let mut all = Vec::new(alloc);
+    let mut all = Vec::with_capacity(alloc, text.len() / (alg.hex_len() + SHORTEST_REST))?;
     for (number, line) in lines(text) {
         if !is_blank_line(line) {
             let verdict = judge(alloc, kind, alg, line)?;
@@ -79,7 +82,7 @@ fn part(alloc: Global, all: Vec<Judged>) -> Result<Parsed<ManifestEntry>, AllocE
     ensures items { IfOk result (λ parsed. parsed.items ≡ filter_map entry_of all.items) }
     ensures faults { IfOk result (λ parsed. parsed.faults ≡ filter_map fault_of all.items) }
 {
-    let mut items = Items::new(alloc);
+    let mut items = Items::from_vec(Vec::with_capacity(alloc, all.len())?);
     let mut faults = Items::new(alloc);
     for judged in all {
         put(judged, &mut items, &mut faults)?;

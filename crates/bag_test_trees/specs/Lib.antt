@@ -4,3 +4,4 @@ pub mod Refusals
 pub mod SkewTree
 pub mod Skewed
 pub mod TreeCalls
+pub mod TreeChanges

@@ -5,10 +5,11 @@ ghost use Rattle.bag_test_trees.specs.FailTree.{below_of, calls_of};
 
 use crate::calls::Calls;
 use bag_tree::{Listing, Tree, TreeFault};
+use bag_write_tree::WriteTree;
 
 /// A tree of which one call is refused as `Device`, without asking the tree that it stands over.
 ///
-/// Calls of `list`, `open_file` and `read` are counted together. A refused `open_file` leaves nothing open: each `read` is
+/// All calls of `Tree` and `WriteTree` are counted together. A refused `open_file` leaves nothing open: each `read` is
 /// then `NoneOpen`, until the next `open_file`, though the tree below may still have a file open.
 #[derive(Drop)]
 pub struct FailTree<T> {
@@ -88,5 +89,67 @@ impl<T: Tree + Drop> Tree for FailTree<T> {
             return Err(TreeFault::NoneOpen);
         }
         self.tree.read(buffer)
+    }
+}
+
+impl<T: WriteTree + Drop> WriteTree for FailTree<T> {
+    ghost use Rattle.std.specs.Prelude.{◌≢◌, ◌⊎◌, OnErr, IsErrOf, IsTrue, true, false};
+    ghost use Rattle.bag_text.specs.Path.{is_base_name};
+    ghost use Rattle.bag_tree.specs.declared.fault.TreeFault.TheVariants.{Device};
+    ghost use Rattle.bag_test_trees.specs.Refusals.{after_call, is_kth};
+    ghost use Rattle.bag_write_tree.specs.Changes.{HasBegun, IsSame};
+    ghost use Rattle.bag_test_trees.specs.TreeChanges.{MakesFolder, MovesIn, RenamesFolder, Creates};
+
+    fn make_folder(&mut self, name: &str) -> Result<(), TreeFault>
+        requires { IsTrue (is_base_name name.now) }
+        ensures counted { calls_of self.new ≡ after_call (calls_of self.old) }
+        ensures kth { is_kth (calls_of self.old).due ≡ true → IsErrOf result Device × (below_of self.new ≡ below_of self.old) }
+        ensures others { is_kth (calls_of self.old).due ≡ false → MakesFolder name.now (T.state (below_of self.old)) (T.state (below_of self.new)) result }
+    {
+        if self.calls.is_due() {
+            return Err(TreeFault::Device);
+        }
+        self.tree.make_folder(name)
+    }
+
+    fn move_in(&mut self, top: &str, folder: &str) -> Result<(), TreeFault>
+        requires top { IsTrue (is_base_name top.now) }
+        requires folder { IsTrue (is_base_name folder.now) }
+        requires two { top.now ≢ folder.now }
+        ensures counted { calls_of self.new ≡ after_call (calls_of self.old) }
+        ensures kth { is_kth (calls_of self.old).due ≡ true → IsErrOf result Device × (below_of self.new ≡ below_of self.old) }
+        ensures others { is_kth (calls_of self.old).due ≡ false → MovesIn top.now folder.now (T.state (below_of self.old)) (T.state (below_of self.new)) result }
+    {
+        if self.calls.is_due() {
+            return Err(TreeFault::Device);
+        }
+        self.tree.move_in(top, folder)
+    }
+
+    fn rename_folder(&mut self, from: &str, to: &str) -> Result<(), TreeFault>
+        requires from { IsTrue (is_base_name from.now) }
+        requires to { IsTrue (is_base_name to.now) }
+        ensures counted { calls_of self.new ≡ after_call (calls_of self.old) }
+        ensures kth { is_kth (calls_of self.old).due ≡ true → IsErrOf result Device × (below_of self.new ≡ below_of self.old) }
+        ensures others { is_kth (calls_of self.old).due ≡ false → RenamesFolder from.now to.now (T.state (below_of self.old)) (T.state (below_of self.new)) result }
+    {
+        if self.calls.is_due() {
+            return Err(TreeFault::Device);
+        }
+        self.tree.rename_folder(from, to)
+    }
+
+    fn create(&mut self, name: &str, bytes: &[u8]) -> Result<(), TreeFault>
+        requires { IsTrue (is_base_name name.now) }
+        ensures counted { calls_of self.new ≡ after_call (calls_of self.old) }
+        ensures kth { is_kth (calls_of self.old).due ≡ true → IsErrOf result Device × (below_of self.new ≡ below_of self.old) }
+        ensures others { is_kth (calls_of self.old).due ≡ false → Creates name.now bytes.now (T.state (below_of self.old)) (T.state (below_of self.new)) result }
+        ensures begun { OnErr result (IsSame (failing (T.state (below_of self.old)) (calls_of self.old)) (failing (T.state (below_of self.new)) (calls_of self.new))
+            ⊎ HasBegun name.now bytes.now (failing (T.state (below_of self.old)) (calls_of self.old)) (failing (T.state (below_of self.new)) (calls_of self.new))) }
+    {
+        if self.calls.is_due() {
+            return Err(TreeFault::Device);
+        }
+        self.tree.create(name, bytes)
     }
 }

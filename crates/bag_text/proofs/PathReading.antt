@@ -1,5 +1,5 @@
 -- Paths that are read byte by byte.
-use Rattle.std.proofs.Common.{◌≡◌, ◌≢◌, ℕ, suc, ◌+◌, ◌<◌, Bool, true, false, not, cond, ◌&&◌, List, [], ◌∷◌, ◌++◌, length, get_or, drop, refl, sym, ap, ◌∙◌, eqb, arith, append_assoc, append-nil}
+use Rattle.std.proofs.Common.{◌≡◌, ◌≢◌, ℕ, suc, ◌+◌, ◌<◌, Bool, true, false, not, cond, ◌&&◌, ◌||◌, IsTrue, List, [], ◌∷◌, ◌++◌, length, get_or, drop, refl, sym, ap, ◌∙◌, subst, eqb, arith, append_assoc, append-nil}
 use Rattle.std.specs.List.{list_all, onto_first}
 use Rattle.std.proofs.Math.Seq.{drop-cons, drop-length}
 use Rattle.bag_text.specs.Path.{slash, components, is_component, is_path}
@@ -103,3 +103,18 @@ read_bad part t k h slash bad read = slash_read part t k h slash read ∙ ap (λ
 
 pub read_end : (part : Part) (t : List ℕ) (k : ℕ) → k ≡ length t → IsReadTo part t k → is_path t ≡ is_name part
 read_end part t k end (p, is, good) = good ∙ ap (are_good p) (ap (λ j. drop j t) end ∙ drop-length t) ∙ good_end p ∙ ap is_name (sym is)
+
+-- of components that don't begin with a dot, what is read where one begins or behind its first byte
+plain_byte : (begins is_end is_dot : Bool) (t : List ℕ) (k : ℕ) → k < length t → is_slash (get_or t k 0) ≡ is_end → eqb (get_or t k 0) 46 ≡ is_dot
+    → IsReadTo (cond begins Empty Name) t k → IsTrue (not (begins && (is_end || is_dot))) → IsReadTo (cond is_end Empty Name) t (k + 1)
+plain_byte true true is_dot t k h slash dot read w = cc
+plain_byte true false true t k h slash dot read w = cc
+plain_byte true false false t k h slash dot read w =
+    subst (λ (x : Part). IsReadTo x t (k + 1)) (ap (λ b. cond b Dot Name) dot) (read_byte Empty t k h slash read)
+plain_byte false true is_dot t k h slash dot read w = read_slash Name t k h slash refl read
+plain_byte false false is_dot t k h slash dot read w = read_byte Name t k h slash read
+
+pub plain_more : (plain begins : Bool) (t : List ℕ) (k : ℕ) → k < length t → (IsTrue plain → IsReadTo (cond begins Empty Name) t k)
+    → IsTrue (plain && not (begins && (is_slash (get_or t k 0) || eqb (get_or t k 0) 46))) → IsReadTo (cond (is_slash (get_or t k 0)) Empty Name) t (k + 1)
+plain_more true begins t k h read w = plain_byte begins (is_slash (get_or t k 0)) (eqb (get_or t k 0) 46) t k h refl refl (read refl) w
+plain_more false begins t k h read w = cc

@@ -21,6 +21,7 @@ pub mod laws;
 mod line_cut;
 mod path;
 mod read_text;
+mod sort_key;
 mod spelling;
 
 pub use alg::Alg;
@@ -32,4 +33,5 @@ pub use label::same_label;
 pub use line_cut::Lines;
 pub use path::{Unsafe, check_path, is_payload};
 pub use read_text::{BYTE_ORDER_MARK, NotUtf8, lines, text_of};
+pub use sort_key::{common_front, key_behind};
 pub use spelling::{PathFault, escape_path, unescape_path};

@@ -1,5 +1,5 @@
 //! Paths of files in a bag.
-ghost use Rattle.std.specs.Prelude.{◌≡◌, true, false, MatchResult};
+ghost use Rattle.std.specs.Prelude.{◌≡◌, true, false, IsTrue, MatchResult};
 ghost use Rattle.bag_text.specs.Path as spec;
 ghost use Rattle.bag_text.specs.PathPart.{with_byte, is_name};
 
@@ -54,6 +54,9 @@ impl Part {
 pub fn check_path(text: &str) -> Result<(), Unsafe>
     ensures { MatchResult result (λ _. spec.is_path text.now ≡ true) (λ _. spec.is_path text.now ≡ false) }
 {
+    if is_plain(text.as_bytes()) {
+        return Ok(());
+    }
     let mut part = Part::Empty;
     for byte in text.as_bytes() {
         if *byte != SLASH {
@@ -65,6 +68,20 @@ pub fn check_path(text: &str) -> Result<(), Unsafe>
         }
     }
     if part.is_name() { Ok(()) } else { Err(Unsafe) }
+}
+
+/// Whether these are a path in which no component begins with a dot, as in most paths. It takes no branch for a byte.
+fn is_plain(bytes: &[u8]) -> bool
+    ensures { IsTrue result → spec.is_path bytes.now ≡ true }
+{
+    let mut begins = true;
+    let mut plain = true;
+    for byte in bytes {
+        let is_slash = *byte == SLASH;
+        plain &= !(begins & (is_slash | (*byte == DOT)));
+        begins = is_slash;
+    }
+    plain & !begins
 }
 
 /// Whether a text is the path of a payload file: one whose first component is `data`, and that has a second

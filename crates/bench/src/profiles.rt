@@ -12,29 +12,28 @@ fn profile_beside(rt: &HostRuntime, path: &str) -> io::Result<Option<Profile>> {
     Ok(Profile::read(rt.alloc(), &bytes).ok())
 }
 
-/// How many tag files a folder has that are read, and in how many places it doesn't conform, where they are looked for.
+/// How many tag files a folder has that are read, and in how many places it doesn't conform, looked for so many times.
 fn counts(
     rt: &HostRuntime,
     path: &str,
     profile: &Profile,
-    judges: bool,
+    times: u32,
 ) -> Result<(usize, usize), TreeFault> {
     let facts = facts_of(rt, path)?;
-    let faults = if judges {
-        conformance_faults(rt.alloc(), &facts, profile)?.len()
-    } else {
-        0
-    };
+    let mut faults = 0;
+    for _ in 0..times {
+        faults = conformance_faults(rt.alloc(), &facts, profile)?.len();
+    }
     Ok((facts.tags.len(), faults))
 }
 
 /// Prints how many tag files a folder has, and in how many places it doesn't conform to the profile beside it, where they
-/// are looked for.
-pub(crate) fn print_folder(rt: &HostRuntime, path: &str, judges: bool) -> io::Result<()> {
+/// are looked for at all. They may be looked for several times, all in what was read once.
+pub(crate) fn print_folder(rt: &HostRuntime, path: &str, times: u32) -> io::Result<()> {
     let Some(profile) = profile_beside(rt, path)? else {
         return println!(rt; "no profile");
     };
-    match counts(rt, path, &profile, judges) {
+    match counts(rt, path, &profile, times) {
         Ok((tags, faults)) => println!(rt; "tag files: {tags}, faults: {faults}"),
         Err(fault) => println!(rt; "refused: {fault}"),
     }

@@ -19,10 +19,10 @@ const OF_ABC: &[(Alg, &str)] = &[
 /// How many bytes the files have of which the calls are counted.
 const SIZES: &[u32] = &[0, 1, 2, 3, 7, 64];
 
-/// A tree with the file `abc`, of which the call of this number is refused.
-fn failing(alloc: Global, k: u64) -> Result<FailTree<MemoryTree>, AllocError> {
+/// A tree with a file of these bytes, of which the call of this number is refused.
+fn failing(alloc: Global, bytes: &[u8], k: u64) -> Result<FailTree<MemoryTree>, AllocError> {
     let mut tree = MemoryTree::new(alloc);
-    tree.put_file(PATH, b"abc")?;
+    tree.put_file(PATH, bytes)?;
     Ok(FailTree::new(tree, k))
 }
 
@@ -33,50 +33,57 @@ fn entry(alloc: Global, size: u64) -> Result<FileEntry, AllocError> {
     })
 }
 
-/// Reads a byte at a time: an opening, three reads that give a byte, and one at the end.
-#[test]
-fn the_fifth_call_is_the_last(rt: HostRuntime) -> Result<(), Fail> {
-    let alloc = rt.alloc();
-    let entry = entry(alloc, 3)?;
-    for &(alg, wanted) in OF_ABC {
-        let algs = AlgSet::empty().with(alg);
-        for k in 1..=5 {
-            let refused = digest_file(&mut failing(alloc, k)?, &entry, algs, &mut [0; 1]).err();
-            assert!(rt; refused == Some(TreeFault::Device), "{k}");
-        }
-        let sums = digest_file(&mut failing(alloc, 6)?, &entry, algs, &mut [0; 1])?;
-        assert_eq!(rt; sums.hex(alloc, alg)?.as_str(), wanted);
-    }
-    Ok(())
-}
-
-/// What refuses the digests of a file of so many bytes, where the call of this number is refused.
+/// What refuses the digests of a file of these bytes, where the call of this number is refused.
 fn refused(
     alloc: Global,
-    size: u32,
+    bytes: &[u8],
     k: u64,
+    algs: AlgSet,
     buffer: &mut [u8],
 ) -> Result<Option<TreeFault>, AllocError>
     requires { 0 < length buffer.old }
 {
-    let mut tree = MemoryTree::new(alloc);
-    tree.put_file(PATH, &bytes_of(alloc, size)?)?;
-    let entry = entry(alloc, u64::from(size))?;
-    Ok(digest_file(&mut FailTree::new(tree, k), &entry, AlgSet::empty(), buffer).err())
+    let entry = entry(alloc, bytes.len() as u64)?;
+    let mut tree = failing(alloc, bytes, k)?;
+    Ok(digest_file(&mut tree, &entry, algs, buffer).err())
+}
+
+/// The digest of `abc` by an algorithm, read a byte at a time, where the call of this number is refused.
+fn digest_of_abc(alloc: Global, alg: Alg, k: u64) -> Result<String, Fail> {
+    let entry = entry(alloc, 3)?;
+    let mut tree = failing(alloc, b"abc", k)?;
+    let sums = digest_file(&mut tree, &entry, AlgSet::empty().with(alg), &mut [0; 1])?;
+    Ok(sums.hex(alloc, alg)?)
+}
+
+/// Reads a byte at a time: an opening, three reads that give a byte, and one at the end.
+#[test]
+fn the_fifth_call_is_the_last(rt: HostRuntime) -> Result<(), Fail> {
+    for &(alg, wanted) in OF_ABC {
+        let algs = AlgSet::empty().with(alg);
+        for k in 1..=5 {
+            let found = refused(rt.alloc(), b"abc", k, algs, &mut [0; 1])?;
+            assert!(rt; found == Some(TreeFault::Device), "{k}");
+        }
+        assert_eq!(rt; digest_of_abc(rt.alloc(), alg, 6)?.as_str(), wanted);
+    }
+    Ok(())
 }
 
 /// A pass makes a call for the opening, one for each piece, and one for the end: at most two more than there are bytes.
 fn takes_few_calls(rt: &impl Abort, alloc: Global, size: u32, buffer: &mut [u8]) -> Result<(), Fail>
     requires { 0 < length buffer.old }
 {
+    let bytes = bytes_of(alloc, size)?;
     let calls = u64::from(size).div_ceil(buffer.len() as u64) + 2;
     for k in 1..=u64::from(size) + 3 {
+        let found = refused(alloc, &bytes, k, AlgSet::empty(), buffer)?;
         let wanted = if k <= calls {
             Some(TreeFault::Device)
         } else {
             None
         };
-        assert!(rt; refused(alloc, size, k, buffer)? == wanted, "{size} {k}");
+        assert!(rt; found == wanted, "{size} {k}");
     }
     assert!(rt; calls <= u64::from(size) + 2, "{size}");
     Ok(())

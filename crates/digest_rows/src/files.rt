@@ -35,69 +35,98 @@ fn tree_of(alloc: Global, bytes: &[u8]) -> Result<MemoryTree, AllocError> {
     Ok(tree)
 }
 
-/// The digests of a file are those of its bytes, and it is opened once.
-fn sums_like_its_bytes(
-    rt: &impl Abort,
+/// The file, listed with this path and size.
+fn entry(alloc: Global, path: &str, size: u64) -> Result<FileEntry, AllocError> {
+    Ok(FileEntry {
+        path: Text::from_str(alloc, path)?,
+        size,
+    })
+}
+
+/// The digest of a file by an algorithm.
+fn digest_of(
     alloc: Global,
-    size: u32,
+    tree: &mut MemoryTree,
+    entry: &FileEntry,
+    alg: Alg,
     buffer: &mut [u8],
-) -> Result<(), Fail>
+) -> Result<String, Fail>
+    requires { 0 < length buffer.old }
+{
+    let sums = digest_file(tree, entry, AlgSet::empty().with(alg), buffer)?;
+    Ok(sums.hex(alloc, alg)?)
+}
+
+/// Whether the digest of a file by each algorithm is that of its bytes.
+fn has_digests(
+    alloc: Global,
+    tree: &mut MemoryTree,
+    entry: &FileEntry,
+    bytes: &[u8],
+    buffer: &mut [u8],
+) -> Result<bool, Fail>
+    requires { 0 < length buffer.old }
+{
+    for alg in Alg::ALL {
+        let found = digest_of(alloc, tree, entry, alg, buffer)?;
+        if !whole(AlgSet::empty().with(alg), bytes).is_spelled(alg, found.as_str()) {
+            return Ok(false);
+        }
+    }
+    Ok(true)
+}
+
+/// Whether the digests of a file of so many bytes are those of its bytes, and it is opened once for each.
+fn is_summed(alloc: Global, size: u32, buffer: &mut [u8]) -> Result<bool, Fail>
     requires { 0 < length buffer.old }
 {
     let bytes = bytes_of(alloc, size)?;
+    let entry = entry(alloc, PATH, u64::from(size))?;
     let mut tree = tree_of(alloc, &bytes)?;
-    let entry = FileEntry {
-        path: Text::from_str(alloc, PATH)?,
-        size: u64::from(size),
-    };
-    for alg in Alg::ALL {
-        let algs = AlgSet::empty().with(alg);
-        let wanted = whole(algs, &bytes).hex(alloc, alg)?;
-        let sums = digest_file(&mut tree, &entry, algs, buffer)?;
-        let found = sums.hex(alloc, alg)?;
-        assert_eq!(rt; found.as_str(), wanted.as_str());
-    }
-    assert!(rt; tree.openings().len() == Alg::ALL.len(), "{size}");
-    Ok(())
+    let holds = has_digests(alloc, &mut tree, &entry, &bytes, buffer)?;
+    Ok(holds && tree.openings().len() == Alg::ALL.len())
 }
 
 #[test]
 fn files_are_summed_through_any_buffer(rt: HostRuntime) -> Result<(), Fail> {
     for &size in SIZES {
-        sums_like_its_bytes(&rt, rt.alloc(), size, &mut [0; 1])?;
-        sums_like_its_bytes(&rt, rt.alloc(), size, &mut [0; 7])?;
-        sums_like_its_bytes(&rt, rt.alloc(), size, &mut [0; 65_536])?;
+        assert!(rt; is_summed(rt.alloc(), size, &mut [0; 1])?, "{size}");
+        assert!(rt; is_summed(rt.alloc(), size, &mut [0; 7])?, "{size}");
+        assert!(rt; is_summed(rt.alloc(), size, &mut [0; 65_536])?, "{size}");
     }
     Ok(())
 }
 
-/// A file of seven bytes, listed with this path and size, is refused.
-fn is_refused(
-    rt: &impl Abort,
+/// What the digests of a file of seven bytes are refused for, listed with this path and size.
+fn refusal(
     alloc: Global,
     listed: (&str, u64),
-    fault: TreeFault,
     buffer: &mut [u8],
-) -> Result<(), Fail>
+) -> Result<Option<TreeFault>, AllocError>
     requires { 0 < length buffer.old }
 {
     let (path, size) = listed;
+    let entry = entry(alloc, path, size)?;
     let mut tree = tree_of(alloc, b"abcdefg")?;
-    let entry = FileEntry {
-        path: Text::from_str(alloc, path)?,
-        size,
-    };
-    let refused = digest_file(&mut tree, &entry, AlgSet::empty(), buffer).err();
-    assert!(rt; refused == Some(fault), "{path} {size}");
-    Ok(())
+    Ok(digest_file(&mut tree, &entry, AlgSet::empty(), buffer).err())
 }
 
 #[test]
 fn other_sizes_and_paths_are_refused(rt: HostRuntime) -> Result<(), Fail> {
     for &(path, size, fault) in REFUSED {
-        is_refused(&rt, rt.alloc(), (path, size), fault, &mut [0; 1])?;
-        is_refused(&rt, rt.alloc(), (path, size), fault, &mut [0; 7])?;
-        is_refused(&rt, rt.alloc(), (path, size), fault, &mut [0; 65_536])?;
+        let listed = (path, size);
+        assert!(rt;
+            refusal(rt.alloc(), listed, &mut [0; 1])? == Some(fault),
+            "{path} {size}"
+        );
+        assert!(rt;
+            refusal(rt.alloc(), listed, &mut [0; 7])? == Some(fault),
+            "{path} {size}"
+        );
+        assert!(rt;
+            refusal(rt.alloc(), listed, &mut [0; 65_536])? == Some(fault),
+            "{path} {size}"
+        );
     }
     Ok(())
 }

@@ -3,6 +3,8 @@
 #![tactic(auto)]
 
 #[cfg(test)]
+mod as_bytes;
+#[cfg(test)]
 mod failing;
 #[cfg(test)]
 mod files;

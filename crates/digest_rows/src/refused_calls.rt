@@ -25,57 +25,117 @@ fn failed(alloc: Global) -> FailTree<MemoryTree>
     tree
 }
 
-/// What `read` answers with room for four bytes.
-fn read(tree: &mut FailTree<MemoryTree>) -> Result<usize, TreeFault> {
-    tree.read(&mut [0; 4])
+/// A call, and what it answers: how many files are listed, and how many bytes are read with room for four.
+enum Step {
+    List(Result<usize, TreeFault>),
+    Open(&'static str, Result<(), TreeFault>),
+    Read(Result<usize, TreeFault>),
 }
 
-#[test]
-fn a_refused_list_is_device_once(rt: HostRuntime) -> Result<(), Fail> {
-    let mut tree = failing(rt.alloc(), 1)?;
-    assert!(rt; tree.list().err() == Some(TreeFault::Device));
-    assert!(rt; tree.list()?.files.as_slice().len() == 1);
-    assert!(rt; tree.open_file(PATH).is_ok());
-    assert!(rt; read(&mut tree) == Ok(3));
-    Ok(())
+/// The number of the call that is refused, the calls in turn, and how often a file is opened.
+struct Row {
+    refused: u64,
+    steps: &'static [Step],
+    openings: usize,
 }
 
-#[test]
-fn after_a_refused_opening_nothing_is_open(rt: HostRuntime) -> Result<(), Fail> {
-    let mut tree = failing(rt.alloc(), 3)?;
-    assert!(rt; tree.list()?.files.as_slice().len() == 1);
-    assert!(rt; tree.open_file(PATH).is_ok());
-    assert!(rt; tree.open_file(PATH).err() == Some(TreeFault::Device));
-    assert!(rt; read(&mut tree) == Err(TreeFault::NoneOpen));
-    assert!(rt; tree.list()?.files.as_slice().len() == 1);
-    assert!(rt; read(&mut tree) == Err(TreeFault::NoneOpen));
-    assert!(rt; tree.open_file("data/y").err() == Some(TreeFault::NotFound));
-    assert!(rt; read(&mut tree) == Err(TreeFault::NoneOpen));
-    assert!(rt; tree.open_file(PATH).is_ok());
-    assert!(rt; read(&mut tree) == Ok(3));
-    assert!(rt; tree.into_inner().openings().len() == 2);
-    Ok(())
+const ROWS: &[Row] = &[
+    // a list is refused once
+    Row {
+        refused: 1,
+        steps: &[
+            Step::List(Err(TreeFault::Device)),
+            Step::List(Ok(1)),
+            Step::Open(PATH, Ok(())),
+            Step::Read(Ok(3)),
+        ],
+        openings: 1,
+    },
+    // after a refused opening nothing is open
+    Row {
+        refused: 3,
+        steps: &[
+            Step::List(Ok(1)),
+            Step::Open(PATH, Ok(())),
+            Step::Open(PATH, Err(TreeFault::Device)),
+            Step::Read(Err(TreeFault::NoneOpen)),
+            Step::List(Ok(1)),
+            Step::Read(Err(TreeFault::NoneOpen)),
+            Step::Open("data/y", Err(TreeFault::NotFound)),
+            Step::Read(Err(TreeFault::NoneOpen)),
+            Step::Open(PATH, Ok(())),
+            Step::Read(Ok(3)),
+        ],
+        openings: 2,
+    },
+    // after a refused read the file is open
+    Row {
+        refused: 2,
+        steps: &[
+            Step::Open(PATH, Ok(())),
+            Step::Read(Err(TreeFault::Device)),
+            Step::Read(Ok(3)),
+            Step::Read(Ok(0)),
+        ],
+        openings: 1,
+    },
+    // with no number nothing is refused
+    Row {
+        refused: 0,
+        steps: &[
+            Step::List(Ok(1)),
+            Step::Open(PATH, Ok(())),
+            Step::Read(Ok(3)),
+            Step::List(Ok(1)),
+            Step::Open(PATH, Ok(())),
+            Step::Read(Ok(3)),
+            Step::List(Ok(1)),
+            Step::Open(PATH, Ok(())),
+            Step::Read(Ok(3)),
+            Step::List(Ok(1)),
+            Step::Open(PATH, Ok(())),
+            Step::Read(Ok(3)),
+        ],
+        openings: 4,
+    },
+];
+
+/// How many files a tree lists.
+fn listed(tree: &mut FailTree<MemoryTree>) -> Result<usize, TreeFault> {
+    Ok(tree.list()?.files.as_slice().len())
 }
 
-#[test]
-fn after_a_refused_read_the_file_is_open(rt: HostRuntime) -> Result<(), Fail> {
-    let mut tree = failing(rt.alloc(), 2)?;
-    assert!(rt; tree.open_file(PATH).is_ok());
-    assert!(rt; read(&mut tree) == Err(TreeFault::Device));
-    assert!(rt; read(&mut tree) == Ok(3));
-    assert!(rt; read(&mut tree) == Ok(0));
-    Ok(())
-}
-
-#[test]
-fn with_no_number_nothing_is_refused(rt: HostRuntime) -> Result<(), Fail> {
-    let mut tree = failing(rt.alloc(), 0)?;
-    for _ in 0..4 {
-        assert!(rt; tree.list()?.files.as_slice().len() == 1);
-        assert!(rt; tree.open_file(PATH).is_ok());
-        assert!(rt; read(&mut tree) == Ok(3));
+/// Whether a call answers what the step says.
+fn is_answered(tree: &mut FailTree<MemoryTree>, step: &Step) -> bool {
+    match step {
+        Step::List(answer) => listed(tree) == *answer,
+        Step::Open(path, answer) => tree.open_file(path) == *answer,
+        Step::Read(answer) => tree.read(&mut [0; 4]) == *answer,
     }
-    assert!(rt; tree.into_inner().openings().len() == 4);
+}
+
+/// Whether each call in turn answers what its step says.
+fn are_answered(tree: &mut FailTree<MemoryTree>, steps: &[Step]) -> bool {
+    for step in steps {
+        if !is_answered(tree, step) {
+            return false;
+        }
+    }
+    true
+}
+
+/// Whether a row holds.
+fn is_right(alloc: Global, row: &Row) -> Result<bool, AllocError> {
+    let mut tree = failing(alloc, row.refused)?;
+    let holds = are_answered(&mut tree, row.steps);
+    Ok(holds && tree.into_inner().openings().len() == row.openings)
+}
+
+#[test]
+fn calls_of_which_one_is_refused(rt: HostRuntime) -> Result<(), Fail> {
+    for row in ROWS {
+        assert!(rt; is_right(rt.alloc(), row)?, "{}", row.refused);
+    }
     Ok(())
 }
 

@@ -1,8 +1,9 @@
 //! Trees that list something else than they have.
-ghost use Rattle.std.specs.Prelude.{IsTrue};
+ghost use Rattle.std.specs.Prelude.{IfOk, IsTrue};
 ghost use Rattle.bag_text.specs.Path.{is_path};
+ghost use Rattle.bag_store.specs.Listing.{IsOrdered, HasItsFolder};
 
-use bag_store::{MemoryTree, SkewTree, Tree, TreeFault};
+use bag_store::{Listing, MemoryTree, SkewTree, Tree, TreeFault};
 use std::alloc::{AllocError, Global};
 use std::process::Abort;
 use std::test::Fail;
@@ -16,16 +17,41 @@ fn tree_of(alloc: Global, path: &str, bytes: &[u8]) -> Result<MemoryTree, AllocE
     Ok(tree)
 }
 
+/// The listing of a tree with one file of five bytes.
+fn listing(alloc: Global) -> Result<Listing, Fail>
+    ensures ordered { IfOk result (λ listing. IsOrdered listing.files) }
+    ensures data { IfOk result HasItsFolder }
+{
+    Ok(tree_of(alloc, "data/y", b"vwxyz")?.list()?)
+}
+
+/// A tree with one file, that lists another one.
+fn skewed(alloc: Global) -> Result<SkewTree, Fail> {
+    let listing = listing(alloc)?;
+    let tree = tree_of(alloc, "data/x", b"abc")?;
+    Ok(SkewTree::new(tree, Some(listing)))
+}
+
+/// Whether a listing is that of the tree with one file of five bytes.
+fn is_listing(listing: &Listing) -> bool {
+    match listing.files.as_slice() {
+        [entry] => entry.path.as_str() == "data/y" && entry.size == 5 && listing.has_data,
+        _ => false,
+    }
+}
+
+/// Whether a tree gives that listing.
+fn is_listed(tree: &mut SkewTree) -> bool {
+    match tree.list() {
+        Ok(listing) => is_listing(&listing),
+        Err(_) => false,
+    }
+}
+
 #[test]
 fn a_listing_is_given_once(rt: HostRuntime) -> Result<(), Fail> {
-    let alloc = rt.alloc();
-    let listing = tree_of(alloc, "data/y", b"vwxyz")?.list()?;
-    let mut tree = SkewTree::new(tree_of(alloc, "data/x", b"abc")?, Some(listing));
-    let listed = tree.list()?;
-    let [entry] = listed.files.as_slice() else {
-        return Err(Fail::new("a file is listed"));
-    };
-    assert!(rt; entry.path.as_str() == "data/y" && entry.size == 5 && listed.has_data);
+    let mut tree = skewed(rt.alloc())?;
+    assert!(rt; is_listed(&mut tree));
     assert!(rt; tree.list().err() == Some(TreeFault::TooMany));
     assert!(rt; tree.list().err() == Some(TreeFault::TooMany));
     Ok(())
@@ -41,9 +67,7 @@ fn with_no_listing_there_are_too_many(rt: HostRuntime) -> Result<(), Fail> {
 
 #[test]
 fn it_reads_what_it_has(rt: HostRuntime) -> Result<(), Fail> {
-    let alloc = rt.alloc();
-    let listing = tree_of(alloc, "data/y", b"vwxyz")?.list()?;
-    let mut tree = SkewTree::new(tree_of(alloc, "data/x", b"abc")?, Some(listing));
+    let mut tree = skewed(rt.alloc())?;
     let mut buffer = [0; 4];
     assert!(rt; tree.read(&mut buffer) == Err(TreeFault::NoneOpen));
     assert!(rt; tree.open_file("data/y").err() == Some(TreeFault::NotFound));

@@ -6,9 +6,12 @@ use std::alloc::Global;
 use std::process::Abort;
 use std::test::Fail;
 
+/// An algorithm, a text, and its digest in lower-case hex.
+pub(crate) type Value = (Alg, &'static str, &'static str);
+
 /// Texts, each with its digest by an algorithm, as RFC 1321 and FIPS 180 publish them, and those that they don't have as the
 /// programs of coreutils print them.
-const VALUES: &[(Alg, &str, &str)] = &[
+pub(crate) const VALUES: &[Value] = &[
     (Alg::Md5, "", "d41d8cd98f00b204e9800998ecf8427e"),
     (Alg::Md5, "a", "0cc175b9c0f1b6a831c399e269772661"),
     (Alg::Md5, "b", "92eb5ffee6ae2fec3ad71c777531578f"),
@@ -88,7 +91,7 @@ const OF_A_MILLION: &[(Alg, &str)] = &[
 ];
 
 /// The set of every algorithm.
-fn every_alg() -> AlgSet {
+pub(crate) fn every_alg() -> AlgSet {
     let mut algs = AlgSet::empty();
     for alg in Alg::ALL {
         algs = algs.with(alg);

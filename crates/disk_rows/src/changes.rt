@@ -2,7 +2,7 @@
 ghost use Rattle.std.specs.Prelude.{◌≡◌, IsTrue, is_some};
 ghost use Rattle.bag_text.specs.Path as spec;
 
-use crate::held::{Held, Place, disk, is_read, listed};
+use crate::held::{Held, Place, disk, ends, listed};
 use crate::rows::sees_that;
 use bag_disk::{DiskFault, SystemDisk, WritableDisk};
 use bag_memory_disk::{Call, RefusingDisk};
@@ -187,7 +187,11 @@ fn changes_a_real_folder(rt: HostRuntime) -> Result<(), Fail> {
     ] {
         assert!(rt; make(&mut disk, change).is_err_and(|fault| fault == expected));
     }
-    sees_that(&rt, is_read(rt.alloc(), disk, "data/b", b"abc")?, "data/b");
+    sees_that(
+        &rt,
+        ends(rt.alloc(), disk, ("data/b", 3), Ok("abc"))?,
+        "data/b",
+    );
     fs::remove_dir_all(&rt, base.as_str())?;
     Ok(())
 }
@@ -198,11 +202,8 @@ fn a_long_file_is_read_again_whole(rt: HostRuntime) -> Result<(), Fail> {
     let text = "0123456789".repeat(rt.alloc(), 7_000)?;
     assert!(rt; make_file(&mut disk, "long", text.as_str(), "abc").is_ok());
     let whole = format!(in rt.alloc(); "{text}abc")?;
-    sees_that(
-        &rt,
-        is_read(rt.alloc(), disk, "long", whole.as_bytes())?,
-        "long",
-    );
+    let holds = ends(rt.alloc(), disk, ("long", 70_003), Ok(whole.as_str()))?;
+    sees_that(&rt, holds, "long");
     fs::remove_dir_all(&rt, base.as_str())?;
     Ok(())
 }

@@ -80,28 +80,16 @@ fn read<D: Disk + Drop>(
     Ok(read_whole(alloc, &mut tree, &FileEntry { path, size }))
 }
 
-/// Whether a file of a tree over a disk is read as this.
-pub(crate) fn is_read<D: Disk + Drop>(
-    alloc: Global,
-    disk: D,
-    path: &str,
-    bytes: &[u8],
-) -> Result<bool, AllocError> {
-    match read(alloc, disk, path, bytes.len() as u64)? {
-        Ok(found) => Ok(found.as_slice() == bytes),
-        Err(_) => Ok(false),
-    }
-}
-
-/// Whether reading a file of a tree over a disk, listed with this size, is refused so.
-pub(crate) fn is_refused<D: Disk + Drop>(
+/// Whether opening and reading a file of a tree over a disk ends so, where it is listed with this size.
+pub(crate) fn ends<D: Disk + Drop>(
     alloc: Global,
     disk: D,
     (path, size): (&str, u64),
-    fault: TreeFault,
+    wanted: Result<&str, TreeFault>,
 ) -> Result<bool, AllocError> {
-    match read(alloc, disk, path, size)? {
-        Ok(_) => Ok(false),
-        Err(found) => Ok(found == fault),
+    match (read(alloc, disk, path, size)?, wanted) {
+        (Ok(found), Ok(text)) => Ok(found.as_slice() == text.as_bytes()),
+        (Err(found), Err(fault)) => Ok(found == fault),
+        (Ok(_), Err(_)) | (Err(_), Ok(_)) => Ok(false),
     }
 }

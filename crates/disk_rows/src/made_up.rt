@@ -3,7 +3,7 @@ ghost use Rattle.std.specs.Prelude.{is_some};
 ghost use Rattle.bag_disk.specs.SystemDisk.{system_state};
 ghost use Rattle.bag_disk.specs.Disk.{empty_disk};
 
-use crate::held::{is_refused, listed};
+use crate::held::{ends, listed};
 use crate::rows::{sees, sees_that};
 use bag_disk::{Disk, DiskFault, Entry};
 use bag_text::{Items, Text};
@@ -168,7 +168,12 @@ fn lists_nothing_where_a_name_is_given_twice_or_is_no_path(rt: HostRuntime) -> R
 /// Whether nothing is opened where a disk has only this.
 fn is_unopened(alloc: Global, path: &str) -> Result<bool, AllocError> {
     let disk = MadeUp::new(alloc, &[(path, Standing::File)])?;
-    is_refused(alloc, disk, (path, path.len() as u64), TreeFault::NotFound)
+    ends(
+        alloc,
+        disk,
+        (path, path.len() as u64),
+        Err(TreeFault::NotFound),
+    )
 }
 
 #[test]

@@ -1,5 +1,5 @@
 //! What trees over disks in memory open.
-use crate::held::{Held, Place, disk, is_read, is_refused};
+use crate::held::{Held, Place, disk, ends};
 use crate::rows::sees_that;
 use bag_tree::TreeFault;
 use std::test::Fail;
@@ -11,36 +11,26 @@ const PLACES: &[Place] = &[
     (b"link", Held::Other),
 ];
 
-/// Paths of files, each with its text.
-const FILES: &[(&str, &str)] = &[("a/b", "abc"), ("e", "")];
-
-#[test]
-fn opens_the_files_of_a_disk(rt: HostRuntime) -> Result<(), Fail> {
-    for &(path, text) in FILES {
-        let disk = disk(rt.alloc(), PLACES)?;
-        sees_that(&rt, is_read(rt.alloc(), disk, path, text.as_bytes())?, path);
-    }
-    Ok(())
-}
-
-/// What is no file, and how each is refused.
-const NO_FILES: &[(&str, TreeFault)] = &[
-    ("a", TreeFault::NotFound),
-    ("a/b/c", TreeFault::NotFound),
-    ("a/c", TreeFault::NotFound),
-    ("b", TreeFault::NotFound),
-    ("link", TreeFault::Special),
-    ("link/b", TreeFault::Special),
-    ("../e", TreeFault::NotFound),
-    ("a/../e", TreeFault::NotFound),
-    ("", TreeFault::NotFound),
+/// Paths that are listed with a size, each with the text of the file, or how it is refused.
+const ROWS: &[(&str, u64, Result<&str, TreeFault>)] = &[
+    ("a/b", 3, Ok("abc")),
+    ("e", 0, Ok("")),
+    ("a", 3, Err(TreeFault::NotFound)),
+    ("a/b/c", 3, Err(TreeFault::NotFound)),
+    ("a/c", 3, Err(TreeFault::NotFound)),
+    ("b", 3, Err(TreeFault::NotFound)),
+    ("link", 3, Err(TreeFault::Special)),
+    ("link/b", 3, Err(TreeFault::Special)),
+    ("../e", 3, Err(TreeFault::NotFound)),
+    ("a/../e", 3, Err(TreeFault::NotFound)),
+    ("", 3, Err(TreeFault::NotFound)),
 ];
 
 #[test]
-fn opens_nothing_else(rt: HostRuntime) -> Result<(), Fail> {
-    for &(path, fault) in NO_FILES {
+fn opens_the_files_of_a_disk_and_nothing_else(rt: HostRuntime) -> Result<(), Fail> {
+    for &(path, size, wanted) in ROWS {
         let disk = disk(rt.alloc(), PLACES)?;
-        sees_that(&rt, is_refused(rt.alloc(), disk, (path, 3), fault)?, path);
+        sees_that(&rt, ends(rt.alloc(), disk, (path, size), wanted)?, path);
     }
     Ok(())
 }

@@ -40,17 +40,11 @@ fn is_disk(alloc: Global, places: &[Place]) -> Result<bool, AllocError> {
 }
 
 #[test]
-fn makes_a_disk_of_what_can_stand_on_one(rt: HostRuntime) -> Result<(), Fail> {
-    for (index, places) in DISKS.iter().enumerate() {
-        assert!(rt; is_disk(rt.alloc(), *places)?, "{index}");
-    }
-    Ok(())
-}
-
-#[test]
-fn makes_no_disk_of_anything_else(rt: HostRuntime) -> Result<(), Fail> {
-    for (index, places) in NO_DISKS.iter().enumerate() {
-        assert!(rt; !is_disk(rt.alloc(), *places)?, "{index}");
+fn makes_a_disk_of_what_can_stand_on_one_and_of_nothing_else(rt: HostRuntime) -> Result<(), Fail> {
+    for (tables, is_one) in [(DISKS, true), (NO_DISKS, false)] {
+        for (index, places) in tables.iter().enumerate() {
+            assert!(rt; is_disk(rt.alloc(), *places)? == is_one, "{index}");
+        }
     }
     Ok(())
 }

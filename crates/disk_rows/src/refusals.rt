@@ -1,5 +1,5 @@
 //! Disks that refuse.
-use crate::held::{Held, Place, disk, is_refused, listed};
+use crate::held::{Held, Place, disk, ends, listed};
 use crate::rows::{sees, sees_that};
 use bag_disk::DiskFault;
 use bag_memory_disk::{Call, MemoryDisk, RefusingDisk};
@@ -16,13 +16,13 @@ const CALLS: u64 = 6;
 /// The calls of `enter`; the others are of `next_name`.
 const ENTERS: [u64; 2] = [0, 3];
 
-/// Each fault, its word where a folder is entered or looked at, where a name is asked for, and where a file is opened.
-const FAULTS: &[(DiskFault, &str, &str, TreeFault)] = &[
-    (DiskFault::NotFound, "device", "device", TreeFault::NotFound),
-    (DiskFault::Exists, "device", "device", TreeFault::Device),
-    (DiskFault::Name, "device", "name", TreeFault::Device),
-    (DiskFault::Memory, "memory", "memory", TreeFault::Memory),
-    (DiskFault::Device, "device", "device", TreeFault::Device),
+/// Each fault, its word where a folder is entered or looked at, and where a name is asked for.
+const FAULTS: &[(DiskFault, &str, &str)] = &[
+    (DiskFault::NotFound, "device", "device"),
+    (DiskFault::Exists, "device", "device"),
+    (DiskFault::Name, "device", "name"),
+    (DiskFault::Memory, "memory", "memory"),
+    (DiskFault::Device, "device", "device"),
 ];
 
 /// The disk of these places, of which a call is refused.
@@ -36,8 +36,10 @@ fn listed_with(alloc: Global, call: Call, fault: DiskFault) -> Result<String, Fa
 }
 
 #[test]
-fn each_refused_call_refuses_the_listing(rt: HostRuntime) -> Result<(), Fail> {
-    for &(fault, entered, named, _) in FAULTS {
+fn each_refused_call_refuses_the_listing_and_one_past_the_last_does_not(
+    rt: HostRuntime,
+) -> Result<(), Fail> {
+    for &(fault, entered, named) in FAULTS {
         for number in 0..CALLS {
             let expected = if ENTERS.contains(&number) {
                 entered
@@ -48,11 +50,6 @@ fn each_refused_call_refuses_the_listing(rt: HostRuntime) -> Result<(), Fail> {
             sees(&rt, found.as_str(), expected);
         }
     }
-    Ok(())
-}
-
-#[test]
-fn a_call_past_the_last_refuses_nothing(rt: HostRuntime) -> Result<(), Fail> {
     let found = listed_with(rt.alloc(), Call::Numbered(CALLS), DiskFault::Device)?;
     sees(&rt, found.as_str(), "false, a/b 1");
     Ok(())
@@ -66,7 +63,7 @@ fn listed_without(alloc: Global, path: &str, fault: DiskFault) -> Result<String,
 
 #[test]
 fn each_refused_look_refuses_the_listing(rt: HostRuntime) -> Result<(), Fail> {
-    for &(fault, entered, _, _) in FAULTS {
+    for &(fault, entered, _) in FAULTS {
         for &path in &["a", "a/b"] {
             sees(
                 &rt,
@@ -78,34 +75,23 @@ fn each_refused_look_refuses_the_listing(rt: HostRuntime) -> Result<(), Fail> {
     Ok(())
 }
 
-/// Whether the file is refused so where a numbered call is.
-fn is_unread(
-    alloc: Global,
-    number: u64,
-    fault: DiskFault,
-    expected: TreeFault,
-) -> Result<bool, Fail> {
-    let disk = refusing(alloc, Call::Numbered(number), fault)?;
-    Ok(is_refused(alloc, disk, ("a/b", 1), expected)?)
-}
+/// The number of a call, its fault, and how reading the file is refused where it is. The first call opens the file.
+const READS: &[(u64, DiskFault, TreeFault)] = &[
+    (0, DiskFault::NotFound, TreeFault::NotFound),
+    (0, DiskFault::Exists, TreeFault::Device),
+    (0, DiskFault::Name, TreeFault::Device),
+    (0, DiskFault::Memory, TreeFault::Memory),
+    (0, DiskFault::Device, TreeFault::Device),
+    (1, DiskFault::Memory, TreeFault::Memory),
+    (2, DiskFault::Memory, TreeFault::Memory),
+];
 
 #[test]
-fn a_refused_opening_opens_nothing(rt: HostRuntime) -> Result<(), Fail> {
-    for &(fault, _, _, expected) in FAULTS {
-        sees_that(
-            &rt,
-            is_unread(rt.alloc(), 0, fault, expected)?,
-            expected.word(),
-        );
-    }
-    Ok(())
-}
-
-#[test]
-fn a_refused_read_refuses_the_file(rt: HostRuntime) -> Result<(), Fail> {
-    for number in 1..3 {
-        let holds = is_unread(rt.alloc(), number, DiskFault::Memory, TreeFault::Memory)?;
-        assert!(rt; holds, "{number}");
+fn a_refused_opening_or_read_refuses_the_file(rt: HostRuntime) -> Result<(), Fail> {
+    for &(number, fault, wanted) in READS {
+        let disk = refusing(rt.alloc(), Call::Numbered(number), fault)?;
+        let holds = ends(rt.alloc(), disk, ("a/b", 1), Err(wanted))?;
+        sees_that(&rt, holds, wanted.word());
     }
     Ok(())
 }

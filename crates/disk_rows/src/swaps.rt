@@ -1,5 +1,5 @@
 //! Files that hold something else when they are opened.
-use crate::held::{Held, Place, disk, is_read, is_refused};
+use crate::held::{Held, Place, disk, ends};
 use crate::rows::sees_that;
 use bag_memory_disk::MemoryDisk;
 use bag_text::Text;
@@ -18,26 +18,20 @@ fn swapped(alloc: Global, places: &[Place], text: &str) -> Result<MemoryDisk, Fa
     Ok(disk)
 }
 
-#[test]
-fn a_file_of_another_length_is_changed(rt: HostRuntime) -> Result<(), Fail> {
-    for &text in &["", "ab", "abcd"] {
-        let disk = swapped(rt.alloc(), ONE, text)?;
-        let holds = is_refused(rt.alloc(), disk, ("a", 3), TreeFault::Changed)?;
-        sees_that(&rt, holds, text);
-    }
-    Ok(())
-}
-
-/// Files of disks whose file `a` was swapped for `xyz`, each with what is read in it.
-const FILES: &[(&[Place], &str, &str)] = &[(ONE, "a", "xyz"), (TWO, "b", "b")];
+/// The text of which the file `a` is made, a file of the disk and its size in the listing, and how reading it ends.
+const ROWS: &[(&[Place], &str, (&str, u64), Result<&str, TreeFault>)] = &[
+    (ONE, "", ("a", 3), Err(TreeFault::Changed)),
+    (ONE, "ab", ("a", 3), Err(TreeFault::Changed)),
+    (ONE, "abcd", ("a", 3), Err(TreeFault::Changed)),
+    (ONE, "xyz", ("a", 3), Ok("xyz")),
+    (TWO, "xyz", ("b", 1), Ok("b")),
+];
 
 #[test]
-fn a_file_of_the_same_length_is_read_and_others_are_as_they_were(
-    rt: HostRuntime,
-) -> Result<(), Fail> {
-    for &(places, path, text) in FILES {
-        let disk = swapped(rt.alloc(), places, "xyz")?;
-        sees_that(&rt, is_read(rt.alloc(), disk, path, text.as_bytes())?, path);
+fn a_file_of_another_length_is_changed_and_others_are_read(rt: HostRuntime) -> Result<(), Fail> {
+    for &(places, text, listed, wanted) in ROWS {
+        let disk = swapped(rt.alloc(), places, text)?;
+        sees_that(&rt, ends(rt.alloc(), disk, listed, wanted)?, text);
     }
     Ok(())
 }

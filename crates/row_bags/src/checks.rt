@@ -4,7 +4,7 @@ ghost use Rattle.std.specs.Option.{option_copied};
 ghost use Rattle.bag_store.specs.Tree.{Keeps};
 ghost use Rattle.row_bags.specs.Cursor.{IsCursor};
 
-use bag_report::{Fault, Options};
+use bag_report::{Fault, Options, Profile};
 use bag_store::{Tree, WriterOut};
 use bag_text::Text;
 use bag_walk::{Request, run, status};
@@ -55,6 +55,20 @@ pub fn request_of(
     Ok(request_for(alloc, options, after, limit, false)?)
 }
 
+/// The tree after a check, what it wrote, and its exit status.
+pub fn written<T: Tree + Drop>(
+    alloc: Global,
+    tree: T,
+    profile: Option<&Profile>,
+    request: Request,
+) -> (T, Vec<u8>, u8)
+    ensures { Keeps (T.state tree) (T.state result.0) }
+{
+    let mut out = WriterOut::new(Vec::<u8>::new(alloc));
+    let (tree, outcome) = run(alloc, tree, profile, request, &mut out);
+    (tree, out.into_inner(), status(&outcome))
+}
+
 /// The tree after a check, and whether it wrote this and ended with this exit status.
 pub fn after_check<T: Tree + Drop>(
     alloc: Global,
@@ -64,10 +78,11 @@ pub fn after_check<T: Tree + Drop>(
 ) -> (T, bool)
     ensures { Keeps (T.state tree) (T.state result.0) }
 {
-    let mut out = WriterOut::new(Vec::<u8>::new(alloc));
-    let (tree, outcome) = run(alloc, tree, None, request, &mut out);
-    let is_written = out.into_inner().as_slice() == wanted.0.as_bytes();
-    (tree, is_written && status(&outcome) == wanted.1)
+    let (tree, output, status) = written(alloc, tree, None, request);
+    (
+        tree,
+        output.as_slice() == wanted.0.as_bytes() && status == wanted.1,
+    )
 }
 
 /// Whether a check writes this, and ends with this exit status.

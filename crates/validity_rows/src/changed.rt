@@ -1,6 +1,9 @@
 //! Whole checks of trees that list what another tree has.
+ghost use Rattle.std.specs.Prelude.{IfOk};
+ghost use Rattle.bag_store.specs.Listing.{IsOrdered, HasItsFolder};
+
 use crate::rows::full;
-use bag_store::{MemoryTree, SkewTree, Tree};
+use bag_store::{Listing, MemoryTree, SkewTree, Tree};
 use row_bags::{DECLARED, Files, is_checked, request_of, tree_of};
 use std::alloc::Global;
 use std::process::Abort;
@@ -55,30 +58,49 @@ const ROWS: &[Row] = &[
     },
 ];
 
-/// A tree that lists what another tree has.
-fn skewed(alloc: Global, row: &Row) -> Result<SkewTree, Fail> {
-    let listing = tree_of(alloc, &[DECLARED, row.listed])?.list()?;
-    Ok(SkewTree::new(tree_of(alloc, &[DECLARED, row.bag])?, Some(listing)))
+/// The listing of a bag with these files.
+fn listing_of(alloc: Global, files: Files) -> Result<Listing, Fail>
+    ensures ordered { IfOk result (λ listing. IsOrdered listing.files) }
+    ensures data { IfOk result HasItsFolder }
+{
+    Ok(tree_of(alloc, &[DECLARED, files])?.list()?)
 }
 
-/// Whether a check writes this, with the exit status that goes with it.
-fn is_right<T: Tree + Drop>(alloc: Global, tree: T, output: &str) -> Result<bool, Fail> {
-    let status = if output.contains(" unread ") {
+/// A tree that lists what another tree has.
+fn skewed(alloc: Global, row: &Row) -> Result<SkewTree, Fail> {
+    let listing = listing_of(alloc, row.listed)?;
+    let tree = tree_of(alloc, &[DECLARED, row.bag])?;
+    Ok(SkewTree::new(tree, Some(listing)))
+}
+
+/// The exit status that goes with what is written.
+fn status_of(output: &str) -> u8 {
+    if output.contains(" unread ") {
         3
     } else if output.contains(" is valid") {
         0
     } else {
         1
-    };
+    }
+}
+
+/// Whether a check writes this, with the exit status that goes with it.
+fn is_right(alloc: Global, tree: SkewTree, output: &str) -> Result<bool, Fail> {
+    let status = status_of(output);
     let request = request_of(alloc, full(false), None, None)?;
     Ok(is_checked(alloc, tree, request, output, status))
+}
+
+/// Whether a check of a row's tree writes what the row says.
+fn is_row_right(alloc: Global, row: &Row) -> Result<bool, Fail> {
+    let tree = skewed(alloc, row)?;
+    is_right(alloc, tree, row.output)
 }
 
 #[test]
 fn files_of_another_size(rt: HostRuntime) -> Result<(), Fail> {
     for (place, row) in ROWS.iter().enumerate() {
-        let tree = skewed(rt.alloc(), row)?;
-        assert!(rt; is_right(rt.alloc(), tree, row.output)?, "row {place}");
+        assert!(rt; is_row_right(rt.alloc(), row)?, "row {place}");
     }
     Ok(())
 }

@@ -1,17 +1,11 @@
 //! Bags, and what a whole check of them writes that has a cursor or a limit.
 use crate::rows::Row;
-use row_bags::DECLARED;
+use row_bags::{DECLARED, UNREAD_LINES, WRONG_DIGESTS};
 
 pub(crate) const ROWS: &[Row] = &[
     // up to two faults
     Row {
-        bag: &[
-            DECLARED,
-            &[(
-                "manifest-md5.txt",
-                b"d41d8cd98f00b204e9800998ecf8427e  data/%41\nd41d8cd98f00b204e9800998ecf8427e  data/../x\nd41d8cd98f00b204e9800998ecf8427e  /etc/x\nd41d8cd98f00b204e9800998ecf8427e  data\n",
-            )],
-        ],
+        bag: UNREAD_LINES,
         clashes: false,
         after: None,
         limit: Some(2),
@@ -23,13 +17,7 @@ d stopped, faults: 2\n",
     },
     // up to as many faults as there are
     Row {
-        bag: &[
-            DECLARED,
-            &[(
-                "manifest-md5.txt",
-                b"d41d8cd98f00b204e9800998ecf8427e  data/%41\nd41d8cd98f00b204e9800998ecf8427e  data/../x\nd41d8cd98f00b204e9800998ecf8427e  /etc/x\nd41d8cd98f00b204e9800998ecf8427e  data\n",
-            )],
-        ],
+        bag: UNREAD_LINES,
         clashes: false,
         after: None,
         limit: Some(4),
@@ -43,13 +31,7 @@ d stopped, faults: 4\n",
     },
     // none are asked for
     Row {
-        bag: &[
-            DECLARED,
-            &[(
-                "manifest-md5.txt",
-                b"d41d8cd98f00b204e9800998ecf8427e  data/%41\nd41d8cd98f00b204e9800998ecf8427e  data/../x\nd41d8cd98f00b204e9800998ecf8427e  /etc/x\nd41d8cd98f00b204e9800998ecf8427e  data\n",
-            )],
-        ],
+        bag: UNREAD_LINES,
         clashes: false,
         after: None,
         limit: Some(0),
@@ -59,20 +41,7 @@ d stopped, faults: 4\n",
     },
     // above the first
     Row {
-        bag: &[
-            DECLARED,
-            &[
-                ("data/x", b"a"),
-                (
-                    "manifest-md5.txt",
-                    b"900150983cd24fb0d6963f7d28e17f72  data/x\n",
-                ),
-                (
-                    "manifest-sha1.txt",
-                    b"a9993e364706816aba3e25717850c26c9cd0d89d  data/x\n",
-                ),
-            ],
-        ],
+        bag: WRONG_DIGESTS,
         clashes: false,
         after: Some(
             "701 payload-sum-differs data/x md5 - 900150983cd24fb0d6963f7d28e17f72:0cc175b9c0f1b6a831c399e269772661",
@@ -85,20 +54,7 @@ d rest done, faults: 1\n",
     },
     // above the last
     Row {
-        bag: &[
-            DECLARED,
-            &[
-                ("data/x", b"a"),
-                (
-                    "manifest-md5.txt",
-                    b"900150983cd24fb0d6963f7d28e17f72  data/x\n",
-                ),
-                (
-                    "manifest-sha1.txt",
-                    b"a9993e364706816aba3e25717850c26c9cd0d89d  data/x\n",
-                ),
-            ],
-        ],
+        bag: WRONG_DIGESTS,
         clashes: false,
         after: Some(
             "701 payload-sum-differs data/x sha1 - a9993e364706816aba3e25717850c26c9cd0d89d:86f7e437faa5a7fce15d1ddcb9eaeaea377667b8",

@@ -9,8 +9,8 @@ use std::test::Fail;
 
 /// Whether a check of a folder with the row's bag writes what the row says, and ends with its exit status.
 fn is_right(rt: &HostRuntime, base: &str, row: &Row) -> Result<bool, Fail> {
-    let request = request_of(rt.alloc(), full(row.clashes), row.after, row.limit)?;
     let tree = FileTree::at(rt.clone()?, rt.alloc(), base)?;
+    let request = request_of(rt.alloc(), full(row.clashes), row.after, row.limit)?;
     Ok(is_checked(rt.alloc(), tree, request, row.output, row.status))
 }
 
@@ -31,12 +31,27 @@ fn sees_rows(abort: &impl Abort, rt: &HostRuntime, test: &str, rows: &[Row]) -> 
 }
 
 #[test]
-fn bags_on_the_disk(rt: HostRuntime) -> Result<(), Fail> {
-    sees_rows(&rt, &rt, "whole", tables::ROWS)
+fn declarations_on_the_disk(rt: HostRuntime) -> Result<(), Fail> {
+    sees_rows(&rt, &rt, "declarations", tables::DECLARATIONS)
 }
 
 #[test]
-fn bags_with_tag_manifests_on_the_disk(rt: HostRuntime) -> Result<(), Fail> {
+fn lines_of_tag_files_on_the_disk(rt: HostRuntime) -> Result<(), Fail> {
+    sees_rows(&rt, &rt, "lines", tables::LINES)
+}
+
+#[test]
+fn names_of_files_on_the_disk(rt: HostRuntime) -> Result<(), Fail> {
+    sees_rows(&rt, &rt, "names", tables::NAMES)
+}
+
+#[test]
+fn digests_of_files_on_the_disk(rt: HostRuntime) -> Result<(), Fail> {
+    sees_rows(&rt, &rt, "digests", tables::DIGESTS)
+}
+
+#[test]
+fn tag_manifests_on_the_disk(rt: HostRuntime) -> Result<(), Fail> {
     sees_rows(&rt, &rt, "tagged", tag_files::ROWS)
 }
 

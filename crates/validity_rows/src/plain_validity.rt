@@ -1,8 +1,7 @@
 //! Generated bags, and what a plain check of digests finds: for each file and each manifest it looks at every line.
 use crate::rows::full;
-use bag_store::{MemoryTree, WriterOut};
-use bag_walk::run;
-use row_bags::{DECLARATION, mixed, put, request_of};
+use bag_store::MemoryTree;
+use row_bags::{DECLARATION, mixed, put, request_of, written};
 use std::alloc::{AllocError, Global};
 use std::process::Abort;
 use std::test::Fail;
@@ -102,16 +101,9 @@ fn write_line(
     expected: usize,
     found: usize,
 ) -> Result<(), AllocError> {
-    text.push_str(manifest.front)?;
-    text.push_str(path)?;
-    text.push_str(" ")?;
-    text.push_str(manifest.alg)?;
-    text.push_str(" - ")?;
-    text.push_str(manifest.digests[expected % 3])?;
-    text.push_str(":")?;
-    text.push_str(manifest.digests[found % 3])?;
-    text.push_str("\n")?;
-    Ok(())
+    let (front, alg) = (manifest.front, manifest.alg);
+    let (wanted, digest) = (manifest.digests[expected % 3], manifest.digests[found % 3]);
+    write!(text, "{front}{path} {alg} - {wanted}:{digest}\n")
 }
 
 /// Writes the lines of a path, as each manifest is looked at.
@@ -144,9 +136,8 @@ fn text_of(alloc: Global, bag: u64, manifest: &Manifest) -> Result<String, Alloc
     let mut text = String::new(alloc);
     for path in PATHS {
         if let Some(place) = given(bag, manifest, path) {
-            for piece in [manifest.digests[place % 3], "  ", path, "\n"] {
-                text.push_str(piece)?;
-            }
+            let digest = manifest.digests[place % 3];
+            write!(text, "{digest}  {path}\n")?;
         }
     }
     Ok(text)
@@ -163,11 +154,8 @@ fn put_files(tree: &mut MemoryTree, bag: u64) -> Result<(), Fail> {
 
 fn put_manifests(alloc: Global, tree: &mut MemoryTree, bag: u64) -> Result<(), Fail> {
     for manifest in MANIFESTS {
-        put(
-            tree,
-            manifest.file,
-            text_of(alloc, bag, manifest)?.as_bytes(),
-        )?;
+        let text = text_of(alloc, bag, manifest)?;
+        put(tree, manifest.file, text.as_bytes())?;
     }
     Ok(())
 }
@@ -177,20 +165,31 @@ fn lines_of_seven(alloc: Global, report: &str) -> Result<String, AllocError> {
     let mut text = String::new(alloc);
     for line in report.lines() {
         if line.starts_with("70") {
-            text.push_str(line)?;
-            text.push_str("\n")?;
+            write!(text, "{line}\n")?;
         }
     }
     Ok(text)
 }
 
-/// Whether a check of the bag of a number finds what is found plainly.
-fn is_found(alloc: Global, tree: MemoryTree, bag: u64) -> Result<bool, Fail> {
-    let mut out = WriterOut::new(Vec::<u8>::new(alloc));
+/// The bag of a number.
+fn tree_of(alloc: Global, bag: u64) -> Result<MemoryTree, Fail> {
+    let mut tree = MemoryTree::new(alloc);
+    put_files(&mut tree, bag)?;
+    put_manifests(alloc, &mut tree, bag)?;
+    Ok(tree)
+}
+
+/// What a check of the bag of a number writes.
+fn report_of(alloc: Global, bag: u64) -> Result<String, Fail> {
+    let tree = tree_of(alloc, bag)?;
     let request = request_of(alloc, full(false), None, None)?;
-    let (_tree, _outcome) = run(alloc, tree, None, request, &mut out);
-    let report = String::from_utf8(out.into_inner())?;
-    let found = lines_of_seven(alloc, report.as_str())?;
+    let (_tree, output, _status) = written(alloc, tree, None, request);
+    Ok(String::from_utf8(output)?)
+}
+
+/// Whether a check of the bag of a number finds what is found plainly.
+fn is_found(alloc: Global, bag: u64) -> Result<bool, Fail> {
+    let found = lines_of_seven(alloc, report_of(alloc, bag)?.as_str())?;
     Ok(found == plain_lines(alloc, bag)?)
 }
 
@@ -200,10 +199,7 @@ const BAGS: u64 = 300;
 #[test]
 fn finds_what_a_plain_check_finds(rt: HostRuntime) -> Result<(), Fail> {
     for bag in 0..BAGS {
-        let mut tree = MemoryTree::new(rt.alloc());
-        put_files(&mut tree, bag)?;
-        put_manifests(rt.alloc(), &mut tree, bag)?;
-        assert!(rt; is_found(rt.alloc(), tree, bag)?, "bag {bag}");
+        assert!(rt; is_found(rt.alloc(), bag)?, "bag {bag}");
     }
     Ok(())
 }

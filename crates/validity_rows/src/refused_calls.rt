@@ -1,9 +1,10 @@
 //! Whole checks of trees of which one call is refused, each call in turn, and of one whose listing is of another time.
 use crate::rows::full;
-use bag_store::{FailTree, WriterOut};
-use bag_walk::run;
-use row_bags::{DECLARED, Files, request_of, tree_of};
-use std::alloc::Global;
+use bag_store::{FailTree, MemoryTree};
+use row_bags::{
+    DECLARED, Files, NAMED_ONCE, TAG_NAMES, WRONG_DIGESTS, request_of, tree_of, written,
+};
+use std::alloc::{AllocError, Global};
 use std::process::Abort;
 use std::test::Fail;
 
@@ -20,20 +21,7 @@ struct Row {
 
 const ROWS: &[Row] = &[
     Row {
-        bag: &[
-            DECLARED,
-            &[
-                ("data/x", b"a"),
-                (
-                    "manifest-md5.txt",
-                    b"900150983cd24fb0d6963f7d28e17f72  data/x\n",
-                ),
-                (
-                    "manifest-sha1.txt",
-                    b"a9993e364706816aba3e25717850c26c9cd0d89d  data/x\n",
-                ),
-            ],
-        ],
+        bag: WRONG_DIGESTS,
         read: &["-", "bagit.txt", "manifest-md5.txt", "manifest-sha1.txt"],
         early: "",
         early_count: 0,
@@ -43,18 +31,7 @@ const ROWS: &[Row] = &[
                  d has faults: 2\n",
     },
     Row {
-        bag: &[
-            DECLARED,
-            &[
-                ("data/a", b"a"),
-                (
-                    "manifest-md5.txt",
-                    b"0cc175b9c0f1b6a831c399e269772661  data/a\n",
-                ),
-                ("manifest-sha1.txt", b""),
-                ("manifest-sha256.txt", b""),
-            ],
-        ],
+        bag: NAMED_ONCE,
         read: &[
             "-",
             "bagit.txt",
@@ -71,18 +48,7 @@ const ROWS: &[Row] = &[
                  d has faults: 2\n",
     },
     Row {
-        bag: &[
-            DECLARED,
-            &[
-                ("manifest-md5.txt", b""),
-                (
-                    "tagmanifest-md5.txt",
-                    b"d41d8cd98f00b204e9800998ecf8427e  data/a\n\
-                      d41d8cd98f00b204e9800998ecf8427e  tagmanifest-sha1.txt\n\
-                      d41d8cd98f00b204e9800998ecf8427e  notes.txt\n",
-                ),
-            ],
-        ],
+        bag: TAG_NAMES,
         read: &["-", "bagit.txt", "manifest-md5.txt", "tagmanifest-md5.txt"],
         early: "",
         early_count: 0,
@@ -139,32 +105,40 @@ const ROWS: &[Row] = &[
     },
 ];
 
+/// The tree of a row, of which the call of a number is refused.
+fn refusing(alloc: Global, row: &Row, call: u64) -> Result<FailTree<MemoryTree>, Fail> {
+    Ok(FailTree::new(tree_of(alloc, row.bag)?, call))
+}
+
 /// What is written where the call of a number is refused.
 fn output_of(alloc: Global, row: &Row, call: u64) -> Result<String, Fail> {
-    let mut out = WriterOut::new(Vec::<u8>::new(alloc));
+    let tree = refusing(alloc, row, call)?;
     let request = request_of(alloc, full(false), None, None)?;
-    let tree = FailTree::new(tree_of(alloc, row.bag)?, call);
-    let (_tree, _outcome) = run(alloc, tree, None, request, &mut out);
-    Ok(String::from_utf8(out.into_inner())?)
+    let (_tree, output, _status) = written(alloc, tree, None, request);
+    Ok(String::from_utf8(output)?)
 }
 
 /// What is written where the device fails at the place of this number among the files that are read and summed; nothing is
 /// wanted behind the last.
-fn wanted_at(alloc: Global, row: &Row, place: usize) -> Result<String, Fail> {
-    let count = row.early_count;
-    if place < row.read.len() {
-        Ok(format!(in alloc; "d unread {} device, faults: 0\n", row.read[place])?)
-    } else if place - row.read.len() < row.summed.len() {
-        let path = row.summed[place - row.read.len()];
-        let early = row.early;
-        Ok(format!(in alloc; "{early}d unread {path} device, faults: {count}\n")?)
+fn wanted_at(alloc: Global, row: &Row, place: usize) -> Result<String, AllocError> {
+    let (early, count, path) = if place < row.read.len() {
+        ("", 0, row.read[place])
     } else {
-        Ok(String::new(alloc))
-    }
+        match row.summed.get(place - row.read.len()) {
+            Some(path) => (row.early, row.early_count, *path),
+            None => return Ok(String::new(alloc)),
+        }
+    };
+    format!(in alloc; "{early}d unread {path} device, faults: {count}\n")
 }
 
 /// Whether a check writes that the device failed at this place, or at the next one.
-fn next_place(alloc: Global, row: &Row, place: usize, output: &str) -> Result<Option<usize>, Fail> {
+fn next_place(
+    alloc: Global,
+    row: &Row,
+    place: usize,
+    output: &str,
+) -> Result<Option<usize>, AllocError> {
     for next in [place, place.saturating_add(1)] {
         if wanted_at(alloc, row, next)?.as_str() == output {
             return Ok(Some(next));
@@ -193,12 +167,16 @@ fn is_told(alloc: Global, row: &Row) -> Result<bool, Fail> {
     Ok(false)
 }
 
+/// Whether a check writes what the row says where no call is refused.
+fn is_right(alloc: Global, row: &Row) -> Result<bool, Fail> {
+    Ok(output_of(alloc, row, 0)?.as_str() == row.output)
+}
+
 #[test]
 fn each_refused_call(rt: HostRuntime) -> Result<(), Fail> {
     for (place, row) in ROWS.iter().enumerate() {
         assert!(rt; is_told(rt.alloc(), row)?, "row {place}");
-        let whole = output_of(rt.alloc(), row, 0)?;
-        assert!(rt; whole.as_str() == row.output, "row {place}");
+        assert!(rt; is_right(rt.alloc(), row)?, "row {place}");
     }
     Ok(())
 }

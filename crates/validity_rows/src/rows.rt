@@ -58,12 +58,27 @@ fn sees_rows(rt: &impl Abort, alloc: Global, rows: &[Row]) -> Result<(), Fail> {
 }
 
 #[test]
-fn bags(rt: HostRuntime) -> Result<(), Fail> {
-    sees_rows(&rt, rt.alloc(), tables::ROWS)
+fn declarations(rt: HostRuntime) -> Result<(), Fail> {
+    sees_rows(&rt, rt.alloc(), tables::DECLARATIONS)
 }
 
 #[test]
-fn bags_with_tag_manifests(rt: HostRuntime) -> Result<(), Fail> {
+fn lines_of_tag_files(rt: HostRuntime) -> Result<(), Fail> {
+    sees_rows(&rt, rt.alloc(), tables::LINES)
+}
+
+#[test]
+fn names_of_files(rt: HostRuntime) -> Result<(), Fail> {
+    sees_rows(&rt, rt.alloc(), tables::NAMES)
+}
+
+#[test]
+fn digests_of_files(rt: HostRuntime) -> Result<(), Fail> {
+    sees_rows(&rt, rt.alloc(), tables::DIGESTS)
+}
+
+#[test]
+fn tag_manifests(rt: HostRuntime) -> Result<(), Fail> {
     sees_rows(&rt, rt.alloc(), tag_files::ROWS)
 }
 

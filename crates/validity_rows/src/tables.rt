@@ -1,8 +1,12 @@
 //! Bags, and what a whole check of them writes.
 use crate::rows::Row;
-use row_bags::DECLARED;
+use row_bags::{
+    DECLARED, ESCAPED, FETCHED, NAMED_AGAIN, NAMED_ONCE, OTHER_VERSION, TAG_NAMES, TWO_DIGESTS,
+    UNREAD_LINES, WRONG_DIGESTS,
+};
 
-pub(crate) const ROWS: &[Row] = &[
+/// Bags without files, and declarations.
+pub(crate) const DECLARATIONS: &[Row] = &[
     // an empty payload
     Row {
         bag: &[DECLARED, &[("manifest-sha256.txt", b"")]],
@@ -48,125 +52,24 @@ d has faults: 3\n",
 d has faults: 2\n",
         status: 1,
     },
-    // two algorithms, one file
+    // another version
     Row {
-        bag: &[
-            DECLARED,
-            &[
-                ("data/x", b"abc"),
-                (
-                    "manifest-md5.txt",
-                    b"900150983cd24fb0d6963f7d28e17f72  data/x\n",
-                ),
-                (
-                    "manifest-sha1.txt",
-                    b"a9993e364706816aba3e25717850c26c9cd0d89d  data/x\n",
-                ),
-            ],
-        ],
+        bag: OTHER_VERSION,
         clashes: false,
         after: None,
         limit: None,
-        opened: &["data/x"],
-        output: "d is valid\n",
-        status: 0,
-    },
-    // both digests differ
-    Row {
-        bag: &[
-            DECLARED,
-            &[
-                ("data/x", b"a"),
-                (
-                    "manifest-md5.txt",
-                    b"900150983cd24fb0d6963f7d28e17f72  data/x\n",
-                ),
-                (
-                    "manifest-sha1.txt",
-                    b"a9993e364706816aba3e25717850c26c9cd0d89d  data/x\n",
-                ),
-            ],
-        ],
-        clashes: false,
-        after: None,
-        limit: None,
-        opened: &["data/x"],
-        output: "701 payload-sum-differs data/x md5 - 900150983cd24fb0d6963f7d28e17f72:0cc175b9c0f1b6a831c399e269772661\n\
-701 payload-sum-differs data/x sha1 - a9993e364706816aba3e25717850c26c9cd0d89d:86f7e437faa5a7fce15d1ddcb9eaeaea377667b8\n\
-d has faults: 2\n",
+        opened: &[],
+        output: "105 version-unsupported bagit.txt - 1 0.97\n\
+d has faults: 1\n",
         status: 1,
     },
-    // digests and paths as other programs spell them
-    Row {
-        bag: &[
-            DECLARED,
-            &[
-                ("data/a", b"a"),
-                ("data/b", b"b"),
-                (
-                    "manifest-md5.txt",
-                    b"0CC175B9C0F1B6A831C399E269772661 *data/a\r92eb5ffee6ae2fec3ad71c777531578f\t./data/b",
-                ),
-            ],
-        ],
-        clashes: false,
-        after: None,
-        limit: None,
-        opened: &["data/a", "data/b"],
-        output: "d is valid\n",
-        status: 0,
-    },
-    // a path that is spelled
-    Row {
-        bag: &[
-            DECLARED,
-            &[
-                ("data/a\nb%", b""),
-                (
-                    "manifest-md5.txt",
-                    b"d41d8cd98f00b204e9800998ecf8427e  data/a%0Ab%25\n",
-                ),
-            ],
-        ],
-        clashes: false,
-        after: None,
-        limit: None,
-        opened: &["data/a\nb%"],
-        output: "d is valid\n",
-        status: 0,
-    },
-    // a file that some manifests do not name
-    Row {
-        bag: &[
-            DECLARED,
-            &[
-                ("data/a", b"a"),
-                (
-                    "manifest-md5.txt",
-                    b"0cc175b9c0f1b6a831c399e269772661  data/a\n",
-                ),
-                ("manifest-sha1.txt", b""),
-                ("manifest-sha256.txt", b""),
-            ],
-        ],
-        clashes: false,
-        after: None,
-        limit: None,
-        opened: &["data/a"],
-        output: "603 payload-file-not-listed data/a sha1 - -\n\
-603 payload-file-not-listed data/a sha256 - -\n\
-d has faults: 2\n",
-        status: 1,
-    },
+];
+
+/// Lines of tag files.
+pub(crate) const LINES: &[Row] = &[
     // lines that do not read
     Row {
-        bag: &[
-            DECLARED,
-            &[(
-                "manifest-md5.txt",
-                b"d41d8cd98f00b204e9800998ecf8427e  data/%41\nd41d8cd98f00b204e9800998ecf8427e  data/../x\nd41d8cd98f00b204e9800998ecf8427e  /etc/x\nd41d8cd98f00b204e9800998ecf8427e  data\n",
-            )],
-        ],
+        bag: UNREAD_LINES,
         clashes: false,
         after: None,
         limit: None,
@@ -204,21 +107,58 @@ d has faults: 4\n",
 d has faults: 2\n",
         status: 1,
     },
-    // another version
+    // files to fetch
     Row {
-        bag: &[&[
-            (
-                "bagit.txt",
-                b"BagIt-Version: 0.97\nTag-File-Character-Encoding: UTF-8\n",
-            ),
-            ("manifest-sha256.txt", b""),
-        ]],
+        bag: FETCHED,
+        clashes: false,
+        after: None,
+        limit: None,
+        opened: &["data/a"],
+        output: "401 fetch-line fetch.txt - 2 -\n\
+401 fetch-line fetch.txt - 3 -\n\
+404 fetch-outside-payload fetch.txt - 4 bagit.txt\n\
+405 fetch-not-in-manifest fetch.txt md5 5 data/e\n\
+d has faults: 4\n",
+        status: 1,
+    },
+    // paths that a tag manifest may not name, and one that is not there
+    Row {
+        bag: TAG_NAMES,
         clashes: false,
         after: None,
         limit: None,
         opened: &[],
-        output: "105 version-unsupported bagit.txt - 1 0.97\n\
-d has faults: 1\n",
+        output: "509 payload-manifest-not-listed tagmanifest-md5.txt md5 - manifest-md5.txt\n\
+506 tagmanifest-names-payload tagmanifest-md5.txt md5 1 data/a\n\
+507 tagmanifest-names-tagmanifest tagmanifest-md5.txt md5 2 tagmanifest-sha1.txt\n\
+602 tag-file-missing notes.txt md5 - -\n\
+d has faults: 4\n",
+        status: 1,
+    },
+];
+
+/// Names of payload files.
+pub(crate) const NAMES: &[Row] = &[
+    // a path that is spelled
+    Row {
+        bag: ESCAPED,
+        clashes: false,
+        after: None,
+        limit: None,
+        opened: &["data/a\nb%"],
+        output: "d is valid\n",
+        status: 0,
+    },
+    // a file that some manifests do not name
+    Row {
+        bag: NAMED_ONCE,
+        clashes: false,
+        after: None,
+        limit: None,
+        opened: &["data/a"],
+        output: "603 payload-file-not-listed data/a sha1 - -\n\
+603 payload-file-not-listed data/a sha256 - -\n\
+d has faults: 2\n",
         status: 1,
     },
     // names that clash, unasked
@@ -264,13 +204,7 @@ d has faults: 1\n",
     },
     // a path that is named again, and is not there
     Row {
-        bag: &[
-            DECLARED,
-            &[(
-                "manifest-md5.txt",
-                b"d41d8cd98f00b204e9800998ecf8427e  data/a\n0cc175b9c0f1b6a831c399e269772661  data/a\nd41d8cd98f00b204e9800998ecf8427e  data/a\n",
-            )],
-        ],
+        bag: NAMED_AGAIN,
         clashes: false,
         after: None,
         limit: None,
@@ -279,77 +213,6 @@ d has faults: 1\n",
 508 named-again manifest-md5.txt md5 3 data/a\n\
 601 payload-file-missing data/a md5 - -\n\
 d has faults: 3\n",
-        status: 1,
-    },
-    // a path that is named again, and its first digest differs
-    Row {
-        bag: &[
-            DECLARED,
-            &[
-                ("data/a", b"a"),
-                (
-                    "manifest-md5.txt",
-                    b"92eb5ffee6ae2fec3ad71c777531578f  data/a\n0cc175b9c0f1b6a831c399e269772661  data/a\n",
-                ),
-            ],
-        ],
-        clashes: false,
-        after: None,
-        limit: None,
-        opened: &["data/a"],
-        output: "508 named-again manifest-md5.txt md5 2 data/a\n\
-701 payload-sum-differs data/a md5 - 92eb5ffee6ae2fec3ad71c777531578f:0cc175b9c0f1b6a831c399e269772661\n\
-d has faults: 2\n",
-        status: 1,
-    },
-    // files to fetch
-    Row {
-        bag: &[
-            DECLARED,
-            &[
-                ("data/a", b""),
-                (
-                    "manifest-md5.txt",
-                    b"d41d8cd98f00b204e9800998ecf8427e  data/a\n",
-                ),
-                (
-                    "fetch.txt",
-                    b"http://h/a - data/a\nhttp://h/b 3\nhttp://h/c x data/c\nhttp://h/d 0 bagit.txt\nhttp://h/e 5 data/e\n",
-                ),
-            ],
-        ],
-        clashes: false,
-        after: None,
-        limit: None,
-        opened: &["data/a"],
-        output: "401 fetch-line fetch.txt - 2 -\n\
-401 fetch-line fetch.txt - 3 -\n\
-404 fetch-outside-payload fetch.txt - 4 bagit.txt\n\
-405 fetch-not-in-manifest fetch.txt md5 5 data/e\n\
-d has faults: 4\n",
-        status: 1,
-    },
-    // paths that a tag manifest may not name, and one that is not there
-    Row {
-        bag: &[
-            DECLARED,
-            &[
-                ("manifest-md5.txt", b""),
-                (
-                    "tagmanifest-md5.txt",
-                    b"d41d8cd98f00b204e9800998ecf8427e  data/a\nd41d8cd98f00b204e9800998ecf8427e  tagmanifest-sha1.txt\nd41d8cd98f00b204e9800998ecf8427e  notes.txt\n",
-                ),
-            ],
-        ],
-        clashes: false,
-        after: None,
-        limit: None,
-        opened: &[],
-        output: "509 payload-manifest-not-listed tagmanifest-md5.txt md5 - manifest-md5.txt\n\
-506 tagmanifest-names-payload tagmanifest-md5.txt md5 1 data/a\n\
-507 tagmanifest-names-tagmanifest tagmanifest-md5.txt md5 2 tagmanifest-sha1.txt\n\
-602 tag-file-missing notes.txt md5 - -\n\
-d has faults: 4\n",
         status: 1,
     },
     // a file that no manifest names is not opened
@@ -371,6 +234,73 @@ d has faults: 4\n",
         opened: &["data/b"],
         output: "603 payload-file-not-listed data/a md5 - -\n\
 d has faults: 1\n",
+        status: 1,
+    },
+];
+
+/// Digests of payload files.
+pub(crate) const DIGESTS: &[Row] = &[
+    // two algorithms, one file
+    Row {
+        bag: TWO_DIGESTS,
+        clashes: false,
+        after: None,
+        limit: None,
+        opened: &["data/x"],
+        output: "d is valid\n",
+        status: 0,
+    },
+    // both digests differ
+    Row {
+        bag: WRONG_DIGESTS,
+        clashes: false,
+        after: None,
+        limit: None,
+        opened: &["data/x"],
+        output: "701 payload-sum-differs data/x md5 - 900150983cd24fb0d6963f7d28e17f72:0cc175b9c0f1b6a831c399e269772661\n\
+701 payload-sum-differs data/x sha1 - a9993e364706816aba3e25717850c26c9cd0d89d:86f7e437faa5a7fce15d1ddcb9eaeaea377667b8\n\
+d has faults: 2\n",
+        status: 1,
+    },
+    // digests and paths as other programs spell them
+    Row {
+        bag: &[
+            DECLARED,
+            &[
+                ("data/a", b"a"),
+                ("data/b", b"b"),
+                (
+                    "manifest-md5.txt",
+                    b"0CC175B9C0F1B6A831C399E269772661 *data/a\r92eb5ffee6ae2fec3ad71c777531578f\t./data/b",
+                ),
+            ],
+        ],
+        clashes: false,
+        after: None,
+        limit: None,
+        opened: &["data/a", "data/b"],
+        output: "d is valid\n",
+        status: 0,
+    },
+    // a path that is named again, and its first digest differs
+    Row {
+        bag: &[
+            DECLARED,
+            &[
+                ("data/a", b"a"),
+                (
+                    "manifest-md5.txt",
+                    b"92eb5ffee6ae2fec3ad71c777531578f  data/a\n0cc175b9c0f1b6a831c399e269772661  data/a\n",
+                ),
+            ],
+        ],
+        clashes: false,
+        after: None,
+        limit: None,
+        opened: &["data/a"],
+        output: "508 named-again manifest-md5.txt md5 2 data/a\n\
+701 payload-sum-differs data/a md5 - 92eb5ffee6ae2fec3ad71c777531578f:0cc175b9c0f1b6a831c399e269772661\n\
+d has faults: 2\n",
         status: 1,
     },
     // each algorithm that differs, with the digest in lower case

@@ -1,6 +1,7 @@
-use Rattle.std.proofs.Common.{arith}
-use Rattle.std.proofs.lemmas.Grind.{common_steps}
+use Rattle.std.proofs.Common.{◌∙◌}
+use Rattle.std.proofs.lemmas.Result.{IfOk-weaker}
+use Rattle.bag_conformance.proofs.RulesInTurn.{later_repeated}
 use Rattle.bag_conformance.proofs.label_rule.repeated_faults.Goals as goal
 
 pub returns : goal.returns
-returns c = grind (arith, common_steps)
+returns c = IfOk-weaker c.later_faults.result _ _ (λ faults is. is ∙ later_repeated c.args.rule.now c.args.found.now c.if-rule.false) c.later_faults.ensures

@@ -7,13 +7,13 @@ use Rattle.bag_memory_disk.proofs.HeldMoved.{others_stay}
 use Rattle.bag_memory_disk.proofs.Placed.{disk_passes}
 use Rattle.bag_memory_disk.proofs.memory_disk.MemoryDiskWritableDisk.rename.Goals as goal
 
-pub invariant_of-self : goal.invariant_of-self
-invariant_of-self c = record { passes = disk_passes (nodes_of c.in_ok-moved.moved.entries) (c.are_placed.ensures.0 c.if-not-are_placed.false) }
+pub invariant_of-self-2 : goal.invariant_of-self-2
+invariant_of-self-2 c = record { passes = disk_passes (nodes_of c.in-Ok.moved.entries) c.in-Ok.ensures.disk }
 
 pub returns-clause-others : goal.returns-clause-others
 returns-clause-others c _ _ _ =
     let nodes = nodes_of c.args.self.now.nodes.entries in
-    let new = nodes_of c.in_ok-moved.moved.entries in
+    let new = nodes_of c.in-Ok.moved.entries in
     let free : node nodes c.args.to.now ≡ None = grind (arith, common_steps) in
     let made : new ≡ moved c.args.from.now c.args.to.now nodes = grind (arith, common_steps) in
     others_stay nodes new c.args.from.now c.args.to.now c.args.self.now.passes free made

@@ -1,0 +1,3 @@
+pub mod Contents
+pub mod Made
+pub mod Valid

@@ -1,0 +1,101 @@
+-- What a listing says of a bag that it is of, and of the steps that are planned by it.
+use Rattle.std.proofs.Common.{◌≡◌, inl, inr, ◌||◌, ℕ, Bool, true, false, cond, List, [], ◌∷◌, ◌++◌, length, map, All, Contains, refl, ap, sym, ◌∙◌, subst}
+use Rattle.std.specs.List.{list_any}
+use Rattle.std.specs.Ordering.{eq_by_cmp}
+use Rattle.std.proofs.lemmas.Bool.{false≢true}
+use Rattle.std.proofs.lemmas.List.Elements.{All-nil, All-cons}
+use Rattle.bag_text.specs.Path.{is_base_name, is_path, first_component, under}
+use Rattle.bag_text.specs.Text.{text_cmp}
+use Rattle.bag_text.proofs.ListOf.{contains_cases, contains_first, contains_behind, contains_nothing, contains_either}
+use Rattle.bag_line.proofs.PickedOut.{any_from}
+use Rattle.bag_tree.specs.Bag.{Bag, files_of, has_folder}
+use Rattle.bag_tree.specs.Listing.{IsListingOf, IsOrdered}
+use Rattle.bag_tree.specs.declared.listing.FileEntry.{FileEntry}
+use Rattle.bag_tree.specs.declared.listing.Listing.{Listing}
+use Rattle.bag_tree.proofs.ListingLaw.{listings_are_of_the_bag}
+use Rattle.bag_tree.proofs.SameText.{text_itself}
+use Rattle.bag_facts.proofs.Mapped.{contains_mapped}
+use Rattle.bag_write_tree.specs.Steps.{is_within}
+use Rattle.bag_write_tree.proofs.Within.{itself_within, under_within}
+use Rattle.bag_made.specs.Made.{File, data_folder}
+use Rattle.bag_make.specs.Plan.{is_in_the_way, in_order, tops, listed_tops, has_new, steps_for, new_file}
+use Rattle.bag_make.specs.Steps.{new_folder, IsStep}
+use Rattle.bag_make.specs.declared.step.Step.{Step}
+use Rattle.bag_make.specs.declared.step.Step.TheVariants.{MakeFolder, MoveIn, Rename}
+use Rattle.bag_make.proofs.FirstParts.{first_is_name, parts}
+use Rattle.bag_make.proofs.Placed.{IsTop}
+use Rattle.bag_make.proofs.TopsInOrder.{listed_in_order}
+
+abbrev entry_of : File → FileEntry
+entry_of e = record { path = e.0; size = length e.1 }
+
+any_entry : (es : List File) → list_any (λ (entry : FileEntry). is_within new_folder entry.path) (map entry_of es) ≡ list_any (λ (e : File). is_within new_folder e.0) es
+any_entry [] = refl
+any_entry (e ∷ es) = ap (λ b. is_within new_folder e.0 || b) (any_entry es)
+
+-- what stands in the way of it stands in the way of the bag
+pub has_new_is : (bag : Bag) (listing : Listing) → IsOrdered listing.files → IsListingOf bag listing → has_new listing ≡ is_in_the_way bag
+has_new_is bag listing ordered listed = ap (list_any (λ (entry : FileEntry). is_within new_folder entry.path)) (listings_are_of_the_bag bag listing ordered listed) ∙ any_entry (files_of bag)
+
+abbrev first_of : FileEntry → List ℕ
+first_of entry = first_component entry.path
+
+firsts_of : (es : List File) → map first_of (map entry_of es) ≡ map (λ (e : File). first_component e.0) es
+firsts_of [] = refl
+firsts_of (e ∷ es) = ap (λ names. first_component e.0 ∷ names) (firsts_of es)
+
+abbrev data_where : Bool → List (List ℕ)
+data_where has_data = cond has_data (data_folder ∷ []) []
+
+-- what is moved of it is moved of the bag
+pub tops_are : (bag : Bag) (listing : Listing) → IsOrdered listing.files → IsListingOf bag listing → listed_tops listing ≡ tops (files_of bag) (has_folder bag data_folder)
+tops_are bag listing ordered listed =
+    ap (λ files. in_order (map first_of files ++ data_where listing.has_data)) (listings_are_of_the_bag bag listing ordered listed)
+    ∙ ap (λ names. in_order (names ++ data_where listing.has_data)) (firsts_of (files_of bag))
+    ∙ ap (λ b. in_order (map (λ (e : File). first_component e.0) (files_of bag) ++ data_where b)) listed.has_data
+
+-- a name that is moved is a name, and not that of the folder that is made
+data_is_top : IsTop data_folder
+data_is_top = (refl, λ same. let clash : false ≡ true = ap (λ t. eq_by_cmp text_cmp t new_folder) same ∙ text_itself new_folder in false≢true clash)
+
+data_top : (b : Bool) (t : List ℕ) → Contains (data_where b) t → IsTop t
+data_top true t has = elim (contains_cases data_folder [] t has) [ inl same ↦ subst IsTop same data_is_top | inr none ↦ absurd (contains_nothing t none) ]
+data_top false t has = absurd (contains_nothing t has)
+
+first_top : (path : List ℕ) → is_path path ≡ true → is_within new_folder path ≡ false → IsTop (first_component path)
+first_top path is outside = (
+  first_is_name path is,
+  λ new. false≢true (sym outside ∙ elim (parts path) [
+    | inl same ↦ ap (is_within new_folder) (same ∙ new) ∙ itself_within new_folder
+    | inr more ↦ ap (is_within new_folder) (more.1 ∙ ap (λ f. under f more.0) new) ∙ under_within new_folder more.0
+  ]),
+)
+
+test_false : (b : Bool) → (b ≡ true → ⊥) → b ≡ false
+test_false true h = absurd (h refl)
+test_false false h = refl
+
+pub top_is : (listing : Listing) → ((entry : FileEntry) → Contains listing.files entry → is_path entry.path ≡ true) → has_new listing ≡ false → (t : List ℕ) → Contains (listed_tops listing) t → IsTop t
+top_is listing paths free t has =
+    elim (contains_either (map first_of listing.files) (data_where listing.has_data) t (((listed_in_order (map first_of listing.files ++ data_where listing.has_data)).members t).0 has)) [
+      | inl a ↦
+          let entry = contains_mapped first_of listing.files t a in
+          subst IsTop entry.2 (first_top entry.0.path (paths entry.0 entry.1)
+          (test_false (is_within new_folder entry.0.path) (λ within. false≢true (sym free ∙ any_from (λ (entry : FileEntry). is_within new_folder entry.path) listing.files entry.0 entry.1 within))))
+      | inr b ↦ data_top listing.has_data t b
+    ]
+
+files_fit : (files : List File) → ((e : File) → Contains files e → is_base_name e.0 ≡ true) → All IsStep (map new_file files)
+files_fit [] names = All-nil IsStep
+files_fit (e ∷ files) names = All-cons IsStep (new_file e) (map new_file files) (names e (contains_first e files)) (files_fit files (λ x has. names x (contains_behind e files x has)))
+
+moves_fit : (tops : List (List ℕ)) (steps : List Step) → ((t : List ℕ) → Contains tops t → IsTop t) → All IsStep steps → All IsStep (map MoveIn tops ++ steps)
+moves_fit [] steps names more = more
+moves_fit (t ∷ tops) steps names more =
+    All-cons IsStep (MoveIn t) (map MoveIn tops ++ steps) (names t (contains_first t tops)) (moves_fit tops steps (λ x has. names x (contains_behind t tops x has)) more)
+
+-- such steps can be taken
+pub steps_fit : (tops : List (List ℕ)) (files : List File) → ((t : List ℕ) → Contains tops t → IsTop t) → ((e : File) → Contains files e → is_base_name e.0 ≡ true) → All IsStep (steps_for tops files)
+steps_fit tops files names file_names =
+    All-cons IsStep MakeFolder (map MoveIn tops ++ Rename ∷ map new_file files) tt
+    (moves_fit tops (Rename ∷ map new_file files) names (All-cons IsStep Rename (map new_file files) tt (files_fit files file_names)))

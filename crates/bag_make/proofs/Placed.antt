@@ -1,0 +1,157 @@
+-- Where the files of a bag are while it is made.
+use Rattle.std.proofs.Common.{◌≡◌, ◌≢◌, ℕ, inl, inr, Bool, true, false, ◌||◌, cond, List, [], ◌∷◌, Some, is_some, bytes_eq, drop, map, append_assoc, Contains, refl, ap, sym, ◌∙◌}
+use Rattle.std.specs.FinMap as fin
+use Rattle.std.specs.FinMap.{get-entries, get-empty}
+use Rattle.std.specs.FinSet as set
+use Rattle.std.specs.List.{AllByRecursion}
+use Rattle.std.proofs.lemmas.Bool.{false≢true, or_left, or_right}
+use Rattle.std.proofs.lemmas.Slice.Eq.{bytes_eq-Decides}
+use Rattle.bag_text.specs.Path.{slash, is_base_name, first_component, under}
+use Rattle.bag_text.specs.Text.{text_cmp}
+use Rattle.bag_text.proofs.ListOf.{contains_cases, contains_nothing}
+use Rattle.bag_line.proofs.PickedOut.{any_from}
+use Rattle.bag_tree.specs.Bag.{Bag, HasFile, file, files_of}
+use Rattle.bag_tree.proofs.Parents.{first-under}
+use Rattle.bag_write_tree.specs.Steps.{Files, is_within, renamed, moved, move_in}
+use Rattle.bag_write_tree.proofs.Within.{IsWithin, within_cases, itself_within, under_within, not_within, goes_itself, goes_under, stays}
+use Rattle.bag_made.specs.Made.{data_folder}
+use Rattle.bag_made.proofs.Held.{content_of, found, has_listed, one_file}
+use Rattle.bag_make.specs.Plan.{is_in_the_way}
+use Rattle.bag_make.specs.Steps.{new_folder, after_steps}
+use Rattle.bag_make.specs.declared.step.Step.TheVariants.{MoveIn}
+use Rattle.bag_make.proofs.FirstParts.{first-name, parts}
+use Rattle.bag_make.proofs.PutFiles.{from_put, is_put}
+
+abbrev as_bag : Files → Bag
+as_bag files = record { files = files; folders = set.empty }
+
+-- the files of a map are those of its list
+pub listed : (files : Files) (p c : List ℕ) → fin.get files p ≡ Some c → Contains (fin.entries files) (p, c)
+listed files p c e = found p c (fin.entries files) (sym (get-entries files p) ∙ e)
+
+pub held_at : (files : Files) (p c : List ℕ) → Contains (fin.entries files) (p, c) → fin.get files p ≡ Some c
+held_at files p c h =
+    let held = content_of (fin.get files p) (has_listed (as_bag files) p c h) in
+    held.1 ∙ ap Some (one_file (as_bag files) p held.0 c (listed files p held.0 held.1) h)
+
+-- the files of the bag, each at its place, and no others
+pub record IsPlaced (bag : Bag) (place : List ℕ → List ℕ) (files : Files) : Type 0 where
+  pub from : (q c : List ℕ) → fin.get files q ≡ Some c → (p : List ℕ) × (q ≡ place p) × (file bag p ≡ Some c)
+  pub to : (p c : List ℕ) → file bag p ≡ Some c → fin.get files (place p) ≡ Some c
+
+nothing : (P : Type 0) (q c : List ℕ) → fin.get (fin.empty {R = text_cmp}) q ≡ Some c → P
+nothing P q c is = absurd (false≢true (ap is_some (sym (get-empty text_cmp q) ∙ is)))
+
+-- a move brings each file to its next place, where no two have one place
+pub moved_placed : (bag : Bag) (place next : List ℕ → List ℕ) (from to : List ℕ) (files : Files) → IsPlaced bag place files
+    → ((p : List ℕ) → HasFile bag p → renamed from to (place p) ≡ next p)
+    → ((p r : List ℕ) → HasFile bag p → HasFile bag r → next p ≡ next r → p ≡ r)
+    → IsPlaced bag next (moved from to files)
+moved_placed bag place next from to files placed goes apart = record {
+  from = λ q c is. elim (from_put (renamed from to) (fin.entries files) fin.empty q c is) [
+    | inl put ↦
+        let old = placed.from put.0 c (held_at files put.0 c put.2) in
+        (old.0, put.1 ∙ ap (renamed from to) old.1 ∙ goes old.0 (ap is_some old.2), old.2)
+    | inr none ↦ nothing _ q c none
+  ];
+  to = λ p c is.
+      is_put (renamed from to) (fin.entries files) fin.empty (next p) c (place p) (sym (goes p (ap is_some is))) (listed files (place p) c (placed.to p c is))
+      (λ q d has same.
+      let old = placed.from q d (held_at files q d has) in
+      let one = apart p old.0 (ap is_some is) (ap is_some old.2) (same ∙ ap (renamed from to) old.1 ∙ goes old.0 (ap is_some old.2)) in
+      let value : Some d ≡ Some c = sym old.2 ∙ ap (file bag) (sym one) ∙ is in
+      cc);
+}
+
+-- what has its first component moved stands in the folder that is made
+abbrev pub placed_by : (List ℕ → Bool) → List ℕ → List ℕ
+placed_by done p = cond (done (first_component p)) (under new_folder p) p
+
+-- with one name more
+abbrev with_name : (List ℕ → Bool) → List ℕ → List ℕ → Bool
+with_name done top t = done t || bytes_eq t top
+
+name_within : (top k : List ℕ) → is_base_name top ≡ true → IsWithin top k → first_component k ≡ top
+name_within top k base (inl itself) = ap first_component itself ∙ first-name top base
+name_within top k base (inr below) = ap first_component below.1 ∙ first-under top below.0 base
+
+within_first : (top k : List ℕ) → first_component k ≡ top → is_within top k ≡ true
+within_first top k first = elim (parts k) [
+  | inl same ↦ ap (is_within top) (same ∙ first) ∙ itself_within top
+  | inr more ↦ ap (is_within top) (more.1 ∙ ap (λ t. under t more.0) first) ∙ under_within top more.0
+]
+
+-- where a path goes that is moved into the folder
+goes_in : (top path : List ℕ) → is_within top path ≡ true → renamed top (under new_folder top) path ≡ under new_folder path
+goes_in top path within = elim (within_cases top path within) [
+  | inl itself ↦ ap (renamed top (under new_folder top)) itself ∙ goes_itself top (under new_folder top) ∙ ap (under new_folder) (sym itself)
+  | inr below ↦ ap (renamed top (under new_folder top)) below.1 ∙ goes_under top (under new_folder top) below.0
+      ∙ append_assoc new_folder (slash ∷ top) (slash ∷ below.0) ∙ ap (under new_folder) (sym below.1)
+]
+
+-- a name that may be moved
+abbrev pub IsTop : List ℕ → Type 0
+IsTop top = (is_base_name top ≡ true) × (top ≢ new_folder)
+
+goes_on : (done : List ℕ → Bool) (top p : List ℕ) → IsTop top → renamed top (under new_folder top) (placed_by done p) ≡ placed_by (with_name done top) p
+goes_on done top p is =
+    elim (done (first_component p)) as (λ b. renamed top (under new_folder top) (cond b (under new_folder p) p) ≡ cond (b || bytes_eq (first_component p) top) (under new_folder p) p) [
+      | true ↦ stays top (under new_folder top) (under new_folder p)
+          (not_within top (under new_folder p) (λ within. is.1 (sym (name_within top (under new_folder p) is.0 within) ∙ first-under new_folder p refl)))
+      | false ↦ elim (bytes_eq (first_component p) top) as (λ b. bytes_eq (first_component p) top ≡ b → renamed top (under new_folder top) p ≡ cond b (under new_folder p) p) [
+        | true ↦ λ same. goes_in top p (within_first top p ((bytes_eq-Decides (first_component p) top).0 same))
+        | false ↦ λ other. stays top (under new_folder top) p
+            (not_within top p (λ within. false≢true (sym other ∙ (bytes_eq-Decides (first_component p) top).1 (name_within top p is.0 within))))
+      ] refl
+    ]
+
+module _ (bag : Bag) (free : is_in_the_way bag ≡ false) where
+  pub none_within : (r : List ℕ) → HasFile bag r → is_within new_folder r ≡ true → ⊥
+  none_within r has within =
+      let c = content_of (file bag r) has in
+      false≢true (sym free ∙ any_from (λ e. is_within new_folder e.0) (files_of bag) (r, c.0) (listed bag.files r c.0 c.1) within)
+
+  apart : (done : List ℕ → Bool) (p r : List ℕ) → HasFile bag p → HasFile bag r → placed_by done p ≡ placed_by done r → p ≡ r
+  apart done p r has_p has_r =
+      elim (done (first_component p)) as (λ a. cond a (under new_folder p) p ≡ placed_by done r → p ≡ r) [
+        | true ↦ elim (done (first_component r)) as (λ b. under new_folder p ≡ cond b (under new_folder r) r → p ≡ r) [
+          | true ↦ λ e. ap (drop 11) e
+          | false ↦ λ e. absurd (none_within r has_r (ap (is_within new_folder) (sym e) ∙ under_within new_folder p))
+        ]
+        | false ↦ elim (done (first_component r)) as (λ b. p ≡ cond b (under new_folder r) r → p ≡ r) [
+          | true ↦ λ e. absurd (none_within p has_p (ap (is_within new_folder) e ∙ under_within new_folder r))
+          | false ↦ λ e. e
+        ]
+      ]
+
+  -- all of these names are moved, and what was moved before
+  pub record IsMovedOn (done : List ℕ → Bool) (tops : List (List ℕ)) (files : Files) : Type 0 where
+    pub now : List ℕ → Bool
+    pub before : (t : List ℕ) → done t ≡ true → now t ≡ true
+    pub these : (t : List ℕ) → Contains tops t → now t ≡ true
+    pub placed : IsPlaced bag (placed_by now) files
+
+  pub moves_placed : (tops : List (List ℕ)) (done : List ℕ → Bool) (b : Bag) → AllByRecursion IsTop tops → IsPlaced bag (placed_by done) b.files
+      → IsMovedOn done tops (after_steps (map MoveIn tops) b).files
+  moves_placed [] done b all placed = record { now = done; before = λ t e. e; these = λ t has. absurd (contains_nothing t has); placed = placed }
+  moves_placed (top ∷ tops) done b all placed =
+      let next = moved_placed bag (placed_by done) (placed_by (with_name done top)) top (under new_folder top) b.files placed
+      (λ p has. goes_on done top p all.0) (apart (with_name done top)) in
+      let more = moves_placed tops (with_name done top) (move_in top new_folder b) all.1 next in
+      record {
+        now = more.now;
+        before = λ t e. more.before t (or_left (done t) (bytes_eq t top) e);
+        these = λ t has. elim (contains_cases top tops t has) [
+          | inl same ↦ more.before t (or_right (done t) (bytes_eq t top) ((bytes_eq-Decides t top).1 (sym same)))
+          | inr behind ↦ more.these t behind
+        ];
+        placed = more.placed;
+      }
+
+  -- where everything was moved, the files stand under data/ when the folder has that name
+  pub all_under_data : (done : List ℕ → Bool) (files : Files) → IsPlaced bag (placed_by done) files → ((p : List ℕ) → HasFile bag p → done (first_component p) ≡ true)
+      → IsPlaced bag (under data_folder) (moved new_folder data_folder files)
+  all_under_data done files placed all =
+      moved_placed bag (placed_by done) (under data_folder) new_folder data_folder files placed
+      (λ p has. ap (λ b. renamed new_folder data_folder (cond b (under new_folder p) p)) (all p has) ∙ goes_under new_folder data_folder p)
+      (λ p r _ _ e. ap (drop 5) e)

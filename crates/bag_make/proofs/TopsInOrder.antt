@@ -1,0 +1,62 @@
+-- The names that are moved are listed in order, each once.
+use Rattle.std.proofs.Common.{◌≡◌, ℕ, true, List, [], ◌∷◌, map, Contains, refl, ap, sym, ◌∙◌, subst, is_lt, is_some}
+use Rattle.std.specs.Cmp.Lexicographic.{nat_list_cmp_total}
+use Rattle.std.specs.FinMap as fin
+use Rattle.std.specs.FinMap.{is_sorted, entries_sorted, contains_key-keys, get-from_entries}
+use Rattle.std.specs.FinMap.Entries.{below_all, is_some-find}
+use Rattle.std.specs.List.{AllByRecursion, list_any}
+use Rattle.std.specs.List.Sorted.{IsStrictlySortedBy}
+use Rattle.std.specs.Ordering.{eq_by_cmp}
+use Rattle.std.specs.declared.cmp.Ordering.{Ordering}
+use Rattle.std.specs.declared.cmp.Ordering.TheVariants.{Less, Equal, Greater}
+use Rattle.std.proofs.lemmas.Bool.{and_parts}
+use Rattle.bag_text.specs.Order.{IsListOf}
+use Rattle.bag_text.specs.Text.{text_cmp}
+use Rattle.bag_line.proofs.PickedOut.{any_from, from_any}
+use Rattle.bag_tree.proofs.SameText.{one_text, text_itself}
+use Rattle.bag_made.proofs.Held.{true_from}
+use Rattle.bag_make.specs.Plan.{in_order}
+
+abbrev Entry : Type 0
+Entry = List ℕ × Unit {0}
+
+is_less : (o : Ordering) → is_lt o ≡ true → o ≡ Less
+is_less Less e = refl
+is_less Equal e = cc
+is_less Greater e = cc
+
+all_less : (k : List ℕ) (es : List Entry) → below_all text_cmp k es ≡ true → AllByRecursion (λ y. text_cmp k y ≡ Less) (map (λ (e : Entry). e.0) es)
+all_less k [] h = tt
+all_less k (e ∷ es) h = let two = and_parts (is_lt (text_cmp k e.0)) (below_all text_cmp k es) h in (is_less (text_cmp k e.0) two.0, all_less k es two.1)
+
+ascends : (es : List Entry) → is_sorted text_cmp es ≡ true → IsStrictlySortedBy text_cmp (map (λ (e : Entry). e.0) es)
+unfolding IsStrictlySortedBy
+ascends [] h = tt
+ascends (e ∷ es) h = let two = and_parts (below_all text_cmp e.0 es) (is_sorted text_cmp es) h in (all_less e.0 es two.0, ascends es two.1)
+
+abbrev marked : List (List ℕ) → List Entry
+marked texts = map (λ t. (t, tt)) texts
+
+abbrev names : List (List ℕ) → fin.FinMap text_cmp (Unit {0})
+names texts = fin.from_entries (marked texts)
+
+unmarked : (texts : List (List ℕ)) → map (λ (e : Entry). e.0) (marked texts) ≡ texts
+unmarked [] = refl
+unmarked (t ∷ texts) = ap (λ others. t ∷ others) (unmarked texts)
+
+-- the same texts are there
+pub same_any : (texts : List (List ℕ)) (t : List ℕ) → list_any (eq_by_cmp text_cmp t) (in_order texts) ≡ list_any (eq_by_cmp text_cmp t) texts
+same_any texts t =
+    sym (contains_key-keys (names texts) t) ∙ ap is_some (get-from_entries nat_list_cmp_total (marked texts) t) ∙ is_some-find text_cmp t (marked texts)
+    ∙ ap (list_any (eq_by_cmp text_cmp t)) (unmarked texts)
+
+moves_over : (xs ys : List (List ℕ)) (t : List ℕ) → Contains xs t → list_any (eq_by_cmp text_cmp t) xs ≡ list_any (eq_by_cmp text_cmp t) ys → Contains ys t
+moves_over xs ys t has same =
+    let some = from_any (eq_by_cmp text_cmp t) ys (sym same ∙ any_from (eq_by_cmp text_cmp t) xs t has (text_itself t)) in
+    subst (Contains ys) (sym (one_text t some.0 some.2)) some.1
+
+pub listed_in_order : (texts : List (List ℕ)) → IsListOf text_cmp (Contains texts) (in_order texts)
+listed_in_order texts = record {
+  ascending = ascends (fin.entries (names texts)) (true_from (is_sorted text_cmp (fin.entries (names texts))) (entries_sorted (names texts)));
+  members = λ t. (λ has. moves_over (in_order texts) texts t has (same_any texts t), λ has. moves_over texts (in_order texts) t has (sym (same_any texts t)));
+}

@@ -1,0 +1,6 @@
+use Rattle.std.proofs.Common.{◌≡◌, ◌++◌, map}
+use Rattle.bag_make.specs.Plan.{new_file}
+use Rattle.bag_make.proofs.plan.push_files.Given as goal
+
+abbrev pub invariant-loop-name : goal.invariant-loop-name
+invariant-loop-name l = l.steps.items ≡ l.fn.steps.items ++ map new_file l.yielded

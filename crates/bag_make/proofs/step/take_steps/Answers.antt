@@ -1,0 +1,46 @@
+use Rattle.std.proofs.Common.{◌≡◌, ℕ, ◌+◌, ◌-◌, ◌<◌, List, length, take, get_or, IsTrue, slice_get, refl, ap, sym, ◌∙◌, subst, arith}
+use Rattle.std.proofs.lemmas.Option.{slice_get_read}
+use Rattle.std.proofs.lemmas.List.Sums.{fold_more}
+use Rattle.bag_tree.specs.Tree.{TreeState}
+use Rattle.bag_make.specs.Steps.{HasDone, HasTaken, after_steps, change}
+use Rattle.bag_make.specs.declared.step.Step.{Step}
+use Rattle.bag_make.proofs.step.take_steps.Goals as goal
+
+one_back : (n : ℕ) → n + 1 - 1 ≡ n
+one_back n = omega arith
+
+more_taken : (steps : List Step) (i : ℕ) (step : Step) (old mid new : TreeState) → i < length steps → step ≡ get_or steps i step
+    → HasTaken (take i steps) old mid → HasDone step mid new → HasTaken (take (i + 1) steps) old new
+more_taken steps i step old mid new within is taken done = record {
+  bag = λ h.
+      done.bag (subst IsTrue (sym taken.honest) h) ∙ ap (change step) (taken.bag h)
+      ∙ sym (fold_more (λ b step. change step b) old.bag steps i step within ∙ ap (λ s. change s (after_steps (take i steps) old.bag)) (sym is));
+  plain = λ h p. done.plain (subst IsTrue (sym taken.honest) h) (taken.plain h p);
+  honest = done.honest ∙ taken.honest;
+  failures = omega (arith, done.failures, taken.failures);
+  openings = done.openings ∙ taken.openings;
+}
+
+pub returns-in-Err-clause-stopped : goal.returns-in-Err-clause-stopped
+returns-in-Err-clause-stopped g c =
+    let state = g.T.Tree.state in
+    let back = one_back c.loop-place.place in
+    record {
+      first = omega arith;
+      step = c.index-steps-place.result;
+      place = ap (slice_get c.args.steps.now) back ∙ slice_get_read c.args.steps.now (length c.args.steps.now) c.loop-place.place c.index-steps-place.result refl c.loop-place-test.true c.index-steps-place.is;
+      before = state c.loop-place.tree;
+      taken = subst (λ n. HasTaken (take n c.args.steps.now) (state c.args.tree.now) (state c.loop-place.tree)) (sym back) c.loop-place.invariant.taken;
+      left = c.in-Err.ensures.left;
+      refused = c.in-Err.ensures.refused;
+    }
+
+pub loop-place-preserved : goal.loop-place-preserved
+loop-place-preserved g c =
+    let state = g.T.Tree.state in
+    record {
+      taken =
+          more_taken c.args.steps.now c.loop-place.place c.index-steps-place.result (state c.args.tree.now) (state c.loop-place.tree) (state c.take_step.new.tree)
+          c.loop-place-test.true c.index-steps-place.is c.loop-place.invariant.taken c.in_default.ensures.done;
+      calm = c.in_default.ensures.calm ∙ c.loop-place.invariant.calm;
+    }

@@ -1,0 +1,7 @@
+use Rattle.std.proofs.Common.{◌≡◌, map, take}
+use Rattle.bag_text.specs.Path as spec
+use Rattle.bag_write.specs.Distinct.{texts_of}
+use Rattle.bag_make.proofs.tops.first_components.Given as goal
+
+abbrev pub invariant-loop-entry : goal.invariant-loop-entry
+invariant-loop-entry l = texts_of l.names.items ≡ map (λ entry. spec.first_component entry.path) (take l.entry-index l.files)

@@ -1,0 +1,61 @@
+-- The steps that make a bag (RFC 8493, 2.1).
+use Rattle.std.specs.Prelude.{ℕ, ◌≡◌, Bool, false, List, [], ◌∷◌, ◌++◌, map, take, if◌then◌else◌}
+use Rattle.std.specs.FinMap as fin
+use Rattle.std.specs.List.{list_any}
+use Rattle.bag_text.specs.Path.{first_component}
+use Rattle.bag_text.specs.Text.{text_cmp}
+use Rattle.bag_text.specs.declared.alg.Alg.{Alg}
+use Rattle.bag_tree.specs.Bag.{Bag, IsBag, files_of, has_folder}
+use Rattle.bag_tree.specs.declared.listing.Listing.{Listing}
+use Rattle.bag_write.specs.Element.{NewElement}
+use Rattle.bag_write_tree.specs.Steps.{has_within, is_within}
+use Rattle.bag_made.specs.Made.{File, data_folder, new_tag_files, made}
+use Rattle.bag_make.specs.Steps.{new_folder, after_steps}
+use Rattle.bag_make.specs.declared.step.Step.{Step}
+use Rattle.bag_make.specs.declared.step.Step.TheVariants.{MakeFolder, MoveIn, Rename, Create}
+
+-- texts in the order of their bytes, each once
+abbrev pub in_order : List (List ℕ) → List (List ℕ)
+in_order texts = fin.keys (fin.from_entries {X = Unit {0}} {R = text_cmp} (map {B = List ℕ × Unit {0}} (λ t. (t, tt)) texts))
+
+-- what is moved: the first component of each path, and data where that folder is there, in order
+abbrev pub tops : List File → Bool → List (List ℕ)
+tops files has_data = in_order (map (λ e. first_component e.0) files ++ (if has_data then data_folder ∷ [] else []))
+
+-- what a listing says is moved
+abbrev pub listed_tops : Listing → List (List ℕ)
+listed_tops listing = in_order (map (λ entry. first_component entry.path) listing.files ++ (if listing.has_data then data_folder ∷ [] else []))
+
+-- a listed file stands in the way of the folder that is made
+abbrev pub has_new : Listing → Bool
+has_new listing = list_any (λ entry. is_within new_folder entry.path) listing.files
+
+-- the step that makes a tag file
+abbrev pub new_file : File → Step
+new_file e = Create e.0 e.1
+
+-- the steps that move these names and make these tag files
+abbrev pub steps_for : List (List ℕ) → List File → List Step
+steps_for names tag_files = MakeFolder ∷ map MoveIn names ++ Rename ∷ map new_file tag_files
+
+-- the steps that make a bag of these files, in order
+abbrev pub steps_of : List File → Bool → List Alg → List NewElement → List Step
+steps_of files has_data algs info = steps_for (tops files has_data) (new_tag_files files algs info)
+
+abbrev pub steps : Bag → List Alg → List NewElement → List Step
+steps bag algs info = steps_of (files_of bag) (has_folder bag data_folder) algs info
+
+-- the bag after the first k steps
+abbrev pub after : ℕ → Bag → List Alg → List NewElement → Bag
+after k bag algs info = after_steps (take k (steps bag algs info)) bag
+
+-- a file stands in the way of the folder that is made
+abbrev pub is_in_the_way : Bag → Bool
+is_in_the_way bag = has_within bag new_folder
+
+-- the law: all steps make the bag
+abbrev pub StepsMake : Type 0
+StepsMake =
+    (bag : Bag) (algs : List Alg) (info : List NewElement)
+    → IsBag bag → is_in_the_way bag ≡ false → has_folder bag new_folder ≡ false
+    → after_steps (steps bag algs info) bag ≡ made bag algs info

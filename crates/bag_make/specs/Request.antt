@@ -1,0 +1,14 @@
+-- What no bag can be made with.
+use Rattle.std.specs.Prelude.{◌≡◌, ◌≢◌, true, List, []}
+use Rattle.std.specs.List.{list_any}
+use Rattle.bag_text.specs.declared.alg.Alg.{Alg}
+use Rattle.bag_write.specs.Element.{NewElement}
+use Rattle.bag_made.specs.Valid.{is_refused}
+use Rattle.bag_make.specs.declared.fault.MakeFault.{MakeFault}
+use Rattle.bag_make.specs.declared.fault.MakeFault.TheVariants.{NoAlgorithm, BadValue}
+
+-- There is no algorithm; or there is one, and an element that can't be given.
+abbrev pub IsRequestFault : List Alg → List NewElement → MakeFault → Type 0
+IsRequestFault algs info NoAlgorithm = algs ≡ []
+IsRequestFault algs info BadValue = (algs ≢ []) × (list_any is_refused info ≡ true)
+IsRequestFault algs info fault = ⊥

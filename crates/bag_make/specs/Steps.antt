@@ -1,0 +1,75 @@
+-- The steps in which a bag is made, and what they leave.
+use Rattle.std.specs.Prelude.{ℕ, ◌≡◌, ◌≢◌, ◌⊎◌, ◌≤◌, ◌-◌, true, IsTrue, List, Some, codes, fold, take, slice_get}
+use Rattle.bag_text.specs.Path.{is_base_name, under}
+use Rattle.bag_tree.specs.Bag.{Bag}
+use Rattle.bag_tree.specs.Tree.{TreeState}
+use Rattle.bag_tree.specs.declared.fault.TreeFault.{TreeFault}
+use Rattle.bag_write_tree.specs.Changes.{HasChanged, HasBegun, IsSame, MayRefuseChange}
+use Rattle.bag_write_tree.specs.Steps.{make_folder, move_in, rename_folder, create, is_taken, has_within, lacks_folder, lacks_source}
+use Rattle.bag_made.specs.Made.{data_folder}
+use Rattle.bag_make.specs.declared.step.Step.{Step}
+use Rattle.bag_make.specs.declared.step.Step.TheVariants.{MakeFolder, MoveIn, Rename, Create}
+use Rattle.bag_make.specs.declared.step.Refusal.{Refusal}
+
+-- the folder that holds the files while they are moved
+abbrev pub new_folder : List ℕ
+new_folder = codes ".bagit-new"
+
+-- each step is a function on bags
+abbrev pub change : Step → Bag → Bag
+change MakeFolder bag = make_folder new_folder bag
+change (MoveIn top) bag = move_in top new_folder bag
+change Rename bag = rename_folder new_folder data_folder bag
+change (Create name bytes) bag = create name bytes bag
+
+-- the bag after these steps
+abbrev pub after_steps : List Step → Bag → Bag
+after_steps steps bag = fold (λ b step. change step b) bag steps
+
+-- its names are names in the base folder, and the folder for the files isn't moved into itself
+abbrev pub IsStep : Step → Type 0
+IsStep MakeFolder = Unit {0}
+IsStep (MoveIn top) = IsTrue (is_base_name top) × (top ≢ new_folder)
+IsStep Rename = Unit {0}
+IsStep (Create name bytes) = IsTrue (is_base_name name)
+
+-- how many files and folders more there may be after the step
+abbrev pub more : Step → ℕ
+more MakeFolder = 1
+more (MoveIn top) = 0
+more Rename = 0
+more (Create name bytes) = 1
+
+-- the step was taken
+abbrev pub HasDone : Step → TreeState → TreeState → Type 0
+HasDone step old new = HasChanged (change step) (more step) old new
+
+-- a step that is refused changes nothing, but that a file may be begun
+abbrev pub HasLeft : Step → TreeState → TreeState → Type 0
+HasLeft (Create name bytes) old new = IsSame old new ⊎ HasBegun name bytes old new
+HasLeft step old new = IsSame old new
+
+-- a step may answer this refusal: of an honest tree NotFound and Exists only where they are so
+abbrev pub MayRefuseStep : Step → TreeState → TreeState → TreeFault → Type 0
+MayRefuseStep MakeFolder old new = MayRefuseChange ⊥ (is_taken old.bag new_folder ≡ true) old new
+MayRefuseStep (MoveIn top) old new = MayRefuseChange (lacks_source old.bag top new_folder ≡ true) (has_within old.bag (under new_folder top) ≡ true) old new
+MayRefuseStep Rename old new = MayRefuseChange (lacks_folder old.bag new_folder ≡ true) (is_taken old.bag data_folder ≡ true) old new
+MayRefuseStep (Create name bytes) old new = MayRefuseChange ⊥ (is_taken old.bag name ≡ true) old new
+
+-- These steps were taken. The bag of an honest tree is then the steps' bag, and no file was opened.
+pub record HasTaken (steps : List Step) (old new : TreeState) : Type 0 where
+  pub bag : IsTrue old.honest → new.bag ≡ after_steps steps old.bag
+  pub plain : IsTrue old.honest → IsTrue old.plain → IsTrue new.plain
+  pub honest : new.honest ≡ old.honest
+  pub failures : old.failures ≤ new.failures
+  pub openings : new.openings ≡ old.openings
+
+-- All steps before this one were taken, and this one was refused. It left nothing, but that a file may be begun.
+pub record HasStopped (steps : List Step) (old new : TreeState) (refusal : Refusal) : Type 0 where
+  pub first : 1 ≤ refusal.step
+  pub step : Step
+  pub place : slice_get steps (refusal.step - 1) ≡ Some step
+  pub before : TreeState
+  pub taken : HasTaken (take (refusal.step - 1) steps) old before
+  pub left : HasLeft step before new
+  pub refused : MayRefuseStep step before new refusal.cause

@@ -1,0 +1,109 @@
+-- How many files and folders a bag has after a change.
+use Rattle.std.proofs.Common.{◌≡◌, ℕ, ◌+◌, ◌-◌, ◌≤◌, ◌==◌, ◌&&◌, Bool, true, false, not, cond, nat_lt, List, [], ◌∷◌, Option, None, length, refl, ap, sym, ◌∙◌, arith}
+use Rattle.std.specs.FinMap as map
+use Rattle.std.specs.FinSet as set
+use Rattle.std.specs.Cmp.Lexicographic.{nat_list_cmp_total}
+use Rattle.bag_text.specs.Text.{text_cmp}
+use Rattle.std.proofs.lemmas.Bool.{and_parts, or_right, eqb-true, false≢true}
+use Rattle.bag_text.specs.Path.{components, first_component, is_base_name, is_path, under}
+use Rattle.bag_tree.specs.Bag.{Bag, has_file, has_folder}
+use Rattle.bag_tree.specs.declared.answer.Answer.{Answer}
+use Rattle.bag_tree.specs.declared.answer.Answer.TheVariants.{Given}
+use Rattle.bag_memory.specs.Memory.{folders_for, state_after}
+use Rattle.bag_write_tree.specs.Changes.{HasChanged}
+use Rattle.bag_write_tree.specs.Steps.{Files, moved, renamed, with_renamed, make_folder, move_in, rename_folder, create, is_taken, lacks_folder, lacks_source}
+use Rattle.bag_memory.proofs.InMemory.{folder_stays}
+
+one_more : (b : Bool) (n m : ℕ) → m ≡ cond b n (n + 1) → m ≤ n + 1
+one_more true n m e = omega (arith, e)
+one_more false n m e = omega (arith, e)
+
+one_less : (b : Bool) (n m : ℕ) → m ≡ cond b (n - 1) n → m ≤ n
+one_less true n m e = omega (arith, e)
+one_less false n m e = omega (arith, e)
+
+pub folders_more : (folders : set.FinSet text_cmp) (name : List ℕ) → set.len (set.insert folders name) ≤ set.len folders + 1
+folders_more folders name = one_more (set.contains folders name) (set.len folders) _ (set.len-insert nat_list_cmp_total folders name)
+
+pub folders_less : (folders : set.FinSet text_cmp) (name : List ℕ) → set.len (set.remove folders name) ≤ set.len folders
+folders_less folders name = one_less (set.contains folders name) (set.len folders) _ (set.len-remove nat_list_cmp_total folders name)
+
+-- as many folders when one has another name
+pub folders_renamed : (folders : set.FinSet text_cmp) (from to : List ℕ) → set.contains folders from ≡ true → set.len (set.remove (set.insert folders to) from) ≤ set.len folders
+folders_renamed folders from to has =
+    let one = set.len-remove nat_list_cmp_total (set.insert folders to) from
+    ∙ ap (λ b. cond b (set.len (set.insert folders to) - 1) (set.len (set.insert folders to))) (folder_stays folders to from has) in
+    let more = folders_more folders to in
+    omega (arith, one, more)
+
+pub files_more : (files : Files) (path bytes : List ℕ) → map.len (map.insert files path bytes) ≤ map.len files + 1
+files_more files path bytes = one_more (map.contains_key files path) (map.len files) _ (map.len-insert nat_list_cmp_total files path bytes)
+
+with_as_many : (from to : List ℕ) (files : Files) (es : List (List ℕ × List ℕ)) → map.len (with_renamed from to files es) ≤ map.len files + length es
+with_as_many from to files [] = omega arith
+with_as_many from to files (e ∷ es) =
+    let more = files_more files (renamed from to e.0) e.1 in
+    let others = with_as_many from to (map.insert files (renamed from to e.0) e.1) es in
+    omega (arith, more, others)
+
+-- as many files when some have other paths
+pub files_moved : (from to : List ℕ) (files : Files) → map.len (moved from to files) ≤ map.len files
+files_moved from to files =
+    let all = with_as_many from to map.empty (map.entries files) in
+    let none = map.len-empty text_cmp (List ℕ) in
+    let many = map.len-entries files in
+    omega (arith, all, none, many)
+
+-- how many files and folders a bag has
+abbrev count : Bag → ℕ
+count bag = map.len bag.files + set.len bag.folders
+
+pub count_made : (name : List ℕ) (bag : Bag) → count (make_folder name bag) ≤ count bag + 1
+count_made name bag = let more = folders_more bag.folders name in omega (arith, more)
+
+pub count_created : (name bytes : List ℕ) (bag : Bag) → count (create name bytes bag) ≤ count bag + 1
+count_created name bytes bag = let more = files_more bag.files name bytes in omega (arith, more)
+
+pub count_moved : (top folder : List ℕ) (bag : Bag) → count (move_in top folder bag) ≤ count bag + 0
+count_moved top folder bag =
+    let files = files_moved top (under folder top) bag.files in
+    let folders = folders_less bag.folders top in
+    omega (arith, files, folders)
+
+pub count_renamed : (from to : List ℕ) (bag : Bag) → has_folder bag from ≡ true → count (rename_folder from to bag) ≤ count bag + 0
+count_renamed from to bag has =
+    let files = files_moved from to bag.files in
+    let folders = folders_renamed bag.folders from to has in
+    omega (arith, files, folders)
+
+-- a tree in memory was changed
+pub memory_changed : (step : Bag → Bag) (more : ℕ) (old new : Bag) (openings : List (List ℕ)) (rest : Option (List ℕ)) (given : ℕ) (last : Answer)
+    → new ≡ step old → count (step old) ≤ count old + more → HasChanged step more (state_after old openings rest given last) (state_after new openings None given Given)
+memory_changed step more old new openings rest given last same few = record {
+  bag = λ _. same;
+  plain = λ _ plain. plain;
+  honest = refl;
+  entries = λ _. let as_many = ap (λ b. count b) same in omega (arith, as_many, few);
+  failures = omega arith;
+  openings = refl;
+  rest = refl;
+}
+
+pub not_lacking : (b : Bool) → not b ≡ false → b ≡ true
+not_lacking true e = refl
+not_lacking false e = cc
+
+-- where a source is there, the folder is
+pub folder_there : (bag : Bag) (top folder : List ℕ) → lacks_source bag top folder ≡ false → has_folder bag folder ≡ true
+folder_there bag top folder there = (and_parts _ _ (not_lacking (has_folder bag folder && is_taken bag top) there)).0
+
+-- a folder that is there hasn't a free name
+pub free_differs : (bag : Bag) (from to : List ℕ) → lacks_folder bag from ≡ false → is_taken bag to ≡ false → to ≡ from → ⊥
+free_differs bag from to there free same =
+    false≢true (sym free ∙ or_right (has_file bag to) _ (ap (has_folder bag) same ∙ not_lacking (has_folder bag from) there))
+
+-- a name of the base folder stands in no folder
+pub no_folder_for_name : (folders : set.FinSet text_cmp) (name : List ℕ) → is_base_name name ≡ true → folders ≡ folders_for folders name
+no_folder_for_name folders name is =
+    let one : length (components name) ≡ 1 = eqb-true (length (components name)) 1 (and_parts (is_path name) (length (components name) == 1) is).1 in
+    sym (ap (λ n. cond (nat_lt 1 n) (set.insert folders (first_component name)) folders) one)

@@ -1,0 +1,28 @@
+-- Files in memory, in the order of their paths.
+use Rattle.std.proofs.Common.{◌≡◌, ℕ, ◌∷◌, [], List, true, refl, ap, sym, ◌∙◌, subst, map, is_lt}
+use Rattle.std.specs.FinMap.{is_sorted, entries, entries_sorted, get-entries, get-from_entries}
+use Rattle.std.specs.FinMap.Entries.{below_all, same_entries}
+use Rattle.std.specs.List.{AllByRecursion}
+use Rattle.std.specs.List.Sorted.{IsStrictlySortedBy}
+use Rattle.std.specs.declared.cmp.Ordering.TheVariants.{Less}
+use Rattle.std.specs.Cmp.Lexicographic.{nat_list_cmp_total}
+use Rattle.std.proofs.Math.Dec.{T}
+use Rattle.std.proofs.lemmas.Bool.{and_from}
+use Rattle.bag_text.specs.Text.{text_cmp}
+use Rattle.bag_memory.specs.Memory.{file_map}
+use Rattle.bag_tree.proofs.SameText.{exact_texts}
+
+below : (path : List ℕ) (es : List (List ℕ × List ℕ)) → AllByRecursion (λ y. text_cmp path y ≡ Less) (map (λ e. e.0) es) → below_all text_cmp path es ≡ true
+below path [] h = refl
+below path (e ∷ es) h = and_from _ _ (ap is_lt h.0) (below path es h.1)
+
+ascending : (es : List (List ℕ × List ℕ)) → IsStrictlySortedBy text_cmp (map (λ e. e.0) es) → is_sorted text_cmp es ≡ true
+unfolding IsStrictlySortedBy
+ascending [] s = refl
+ascending (e ∷ es) s = and_from _ _ (below e.0 es s.0) (ascending es s.1)
+
+-- the entries of files in memory are the files, in path order
+pub files_are : (es : List (List ℕ × List ℕ)) → IsStrictlySortedBy text_cmp (map (λ e. e.0) es) → entries (file_map es) ≡ es
+files_are es up =
+    same_entries text_cmp nat_list_cmp_total exact_texts (entries (file_map es)) es (entries_sorted (file_map es)) (subst T (sym (ascending es up)) tt)
+    (λ q. sym (get-entries (file_map es) q) ∙ get-from_entries nat_list_cmp_total es q)

@@ -1,0 +1,10 @@
+-- When a tree in memory refuses a change.
+use Rattle.bag_tree.specs.declared.fault.TreeFault.{TreeFault}
+use Rattle.bag_tree.specs.declared.fault.TreeFault.TheVariants.{NotFound, Memory, Exists}
+
+-- A change is refused where its source is absent, where its target is there, or for want of memory.
+abbrev pub IsChangeFault : Type 0 → Type 0 → TreeFault → Type 0
+IsChangeFault absent taken NotFound = absent
+IsChangeFault absent taken Exists = taken
+IsChangeFault absent taken Memory = Unit {0}
+IsChangeFault absent taken fault = ⊥

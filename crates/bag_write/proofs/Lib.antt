@@ -1,0 +1,10 @@
+pub mod DeclarationReadAgain
+pub mod DistinctPaths
+pub mod EscapedPaths
+pub mod HexTexts
+pub mod InfoLines
+pub mod InfoReadAgain
+pub mod ManifestLines
+pub mod ManifestReadAgain
+pub mod TrimmedTexts
+pub mod WrittenLines

@@ -1,0 +1,5 @@
+pub mod Declaration
+pub mod Distinct
+pub mod Element
+pub mod Entry
+pub mod ReadAgain

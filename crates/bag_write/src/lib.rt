@@ -1,0 +1,26 @@
+//! Writes the tag files of a bag, so that what is written is read again as the same.
+//!
+//! ```
+//! let declaration = write_declaration(alloc)?;
+//! let info = write_info(alloc, &elements)?;
+//! let manifest = write_manifest(alloc, Kind::Payload, Alg::Sha256, &entries)?;
+//! ```
+//!
+//! Of RFC 8493 it keeps the declaration (2.1.1), payload manifests (2.1.3), the metadata (2.2.2) and tag manifests (2.2.1).
+#![tactic(auto)]
+
+mod declaration;
+mod distinct;
+mod element;
+mod entry;
+mod fault;
+mod info;
+pub mod laws;
+mod line;
+mod manifest;
+
+pub use declaration::write_declaration;
+pub use element::is_bad_element;
+pub use fault::WriteFault;
+pub use info::write_info;
+pub use manifest::write_manifest;

@@ -1,0 +1,67 @@
+//! Manifests (RFC 8493, 2.1.3 and 2.2.1).
+ghost use Rattle.std.specs.Prelude.{◌≡◌, ◌++◌, ◌∷◌, [], IfOk, OnOk, IsErrOf, IsTrue, string_bytes};
+ghost use Rattle.std.specs.List.{list_any};
+ghost use Rattle.bag_text.specs.Lines.{line_feed};
+ghost use Rattle.bag_write.specs.Entry as spec;
+
+use crate::WriteFault;
+use crate::distinct::are_paths_distinct;
+use crate::entry::is_bad_entry;
+use crate::line::push_line;
+use bag_tags::Kind;
+use bag_text::{Alg, Text, escape_path};
+use std::alloc::{AllocError, Global};
+
+/// What stands between a digest and its path.
+const SEPARATOR: &str = "  ";
+
+/// The bytes of a manifest of an algorithm with these digests and the paths that they are of, in this order: a line for
+/// each with the digest, two spaces, and the path, in which LF, CR and `%` are escaped (RFC 8493, 2.1.3 and 2.2.1).
+/// `BadValue` where a digest isn't lower-case hex of the algorithm's length, where a text isn't a path that a manifest of
+/// this kind may name, where a path begins with `*`, a space or a tab, and where it stands earlier in the list. All but
+/// the last is found before memory is taken. Takes time n log n in the number of entries.
+pub fn write_manifest(
+    alloc: Global,
+    kind: Kind,
+    alg: Alg,
+    entries: &[(Text, Text)],
+) -> Result<Vec<u8>, WriteFault>
+    ensures text { IfOk result (λ bytes. spec.CanWrite kind alg entries.now × (bytes.items ≡ spec.manifest_text entries.now)) }
+    ensures bad { IsErrOf result WriteFault.BadValue → ¬ (spec.CanWrite kind alg entries.now) }
+    ensures bad_entry { IsTrue (list_any (spec.is_bad_entry kind alg) entries.now) → IsErrOf result WriteFault.BadValue }
+{
+    if has_bad_entry(kind, alg, entries) || !are_paths_distinct(alloc, entries)? {
+        return Err(WriteFault::BadValue);
+    }
+    let text = manifest_text(alloc, entries)?;
+    Ok(text.into_bytes())
+}
+
+fn has_bad_entry(kind: Kind, alg: Alg, entries: &[(Text, Text)]) -> bool
+    ensures { result ≡ list_any (spec.is_bad_entry kind alg) entries.now }
+{
+    for entry in entries {
+        if is_bad_entry(kind, alg, entry) {
+            return true;
+        }
+    }
+    false
+}
+
+fn manifest_text(alloc: Global, entries: &[(Text, Text)]) -> Result<String, AllocError>
+    ensures { IfOk result (λ text. string_bytes text ≡ spec.manifest_text entries.now) }
+{
+    let mut text = String::new(alloc);
+    for entry in entries {
+        push_entry(alloc, &mut text, entry)?;
+    }
+    Ok(text)
+}
+
+/// Puts the line of an entry at the end.
+fn push_entry(alloc: Global, text: &mut String, entry: &(Text, Text)) -> Result<(), AllocError>
+    ensures { OnOk result (string_bytes text.new ≡ string_bytes text.old ++ spec.entry_line entry.now ++ line_feed ∷ []) }
+{
+    let escaped = escape_path(alloc, entry.1.as_str())?;
+    push_line(text, entry.0.as_str(), SEPARATOR, escaped.as_str())
+}

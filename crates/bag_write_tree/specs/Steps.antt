@@ -1,0 +1,60 @@
+-- The changes of a tree, as functions on bags.
+use Rattle.std.specs.Prelude.{ℕ, ◌||◌, ◌&&◌, not, Bool, List, [], ◌∷◌, ◌++◌, fold, bytes_eq, nat_eq, if◌then◌else◌, length, drop}
+use Rattle.std.specs.List.{starts_with, list_any}
+use Rattle.std.specs.FinMap as map
+use Rattle.std.specs.FinSet as set
+use Rattle.bag_text.specs.Text.{text_cmp}
+use Rattle.bag_text.specs.Path.{slash, under}
+use Rattle.bag_tree.specs.Bag.{Bag, files_of, has_file, has_folder}
+
+-- whether a path is this one, or below it
+abbrev pub is_within : List ℕ → List ℕ → Bool
+is_within top path = bytes_eq path top || starts_with nat_eq path (top ++ slash ∷ [])
+
+-- the path of what stood at a path, when `from` has become `to`
+abbrev pub renamed : List ℕ → List ℕ → List ℕ → List ℕ
+renamed from to path = if is_within from path then to ++ drop (length from) path else path
+
+-- files by their paths
+abbrev pub Files : Type 0
+Files = map.FinMap text_cmp (List ℕ)
+
+-- the files, with these put at the paths that they have when `from` has become `to`
+abbrev pub with_renamed : List ℕ → List ℕ → Files → List (List ℕ × List ℕ) → Files
+with_renamed from to files entries = fold (λ files e. map.insert files (renamed from to e.0) e.1) files entries
+
+-- the files when `from` has become `to`, with all that is below it
+abbrev pub moved : List ℕ → List ℕ → Files → Files
+moved from to files = with_renamed from to map.empty (map.entries files)
+
+-- the bag with a folder in its base folder
+abbrev pub make_folder : List ℕ → Bag → Bag
+make_folder name bag = record { files = bag.files; folders = set.insert bag.folders name }
+
+-- the bag with what had a name in its base folder under a folder, with all that is below it
+abbrev pub move_in : List ℕ → List ℕ → Bag → Bag
+move_in top folder bag = record { files = moved top (under folder top) bag.files; folders = set.remove bag.folders top }
+
+-- the bag with another name for a folder of its base folder
+abbrev pub rename_folder : List ℕ → List ℕ → Bag → Bag
+rename_folder from to bag = record { files = moved from to bag.files; folders = set.remove (set.insert bag.folders to) from }
+
+-- the bag with a file of these bytes
+abbrev pub create : List ℕ → List ℕ → Bag → Bag
+create name bytes bag = record { files = map.insert bag.files name bytes; folders = bag.folders }
+
+-- a file or a folder of the base folder has this name
+abbrev pub is_taken : Bag → List ℕ → Bool
+is_taken bag name = has_file bag name || has_folder bag name
+
+-- a file stands at the path or below it
+abbrev pub has_within : Bag → List ℕ → Bool
+has_within bag top = list_any (λ e. is_within top e.0) (files_of bag)
+
+-- there is no such folder
+abbrev pub lacks_folder : Bag → List ℕ → Bool
+lacks_folder bag name = not (has_folder bag name)
+
+-- what is to be moved isn't there, or the folder for it isn't
+abbrev pub lacks_source : Bag → List ℕ → List ℕ → Bool
+lacks_source bag top folder = not (has_folder bag folder && is_taken bag top)
