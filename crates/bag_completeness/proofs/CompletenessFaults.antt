@@ -15,9 +15,9 @@ use Rattle.bag_fault.specs.FaultOrder.{fault_cmp}
 use Rattle.bag_fault.specs.declared.fault.Fault.{Fault}
 use Rattle.bag_stages.specs.FaultFields.{At}
 use Rattle.bag_completeness.specs.ClashStage.{IsClashFault, IsSoughtClash}
-use Rattle.bag_completeness.specs.CompletenessFaults.{of_file, missing_code, HasEachOnce, IsIncomplete, IsMissingFromSome, IsUnlistedInSome}
+use Rattle.bag_completeness.specs.CompletenessFaults.{of_file, missing_code, HasEachOnce, IsIncomplete, IsMissingFromSome, IsUnlistedInSome, IsWrongOfSome}
 use Rattle.bag_completeness.specs.CompletenessStage.{CompletenessFaultsAreOfStageSix, CompletenessHolds, IsOfCompleteness, IsSoughtInStageSix}
-use Rattle.bag_completeness.proofs.EachOnce.{both_once, once_listed, sorted_once}
+use Rattle.bag_completeness.proofs.EachOnce.{both_once, once_listed, same_once, sorted_once}
 
 -- what a fault of a file says in its fields
 module _ (f : Fault) (code : Code) (alg : Alg) where
@@ -97,11 +97,23 @@ any_fault : Fault
 any_fault = of_file PayloadFileMissing Md5 []
 
 module _ (bag : Bag) where
-  -- the three kinds one after another
-  pub incomplete_once : (payload tag unlisted : List Fault) → HasEachOnce (IsMissingFromSome bag Payload) payload → HasEachOnce (IsMissingFromSome bag Tag) tag
-      → HasEachOnce (IsUnlistedInSome bag) unlisted → HasEachOnce (IsIncomplete bag) ((payload ++ tag) ++ unlisted)
-  incomplete_once payload tag unlisted p t u =
-      both_once _ _ (payload ++ tag) unlisted (unlisted_apart bag) (both_once _ _ payload tag (missing_apart bag) p t) u
+  payload_or_tag : (f : Fault) → IsWrongOfSome bag f ⊎ IsMissingFromSome bag Tag f → IsIncomplete bag f
+  payload_or_tag f (inl (alg, inl h)) = inl (inl (alg, h))
+  payload_or_tag f (inl (alg, inr h)) = inr (alg, h)
+  payload_or_tag f (inr h) = inl (inr h)
+
+  of_payload_or_tag : (f : Fault) → IsIncomplete bag f → IsWrongOfSome bag f ⊎ IsMissingFromSome bag Tag f
+  of_payload_or_tag f (inl (inl (alg, h))) = inl (alg, inl h)
+  of_payload_or_tag f (inl (inr h)) = inr h
+  of_payload_or_tag f (inr (alg, h)) = inl (alg, inr h)
+
+  tags_apart : (f : Fault) → IsWrongOfSome bag f → IsMissingFromSome bag Tag f → ⊥
+  tags_apart f (alg, inl h) k = missing_apart bag f (alg, h) k
+  tags_apart f (alg, inr h) k = unlisted_apart bag f (inr k) (alg, h)
+
+  -- what payload manifests are wrong about, and then tag manifests
+  pub incomplete_once : (payload tag : List Fault) → HasEachOnce (IsWrongOfSome bag) payload → HasEachOnce (IsMissingFromSome bag Tag) tag → HasEachOnce (IsIncomplete bag) (payload ++ tag)
+  incomplete_once payload tag p t = same_once _ _ (payload ++ tag) payload_or_tag of_payload_or_tag (both_once _ _ payload tag tags_apart p t)
 
   -- the clashes where they are looked for
   pub clashes_sought : (clashes : Bool) (names : List Fault) → clashes ≡ true → IsListOf fault_cmp (IsClashFault bag) names → IsListOf fault_cmp (IsSoughtClash clashes bag) names

@@ -7,6 +7,7 @@ pub mod EachOnce
 pub mod FaultsOfPaths
 pub mod LeastNames
 pub mod MissingFaults
+pub mod PayloadNamed
 pub mod PayloadNames
 pub mod Sought
 pub mod UnlistedFaults

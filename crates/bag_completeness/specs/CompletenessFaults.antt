@@ -55,6 +55,14 @@ IsUnlisted bag alg f =
 abbrev pub IsUnlistedInSome : Bag → Fault → Type 0
 IsUnlistedInSome bag f = (alg : Alg) × IsUnlisted bag alg f
 
+-- the payload manifest of an algorithm is wrong about a file, one way or the other
+abbrev pub IsWrong : Bag → Alg → Fault → Type 0
+IsWrong bag alg f = IsMissing bag Payload alg f ⊎ IsUnlisted bag alg f
+
+-- some payload manifest is
+abbrev pub IsWrongOfSome : Bag → Fault → Type 0
+IsWrongOfSome bag f = (alg : Alg) × IsWrong bag alg f
+
 -- the path of a payload file, and none of these entries has it
 abbrev pub IsUnlistedPath : List ManifestEntry → List ℕ → Type 0
 IsUnlistedPath entries path = (is_payload_path path ≡ true) × ¬ (Contains (entry_paths entries) path)

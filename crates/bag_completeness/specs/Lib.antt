@@ -4,4 +4,5 @@ pub mod Clashes
 pub mod CompletenessFaults
 pub mod CompletenessStage
 pub mod Names
+pub mod PayloadNamed
 pub mod Sought

@@ -10,11 +10,10 @@ ghost use Rattle.bag_completeness.specs.CompletenessFaults.{HasEachOnce, IsIncom
 ghost use Rattle.bag_completeness.specs.CompletenessStage.{IsSoughtInStageSix};
 
 use crate::clashes::clash_faults;
-use crate::missing::missing_faults;
-use crate::unlisted::unlisted_faults;
+use crate::missing::missing_tag_files;
+use crate::payload::payload_faults;
 use bag_facts::Facts;
 use bag_fault::Fault;
-use bag_tags::Kind;
 use std::alloc::{AllocError, Global};
 
 /// The faults of completeness (RFC 8493, 3), of facts read for more than the declaration, and where the options ask for
@@ -35,11 +34,9 @@ fn faults_of_files(alloc: Global, facts: &Facts) -> Result<Vec<Fault>, AllocErro
     ensures { IfOk result (λ faults. (bag : Bag) → IsFactsOf bag facts.now → facts.now.options.depth ≢ Declaration
         → HasEachOnce (IsIncomplete bag) faults.items) }
 {
-    let mut faults = missing_faults(alloc, facts, Kind::Payload)?;
-    let mut of_tags = missing_faults(alloc, facts, Kind::Tag)?;
-    let mut of_payload = unlisted_faults(alloc, facts)?;
+    let mut faults = payload_faults(alloc, facts)?;
+    let mut of_tags = missing_tag_files(alloc, facts)?;
     faults.append(&mut of_tags)?;
-    faults.append(&mut of_payload)?;
     Ok(faults)
 }
 

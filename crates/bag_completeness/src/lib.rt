@@ -17,6 +17,7 @@ mod file_fault;
 pub mod laws;
 mod missing;
 mod names;
+mod payload;
 mod seek;
 mod unlisted;
 

@@ -3,6 +3,7 @@ ghost use Rattle.std.specs.Prelude.{◌≡◌, ◌≢◌, IfOk, Contains};
 ghost use Rattle.std.specs.List.Sorted.{IsStrictlySortedBy};
 ghost use Rattle.bag_text.specs.Order.{IsListOf};
 ghost use Rattle.bag_text.specs.Text.{text_cmp};
+ghost use Rattle.bag_tags.specs.declared.kind.Kind.TheVariants.{Tag};
 ghost use Rattle.bag_tree.specs.Bag.{Bag};
 ghost use Rattle.bag_fault.specs.FaultOrder.{fault_cmp};
 ghost use Rattle.bag_facts.specs.Facts.{IsFactsOf};
@@ -20,25 +21,26 @@ use bag_text::{Alg, Code};
 use bag_tree::FileEntry;
 use std::alloc::{AllocError, Global};
 
-/// The faults that manifests of a kind name files that aren't there, one manifest after another.
-pub(crate) fn missing_faults(
-    alloc: Global,
-    facts: &Facts,
-    kind: Kind,
-) -> Result<Vec<Fault>, AllocError>
+/// The faults that tag manifests name files that aren't there, one manifest after another.
+pub(crate) fn missing_tag_files(alloc: Global, facts: &Facts) -> Result<Vec<Fault>, AllocError>
     ensures { IfOk result (λ faults. (bag : Bag) → IsFactsOf bag facts.now → facts.now.options.depth ≢ Declaration
-        → HasEachOnce (IsMissingFromSome bag kind) faults.items) }
+        → HasEachOnce (IsMissingFromSome bag Tag) faults.items) }
 {
     let mut faults = Vec::new(alloc);
     for alg in Alg::ALL {
-        let mut of_alg = missing_of(alloc, facts, kind, alg)?;
+        let mut of_alg = missing_of(alloc, facts, Kind::Tag, alg)?;
         faults.append(&mut of_alg)?;
     }
     Ok(faults)
 }
 
 /// The faults that the manifest of an algorithm names files that aren't there, where it is there itself.
-fn missing_of(alloc: Global, facts: &Facts, kind: Kind, alg: Alg) -> Result<Vec<Fault>, AllocError>
+pub(crate) fn missing_of(
+    alloc: Global,
+    facts: &Facts,
+    kind: Kind,
+    alg: Alg,
+) -> Result<Vec<Fault>, AllocError>
     ensures { IfOk result (λ faults. (bag : Bag) → IsFactsOf bag facts.now → facts.now.options.depth ≢ Declaration
         → IsListOf fault_cmp (IsMissing bag kind alg) faults.items) }
 {

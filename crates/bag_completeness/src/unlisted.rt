@@ -10,7 +10,7 @@ ghost use Rattle.bag_facts.specs.Facts.{IsFactsOf};
 ghost use Rattle.bag_facts.specs.TagFacts.{AreByPath};
 ghost use Rattle.bag_facts.specs.Wanted.{paths_of};
 ghost use Rattle.bag_facts.specs.declared.options.Depth.TheVariants.{Declaration};
-ghost use Rattle.bag_completeness.specs.CompletenessFaults.{HasEachOnce, IsUnlisted, IsUnlistedInSome, IsUnlistedAmong};
+ghost use Rattle.bag_completeness.specs.CompletenessFaults.{IsUnlisted, IsUnlistedAmong};
 
 use crate::file_fault::file_fault;
 use crate::seek::seek;
@@ -21,21 +21,8 @@ use bag_text::{Alg, Code, Text, is_payload};
 use bag_tree::FileEntry;
 use std::alloc::{AllocError, Global};
 
-/// The faults that payload manifests don't name payload files, one manifest after another.
-pub(crate) fn unlisted_faults(alloc: Global, facts: &Facts) -> Result<Vec<Fault>, AllocError>
-    ensures { IfOk result (λ faults. (bag : Bag) → IsFactsOf bag facts.now → facts.now.options.depth ≢ Declaration
-        → HasEachOnce (IsUnlistedInSome bag) faults.items) }
-{
-    let mut faults = Vec::new(alloc);
-    for alg in Alg::ALL {
-        let mut of_alg = unlisted_of(alloc, facts, alg)?;
-        faults.append(&mut of_alg)?;
-    }
-    Ok(faults)
-}
-
 /// The faults that the payload manifest of an algorithm doesn't name payload files, where it is there.
-fn unlisted_of(alloc: Global, facts: &Facts, alg: Alg) -> Result<Vec<Fault>, AllocError>
+pub(crate) fn unlisted_of(alloc: Global, facts: &Facts, alg: Alg) -> Result<Vec<Fault>, AllocError>
     ensures { IfOk result (λ faults. (bag : Bag) → IsFactsOf bag facts.now → facts.now.options.depth ≢ Declaration
         → IsListOf fault_cmp (IsUnlisted bag alg) faults.items) }
 {

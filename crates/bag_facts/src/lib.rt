@@ -12,6 +12,7 @@
 //! Of RFC 8493 it keeps which files of a bag are tag files that are read (2.1, 2.2), and what each of them says.
 #![tactic(auto)]
 
+mod arrangement;
 mod facts;
 mod fetch_list;
 mod manifest;

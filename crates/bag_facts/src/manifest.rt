@@ -5,9 +5,10 @@ ghost use Rattle.std.specs.List.Sorted.{IsPermutation, IsSortedByKey};
 ghost use Rattle.bag_text.specs.Text.{text_cmp};
 ghost use Rattle.bag_facts.specs.TagFacts.{entry_paths, AreByPath, IsManifestOf};
 
+use crate::arrangement::arrange;
 use crate::utf8::is_text;
 use bag_tags::{Kind, LineFault, ManifestEntry, Parsed, read_manifest};
-use bag_text::{Alg, Items, Text, common_front, key_behind};
+use bag_text::{Alg, Items, Text};
 use std::alloc::{AllocError, Global};
 
 /// What is known of one manifest.
@@ -40,7 +41,7 @@ impl Manifest {
             kind,
             alg,
             is_text: is_text(faults.as_slice()),
-            entries: sorted_by_path(items)?,
+            entries: sorted_by_path(alloc, items)?,
             faults,
         })
     }
@@ -64,29 +65,16 @@ pub fn entry_at<'a>(entries: &'a [ManifestEntry], path: &Text) -> Option<&'a Man
     entries.get(place)
 }
 
-/// Entries in the order of their paths. The keys tell most paths apart, so that the second sort finds them in order.
-fn sorted_by_path(entries: Items<ManifestEntry>) -> Result<Items<ManifestEntry>, AllocError>
+/// Entries in the order of their paths. Most are in order before the second sort, which then only compares neighbours.
+fn sorted_by_path(
+    alloc: Global,
+    entries: Items<ManifestEntry>,
+) -> Result<Items<ManifestEntry>, AllocError>
     ensures sorted { IfOk result (IsSortedByKey (λ entry. entry.path) text_cmp) }
     ensures permutation { IfOk result (IsPermutation entries) }
 {
     let mut entries = entries.into_vec();
-    let skipped = common_len(entries.as_slice());
-    entries.sort_by_cached_key(|entry| key_behind(entry.path.as_str().as_bytes(), skipped))?;
+    arrange(alloc, &mut entries)?;
     entries.sort_unstable_by(|a, b| a.path.cmp(&b.path));
     Ok(Items::from_vec(entries))
-}
-
-/// How many bytes the paths of all entries begin alike.
-fn common_len(entries: &[ManifestEntry]) -> usize {
-    let Some(first) = entries.first() else {
-        return 0;
-    };
-    let mut common = first.path.as_str().as_bytes();
-    for entry in entries {
-        let path = entry.path.as_str().as_bytes();
-        if !path.starts_with(common) {
-            common = common_front(common, path);
-        }
-    }
-    common.len()
 }

@@ -17,7 +17,7 @@ onto_before c [] ys some = absurd (omega arith)
 onto_before c (x ∷ xs) ys some = refl
 
 -- the components of a path under a folder
-components_under : (folder path : List ℕ) → components (under folder path) ≡ components folder ++ components path
+pub components_under : (folder path : List ℕ) → components (under folder path) ≡ components folder ++ components path
 components_under [] path = refl
 components_under (c ∷ folder) path = elim (c == slash) as (λ b. cond b ([] ∷ components (under folder path)) (onto_first c (components (under folder path))) ≡ cond b ([] ∷ components folder) (onto_first c (components folder)) ++ components path) [
   | true ↦ ap (λ parts. [] ∷ parts) (components_under folder path)

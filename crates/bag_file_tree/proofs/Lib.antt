@@ -1,3 +1,6 @@
+pub mod BagSteps
+pub mod BaseNames
+pub mod ChangedTree
 pub mod DiskCount
 pub mod DiskSteps
 pub mod FoundPaths
@@ -5,3 +8,4 @@ pub mod PathOrder
 pub mod Plain
 pub mod Refusals
 pub mod WholeWalk
+pub mod WrittenFiles

@@ -6,7 +6,7 @@ use Rattle.bag_disk.specs.Disk.{DiskState, is_plain}
 use Rattle.bag_disk.specs.declared.disk.DiskFault.{DiskFault}
 use Rattle.bag_disk.specs.declared.disk.DiskFault.TheVariants as disk
 use Rattle.bag_file_tree.specs.declared.refusal.Refusal.{Refusal}
-use Rattle.bag_file_tree.specs.declared.refusal.Refusal.TheVariants.{Device, Special, Name, NotFound, TooMany, Memory}
+use Rattle.bag_file_tree.specs.declared.refusal.Refusal.TheVariants.{Device, Special, Name, NotFound, TooMany, Memory, Exists}
 
 -- the count that has no successor
 abbrev pub last_count : ℕ
@@ -27,6 +27,7 @@ fault_of Name count = failure_or_memory fault.Name count
 fault_of NotFound count = fault.NotFound
 fault_of TooMany count = fault.TooMany
 fault_of Memory count = fault.Memory
+fault_of Exists count = fault.Exists
 
 -- how many failures there are then
 abbrev pub count_after : Refusal → ℕ → ℕ
@@ -36,6 +37,7 @@ count_after Name count = one_more_failure count
 count_after NotFound count = count
 count_after TooMany count = count
 count_after Memory count = count
+count_after Exists count = count
 
 -- where the disk is honest, something stands there that is no file and no folder, or has a name that isn't UTF-8
 abbrev pub HasOther : DiskState → Type 0
@@ -50,6 +52,12 @@ IsDue over absent many Name = over
 IsDue over absent many NotFound = absent
 IsDue over absent many TooMany = many
 IsDue over absent many Memory = Unit {0}
+IsDue over absent many Exists = ⊥
+
+-- A step may be refused so: `taken` says when something is in its way.
+abbrev pub IsDueInStep : Type 0 → Type 0 → Type 0 → Refusal → Type 0
+IsDueInStep over absent taken Exists = taken
+IsDueInStep over absent taken refusal = IsDue over absent ⊥ refusal
 
 -- what a fault of the disk means at the path of one file
 abbrev pub of_path : DiskFault → Refusal

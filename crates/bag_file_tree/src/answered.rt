@@ -104,6 +104,7 @@ impl Answered {
             Refusal::NotFound => TreeFault::NotFound,
             Refusal::TooMany => TreeFault::TooMany,
             Refusal::Memory => TreeFault::Memory,
+            Refusal::Exists => TreeFault::Exists,
         }
     }
 

@@ -8,8 +8,10 @@ use crate::answered::Answered;
 use crate::listing::list_below;
 use crate::opening::open_at;
 use crate::refusal::Refusal;
-use bag_disk::{Disk, SystemDisk};
+use crate::{changing, writing};
+use bag_disk::{Disk, SystemDisk, WritableDisk};
 use bag_tree::{Listing, Tree, TreeFault};
+use bag_write_tree::WriteTree;
 use std::alloc::{AllocError, Global};
 use std::rt::Files;
 
@@ -19,6 +21,12 @@ use std::rt::Files;
 /// the base folder is `Special`; none is followed or opened. The base folder itself may be a symbolic link to a folder.
 /// Where a disk names payload files and no payload folder, a listing is `Device`; so is a read after which the bytes of the
 /// open file might not be counted in 64 bits.
+///
+/// A step that changes it is one call of the disk: a folder is made, or something is renamed, never copied. It looks
+/// first, and replaces nothing that stood there then. A folder without files at the path to which `move_in` would move is
+/// `Device`, since it might be replaced. What a disk calls a wrong name, as one that is too long, is `Device` too. A
+/// refused `create` may leave a file of some first bytes, which stays open until the next step or until the tree is
+/// dropped.
 #[derive(Drop)]
 pub struct FileTree<D> {
     alloc: Global,
@@ -78,6 +86,72 @@ impl<D: Disk + Drop> Tree for FileTree<D> {
     }
 
     ghost is_bag = { λ tree. bag_of_disk (D.state tree.disk).nodes (D.is_disk tree.disk) };
+}
+
+impl<D: WritableDisk + Drop> WriteTree for FileTree<D> {
+    ghost use Rattle.std.specs.Prelude.{◌⊎◌, true, IsTrue, IfErr, MatchResult, None, OnErr, OnOk};
+    ghost use Rattle.bag_text.specs.Path.{is_base_name};
+    ghost use Rattle.bag_tree.specs.declared.answer.Answer.TheVariants.{Given, Refused};
+    ghost use Rattle.bag_write_tree.specs.Changes.{HasBegun, HasChanged, IsPossible, IsSame, MayRefuseChange};
+    ghost use Rattle.bag_write_tree.specs.Steps as step;
+
+    fn make_folder(&mut self, name: &str) -> Result<(), TreeFault> {
+        match changing::make_folder(&mut self.disk, name) {
+            Ok(()) => {
+                self.answered.give();
+                Ok(())
+            }
+            Err(refusal) => Err(self.answered.refuse(refusal)),
+        }
+    }
+
+    fn move_in(&mut self, top: &str, folder: &str) -> Result<(), TreeFault> {
+        match changing::move_in(&mut self.disk, self.alloc, top, folder) {
+            Ok(()) => {
+                self.answered.give();
+                Ok(())
+            }
+            Err(refusal) => Err(self.answered.refuse(refusal)),
+        }
+    }
+
+    fn rename_folder(&mut self, from: &str, to: &str) -> Result<(), TreeFault> {
+        match changing::rename_folder(&mut self.disk, from, to) {
+            Ok(()) => {
+                self.answered.give();
+                Ok(())
+            }
+            Err(refusal) => Err(self.answered.refuse(refusal)),
+        }
+    }
+
+    /// Makes a file in the base folder. After Ok no file is being written: the device was asked to keep all of it.
+    fn create(&mut self, name: &str, bytes: &[u8]) -> Result<(), TreeFault>
+        requires { IsTrue (is_base_name name.now) }
+        ensures changed { OnOk result (HasChanged (step.create name.now bytes.now) 1
+            (⟦<FileTree<D> as Tree>⟧.state self.old) (⟦<FileTree<D> as Tree>⟧.state self.new)) }
+        ensures calm { OnOk result ((⟦<FileTree<D> as Tree>⟧.state self.new).failures
+            ≡ (⟦<FileTree<D> as Tree>⟧.state self.old).failures) }
+        ensures possible { OnOk result (IsPossible ⊥
+            (step.is_taken (⟦<FileTree<D> as Tree>⟧.state self.old).bag name.now ≡ true)
+            (⟦<FileTree<D> as Tree>⟧.state self.old)) }
+        ensures last { MatchResult result (λ _. (⟦<FileTree<D> as Tree>⟧.state self.new).last ≡ Given)
+            (λ fault. (⟦<FileTree<D> as Tree>⟧.state self.new).last ≡ Refused fault) }
+        ensures begun { OnErr result (IsSame (⟦<FileTree<D> as Tree>⟧.state self.old) (⟦<FileTree<D> as Tree>⟧.state self.new)
+            ⊎ HasBegun name.now bytes.now (⟦<FileTree<D> as Tree>⟧.state self.old) (⟦<FileTree<D> as Tree>⟧.state self.new)) }
+        ensures refused { IfErr result (MayRefuseChange ⊥
+            (step.is_taken (⟦<FileTree<D> as Tree>⟧.state self.old).bag name.now ≡ true)
+            (⟦<FileTree<D> as Tree>⟧.state self.old) (⟦<FileTree<D> as Tree>⟧.state self.new)) }
+        ensures kept { OnOk result (D.written (disk_of self.new) ≡ None) }
+    {
+        match writing::create(&mut self.disk, name, bytes) {
+            Ok(()) => {
+                self.answered.give();
+                Ok(())
+            }
+            Err(refusal) => Err(self.answered.refuse(refusal)),
+        }
+    }
 }
 
 impl<R: Files + AllocGlobal + Clone + Drop> FileTree<SystemDisk<R>> {

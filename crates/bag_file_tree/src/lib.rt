@@ -6,10 +6,12 @@
 //! ```
 //!
 //! A `FileTree` stands over any `Disk`, a few calls of the system below a base folder, and is proved for each honest one.
+//! Over a `WritableDisk` it can be changed step by step, so that a folder is made a bag in place (RFC 8493, 2.1).
 //! `FileTree::at` is the tree over the system's disk, of which nothing is promised.
 #![tactic(auto)]
 
 mod answered;
+mod changing;
 mod file_tree;
 mod folder_walk;
 pub mod laws;
@@ -19,5 +21,8 @@ mod opening;
 mod path;
 mod path_order;
 mod refusal;
+mod standing;
+mod target;
+mod writing;
 
 pub use file_tree::FileTree;

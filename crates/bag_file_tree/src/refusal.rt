@@ -21,6 +21,8 @@ pub(crate) enum Refusal {
     TooMany,
     /// A growth was refused.
     Memory,
+    /// What was to be made is there.
+    Exists,
 }
 
 impl From<AllocError> for Refusal {

@@ -1,6 +1,10 @@
+pub mod Composed
 pub mod FirstParts
+pub mod Made
 pub mod OfTheBag
 pub mod Placed
 pub mod PutFiles
+pub mod ReadFolder
 pub mod StepsMake
+pub mod Summing
 pub mod TopsInOrder

@@ -1,5 +1,5 @@
 -- The steps in which a bag is made, and what they leave.
-use Rattle.std.specs.Prelude.{ℕ, ◌≡◌, ◌≢◌, ◌⊎◌, ◌≤◌, ◌-◌, true, IsTrue, List, Some, codes, fold, take, slice_get}
+use Rattle.std.specs.Prelude.{ℕ, ◌≡◌, ◌≢◌, ◌⊎◌, ◌≤◌, ◌-◌, true, IsTrue, List, [], ◌∷◌, Some, codes, fold, take, slice_get}
 use Rattle.bag_text.specs.Path.{is_base_name, under}
 use Rattle.bag_tree.specs.Bag.{Bag}
 use Rattle.bag_tree.specs.Tree.{TreeState}
@@ -33,6 +33,18 @@ IsStep (MoveIn top) = IsTrue (is_base_name top) × (top ≢ new_folder)
 IsStep Rename = Unit {0}
 IsStep (Create name bytes) = IsTrue (is_base_name name)
 
+-- the step can be taken on a bag: what it moves is there, and nothing stands where it puts it
+abbrev pub CanTake : Step → Bag → Type 0
+CanTake MakeFolder bag = ¬ (is_taken bag new_folder ≡ true)
+CanTake (MoveIn top) bag = ¬ (lacks_source bag top new_folder ≡ true) × ¬ (has_within bag (under new_folder top) ≡ true)
+CanTake Rename bag = ¬ (lacks_folder bag new_folder ≡ true) × ¬ (is_taken bag data_folder ≡ true)
+CanTake (Create name bytes) bag = ¬ (is_taken bag name ≡ true)
+
+-- each of these steps can be taken after those before it
+abbrev pub CanTakeAll : List Step → Bag → Type 0
+CanTakeAll [] bag = Unit {0}
+CanTakeAll (step ∷ steps) bag = CanTake step bag × CanTakeAll steps (change step bag)
+
 -- how many files and folders more there may be after the step
 abbrev pub more : Step → ℕ
 more MakeFolder = 1
@@ -56,9 +68,10 @@ MayRefuseStep (MoveIn top) old new = MayRefuseChange (lacks_source old.bag top n
 MayRefuseStep Rename old new = MayRefuseChange (lacks_folder old.bag new_folder ≡ true) (is_taken old.bag data_folder ≡ true) old new
 MayRefuseStep (Create name bytes) old new = MayRefuseChange ⊥ (is_taken old.bag name ≡ true) old new
 
--- These steps were taken. The bag of an honest tree is then the steps' bag, and no file was opened.
+-- These steps were taken. The bag of an honest tree is then the steps' bag, each step could be taken, and no file was opened.
 pub record HasTaken (steps : List Step) (old new : TreeState) : Type 0 where
   pub bag : IsTrue old.honest → new.bag ≡ after_steps steps old.bag
+  pub possible : IsTrue old.honest → CanTakeAll steps old.bag
   pub plain : IsTrue old.honest → IsTrue old.plain → IsTrue new.plain
   pub honest : new.honest ≡ old.honest
   pub failures : old.failures ≤ new.failures

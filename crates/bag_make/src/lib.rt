@@ -1,13 +1,22 @@
-//! The steps in which a bag is made of a folder, in place (RFC 8493, 2.1): which they are, that all of them make the bag, and
-//! what stands where one is refused.
+//! Makes a bag of a folder, in place (RFC 8493, 2.1): all is read and composed before the first change, each step is done or
+//! not done, and the bag that is made has no fault.
+//!
+//! ```
+//! let algs = AlgSet::empty().with(Alg::Sha256);
+//! let (tree, made) = make(alloc, tree, algs, &[(label, value)]);
+//! ```
 #![tactic(auto)]
 
 mod fault;
 pub mod laws;
+mod making;
 mod obstacle;
 mod plan;
 mod request;
 mod step;
+mod summed;
+mod texts;
 mod tops;
 
 pub use fault::MakeFault;
+pub use making::make;

@@ -9,7 +9,7 @@ use bag_text::{AlgSet, Text, same_label};
 use bag_write::is_bad_element;
 
 /// The label of the element that is computed (RFC 8493, 2.2.2).
-const OXUM_LABEL: &str = "Payload-Oxum";
+pub(crate) const OXUM_LABEL: &str = "Payload-Oxum";
 
 /// Refuses a bag without an algorithm, and elements that can't be written or are `Payload-Oxum`, whatever its case. Takes no
 /// memory.

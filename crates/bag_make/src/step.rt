@@ -1,6 +1,6 @@
 //! The steps in which a bag is made.
-ghost use Rattle.std.specs.Prelude.{◌≡◌, ◌⊎◌, OnOk, OnErr, IfErr, All};
-ghost use Rattle.bag_make.specs.Steps.{IsStep, HasDone, HasLeft, MayRefuseStep, HasTaken, HasStopped};
+ghost use Rattle.std.specs.Prelude.{◌≡◌, ◌⊎◌, OnOk, OnErr, IfErr, IsTrue, All};
+ghost use Rattle.bag_make.specs.Steps.{CanTake, IsStep, HasDone, HasLeft, MayRefuseStep, HasTaken, HasStopped};
 
 use bag_text::{Items, Text};
 use bag_tree::TreeFault;
@@ -55,6 +55,7 @@ pub fn take_steps<T: WriteTree>(tree: &mut T, steps: &[Step]) -> Result<(), Refu
 fn take_step<T: WriteTree>(tree: &mut T, step: &Step) -> Result<(), TreeFault>
     requires { IsStep step.now }
     ensures done { OnOk result (HasDone step.now (T.state tree.old) (T.state tree.new)) }
+    ensures possible { OnOk result (IsTrue (T.state tree.old).honest → CanTake step.now (T.state tree.old).bag) }
     ensures calm { OnOk result ((T.state tree.new).failures ≡ (T.state tree.old).failures) }
     ensures left { OnErr result (HasLeft step.now (T.state tree.old) (T.state tree.new)) }
     ensures refused { IfErr result (MayRefuseStep step.now (T.state tree.old) (T.state tree.new)) }

@@ -9,8 +9,7 @@ pub mod ManifestJudged
 pub mod ManifestLine
 pub mod ManifestLineParts
 pub mod ManifestName
-pub mod RepeatsApart
-pub mod RepeatsAscending
+pub mod NamedOnce
 pub mod RepeatsFollowers
 pub mod RepeatsMarked
 pub mod RepeatsPlaces

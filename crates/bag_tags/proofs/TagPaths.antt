@@ -1,7 +1,7 @@
 -- The paths of tag files.
 use Rattle.std.proofs.Common.{◌≡◌, ◌≢◌, ◌++◌, ℕ, List, [], ◌∷◌, find, subst, Option, None, Some, Bool, true, false, refl, sym, ap, ◌∙◌, cond, arith, ◌==◌, append_assoc, get_or, MatchOption, codes, bytes_eq}
 use Rattle.std.proofs.lemmas.Bool.Decides.{nat_tests}
-use Rattle.std.specs.List.{list_all}
+use Rattle.std.specs.List.{list_all, slice_get}
 use Rattle.std.proofs.lemmas.List.Elements.{All-contains}
 use Rattle.std.proofs.lemmas.List.Sums.{AllPass-from_list_all}
 use Rattle.std.proofs.lemmas.Slice.Eq.{bytes_eq-Decides}
@@ -83,6 +83,21 @@ paths_differ (Manifest Tag a) Info e = absurd (apart 116 98 refl (ap first e))
 paths_differ (Manifest Tag a) Fetch e = absurd (apart 116 102 refl (ap first e))
 paths_differ (Manifest Tag a) (Manifest Payload b) e = absurd (apart 116 109 refl (ap first e))
 paths_differ (Manifest Tag a) (Manifest Tag b) e = ap (Manifest Tag) (same_name a b (one_text Tag (name a) (name b) e))
+
+abbrev first_or : Option ℕ → ℕ
+first_or None = 0
+first_or (Some x) = x
+
+-- no tag file's path begins with a d
+pub no_tag_begins_so : (path : List ℕ) → slice_get path 0 ≡ Some 100 → (name : TagName) → tag_path name ≢ path
+no_tag_begins_so path begins name same = begins_other name (ap (λ t. first_or (slice_get t 0)) same ∙ ap first_or begins)
+  where
+    begins_other : (name : TagName) → first_or (slice_get (tag_path name) 0) ≡ 100 → ⊥
+    begins_other Declaration e = apart 98 100 refl e
+    begins_other Info e = apart 98 100 refl e
+    begins_other Fetch e = apart 102 100 refl e
+    begins_other (Manifest Payload a) e = apart 109 100 refl e
+    begins_other (Manifest Tag a) e = apart 116 100 refl e
 
 manifest_in_base : (kind : Kind) (alg : Alg) → is_base_name (manifest_name kind (name alg)) ≡ true
 manifest_in_base Payload = each_alg (λ a. is_base_name (manifest_name Payload (name a))) refl

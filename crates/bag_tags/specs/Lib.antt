@@ -11,5 +11,6 @@ pub mod Judged
 pub mod Manifest
 pub mod ManifestLine
 pub mod ManifestName
+pub mod NamedOnce
 pub mod Repeats
 pub mod TagName

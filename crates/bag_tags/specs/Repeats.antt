@@ -1,12 +1,9 @@
 -- Lines of a manifest that name a path again (RFC 8493, 2.1.3).
-use Rattle.std.specs.Prelude.{ℕ, ◌≡◌, ◌+◌, ◌<◌, ◌++◌, List, [], ◌∷◌, length, map, nat_eq, Some, if◌then◌else◌, slice_get, slice_index_or, IsTrue, Contains}
+use Rattle.std.specs.Prelude.{ℕ, ◌≡◌, ◌+◌, ◌<◌, ◌++◌, List, [], ◌∷◌, length, Some, if◌then◌else◌, slice_get, IsTrue, Contains}
 use Rattle.std.specs.Borrow.{Bor}
-use Rattle.std.specs.List.{IsDistinct}
 use Rattle.std.specs.Hash.FoldHasher.{initial, write, finish}
 use Rattle.std.specs.declared.cmp.Ordering.{Ordering}
-use Rattle.std.specs.declared.cmp.Ordering.TheVariants.{Less}
 use Rattle.std.specs.Ordering.{nat_cmp, on}
-use Rattle.bag_text.specs.Text.{text_cmp}
 use Rattle.bag_tags.specs.declared.manifest_line.Judged.{Judged}
 use Rattle.bag_tags.specs.Judged.{names_path, text, is_repeat, as_repeat}
 
@@ -29,10 +26,6 @@ pub record IsMarked (places : List ℕ) (old new : List Judged) : Type 0 where
   pub same_but : (i : ℕ) (j k : Judged) → slice_get old i ≡ Some j → slice_get new i ≡ Some k → as_repeat k ≡ as_repeat j
   pub others : (i : ℕ) → ¬ (Contains places i) → slice_get new i ≡ slice_get old i
 
--- the texts ascend, so that no two are the same
-abbrev pub AreAscending : List Judged → Type 0
-AreAscending all = (k : ℕ) (d : Judged) → k + 1 < length all → text_cmp (text (slice_index_or all k d)) (text (slice_index_or all (k + 1) d)) ≡ Less
-
 -- a path with its fingerprint and its place
 abbrev pub Place : Type 0
 Place = ℕ × Bor (List ℕ) × ℕ
@@ -47,14 +40,6 @@ pair_of x = (x.1.now, x.2)
 abbrev pub places_from : ℕ → List Judged → List (List ℕ × ℕ)
 places_from n [] = []
 places_from n (j ∷ js) = (if names_path j then (text j, n) ∷ [] else []) ++ places_from (n + 1) js
-
--- the fingerprints of these paths
-abbrev pub fingerprints_from : ℕ → List Judged → List ℕ
-fingerprints_from n all = map (λ x. fingerprint x.0) (places_from n all)
-
--- no two of them are the same
-abbrev pub AreApart : List Judged → Type 0
-AreApart all = IsDistinct nat_eq (fingerprints_from 0 all)
 
 -- the place stands behind another of the same path, among the first so many pairs
 abbrev pub FollowsBelow : List (List ℕ × ℕ) → ℕ → ℕ → Type 0

@@ -20,6 +20,7 @@ pub mod laws;
 mod manifest;
 mod manifest_line;
 mod manifest_name;
+mod named_once;
 mod repeats;
 mod tag_name;
 

@@ -10,6 +10,7 @@ ghost use Rattle.bag_line.specs.LineFault.{AreFaults};
 ghost use Rattle.bag_tags.specs.Manifest.{IsEntry, IsManifestFault};
 
 use crate::manifest_line::{Judged, Verdict, judge};
+use crate::named_once::are_different;
 use crate::repeats::mark_repeats;
 use crate::{Digest, Kind, LineFault, Parsed};
 use bag_line::unread;
@@ -46,7 +47,47 @@ pub fn read_manifest(
     }
 }
 
+/// Reads a text. Where a path may be named again, it is read once more, line by line.
 fn read_text(
+    alloc: Global,
+    kind: Kind,
+    alg: Alg,
+    text: &str,
+) -> Result<Parsed<ManifestEntry>, AllocError>
+    ensures items { IfOk result (λ parsed. parsed.items ≡ filter_map entry_of (judged_and_marked kind alg (cut.lines text.now))) }
+    ensures faults { IfOk result (λ parsed. parsed.faults ≡ filter_map fault_of (judged_and_marked kind alg (cut.lines text.now))) }
+{
+    let parsed = read_lines(alloc, kind, alg, text)?;
+    if are_different(alloc, parsed.items.as_slice())? {
+        return Ok(parsed);
+    }
+    read_repeats(alloc, kind, alg, text)
+}
+
+/// Reads the lines of a text, each as if it were alone.
+fn read_lines(
+    alloc: Global,
+    kind: Kind,
+    alg: Alg,
+    text: &str,
+) -> Result<Parsed<ManifestEntry>, AllocError>
+    ensures items { IfOk result (λ parsed. parsed.items ≡ filter_map entry_of (judged_all kind alg (enumerate_from 1 (cut.lines text.now)))) }
+    ensures faults { IfOk result (λ parsed. parsed.faults ≡ filter_map fault_of (judged_all kind alg (enumerate_from 1 (cut.lines text.now)))) }
+{
+    let most = text.len() / (alg.hex_len() + SHORTEST_REST);
+    let mut items = Items::from_vec(Vec::with_capacity(alloc, most)?);
+    let mut faults = Items::new(alloc);
+    for (line, content) in lines(text) {
+        if !is_blank_line(content) {
+            let verdict = judge(alloc, kind, alg, content)?;
+            put(Judged { line, verdict }, &mut items, &mut faults)?;
+        }
+    }
+    Ok(Parsed { items, faults })
+}
+
+/// Reads a text in which paths may be named again.
+fn read_repeats(
     alloc: Global,
     kind: Kind,
     alg: Alg,

@@ -1,10 +1,8 @@
 //! Lines of a manifest that name a path again.
-ghost use Rattle.std.specs.Prelude.{◌≡◌, ◌↔◌, ◌<◌, ℕ, IfOk, OnOk, All, Contains, IsTrue, bytes_eq, length, map};
-ghost use Rattle.std.specs.List.Sorted.{IsStrictlyIncreasing, IsStrictlySortedBy};
-ghost use Rattle.std.specs.declared.cmp.Ordering.TheVariants.{Less};
-ghost use Rattle.bag_text.specs.Text.{text_cmp};
-ghost use Rattle.bag_tags.specs.Judged.{marked_if_repeat, text};
-ghost use Rattle.bag_tags.specs.Repeats.{fingerprint, fingerprints_from, line_cmp, pair_of, places_from, AreApart, IsRepeatAt, IsMarked, AreAscending, FollowsSame, HasFingerprint};
+ghost use Rattle.std.specs.Prelude.{◌≡◌, ◌↔◌, ◌<◌, ℕ, IfOk, OnOk, All, Contains, bytes_eq, length, map};
+ghost use Rattle.std.specs.List.Sorted.{IsStrictlySortedBy};
+ghost use Rattle.bag_tags.specs.Judged.{marked_if_repeat};
+ghost use Rattle.bag_tags.specs.Repeats.{fingerprint, line_cmp, pair_of, places_from, IsRepeatAt, IsMarked, FollowsSame, HasFingerprint};
 
 use crate::manifest_line::Judged;
 use std::alloc::{AllocError, Global};
@@ -35,72 +33,9 @@ fn repeats(alloc: Global, all: &[Judged]) -> Result<Vec<usize>, AllocError>
     requires { IsStrictlySortedBy line_cmp all.now }
     ensures { IfOk result (λ places. (i : ℕ) → Contains places.items i ↔ IsRepeatAt all.now i) }
 {
-    if is_ascending(all) {
-        return Ok(Vec::new(alloc));
-    }
-    if fingerprints_differ(alloc, all)? {
-        return Ok(Vec::new(alloc));
-    }
     let mut named = named_places(alloc, all)?;
     named.sort_unstable();
     followers(alloc, named.as_slice())
-}
-
-/// Whether all lines read and their paths ascend, so that none is named again. Most programs write them so.
-fn is_ascending(all: &[Judged]) -> bool
-    ensures { IsTrue result → AreAscending all.now }
-{
-    for k in 1..all.len() {
-        if !is_below(&all[k - 1], &all[k]) {
-            return false;
-        }
-    }
-    true
-}
-
-/// Whether both lines read and the path of the first stands before that of the second.
-fn is_below(first: &Judged, second: &Judged) -> bool
-    ensures { IsTrue result → text_cmp (text first.now) (text second.now) ≡ Less }
-{
-    match (first.path(), second.path()) {
-        (Some(before), Some(after)) => before.cmp(after).is_lt(),
-        _ => false,
-    }
-}
-
-/// Whether the paths of lines that read have different fingerprints, so that none is named again. Sorted alone, these
-/// take little time.
-fn fingerprints_differ(alloc: Global, all: &[Judged]) -> Result<bool, AllocError>
-    ensures { IfOk result (λ differ. IsTrue differ → AreApart all.now) }
-{
-    let mut fingerprints = fingerprints(alloc, all)?;
-    fingerprints.sort_unstable();
-    Ok(is_increasing(fingerprints.as_slice()))
-}
-
-/// The fingerprint of the path of each line that reads.
-fn fingerprints(alloc: Global, all: &[Judged]) -> Result<Vec<u64>, AllocError>
-    ensures { IfOk result (λ found. found.items ≡ fingerprints_from 0 all.now) }
-{
-    let mut found = Vec::with_capacity(alloc, all.len())?;
-    for judged in all {
-        if let Some(path) = judged.path() {
-            found.push(fingerprint(path))?;
-        }
-    }
-    Ok(found)
-}
-
-/// Whether each number is greater than the one before it.
-fn is_increasing(numbers: &[u64]) -> bool
-    ensures { IsTrue result → IsStrictlyIncreasing numbers.now }
-{
-    for k in 1..numbers.len() {
-        if numbers[k - 1] >= numbers[k] {
-            return false;
-        }
-    }
-    true
 }
 
 /// The path of each line that reads, with its fingerprint and the line's place.
@@ -119,7 +54,7 @@ fn named_places(alloc: Global, all: &[Judged]) -> Result<Vec<(u64, &str, usize)>
 
 /// A number of a path, which most often tells it from other paths.
 #[tactic(auto, unfolding(crate::specs::Repeats::fingerprint))]
-fn fingerprint(path: &str) -> u64
+pub(crate) fn fingerprint(path: &str) -> u64
     ensures { result ≡ fingerprint path.now }
 {
     let mut hasher = FoldHasher::default();

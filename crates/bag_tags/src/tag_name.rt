@@ -1,5 +1,6 @@
 //! The tag files that the checks read, by their names.
-ghost use Rattle.std.specs.Prelude.{◌≡◌, ◌≢◌, IfOk, MatchOption, Some};
+ghost use Rattle.std.specs.Prelude.{◌≡◌, ◌≢◌, IfOk, IsTrue, MatchOption, Some, slice_get};
+ghost use Rattle.std.specs.Str.{byte};
 ghost use Rattle.bag_text.specs.declared.alg.Alg.{Alg};
 ghost use Rattle.bag_tags.specs.TagName.{tag_path};
 ghost use Rattle.bag_tags.specs.declared.tag_name.TagName.{TagName};
@@ -35,7 +36,9 @@ impl TagName {
     pub fn at(path: &str) -> Option<TagName>
         ensures { MatchOption result ((name : TagName) → tag_path name ≢ path.now) (λ name. tag_path name ≡ path.now) }
     {
-        if path == DECLARATION {
+        if begins_as_payload(path) {
+            None
+        } else if path == DECLARATION {
             Some(TagName::Declaration)
         } else if path == INFO {
             Some(TagName::Info)
@@ -67,6 +70,16 @@ impl fmt::Display for TagName {
             TagName::Fetch => write!(f, "{FETCH}"),
             TagName::Manifest(kind, alg) => write!(f, "{}{}{SUFFIX}", prefix(*kind), alg.name()),
         }
+    }
+}
+
+/// Whether a path begins with a `d`, as that of no tag file does, but that of each payload file.
+fn begins_as_payload(path: &str) -> bool
+    ensures { IsTrue result → slice_get path.now 0 ≡ Some (byte "d") }
+{
+    match path.as_bytes().first() {
+        Some(first) => *first == b'd',
+        None => false,
     }
 }
 

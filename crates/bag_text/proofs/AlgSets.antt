@@ -1,11 +1,12 @@
 -- Sets of algorithms.
-use Rattle.std.proofs.Common.{◌≡◌, ◌≢◌, ◌↔◌, ◌⊎◌, inl, inr, ℕ, zero, suc, ◌-◌, ◌<◌, Bool, true, false, not, ◌||◌, List, [], ◌∷◌, filter, map, Contains, IsTrue, refl, sym, ap, subst, ◌∙◌, length, arith, get_or, set, rules}
+use Rattle.std.proofs.Common.{◌≡◌, ◌≢◌, ◌↔◌, ◌⊎◌, inl, inr, ℕ, zero, suc, ◌-◌, ◌<◌, Bool, true, false, not, ◌||◌, List, [], ◌∷◌, filter, map, Contains, IsTrue, refl, sym, ap, subst, ◌∙◌, length, arith, get_or, set, rules, ◌+◌, ◌++◌, take, cond, append-nil}
 use Rattle.std.specs.Bool.{beq}
 use Rattle.std.specs.List.{list_any}
 use Rattle.std.specs.List.Sorted.{IsStrictlySortedBy}
 use Rattle.std.proofs.lemmas.Bool.Decides.{nat_tests}
 use Rattle.std.proofs.lemmas.Grind.{get_or-set_at}
-use Rattle.std.proofs.lemmas.List.{get_or-set_other}
+use Rattle.std.proofs.lemmas.List.{get_or-set_other, take_more}
+use Rattle.std.proofs.lemmas.List.Elements.{filter-append}
 use Rattle.std.proofs.lemmas.Map.Views.{Contains-from_any}
 use Rattle.bag_text.specs.declared.alg.Alg.{Alg}
 use Rattle.bag_text.specs.declared.alg.Alg.TheVariants.{Md5}
@@ -118,3 +119,21 @@ name_is_read_again _ = refl
 
 pub names_tell_apart : NamesTellApart
 names_tell_apart a b e = cc (name_is_read_again a, name_is_read_again b)
+
+-- the members among the first algorithms, and among one more
+module _ (set : List Alg) (p : Alg → Bool) (i : ℕ) (some : List Alg) (is : filter p algs ≡ set) (lt : i < length algs) (so_far : some ≡ filter (has_member set) (take i algs)) where
+  test : has_member set (get_or algs i Md5) ≡ p (get_or algs i Md5)
+  test = ap (λ s. has_member s (get_or algs i Md5)) (sym is) ∙ has_member-filter p (get_or algs i Md5)
+
+  kept : (b : Bool) → p (get_or algs i Md5) ≡ b → filter (has_member set) (take (i + 1) algs) ≡ some ++ cond b (get_or algs i Md5 ∷ []) []
+  kept b e =
+      ap (filter (has_member set)) (take_more algs i Md5 lt)
+      ∙ filter-append (has_member set) (take i algs) (get_or algs i Md5 ∷ [])
+      ∙ ap (λ b. filter (has_member set) (take i algs) ++ cond b (get_or algs i Md5 ∷ []) []) (test ∙ e)
+      ∙ ap (λ xs. xs ++ cond b (get_or algs i Md5 ∷ []) []) (sym so_far)
+
+  pub member_more : p (get_or algs i Md5) ≡ true → some ++ get_or algs i Md5 ∷ [] ≡ filter (has_member set) (take (i + 1) algs)
+  member_more e = sym (kept true e)
+
+  pub no_member_more : p (get_or algs i Md5) ≡ false → some ≡ filter (has_member set) (take (i + 1) algs)
+  no_member_more e = sym (kept false e ∙ append-nil some)

@@ -8,6 +8,7 @@ pub mod ListOf
 pub mod Numbered
 pub mod PathReading
 pub mod Paths
+pub mod SortKeys
 pub mod SpellingLaws
 pub mod Spellings
 pub mod Utf8

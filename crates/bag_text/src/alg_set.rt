@@ -1,10 +1,12 @@
 //! Sets of checksum algorithms.
-ghost use Rattle.std.specs.Prelude.{◌≡◌, ◌↔◌, ◌⊎◌, ◌-◌, ◌<◌, [], Contains, IsTrue, length};
-ghost use Rattle.bag_text.specs.Alg.{algs, rank};
+ghost use Rattle.std.specs.Prelude.{◌≡◌, ◌↔◌, ◌⊎◌, ◌-◌, ◌<◌, [], Contains, IfOk, IsTrue, length};
+ghost use Rattle.std.specs.List.Sorted.{IsStrictlySortedBy};
+ghost use Rattle.bag_text.specs.Alg.{algs, rank, rank_cmp};
 ghost use Rattle.bag_text.specs.AlgList.{with_member};
 ghost use Rattle.bag_text.specs.declared.alg.Alg.{Alg as Member};
 
 use crate::Alg;
+use std::alloc::{AllocError, Global};
 use std::marker::Model;
 
 const COUNT: usize = Alg::ALL.len();
@@ -58,6 +60,21 @@ impl AlgSet {
         ensures { IsTrue result ↔ Contains self.now alg }
     {
         self.flags[flag_index(alg)]
+    }
+
+    /// Its members in their order.
+    pub fn members(self, alloc: Global) -> Result<Vec<Alg>, AllocError>
+        ensures items { IfOk result (λ members. members.items ≡ self) }
+        ensures ascend { IsStrictlySortedBy rank_cmp self }
+    {
+        let flags = self.flags;
+        let mut members = Vec::with_capacity(alloc, COUNT)?;
+        for alg in Alg::ALL {
+            if flags[flag_index(alg)] {
+                members.push(alg)?;
+            }
+        }
+        Ok(members)
     }
 
     /// Whether the set has no member.

@@ -23,4 +23,4 @@ pub use declaration::write_declaration;
 pub use element::is_bad_element;
 pub use fault::WriteFault;
 pub use info::write_info;
-pub use manifest::write_manifest;
+pub use manifest::{push_entry, write_manifest};

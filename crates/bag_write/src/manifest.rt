@@ -53,15 +53,22 @@ fn manifest_text(alloc: Global, entries: &[(Text, Text)]) -> Result<String, Allo
 {
     let mut text = String::new(alloc);
     for entry in entries {
-        push_entry(alloc, &mut text, entry)?;
+        push_entry(alloc, &mut text, entry.0.as_str(), entry.1.as_str())?;
     }
     Ok(text)
 }
 
-/// Puts the line of an entry at the end.
-fn push_entry(alloc: Global, text: &mut String, entry: &(Text, Text)) -> Result<(), AllocError>
-    ensures { OnOk result (string_bytes text.new ≡ string_bytes text.old ++ spec.entry_line entry.now ++ line_feed ∷ []) }
+/// Adds the line of a digest and the path that it is of: the digest, two spaces, and the path, in which LF, CR and `%` are
+/// escaped (RFC 8493, 2.1.3 and 2.2.1). It doesn't ask whether they are read again. Where memory runs out, a part of the line
+/// may stand there.
+pub fn push_entry(
+    alloc: Global,
+    text: &mut String,
+    digest: &str,
+    path: &str,
+) -> Result<(), AllocError>
+    ensures { OnOk result (string_bytes text.new ≡ string_bytes text.old ++ spec.entry_line (digest.now, path.now) ++ line_feed ∷ []) }
 {
-    let escaped = escape_path(alloc, entry.1.as_str())?;
-    push_line(text, entry.0.as_str(), SEPARATOR, escaped.as_str())
+    let escaped = escape_path(alloc, path)?;
+    push_line(text, digest, SEPARATOR, escaped.as_str())
 }

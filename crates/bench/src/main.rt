@@ -1,11 +1,12 @@
-//! Reads files and folders, and prints what it found: the scripts of `bench/` measure it. Each two words are a reader and the
-//! path that it reads.
+//! Reads files and folders, and prints what it found, or makes bags: the scripts of `bench/` measure it. Each two words are a
+//! reader and the path that it reads.
 #![tactic(auto)]
 
 mod checks;
 mod digests;
 mod folders;
 mod lines;
+mod making;
 mod profiles;
 mod tag_files;
 
@@ -26,6 +27,7 @@ fn print_found(rt: &HostRuntime, reader: &str, path: &str) -> io::Result<()> {
         "conforms-often" => profiles::print_folder(rt, path, 50),
         "complete" => checks::write_report(rt, path, Depth::Complete, false),
         "clashes" => checks::write_report(rt, path, Depth::Complete, true),
+        "make" => making::make_bag(rt, path),
         "valid" => checks::write_report(rt, path, Depth::Full, false),
         _ => digests::print_folder(rt, reader, path),
     }

@@ -1,10 +1,10 @@
 //! Digests that are compared as bytes with those that were published.
 use crate::pieces::whole;
+use crate::rows::sees_that;
 use crate::values::{VALUES, Value, every_alg};
 use bag_store::Sums;
 use bag_text::{Alg, AlgSet};
 use std::alloc::Global;
-use std::process::Abort;
 use std::test::Fail;
 
 /// The bytes that a text spells in hex.
@@ -38,7 +38,7 @@ fn is_right(alloc: Global, (alg, text, value): Value) -> Result<bool, Fail> {
 #[test]
 fn each_digest_is_taken_and_no_other(rt: HostRuntime) -> Result<(), Fail> {
     for &row in VALUES {
-        assert!(rt; is_right(rt.alloc(), row)?, "{}", row.2);
+        sees_that(&rt, is_right(rt.alloc(), row)?, row.2);
     }
     Ok(())
 }
@@ -55,7 +55,7 @@ fn is_told_apart(alloc: Global, asked: Alg, (alg, text, value): Value) -> Result
 fn digests_of_other_algorithms_are_not_taken(rt: HostRuntime) -> Result<(), Fail> {
     for asked in Alg::ALL {
         for &row in VALUES {
-            assert!(rt; is_told_apart(rt.alloc(), asked, row)?, "{}", row.2);
+            sees_that(&rt, is_told_apart(rt.alloc(), asked, row)?, row.2);
         }
     }
     Ok(())

@@ -2,6 +2,7 @@
 ghost use Rattle.std.specs.Prelude.{◌<◌, length};
 
 use crate::files::bytes_of;
+use crate::rows::sees_that;
 use bag_store::{FailTree, FileEntry, MemoryTree, TreeFault, digest_file};
 use bag_text::{Alg, AlgSet, Text};
 use std::alloc::{AllocError, Global};
@@ -63,9 +64,10 @@ fn the_fifth_call_is_the_last(rt: HostRuntime) -> Result<(), Fail> {
         let algs = AlgSet::empty().with(alg);
         for k in 1..=5 {
             let found = refused(rt.alloc(), b"abc", k, algs, &mut [0; 1])?;
-            assert!(rt; found == Some(TreeFault::Device), "{k}");
+            sees_that(&rt, found == Some(TreeFault::Device), wanted);
         }
-        assert_eq!(rt; digest_of_abc(rt.alloc(), alg, 6)?.as_str(), wanted);
+        let found = digest_of_abc(rt.alloc(), alg, 6)?;
+        sees_that(&rt, found.as_str() == wanted, wanted);
     }
     Ok(())
 }
@@ -83,9 +85,9 @@ fn takes_few_calls(rt: &impl Abort, alloc: Global, size: u32, buffer: &mut [u8])
         } else {
             None
         };
-        assert!(rt; found == wanted, "{size} {k}");
+        sees_that(rt, found == wanted, "call");
     }
-    assert!(rt; calls <= u64::from(size) + 2, "{size}");
+    sees_that(rt, calls <= u64::from(size) + 2, "calls");
     Ok(())
 }
 

@@ -2,10 +2,10 @@
 ghost use Rattle.std.specs.Prelude.{◌<◌, length};
 
 use crate::pieces::whole;
+use crate::rows::sees_that;
 use bag_store::{FileEntry, MemoryTree, TreeFault, digest_file};
 use bag_text::{Alg, AlgSet, Text};
 use std::alloc::{AllocError, Global};
-use std::process::Abort;
 use std::test::Fail;
 
 /// How many bytes the files have.
@@ -90,9 +90,13 @@ fn is_summed(alloc: Global, size: u32, buffer: &mut [u8]) -> Result<bool, Fail>
 #[test]
 fn files_are_summed_through_any_buffer(rt: HostRuntime) -> Result<(), Fail> {
     for &size in SIZES {
-        assert!(rt; is_summed(rt.alloc(), size, &mut [0; 1])?, "{size}");
-        assert!(rt; is_summed(rt.alloc(), size, &mut [0; 7])?, "{size}");
-        assert!(rt; is_summed(rt.alloc(), size, &mut [0; 65_536])?, "{size}");
+        sees_that(&rt, is_summed(rt.alloc(), size, &mut [0; 1])?, "by bytes");
+        sees_that(&rt, is_summed(rt.alloc(), size, &mut [0; 7])?, "by sevens");
+        sees_that(
+            &rt,
+            is_summed(rt.alloc(), size, &mut [0; 65_536])?,
+            "at once",
+        );
     }
     Ok(())
 }
@@ -115,18 +119,12 @@ fn refusal(
 fn other_sizes_and_paths_are_refused(rt: HostRuntime) -> Result<(), Fail> {
     for &(path, size, fault) in REFUSED {
         let listed = (path, size);
-        assert!(rt;
-            refusal(rt.alloc(), listed, &mut [0; 1])? == Some(fault),
-            "{path} {size}"
-        );
-        assert!(rt;
-            refusal(rt.alloc(), listed, &mut [0; 7])? == Some(fault),
-            "{path} {size}"
-        );
-        assert!(rt;
-            refusal(rt.alloc(), listed, &mut [0; 65_536])? == Some(fault),
-            "{path} {size}"
-        );
+        let by_bytes = refusal(rt.alloc(), listed, &mut [0; 1])?;
+        sees_that(&rt, by_bytes == Some(fault), path);
+        let by_sevens = refusal(rt.alloc(), listed, &mut [0; 7])?;
+        sees_that(&rt, by_sevens == Some(fault), path);
+        let at_once = refusal(rt.alloc(), listed, &mut [0; 65_536])?;
+        sees_that(&rt, at_once == Some(fault), path);
     }
     Ok(())
 }

@@ -13,6 +13,8 @@ mod pieces;
 #[cfg(test)]
 mod refused_calls;
 #[cfg(test)]
+mod rows;
+#[cfg(test)]
 mod skewed;
 #[cfg(test)]
 mod values;

@@ -2,9 +2,9 @@
 ghost use Rattle.std.specs.Prelude.{◌≡◌};
 ghost use Rattle.bag_store.specs.Tree.{TreeState};
 
+use crate::rows::sees_that;
 use bag_store::{FailTree, MemoryTree, Tree, TreeFault};
 use std::alloc::{AllocError, Global};
-use std::process::Abort;
 use std::test::Fail;
 
 const PATH: &str = "data/x";
@@ -134,7 +134,7 @@ fn is_right(alloc: Global, row: &Row) -> Result<bool, AllocError> {
 #[test]
 fn calls_of_which_one_is_refused(rt: HostRuntime) -> Result<(), Fail> {
     for row in ROWS {
-        assert!(rt; is_right(rt.alloc(), row)?, "{}", row.refused);
+        sees_that(&rt, is_right(rt.alloc(), row)?, "row");
     }
     Ok(())
 }
@@ -142,6 +142,6 @@ fn calls_of_which_one_is_refused(rt: HostRuntime) -> Result<(), Fail> {
 #[test]
 fn a_failure_is_counted(rt: HostRuntime) -> Result<(), Fail> {
     let mut tree = failed(rt.alloc());
-    assert!(rt; tree.list()?.files.as_slice().is_empty());
+    sees_that(&rt, tree.list()?.files.as_slice().is_empty(), "listing");
     Ok(())
 }

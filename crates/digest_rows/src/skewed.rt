@@ -3,9 +3,9 @@ ghost use Rattle.std.specs.Prelude.{IfOk, IsTrue};
 ghost use Rattle.bag_text.specs.Path.{is_path};
 ghost use Rattle.bag_store.specs.Listing.{IsOrdered, HasItsFolder};
 
+use crate::rows::sees_that;
 use bag_store::{Listing, MemoryTree, SkewTree, Tree, TreeFault};
 use std::alloc::{AllocError, Global};
-use std::process::Abort;
 use std::test::Fail;
 
 /// A tree with one file.
@@ -51,30 +51,35 @@ fn is_listed(tree: &mut SkewTree) -> bool {
 #[test]
 fn a_listing_is_given_once(rt: HostRuntime) -> Result<(), Fail> {
     let mut tree = skewed(rt.alloc())?;
-    assert!(rt; is_listed(&mut tree));
-    assert!(rt; tree.list().err() == Some(TreeFault::TooMany));
-    assert!(rt; tree.list().err() == Some(TreeFault::TooMany));
+    sees_that(&rt, is_listed(&mut tree), "answer");
+    sees_that(&rt, tree.list().err() == Some(TreeFault::TooMany), "answer");
+    sees_that(&rt, tree.list().err() == Some(TreeFault::TooMany), "answer");
     Ok(())
 }
 
 #[test]
 fn with_no_listing_there_are_too_many(rt: HostRuntime) -> Result<(), Fail> {
     let mut tree = SkewTree::new(tree_of(rt.alloc(), "data/x", b"abc")?, None);
-    assert!(rt; tree.list().err() == Some(TreeFault::TooMany));
-    assert!(rt; tree.list().err() == Some(TreeFault::TooMany));
+    sees_that(&rt, tree.list().err() == Some(TreeFault::TooMany), "answer");
+    sees_that(&rt, tree.list().err() == Some(TreeFault::TooMany), "answer");
     Ok(())
+}
+
+/// Whether a tree that has `abc` reads it, and nothing of what it lists.
+fn reads_what_it_has(tree: &mut SkewTree) -> bool {
+    let mut buffer = [0; 4];
+    tree.read(&mut buffer) == Err(TreeFault::NoneOpen)
+        && tree.open_file("data/y").err() == Some(TreeFault::NotFound)
+        && tree.open_file("data/x").is_ok()
+        && tree.list().is_ok()
+        && tree.read(&mut buffer) == Ok(3)
+        && &buffer[..3] == b"abc".as_slice()
+        && tree.read(&mut buffer) == Ok(0)
 }
 
 #[test]
 fn it_reads_what_it_has(rt: HostRuntime) -> Result<(), Fail> {
     let mut tree = skewed(rt.alloc())?;
-    let mut buffer = [0; 4];
-    assert!(rt; tree.read(&mut buffer) == Err(TreeFault::NoneOpen));
-    assert!(rt; tree.open_file("data/y").err() == Some(TreeFault::NotFound));
-    assert!(rt; tree.open_file("data/x").is_ok());
-    assert!(rt; tree.list().is_ok());
-    assert!(rt; tree.read(&mut buffer) == Ok(3));
-    assert!(rt; &buffer[..3] == b"abc".as_slice());
-    assert!(rt; tree.read(&mut buffer) == Ok(0));
+    sees_that(&rt, reads_what_it_has(&mut tree), "answers");
     Ok(())
 }

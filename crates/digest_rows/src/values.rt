@@ -1,5 +1,6 @@
 //! That the digests are the published ones, in whatever pieces their bytes come.
 use crate::pieces::{by_bytes, in_two_pieces, whole};
+use crate::rows::sees_that;
 use bag_store::{HexFault, Sums};
 use bag_text::{Alg, AlgSet};
 use std::alloc::Global;
@@ -108,11 +109,11 @@ fn is_value(
     value: &str,
 ) -> Result<(), Fail> {
     let found = sums.hex(alloc, alg)?;
-    assert_eq!(rt; found.as_str(), value);
-    assert!(rt; sums.is_spelled(alg, value), "{value}");
+    sees_that(rt, found.as_str() == value, value);
+    sees_that(rt, sums.is_spelled(alg, value), value);
     let upper = value.to_ascii_uppercase(alloc)?;
-    assert!(rt; !sums.is_spelled(alg, upper.as_str()), "{upper}");
-    assert!(rt; !sums.is_spelled(alg, ""), "{value}");
+    sees_that(rt, !sums.is_spelled(alg, upper.as_str()), upper.as_str());
+    sees_that(rt, !sums.is_spelled(alg, ""), value);
     Ok(())
 }
 
@@ -161,11 +162,9 @@ fn no_other_algorithm_has_a_digest(rt: HostRuntime) -> Result<(), Fail> {
             } else {
                 Some(HexFault::NotAsked)
             };
-            assert!(rt; found == wanted, "{value}");
-            assert!(rt;
-                sums.is_spelled(alg, value) == (alg == asked && text == ""),
-                "{value}"
-            );
+            sees_that(&rt, found == wanted, value);
+            let is_wanted = alg == asked && text == "";
+            sees_that(&rt, sums.is_spelled(alg, value) == is_wanted, value);
         }
     }
     Ok(())

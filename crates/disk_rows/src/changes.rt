@@ -3,10 +3,11 @@ ghost use Rattle.std.specs.Prelude.{◌≡◌, IsTrue, is_some};
 ghost use Rattle.bag_text.specs.Path as spec;
 
 use crate::held::{Held, Place, disk, ends, listed};
-use crate::rows::sees_that;
+use crate::rows::{sees, sees_that};
 use bag_disk::{DiskFault, SystemDisk, WritableDisk};
 use bag_memory_disk::{Call, RefusingDisk};
 use bag_text::check_path;
+use std::alloc::{AllocError, Global};
 use std::test::Fail;
 use std::{env, fs, io, process};
 
@@ -63,7 +64,7 @@ fn make<D: WritableDisk>(disk: &mut D, change: Change) -> Result<(), DiskFault> 
     }
 }
 
-const PLACES: [Place; 6] = [
+const PLACES: &[Place] = &[
     (b"a", Held::Folder),
     (b"a/b", Held::File("b")),
     (b"a/c", Held::Folder),
@@ -75,7 +76,7 @@ const PLACES: [Place; 6] = [
 const LISTED: &str = "false, a- 0, a/b 1, a/c/d 2";
 
 /// Changes, each with the listing after it.
-const MADE: [(Change, &str); 7] = [
+const MADE: &[(Change, &str)] = &[
     (Change::MakeFolder("data"), "true, a- 0, a/b 1, a/c/d 2"),
     (Change::MakeFolder("n/m"), LISTED),
     (
@@ -95,7 +96,7 @@ const MADE: [(Change, &str); 7] = [
 ];
 
 /// Changes, each with its refusal.
-const REFUSED: [(Change, DiskFault); 8] = [
+const REFUSED: &[(Change, DiskFault)] = &[
     (Change::MakeFolder("a"), DiskFault::Exists),
     (Change::MakeFolder("none/x"), DiskFault::NotFound),
     (Change::MakeFile("a/b", "z", "z"), DiskFault::Exists),
@@ -106,54 +107,73 @@ const REFUSED: [(Change, DiskFault); 8] = [
     (Change::Rename("a", "a/x"), DiskFault::Device),
 ];
 
+/// What a change of the disk of these places answers, and the listing after it.
+fn after(alloc: Global, change: Change) -> Result<(Result<(), DiskFault>, String), Fail> {
+    let mut disk = disk(alloc, PLACES)?;
+    let answer = make(&mut disk, change);
+    Ok((answer, listed(alloc, disk)?))
+}
+
 #[test]
 fn changes_what_stands_there(rt: HostRuntime) -> Result<(), Fail> {
-    for (change, expected) in MADE.iter() {
-        let mut disk = disk(rt.alloc(), &PLACES)?;
-        assert!(rt; make(&mut disk, *change).is_ok(), "{expected}");
-        assert_eq!(rt; listed(rt.alloc(), disk)?.as_str(), *expected);
+    for &(change, expected) in MADE {
+        let (answer, found) = after(rt.alloc(), change)?;
+        sees_that(&rt, answer.is_ok(), expected);
+        sees(&rt, found.as_str(), expected);
     }
     Ok(())
 }
 
 #[test]
 fn a_refused_change_changes_nothing(rt: HostRuntime) -> Result<(), Fail> {
-    for (change, expected) in REFUSED.iter() {
-        let mut disk = disk(rt.alloc(), &PLACES)?;
-        let found = make(&mut disk, *change);
-        assert!(rt; found.is_err_and(|fault| fault == *expected));
-        assert_eq!(rt; listed(rt.alloc(), disk)?.as_str(), LISTED);
+    for &(change, expected) in REFUSED {
+        let (answer, found) = after(rt.alloc(), change)?;
+        sees_that(&rt, answer == Err(expected), "refused");
+        sees(&rt, found.as_str(), LISTED);
     }
     Ok(())
 }
 
+/// The number of a call that is refused, a change, and the listing after it.
+const REFUSED_CALLS: &[(u64, Change, &str)] = &[
+    (0, Change::MakeFolder("n/m"), LISTED),
+    (0, Change::Rename("a", "e"), LISTED),
+    (0, Change::MakeFile("0", "x", "yz"), LISTED),
+    (
+        1,
+        Change::MakeFile("0", "x", "yz"),
+        "false, 0 0, a- 0, a/b 1, a/c/d 2",
+    ),
+    (
+        2,
+        Change::MakeFile("0", "x", "yz"),
+        "false, 0 1, a- 0, a/b 1, a/c/d 2",
+    ),
+    (
+        3,
+        Change::MakeFile("0", "x", "yz"),
+        "false, 0 3, a- 0, a/b 1, a/c/d 2",
+    ),
+];
+
+/// What a change answers of which the call of a number is refused, and the listing after it.
+fn after_refusal(
+    alloc: Global,
+    number: u64,
+    change: Change,
+) -> Result<(Result<(), DiskFault>, String), Fail> {
+    let disk = disk(alloc, PLACES)?;
+    let mut refusing = RefusingDisk::over(disk, Call::Numbered(number), DiskFault::Device);
+    let answer = make(&mut refusing, change);
+    Ok((answer, listed(alloc, refusing)?))
+}
+
 #[test]
 fn each_call_that_changes_is_refused(rt: HostRuntime) -> Result<(), Fail> {
-    for (number, change, expected) in [
-        (0, Change::MakeFolder("n/m"), LISTED),
-        (0, Change::Rename("a", "e"), LISTED),
-        (0, Change::MakeFile("0", "x", "yz"), LISTED),
-        (
-            1,
-            Change::MakeFile("0", "x", "yz"),
-            "false, 0 0, a- 0, a/b 1, a/c/d 2",
-        ),
-        (
-            2,
-            Change::MakeFile("0", "x", "yz"),
-            "false, 0 1, a- 0, a/b 1, a/c/d 2",
-        ),
-        (
-            3,
-            Change::MakeFile("0", "x", "yz"),
-            "false, 0 3, a- 0, a/b 1, a/c/d 2",
-        ),
-    ] {
-        let disk = disk(rt.alloc(), &PLACES)?;
-        let mut refusing = RefusingDisk::over(disk, Call::Numbered(number), DiskFault::Device);
-        let found = make(&mut refusing, change);
-        assert!(rt; found.is_err_and(|fault| fault == DiskFault::Device));
-        assert_eq!(rt; listed(rt.alloc(), refusing)?.as_str(), expected);
+    for &(number, change, expected) in REFUSED_CALLS {
+        let (answer, found) = after_refusal(rt.alloc(), number, change)?;
+        sees_that(&rt, answer == Err(DiskFault::Device), expected);
+        sees(&rt, found.as_str(), expected);
     }
     Ok(())
 }
@@ -169,41 +189,61 @@ fn fresh_disk(rt: &HostRuntime, test: &str) -> io::Result<(String, SystemDisk<Ho
     Ok((base, disk))
 }
 
+/// Changes in turn, each with what it answers.
+const ANSWERED: &[(Change, Result<(), DiskFault>)] = &[
+    (Change::MakeFolder("a"), Ok(())),
+    (Change::MakeFile("a/b", "ab", "c"), Ok(())),
+    (Change::Rename("a", "data"), Ok(())),
+    (Change::MakeFolder("data"), Err(DiskFault::Exists)),
+    (Change::MakeFile("data/b", "", ""), Err(DiskFault::Exists)),
+    (Change::MakeFile("a/b", "", ""), Err(DiskFault::NotFound)),
+    (Change::Rename("a", "b"), Err(DiskFault::NotFound)),
+];
+
+/// Whether changes in turn answer so.
+fn are_answered<D: WritableDisk>(
+    disk: &mut D,
+    changes: &[(Change, Result<(), DiskFault>)],
+) -> bool {
+    for (change, answer) in changes {
+        if make(disk, *change) != *answer {
+            return false;
+        }
+    }
+    true
+}
+
 #[test]
 fn changes_a_real_folder(rt: HostRuntime) -> Result<(), Fail> {
     let (base, mut disk) = fresh_disk(&rt, "changes")?;
-    for change in [
-        Change::MakeFolder("a"),
-        Change::MakeFile("a/b", "ab", "c"),
-        Change::Rename("a", "data"),
-    ] {
-        assert!(rt; make(&mut disk, change).is_ok());
-    }
-    for (change, expected) in [
-        (Change::MakeFolder("data"), DiskFault::Exists),
-        (Change::MakeFile("data/b", "", ""), DiskFault::Exists),
-        (Change::MakeFile("a/b", "", ""), DiskFault::NotFound),
-        (Change::Rename("a", "b"), DiskFault::NotFound),
-    ] {
-        assert!(rt; make(&mut disk, change).is_err_and(|fault| fault == expected));
-    }
-    sees_that(
-        &rt,
-        ends(rt.alloc(), disk, ("data/b", 3), Ok("abc"))?,
-        "data/b",
-    );
+    let are_answered = are_answered(&mut disk, ANSWERED);
+    let is_there = ends(rt.alloc(), disk, ("data/b", 3), Ok("abc"))?;
     fs::remove_dir_all(&rt, base.as_str())?;
+    sees_that(&rt, are_answered, "changes");
+    sees_that(&rt, is_there, "data/b");
     Ok(())
+}
+
+/// Whether a file is made of a text and another behind it, and read again whole.
+fn is_read_again<D: WritableDisk + Drop>(
+    alloc: Global,
+    disk: D,
+    text: &str,
+    more: &str,
+) -> Result<bool, AllocError> {
+    let mut disk = disk;
+    let is_made = make_file(&mut disk, "long", text, more).is_ok();
+    let whole = format!(in alloc; "{text}{more}")?;
+    let size = whole.len() as u64;
+    Ok(is_made && ends(alloc, disk, ("long", size), Ok(whole.as_str()))?)
 }
 
 #[test]
 fn a_long_file_is_read_again_whole(rt: HostRuntime) -> Result<(), Fail> {
-    let (base, mut disk) = fresh_disk(&rt, "long-file")?;
+    let (base, disk) = fresh_disk(&rt, "long-file")?;
     let text = "0123456789".repeat(rt.alloc(), 7_000)?;
-    assert!(rt; make_file(&mut disk, "long", text.as_str(), "abc").is_ok());
-    let whole = format!(in rt.alloc(); "{text}abc")?;
-    let holds = ends(rt.alloc(), disk, ("long", 70_003), Ok(whole.as_str()))?;
-    sees_that(&rt, holds, "long");
+    let holds = is_read_again(rt.alloc(), disk, text.as_str(), "abc")?;
     fs::remove_dir_all(&rt, base.as_str())?;
+    sees_that(&rt, holds, "long");
     Ok(())
 }

@@ -1,7 +1,8 @@
 //! Requests, and what checks write.
-ghost use Rattle.std.specs.Prelude.{◌≡◌, false, IfOk, codes};
+ghost use Rattle.std.specs.Prelude.{◌≡◌, false, None, IsTrue, IfOk, codes};
 ghost use Rattle.std.specs.Option.{option_copied};
 ghost use Rattle.bag_store.specs.Tree.{Keeps};
+ghost use Rattle.row_bags.specs.Checked.{IsChecked, MayBeChecked};
 ghost use Rattle.row_bags.specs.Cursor.{IsCursor};
 
 use bag_report::{Fault, Options, Profile};
@@ -62,7 +63,8 @@ pub fn written<T: Tree + Drop>(
     profile: Option<&Profile>,
     request: Request,
 ) -> (T, Vec<u8>, u8)
-    ensures { Keeps (T.state tree) (T.state result.0) }
+    ensures keeps { Keeps (T.state tree) (T.state result.0) }
+    ensures checked { IsChecked (T.state tree) (T.state result.0) (option_copied profile.entry) request result.1.items result.2 }
 {
     let mut out = WriterOut::new(Vec::<u8>::new(alloc));
     let (tree, outcome) = run(alloc, tree, profile, request, &mut out);
@@ -76,7 +78,8 @@ pub fn after_check<T: Tree + Drop>(
     request: Request,
     wanted: (&str, u8),
 ) -> (T, bool)
-    ensures { Keeps (T.state tree) (T.state result.0) }
+    ensures keeps { Keeps (T.state tree) (T.state result.0) }
+    ensures checked { IsTrue result.1 → IsChecked (T.state tree) (T.state result.0) None request wanted.entry.0.now wanted.entry.1 }
 {
     let (tree, output, status) = written(alloc, tree, None, request);
     (
@@ -92,7 +95,9 @@ pub fn is_checked<T: Tree + Drop>(
     request: Request,
     output: &str,
     status: u8,
-) -> bool {
+) -> bool
+    ensures { IsTrue result → MayBeChecked (T.state tree) None request output.now status }
+{
     let (_tree, holds) = after_check(alloc, tree, request, (output, status));
     holds
 }

@@ -1,4 +1,5 @@
-//! Bags in folders on the disk.
+//! Bags in folders on the disk. What the system's calls do no clause says, so that of these functions none says more than that
+//! they are safe and end.
 use crate::bags::Files;
 use std::test::Fail;
 use std::{env, fs, process};

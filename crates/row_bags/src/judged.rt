@@ -1,8 +1,11 @@
 //! Bags whose faults of one stage are judged, at each depth.
-ghost use Rattle.std.specs.Prelude.{◌≡◌, IfOk, OnOk};
+ghost use Rattle.std.specs.Prelude.{◌≡◌, [], IsTrue, IfOk, OnOk, if◌then◌else◌};
 ghost use Rattle.bag_store.specs.Memory.{empty_bag};
 ghost use Rattle.bag_store.specs.MemoryView.{state_of};
+ghost use Rattle.bag_store.specs.Tree.{Keeps};
+ghost use Rattle.bag_facts.specs.declared.options.Depth.TheVariants.{Declaration, Fast, Complete, Full};
 ghost use Rattle.row_bags.specs.Judged.{with_held};
+ghost use Rattle.row_bags.specs.Stages.{HasTextAnyway, text_of};
 
 use crate::bags::put_files;
 use crate::stages::{has_text, text_of_lines};
@@ -49,10 +52,14 @@ impl Bag {
 pub fn has_lines(
     alloc: Global,
     bag: &Bag,
-    (depth, has_stage): (Depth, bool),
+    looked: (Depth, bool),
     stage: u8,
     lines: &[&str],
-) -> Result<bool, Fail> {
+) -> Result<bool, Fail>
+    ensures { IfOk result (λ holds. IsTrue holds
+        → HasTextAnyway (with_held empty_bag bag.now) looked.0 stage (if looked.1 then text_of lines.now else [])) }
+{
+    let (depth, has_stage) = looked;
     let expected = if has_stage {
         text_of_lines(alloc, lines)?
     } else {
@@ -69,14 +76,21 @@ fn has_text_anyway(
     depth: Depth,
     stage: u8,
     wanted: &str,
-) -> Result<bool, Fail> {
-    for clashes in [false, true] {
-        let options = Options { depth, clashes };
-        if !has_text(alloc, tree, options, stage, wanted)? {
-            return Ok(false);
-        }
-    }
-    Ok(true)
+) -> Result<bool, Fail>
+    ensures { IfOk result (λ holds. IsTrue holds → HasTextAnyway (state_of tree.old).bag depth stage wanted.now) }
+{
+    let unasked = Options {
+        depth,
+        clashes: false,
+    };
+    let asked = Options {
+        depth,
+        clashes: true,
+    };
+    Ok(
+        has_text(alloc, tree, unasked, stage, wanted)?
+            && has_text(alloc, tree, asked, stage, wanted)?,
+    )
 }
 
 /// What a stage has that isn't looked at.
@@ -89,16 +103,16 @@ pub fn is_judged(
     stage: u8,
     at_fast: &'static [&'static str],
     above: &'static [&'static str],
-) -> Result<bool, Fail> {
-    for (depth, lines) in [
-        (Depth::Declaration, NO_LINES),
-        (Depth::Fast, at_fast),
-        (Depth::Complete, above),
-        (Depth::Full, above),
-    ] {
-        if !has_lines(alloc, bag, (depth, true), stage, lines)? {
-            return Ok(false);
-        }
-    }
-    Ok(true)
+) -> Result<bool, Fail>
+    ensures unseen { IfOk result (λ holds. IsTrue holds → HasTextAnyway (with_held empty_bag bag.now) Declaration stage []) }
+    ensures at_fast { IfOk result (λ holds. IsTrue holds → HasTextAnyway (with_held empty_bag bag.now) Fast stage (text_of at_fast.now)) }
+    ensures complete { IfOk result (λ holds. IsTrue holds → HasTextAnyway (with_held empty_bag bag.now) Complete stage (text_of above.now)) }
+    ensures full { IfOk result (λ holds. IsTrue holds → HasTextAnyway (with_held empty_bag bag.now) Full stage (text_of above.now)) }
+{
+    Ok(
+        has_lines(alloc, bag, (Depth::Declaration, false), stage, NO_LINES)?
+            && has_lines(alloc, bag, (Depth::Fast, true), stage, at_fast)?
+            && has_lines(alloc, bag, (Depth::Complete, true), stage, above)?
+            && has_lines(alloc, bag, (Depth::Full, true), stage, above)?,
+    )
 }

@@ -6,4 +6,6 @@ mod holdings;
 #[cfg(test)]
 mod refused_steps;
 #[cfg(test)]
+mod rows;
+#[cfg(test)]
 mod steps;

@@ -1,5 +1,6 @@
 //! Steps of which one is refused.
 use crate::holdings::{Held, SAMPLE, holds, sample};
+use crate::rows::sees_that;
 use bag_store::{FailTree, MemoryTree, TreeFault, WriteTree};
 use std::alloc::{AllocError, Global};
 use std::test::Fail;
@@ -55,25 +56,33 @@ fn failing(alloc: Global, k: u64) -> Result<FailTree<MemoryTree>, AllocError> {
     Ok(FailTree::new(sample(alloc)?, k))
 }
 
+/// Whether the steps are refused at the call of this number, and what they took before it stands.
+fn is_refused(alloc: Global, k: u64) -> Result<bool, Fail> {
+    let mut tree = failing(alloc, k)?;
+    let is_refused = take_steps(&mut tree) == Err((k.saturating_sub(1), TreeFault::Device));
+    let mut below = tree.into_inner();
+    let held = after(k.saturating_sub(1));
+    Ok(is_refused && holds(alloc, &mut below, k > 5, held)?)
+}
+
 #[test]
 fn each_step_is_refused(rt: HostRuntime) -> Result<(), Fail> {
-    let alloc = rt.alloc();
     for k in 1..=STEPS {
-        let mut tree = failing(alloc, k)?;
-        let refused = take_steps(&mut tree);
-        assert!(rt; refused == Err((k - 1, TreeFault::Device)), "{k}");
-        let mut below = tree.into_inner();
-        assert!(rt; holds(alloc, &mut below, k > 5, after(k - 1))?, "{k}");
+        sees_that(&rt, is_refused(rt.alloc(), k)?, "refused");
     }
     Ok(())
 }
 
+/// Whether all steps are taken where a call behind them is to be refused.
+fn are_taken(alloc: Global) -> Result<bool, Fail> {
+    let mut tree = failing(alloc, STEPS + 1)?;
+    let are_taken = take_steps(&mut tree).is_ok();
+    let mut below = tree.into_inner();
+    Ok(are_taken && holds(alloc, &mut below, true, after(STEPS))?)
+}
+
 #[test]
 fn a_call_past_the_steps_refuses_none(rt: HostRuntime) -> Result<(), Fail> {
-    let alloc = rt.alloc();
-    let mut tree = failing(alloc, STEPS + 1)?;
-    assert!(rt; take_steps(&mut tree).is_ok());
-    let mut below = tree.into_inner();
-    assert!(rt; holds(alloc, &mut below, true, after(STEPS))?);
+    sees_that(&rt, are_taken(rt.alloc())?, "taken");
     Ok(())
 }

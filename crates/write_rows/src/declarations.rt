@@ -1,4 +1,5 @@
 //! The declaration that is written.
+use crate::rows::sees_that;
 use bag_tags::read_declaration;
 use bag_write::write_declaration;
 use std::alloc::Global;
@@ -16,6 +17,6 @@ fn is_good(alloc: Global, bytes: &[u8]) -> Result<bool, Fail> {
 fn writes_the_declaration(rt: HostRuntime) -> Result<(), Fail> {
     let bytes = write_declaration(rt.alloc())?;
     let good = is_good(rt.alloc(), bytes.as_slice())?;
-    assert!(rt; good);
+    sees_that(&rt, good, "declaration");
     Ok(())
 }

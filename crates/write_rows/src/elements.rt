@@ -1,5 +1,6 @@
 //! The elements of `bag-info.txt` that are written, and those that can't be.
 use crate::pairs::{is_refused, pairs, push_pair, thousands};
+use crate::rows::sees_that;
 use bag_line::{Element, read_info};
 use bag_text::Text;
 use bag_write::{WriteFault, is_bad_element, write_info};
@@ -101,14 +102,15 @@ fn writes_elements(rt: HostRuntime) -> Result<(), Fail> {
     let elements = pairs(rt.alloc(), GOOD)?;
     let written = is_written(rt.alloc(), elements.as_slice(), GOOD_TEXT)?;
     let again = is_read_again(rt.alloc(), elements.as_slice())?;
-    assert!(rt; written && again && !has_bad_element(elements.as_slice()));
+    let holds = written && again && !has_bad_element(elements.as_slice());
+    sees_that(&rt, holds, "elements");
     Ok(())
 }
 
 #[test]
 fn writes_no_elements(rt: HostRuntime) -> Result<(), Fail> {
     let written = is_written(rt.alloc(), &[], "")?;
-    assert!(rt; written);
+    sees_that(&rt, written, "no elements");
     Ok(())
 }
 
@@ -116,7 +118,7 @@ fn writes_no_elements(rt: HostRuntime) -> Result<(), Fail> {
 fn writes_thousands_of_elements(rt: HostRuntime) -> Result<(), Fail> {
     let elements = thousands(rt.alloc(), "Label", "value ")?;
     let again = is_read_again(rt.alloc(), elements.as_slice())?;
-    assert!(rt; again);
+    sees_that(&rt, again, "thousands");
     Ok(())
 }
 
@@ -124,7 +126,7 @@ fn writes_thousands_of_elements(rt: HostRuntime) -> Result<(), Fail> {
 fn refuses_bad_elements(rt: HostRuntime) -> Result<(), Fail> {
     for &(label, value) in BAD {
         let refused = refuses(rt.alloc(), label, value)?;
-        assert!(rt; refused, "{label}: {value}");
+        sees_that(&rt, refused, label);
     }
     Ok(())
 }

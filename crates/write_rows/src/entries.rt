@@ -1,5 +1,6 @@
 //! The entries of manifests that are written, and those that can't be.
 use crate::pairs::{is_refused, pairs, push_pair, thousands};
+use crate::rows::sees_that;
 use bag_tags::{Kind, ManifestEntry, read_manifest};
 use bag_text::{Alg, Text};
 use bag_write::write_manifest;
@@ -153,7 +154,7 @@ fn refuses(
 fn writes_payload_manifests(rt: HostRuntime) -> Result<(), Fail> {
     let written = is_written(rt.alloc(), PAYLOAD, PAYLOAD_TEXT)?;
     let again = are_read_again(rt.alloc(), (Kind::Payload, Alg::Md5), PAYLOAD)?;
-    assert!(rt; written && again);
+    sees_that(&rt, written && again, "payload manifest");
     Ok(())
 }
 
@@ -161,7 +162,7 @@ fn writes_payload_manifests(rt: HostRuntime) -> Result<(), Fail> {
 fn writes_tag_manifests(rt: HostRuntime) -> Result<(), Fail> {
     let again = are_read_again(rt.alloc(), (Kind::Tag, Alg::Sha1), TAG)?;
     let nothing = is_written(rt.alloc(), &[], "")?;
-    assert!(rt; again && nothing);
+    sees_that(&rt, again && nothing, "tag manifest");
     Ok(())
 }
 
@@ -175,7 +176,7 @@ fn takes_digest(alloc: Global, alg: Alg) -> Result<bool, Fail> {
 fn writes_a_manifest_for_each_algorithm(rt: HostRuntime) -> Result<(), Fail> {
     for alg in Alg::ALL {
         let taken = takes_digest(rt.alloc(), alg)?;
-        assert!(rt; taken);
+        sees_that(&rt, taken, alg.name());
     }
     Ok(())
 }
@@ -190,7 +191,7 @@ fn sees_refused(
 ) -> Result<(), Fail> {
     for row in bad {
         let refused = refuses(alloc, kind, good, *row)?;
-        assert!(rt; refused, "{} {}", row.0, row.1);
+        sees_that(rt, refused, row.1);
     }
     Ok(())
 }
@@ -205,7 +206,7 @@ fn refuses_bad_entries(rt: HostRuntime) -> Result<(), Fail> {
 fn writes_thousands_of_entries(rt: HostRuntime) -> Result<(), Fail> {
     let entries = thousands(rt.alloc(), EMPTY, "data/\n%")?;
     let again = is_read_again(rt.alloc(), (Kind::Payload, Alg::Md5), entries.as_slice())?;
-    assert!(rt; again);
+    sees_that(&rt, again, "thousands");
     Ok(())
 }
 
@@ -219,6 +220,6 @@ fn refuses_again(alloc: Global) -> Result<bool, AllocError> {
 #[test]
 fn refuses_a_path_that_stands_among_thousands(rt: HostRuntime) -> Result<(), Fail> {
     let refused = refuses_again(rt.alloc())?;
-    assert!(rt; refused);
+    sees_that(&rt, refused, "a path among thousands");
     Ok(())
 }

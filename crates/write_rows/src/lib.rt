@@ -9,3 +9,5 @@ mod elements;
 mod entries;
 #[cfg(test)]
 mod pairs;
+#[cfg(test)]
+mod rows;

@@ -11,5 +11,5 @@ returns-clause-sorted c =
 
 pub returns-clause-permutation : goal.returns-clause-permutation
 returns-clause-permutation c =
-    let first = rw c.into_vec-entries.ensures at c.sort_by_cached_key.ensures.permutation in
+    let first = rw c.into_vec-entries.ensures at c.arrange.ensures in
     rw c.from_vec.ensures (IsPermutation-trans _ _ _ first c.sort_unstable_by.ensures.permutation)

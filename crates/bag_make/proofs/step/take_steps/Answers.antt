@@ -1,20 +1,29 @@
-use Rattle.std.proofs.Common.{◌≡◌, ℕ, ◌+◌, ◌-◌, ◌<◌, List, length, take, get_or, IsTrue, slice_get, refl, ap, sym, ◌∙◌, subst, arith}
+use Rattle.std.proofs.Common.{◌≡◌, ℕ, ◌+◌, ◌-◌, ◌<◌, ◌++◌, ◌∷◌, List, [], length, take, get_or, IsTrue, slice_get, refl, ap, sym, ◌∙◌, subst, arith}
 use Rattle.std.proofs.lemmas.Option.{slice_get_read}
 use Rattle.std.proofs.lemmas.List.Sums.{fold_more}
+use Rattle.bag_tree.specs.Bag.{Bag}
 use Rattle.bag_tree.specs.Tree.{TreeState}
-use Rattle.bag_make.specs.Steps.{HasDone, HasTaken, after_steps, change}
+use Rattle.bag_facts.proofs.Mapped.{take_one_more}
+use Rattle.bag_make.specs.Steps.{CanTake, CanTakeAll, HasDone, HasTaken, after_steps, change}
 use Rattle.bag_make.specs.declared.step.Step.{Step}
 use Rattle.bag_make.proofs.step.take_steps.Goals as goal
 
 one_back : (n : ℕ) → n + 1 - 1 ≡ n
 one_back n = omega arith
 
+one_can : (steps : List Step) (step : Step) (bag : Bag) → CanTakeAll steps bag → CanTake step (after_steps steps bag) → CanTakeAll (steps ++ step ∷ []) bag
+one_can [] step bag all can = (can, tt)
+one_can (x ∷ steps) step bag all can = (all.0, one_can steps step (change x bag) all.1 can)
+
 more_taken : (steps : List Step) (i : ℕ) (step : Step) (old mid new : TreeState) → i < length steps → step ≡ get_or steps i step
-    → HasTaken (take i steps) old mid → HasDone step mid new → HasTaken (take (i + 1) steps) old new
-more_taken steps i step old mid new within is taken done = record {
+    → HasTaken (take i steps) old mid → HasDone step mid new → (IsTrue mid.honest → CanTake step mid.bag) → HasTaken (take (i + 1) steps) old new
+more_taken steps i step old mid new within is taken done can = record {
   bag = λ h.
       done.bag (subst IsTrue (sym taken.honest) h) ∙ ap (change step) (taken.bag h)
       ∙ sym (fold_more (λ b step. change step b) old.bag steps i step within ∙ ap (λ s. change s (after_steps (take i steps) old.bag)) (sym is));
+  possible = λ h.
+      subst (λ xs. CanTakeAll xs old.bag) (sym (take_one_more steps i step within is))
+      (one_can (take i steps) step old.bag (taken.possible h) (subst (CanTake step) (taken.bag h) (can (subst IsTrue (sym taken.honest) h))));
   plain = λ h p. done.plain (subst IsTrue (sym taken.honest) h) (taken.plain h p);
   honest = done.honest ∙ taken.honest;
   failures = omega (arith, done.failures, taken.failures);
@@ -41,6 +50,6 @@ loop-place-preserved g c =
     record {
       taken =
           more_taken c.args.steps.now c.loop-place.place c.index-steps-place.result (state c.args.tree.now) (state c.loop-place.tree) (state c.take_step.new.tree)
-          c.loop-place-test.true c.index-steps-place.is c.loop-place.invariant.taken c.in_default.ensures.done;
+          c.loop-place-test.true c.index-steps-place.is c.loop-place.invariant.taken c.in_default.ensures.done c.in_default.ensures.possible;
       calm = c.in_default.ensures.calm ∙ c.loop-place.invariant.calm;
     }

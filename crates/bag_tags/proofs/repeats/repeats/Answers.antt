@@ -4,10 +4,7 @@ use Rattle.std.specs.List.Sorted.{IsPermutation, IsSortedBy}
 use Rattle.std.specs.Ordering.{is_lt}
 use Rattle.std.proofs.lemmas.Result.{IfOk-weaker}
 use Rattle.std.proofs.lemmas.List.Sorted.{IsPermutation-map, All-permutation}
-use Rattle.bag_tags.specs.Repeats.{pair_of, places_from, HasFingerprint, AreApart, AreAscending, FollowsSame}
-use Rattle.bag_text.proofs.ListOf.{contains_nothing}
-use Rattle.bag_tags.proofs.RepeatsApart.{none_named_again}
-use Rattle.bag_tags.proofs.RepeatsAscending.{none_again}
+use Rattle.bag_tags.specs.Repeats.{pair_of, places_from, HasFingerprint, FollowsSame}
 use Rattle.bag_tags.proofs.RepeatsPlaces.{sorted_places, follows_is_repeat, repeat_follows, pair_cmp}
 use Rattle.bag_tags.proofs.repeats.repeats.Goals as goal
 
@@ -15,22 +12,6 @@ pub followers-requires : goal.followers-requires
 followers-requires c =
     let has = All-permutation HasFingerprint _ c.sort_unstable.new.self.items c.sort_unstable.ensures.permutation c.in_ok-named.ensures.fingerprints in
     subst (All HasFingerprint) (sym c.as_slice.ensures.value) has
-
-pub returns-then-is_ascending : goal.returns-then-is_ascending
-returns-then-is_ascending c =
-    let up : AreAscending c.args.all.now = c.is_ascending.ensures c.if-is_ascending.true in
-    λ i. (
-      λ d. absurd (contains_nothing i (subst (λ xs. Contains xs i) c.new.ensures.items d)),
-      λ r. absurd (none_again c.args.all.now up c.requires i r),
-    )
-
-pub returns-then-branch : goal.returns-then-branch
-returns-then-branch c =
-    let apart : AreApart c.args.all.now = c.in_ok-fingerprints_differ.ensures c.if-branch.true in
-    λ i. (
-      λ d. absurd (contains_nothing i (subst (λ xs. Contains xs i) c.new-then-branch.ensures.items d)),
-      λ r. absurd (none_named_again c.args.all.now apart c.requires i r),
-    )
 
 pub returns : goal.returns
 returns c =

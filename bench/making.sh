@@ -1,0 +1,54 @@
+#!/usr/bin/env bash
+# How long making a bag of 100,000 files of 1 KiB takes, with manifests of SHA-256 and SHA-512, beside a whole check of the bag
+# that was made, by the same program; and that md5sum's kin of coreutils accept its manifests. Counted is the processor time, the
+# program's own and the system's, and the least of several runs, in each of which a bag is made of a fresh folder and then
+# checked, with the files in the page cache.
+#
+# usage: bench/making.sh [PROGRAM] [RUNS]
+#
+# PROGRAM is crates/bench/out/bench by default, which `rt run` leaves there.
+set -euo pipefail
+source "$(dirname "$0")/time.sh"
+
+program=$(realpath "${1:-$(dirname "$0")/../crates/bench/out/bench}")
+runs=${2:-3}
+folders=200
+files_in_each=500
+
+work=$(mktemp -d /tmp/bagit-making.XXXXXX)
+trap 'rm -rf "$work"' EXIT
+
+mkdir "$work/folder"
+for ((folder = 0; folder < folders; folder++)); do
+    mkdir "$work/folder/folder-$folder"
+    head -c $((1024 * files_in_each)) /dev/urandom | split -b 1024 -a 3 - "$work/folder/folder-$folder/file-"
+done
+
+made= checked=
+for ((run = 0; run < runs; run++)); do
+    rm -rf "$work/bag"
+    cp -r "$work/folder" "$work/bag"
+    "$program" list "$work/bag" >"$work/output"
+    made=$(least "$made" "$(milliseconds "$program" make "$work/bag")")
+    diff <(echo made) "$work/output"
+    checked=$(least "$checked" "$(milliseconds "$program" valid "$work/bag")")
+    diff <(echo "$work/bag is valid") "$work/output"
+done
+awk -v made="$made" -v checked="$checked" 'BEGIN {
+    over = made / checked > 1.1 ? sprintf(", over the bar by %.2f", made / checked - 1.1) : ""
+    printf "made: %d ms, checked: %d ms, ratio: %.2f (at most 1.10%s)\n", made, checked, made / checked, over
+}'
+
+cd "$work/bag"
+sha256sum --check --quiet manifest-sha256.txt tagmanifest-sha256.txt
+sha512sum --check --quiet manifest-sha512.txt tagmanifest-sha512.txt
+echo "accepted by sha256sum and sha512sum: $(cat manifest-sha256.txt tagmanifest-sha256.txt | wc -l) and $(cat manifest-sha512.txt tagmanifest-sha512.txt | wc -l) lines"
+
+# One rename for each entry of the base folder, and one for the folder that holds them.
+if command -v strace >"$work/output"; then
+    rm -rf "$work/bag"
+    cp -r "$work/folder" "$work/bag"
+    strace -f -c -e trace=rename,renameat,renameat2 -o "$work/calls" "$program" make "$work/bag" >"$work/output"
+    renames=$(awk '$NF ~ /^rename/ { sum += $4 } END { print sum + 0 }' "$work/calls")
+    echo "renames: $renames for $folders entries"
+fi

@@ -1,0 +1,155 @@
+-- A limit that clap takes is a number of 1 or more.
+use Rattle.std.proofs.Common.{◌≡◌, ◌∙◌, ◌==◌, ◌||◌, ◌<◌, ◌⊎◌, ℕ, Bool, true, false, not, List, [], ◌∷◌, Option, Some, None, Result, Ok, Err, refl, sym, ap, subst, arith, inl, inr, length, codes, bytes_eq, option_map, unwrap_or}
+use Rattle.std.specs.Prelude.{slice_get}
+use Rattle.std.specs.Borrow.{Bor}
+use Rattle.std.specs.List.{All, list_all, slice_index_or}
+use Rattle.std.specs.Result.{result_ok}
+use Rattle.std.specs.Str.Parse.{ParsesUnsigned}
+use Rattle.std.proofs.lemmas.List.Elements.{All-get_or}
+use Rattle.std.proofs.lemmas.Bool.{cases_lt, eqb-true}
+use Rattle.std.proofs.lemmas.Slice.Eq.{bytes_eq-Decides}
+use Rattle.clap.specs.Words.{App, IsParsedFrom, Rule, Text, app_of, args_of, first_value, found_of, groups_of, matched_of, rows_of}
+use Rattle.clap.specs.Built.{IsAuto, SameRules}
+use Rattle.clap.specs.Facts.{EntryPasses, PassesArg, parser_of_value}
+use Rattle.clap.specs.Values.{Accepts}
+use Rattle.clap.specs.declared.builder.arg.Arg.{Arg}
+use Rattle.clap.specs.declared.builder.command.Command.{Command}
+use Rattle.clap.specs.declared.builder.value_parser.ValueParser.{ValueParser}
+use Rattle.clap.specs.declared.builder.value_parser.ValueParser.TheVariants as parser
+use Rattle.clap.specs.declared.parser.matches.ArgMatches.{ArgMatches}
+use Rattle.clap.specs.declared.parser.matches.MatchedArg.{MatchedArg}
+use Rattle.clap.proofs.CallerLemmas.{entry_by_id}
+use Rattle.clap.proofs.OnLiterals.{clap_on_literals}
+use Rattle.clap.proofs.SimpleLemmas.{plain_fields, simple_groups}
+use Rattle.clap.proofs.TakesLemmas.{each_rule}
+use Rattle.clap.proofs.WalkLemmas.{first_value-rows}
+use Rattle.bag_arguments.specs.Arguments.{command}
+use Rattle.bag_arguments.specs.Given.{HasLimit, IsLimit, IsLimitText}
+
+-- the parser takes numbers of 1 or more, and nothing else
+abbrev takes_limits : Option ValueParser → Bool
+takes_limits (Some (parser.Unsigned low high)) = low == 1
+takes_limits other = false
+
+abbrev limits_pass : Rule → Bool
+limits_pass a = not (bytes_eq a.id (codes "max-faults")) || takes_limits a.parser
+
+each_limit : list_all limits_pass command.top.rules ≡ true
+unfolding command clap_on_literals
+each_limit = refl
+
+all_simple : list_all (λ (a : Rule). a.is_simple) command.top.rules ≡ true
+unfolding command clap_on_literals
+all_simple = refl
+
+is_plain : command.top.is_plain ≡ true
+unfolding command clap_on_literals
+is_plain = refl
+
+given : (a b : Bool) → (not a || b) ≡ true → a ≡ true → b ≡ true
+given true b e t = e
+given false b e t = cc
+
+-- the argument of the limit, as it was added
+old_limit : (old : Command) → app_of old ≡ command → (k : ℕ) (d : Arg) → k < length (args_of old)
+    → (slice_index_or (args_of old) k d).id.now ≡ codes "max-faults" → takes_limits (slice_index_or (args_of old) k d).value_parser ≡ true
+old_limit old is k d lt named =
+    let all = subst (λ (a : App). list_all limits_pass a.top.rules ≡ true) (sym is) each_limit in
+    given _ _ (each_rule limits_pass (args_of old) all k d lt) ((bytes_eq-Decides _ _).1 named)
+
+same_limit : (a b : Arg) → SameRules a b → takes_limits a.value_parser ≡ true → takes_limits b.value_parser ≡ true
+same_limit a b s e = go a.value_parser refl e
+  where
+    go : (o : Option ValueParser) → a.value_parser ≡ o → takes_limits o ≡ true → takes_limits b.value_parser ≡ true
+    go None is taken = cc
+    go (Some q) is taken = ap takes_limits (s.parser q is) ∙ taken
+
+not_auto : (id : Text) → id ≡ codes "max-faults" → (id ≡ codes "help") ⊎ (id ≡ codes "version") → ⊥
+not_auto id named auto = elim auto [
+  | inl h ↦
+      let bad : false ≡ true = (bytes_eq-Decides (codes "max-faults") (codes "help")).1 (sym named ∙ h) in
+      cc
+  | inr h ↦
+      let bad : false ≡ true = (bytes_eq-Decides (codes "max-faults") (codes "version")).1 (sym named ∙ h) in
+      cc
+]
+
+-- the argument of the limit, as it was built
+built_limit : (old : Command) (m : ArgMatches) (p : IsParsedFrom old m) → app_of old ≡ command
+    → (j : ℕ) (x : Arg) → j < length (args_of p.built) → slice_index_or (args_of p.built) j x ≡ x → x.id.now ≡ codes "max-faults"
+    → takes_limits x.value_parser ≡ true
+built_limit old m p is j x high at named = elim (cases_lt j (length (args_of old))) [
+  | inl under ↦
+      let s = subst (λ (w : Arg). SameRules (slice_index_or (args_of old) j x) w) at (p.from.kept j x under).1 in
+      same_limit _ x s (old_limit old is j x under (ap (λ i. i.now) (sym s.id) ∙ named))
+  | inr over ↦ absurd (not_auto _ named (subst IsAuto at (p.from.extra j x over high)))
+]
+
+accepted : (o : Option ValueParser) (ignore_case : Bool) (text : Text) → takes_limits o ≡ true → Accepts ignore_case (parser_of_value o) text
+    → IsLimitText text
+accepted None ignore_case text e h = cc
+accepted (Some (parser.Unsigned low high)) ignore_case text e h =
+    let one : low ≡ 1 = eqb-true low 1 e in
+    (h.0, h.1, omega arith)
+accepted (Some parser.String) ignore_case text e h = cc
+accepted (Some parser.Falsey) ignore_case text e h = cc
+accepted (Some parser.NonEmptyString) ignore_case text e h = cc
+accepted (Some parser.Bool) ignore_case text e h = cc
+accepted (Some parser.Boolish) ignore_case text e h = cc
+accepted (Some (parser.Signed low high)) ignore_case text e h = cc
+accepted (Some parser.Float) ignore_case text e h = cc
+accepted (Some parser.Char) ignore_case text e h = cc
+accepted (Some (parser.Names names)) ignore_case text e h = cc
+accepted (Some (parser.Values values)) ignore_case text e h = cc
+
+value_accepted : (old : Command) (m : ArgMatches) (p : IsParsedFrom old m) → app_of old ≡ command
+    → (text : Text) → PassesArg p.built (codes "max-faults") text → IsLimitText text
+value_accepted old m p is text any =
+    accepted any.1.value_parser any.1.ignore_case text
+    (built_limit old m p is any.0 any.1 any.2 any.3 ((bytes_eq-Decides any.1.id.now (codes "max-faults")).0 any.4.0)) any.4.1
+
+first_passes : (P : Text → Type 0) (vs : List (Bor Text)) (text : Text) → All (λ v. P v.now) vs
+    → option_map (λ s. s.now) (slice_get vs 0) ≡ Some text → P text
+first_passes P [] text h e = cc
+first_passes P (v ∷ vs) text h e = subst P (ap (λ o. unwrap_or o v.now) e) (All-get_or (λ v. P v.now) (v ∷ vs) 0 v (omega arith) h)
+
+-- the value of an entry of the limit
+entry_value : (old : Command) (m : ArgMatches) (p : IsParsedFrom old m) → app_of old ≡ command → (x : MatchedArg)
+    → matched_of (found_of m) (codes "max-faults") ≡ Some x
+    → (text : Text) → option_map (λ s. s.now) (slice_get x.vals.items 0) ≡ Some text → PassesArg p.built (codes "max-faults") text
+entry_value old m p is x found text first =
+    let plain = plain_fields old (subst (λ (a : App). a.top.is_plain ≡ true) (sym is) is_plain) in
+    let simple = subst (λ (a : App). list_all (λ (r : Rule). r.is_simple) a.top.rules ≡ true) (sym is) all_simple in
+    let no_groups : groups_of p.built ≡ [] = (p.from.same_groups (simple_groups old simple)).1 ∙ plain.groups in
+    let parsed = p.parsed (p.from.globals ∙ plain.globals) in
+    let got = entry_by_id (EntryPasses p.built) (found_of m).entries.items (codes "max-faults") x parsed.values found in
+    let named : got.0.0.now ≡ codes "max-faults" = (bytes_eq-Decides _ _).0 got.2 in
+    let no_group : got.0.1.is_group ≡ true → ⊥ = λ g. elim (got.3.3 g) [
+      | inl empty ↦
+          let bad : codes "max-faults" ≡ [] = sym named ∙ empty in
+          cc
+      | inr lots ↦
+          let bad : 0 < 0 = rw no_groups at lots in
+          absurd (omega arith)
+    ] in
+    let all : All (λ v. PassesArg p.built (codes "max-faults") v.now) x.vals.items = elim got.3.0 [
+      | inl g ↦ absurd (no_group g)
+      | inr vals ↦ subst (λ (w : Text). All (λ v. PassesArg p.built w v.now) x.vals.items) named (rw got.1 at vals)
+    ] in
+    first_passes (PassesArg p.built (codes "max-faults")) x.vals.items text all first
+
+-- the limit that a parse gives
+pub limit_passes : (old : Command) (m : ArgMatches) → IsParsedFrom old m → app_of old ≡ command → HasLimit (rows_of (found_of m))
+limit_passes old m p is text limit = go (matched_of (found_of m) (codes "max-faults")) refl (first_value-rows (found_of m) (codes "max-faults") ∙ limit)
+  where
+    go : (o : Option MatchedArg) → matched_of (found_of m) (codes "max-faults") ≡ o → first_value (found_of m) (codes "max-faults") ≡ Some text → IsLimitText text
+    go None found first =
+        let bad : None ≡ Some text = rw found at first in
+        cc
+    go (Some x) found first = value_accepted old m p is text (entry_value old m p is x found text (rw found at first))
+
+-- the number of the limit
+pub limit_read : {E : Type 0} (o : Option Text) (text : Text) (r : Result ℕ E) (limit : Option ℕ) → o ≡ Some text → IsLimitText text
+    → ParsesUnsigned 64 10 text r → limit ≡ result_ok r → IsLimit o limit
+limit_read o text (Ok n) limit is taken h l = rw (is, l) (omega (arith, taken.2, h.1), h.1)
+limit_read o text (Err e) limit is taken h l = absurd (h (taken.0, taken.1))

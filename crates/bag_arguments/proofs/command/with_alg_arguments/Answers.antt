@@ -1,0 +1,11 @@
+use Rattle.std.proofs.Common.{refl}
+use Rattle.std.proofs.lemmas.Result.{IfOk-weaker}
+use Rattle.bag_arguments.proofs.Adding.{added}
+use Rattle.bag_arguments.proofs.command.with_alg_arguments.Goals as goal
+
+pub returns : goal.returns
+returns c =
+    let one = added c.in_ok-arg.ensures c.flag.ensures.global refl c.flag.ensures.rule in
+    let two = added c.in_ok-arg-2.ensures c.flag-2.ensures.global one c.flag-2.ensures.rule in
+    let three = added c.in_ok-arg-3.ensures c.flag-3.ensures.global two c.flag-3.ensures.rule in
+    IfOk-weaker c.arg-4.result _ _ (λ r h. added h c.flag-4.ensures.global three c.flag-4.ensures.rule) c.arg-4.ensures

@@ -1,0 +1,10 @@
+use Rattle.std.proofs.Common.{◌≡◌, fold, take}
+use Rattle.clap.specs.Words.{App, app_of, with_rule}
+use Rattle.bag_arguments.specs.Arguments.{option}
+use Rattle.bag_arguments.specs.Labels.{label_option}
+use Rattle.bag_arguments.specs.declared.label.Label.{Label}
+use Rattle.bag_arguments.proofs.command.with_label_arguments.Given as goal
+
+abbrev pub invariant-loop-label : goal.invariant-loop-label
+invariant-loop-label l =
+    app_of l.extended ≡ fold (λ (a : App) (label : Label). with_rule a (option (label_option label))) (app_of l.initial.extended) (take l.label-index l.labels)

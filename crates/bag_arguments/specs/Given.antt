@@ -1,0 +1,125 @@
+-- What is given on the command line, by the matches of the words.
+use Rattle.std.specs.Prelude.{ℕ, ◌≡◌, ◌<◌, ◌≤◌, ◌^◌, Bool, ◌&&◌, ◌||◌, List, [], ◌∷◌, ◌++◌, Option, Some, None, bytes_eq, codes, unwrap_or, option_map, is_some, if◌then◌else◌, find, filter, filter_map, length, nat_lt}
+use Rattle.std.specs.Str.Parse.{IsNumeral, digits_value, without_leading_plus}
+use Rattle.clap.specs.Words.{Row, Text, all_of, first_of, one_of}
+use Rattle.bag_text.specs.Text.{trim}
+use Rattle.bag_text.specs.Alg.{algs, name}
+use Rattle.bag_text.specs.declared.alg.Alg.{Alg}
+use Rattle.bag_text.specs.declared.alg.Alg.TheVariants.{Sha256, Sha512}
+use Rattle.bag_facts.specs.declared.options.Depth.{Depth}
+use Rattle.bag_facts.specs.declared.options.Depth.TheVariants.{Declaration, Fast, Complete, Full}
+use Rattle.bag_arguments.specs.Labels.{labels, label_name, label_option}
+use Rattle.bag_arguments.specs.declared.label.Label.{Label}
+use Rattle.bag_arguments.specs.declared.plan.InfoItem.{InfoItem}
+use Rattle.bag_arguments.specs.declared.check_option.CheckOption.{CheckOption}
+use Rattle.bag_arguments.specs.declared.check_option.CheckOption.TheVariants as check
+
+-- whether an option without a value is given
+abbrev pub is_given : List Row → Text → Bool
+is_given rows id = bytes_eq (unwrap_or (one_of id rows) []) (codes "true")
+
+-- the value of an option
+abbrev pub value : List Row → Text → Option Text
+value rows id = first_of id rows
+
+-- all values of an argument
+abbrev pub values : List Row → Text → List Text
+values rows id = unwrap_or (all_of id rows) []
+
+abbrev pub validates : List Row → Bool
+validates rows = is_given rows (codes "validate")
+
+abbrev pub directories : List Row → List Text
+directories rows = values rows (codes "directory")
+
+-- ---- the options that need --validate
+
+-- in the order in which they are looked at
+abbrev pub check_options : List CheckOption
+check_options =
+    check.DeclarationOnly ∷ check.Fast ∷ check.CompletenessOnly ∷ check.Profile ∷ check.After ∷ check.MaxFaults
+    ∷ check.Clashes ∷ []
+
+-- the name of its argument
+abbrev pub check_id : CheckOption → Text
+check_id check.DeclarationOnly = codes "declaration-only"
+check_id check.Fast = codes "fast"
+check_id check.CompletenessOnly = codes "completeness-only"
+check_id check.Profile = codes "profile"
+check_id check.After = codes "after"
+check_id check.MaxFaults = codes "max-faults"
+check_id check.Clashes = codes "clashes"
+
+-- as it is written
+abbrev pub check_name : CheckOption → Text
+check_name option = codes "--" ++ check_id option
+
+abbrev pub has_check_option : List Row → CheckOption → Bool
+has_check_option rows check.Profile = is_some (value rows (codes "profile"))
+has_check_option rows check.After = is_some (value rows (codes "after"))
+has_check_option rows check.MaxFaults = is_some (value rows (codes "max-faults"))
+has_check_option rows option = is_given rows (check_id option)
+
+-- the first that stands without --validate
+abbrev pub out_of_place : List Row → Option CheckOption
+out_of_place rows = if validates rows then None else find (has_check_option rows) check_options
+
+-- ---- depths
+
+abbrev pub has_two_depths : List Row → Bool
+has_two_depths rows =
+    (is_given rows (codes "declaration-only") && is_given rows (codes "fast"))
+    || ((is_given rows (codes "declaration-only") && is_given rows (codes "completeness-only"))
+    || (is_given rows (codes "fast") && is_given rows (codes "completeness-only")))
+
+abbrev pub depth : List Row → Depth
+depth rows =
+    if is_given rows (codes "declaration-only") then Declaration
+    else (if is_given rows (codes "fast") then Fast
+    else (if is_given rows (codes "completeness-only") then Complete
+    else Full))
+
+-- ---- the cursor and the limit
+
+abbrev pub has_after_several : List Row → Bool
+has_after_several rows = is_some (value rows (codes "after")) && nat_lt 1 (length (directories rows))
+
+-- a number from 1 to the greatest of 64 bits, in decimal
+abbrev pub IsLimitText : Text → Type 0
+IsLimitText text =
+    IsNumeral 10 (without_leading_plus text)
+    × (digits_value 10 (without_leading_plus text) < 2 ^ 64)
+    × (1 ≤ digits_value 10 (without_leading_plus text))
+
+-- a limit that is given is such a number
+abbrev pub HasLimit : List Row → Type 0
+HasLimit rows = (text : Text) → value rows (codes "max-faults") ≡ Some text → IsLimitText text
+
+-- the limit of a text is its number, 1 or more
+abbrev pub IsLimit : Option Text → Option ℕ → Type 0
+IsLimit None limit = limit ≡ None
+IsLimit (Some text) None = ⊥
+IsLimit (Some text) (Some n) = (1 ≤ n) × (n ≡ digits_value 10 (without_leading_plus text))
+
+-- ---- making
+
+-- no algorithm means sha256 and sha512
+abbrev pub or_default : List Alg → List Alg
+or_default [] = Sha256 ∷ Sha512 ∷ []
+or_default (alg ∷ rest) = alg ∷ rest
+
+abbrev pub named_algs : List Row → List Alg
+named_algs rows = filter (λ alg. is_given rows (name alg)) algs
+
+-- the element of a label, its value without the blanks at both ends
+abbrev pub element : List Row → Label → Option InfoItem
+element rows label =
+    option_map (λ text. record { label = label_name label; value = trim text }) (value rows (label_option label))
+
+-- the items of a list with one place
+abbrev pub listed : {X : Type 0} → Option X → List X
+listed None = []
+listed (Some x) = x ∷ []
+
+abbrev pub info : List Row → List InfoItem
+info rows = filter_map (element rows) labels

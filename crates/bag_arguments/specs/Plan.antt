@@ -1,0 +1,100 @@
+-- The plan of the words.
+use Rattle.std.specs.Prelude.{ℕ, ◌≡◌, ◌≢◌, ⊤, false, List, [], ◌∷◌, Option, Some, None, Result, Ok, Err, option_map, is_some, codes, if◌then◌else◌}
+use Rattle.clap.specs.Words.{Kinds, Row, Text}
+use Rattle.clap.specs.declared.error.kind.ErrorKind.{ErrorKind}
+use Rattle.clap.specs.declared.error.kind.ErrorKind.TheVariants.{DisplayHelp}
+use Rattle.bag_fault.specs.FaultLine.{IsLineOf}
+use Rattle.bag_fault.specs.declared.fault.Fault.{Fault}
+use Rattle.bag_facts.specs.declared.options.Depth.TheVariants.{Declaration}
+use Rattle.bag_arguments.specs.Given.{validates, directories, out_of_place, has_two_depths, depth, has_after_several, IsLimit, named_algs, or_default, info, is_given, value}
+use Rattle.bag_arguments.specs.Words.{refusals, matches}
+use Rattle.bag_arguments.specs.declared.plan.Action.{Action}
+use Rattle.bag_arguments.specs.declared.plan.Action.TheVariants.{Sample, Help, Check, Make}
+use Rattle.bag_arguments.specs.declared.plan.Plan.{Plan}
+use Rattle.bag_arguments.specs.declared.usage.Usage.{Usage}
+use Rattle.bag_arguments.specs.declared.usage.Usage.TheVariants.{Refused, NeedsValidate, TwoDepths, AfterSeveral, AfterNotALine, Memory}
+
+-- a cursor is given by its line
+abbrev pub IsCursor : Option Text → Option Fault → Type 0
+IsCursor None after = after ≡ None
+IsCursor (Some line) None = ⊥
+IsCursor (Some line) (Some fault) = IsLineOf line fault
+
+-- a text is given, and is the line of no fault
+abbrev pub IsNoCursor : Option Text → Type 0
+IsNoCursor None = ⊥
+IsNoCursor (Some line) = (fault : Fault) → ¬ (IsLineOf line fault)
+
+-- the first thing that is wrong with what is given, but for the cursor's text
+abbrev pub misuse : List Row → Option Usage
+misuse rows =
+    if is_some (out_of_place rows) then option_map NeedsValidate (out_of_place rows)
+    else (if has_two_depths rows then Some TwoDepths
+    else (if has_after_several rows then Some AfterSeveral
+    else None))
+
+-- what is asked for
+pub record IsPlanOf (rows : List Row) (plan : Plan) : Type 0 where
+  pub action_is : plan.action ≡ (if validates rows then Check else Make)
+  pub directories_are : plan.directories ≡ directories rows
+  pub depth_is : plan.options.depth ≡ depth rows
+  pub clashes_are : plan.options.clashes ≡ is_given rows (codes "clashes")
+  pub profile_is : plan.profile ≡ value rows (codes "profile")
+  pub after_is : IsCursor (value rows (codes "after")) plan.after
+  pub limit_is : IsLimit (value rows (codes "max-faults")) plan.limit
+  pub quiet_is : plan.quiet ≡ is_given rows (codes "quiet")
+  pub algs_are : plan.algs ≡ or_default (named_algs rows)
+  pub info_is : plan.info ≡ info rows
+
+-- the plan of what is given, or the first thing that is wrong with it
+abbrev pub Plans : List Row → Result Plan Usage → Type 0
+Plans rows (Ok plan) = (misuse rows ≡ None) × IsPlanOf rows plan
+Plans rows (Err Memory) = ⊤
+Plans rows (Err (Refused text)) = ⊥
+Plans rows (Err AfterNotALine) = (misuse rows ≡ None) × IsNoCursor (value rows (codes "after"))
+Plans rows (Err usage) = misuse rows ≡ Some usage
+
+-- a plan that does nothing with folders
+abbrev pub plan_without_words : Action → Plan
+plan_without_words action = record {
+  action = action;
+  directories = [];
+  options = record { depth = Declaration; clashes = false };
+  profile = None;
+  after = None;
+  limit = None;
+  quiet = false;
+  algs = [];
+  info = [];
+}
+
+-- the answer where clap gives no matches: its help, or its refusal
+abbrev pub Declines : ErrorKind → Result Plan Usage → Type 0
+Declines kind (Ok plan) = (kind ≡ DisplayHelp) × (text : Text) × (plan ≡ plan_without_words (Help text))
+Declines kind (Err Memory) = ⊤
+Declines kind (Err (Refused text)) = kind ≢ DisplayHelp
+Declines kind (Err usage) = ⊥
+
+-- the answer to what clap makes of the words
+abbrev pub Answers : Kinds → List Row → Result Plan Usage → Type 0
+Answers [] rows result = Plans rows result
+Answers (kind ∷ more) rows result = Declines kind result
+
+-- no words ask for the sample
+abbrev pub IsPlanned : List Text → Result Plan Usage → Type 0
+IsPlanned [] result = result ≡ Ok (plan_without_words Sample)
+IsPlanned (word ∷ rest) result = Answers (refusals (word ∷ rest)) (matches (word ∷ rest)) result
+
+-- the words aren't refused as words that the program doesn't take
+abbrev pub IsNotRefused : Result Plan Usage → Type 0
+IsNotRefused (Err (Refused text)) = ⊥
+IsNotRefused result = ⊤
+
+-- the exit status of refused words
+abbrev pub usage_status : Usage → ℕ
+usage_status (Refused text) = 2
+usage_status (NeedsValidate option) = 2
+usage_status TwoDepths = 2
+usage_status AfterSeveral = 2
+usage_status AfterNotALine = 2
+usage_status Memory = 3

@@ -1,0 +1,21 @@
+-- What clap makes of the words.
+use Rattle.std.specs.Prelude.{Bool, List, map}
+use Rattle.std.specs.Borrow.{Bor}
+use Rattle.clap.specs.Words.{Kinds, Row, Text, fault_of, matches_of, takes}
+use Rattle.bag_arguments.specs.Arguments.{command}
+
+-- the texts of the words
+abbrev pub texts : List (Bor Text) → List Text
+texts words = map (λ word. word.now) words
+
+-- why the words are refused, or that help is asked for; empty where they are taken
+unfoldable pub refusals : List Text → Kinds
+refusals words = fault_of command words
+
+-- what is given, where the words are taken
+unfoldable pub matches : List Text → List Row
+matches words = matches_of command words
+
+-- whether clap takes the words: it then refuses them for want of memory alone
+unfoldable pub is_taken : List Text → Bool
+is_taken words = takes command words

@@ -1,0 +1,66 @@
+//! The options that need `--validate`.
+ghost use Rattle.std.specs.Prelude.{◌≡◌};
+ghost use Rattle.bag_arguments.specs.Given as spec;
+
+use std::fmt;
+
+/// An option that needs `--validate`, in the order in which they are looked at.
+#[derive(Clone, Copy, Debug, PartialEq, Eq)]
+pub enum CheckOption {
+    DeclarationOnly,
+    Fast,
+    CompletenessOnly,
+    Profile,
+    After,
+    MaxFaults,
+    Clashes,
+}
+
+/// All of them, in the order in which they are looked at.
+pub(crate) const CHECK_OPTIONS: [CheckOption; 7] = [
+    CheckOption::DeclarationOnly,
+    CheckOption::Fast,
+    CheckOption::CompletenessOnly,
+    CheckOption::Profile,
+    CheckOption::After,
+    CheckOption::MaxFaults,
+    CheckOption::Clashes,
+];
+
+impl CheckOption {
+    /// The option as it is written, with its hyphens.
+    pub fn name(self) -> &'static str
+        ensures { result.now ≡ spec.check_name self }
+    {
+        match self {
+            CheckOption::DeclarationOnly => "--declaration-only",
+            CheckOption::Fast => "--fast",
+            CheckOption::CompletenessOnly => "--completeness-only",
+            CheckOption::Profile => "--profile",
+            CheckOption::After => "--after",
+            CheckOption::MaxFaults => "--max-faults",
+            CheckOption::Clashes => "--clashes",
+        }
+    }
+
+    /// The name of its argument, without the hyphens.
+    pub(crate) fn id(self) -> &'static str
+        ensures { result.now ≡ spec.check_id self }
+    {
+        match self {
+            CheckOption::DeclarationOnly => "declaration-only",
+            CheckOption::Fast => "fast",
+            CheckOption::CompletenessOnly => "completeness-only",
+            CheckOption::Profile => "profile",
+            CheckOption::After => "after",
+            CheckOption::MaxFaults => "max-faults",
+            CheckOption::Clashes => "clashes",
+        }
+    }
+}
+
+impl fmt::Display for CheckOption {
+    fn fmt<W: fmt::Write>(&self, f: &mut fmt::Formatter<W>) -> fmt::Result {
+        f.write_str(self.name())
+    }
+}

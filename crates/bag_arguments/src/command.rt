@@ -1,0 +1,163 @@
+//! The command: its name and its arguments.
+ghost use Rattle.std.specs.Prelude.{◌≡◌, IfOk, false, map};
+ghost use Rattle.clap.specs.Words.{app_of, rule_of};
+ghost use Rattle.bag_arguments.specs.Arguments as spec;
+ghost use Rattle.bag_arguments.specs.Labels.{label_option};
+
+use crate::Label;
+use crate::help::{ABOUT, AFTER};
+use crate::label::LABELS;
+use clap::{Arg, ArgAction, Command, value_parser};
+use std::alloc::{AllocError, Global};
+
+/// The headings of the options.
+const CHECKING: &str = "Checking, with --validate";
+
+const MAKING: &str = "Making, by these algorithms, or SHA-256 and SHA-512 where none is given";
+
+const ELEMENTS: &str = "Making, with these elements of bag-info.txt";
+
+/// The command, with no rule from one argument to another.
+pub(crate) fn command<'a>(alloc: Global) -> Result<Command<'a>, AllocError>
+    ensures { IfOk result (λ c. app_of c ≡ spec.command) }
+{
+    let command = Command::new(alloc, "bagit")
+        .about(ABOUT)
+        .after_help(AFTER)
+        .no_binary_name(true);
+    let command = with_main_arguments(alloc, command)?;
+    let command = with_check_arguments(alloc, command.next_help_heading(CHECKING))?;
+    let command = with_alg_arguments(alloc, command.next_help_heading(MAKING))?;
+    with_label_arguments(alloc, command.next_help_heading(ELEMENTS), &LABELS)
+}
+
+/// What is done, how much is said, and to which folders.
+fn with_main_arguments<'a>(alloc: Global, command: Command<'a>) -> Result<Command<'a>, AllocError>
+    ensures { IfOk result (λ c. app_of c ≡ spec.with_rules (app_of command.entry) spec.main_arguments) }
+{
+    command
+        .arg(flag(alloc, "validate", "Check bags, and make none"))?
+        .arg(flag(alloc, "quiet", "Write nothing where all is well"))?
+        .arg(operands(
+            alloc,
+            "directory",
+            "DIRECTORY",
+            "The folders to check or to make bags",
+        ))
+}
+
+/// The options that need `--validate`.
+fn with_check_arguments<'a>(alloc: Global, command: Command<'a>) -> Result<Command<'a>, AllocError>
+    ensures { IfOk result (λ c. app_of c ≡ spec.with_rules (app_of command.entry) spec.check_arguments) }
+{
+    command
+        .arg(flag(
+            alloc,
+            "fast",
+            "Compare the payload's size and number of files with Payload-Oxum",
+        ))?
+        .arg(flag(alloc, "completeness-only", "Check all but the digests"))?
+        .arg(flag(alloc, "declaration-only", "Check bagit.txt alone"))?
+        .arg(option(
+            alloc,
+            "profile",
+            "FILE",
+            "Check against this BagIt profile, a JSON file, too",
+        ))?
+        .arg(option(
+            alloc,
+            "after",
+            "LINE",
+            "Write only the faults after this line of a report",
+        ))?
+        .arg(number(
+            alloc,
+            "max-faults",
+            "Stop each report after N faults, 1 or more",
+        ))?
+        .arg(flag(
+            alloc,
+            "clashes",
+            "Names that differ only in their normal form are faults",
+        ))
+}
+
+/// The options that choose algorithms.
+fn with_alg_arguments<'a>(alloc: Global, command: Command<'a>) -> Result<Command<'a>, AllocError>
+    ensures { IfOk result (λ c. app_of c ≡ spec.with_rules (app_of command.entry) spec.alg_arguments) }
+{
+    command
+        .arg(flag(alloc, "md5", "MD5"))?
+        .arg(flag(alloc, "sha1", "SHA-1"))?
+        .arg(flag(alloc, "sha256", "SHA-256"))?
+        .arg(flag(alloc, "sha512", "SHA-512"))
+}
+
+/// The options of labels.
+fn with_label_arguments<'a>(
+    alloc: Global,
+    command: Command<'a>,
+    labels: &[Label],
+) -> Result<Command<'a>, AllocError>
+    ensures { IfOk result (λ c. app_of c ≡ spec.with_rules (app_of command.entry)
+        (map (λ label. spec.option (label_option label)) labels.now)) }
+{
+    let mut extended = command;
+    for label in labels {
+        extended = extended.arg(label_argument(alloc, *label))?;
+    }
+    Ok(extended)
+}
+
+/// The option of a label.
+fn label_argument<'a>(alloc: Global, label: Label) -> Arg<'a>
+    ensures rule { rule_of result ≡ spec.option (label_option label) }
+    ensures global { result.global ≡ false }
+{
+    let name: &'a str = label.option();
+    let help: &'a str = label.help();
+    option(alloc, name, "TEXT", help)
+}
+
+/// An option without a value.
+fn flag<'a>(alloc: Global, name: &'a str, help: &'a str) -> Arg<'a>
+    ensures rule { rule_of result ≡ spec.flag name.entry.now }
+    ensures global { result.global ≡ false }
+{
+    Arg::new(alloc, name)
+        .long(name)
+        .action(ArgAction::SetTrue)
+        .help(help)
+}
+
+/// An option with a value.
+fn option<'a>(alloc: Global, name: &'a str, value_name: &'a str, help: &'a str) -> Arg<'a>
+    ensures rule { rule_of result ≡ spec.option name.entry.now }
+    ensures global { result.global ≡ false }
+{
+    Arg::new(alloc, name)
+        .long(name)
+        .action(ArgAction::Set)
+        .value_name(value_name)
+        .help(help)
+}
+
+/// An option with a number of 1 or more.
+fn number<'a>(alloc: Global, name: &'a str, help: &'a str) -> Arg<'a>
+    ensures rule { rule_of result ≡ spec.number name.entry.now }
+    ensures global { result.global ≡ false }
+{
+    option(alloc, name, "N", help).value_parser(value_parser!(u64).range(1..))
+}
+
+/// One or more values without an option.
+fn operands<'a>(alloc: Global, name: &'a str, value_name: &'a str, help: &'a str) -> Arg<'a>
+    ensures rule { rule_of result ≡ spec.operands name.entry.now }
+    ensures global { result.global ≡ false }
+{
+    Arg::new(alloc, name)
+        .required(true)
+        .num_args(1..)
+        .value_name(value_name)
+        .help(help)
+}

@@ -1,0 +1,226 @@
+//! What is given on the command line, read from the matches of clap.
+ghost use Rattle.std.specs.Prelude.{◌≡◌, ◌++◌, map, filter_map, find, option_map, IfOk, OnOk, Some, None, codes, length, if◌then◌else◌};
+ghost use Rattle.clap.specs.Words.{found_of, rows_of};
+ghost use Rattle.bag_arguments.specs.Given as spec;
+ghost use Rattle.bag_text.specs.Alg.{name};
+ghost use Rattle.bag_text.specs.AlgList.{with_member};
+
+use crate::check_option::CHECK_OPTIONS;
+use crate::{CheckOption, InfoItem, Label};
+use bag_facts::Depth;
+use bag_text::{Alg, AlgSet, Items, Text, trim};
+use clap::ArgMatches;
+use std::alloc::{AllocError, Global};
+
+/// Whether an option without a value is given.
+pub(crate) fn is_given(matches: &ArgMatches<'_>, id: &str) -> bool
+    ensures { result ≡ spec.is_given (rows_of (found_of matches.now)) id.now }
+{
+    matches.get_one::<bool>(id).unwrap_or(false)
+}
+
+/// The value of an option.
+pub(crate) fn value<'a>(matches: &ArgMatches<'a>, id: &str) -> Option<&'a str>
+    ensures { option_map (λ text. text.now) result ≡ spec.value (rows_of (found_of matches.now)) id.now }
+{
+    matches.get_str(id)
+}
+
+/// The value of an option, with a text of its own.
+pub(crate) fn text_value(
+    alloc: Global,
+    matches: &ArgMatches<'_>,
+    id: &str,
+) -> Result<Option<Text>, AllocError>
+    ensures { IfOk result (λ text. text ≡ spec.value (rows_of (found_of matches.now)) id.now) }
+{
+    match value(matches, id) {
+        None => Ok(None),
+        Some(text) => Ok(Some(Text::from_str(alloc, text)?)),
+    }
+}
+
+/// The folders, with texts of their own.
+pub(crate) fn directories(
+    alloc: Global,
+    matches: &ArgMatches<'_>,
+) -> Result<Items<Text>, AllocError>
+    ensures { IfOk result (λ items. items ≡ spec.directories (rows_of (found_of matches.now))) }
+{
+    match matches.get_strs("directory") {
+        None => Ok(Items::new(alloc)),
+        Some(words) => texts(alloc, words),
+    }
+}
+
+/// How many folders are given.
+fn directory_count(matches: &ArgMatches<'_>) -> usize
+    ensures { result ≡ length (spec.directories (rows_of (found_of matches.now))) }
+{
+    match matches.get_strs("directory") {
+        None => 0,
+        Some(words) => words.len(),
+    }
+}
+
+/// Texts of their own.
+pub(crate) fn texts(alloc: Global, words: &[&str]) -> Result<Items<Text>, AllocError>
+    ensures { IfOk result (λ items. items ≡ map (λ word. word.now) words.now) }
+{
+    let mut items = Items::new(alloc);
+    for word in words {
+        items.push(Text::from_str(alloc, word)?)?;
+    }
+    Ok(items)
+}
+
+/// Whether an option that needs `--validate` is given.
+fn has_check_option(matches: &ArgMatches<'_>, option: CheckOption) -> bool
+    ensures { result ≡ spec.has_check_option (rows_of (found_of matches.now)) option }
+{
+    match option {
+        CheckOption::Profile | CheckOption::After | CheckOption::MaxFaults => {
+            value(matches, option.id()).is_some()
+        }
+        _ => is_given(matches, option.id()),
+    }
+}
+
+/// The first of these options that is given.
+fn first_check_option(matches: &ArgMatches<'_>, options: &[CheckOption]) -> Option<CheckOption>
+    ensures { result ≡ find (spec.has_check_option (rows_of (found_of matches.now))) options.now }
+{
+    options
+        .iter()
+        .copied()
+        .find(|option| has_check_option(matches, *option))
+}
+
+/// The first option that stands without the `--validate` that it needs.
+pub(crate) fn out_of_place(matches: &ArgMatches<'_>) -> Option<CheckOption>
+    ensures { result ≡ spec.out_of_place (rows_of (found_of matches.now)) }
+{
+    if is_given(matches, "validate") {
+        None
+    } else {
+        first_check_option(matches, &CHECK_OPTIONS)
+    }
+}
+
+/// Whether more than one depth is given.
+pub(crate) fn has_two_depths(matches: &ArgMatches<'_>) -> bool
+    ensures { result ≡ spec.has_two_depths (rows_of (found_of matches.now)) }
+{
+    let declaration = is_given(matches, "declaration-only");
+    let fast = is_given(matches, "fast");
+    let complete = is_given(matches, "completeness-only");
+    declaration && fast || declaration && complete || fast && complete
+}
+
+/// The depth.
+pub(crate) fn depth(matches: &ArgMatches<'_>) -> Depth
+    ensures { result ≡ spec.depth (rows_of (found_of matches.now)) }
+{
+    if is_given(matches, "declaration-only") {
+        Depth::Declaration
+    } else if is_given(matches, "fast") {
+        Depth::Fast
+    } else if is_given(matches, "completeness-only") {
+        Depth::Complete
+    } else {
+        Depth::Full
+    }
+}
+
+/// Whether a cursor is given for several folders.
+pub(crate) fn has_after_several(matches: &ArgMatches<'_>) -> bool
+    ensures { result ≡ spec.has_after_several (rows_of (found_of matches.now)) }
+{
+    value(matches, "after").is_some() && directory_count(matches) > 1
+}
+
+/// The limit, 1 or more.
+pub(crate) fn limit(matches: &ArgMatches<'_>) -> Option<u64>
+    requires { spec.HasLimit (rows_of (found_of matches.now)) }
+    ensures { spec.IsLimit (spec.value (rows_of (found_of matches.now)) (codes "max-faults")) result }
+{
+    match value(matches, "max-faults") {
+        None => None,
+        Some(text) => text.parse::<u64>().ok(),
+    }
+}
+
+/// The set with an algorithm more where its option is given.
+fn with_named(set: AlgSet, matches: &ArgMatches<'_>, alg: Alg) -> AlgSet
+    ensures { result ≡ (if spec.is_given (rows_of (found_of matches.now)) (name alg) then with_member set alg else set) }
+{
+    if is_given(matches, alg.name()) {
+        set.with(alg)
+    } else {
+        set
+    }
+}
+
+/// The algorithms that are named.
+fn named_algs(matches: &ArgMatches<'_>) -> AlgSet
+    ensures { result ≡ spec.named_algs (rows_of (found_of matches.now)) }
+{
+    let set = with_named(AlgSet::empty(), matches, Alg::Md5);
+    let set = with_named(set, matches, Alg::Sha1);
+    let set = with_named(set, matches, Alg::Sha256);
+    with_named(set, matches, Alg::Sha512)
+}
+
+/// The algorithms that are named, or SHA-256 and SHA-512 where none is.
+pub(crate) fn algs(matches: &ArgMatches<'_>) -> AlgSet
+    ensures { result ≡ spec.or_default (spec.named_algs (rows_of (found_of matches.now))) }
+{
+    let named = named_algs(matches);
+    if named.is_empty() {
+        AlgSet::empty().with(Alg::Sha256).with(Alg::Sha512)
+    } else {
+        named
+    }
+}
+
+/// The element of a label.
+fn element(
+    alloc: Global,
+    matches: &ArgMatches<'_>,
+    label: Label,
+) -> Result<Option<InfoItem>, AllocError>
+    ensures { IfOk result (λ item. item ≡ spec.element (rows_of (found_of matches.now)) label) }
+{
+    match value(matches, label.option()) {
+        None => Ok(None),
+        Some(text) => Ok(Some(InfoItem {
+            label: Text::from_str(alloc, label.name())?,
+            value: Text::from_str(alloc, trim(text))?,
+        })),
+    }
+}
+
+/// Puts an item at the end, where there is one.
+fn push_some(items: &mut Items<InfoItem>, item: Option<InfoItem>) -> Result<(), AllocError>
+    ensures { OnOk result (items.new ≡ items.old ++ spec.listed item) }
+{
+    match item {
+        None => Ok(()),
+        Some(item) => items.push(item),
+    }
+}
+
+/// The elements of these labels.
+pub(crate) fn info(
+    alloc: Global,
+    matches: &ArgMatches<'_>,
+    labels: &[Label],
+) -> Result<Items<InfoItem>, AllocError>
+    ensures { IfOk result (λ items. items ≡ filter_map (spec.element (rows_of (found_of matches.now))) labels.now) }
+{
+    let mut items = Items::new(alloc);
+    for label in labels {
+        push_some(&mut items, element(alloc, matches, *label)?)?;
+    }
+    Ok(items)
+}

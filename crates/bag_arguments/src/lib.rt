@@ -1,0 +1,24 @@
+//! What the words of the command line ask for.
+//!
+//! ```
+//! match plan_of(alloc, &words) {
+//!     Ok(plan) => perform(rt, &plan, &mut out, &mut err),
+//!     Err(usage) => refuse_words(&usage, &mut err),
+//! }
+//! ```
+#![tactic(auto)]
+
+mod check_option;
+mod command;
+mod given;
+mod help;
+mod label;
+mod plan;
+mod planning;
+mod usage;
+
+pub use check_option::CheckOption;
+pub use label::Label;
+pub use plan::{Action, InfoItem, Plan};
+pub use planning::plan_of;
+pub use usage::{Usage, refuse_words};

@@ -1,0 +1,44 @@
+//! What the words of a command line ask for.
+use bag_facts::Options;
+use bag_fault::Fault;
+use bag_text::{AlgSet, Items, Text};
+
+/// What is to be done.
+#[derive(Debug, Drop)]
+pub enum Action {
+    /// The sample bag is checked.
+    Sample,
+    /// The help is written.
+    Help(Text),
+    /// The bags in folders are checked.
+    Check,
+    /// Folders are made bags.
+    Make,
+}
+
+/// An element of `bag-info.txt` that is to be written.
+#[derive(Debug, Drop)]
+pub struct InfoItem {
+    pub label: Text,
+    pub value: Text,
+}
+
+/// What the words of a command line ask for.
+#[derive(Debug, Drop)]
+pub struct Plan {
+    pub action: Action,
+    /// The folders in the order of the words.
+    pub directories: Items<Text>,
+    pub options: Options,
+    /// The file of the profile.
+    pub profile: Option<Text>,
+    /// Only faults above this one are written.
+    pub after: Option<Fault>,
+    /// How many faults are written at most, for each folder.
+    pub limit: Option<u64>,
+    pub quiet: bool,
+    /// The algorithms of a bag that is made.
+    pub algs: AlgSet,
+    /// The elements of a bag that is made, in the order in which they are written.
+    pub info: Items<InfoItem>,
+}

@@ -1,0 +1,139 @@
+//! The plan of the words.
+ghost use Rattle.std.specs.Prelude.{◌≡◌, ◌⊎◌, option_map, IfErr, IfOk, MatchResult, Some, None, codes, true};
+ghost use Rattle.clap.specs.Words.{FailsBy, found_of, kind_of, rows_of};
+ghost use Rattle.bag_arguments.specs.Given.{HasLimit, value as value_of};
+ghost use Rattle.bag_arguments.specs.Plan as spec;
+ghost use Rattle.bag_arguments.specs.Plan.{IsNotRefused};
+ghost use Rattle.bag_arguments.specs.Words.{is_taken, matches as matches_of_words, refusals, texts};
+
+use crate::command::command;
+use crate::label::LABELS;
+use crate::{Action, Plan, Usage, given};
+use bag_facts::{Depth, Options};
+use bag_fault::{CursorFault, Fault};
+use bag_text::{AlgSet, Items, Text};
+use clap::error::ErrorKind;
+use clap::{ArgMatches, Error};
+use std::alloc::Global;
+
+/// The plan of the words, without the program's name.
+pub fn plan_of(alloc: Global, words: &[&str]) -> Result<Plan, Usage>
+    ensures planned { spec.IsPlanned (texts words.now) result }
+    ensures taken { is_taken (texts words.now) ≡ true → IsNotRefused result }
+{
+    if words.is_empty() {
+        return Ok(plan_without_words(alloc, Action::Sample));
+    }
+    match parse(alloc, words) {
+        Ok(matches) => plan_of_matches(alloc, &matches),
+        Err(error) => decline(alloc, error),
+    }
+}
+
+/// What clap makes of the words.
+fn parse<'a>(alloc: Global, words: &'a [&'a str]) -> Result<ArgMatches<'a>, Error>
+    ensures matches { IfOk result (λ m. rows_of (found_of m) ≡ matches_of_words (texts words.entry.now)) }
+    ensures refusals { FailsBy (refusals (texts words.entry.now)) result }
+    ensures limit { IfOk result (λ m. HasLimit (rows_of (found_of m))) }
+    ensures taken { IfErr result (λ e. is_taken (texts words.entry.now) ≡ true → kind_of e ≡ ErrorKind.OutOfMemory) }
+{
+    command(alloc)?.try_get_matches_from(words)
+}
+
+/// The answer where clap gives no matches: its help, or its refusal.
+fn decline(alloc: Global, error: Error) -> Result<Plan, Usage>
+    ensures declines { spec.Declines (kind_of error) result }
+    ensures memory { kind_of error ≡ ErrorKind.OutOfMemory → result ≡ Err Usage.Memory }
+{
+    let kind = error.kind();
+    if kind == ErrorKind::OutOfMemory {
+        return Err(Usage::Memory);
+    }
+    let text = Text::from_string(format!(in alloc; "{error}")?);
+    if kind == ErrorKind::DisplayHelp {
+        Ok(plan_without_words(alloc, Action::Help(text)))
+    } else {
+        Err(Usage::Refused(text))
+    }
+}
+
+/// A plan that does nothing with folders.
+fn plan_without_words(alloc: Global, action: Action) -> Plan
+    ensures { result ≡ spec.plan_without_words action }
+{
+    Plan {
+        action,
+        directories: Items::new(alloc),
+        options: Options {
+            depth: Depth::Declaration,
+            clashes: false,
+        },
+        profile: None,
+        after: None,
+        limit: None,
+        quiet: false,
+        algs: AlgSet::empty(),
+        info: Items::new(alloc),
+    }
+}
+
+/// The plan of what is given, or the first thing that is wrong with it.
+fn plan_of_matches(alloc: Global, matches: &ArgMatches<'_>) -> Result<Plan, Usage>
+    requires { HasLimit (rows_of (found_of matches.now)) }
+    ensures { spec.Plans (rows_of (found_of matches.now)) result }
+{
+    refuse_misuse(matches)?;
+    let after = cursor(alloc, matches)?;
+    let action = if given::is_given(matches, "validate") {
+        Action::Check
+    } else {
+        Action::Make
+    };
+    Ok(Plan {
+        action,
+        directories: given::directories(alloc, matches)?,
+        options: Options {
+            depth: given::depth(matches),
+            clashes: given::is_given(matches, "clashes"),
+        },
+        profile: given::text_value(alloc, matches, "profile")?,
+        after,
+        limit: given::limit(matches),
+        quiet: given::is_given(matches, "quiet"),
+        algs: given::algs(matches),
+        info: given::info(alloc, matches, &LABELS)?,
+    })
+}
+
+/// Refuses the first thing that is wrong with what is given, but for the cursor's text.
+fn refuse_misuse(matches: &ArgMatches<'_>) -> Result<(), Usage>
+    ensures { MatchResult result (λ _. spec.misuse (rows_of (found_of matches.now)) ≡ None)
+        (λ usage. spec.misuse (rows_of (found_of matches.now)) ≡ Some usage) }
+{
+    if let Some(option) = given::out_of_place(matches) {
+        return Err(Usage::NeedsValidate(option));
+    }
+    if given::has_two_depths(matches) {
+        return Err(Usage::TwoDepths);
+    }
+    if given::has_after_several(matches) {
+        return Err(Usage::AfterSeveral);
+    }
+    Ok(())
+}
+
+/// The cursor, given by its line.
+fn cursor(alloc: Global, matches: &ArgMatches<'_>) -> Result<Option<Fault>, Usage>
+    ensures { MatchResult result (spec.IsCursor (value_of (rows_of (found_of matches.now)) (codes "after")))
+        (λ usage. (usage ≡ Usage.Memory)
+        ⊎ ((usage ≡ Usage.AfterNotALine) × spec.IsNoCursor (value_of (rows_of (found_of matches.now)) (codes "after")))) }
+{
+    let Some(line) = given::value(matches, "after") else {
+        return Ok(None);
+    };
+    match Fault::from_line(alloc, line) {
+        Ok(fault) => Ok(Some(fault)),
+        Err(CursorFault::NotALine) => Err(Usage::AfterNotALine),
+        Err(CursorFault::Memory) => Err(Usage::Memory),
+    }
+}

@@ -1,0 +1,84 @@
+-- What is composed of listed files and their digests is what is said of the bag.
+use Rattle.std.proofs.Common.{◌≡◌, ℕ, ◌+◌, ◌++◌, ◌∷◌, List, [], length, map, sum_by, Contains, refl, sym, ap, ◌∙◌, subst}
+use Rattle.std.specs.List.{swap}
+use Rattle.std.proofs.lemmas.List.{length-map}
+use Rattle.std.proofs.lemmas.List.Sums.{sum_by-cons}
+use Rattle.bag_text.specs.Path.{under}
+use Rattle.bag_text.specs.declared.alg.Alg.{Alg}
+use Rattle.bag_text.proofs.ListOf.{contains_first, contains_behind}
+use Rattle.bag_line.specs.declared.oxum.Oxum.{Oxum}
+use Rattle.bag_tags.specs.TagName.{tag_path}
+use Rattle.bag_tags.specs.declared.kind.Kind.{Kind}
+use Rattle.bag_tags.specs.declared.kind.Kind.TheVariants.{Payload, Tag}
+use Rattle.bag_tags.specs.declared.tag_name.TagName.TheVariants.{Info, Manifest}
+use Rattle.bag_tree.specs.declared.listing.FileEntry.{FileEntry}
+use Rattle.bag_digest.specs.Digest.{digest, sum_at}
+use Rattle.bag_stages.specs.MetadataStage.{oxum_label}
+use Rattle.bag_stages.specs.Payload.{oxum_of_files, oxum_text}
+use Rattle.bag_write.specs.Element.{NewElement, info_text}
+use Rattle.bag_write.specs.Entry.{NewEntry, manifest_text}
+use Rattle.bag_made.specs.Made.{File, data_folder, new_payload, entries_of, manifest, named_tag_files, new_tag_files, declaration_file, info_file}
+use Rattle.bag_make.specs.Summed.{AreSummed, entry_of, summed_entry, text_or_none}
+use Rattle.bag_make.specs.Texts.{size_of, info_of, manifests_of, named_of}
+use Rattle.bag_make.specs.declared.summed.SummedFile.{SummedFile}
+
+module _ (algs : List Alg) where
+  -- what a manifest says of files with their digests
+  entries_are : (alg : Alg) → Contains algs alg → (files : List File) (summed : List SummedFile) → AreSummed algs files summed → map (summed_entry alg) summed ≡ entries_of alg files
+  entries_are alg has [] [] h = refl
+  entries_are alg has (e ∷ files) (one ∷ summed) ((path, sums), rest) =
+      let same_path : one.path ≡ e.0 = path in
+      let same_sum : text_or_none (sum_at one.sums alg) ≡ digest alg e.1 = ap text_or_none (sums.each alg has) in
+      let others = entries_are alg has files summed rest in
+      λ i. (same_sum i, same_path i) ∷ others i
+  entries_are alg has [] (one ∷ summed) h = absurd h
+  entries_are alg has (e ∷ files) [] h = absurd h
+
+  manifests_some : (kind : Kind) (files : List File) (summed : List SummedFile) → AreSummed algs files summed → (some : List Alg) → ((alg : Alg) → Contains some alg → Contains algs alg)
+      → manifests_of kind some summed ≡ map (λ alg. (tag_path (Manifest kind alg), manifest alg files)) some
+  manifests_some kind files summed are [] has = refl
+  manifests_some kind files summed are (alg ∷ some) has =
+      let entries = entries_are alg (has alg (contains_first alg some)) files summed are in
+      let others = manifests_some kind files summed are some (λ other c. has other (contains_behind alg some other c)) in
+      λ i. (tag_path (Manifest kind alg), manifest_text (entries i)) ∷ others i
+
+  -- the manifests of files with their digests
+  pub manifests_are : (kind : Kind) (files : List File) (summed : List SummedFile) → AreSummed algs files summed
+      → manifests_of kind algs summed ≡ map (λ alg. (tag_path (Manifest kind alg), manifest alg files)) algs
+  manifests_are kind files summed are = manifests_some kind files summed are algs (λ alg has. has)
+
+octets_are : (files : List File) → sum_by (λ (entry : FileEntry). entry.size) (map entry_of files) ≡ sum_by (λ (e : File). length e.1) (new_payload files)
+octets_are [] = refl
+octets_are (e ∷ files) =
+    sum_by-cons (λ (entry : FileEntry). entry.size) (entry_of e) (map entry_of files)
+    ∙ ap (λ n. length e.1 + n) (octets_are files)
+    ∙ sym (sum_by-cons (λ (x : File). length x.1) (under data_folder e.0, e.1) (new_payload files))
+
+streams_are : (files : List File) → length (map entry_of files) ≡ length (new_payload files)
+streams_are files = length-map files entry_of ∙ sym (length-map files (λ (e : File). (under data_folder e.0, e.1)))
+
+-- the size of the payload that listed files make
+size_is : (files : List File) → size_of (map entry_of files) ≡ oxum_of_files (new_payload files)
+size_is files =
+    let octets = octets_are files in
+    let streams = streams_are files in
+    λ i. record { octets = octets i; streams = streams i }
+
+module _ (files : List File) (listed : List FileEntry) (payload : List SummedFile) (algs : List Alg) (info : List NewElement) (same : map entry_of files ≡ listed) (are : AreSummed algs (new_payload files) payload) where
+  info_is : info_of listed info ≡ info_file files algs info
+  info_is = ap (λ xs. info_of xs info) (sym same) ∙ ap (λ (size : Oxum). (tag_path Info, info_text (info ++ (oxum_label, oxum_text size) ∷ []))) (size_is files)
+
+  pub named_are : named_of listed payload algs info ≡ named_tag_files files algs info
+  named_are =
+      let one = info_is in
+      let others = manifests_are algs Payload (new_payload files) payload are in
+      λ i. one i ∷ declaration_file files algs info ∷ others i
+
+  -- in the order in which they are written
+  pub tag_files_are : (named made : List File) (summed : List SummedFile) → named ≡ named_of listed payload algs info → AreSummed algs named summed
+      → made ≡ swap (named ++ manifests_of Tag algs summed) 0 1 → made ≡ new_tag_files files algs info
+  tag_files_are named made summed is named_summed swapped =
+      let named_is = is ∙ named_are in
+      swapped
+      ∙ ap (λ xs. swap (xs ++ manifests_of Tag algs summed) 0 1) named_is
+      ∙ ap (λ xs. swap (named_tag_files files algs info ++ xs) 0 1) (manifests_are algs Tag (named_tag_files files algs info) summed (subst (λ xs. AreSummed algs xs summed) named_is named_summed))

@@ -1,0 +1,116 @@
+-- Reading the files of a folder.
+use Rattle.std.proofs.Common.{◌≡◌, ◌≢◌, inl, inr, ℕ, ◌++◌, List, [], ◌∷◌, true, false, IsTrue, length, map, take, All, Contains, Option, None, Some, refl, sym, ap, ◌∙◌, subst}
+use Rattle.std.specs.FinMap.{get-entries}
+use Rattle.std.specs.Option.{option_map}
+use Rattle.std.proofs.lemmas.List.Elements.{All-contains, All-from_recursion}
+use Rattle.bag_text.specs.Path.{is_path}
+use Rattle.bag_text.specs.declared.alg.Alg.{Alg}
+use Rattle.bag_text.proofs.ListOf.{contains_cases, contains_first, contains_behind, contains_nothing, each_from_members}
+use Rattle.bag_tree.specs.Bag.{Bag, HasFile, file, files_of}
+use Rattle.bag_tree.specs.Listing.{IsListingOf, IsOrdered}
+use Rattle.bag_tree.specs.Tree.{TreeState, CameFromTree, IsEntryOf, Keeps, MayRefuse}
+use Rattle.bag_tree.specs.declared.answer.Answer.TheVariants.{Refused}
+use Rattle.bag_tree.specs.declared.listing.FileEntry.{FileEntry}
+use Rattle.bag_tree.specs.declared.listing.Listing.{Listing}
+use Rattle.bag_tree.specs.declared.fault.Stop.{Stop}
+use Rattle.bag_tree.specs.declared.fault.TreeFault.{TreeFault}
+use Rattle.bag_tree.specs.declared.fault.TreeFault.TheVariants.{Memory}
+use Rattle.bag_tree.proofs.ListingLaw.{listings_are_of_the_bag}
+use Rattle.bag_facts.specs.Stops.{MayRefuseFacts}
+use Rattle.bag_facts.specs.Wanted.{paths_of}
+use Rattle.bag_facts.proofs.ListedFiles.{listed_file, own_size}
+use Rattle.bag_facts.proofs.Mapped.{contains_mapped}
+use Rattle.bag_facts.proofs.Reading.{later_refusal}
+use Rattle.bag_made.specs.Made.{File, new_payload}
+use Rattle.bag_made.proofs.Held.{found, has_listed, one_file, content_of}
+use Rattle.bag_make.specs.Plan.{is_in_the_way}
+use Rattle.bag_make.specs.Reading.{IsStopped, MayRefuseReading, OpensFolder}
+use Rattle.bag_make.specs.Stops.{MayStopMaking, StopsSumming}
+use Rattle.bag_make.specs.Summed.{AreSummed, AreSummedFiles, OpensFirstOf, entry_of}
+use Rattle.bag_make.specs.declared.fault.MakeFault.{MakeFault}
+use Rattle.bag_make.specs.declared.fault.MakeFault.TheVariants as fault_of
+use Rattle.bag_make.specs.declared.summed.SummedFile.{SummedFile}
+
+abbrev first_path : List FileEntry → List ℕ
+first_path [] = []
+first_path (e ∷ es) = e.path
+
+abbrev others_of : List FileEntry → List FileEntry
+others_of [] = []
+others_of (e ∷ es) = es
+
+-- files that are listed alike, and hold what the bag holds, are the same
+same_files : (bag : Bag) (xs ys : List File) → map entry_of xs ≡ map entry_of ys → ((e : File) → Contains xs e → file bag e.0 ≡ Some e.1) → ((e : File) → Contains ys e → file bag e.0 ≡ Some e.1) → xs ≡ ys
+same_files bag [] [] same h k = refl
+same_files bag (x ∷ xs) (y ∷ ys) same h k =
+    let path : x.0 ≡ y.0 = ap first_path same in
+    let content : Some x.1 ≡ Some y.1 = sym (h x (contains_first x xs)) ∙ ap (file bag) path ∙ k y (contains_first y ys) in
+    let bytes : x.1 ≡ y.1 = cc in
+    let rest : map entry_of xs ≡ map entry_of ys = ap others_of same in
+    let others = same_files bag xs ys rest (λ e c. h e (contains_behind x xs e c)) (λ e c. k e (contains_behind y ys e c)) in
+    λ i. (path i, bytes i) ∷ others i
+same_files bag [] (y ∷ ys) same h k = cc
+same_files bag (x ∷ xs) [] same h k = cc
+
+held : (bag : Bag) (e : File) → Contains (files_of bag) e → file bag e.0 ≡ Some e.1
+held bag e c =
+    let some = content_of (file bag e.0) (has_listed bag e.0 e.1 c) in
+    let there : Contains (files_of bag) (e.0, some.0) = found e.0 some.0 (files_of bag) (sym (get-entries bag.files e.0) ∙ some.1) in
+    some.1 ∙ ap Some (one_file bag e.0 some.0 e.1 there c)
+
+paths_listed : (es : List File) → paths_of (map entry_of es) ≡ map (λ (e : File). e.0) es
+paths_listed [] = refl
+paths_listed (e ∷ es) = ap (λ xs. e.0 ∷ xs) (paths_listed es)
+
+module _ (listing : Listing) (ordered : IsOrdered listing.files) where
+  -- what is listed of a bag are its paths
+  pub paths_are : (bag : Bag) → IsListingOf bag listing → paths_of listing.files ≡ map (λ (e : File). e.0) (files_of bag)
+  paths_are bag of = ap paths_of (listings_are_of_the_bag bag listing ordered of) ∙ paths_listed (files_of bag)
+
+  -- of an honest tree these are the files of the bag
+  pub files_are : (state : TreeState) (algs : List Alg) (summed : List SummedFile) → IsListingOf state.bag listing → IsTrue state.honest → AreSummedFiles state listing.files algs summed
+      → AreSummed algs (new_payload (files_of state.bag)) summed
+  files_are state algs summed of honest s =
+      subst (λ es. AreSummed algs (new_payload es) summed)
+      (same_files state.bag s.files (files_of state.bag) (s.listed ∙ listings_are_of_the_bag state.bag listing ordered of)
+      (λ e c. All-contains (λ (x : File). file state.bag x.0 ≡ Some x.1) s.files e (s.honest honest) c) (held state.bag))
+      s.are
+
+  module _ (old mid new : TreeState) (keeps : Keeps old mid) (none : mid.openings ≡ old.openings) (of : IsTrue old.honest → IsListingOf old.bag listing) where
+    pub opens_folder : OpensFirstOf (paths_of listing.files) mid new → OpensFolder old new
+    opens_folder h = λ honest. (
+      h.0,
+      h.1 ∙ ap (λ xs. xs ++ take h.0 (paths_of listing.files)) none ∙ ap (λ xs. old.openings ++ take h.0 xs) (paths_are old.bag (of honest)),
+    )
+
+    pub opened_folder : new.openings ≡ mid.openings ++ paths_of listing.files → IsTrue old.honest → new.openings ≡ old.openings ++ map (λ (e : File). e.0) (files_of old.bag)
+    opened_folder h honest = h ∙ ap (λ xs. xs ++ paths_of listing.files) none ∙ ap (λ xs. old.openings ++ xs) (paths_are old.bag (of honest))
+
+    entries_are : IsTrue mid.honest → All (IsEntryOf mid.bag) listing.files
+    entries_are honest =
+        All-from_recursion (IsEntryOf mid.bag) listing.files (each_from_members (IsEntryOf mid.bag) listing.files (λ entry c.
+        ap (λ bag. option_map length (file bag entry.path)) keeps.bag
+        ∙ sym ((of (sym keeps.honest ∙ honest)).files entry.path) ∙ own_size listing.files entry ordered.ascending c))
+
+    -- where a file is refused, nothing is planned
+    pub files_refused : (stop : Stop) (fault : MakeFault) → (IsTrue old.honest → is_in_the_way old.bag ≡ false) → StopsSumming listing.files mid new stop → IsStopped stop fault
+        → MayRefuseReading old new fault
+    files_refused stop (fault_of.ReadStopped other) free h (same, not) = subst (MayStopMaking old new) (sym same) (record {
+      cause = later_refusal old mid new stop.cause keeps (h.cause entries_are);
+      not_memory = not;
+      answered = h.answered;
+      path = elim h.path [
+        | inl m ↦ absurd (not m.0)
+        | inr c ↦
+            let entry = contains_mapped (λ (e : FileEntry). e.path) listing.files stop.path c in
+            inr (
+              subst (λ p. is_path p ≡ true) entry.2 (All-contains (λ (e : FileEntry). IsTrue (is_path e.path)) listing.files entry.0 ordered.paths entry.1),
+              λ honest. (listed_file old.bag listing.files stop.path (of honest).files c, free honest),
+            )
+      ];
+    })
+    files_refused stop fault_of.Memory free h is = tt
+    files_refused stop fault_of.NoAlgorithm free h is = absurd is
+    files_refused stop fault_of.InTheWay free h is = absurd is
+    files_refused stop fault_of.BadValue free h is = absurd is
+    files_refused stop (fault_of.StepRefused place cause) free h is = absurd is

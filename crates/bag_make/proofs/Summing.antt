@@ -1,0 +1,165 @@
+-- Summing files one after another.
+use Rattle.std.proofs.Common.{◌≡◌, ◌≢◌, ◌<◌, ◌≤◌, ◌+◌, ◌++◌, ◌∷◌, inl, inr, ℕ, List, [], length, map, take, get_or, None, Some, IsTrue, All, Contains, refl, sym, ap, ◌∙◌, subst, arith, append_assoc, append-nil}
+use Rattle.std.specs.Option.{option_map}
+use Rattle.std.proofs.lemmas.List.{map-append, take_all, take-map}
+use Rattle.std.proofs.lemmas.List.Elements.{All-nil, All-cons, All-append, All-contains}
+use Rattle.bag_text.specs.Path.{under}
+use Rattle.bag_text.specs.declared.alg.Alg.{Alg}
+use Rattle.bag_text.proofs.ListOf.{contains_cases, contains_nothing, contains_first}
+use Rattle.bag_tree.specs.Bag.{file}
+use Rattle.bag_tree.specs.Tree.{TreeState, CameFromTree, IsEntryOf, Keeps, OpensAtMost}
+use Rattle.bag_tree.specs.Whole.{MayRefuseWhole}
+use Rattle.bag_tree.specs.declared.listing.FileEntry.{FileEntry}
+use Rattle.bag_tree.specs.declared.fault.Stop.{Stop}
+use Rattle.bag_tree.specs.declared.fault.TreeFault.{TreeFault}
+use Rattle.bag_tree.specs.declared.fault.TreeFault.TheVariants.{NotFound, Changed, NoneOpen, Memory}
+use Rattle.bag_facts.specs.Stops.{IsOutOfMemory, IsStopAt, MayRefuseFacts}
+use Rattle.bag_facts.specs.Wanted.{paths_of}
+use Rattle.bag_facts.proofs.Mapped.{mapped_contains, take_one_more}
+use Rattle.bag_facts.proofs.Reading.{keeps_itself, keeps_on, later_refusal}
+use Rattle.bag_made.specs.Made.{File, data_folder, new_payload}
+use Rattle.bag_make.specs.Stops.{StopsSumming}
+use Rattle.bag_make.specs.Summed.{IsSummed, AreSummed, IsSummedEntry, AreSummedFiles, OpensFirstOf, entry_of}
+use Rattle.bag_make.specs.declared.summed.SummedFile.{SummedFile}
+
+-- what may refuse a listed file of an honest tree
+refused_file : (old new : TreeState) (entry : FileEntry) (cause : TreeFault) → (IsTrue old.honest → IsEntryOf old.bag entry) → MayRefuseWhole old new entry cause
+    → MayRefuseFacts old new cause
+refused_file old new entry Changed is (size, other) = λ honest. (other honest).1 (is honest)
+refused_file old new entry NotFound is (absent, came) = λ honest. let clash : None ≡ Some entry.size = sym (ap (option_map length) (absent honest)) ∙ is honest in cc
+refused_file old new entry NoneOpen is (closed, came) = absurd closed
+refused_file old new entry Memory is h = tt
+refused_file old new entry other is h = h.0
+
+came_from : (old new : TreeState) (entry : FileEntry) (cause : TreeFault) → MayRefuseWhole old new entry cause → CameFromTree new cause
+came_from old new entry Changed (size, other) = (entry.size, size)
+came_from old new entry Memory h = tt
+came_from old new entry other h = h.1
+
+-- want of memory stops it
+pub stop_of_memory : (files : List FileEntry) (old new : TreeState) (stop : Stop) → IsOutOfMemory stop → StopsSumming files old new stop
+stop_of_memory files old new stop m = record { cause = λ are. rw m.0 tt; answered = rw m.0 tt; path = inl m; memory = λ _. m.1 }
+
+one_is : (P : FileEntry → Type 0) (entry : FileEntry) → All P (entry ∷ []) → P entry
+one_is P entry all = All-contains P (entry ∷ []) entry all (contains_first entry [])
+
+-- and so does the refusal of a file
+pub stop_of_refusal : (entry : FileEntry) (old new : TreeState) (cause : TreeFault) (stop : Stop) → MayRefuseWhole old new entry cause → IsStopAt cause entry.path stop
+    → StopsSumming (entry ∷ []) old new stop
+stop_of_refusal entry old new cause stop refused (inl (same, at, no_memory)) = record {
+  cause = λ are. subst (MayRefuseFacts old new) (sym same) (refused_file old new entry cause (λ honest. one_is (IsEntryOf old.bag) entry (are honest)) refused);
+  answered = subst (CameFromTree new) (sym same) (came_from old new entry cause refused);
+  path = inr (subst (Contains (entry.path ∷ [])) (sym at) (contains_first entry.path []));
+  memory = λ m. absurd (no_memory (sym same ∙ m));
+}
+stop_of_refusal entry old new cause stop refused (inr m) = stop_of_memory (entry ∷ []) old new stop m
+
+abbrev moved : File → File
+moved e = (under data_folder e.0, e.1)
+
+summed_more : (algs : List Alg) (files : List File) (summed : List SummedFile) (e : File) (one : SummedFile) → AreSummed algs files summed → IsSummed algs e one
+    → AreSummed algs (files ++ e ∷ []) (summed ++ one ∷ [])
+summed_more algs [] [] e one h s = (s, tt)
+summed_more algs (x ∷ files) (y ∷ summed) e one h s = (h.0, summed_more algs files summed e one h.1 s)
+summed_more algs [] (y ∷ summed) e one h s = absurd h
+summed_more algs (x ∷ files) [] e one h s = absurd h
+
+-- the digests of the first of these files
+pub sums_more : (algs : List Alg) (files : List File) (i : ℕ) (e : File) (summed : List SummedFile) (one : SummedFile) → i < length files → e ≡ get_or files i e
+    → AreSummed algs (take i files) summed → IsSummed algs e one → AreSummed algs (take (i + 1) files) (summed ++ one ∷ [])
+sums_more algs files i e summed one lt is h s =
+    subst (λ xs. AreSummed algs xs (summed ++ one ∷ [])) (sym (take_one_more files i e lt is)) (summed_more algs (take i files) summed e one h s)
+
+-- the first of the listed files were summed
+pub record SumsFirst (files : List FileEntry) (count : ℕ) (algs : List Alg) (old new : TreeState) (sums : List SummedFile) : Type 0 where
+  pub keeps : Keeps old new
+  pub calm : new.failures ≡ old.failures
+  pub opened : new.openings ≡ old.openings ++ paths_of (take count files)
+  pub summed : AreSummedFiles old (take count files) algs sums
+
+pub sums_none : (files : List FileEntry) (algs : List Alg) (old : TreeState) → SumsFirst files 0 algs old old []
+sums_none files algs old = record {
+  keeps = keeps_itself old;
+  calm = refl;
+  opened = sym (append-nil old.openings);
+  summed = record { files = []; listed = refl; are = tt; honest = λ _. All-nil (λ (e : File). file old.bag e.0 ≡ Some e.1) };
+}
+
+-- where it stopped before the first file, none was opened
+pub opens_no_file : (files : List FileEntry) (old : TreeState) → OpensFirstOf (paths_of files) old old
+opens_no_file files old = (0, sym (append-nil old.openings))
+
+module _ (files : List FileEntry) (i : ℕ) (entry : FileEntry) (algs : List Alg) (old mid new : TreeState) (summed : List SummedFile)
+    (lt : i < length files) (is : entry ≡ get_or files i entry) (before : SumsFirst files i algs old mid summed) where
+  next : take (i + 1) files ≡ take i files ++ entry ∷ []
+  next = take_one_more files i entry lt is
+
+  listed : Contains files entry
+  listed = (i, lt, sym is)
+
+  added : (one : SummedFile) → IsSummedEntry mid entry algs one → AreSummedFiles old (take (i + 1) files) algs (summed ++ one ∷ [])
+  added one e =
+      let so_far = before.summed in
+      let last : File = (entry.path, e.content) in record {
+        files = so_far.files ++ last ∷ [];
+        listed = map-append entry_of so_far.files (last ∷ []) ∙ (λ j. so_far.listed j ++ record { path = entry.path; size = e.size j } ∷ []) ∙ sym next;
+        are = subst (λ xs. AreSummed algs xs (summed ++ one ∷ [])) (sym (map-append moved so_far.files (last ∷ [])))
+            (summed_more algs (new_payload so_far.files) summed (moved last) one so_far.are (e.path, e.sums));
+        honest = λ h. All-append (λ (x : File). file old.bag x.0 ≡ Some x.1) so_far.files (last ∷ []) (so_far.honest h)
+            (All-cons (λ (x : File). file old.bag x.0 ≡ Some x.1) last [] (ap (λ bag. file bag entry.path) (sym before.keeps.bag) ∙ e.honest (before.keeps.honest ∙ h))
+            (All-nil (λ (x : File). file old.bag x.0 ≡ Some x.1)));
+      }
+
+  opened_more : new.openings ≡ mid.openings ++ entry.path ∷ [] → new.openings ≡ old.openings ++ paths_of (take (i + 1) files)
+  opened_more once =
+      once ∙ ap (λ xs. xs ++ entry.path ∷ []) before.opened ∙ append_assoc old.openings (paths_of (take i files)) (entry.path ∷ [])
+      ∙ ap (λ xs. old.openings ++ xs) (sym (ap paths_of next ∙ map-append (λ (e : FileEntry). e.path) (take i files) (entry ∷ [])))
+
+  -- one more was summed
+  pub sums_one_more : (after : List SummedFile) (one : SummedFile) → after ≡ summed ++ one ∷ [] → Keeps mid new → new.failures ≡ mid.failures
+      → new.openings ≡ mid.openings ++ entry.path ∷ [] → IsSummedEntry mid entry algs one → SumsFirst files (i + 1) algs old new after
+  sums_one_more after one e k calm once s = record {
+    keeps = keeps_on old mid new before.keeps k;
+    calm = calm ∙ before.calm;
+    opened = opened_more once;
+    summed = subst (AreSummedFiles old (take (i + 1) files) algs) (sym e) (added one s);
+  }
+
+  first_paths : (count : ℕ) → paths_of (take count files) ≡ take count (paths_of files)
+  first_paths count = sym (take-map (λ (e : FileEntry). e.path) count files)
+
+  -- it stopped at a file
+  pub opens_first : OpensAtMost mid new entry.path → OpensFirstOf (paths_of files) old new
+  opens_first (inl none) = (i, none ∙ before.opened ∙ ap (λ xs. old.openings ++ xs) (first_paths i))
+  opens_first (inr once) = (i + 1, opened_more once ∙ ap (λ xs. old.openings ++ xs) (first_paths (i + 1)))
+
+  entry_is : (IsTrue old.honest → All (IsEntryOf old.bag) files) → IsTrue mid.honest → All (IsEntryOf mid.bag) (entry ∷ [])
+  entry_is are honest =
+      All-cons (IsEntryOf mid.bag) entry []
+      (subst (λ bag. IsEntryOf bag entry) (sym before.keeps.bag) (All-contains (IsEntryOf old.bag) files entry (are (sym before.keeps.honest ∙ honest)) listed))
+      (All-nil (IsEntryOf mid.bag))
+
+  pub stops_at : (stop : Stop) → StopsSumming (entry ∷ []) mid new stop → StopsSumming files old new stop
+  stops_at stop h = record {
+    cause = λ are. later_refusal old mid new stop.cause before.keeps (h.cause (entry_is are));
+    answered = h.answered;
+    path = elim h.path [
+      | inl m ↦ inl m
+      | inr c ↦ elim (contains_cases entry.path [] stop.path c) [
+        | inl same ↦ inr (subst (Contains (paths_of files)) same (mapped_contains (λ (e : FileEntry). e.path) files entry listed))
+        | inr none ↦ absurd (contains_nothing stop.path none)
+      ]
+    ];
+    memory = h.memory;
+  }
+
+-- all were gone through
+module _ (files : List FileEntry) (count : ℕ) (algs : List Alg) (old new : TreeState) (summed : List SummedFile) (le : length files ≤ count) (all : SumsFirst files count algs old new summed) where
+  pub opens_all : new.openings ≡ old.openings ++ paths_of files
+  opens_all = all.opened ∙ ap (λ xs. old.openings ++ paths_of xs) (take_all count files le)
+
+  pub opens_all_first : OpensFirstOf (paths_of files) old new
+  opens_all_first = (length (paths_of files), opens_all ∙ ap (λ xs. old.openings ++ xs) (sym (take_all (length (paths_of files)) (paths_of files) (omega arith))))
+
+  pub sums_all : AreSummedFiles old files algs summed
+  sums_all = subst (λ xs. AreSummedFiles old xs algs summed) (take_all count files le) all.summed

@@ -1,0 +1,13 @@
+use Rattle.std.proofs.Common.{◌≡◌, ◌∙◌, ap, sym}
+use Rattle.std.proofs.lemmas.Result.{IfOk-weaker}
+use Rattle.bag_tree.specs.Bag.{files_of}
+use Rattle.bag_tree.proofs.ListingLaw.{listings_are_of_the_bag}
+use Rattle.bag_make.proofs.making.steps_of.Goals as goal
+
+pub returns-clause-of_bag : goal.returns-clause-of_bag
+returns-clause-of_bag c =
+    IfOk-weaker c.plan.result _ _
+    (λ steps planned bag ordered of summed.
+    planned bag c.args.algs c.args.info.now ordered of
+    (c.in_ok-tag_files.ensures.files (files_of bag) (sym (listings_are_of_the_bag bag c.args.listing.now ordered of) ∙ sym c.as_slice.ensures) summed))
+    c.plan.ensures.of_bag

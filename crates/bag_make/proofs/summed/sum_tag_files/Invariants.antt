@@ -1,0 +1,6 @@
+use Rattle.std.proofs.Common.{take}
+use Rattle.bag_make.specs.Summed.{AreSummed}
+use Rattle.bag_make.proofs.summed.sum_tag_files.Given as goal
+
+abbrev pub invariant-loop-file : goal.invariant-loop-file
+invariant-loop-file l = AreSummed l.fn.algs (take l.file-index l.files) l.summed.items

@@ -1,0 +1,7 @@
+use Rattle.std.proofs.Common.{◌≡◌, map, take, string_bytes}
+use Rattle.bag_write.specs.Entry as entry
+use Rattle.bag_make.specs.Summed.{summed_entry}
+use Rattle.bag_make.proofs.texts.manifest.Given as goal
+
+abbrev pub invariant-loop-file : goal.invariant-loop-file
+invariant-loop-file l = string_bytes l.text ≡ entry.manifest_text (map (summed_entry l.fn.alg) (take l.file-index l.files))

@@ -1,0 +1,27 @@
+-- How the files of a folder are read before a bag is made of them.
+use Rattle.std.specs.Prelude.{ℕ, ◌≡◌, ◌++◌, true, IsTrue, List, map, take}
+use Rattle.bag_tree.specs.Bag.{files_of}
+use Rattle.bag_tree.specs.Tree.{TreeState}
+use Rattle.bag_tree.specs.declared.fault.Stop.{Stop}
+use Rattle.bag_tree.specs.declared.fault.TreeFault.TheVariants as cause_of
+use Rattle.bag_make.specs.Plan.{is_in_the_way}
+use Rattle.bag_make.specs.Stops.{MayStopMaking}
+use Rattle.bag_make.specs.declared.fault.MakeFault.{MakeFault}
+use Rattle.bag_make.specs.declared.fault.MakeFault.TheVariants.{InTheWay, ReadStopped, Memory}
+
+-- of an honest tree the first files of the bag were opened, in path order and each once, and no other
+abbrev pub OpensFolder : TreeState → TreeState → Type 0
+OpensFolder old new = IsTrue old.honest → (count : ℕ) × (new.openings ≡ old.openings ++ take count (map (λ e. e.0) (files_of old.bag)))
+
+-- why nothing is planned
+abbrev pub MayRefuseReading : TreeState → TreeState → MakeFault → Type 0
+MayRefuseReading old new InTheWay = IsTrue old.honest → is_in_the_way old.bag ≡ true
+MayRefuseReading old new (ReadStopped stop) = MayStopMaking old new stop
+MayRefuseReading old new Memory = Unit {0}
+MayRefuseReading old new fault = ⊥
+
+-- the refusal that a stop is
+abbrev pub IsStopped : Stop → MakeFault → Type 0
+IsStopped stop Memory = stop.cause ≡ cause_of.Memory
+IsStopped stop (ReadStopped other) = (other ≡ stop) × ¬ (stop.cause ≡ cause_of.Memory)
+IsStopped stop fault = ⊥

@@ -1,0 +1,142 @@
+//! The digests that manifests are to give.
+ghost use Rattle.std.specs.Prelude.{◌≡◌, ◌<◌, ◌++◌, ◌∷◌, [], length, IfOk, IfErr, OnOk, OnErr};
+ghost use Rattle.bag_text.specs.Path.{under};
+ghost use Rattle.bag_tree.specs.Tree.{Keeps, OpensAtMost};
+ghost use Rattle.bag_digest.specs.Digest.{AreSumsOf};
+ghost use Rattle.bag_facts.specs.Wanted.{paths_of};
+ghost use Rattle.bag_made.specs.Made.{data_folder};
+ghost use Rattle.bag_make.specs.Stops.{StopsSumming};
+ghost use Rattle.bag_make.specs.Summed.{AreSummed, AreSummedFiles, IsSummedEntry, OpensFirstOf};
+ghost use Rattle.bag_make.specs.declared.summed.SummedFile.{SummedFile as Digested};
+
+use bag_digest::{Digests, Sums, digest_file};
+use bag_facts::stop_at;
+use bag_text::{AlgSet, Items, Text};
+use bag_tree::{FileEntry, Stop, Tree, TreeFault};
+use std::alloc::{AllocError, Global};
+
+/// How many bytes are read at once.
+const BUFFER_BYTES: usize = 65_536;
+
+/// What the paths of the payload begin with.
+const DATA_PREFIX: &str = "data/";
+
+/// A file that a manifest is to name, with its digests.
+#[derive(Debug, Drop)]
+pub struct SummedFile {
+    /// The path that the manifest is to give.
+    pub path: Text,
+    pub sums: Sums,
+}
+
+/// The digests of listed files in their order, with their paths in the payload. Each file is opened once for all algorithms,
+/// and read through one buffer.
+pub fn sum_files<T: Tree>(
+    alloc: Global,
+    tree: &mut T,
+    files: &[FileEntry],
+    algs: AlgSet,
+) -> Result<Vec<SummedFile>, Stop>
+    ensures keeps { Keeps (T.state tree.old) (T.state tree.new) }
+    ensures calm { OnOk result ((T.state tree.new).failures ≡ (T.state tree.old).failures) }
+    ensures opens { OpensFirstOf (paths_of files.now) (T.state tree.old) (T.state tree.new) }
+    ensures opened { OnOk result ((T.state tree.new).openings ≡ (T.state tree.old).openings ++ paths_of files.now) }
+    ensures summed { IfOk result (λ summed. AreSummedFiles (T.state tree.old) files.now algs summed.items) }
+    ensures stop { IfErr result (StopsSumming files.now (T.state tree.old) (T.state tree.new)) }
+{
+    let Ok(mut buffer) = Vec::from_elem(alloc, 0, BUFFER_BYTES) else {
+        return Err(Stop::without_path(alloc, TreeFault::Memory));
+    };
+    sum_each(alloc, tree, files, algs, &mut buffer)
+}
+
+/// The digests of listed files, one file after another.
+fn sum_each<T: Tree>(
+    alloc: Global,
+    tree: &mut T,
+    files: &[FileEntry],
+    algs: AlgSet,
+    buffer: &mut [u8],
+) -> Result<Vec<SummedFile>, Stop>
+    requires { 0 < length buffer.old }
+    ensures keeps { Keeps (T.state tree.old) (T.state tree.new) }
+    ensures calm { OnOk result ((T.state tree.new).failures ≡ (T.state tree.old).failures) }
+    ensures opens { OpensFirstOf (paths_of files.now) (T.state tree.old) (T.state tree.new) }
+    ensures opened { OnOk result ((T.state tree.new).openings ≡ (T.state tree.old).openings ++ paths_of files.now) }
+    ensures summed { IfOk result (λ summed. AreSummedFiles (T.state tree.old) files.now algs summed.items) }
+    ensures stop { IfErr result (StopsSumming files.now (T.state tree.old) (T.state tree.new)) }
+{
+    let mut summed = Vec::new(alloc);
+    for entry in files {
+        append_summed(alloc, tree, entry, algs, buffer, &mut summed)?;
+    }
+    Ok(summed)
+}
+
+/// Adds the digests of one listed file.
+fn append_summed<T: Tree>(
+    alloc: Global,
+    tree: &mut T,
+    entry: &FileEntry,
+    algs: AlgSet,
+    buffer: &mut [u8],
+    summed: &mut Vec<SummedFile>,
+) -> Result<(), Stop>
+    requires { 0 < length buffer.old }
+    ensures keeps { Keeps (T.state tree.old) (T.state tree.new) }
+    ensures calm { OnOk result ((T.state tree.new).failures ≡ (T.state tree.old).failures) }
+    ensures opened { OnOk result ((T.state tree.new).openings ≡ (T.state tree.old).openings ++ entry.now.path ∷ []) }
+    ensures opens { OnErr result (OpensAtMost (T.state tree.old) (T.state tree.new) entry.now.path) }
+    ensures summed { OnOk result ((one : Digested) × (summed.new.items ≡ summed.old.items ++ one ∷ []) × IsSummedEntry (T.state tree.old) entry.now algs one) }
+    ensures stop { IfErr result (StopsSumming (entry.now ∷ []) (T.state tree.old) (T.state tree.new)) }
+{
+    let sums = match digest_file(tree, entry, algs, buffer) {
+        Ok(sums) => sums,
+        Err(cause) => return Err(stop_at(alloc, cause, &entry.path)),
+    };
+    match push_summed(alloc, summed, entry.path.as_str(), sums) {
+        Ok(()) => Ok(()),
+        Err(AllocError) => Err(Stop::without_path(alloc, TreeFault::Memory)),
+    }
+}
+
+/// Adds the digests of a file that has this path in the folder.
+fn push_summed(
+    alloc: Global,
+    summed: &mut Vec<SummedFile>,
+    path: &str,
+    sums: Sums,
+) -> Result<(), AllocError>
+    ensures { OnOk result (summed.new.items ≡ summed.old.items ++ record { path = under data_folder path.now; sums = sums } ∷ []) }
+{
+    let path = Text::from_string(format!(in alloc; "{DATA_PREFIX}{path}")?);
+    summed.push(SummedFile { path, sums })?;
+    Ok(())
+}
+
+/// The digests of tag files that are to be written.
+pub fn sum_tag_files(
+    alloc: Global,
+    files: &[(Text, Items<u8>)],
+    algs: AlgSet,
+) -> Result<Vec<SummedFile>, AllocError>
+    ensures { IfOk result (λ summed. AreSummed algs files.now summed.items) }
+{
+    let mut summed = Vec::with_capacity(alloc, files.len())?;
+    for file in files {
+        summed.push(SummedFile {
+            path: file.0.copy(alloc)?,
+            sums: sums_of(file.1.as_slice(), algs),
+        })?;
+    }
+    Ok(summed)
+}
+
+/// The digests of bytes.
+fn sums_of(bytes: &[u8], algs: AlgSet) -> Sums
+    ensures { AreSumsOf algs bytes.now result }
+{
+    let mut digests = Digests::new(algs);
+    digests.update(bytes);
+    digests.finish()
+}

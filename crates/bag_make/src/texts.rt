@@ -1,0 +1,162 @@
+//! The tag files that are made.
+ghost use Rattle.std.specs.Prelude.{◌≡◌, ◌∷◌, ◌++◌, [], List, IfOk, OnOk, map, string_bytes};
+ghost use Rattle.std.specs.List.Sorted.{IsStrictlySortedBy};
+ghost use Rattle.bag_text.specs.Alg.{rank_cmp};
+ghost use Rattle.bag_text.specs.Lines.{line_feed};
+ghost use Rattle.bag_tags.specs.TagName.{tag_path};
+ghost use Rattle.bag_stages.specs.Payload.{oxum_text};
+ghost use Rattle.bag_write.specs.Declaration.{declaration_text};
+ghost use Rattle.bag_write.specs.Entry as entry;
+ghost use Rattle.bag_made.specs.Made as bag;
+ghost use Rattle.bag_made.specs.Made.{File, new_payload};
+ghost use Rattle.bag_make.specs.Summed.{AreSummed, entry_of, summed_entry};
+ghost use Rattle.bag_make.specs.Texts.{info_of, manifests_of, named_of, size_of};
+
+use crate::request::OXUM_LABEL;
+use crate::summed::{SummedFile, sum_tag_files};
+use bag_tags::{Kind, TagName};
+use bag_text::{Alg, AlgSet, Items, Text};
+use bag_tree::FileEntry;
+use bag_write::{push_entry, write_declaration, write_info};
+use std::alloc::{AllocError, Global};
+
+/// The tag files of the bag whose payload these listed files are, with these digests, in the order in which they are written.
+pub fn tag_files(
+    alloc: Global,
+    listed: &[FileEntry],
+    payload: &[SummedFile],
+    algs: AlgSet,
+    info: &[(Text, Text)],
+) -> Result<Vec<(Text, Items<u8>)>, AllocError>
+    ensures ascend { IsStrictlySortedBy rank_cmp algs }
+    ensures files { IfOk result (λ made. (files : List File) → map entry_of files ≡ listed.now → AreSummed algs (new_payload files) payload.now
+        → made.items ≡ bag.new_tag_files files algs info.now) }
+{
+    let members = algs.members(alloc)?;
+    let mut files = named_tag_files(alloc, listed, payload, &members, info)?;
+    let summed = sum_tag_files(alloc, files.as_slice(), algs)?;
+    let mut tag_manifests = manifests(alloc, Kind::Tag, &members, &summed)?;
+    files.append(&mut tag_manifests)?;
+    files.swap(0, 1);
+    Ok(files)
+}
+
+/// The tag files that tag manifests name, in path order.
+fn named_tag_files(
+    alloc: Global,
+    listed: &[FileEntry],
+    payload: &[SummedFile],
+    algs: &[Alg],
+    info: &[(Text, Text)],
+) -> Result<Vec<(Text, Items<u8>)>, AllocError>
+    ensures { IfOk result (λ made. made.items ≡ named_of listed.now payload.now algs.now info.now) }
+{
+    let mut files = Vec::new(alloc);
+    files.push(info_file(alloc, listed, info)?)?;
+    files.push(declaration_file(alloc)?)?;
+    let mut payload_manifests = manifests(alloc, Kind::Payload, algs, payload)?;
+    files.append(&mut payload_manifests)?;
+    Ok(files)
+}
+
+/// `bagit.txt` (RFC 8493, 2.1.1).
+fn declaration_file(alloc: Global) -> Result<(Text, Items<u8>), AllocError>
+    ensures { IfOk result (λ file. file ≡ (tag_path TagName.Declaration, declaration_text)) }
+{
+    let path = TagName::Declaration.path(alloc)?;
+    match write_declaration(alloc) {
+        Ok(bytes) => Ok((path, Items::from_vec(bytes))),
+        Err(_) => Err(AllocError),
+    }
+}
+
+/// `bag-info.txt` with these elements and, last, the size of the payload (RFC 8493, 2.2.2).
+fn info_file(
+    alloc: Global,
+    listed: &[FileEntry],
+    info: &[(Text, Text)],
+) -> Result<(Text, Items<u8>), AllocError>
+    ensures { IfOk result (λ file. file ≡ info_of listed.now info.now) }
+{
+    let mut elements = copies(alloc, info)?;
+    elements.push((Text::from_str(alloc, OXUM_LABEL)?, oxum(alloc, listed)?))?;
+    let path = TagName::Info.path(alloc)?;
+    // The elements were asked, so that only memory can be wanting.
+    match write_info(alloc, &elements) {
+        Ok(bytes) => Ok((path, Items::from_vec(bytes))),
+        Err(_) => Err(AllocError),
+    }
+}
+
+fn copies(alloc: Global, elements: &[(Text, Text)]) -> Result<Vec<(Text, Text)>, AllocError>
+    ensures { IfOk result (λ copies. copies.items ≡ elements.now) }
+{
+    let mut copies = Vec::new(alloc);
+    for element in elements {
+        copies.push((element.0.copy(alloc)?, element.1.copy(alloc)?))?;
+    }
+    Ok(copies)
+}
+
+/// The value of `Payload-Oxum`: how many bytes the files have, a dot, and how many they are.
+fn oxum(alloc: Global, listed: &[FileEntry]) -> Result<Text, AllocError>
+    ensures { IfOk result (λ text. text ≡ oxum_text (size_of listed.now)) }
+{
+    let octets = octets(listed);
+    let streams = listed.len();
+    Ok(Text::from_string(format!(in alloc; "{octets}.{streams}")?))
+}
+
+/// How many bytes the files have together. Sizes that each fit 64 bits need not fit them together.
+fn octets(listed: &[FileEntry]) -> u128
+    ensures { result ≡ (size_of listed.now).octets }
+{
+    let mut octets: u128 = 0;
+    for entry in listed {
+        octets += u128::from(entry.size);
+    }
+    octets
+}
+
+/// The manifests of a kind that name these files, one for each algorithm.
+fn manifests(
+    alloc: Global,
+    kind: Kind,
+    algs: &[Alg],
+    files: &[SummedFile],
+) -> Result<Vec<(Text, Items<u8>)>, AllocError>
+    ensures { IfOk result (λ made. made.items ≡ manifests_of kind algs.now files.now) }
+{
+    let mut manifests = Vec::new(alloc);
+    for alg in algs {
+        let path = TagName::Manifest(kind, *alg).path(alloc)?;
+        manifests.push((path, manifest(alloc, *alg, files)?))?;
+    }
+    Ok(manifests)
+}
+
+/// The manifest of an algorithm that names these files (RFC 8493, 2.1.3 and 2.2.1).
+fn manifest(alloc: Global, alg: Alg, files: &[SummedFile]) -> Result<Items<u8>, AllocError>
+    ensures { IfOk result (λ bytes. bytes ≡ entry.manifest_text (map (summed_entry alg) files.now)) }
+{
+    let mut text = String::new(alloc);
+    for file in files {
+        push_file(alloc, &mut text, alg, file)?;
+    }
+    Ok(Items::from_vec(text.into_bytes()))
+}
+
+/// Adds the line of a file, whose digests are asked of the algorithm.
+fn push_file(
+    alloc: Global,
+    text: &mut String,
+    alg: Alg,
+    file: &SummedFile,
+) -> Result<(), AllocError>
+    ensures { OnOk result (string_bytes text.new ≡ string_bytes text.old ++ entry.entry_line (summed_entry alg file.now) ++ line_feed ∷ []) }
+{
+    match file.sums.hex(alloc, alg) {
+        Ok(digest) => push_entry(alloc, text, digest.as_str(), file.path.as_str()),
+        Err(_) => Err(AllocError),
+    }
+}

@@ -1,0 +1,16 @@
+-- What bytes begin alike with, and numbers that stand in the order of bytes.
+use Rattle.std.specs.Prelude.{ℕ, ◌==◌, ◌++◌, List, take, drop, replicate}
+use Rattle.std.specs.List.{common_prefix_len}
+use Rattle.std.specs.Int.{from_be_bytes, w128}
+
+-- the longest front that both have
+abbrev pub common_front : List ℕ → List ℕ → List ℕ
+common_front first second = take (common_prefix_len (λ a b. a == b) first second) first
+
+-- sixteen bytes with zeros behind them where there are fewer
+abbrev pub front_of_sixteen : List ℕ → List ℕ
+front_of_sixteen bytes = take 16 (bytes ++ replicate 16 0)
+
+-- the number of the sixteen bytes behind so many, the first worth most
+abbrev pub key_behind : List ℕ → ℕ → ℕ
+key_behind bytes skipped = from_be_bytes w128 (front_of_sixteen (drop skipped bytes))

@@ -1,0 +1,61 @@
+//! Names with line ends, percent signs, blanks and other letters.
+use crate::held::{Files, Folders, Held, Place, disk, holds, tree_in};
+use bag_file_tree::FileTree;
+use bag_tree::TreeFault;
+use bag_write_tree::WriteTree;
+use std::alloc::Global;
+use std::test::Fail;
+
+const NAMED: &[Place] = &[
+    (" b ", Held::File("b")),
+    ("%41", Held::Folder),
+    ("%41/%", Held::File("%")),
+    ("a\nb", Held::File("a")),
+    ("c\r", Held::Folder),
+    ("c\r/..c", Held::File("c")),
+    ("\u{e9}", Held::File("e")),
+];
+
+/// Moves what has each of these names into a folder whose name ends in a line end.
+fn take_steps<T: WriteTree>(tree: &mut T) -> Result<(), TreeFault> {
+    tree.make_folder("n\n")?;
+    tree.move_in(" b ", "n\n")?;
+    tree.move_in("%41", "n\n")?;
+    tree.move_in("a\nb", "n\n")?;
+    tree.move_in("c\r", "n\n")?;
+    tree.move_in("\u{e9}", "n\n")?;
+    tree.rename_folder("n\n", "data")?;
+    tree.create("%0A \r\n", b"z")
+}
+
+const AFTER: Files = &[
+    ("%0A \r\n", "z"),
+    ("data/ b ", "b"),
+    ("data/%41/%", "%"),
+    ("data/a\nb", "a"),
+    ("data/c\r/..c", "c"),
+    ("data/\u{e9}", "e"),
+];
+
+fn keep_names<T: WriteTree>(alloc: Global, tree: &mut T) -> Result<bool, TreeFault> {
+    take_steps(tree)?;
+    holds(alloc, tree, true, AFTER)
+}
+
+#[test]
+fn odd_names_on_a_disk_in_memory(rt: HostRuntime) -> Result<(), Fail> {
+    let alloc = rt.alloc();
+    assert!(rt; keep_names(alloc, &mut FileTree::over(alloc, disk(alloc, NAMED)?))?);
+    Ok(())
+}
+
+fn keep_real_names(rt: &HostRuntime, folders: &str) -> Result<bool, Fail> {
+    Ok(keep_names(rt.alloc(), &mut tree_in(rt, folders, "base")?)?)
+}
+
+#[test]
+fn odd_names_in_a_real_folder(rt: HostRuntime) -> Result<(), Fail> {
+    let folders = Folders::holding(&rt, "names", NAMED)?;
+    assert!(rt; keep_real_names(&rt, folders.path())?);
+    Ok(folders.remove(&rt)?)
+}
