@@ -11,6 +11,7 @@ mod profiles;
 mod tag_files;
 
 use bag_report::Depth;
+use bag_text::Alg;
 use std::{env, io};
 
 /// Prints what a reader finds at a path.
@@ -27,7 +28,8 @@ fn print_found(rt: &HostRuntime, reader: &str, path: &str) -> io::Result<()> {
         "conforms-often" => profiles::print_folder(rt, path, 50),
         "complete" => checks::write_report(rt, path, Depth::Complete, false),
         "clashes" => checks::write_report(rt, path, Depth::Complete, true),
-        "make" => making::make_bag(rt, path),
+        "make" => making::make_bag(rt, path, &[Alg::Sha256, Alg::Sha512]),
+        "make-md5" => making::make_bag(rt, path, &[Alg::Md5]),
         "valid" => checks::write_report(rt, path, Depth::Full, false),
         _ => digests::print_folder(rt, reader, path),
     }
