@@ -1,5 +1,5 @@
 -- What is told of a bag on an honest disk.
-use Rattle.std.proofs.Common.{◌≡◌, ◌≢◌, inl, inr, ◌∷◌, Bool, ℕ, List, [], Option, None, IsTrue, refl, sym, ap, ◌∙◌, subst, arith, min, length}
+use Rattle.std.proofs.Common.{◌≡◌, ◌≢◌, inl, inr, Bool, ℕ, List, Option, IsTrue, refl, sym, ap, ◌∙◌, subst, arith, min, length}
 use Rattle.std.specs.Io.KnownBytes.{Appends}
 use Rattle.std.specs.List.{concat}
 use Rattle.bag_tree.specs.declared.fault.Stop.{Stop}
@@ -7,24 +7,22 @@ use Rattle.bag_disk.specs.Disk.{DiskState}
 use Rattle.bag_file_tree.specs.DiskBag.{bag_of}
 use Rattle.bag_file_tree.specs.FileTree.{tree_state}
 use Rattle.bag_fault.specs.declared.fault.Fault.{Fault}
-use Rattle.bag_walk.specs.Stops.{MayStop}
 use Rattle.bag_output.specs.Closing.{status}
 use Rattle.bag_output.specs.Ending.{ideal, limit_of, lines_of_run}
 use Rattle.bag_output.specs.declared.outcome.Outcome.{Outcome}
 use Rattle.bag_output.specs.declared.outcome.Outcome.TheVariants.{Clean, Faults, Stopped, Rest, Unread, Unwritten}
 use Rattle.bag_output.specs.declared.outcome.Request.{Request}
+use Rattle.bag_profile.specs.Profile.{Profile}
 use Rattle.bag_report.specs.Report.{above, first}
+use Rattle.bag_walk.specs.Stops.{MayStop}
 use Rattle.bag_walk.specs.Run.{EndsAt, IsRunOf}
-use Rattle.bag_cli.specs.Performed.{HonestDisksAreTold, IsWholeCheck, TellsReport, request_of, shown_of}
-
-all_above : (faults : List Fault) → above None faults ≡ faults
-all_above [] = refl
-all_above (f ∷ faults) = ap (λ fs. f ∷ fs) (all_above faults)
+use Rattle.bag_arguments.specs.declared.plan.Plan.{Plan}
+use Rattle.bag_cli.specs.Checked.{IsWholeCheck, request_of}
+use Rattle.bag_cli.specs.Told.{HonestDisksAreTold, TellsReport, shown_of, told_lines}
 
 -- a run that ends at the end of its report, or at its limit, with what it showed
 Told : Request → List Fault → Option (List ℕ) → Option (List ℕ) → Outcome → Type 0
-Told request faults before after outcome =
-    (outcome ≡ ideal request faults) × Appends before after (concat (lines_of_run request (shown_of request faults) (ideal request faults)))
+Told request faults before after outcome = (outcome ≡ ideal request faults) × Appends before after (concat (told_lines request faults))
 
 shown_to : (request : Request) (faults : List Fault) (before after : Option (List ℕ)) (k : ℕ) (ending outcome : Outcome)
     → k ≡ min (limit_of request) (length faults) → ending ≡ ideal request faults → outcome ≡ ending
@@ -55,18 +53,18 @@ told request faults Stops before after refused (Unread n stop) calm run = absurd
 told request faults Stops before after refused (Unwritten n) calm run = absurd (calm refl)
 
 -- a check of an honest tree whose whole report was written
-whole_told : (disk : DiskState) (name : List ℕ) (before after : Option (List ℕ)) (n : ℕ) → IsTrue disk.honest
-    → IsWholeCheck (tree_state disk 0) name before after n → TellsReport (bag_of disk.nodes) name before after n
+whole_told : (plan : Plan) (profile : Option Profile) (disk : DiskState) (name : List ℕ) (before after : Option (List ℕ)) (n : ℕ) → IsTrue disk.honest
+    → IsWholeCheck plan profile (tree_state disk 0) name before after n → TellsReport plan profile (bag_of disk.nodes) name before after n
 unfolding Told
-whole_told disk name before after n honest whole calm report is =
-    let stops = MayStop (request_of name).options (tree_state disk 0) whole.check.new in
-    let run = subst (λ faults. IsRunOf (request_of name) faults stops before after whole.check.refused whole.outcome) (all_above report) (whole.check.by_report honest report is) in
-    let all = told (request_of name) report stops before after whole.check.refused whole.outcome (λ three. calm (whole.status_is ∙ three)) run in
+whole_told plan profile disk name before after n honest whole calm report is =
+    let stops = MayStop plan.options (tree_state disk 0) whole.check.new in
+    let run = whole.check.by_report honest report is in
+    let all = told (request_of plan name) (above plan.after report) stops before after whole.refused whole.outcome (λ three. calm (whole.status_is ∙ three)) run in
     (whole.status_is ∙ ap status all.0, all.1)
 
 pub honest_disks_are_told : HonestDisksAreTold
-honest_disks_are_told below name before after n honest (inl last) calm report is = absurd (calm last.0)
-honest_disks_are_told below name before after n honest (inr on) calm report is =
+honest_disks_are_told plan profile below name before after refused n honest (inl last) calm report is = absurd (calm last.0)
+honest_disks_are_told plan profile below name before after refused n honest (inr on) calm report is =
     let same : n ≡ on.first = omega (arith, on.greatest, on.others.0) in
-    let all = whole_told (below name) name before on.mid on.first honest on.check (λ three. calm (same ∙ three)) report is in
+    let all = whole_told plan profile (below name) name before on.mid on.first honest on.whole (λ three. calm (same ∙ three)) report is in
     (same ∙ all.0, subst (λ after. Appends before after _) (sym on.others.1) all.1)

@@ -1,2 +1,5 @@
+pub mod Arms
 pub mod Checks
 pub mod HonestDisks
+pub mod Makings
+pub mod Turns

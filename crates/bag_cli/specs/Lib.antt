@@ -1,6 +1,9 @@
-pub use Rattle.bag_plan.specs.Plan
+pub mod Checked
+pub mod InTurn
+pub mod Makings
 pub mod Performed
 pub mod Program
 pub mod Sample
 pub mod Status
+pub mod Told
 pub mod Words

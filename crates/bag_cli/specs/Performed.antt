@@ -1,102 +1,68 @@
--- What the program writes, and its exit status.
-use Rattle.std.specs.Prelude.{ℕ, ◌≡◌, ◌≢◌, ◌⊎◌, Bool, true, false, IsTrue, List, [], ◌∷◌, Option, None, codes, length, max, min}
+-- What the program does by a plan.
+use Rattle.std.specs.Prelude.{ℕ, ◌≡◌, ◌⊎◌, Bool, true, List, [], ◌∷◌, Option, Some, None, Result, Ok, Err, codes, if◌then◌else◌}
 use Rattle.std.specs.Io.KnownBytes.{Appends}
-use Rattle.std.specs.List.{concat}
-use Rattle.bag_tree.specs.Bag.{Bag}
-use Rattle.bag_tree.specs.Tree.{TreeState}
 use Rattle.bag_disk.specs.Disk.{DiskState}
-use Rattle.bag_file_tree.specs.DiskBag.{bag_of}
 use Rattle.bag_file_tree.specs.FileTree.{tree_state}
-use Rattle.bag_fault.specs.declared.fault.Fault.{Fault}
-use Rattle.bag_facts.specs.declared.options.Depth.TheVariants.{Declaration}
-use Rattle.bag_output.specs.Closing.{status}
-use Rattle.bag_output.specs.Ending.{ideal, limit_of, lines_of_run}
-use Rattle.bag_output.specs.declared.outcome.Outcome.{Outcome}
-use Rattle.bag_output.specs.declared.outcome.Outcome.TheVariants.{Clean, Faults, Stopped, Rest, Unread, Unwritten}
-use Rattle.bag_output.specs.declared.outcome.Request.{Request}
-use Rattle.bag_report.specs.Report.{IsReport, first}
-use Rattle.bag_walk.specs.Run.{IsRun, IsRunByReport, check_of}
-use Rattle.bag_plan.specs.declared.plan.Action.{Action}
-use Rattle.bag_plan.specs.declared.plan.Action.TheVariants.{Sample, Check}
-use Rattle.bag_plan.specs.declared.plan.Plan.{Plan}
+use Rattle.bag_output.specs.Write.{IsCut}
+use Rattle.bag_profile.specs.Profile.{Profile}
+use Rattle.bag_profile_file.specs.Read.{IsRead}
+use Rattle.bag_profile_file.specs.Refusal.{refusal_status}
+use Rattle.bag_profile_file.specs.Unchecked.{unchecked_lines}
+use Rattle.bag_profile_file.specs.declared.refusal.ProfileRefusal.{ProfileRefusal}
+use Rattle.bag_arguments.specs.declared.plan.Action.{Action}
+use Rattle.bag_arguments.specs.declared.plan.Action.TheVariants.{Sample, Help, Check, Make}
+use Rattle.bag_arguments.specs.declared.plan.Plan.{Plan}
+use Rattle.bag_cli.specs.Checked.{AreChecksOf}
+use Rattle.bag_cli.specs.Makings.{AreMakingsOf}
 use Rattle.bag_cli.specs.Sample.{sample_state}
 
--- what a check of the bag of this name asks for
-abbrev pub request_of : List ℕ → Request
-request_of name = record { options = record { depth = Declaration; clashes = false }; after = None; limit = None; quiet = false; name = name }
+-- the output refused in the midst of this text
+abbrev pub IsCutOff : List ℕ → Option (List ℕ) → Option (List ℕ) → Bool → ℕ → Type 0
+IsCutOff text before after refused n = (n ≡ 3) × (refused ≡ true) × IsCut before after text
 
--- A check is a run over this tree, without a profile: it shows the faults of the tree's bag wherever the tree is honest.
-pub record IsCheckOf (tree : TreeState) (name : List ℕ) (before after : Option (List ℕ)) (outcome : Outcome) : Type 0 where
-  pub new : TreeState
-  pub refused : Bool
-  pub run : IsRun tree new None (request_of name) before after refused outcome
-  pub by_report : IsRunByReport tree new None (request_of name) before after refused outcome
+-- a text was written, or the output refused it
+abbrev pub IsSaid : List ℕ → Option (List ℕ) → Option (List ℕ) → Bool → ℕ → Type 0
+IsSaid text before after refused n = ((n ≡ 0) × Appends before after text) ⊎ IsCutOff text before after refused n
 
--- the output took the whole report
-abbrev pub is_written : Outcome → Bool
-is_written Clean = true
-is_written (Faults n) = true
-is_written (Stopped n) = true
-is_written (Rest n) = true
-is_written (Unread n stop) = true
-is_written (Unwritten n) = false
+-- the folders of a plan were checked, on disks that hold this below each base folder
+abbrev pub AreChecked : (List ℕ → DiskState) → Plan → Option Profile → Option (List ℕ) → Option (List ℕ) → Bool → ℕ → Type 0
+AreChecked below plan profile before after refused n =
+    AreChecksOf plan profile (λ name. tree_state (below name) 0) plan.directories before after refused n
 
--- a check whose whole report was written, and its status
-pub record IsWholeCheck (tree : TreeState) (name : List ℕ) (before after : Option (List ℕ)) (n : ℕ) : Type 0 where
-  pub outcome : Outcome
-  pub check : IsCheckOf tree name before after outcome
-  pub written : is_written outcome ≡ true
-  pub status_is : n ≡ status outcome
+-- the lines that come before the checks by a profile
+abbrev pub lines_before : Bool → Profile → List ℕ
+lines_before quiet profile = if quiet then [] else unchecked_lines profile.unchecked
 
--- a check that is the last: the output refused, or memory ran out before the report
-abbrev pub IsLastCheck : TreeState → List ℕ → Option (List ℕ) → Option (List ℕ) → Type 0
-IsLastCheck tree name before after = ((count : ℕ) × IsCheckOf tree name before after (Unwritten count)) ⊎ (after ≡ before)
+-- its unchecked keys were written, and then the folders were checked by it; or the output refused these lines
+abbrev pub AreCheckedBy : (List ℕ → DiskState) → Plan → Profile → Option (List ℕ) → Option (List ℕ) → Bool → ℕ → Type 0
+AreCheckedBy below plan profile before after refused n =
+    IsCutOff (lines_before plan.quiet profile) before after refused n
+    ⊎ ((mid : Option (List ℕ)) × Appends before mid (lines_before plan.quiet profile) × AreChecked below plan (Some profile) mid after refused n)
 
--- one check went on to the others, and the status is the greatest
-pub record GoesOn (tree : TreeState) (name : List ℕ) (Others : Option (List ℕ) → ℕ → Type 0) (before : Option (List ℕ)) (n : ℕ) : Type 0 where
-  pub mid : Option (List ℕ)
-  pub first : ℕ
-  pub rest : ℕ
-  pub check : IsWholeCheck tree name before mid first
-  pub others : Others mid rest
-  pub greatest : n ≡ max first rest
+-- the folders were checked by the profile that was read; where none was, nothing is written
+abbrev pub IsCheckedFor : (List ℕ → DiskState) → Plan → Result Profile ProfileRefusal → Option (List ℕ) → Option (List ℕ) → Bool → ℕ → Type 0
+IsCheckedFor below plan (Ok profile) before after refused n = AreCheckedBy below plan profile before after refused n
+IsCheckedFor below plan (Err refusal) before after refused n = (n ≡ refusal_status refusal) × (after ≡ before)
 
--- The checks of the bags of these names in the trees that they name, one after the other. After one that couldn't be
--- read or has faults comes the next; after one that couldn't be written comes none, and the status is 3.
-abbrev pub AreChecksOf : (List ℕ → TreeState) → List (List ℕ) → Option (List ℕ) → Option (List ℕ) → ℕ → Type 0
-AreChecksOf tree_of [] before after n = (n ≡ 0) × (after ≡ before)
-AreChecksOf tree_of (name ∷ names) before after n =
-    ((n ≡ 3) × IsLastCheck (tree_of name) name before after)
-    ⊎ GoesOn (tree_of name) name (λ mid rest. AreChecksOf tree_of names mid after rest) before n
+-- the folders were checked, by the profile of a file where there is a path of one
+abbrev pub IsChecked : (List ℕ → DiskState) → (List ℕ → Option (List ℕ) → Type 0) → Plan → Option (List ℕ) → Option (List ℕ) → Option (List ℕ) → Bool → ℕ → Type 0
+IsChecked below file plan None before after refused n = AreChecked below plan None before after refused n
+IsChecked below file plan (Some path) before after refused n =
+    (read : Result Profile ProfileRefusal) × IsRead (file path) read × IsCheckedFor below plan read before after refused n
 
--- the trees that a plan checks, by their names in the report
-abbrev pub trees_of : (List ℕ → DiskState) → Action → List ℕ → TreeState
-trees_of below Sample name = sample_state
-trees_of below Check name = tree_state (below name) 0
+-- the folders of a plan were made bags, on disks that hold this below each base folder; or memory for the elements ran out
+abbrev pub AreMade : (List ℕ → DiskState) → Plan → Option (List ℕ) → Option (List ℕ) → Bool → ℕ → Type 0
+AreMade below plan before after refused n =
+    ((n ≡ 3) × (after ≡ before)) ⊎ AreMakingsOf plan (λ name. tree_state (below name) 0) plan.directories before after refused n
 
--- the bags that a plan checks, by their names in the report
-abbrev pub names_of : Action → List (List ℕ) → List (List ℕ)
-names_of Sample directories = codes "sample" ∷ []
-names_of Check directories = directories
+-- this was done for a plan, on disks that hold this below each base folder, where files have these bytes
+abbrev pub IsDoneBy : Action → (List ℕ → DiskState) → (List ℕ → Option (List ℕ) → Type 0) → Plan → Option (List ℕ) → Option (List ℕ) → Bool → ℕ → Type 0
+IsDoneBy Sample below file plan before after refused n =
+    AreChecksOf plan None (λ _. sample_state) (codes "sample" ∷ []) before after refused n
+IsDoneBy (Help text) below file plan before after refused n = IsSaid text before after refused n
+IsDoneBy Check below file plan before after refused n = IsChecked below file plan plan.profile before after refused n
+IsDoneBy Make below file plan before after refused n = AreMade below plan before after refused n
 
--- the bags of a plan were checked, on disks that hold this below each base folder
-abbrev pub IsPerformed : (List ℕ → DiskState) → Plan → Option (List ℕ) → Option (List ℕ) → ℕ → Type 0
-IsPerformed below plan before after n = AreChecksOf (trees_of below plan.action) (names_of plan.action plan.directories) before after n
-
--- the faults of a report that a request shows where nothing is refused
-abbrev pub shown_of : Request → List Fault → List Fault
-shown_of request report = first (min (limit_of request) (length report)) report
-
--- Unless a read, a write or a growth was refused, the output took the lines of the bag's report and the closing line, and
--- the status tells whether there are faults.
-abbrev pub TellsReport : Bag → List ℕ → Option (List ℕ) → Option (List ℕ) → ℕ → Type 0
-TellsReport bag name before after n =
-    n ≢ 3 → (report : List Fault) → IsReport (check_of bag None (request_of name)) report
-    → (n ≡ status (ideal (request_of name) report))
-    × Appends before after (concat (lines_of_run (request_of name) (shown_of (request_of name) report) (ideal (request_of name) report)))
-
--- the law: over an honest disk, the check of one directory tells the report of the bag that stands there
-abbrev pub HonestDisksAreTold : Type 0
-HonestDisksAreTold =
-    (below : List ℕ → DiskState) (name : List ℕ) (before after : Option (List ℕ)) (n : ℕ) → IsTrue (below name).honest
-    → IsPerformed below (record { action = Check; directories = name ∷ [] }) before after n → TellsReport (bag_of (below name).nodes) name before after n
+-- what a plan says was done, on disks that hold this below each base folder, where files have these bytes
+abbrev pub IsPerformed : (List ℕ → DiskState) → (List ℕ → Option (List ℕ) → Type 0) → Plan → Option (List ℕ) → Option (List ℕ) → Bool → ℕ → Type 0
+IsPerformed below file plan before after refused n = IsDoneBy plan.action below file plan before after refused n

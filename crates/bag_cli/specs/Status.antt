@@ -1,5 +1,5 @@
 -- The exit status of the program.
-use Rattle.std.specs.Prelude.{ℕ, ◌≤◌, ◌≢◌, Option, Some, None, Result, Ok, Err}
+use Rattle.std.specs.Prelude.{ℕ, Option, Some, None, Result, Ok, Err}
 use Rattle.bag_output.specs.declared.outcome.Outcome.{Outcome}
 use Rattle.bag_output.specs.declared.outcome.Outcome.TheVariants.{Clean, Faults, Stopped, Rest, Unread, Unwritten}
 
@@ -12,7 +12,3 @@ whole_status (Ok (Rest n)) = Some 1
 whole_status (Ok (Unread n stop)) = Some 3
 whole_status (Ok (Unwritten n)) = None
 whole_status (Err e) = None
-
--- one of the statuses of a check: 0, 1 or 3
-abbrev pub IsStatus : ℕ → Type 0
-IsStatus n = (n ≤ 3) × (n ≢ 2)

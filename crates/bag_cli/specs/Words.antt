@@ -3,8 +3,8 @@ use Rattle.std.specs.Prelude.{ℕ, ◌≡◌, ◌⊎◌, List, Result, Ok, Err, 
 use Rattle.std.specs.declared.alloc.Global.{Global}
 use Rattle.std.specs.declared.vec.IntoIter.{IntoIter}
 use Rattle.std.specs.Vec.Iter.{into_iter_items}
-use Rattle.bag_plan.specs.declared.usage.Usage.{Usage}
-use Rattle.bag_plan.specs.declared.usage.Usage.TheVariants.{Memory}
+use Rattle.bag_arguments.specs.declared.usage.Usage.{Usage}
+use Rattle.bag_arguments.specs.declared.usage.Usage.TheVariants.{Memory}
 
 -- the words that were answered, the program's name first, or why there are none
 abbrev pub answered : Result (IntoIter (String Global) Global) Usage → Result (List (List ℕ)) Usage

@@ -1,67 +1,86 @@
 //! One check: the report of one bag.
-ghost use Rattle.std.specs.Prelude.{◌≡◌, IfOk, OnErr, codes};
+ghost use Rattle.std.specs.Prelude.{◌≡◌, IfOk, None, OnErr, codes};
+ghost use Rattle.std.specs.Option.{option_copied};
 ghost use Rattle.bag_file_tree.specs.FileTree.{tree_state};
-ghost use Rattle.bag_cli.specs.Performed.{IsCheckOf, request_of};
+ghost use Rattle.bag_cli.specs.Checked.{IsCheckOf, request_of};
 ghost use Rattle.bag_cli.specs.Sample.{sample_state};
 
-use crate::disks::Disks;
 use crate::sample::sample_tree;
+use bag_arguments::Plan;
+use bag_disks::Disks;
+use bag_fault::Fault;
 use bag_file_tree::FileTree;
-use bag_report::{Depth, Options};
+use bag_profile::Profile;
 use bag_text::Text;
 use bag_tree::{Out, Tree};
 use bag_walk::{Outcome, Request, run};
 use std::alloc::{AllocError, Global};
 
-/// Checks the bag in a folder.
+/// Checks the bag in a folder, as a plan says.
 pub(crate) fn check_folder<D: Disks, O: Out>(
     alloc: Global,
     disks: &D,
+    plan: &Plan,
+    profile: Option<&Profile>,
     directory: &str,
     out: &mut O,
 ) -> Result<Outcome, AllocError>
-    ensures check { IfOk result (λ outcome. IsCheckOf (tree_state (D.below disks.now directory.now) 0) directory.now (O.taken out.old) (O.taken out.new) outcome) }
+    ensures check { IfOk result (λ outcome. IsCheckOf plan.now (option_copied profile.entry) (tree_state (D.below disks.now directory.now) 0) directory.now
+        (O.taken out.old) (O.taken out.new) (O.has_refused out.new) outcome) }
     ensures nothing { OnErr result (O.taken out.new ≡ O.taken out.old) }
 {
     let tree = FileTree::over(alloc, disks.disk(alloc, directory)?);
-    check(alloc, tree, directory, out)
+    check(alloc, tree, plan, profile, directory, out)
 }
 
-/// Checks the sample bag.
-pub(crate) fn check_sample<O: Out>(alloc: Global, out: &mut O) -> Result<Outcome, AllocError>
-    ensures check { IfOk result (λ outcome. IsCheckOf sample_state (codes "sample") (O.taken out.old) (O.taken out.new) outcome) }
+/// Checks the sample bag, as a plan says.
+pub(crate) fn check_sample<O: Out>(
+    alloc: Global,
+    plan: &Plan,
+    out: &mut O,
+) -> Result<Outcome, AllocError>
+    ensures check { IfOk result (λ outcome. IsCheckOf plan.now None sample_state (codes "sample") (O.taken out.old) (O.taken out.new) (O.has_refused out.new) outcome) }
     ensures nothing { OnErr result (O.taken out.new ≡ O.taken out.old) }
 {
-    check(alloc, sample_tree(alloc)?, "sample", out)
+    check(alloc, sample_tree(alloc)?, plan, None, "sample", out)
 }
 
 /// Checks the bag of a tree under a name.
 fn check<T: Tree + Drop, O: Out>(
     alloc: Global,
     tree: T,
+    plan: &Plan,
+    profile: Option<&Profile>,
     name: &str,
     out: &mut O,
 ) -> Result<Outcome, AllocError>
-    ensures check { IfOk result (λ outcome. IsCheckOf (T.state tree) name.now (O.taken out.old) (O.taken out.new) outcome) }
+    ensures check { IfOk result (λ outcome. IsCheckOf plan.now (option_copied profile.entry) (T.state tree) name.now (O.taken out.old) (O.taken out.new) (O.has_refused out.new) outcome) }
     ensures nothing { OnErr result (O.taken out.new ≡ O.taken out.old) }
 {
-    let request = request_named(alloc, name)?;
-    let (_tree, outcome) = run(alloc, tree, None, request, out);
+    let request = request_for(alloc, plan, name)?;
+    let (_tree, outcome) = run(alloc, tree, profile, request, out);
     Ok(outcome)
 }
 
-/// What a check of a bag of this name asks for.
-fn request_named(alloc: Global, name: &str) -> Result<Request, AllocError>
-    ensures { IfOk result (λ request. request ≡ request_of name.now) }
+/// What a plan's check of a bag of this name asks for.
+fn request_for(alloc: Global, plan: &Plan, name: &str) -> Result<Request, AllocError>
+    ensures { IfOk result (λ request. request ≡ request_of plan.now name.now) }
 {
     Ok(Request {
-        options: Options {
-            depth: Depth::Declaration,
-            clashes: false,
-        },
-        after: None,
-        limit: None,
-        quiet: false,
+        options: plan.options,
+        after: copied(alloc, &plan.after)?,
+        limit: plan.limit,
+        quiet: plan.quiet,
         name: Text::from_str(alloc, name)?,
     })
+}
+
+/// An equal cursor.
+fn copied(alloc: Global, cursor: &Option<Fault>) -> Result<Option<Fault>, AllocError>
+    ensures { IfOk result (λ copy. copy ≡ cursor.now) }
+{
+    match cursor {
+        Some(fault) => Ok(Some(fault.copy(alloc)?)),
+        None => Ok(None),
+    }
 }

@@ -1,4 +1,4 @@
-//! What the command line does: the plan of its words, and each check of that plan.
+//! What the command line does: the plan of its words, and what that plan says.
 //!
 //! ```
 //! let status = run_program(&rt, &mut WriterOut::new(io::writer(&rt)), &mut rt.stderr());
@@ -6,16 +6,18 @@
 #![tactic(auto)]
 
 mod all_checks;
+mod all_makings;
+mod by_profile;
 mod check;
-mod disks;
 pub mod laws;
+mod performing;
 mod sample;
 mod whole_program;
 mod words;
 
-pub use all_checks::{perform, perform_over};
-pub use bag_plan::{Action, Plan, Usage, plan_of, refuse_words};
+pub use bag_arguments::{Action, Plan, Usage, plan_of, refuse_words};
+pub use bag_disks::Disks;
 pub use bag_tree::WriterOut;
-pub use disks::Disks;
+pub use performing::{perform, perform_over};
 pub use whole_program::{program, run_program};
 pub use words::Words;

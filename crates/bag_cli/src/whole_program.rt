@@ -1,12 +1,12 @@
 //! The whole program.
-ghost use Rattle.bag_plan.specs.Plan.{texts};
+ghost use Rattle.bag_arguments.specs.Words.{texts};
 ghost use Rattle.std.specs.Prelude.{map, string_bytes};
 ghost use Rattle.bag_cli.specs.Program.{IsProgram, IsProgramOrNone, IsStarted};
 
-use crate::all_checks::perform_over;
-use crate::disks::Disks;
+use crate::performing::perform_over;
 use crate::words::{Words, asked_words, texts_of};
-use bag_plan::{Usage, plan_of, refuse_words};
+use bag_arguments::{Usage, plan_of, refuse_words};
+use bag_disks::Disks;
 use bag_tree::Out;
 use std::alloc::Global;
 use std::io::Write;
@@ -20,11 +20,11 @@ where
     D: Disks,
     O: Out,
     E: Write,
-    ensures { IsProgram (D.below disks.now) (texts words.now) (O.taken out.old) (O.taken out.new) result }
+    ensures { IsProgram (D.below disks.now) (D.file disks.now) (texts words.now) (O.taken out.old) (O.taken out.new) (O.has_refused out.new) result }
 {
     match plan_of(alloc, words) {
         Ok(plan) => perform_over(alloc, disks, &plan, out, err),
-        Err(refused) => refuse_words(refused, err),
+        Err(refused) => refuse_words(&refused, err),
     }
 }
 
@@ -37,11 +37,11 @@ where
     R: Words + Disks + AllocGlobal,
     O: Out,
     E: Write,
-    ensures { IsStarted (R.answers rt.now) (R.below rt.now) (O.taken out.old) (O.taken out.new) result }
+    ensures { IsStarted (R.answers rt.now) (R.below rt.now) (R.file rt.now) (O.taken out.old) (O.taken out.new) (O.has_refused out.new) result }
 {
     match asked_words(rt.alloc(), rt) {
         Ok(words) => run_words(rt, &words, out, err),
-        Err(usage) => refuse_words(usage, err),
+        Err(usage) => refuse_words(&usage, err),
     }
 }
 
@@ -51,10 +51,10 @@ where
     R: Disks + AllocGlobal,
     O: Out,
     E: Write,
-    ensures { IsProgramOrNone (R.below rt.now) (map string_bytes words.now) (O.taken out.old) (O.taken out.new) result }
+    ensures { IsProgramOrNone (R.below rt.now) (R.file rt.now) (map string_bytes words.now) (O.taken out.old) (O.taken out.new) (O.has_refused out.new) result }
 {
     match texts_of(rt.alloc(), words) {
         Ok(texts) => program(rt.alloc(), rt, &texts, out, err),
-        Err(_) => refuse_words(Usage::Memory, err),
+        Err(_) => refuse_words(&Usage::Memory, err),
     }
 }

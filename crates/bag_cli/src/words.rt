@@ -1,14 +1,15 @@
 //! The words that the program was started with.
-ghost use Rattle.std.specs.Prelude.{◌≡◌, ◌≢◌, IfOk, List, Result, ⊤, drop, map, string_bytes, ℕ};
+ghost use Rattle.std.specs.Prelude.{◌≡◌, ◌≢◌, ◌⊎◌, IfOk, List, Result, ⊤, codes, drop, map, string_bytes, ℕ};
 ghost use Rattle.std.specs.IoError.{error_kind};
 ghost use Rattle.std.specs.declared.io.ErrorKind.TheVariants.{OutOfMemory};
 ghost use Rattle.std.specs.Vec.Iter.{into_iter_items};
-ghost use Rattle.bag_plan.specs.Plan.{texts};
-ghost use Rattle.bag_plan.specs.declared.usage.Usage.{Usage};
-ghost use Rattle.bag_plan.specs.declared.usage.Usage.TheVariants.{Memory, Refused};
+ghost use Rattle.bag_arguments.specs.Words.{texts};
+ghost use Rattle.bag_arguments.specs.declared.usage.Usage.{Usage};
+ghost use Rattle.bag_arguments.specs.declared.usage.Usage.TheVariants.{Memory, Refused};
 ghost use Rattle.bag_cli.specs.Words.{MayHaveAsked, answered};
 
-use bag_plan::Usage;
+use bag_arguments::Usage;
+use bag_text::Text;
 use std::alloc::{AllocError, Global};
 use std::env::{self, Args};
 use std::io::{self, ErrorKind};
@@ -31,20 +32,22 @@ impl<R: Env + AllocGlobal> Words for R {
     fn words(&self) -> Result<Args, Usage> {
         match env::args(self) {
             Ok(words) => Ok(words),
-            Err(error) => Err(usage_of(&error)),
+            Err(error) => Err(usage_of(self.alloc(), &error)),
         }
     }
 }
 
-/// Why there are no words.
-fn usage_of(error: &io::Error) -> Usage
+/// Why there are no words: one of them isn't UTF-8, or memory ran out.
+fn usage_of(alloc: Global, error: &io::Error) -> Usage
     ensures memory { error_kind error.now ≡ OutOfMemory → result ≡ Memory }
-    ensures refused { error_kind error.now ≢ OutOfMemory → result ≡ Refused }
+    ensures refused { error_kind error.now ≢ OutOfMemory → (result ≡ Refused (codes "bagit: a word isn't UTF-8\n")) ⊎ (result ≡ Memory) }
 {
     if error.kind() == ErrorKind::OutOfMemory {
-        Usage::Memory
-    } else {
-        Usage::Refused
+        return Usage::Memory;
+    }
+    match Text::from_str(alloc, "bagit: a word isn't UTF-8\n") {
+        Ok(text) => Usage::Refused(text),
+        Err(AllocError) => Usage::Memory,
     }
 }
 

@@ -1,5 +1,5 @@
 -- Tests of texts and prefixes.
-use Rattle.std.proofs.Common.{◌≡◌, ◌≢◌, ℕ, ◌<◌, Bool, true, false, List, [], ◌∷◌, ◌++◌, length, drop, refl, ap, sym, ◌∙◌, arith, Option, Some, None, MatchOption, bytes_eq, nat_eq}
+use Rattle.std.proofs.Common.{◌≡◌, ◌≢◌, ℕ, ◌<◌, Bool, true, false, cond, List, [], ◌∷◌, ◌++◌, length, drop, refl, ap, sym, ◌∙◌, arith, Option, Some, None, MatchOption, bytes_eq, nat_eq}
 use Rattle.std.specs.List.{starts_with}
 use Rattle.std.specs.Option.{option_copied}
 use Rattle.std.specs.Borrow.{Bor}
@@ -18,6 +18,15 @@ some_text (c ∷ t) l = refl
 
 pub prefix_test : (p t : List ℕ) → (starts_with nat_eq t p ≡ true → t ≡ p ++ drop (length p) t) × ((rest : List ℕ) → t ≡ p ++ rest → starts_with nat_eq t p ≡ true)
 prefix_test p t = starts_is Decides-eqb t p (starts_with nat_eq t p) refl
+
+after_test : (p t rest : List ℕ) (b : Bool) → starts_with nat_eq t p ≡ b → cond b (Some (drop (length p) t)) None ≡ Some rest → t ≡ p ++ rest
+after_test p t rest true e h =
+    let same : drop (length p) t ≡ rest = cc in (prefix_test p t).0 e ∙ ap (λ r. p ++ r) same
+after_test p t rest false e h = cc
+
+-- the prefix and what stands after it are the text
+pub after_is : (p t rest : List ℕ) → after_prefix p t ≡ Some rest → t ≡ p ++ rest
+after_is p t rest h = after_test p t rest (starts_with nat_eq t p) refl h
 
 after_lacking : (p t : List ℕ) (b : Bool) → starts_with nat_eq t p ≡ b → ((rest : List ℕ) → drop 0 t ≢ p ++ rest) → after_prefix p t ≡ None
 after_lacking p t true e h = absurd (h (drop (length p) t) ((prefix_test p t).0 e))

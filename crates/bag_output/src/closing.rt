@@ -85,8 +85,8 @@ fn put_cause<W: Out>(stop: &Stop, count: u64, out: &mut W) -> Result<(), Refused
     )
 }
 
-/// Hands a text to the output as a field of a line, and then the pieces.
-fn put_line<W: Out>(text: &str, pieces: &[&str], out: &mut W) -> Result<(), Refused>
+/// Hands a text to the output as a field of a line, and then the pieces. It takes no memory.
+pub fn put_line<W: Out>(text: &str, pieces: &[&str], out: &mut W) -> Result<(), Refused>
     ensures { Writes (W.taken out.old) (W.taken out.new) (W.has_refused out.new) (field text.now ++ text_of pieces.now) result }
 {
     put_field(text, out)?;

@@ -13,5 +13,7 @@ mod outcome;
 mod report_writer;
 mod write;
 
+pub use closing::put_line;
 pub use outcome::{Outcome, Request, status};
 pub use report_writer::{Progress, close, write_lines, write_rest};
+pub use write::put_pieces;

@@ -17,8 +17,8 @@ pub(crate) fn put_all<W: Out>(out: &mut W, bytes: &[u8]) -> Result<(), Refused>
     Ok(())
 }
 
-/// Hands the pieces of a text to the output.
-pub(crate) fn put_pieces<W: Out>(out: &mut W, pieces: &[&str]) -> Result<(), Refused>
+/// Hands the pieces of a text to the output. It takes no memory.
+pub fn put_pieces<W: Out>(out: &mut W, pieces: &[&str]) -> Result<(), Refused>
     ensures { Writes (W.taken out.old) (W.taken out.new) (W.has_refused out.new) (text_of pieces.now) result }
 {
     for piece in pieces {

@@ -6,9 +6,9 @@ use Rattle.bag_text.specs.declared.code.Code.{Code}
 use Rattle.bag_text.specs.declared.code.Code.TheVariants.{NoDeclaration, DeclarationNotUtf8, DeclarationLineCount, DeclarationLine, VersionUnsupported, EncodingUnsupported}
 use Rattle.bag_text.proofs.ListOf.{one_listed, same_members}
 use Rattle.bag_tree.specs.Bag.{Bag, file}
-use Rattle.bag_tags.specs.declared.declaration.Declaration.{Declaration}
+use Rattle.bag_declaration.specs.declared.declaration.Declaration.{Declaration}
 use Rattle.bag_line.specs.declared.fault.LineFault.{LineFault}
-use Rattle.bag_tags.specs.Declaration.{DeclarationFault, IsDeclarationFault}
+use Rattle.bag_declaration.specs.Declaration.{DeclarationFault, IsDeclarationFault}
 use Rattle.bag_fault.specs.declared.fault.Fault.{Fault}
 use Rattle.bag_fault.specs.FaultOrder.{fault_cmp}
 use Rattle.bag_facts.specs.TagFacts.{IsReadOf, IsDeclarationOf}

@@ -1,6 +1,3 @@
-pub mod DeclarationFaults
-pub mod DeclarationLineParts
-pub mod DeclarationLines
 pub mod HexDigits
 pub mod ManifestCodes
 pub mod ManifestEntries

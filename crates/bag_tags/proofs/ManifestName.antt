@@ -13,15 +13,6 @@ use Rattle.bag_line.proofs.LineParts.{without_is}
 use Rattle.bag_line.proofs.PickedOut.{both_true}
 use Rattle.bag_line.proofs.Texts.{prefix_test}
 
-after_test : (p t rest : List ℕ) (b : Bool) → starts_with nat_eq t p ≡ b → cond b (Some (drop (length p) t)) None ≡ Some rest → t ≡ p ++ rest
-after_test p t rest true e h =
-    let same : drop (length p) t ≡ rest = cc in (prefix_test p t).0 e ∙ ap (λ r. p ++ r) same
-after_test p t rest false e h = cc
-
--- the prefix and what stands after it are the text
-pub after_is : (p t rest : List ℕ) → after_prefix p t ≡ Some rest → t ≡ p ++ rest
-after_is p t rest h = after_test p t rest (starts_with nat_eq t p) refl h
-
 none_test : (p t rest : List ℕ) (b : Bool) → starts_with nat_eq t p ≡ b → cond b (Some (drop (length p) t)) None ≡ None → t ≢ p ++ rest
 none_test p t rest true e h same = cc
 none_test p t rest false e h same = let clash : false ≡ true = sym e ∙ (prefix_test p t).1 rest same in cc

@@ -1,12 +1,12 @@
+pub use Rattle.bag_declaration.specs.Declaration
+pub use Rattle.bag_declaration.specs.DeclarationFaults
+pub use Rattle.bag_declaration.specs.DeclarationLine
 pub use Rattle.bag_line.specs.Fetch
 pub use Rattle.bag_line.specs.Info
 pub use Rattle.bag_line.specs.LineFault
 pub use Rattle.bag_line.specs.LineParts
 pub use Rattle.bag_line.specs.Oxum
 pub use Rattle.bag_line.specs.Reason
-pub mod Declaration
-pub mod DeclarationFaults
-pub mod DeclarationLine
 pub mod Judged
 pub mod Manifest
 pub mod ManifestLine

@@ -1,7 +1,10 @@
 //! Laws of the definitions, each the contract of a function that does nothing.
-ghost use Rattle.bag_tags.specs.DeclarationLine.{EncodingLinesReadAsTheirParts, VersionLinesReadAsTheirParts};
 ghost use Rattle.bag_tags.specs.ManifestLine.{LinesReadAsTheirParts, LinesReadOrHaveOneReason};
 ghost use Rattle.bag_tags.specs.TagName.{TagFilesStandInTheBase, TagPathsDiffer};
+
+pub use bag_declaration::laws::{
+    encoding_lines_read_as_their_parts, version_lines_read_as_their_parts,
+};
 
 /// No two tag files stand at one path.
 pub fn tag_paths_differ()
@@ -22,14 +25,4 @@ pub fn lines_read_as_their_parts()
 /// A line of a manifest that isn't blank reads in one way, or has one reason why it doesn't.
 pub fn lines_read_or_have_one_reason()
     ensures { LinesReadOrHaveOneReason }
-{}
-
-/// Line 1 of the declaration declares a version just where it is its label and then digits, a dot and digits.
-pub fn version_lines_read_as_their_parts()
-    ensures { VersionLinesReadAsTheirParts }
-{}
-
-/// Line 2 of the declaration declares an encoding just where it is its label and then a text without a blank.
-pub fn encoding_lines_read_as_their_parts()
-    ensures { EncodingLinesReadAsTheirParts }
 {}

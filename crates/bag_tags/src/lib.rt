@@ -7,13 +7,10 @@
 //! }
 //! ```
 //!
-//! Of RFC 8493 it keeps the declaration (2.1.1), payload manifests (2.1.3) and tag manifests (2.2.1), and shows what reads the
+//! Of RFC 8493 it keeps payload manifests (2.1.3) and tag manifests (2.2.1), and shows what reads the declaration (2.1.1), the
 //! metadata (2.2.2) and the list of files to fetch (2.2.3).
 #![tactic(auto)]
 
-mod declaration;
-mod declaration_faults;
-mod declaration_line;
 mod digest;
 mod kind;
 pub mod laws;
@@ -24,8 +21,8 @@ mod named_once;
 mod repeats;
 mod tag_name;
 
+pub use bag_declaration::{Declaration, read_declaration};
 pub use bag_line::{Element, FetchEntry, LineFault, Oxum, Parsed, oxum_of, read_fetch, read_info};
-pub use declaration::{Declaration, read_declaration};
 pub use digest::Digest;
 pub use kind::Kind;
 pub use manifest::{ManifestEntry, read_manifest};

@@ -1,7 +1,7 @@
 //! `bagit`: checks BagIt bags (RFC 8493).
 //!
-//! With no words it checks a sample bag in memory; with `--validate --declaration-only DIR` the declaration of the bag
-//! in a folder.
+//! With `--validate` it checks the bags in directories, else it makes directories bags in place; `--help` says more. With no
+//! words it checks a sample bag in memory.
 #![tactic(auto)]
 
 use bag_cli::{WriterOut, run_program};

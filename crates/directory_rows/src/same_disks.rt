@@ -1,17 +1,18 @@
 //! Honest disks with files, and the program over them.
-ghost use Rattle.std.specs.Prelude.{◌≡◌};
-ghost use Rattle.bag_cli.specs.Performed.{TellsReport};
+ghost use Rattle.std.specs.Prelude.{◌≡◌, List, None, ℕ};
+ghost use Rattle.bag_cli.specs.Told.{IsCheckOfOne, TellsReport};
 ghost use Rattle.bag_file_tree.specs.DiskBag.{bag_of};
 ghost use Rattle.bag_memory_disk.specs.MemoryDisk.{fresh, state_of};
 
 use bag_cli::laws::honest_disks_are_told;
-use bag_cli::{Disks, program};
+use bag_cli::{Disks, Plan, perform_over};
+use bag_disks::ReadFault;
 use bag_memory_disk::MemoryDisk;
 use bag_tree::Out;
 use std::alloc::{AllocError, Global};
 use std::io::Write;
 
-/// Disks that hold the same below each base folder.
+/// Disks that hold the same below each base folder, and no file beside them.
 #[derive(Drop)]
 struct SameDisks<'a> {
     held: &'a MemoryDisk,
@@ -22,24 +23,31 @@ impl<'a> Disks for SameDisks<'a> {
 
     ghost below = { λ disks _. fresh (state_of disks.held.now).nodes };
 
+    ghost file = { λ _ _ bytes. bytes ≡ None };
+
     fn disk(&self, alloc: Global, _base: &str) -> Result<MemoryDisk, AllocError> {
         self.held.fresh_copy(alloc)
     }
+
+    fn read_file(&self, _alloc: Global, _path: &str, _most: u32) -> Result<Vec<u8>, ReadFault> {
+        Err(ReadFault::Unread)
+    }
 }
 
-/// Checks what a disk holds as the program does, under a name, and gives the status.
+/// Checks what a disk holds as the program does, and gives the status.
 ///
-/// Unless the status is 3, the output took the report of the bag that stands on the disk.
+/// Unless the status is 3, for a plan that checks one directory without a profile the output took the report of the bag that
+/// stands on the disk.
 pub fn checked<O: Out, E: Write>(
     alloc: Global,
     held: &MemoryDisk,
-    name: &str,
+    plan: &Plan,
     out: &mut O,
     err: &mut E,
 ) -> u8
-    ensures { TellsReport (bag_of (state_of held.now).nodes) name.now (O.taken out.old) (O.taken out.new) result }
+    ensures { (name : List ℕ) → IsCheckOfOne plan.now name
+        → TellsReport plan.now None (bag_of (state_of held.now).nodes) name (O.taken out.old) (O.taken out.new) result }
 {
     honest_disks_are_told();
-    let words = ["--validate", "--declaration-only", name];
-    program(alloc, &SameDisks { held }, &words, out, err)
+    perform_over(alloc, &SameDisks { held }, plan, out, err)
 }

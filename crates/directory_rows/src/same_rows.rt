@@ -1,6 +1,7 @@
 //! Checks of honest disks.
 use crate::checked;
 use crate::rows::sees_that;
+use crate::shelf::plan_for;
 use bag_cli::WriterOut;
 use bag_memory_disk::{MemoryDisk, Node};
 use std::alloc::Global;
@@ -18,7 +19,8 @@ fn status_with(alloc: Global, declaration: &[u8], written: &[u8]) -> Result<Opti
     };
     let mut out = WriterOut::new(Vec::<u8>::new(alloc));
     let mut err = Vec::<u8>::new(alloc);
-    let status = checked(alloc, &disk, "d", &mut out, &mut err);
+    let plan = plan_for(alloc, &["d"])?;
+    let status = checked(alloc, &disk, &plan, &mut out, &mut err);
     Ok((out.into_inner().as_slice() == written).then_some(status))
 }
 

@@ -1,5 +1,5 @@
 //! Disks in memory for the program, from tables.
-ghost use Rattle.std.specs.Prelude.{◌≡◌, [], false, IfOk};
+ghost use Rattle.std.specs.Prelude.{◌≡◌, [], None, false, IfOk};
 ghost use Rattle.bag_disk.specs.SystemDisk.{system_state};
 ghost use Rattle.bag_memory_disk.specs.MemoryDisk.{state_of};
 ghost use Rattle.directory_rows.specs.Shelf.{IsUnopened};
@@ -7,8 +7,10 @@ ghost use Rattle.directory_rows.specs.Shelf.{IsUnopened};
 use crate::shelf_disk::ShelfDisk;
 use bag_cli::{Action, Disks, Plan, WriterOut, perform_over};
 use bag_disk::DiskFault;
+use bag_disks::ReadFault;
+use bag_facts::{Depth, Options};
 use bag_memory_disk::{Call, MemoryDisk, Node};
-use bag_text::{Items, Text};
+use bag_text::{AlgSet, Items, Text};
 use std::alloc::{AllocError, Global};
 use std::collections::BTreeMap;
 use std::test::Fail;
@@ -44,7 +46,7 @@ pub(crate) struct Row {
     pub(crate) refused: Refused,
 }
 
-/// The disks of a table. Below any other name there is no folder.
+/// The disks of a table. Below any other name there is no folder, and beside them no file.
 #[derive(Clone, Copy)]
 pub(crate) struct Shelf<'a> {
     pub(crate) rows: &'a [Row],
@@ -103,6 +105,8 @@ impl<'a> Disks for Shelf<'a> {
 
     ghost below = { λ _ _. system_state [] false };
 
+    ghost file = { λ _ _ bytes. bytes ≡ None };
+
     fn disk(&self, alloc: Global, base: &str) -> Result<ShelfDisk, AllocError> {
         for row in self.rows {
             if row.name == base {
@@ -111,9 +115,13 @@ impl<'a> Disks for Shelf<'a> {
         }
         Ok(ShelfDisk::over(no_disk(alloc)?, Call::Past, DiskFault::Device))
     }
+
+    fn read_file(&self, _alloc: Global, _path: &str, _most: u32) -> Result<Vec<u8>, ReadFault> {
+        Err(ReadFault::Unread)
+    }
 }
 
-/// What asks for the check of directories.
+/// What asks for the check of the declarations in directories.
 pub(crate) fn plan_for(alloc: Global, names: &[&str]) -> Result<Plan, AllocError> {
     let mut directories = Items::new(alloc);
     for name in names {
@@ -122,6 +130,16 @@ pub(crate) fn plan_for(alloc: Global, names: &[&str]) -> Result<Plan, AllocError
     Ok(Plan {
         action: Action::Check,
         directories,
+        options: Options {
+            depth: Depth::Declaration,
+            clashes: false,
+        },
+        profile: None,
+        after: None,
+        limit: None,
+        quiet: false,
+        algs: AlgSet::empty(),
+        info: Items::new(alloc),
     })
 }
 

@@ -5,7 +5,7 @@ ghost use Rattle.bag_disk.specs.SystemDisk.{system_state};
 ghost use Rattle.bag_memory_disk.specs.MemoryDisk.{state_of};
 ghost use Rattle.directory_rows.specs.Shelf.{IsUnopened, unclaimed};
 
-use bag_disk::{Disk, DiskFault, Entry};
+use bag_disk::{Disk, DiskFault, Entry, WritableDisk};
 use bag_memory_disk::{Call, MemoryDisk, RefusingDisk};
 use bag_text::Text;
 
@@ -57,5 +57,29 @@ impl Disk for ShelfDisk {
 
     fn read(&mut self, buffer: &mut [u8]) -> Result<usize, DiskFault> {
         self.disk.read(buffer)
+    }
+}
+
+impl WritableDisk for ShelfDisk {
+    ghost written = { λ disk. ⟦<RefusingDisk<MemoryDisk> as WritableDisk>⟧.written disk.disk };
+
+    fn make_folder(&mut self, path: &str) -> Result<(), DiskFault> {
+        self.disk.make_folder(path)
+    }
+
+    fn rename(&mut self, from: &str, to: &str) -> Result<(), DiskFault> {
+        self.disk.rename(from, to)
+    }
+
+    fn create(&mut self, path: &str) -> Result<(), DiskFault> {
+        self.disk.create(path)
+    }
+
+    fn write(&mut self, bytes: &[u8]) -> Result<usize, DiskFault> {
+        self.disk.write(bytes)
+    }
+
+    fn sync(&mut self) -> Result<(), DiskFault> {
+        self.disk.sync()
     }
 }

@@ -9,3 +9,5 @@ mod fresh;
 mod program;
 #[cfg(test)]
 mod rows;
+#[cfg(test)]
+mod several;

@@ -1,67 +1,37 @@
-//! The program's plans and what it writes.
+//! What the program writes, and its exit status.
 use crate::fresh::fresh_folder;
 use crate::rows::sees_that;
-use bag_cli::{Action, Usage, perform, plan_of, refuse_words};
+use bag_cli::{Usage, perform, plan_of, program, refuse_words};
 use bag_store::WriterOut;
 use std::alloc::Global;
 use std::fs;
 use std::os::unix::fs::symlink;
 use std::test::Fail;
 
-/// Whether words ask for this, of at most one directory.
-fn is_planned(alloc: Global, words: &[&str], action: Action, directory: Option<&str>) -> bool {
-    let Ok(plan) = plan_of(alloc, words) else {
-        return false;
-    };
-    let is_there = match (plan.directories.as_slice(), directory) {
-        ([], None) => true,
-        ([found], Some(directory)) => found.as_str() == directory,
-        _ => false,
-    };
-    is_there && plan.action == action
+/// What the program writes to its output and to its error output, and its status.
+pub(crate) struct Answer {
+    pub(crate) written: Vec<u8>,
+    pub(crate) told: Vec<u8>,
+    status: u8,
 }
 
-#[test]
-fn words_ask_for_the_sample_or_for_a_folder(rt: HostRuntime) {
-    sees_that(
-        &rt,
-        is_planned(rt.alloc(), &[], Action::Sample, None),
-        "sample",
-    );
-    let words = ["--validate", "--declaration-only", "d"];
-    sees_that(
-        &rt,
-        is_planned(rt.alloc(), &words, Action::Check, Some("d")),
-        "d",
-    );
-}
-
-/// Words that ask for nothing.
-const REFUSED: &[&[&str]] = &[
-    &["d"],
-    &["--validate"],
-    &["--validate", "d"],
-    &["--declaration-only", "--validate", "d"],
-    &["--validate", "--declaration-only", "d", "e"],
-    &["--validate", "--fast", "d"],
-];
-
-#[test]
-fn other_words_are_refused(rt: HostRuntime) {
-    for &words in REFUSED {
-        let usage = plan_of(rt.alloc(), words).err();
-        assert!(rt; usage == Some(Usage::Refused), "{words:?}");
+/// What the program answers to words.
+pub(crate) fn answer(rt: &HostRuntime, words: &[&str]) -> Answer {
+    let mut out = WriterOut::new(Vec::<u8>::new(rt.alloc()));
+    let mut told = Vec::<u8>::new(rt.alloc());
+    let status = program(rt.alloc(), rt, words, &mut out, &mut told);
+    Answer {
+        written: out.into_inner(),
+        told,
+        status,
     }
 }
 
 /// Whether the program writes this to its output and nothing to its error output, and ends with this status.
-fn is_performed(rt: &HostRuntime, words: &[&str], written: &str, status: u8) -> Result<bool, Fail> {
-    let plan = plan_of(rt.alloc(), words)?;
-    let mut out = WriterOut::new(Vec::<u8>::new(rt.alloc()));
-    let mut err = Vec::<u8>::new(rt.alloc());
-    let found = perform(rt, &plan, &mut out, &mut err);
-    let is_written = out.into_inner().as_slice() == written.as_bytes();
-    Ok(is_written && err.is_empty() && found == status)
+pub(crate) fn is_performed(rt: &HostRuntime, words: &[&str], written: &str, status: u8) -> bool {
+    let found = answer(rt, words);
+    let is_written = found.written.as_slice() == written.as_bytes();
+    is_written && found.told.is_empty() && found.status == status
 }
 
 /// Words, each with what is written and the status.
@@ -75,13 +45,18 @@ const PERFORMED: &[(&[&str], &str, u8)] = &[
 ];
 
 #[test]
-fn the_sample_is_good_and_a_folder_that_is_not_there_is_unread(
-    rt: HostRuntime,
-) -> Result<(), Fail> {
+fn the_sample_is_good_and_a_folder_that_is_not_there_is_unread(rt: HostRuntime) {
     for &(words, written, status) in PERFORMED {
-        sees_that(&rt, is_performed(&rt, words, written, status)?, written);
+        sees_that(&rt, is_performed(&rt, words, written, status), written);
     }
-    Ok(())
+}
+
+#[test]
+fn help_ends_well(rt: HostRuntime) {
+    let found = answer(&rt, &["--help"]);
+    sees_that(&rt, !found.written.is_empty(), "output");
+    sees_that(&rt, found.told.is_empty(), "error output");
+    sees_that(&rt, found.status == 0, "status");
 }
 
 /// The status of the program where its output has this room.
@@ -106,18 +81,35 @@ fn an_output_that_refuses_stops_the_program(rt: HostRuntime) -> Result<(), Fail>
     Ok(())
 }
 
+/// Words that are refused, each with what is said of them and the status.
+const REFUSED: &[(&[&str], &str)] = &[
+    (&["--fast", "d"], "bagit: --fast needs --validate\n"),
+    (
+        &["--validate", "--after", "d", "d"],
+        "bagit: --after is not a fault line\n",
+    ),
+];
+
+#[test]
+fn refused_words_are_told(rt: HostRuntime) {
+    for &(words, text) in REFUSED {
+        let found = answer(&rt, words);
+        sees_that(&rt, found.written.is_empty(), text);
+        sees_that(&rt, found.told.as_slice() == text.as_bytes(), text);
+        sees_that(&rt, found.status == 2, text);
+    }
+}
+
 /// Whether refused words are told with this text, and end with this status.
-fn is_told(alloc: Global, usage: Usage, text: &str, status: u8) -> bool {
+fn is_told(alloc: Global, usage: &Usage, text: &str, status: u8) -> bool {
     let mut err = Vec::<u8>::new(alloc);
     refuse_words(usage, &mut err) == status && err.as_slice() == text.as_bytes()
 }
 
 #[test]
-fn refused_words_are_told(rt: HostRuntime) {
-    let text = "bagit: words refused\n";
-    sees_that(&rt, is_told(rt.alloc(), Usage::Refused, text, 2), text);
+fn want_of_memory_is_told(rt: HostRuntime) {
     let text = "bagit: out of memory\n";
-    sees_that(&rt, is_told(rt.alloc(), Usage::Memory, text, 3), text);
+    sees_that(&rt, is_told(rt.alloc(), &Usage::Memory, text, 3), text);
 }
 
 /// What a folder holds, the lines of its faults, how the report ends behind its name, and the status.
@@ -170,7 +162,7 @@ fn is_right(rt: &HostRuntime, row: &Row) -> Result<bool, Fail> {
     let base = make_folder(rt, row)?;
     let written = format!(in rt.alloc(); "{}{base}{}", row.lines, row.ending)?;
     let words = ["--validate", "--declaration-only", base.as_str()];
-    let holds = is_performed(rt, &words, written.as_str(), row.status)?;
+    let holds = is_performed(rt, &words, written.as_str(), row.status);
     fs::remove_dir_all(rt, base.as_str())?;
     Ok(holds)
 }

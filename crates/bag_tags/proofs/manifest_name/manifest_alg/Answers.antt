@@ -1,7 +1,8 @@
 use Rattle.std.proofs.Common.{◌≡◌, true, false, Some, sym, ap, ◌∙◌}
 use Rattle.bag_text.specs.Text.{after_prefix}
 use Rattle.bag_tags.specs.ManifestName.{is_alg_text, prefix}
-use Rattle.bag_tags.proofs.ManifestName.{after_is, same_alg}
+use Rattle.bag_tags.proofs.ManifestName.{same_alg}
+use Rattle.bag_line.proofs.Texts.{after_is}
 use Rattle.bag_tags.proofs.manifest_name.manifest_alg.Goals as goal
 
 pub returns-else-is_alg_text : goal.returns-else-is_alg_text

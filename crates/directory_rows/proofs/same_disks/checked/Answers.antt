@@ -1,13 +1,24 @@
-use Rattle.std.proofs.Common.{◌⊎◌, inl, inr, refl}
+use Rattle.std.proofs.Common.{◌≡◌, ℕ, List, Option, None, refl, subst}
+use Rattle.bag_tree.specs.Tree.{TreeState}
+use Rattle.bag_disk.specs.Disk.{DiskState}
+use Rattle.bag_file_tree.specs.FileTree.{tree_state}
 use Rattle.bag_memory_disk.specs.MemoryDisk.{fresh, state_of}
+use Rattle.bag_arguments.specs.declared.plan.Action.{Action}
+use Rattle.bag_cli.specs.Checked.{AreChecksOf}
+use Rattle.bag_cli.specs.Performed.{IsChecked, IsDoneBy}
 use Rattle.directory_rows.proofs.same_disks.checked.Goals as goal
 
-either : {A B C : Type 0} → (A → C) → (B → C) → A ⊎ B → C
-either one other (inl a) = one a
-either one other (inr b) = other b
-
 pub returns : goal.returns
-returns g c =
-    either (λ none calm report is. absurd (calm none.0))
-    (λ performed. c.honest_disks_are_told.ensures (λ _. fresh (state_of c.args.held.now).nodes) c.args.name.now
-    (g.O.Out.taken c.args.out.now) (g.O.Out.taken c.program.new.out) c.program.result refl performed) c.program.ensures
+returns g c name one =
+    let plan = c.args.plan.now in
+    let below : List ℕ → DiskState = λ _. fresh (state_of c.args.held.now).nodes in
+    let file : List ℕ → Option (List ℕ) → Type 0 = λ _ bytes. bytes ≡ None in
+    let before = g.O.Out.taken c.args.out.now in
+    let after = g.O.Out.taken c.perform_over.new.out in
+    let refused = g.O.Out.has_refused c.perform_over.new.out in
+    let n = c.perform_over.result in
+    let acted = subst (λ (action : Action). IsDoneBy action below file plan before after refused n) one.0 c.perform_over.ensures.performed in
+    let checks = subst (λ (path : Option (List ℕ)). IsChecked below file plan path before after refused n) one.1 acted in
+    let tree_of : List ℕ → TreeState = λ name. tree_state (below name) 0 in
+    let check = subst (λ (names : List (List ℕ)). AreChecksOf plan None tree_of names before after refused n) one.2 checks in
+    c.honest_disks_are_told.ensures plan None below name before after refused n refl check

@@ -1,0 +1,79 @@
+#!/usr/bin/env bash
+# Makes a bag of a small folder again and again, and each time refuses another of the program's growths: the first, the second, and
+# so on, until a run needs no more. Where the bag isn't made, the program says so, and the folder is as it was or as the steps
+# before the refused one left it, with all its files; at last the bag is made. It needs a C compiler.
+#
+# usage: bench/refused_memory.sh [PROGRAM]
+#
+# PROGRAM is crates/bench/out/bench by default, which `rt run` leaves there.
+set -euo pipefail
+
+program=$(realpath "${1:-$(dirname "$0")/../crates/bench/out/bench}")
+
+work=$(mktemp -d /tmp/bagit-memory.XXXXXX)
+trap 'rm -rf "$work"' EXIT
+
+# Refuses one growth, by its number.
+cat >"$work/refuse.c" <<'C'
+#define _GNU_SOURCE
+#include <dlfcn.h>
+#include <stdlib.h>
+
+static long left;
+
+__attribute__((constructor)) static void start(void) {
+    const char *number = getenv("REFUSED");
+    left = number ? atol(number) : 0;
+}
+
+static int refused(void) { return left > 0 && --left == 0; }
+
+void *malloc(size_t size) {
+    static void *(*next)(size_t);
+    if (!next) next = dlsym(RTLD_NEXT, "malloc");
+    return refused() ? NULL : next(size);
+}
+
+void *realloc(void *old, size_t size) {
+    static void *(*next)(void *, size_t);
+    if (!next) next = dlsym(RTLD_NEXT, "realloc");
+    return refused() ? NULL : next(old, size);
+}
+C
+cc -shared -fPIC -O1 -o "$work/refuse.so" "$work/refuse.c" -ldl
+
+mkdir -p "$work/folder/inner"
+printf a >"$work/folder/a"
+printf bc >"$work/folder/inner/b c"
+printf '' >"$work/folder/inner/%"
+
+# The digests of all files of a folder that aren't tag files, wherever they stand.
+files_of() {
+    find "$1" -type f ! -name '*.txt' -exec md5sum {} + | cut -d' ' -f1 | sort
+}
+
+files_of "$work/folder" >"$work/files"
+untouched=0 stopped=0 ended=0 number=0
+while :; do
+    number=$((number + 1))
+    rm -rf "$work/bag"
+    cp -r "$work/folder" "$work/bag"
+    status=0
+    REFUSED=$number LD_PRELOAD="$work/refuse.so" "$program" make "$work/bag" >"$work/output" 2>"$work/errors" || status=$?
+    files_of "$work/bag" | diff "$work/files" -
+    if [[ $(<"$work/output") == made ]]; then
+        break
+    elif [[ $(<"$work/output") == 'not made: step '* ]]; then
+        stopped=$((stopped + 1))
+    elif diff -r "$work/folder" "$work/bag" >"$work/difference"; then
+        # Said by `make`, or the program had no memory for its own words or its output.
+        if [[ $(<"$work/output") == 'not made: '* ]]; then untouched=$((untouched + 1)); else ended=$((ended + 1)); fi
+        [[ -s $work/output || $status != 0 ]]
+    else
+        echo "growth $number: neither made nor refused: $(<"$work/output") $(<"$work/errors")"
+        exit 1
+    fi
+done
+echo "made, after $((number - 1)) growths refused in turn: $untouched left the folder as it was, $stopped stopped at a step, $ended ended the program before"
+cd "$work/bag"
+sha256sum --check --quiet manifest-sha256.txt tagmanifest-sha256.txt

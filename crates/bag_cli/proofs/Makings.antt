@@ -1,0 +1,44 @@
+-- Makings and their statuses.
+use Rattle.std.proofs.Common.{◌≡◌, ◌≤◌, Bool, ℕ, List, Option, arith, map, subst}
+use Rattle.std.specs.declared.result.Result.{Result}
+use Rattle.std.specs.declared.result.Result.TheVariants.{Ok, Err}
+use Rattle.bag_tree.specs.Tree.{TreeState}
+use Rattle.bag_tree.specs.declared.out.Refused.{Refused}
+use Rattle.bag_write.specs.Element.{NewElement}
+use Rattle.bag_make.specs.declared.fault.MakeFault.{MakeFault}
+use Rattle.bag_making.specs.Making.{IsMaking}
+use Rattle.bag_making.specs.MakingLine.{status}
+use Rattle.bag_arguments.specs.declared.plan.Plan.{Plan}
+use Rattle.bag_cli.specs.InTurn.{Last, Whole}
+use Rattle.bag_cli.specs.Makings.{AreMakingsOf, IsLastMaking, IsTold, IsWholeMaking, element_of}
+use Rattle.bag_cli.proofs.Turns.{turns_status}
+
+-- a making with the plan's elements
+pub told_of : (plan : Plan) (info : List NewElement) (tree new : TreeState) (name : List ℕ) (before after : Option (List ℕ)) (refused : Bool) (told : Result ℕ Refused)
+    → info ≡ map element_of plan.info → IsMaking name plan.algs info plan.quiet tree new before after refused told
+    → IsTold plan tree name before after refused told
+told_of plan info tree new name before after refused told is making =
+    let making_with : List NewElement → Type 0 = λ info. IsMaking name plan.algs info plan.quiet tree new before after refused told in
+    record { new = new; making = subst making_with is making }
+
+-- the last making of a name, and a whole one
+abbrev pub ends : Plan → (List ℕ → TreeState) → Last
+ends plan tree_of = λ name. IsLastMaking plan (tree_of name) name
+
+abbrev pub goes : Plan → (List ℕ → TreeState) → Whole
+goes plan tree_of = λ name. IsWholeMaking plan (tree_of name) name
+
+status_in : (made : Result (Unit {0}) MakeFault) (n : ℕ) → n ≡ status made → n ≤ 3
+status_in (Ok x) n is = omega (arith, is)
+status_in (Err fault) n is = omega (arith, is)
+
+-- a whole making has a status
+pub whole_status_in : (plan : Plan) (tree_of : List ℕ → TreeState) (name : List ℕ) (before after : Option (List ℕ)) (n : ℕ)
+    → IsWholeMaking plan (tree_of name) name before after n → n ≤ 3
+whole_status_in plan tree_of name before after n whole = status_in whole.1.making.made n whole.1.making.tells.0
+
+-- what makings give is a status
+pub makings_status : (plan : Plan) (tree_of : List ℕ → TreeState) (names : List (List ℕ)) (before after : Option (List ℕ)) (refused : Bool) (n : ℕ)
+    → AreMakingsOf plan tree_of names before after refused n → n ≤ 3
+makings_status plan tree_of names before after refused n makings =
+    turns_status (ends plan tree_of) (goes plan tree_of) (whole_status_in plan tree_of) names before after refused n makings

@@ -1,0 +1,19 @@
+use Rattle.std.proofs.Common.{refl}
+use Rattle.std.specs.declared.result.Result.TheVariants.{Ok, Err}
+use Rattle.bag_cli.proofs.whole_program.program.Goals as goal
+
+pub returns-in-Ok : goal.returns-in-Ok
+returns-in-Ok g c = record {
+  planned = Ok c.in-Ok.plan;
+  is_planned = c.in-Ok.ensures.planned;
+  taken = c.in-Ok.ensures.taken;
+  done = c.perform_over.ensures.performed;
+}
+
+pub returns-in-Err : goal.returns-in-Err
+returns-in-Err g c = record {
+  planned = Err c.in-Err.refused;
+  is_planned = c.in-Err.ensures.planned;
+  taken = c.in-Err.ensures.taken;
+  done = (c.refuse_words.ensures, refl);
+}

@@ -1,0 +1,45 @@
+-- What the checks of honest disks tell.
+use Rattle.std.specs.Prelude.{ℕ, ◌≡◌, ◌≢◌, Bool, IsTrue, List, [], ◌∷◌, Option, None, length, min}
+use Rattle.std.specs.Io.KnownBytes.{Appends}
+use Rattle.std.specs.List.{concat}
+use Rattle.bag_tree.specs.Bag.{Bag}
+use Rattle.bag_disk.specs.Disk.{DiskState}
+use Rattle.bag_file_tree.specs.DiskBag.{bag_of}
+use Rattle.bag_file_tree.specs.FileTree.{tree_state}
+use Rattle.bag_fault.specs.declared.fault.Fault.{Fault}
+use Rattle.bag_output.specs.Closing.{status}
+use Rattle.bag_output.specs.Ending.{ideal, limit_of, lines_of_run}
+use Rattle.bag_output.specs.declared.outcome.Request.{Request}
+use Rattle.bag_profile.specs.Profile.{Profile}
+use Rattle.bag_report.specs.Report.{IsReport, above, first}
+use Rattle.bag_walk.specs.Run.{check_of}
+use Rattle.bag_arguments.specs.declared.plan.Action.TheVariants.{Check}
+use Rattle.bag_arguments.specs.declared.plan.Plan.{Plan}
+use Rattle.bag_cli.specs.Checked.{AreChecksOf, request_of}
+
+-- of these faults, which are above the cursor, those that a request shows where nothing is refused
+abbrev pub shown_of : Request → List Fault → List Fault
+shown_of request faults = first (min (limit_of request) (length faults)) faults
+
+-- the lines that a request has where nothing is refused, by the faults above the cursor
+abbrev pub told_lines : Request → List Fault → List (List ℕ)
+told_lines request faults = lines_of_run request (shown_of request faults) (ideal request faults)
+
+-- Unless a read, a write or a growth was refused, the output took the lines of the bag's report above the cursor, up to the
+-- limit, and the closing line, and the status tells whether there are faults.
+abbrev pub TellsReport : Plan → Option Profile → Bag → List ℕ → Option (List ℕ) → Option (List ℕ) → ℕ → Type 0
+TellsReport plan profile bag name before after n =
+    n ≢ 3 → (report : List Fault) → IsReport (check_of bag profile (request_of plan name)) report
+    → (n ≡ status (ideal (request_of plan name) (above plan.after report)))
+    × Appends before after (concat (told_lines (request_of plan name) (above plan.after report)))
+
+-- the law: over an honest disk, the check of one directory tells the report of the bag that stands there
+abbrev pub HonestDisksAreTold : Type 0
+HonestDisksAreTold =
+    (plan : Plan) (profile : Option Profile) (below : List ℕ → DiskState) (name : List ℕ) (before after : Option (List ℕ)) (refused : Bool) (n : ℕ)
+    → IsTrue (below name).honest → AreChecksOf plan profile (λ name. tree_state (below name) 0) (name ∷ []) before after refused n
+    → TellsReport plan profile (bag_of (below name).nodes) name before after n
+
+-- a plan that checks one directory, without a profile
+abbrev pub IsCheckOfOne : Plan → List ℕ → Type 0
+IsCheckOfOne plan name = (plan.action ≡ Check) × (plan.profile ≡ None) × (plan.directories ≡ name ∷ [])

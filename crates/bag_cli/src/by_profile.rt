@@ -1,0 +1,82 @@
+//! Checks by the profile of a plan.
+ghost use Rattle.bag_cli.specs.Performed.{AreCheckedBy, IsChecked, lines_before};
+ghost use Rattle.bag_output.specs.Write.{Writes};
+
+use crate::all_checks::check_all;
+use crate::performing::{REFUSED, say_refused};
+use bag_arguments::Plan;
+use bag_disks::Disks;
+use bag_profile::Profile;
+use bag_profile_file::{read_profile, refuse_profile, write_unchecked};
+use bag_tree::{Out, Refused};
+use std::alloc::Global;
+use std::io::Write;
+
+/// Checks the bags in the folders of a plan, by its profile where it has one, which is read first.
+pub(crate) fn check_by_profile<D, O, E>(
+    alloc: Global,
+    disks: &D,
+    plan: &Plan,
+    out: &mut O,
+    err: &mut E,
+) -> u8
+where
+    D: Disks,
+    O: Out,
+    E: Write,
+    ensures { IsChecked (D.below disks.now) (D.file disks.now) plan.now plan.now.profile (O.taken out.old) (O.taken out.new) (O.has_refused out.new) result }
+{
+    let Some(path) = &plan.profile else {
+        return check_all(
+            alloc,
+            disks,
+            plan,
+            None,
+            plan.directories.as_slice(),
+            out,
+            err,
+        );
+    };
+    match read_profile(alloc, disks, path.as_str()) {
+        Ok(profile) => check_by(alloc, disks, plan, &profile, out, err),
+        Err(refusal) => refuse_profile(refusal, err),
+    }
+}
+
+/// Says which keys of a profile aren't checked, and checks the bags in the folders of a plan by it.
+fn check_by<D, O, E>(
+    alloc: Global,
+    disks: &D,
+    plan: &Plan,
+    profile: &Profile,
+    out: &mut O,
+    err: &mut E,
+) -> u8
+where
+    D: Disks,
+    O: Out,
+    E: Write,
+    ensures { AreCheckedBy (D.below disks.now) plan.now profile.now (O.taken out.old) (O.taken out.new) (O.has_refused out.new) result }
+{
+    match say_unchecked(plan.quiet, profile, out) {
+        Ok(()) => {
+            let directories = plan.directories.as_slice();
+            check_all(alloc, disks, plan, Some(profile), directories, out, err)
+        }
+        Err(Refused) => {
+            say_refused(err);
+            REFUSED
+        }
+    }
+}
+
+/// Says which keys of a profile aren't checked, unless it is to be quiet.
+fn say_unchecked<O: Out>(quiet: bool, profile: &Profile, out: &mut O) -> Result<(), Refused>
+    ensures { Writes (O.taken out.old) (O.taken out.new) (O.has_refused out.new) (lines_before quiet profile.now) result }
+{
+    if quiet {
+        Ok(())
+    } else {
+        write_unchecked(profile, out)
+    }
+}

@@ -1,0 +1,3 @@
+pub mod DeclarationFaults
+pub mod DeclarationLineParts
+pub mod DeclarationLines

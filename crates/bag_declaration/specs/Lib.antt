@@ -1,0 +1,3 @@
+pub mod Declaration
+pub mod DeclarationFaults
+pub mod DeclarationLine

@@ -1,0 +1,3 @@
+pub mod Honest
+pub mod Making
+pub mod MakingLine
