@@ -6,6 +6,8 @@ mod folders;
 #[cfg(test)]
 mod fresh;
 #[cfg(test)]
+mod making;
+#[cfg(test)]
 mod program;
 #[cfg(test)]
 mod rows;

@@ -9,6 +9,7 @@ use std::os::unix::fs::symlink;
 use std::test::Fail;
 
 /// What the program writes to its output and to its error output, and its status.
+#[derive(Drop)]
 pub(crate) struct Answer {
     pub(crate) written: Vec<u8>,
     pub(crate) told: Vec<u8>,
@@ -16,7 +17,7 @@ pub(crate) struct Answer {
 }
 
 /// What the program answers to words.
-pub(crate) fn answer(rt: &HostRuntime, words: &[&str]) -> Answer {
+pub(crate) fn answer_to(rt: &HostRuntime, words: &[&str]) -> Answer {
     let mut out = WriterOut::new(Vec::<u8>::new(rt.alloc()));
     let mut told = Vec::<u8>::new(rt.alloc());
     let status = program(rt.alloc(), rt, words, &mut out, &mut told);
@@ -29,7 +30,7 @@ pub(crate) fn answer(rt: &HostRuntime, words: &[&str]) -> Answer {
 
 /// Whether the program writes this to its output and nothing to its error output, and ends with this status.
 pub(crate) fn is_performed(rt: &HostRuntime, words: &[&str], written: &str, status: u8) -> bool {
-    let found = answer(rt, words);
+    let found = answer_to(rt, words);
     let is_written = found.written.as_slice() == written.as_bytes();
     is_written && found.told.is_empty() && found.status == status
 }
@@ -53,7 +54,7 @@ fn the_sample_is_good_and_a_folder_that_is_not_there_is_unread(rt: HostRuntime) 
 
 #[test]
 fn help_ends_well(rt: HostRuntime) {
-    let found = answer(&rt, &["--help"]);
+    let found = answer_to(&rt, &["--help"]);
     sees_that(&rt, !found.written.is_empty(), "output");
     sees_that(&rt, found.told.is_empty(), "error output");
     sees_that(&rt, found.status == 0, "status");
@@ -82,21 +83,27 @@ fn an_output_that_refuses_stops_the_program(rt: HostRuntime) -> Result<(), Fail>
 }
 
 /// Words that are refused, each with what is said of them and the status.
-const REFUSED: &[(&[&str], &str)] = &[
-    (&["--fast", "d"], "bagit: --fast needs --validate\n"),
+const REFUSED: &[(&[&str], &str, u8)] = &[
+    (&["--fast", "d"], "bagit: --fast needs --validate\n", 2),
     (
         &["--validate", "--after", "d", "d"],
         "bagit: --after is not a fault line\n",
+        2,
+    ),
+    (
+        &["--validate", "--profile", "no such file", "d"],
+        "bagit: profile unread\n",
+        3,
     ),
 ];
 
 #[test]
 fn refused_words_are_told(rt: HostRuntime) {
-    for &(words, text) in REFUSED {
-        let found = answer(&rt, words);
+    for &(words, text, status) in REFUSED {
+        let found = answer_to(&rt, words);
         sees_that(&rt, found.written.is_empty(), text);
         sees_that(&rt, found.told.as_slice() == text.as_bytes(), text);
-        sees_that(&rt, found.status == 2, text);
+        sees_that(&rt, found.status == status, text);
     }
 }
 
