@@ -107,7 +107,7 @@ END
 bag; put data/a a; put data/b b; put manifest-md5.txt "${ma^^} *data/a\r$mb\t./data/b"
 wanted 0 --validate d <<<'d is valid'
 
-bag; put $'data/a\nb%%' ''; put manifest-md5.txt "$m0  data/a%%0Ab%%25\n"
+bag; put $'data/a\nb%' ''; put manifest-md5.txt "$m0  data/a%%0Ab%%25\n"
 wanted 0 --validate d <<<'d is valid'
 
 bag; put data/a a; put manifest-md5.txt "$ma  data/a\n"; put manifest-sha1.txt ''; put manifest-sha256.txt ''
@@ -143,8 +143,8 @@ END
 five='802 label-required bag-info.txt - - Source-Organization
 803 label-repeated bag-info.txt - 3 Contact-Name
 804 value-not-allowed bag-info.txt - 4 Bag-Count:9%20of%209
-805 manifest-required manifest-sha512.txt - - -
 811 fetch-not-allowed fetch.txt - - -
+805 manifest-required manifest-sha512.txt - - -
 d has faults: 5'
 wanted 1 --validate --profile profile.json d <<<$'unchecked Data-Empty\n'"$five"
 wanted 1 --validate --quiet --profile profile.json d <<<"$five"
