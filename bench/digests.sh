@@ -11,41 +11,14 @@
 # PROGRAM is crates/bench/out/bench by default, which `rt run` leaves there.
 set -euo pipefail
 source "$(dirname "$0")/time.sh"
+source "$(dirname "$0")/small_files.sh"
 
 program=$(realpath "${1:-$(dirname "$0")/../crates/bench/out/bench}")
 runs=${2:-5}
 mebibytes=${3:-500}
-folders=200
-files_in_each=500
 
 work=$(mktemp -d /tmp/bagit-digests.XXXXXX)
 trap 'rm -rf "$work"' EXIT
-
-# The least time of a command, over several runs.
-least_of() {
-    local best= run
-    for ((run = 0; run < runs; run++)); do
-        best=$(least "$best" "$(milliseconds "$@")")
-    done
-    echo "$best"
-}
-
-both_programs() {
-    sha256sum "$@"
-    sha512sum "$@"
-}
-
-both_through_xargs() {
-    xargs -0 -a "$work/names" sha256sum
-    xargs -0 -a "$work/names" sha512sum
-}
-
-ratio() {
-    awk -v what="$1" -v ours="$2" -v peer="$3" -v bar="$4" 'BEGIN {
-        over = ours / peer > bar ? sprintf(", over the bar by %.2f", ours / peer - bar) : ""
-        printf "%s: %d ms, peer: %d ms, ratio: %.2f (at most %.2f%s)\n", what, ours, peer, ours / peer, bar, over
-    }'
-}
 
 mkdir -p "$work/large"
 head -c "${mebibytes}M" /dev/urandom >"$work/large/file"
@@ -61,16 +34,7 @@ if command -v rhash >"$work/output"; then
 fi
 rm -r "$work/large"
 
-mkdir -p "$work/bag/data"
-printf 'BagIt-Version: 1.0\nTag-File-Character-Encoding: UTF-8\n' >"$work/bag/bagit.txt"
-for ((folder = 0; folder < folders; folder++)); do
-    mkdir "$work/bag/data/folder-$folder"
-    head -c $((1024 * files_in_each)) /dev/urandom | split -b 1024 -a 3 - "$work/bag/data/folder-$folder/file-"
-done
-cd "$work/bag"
-find data -type f -print0 | LC_ALL=C sort -z >"$work/names"
-xargs -0 -a "$work/names" sha256sum >manifest-sha256.txt
-xargs -0 -a "$work/names" sha512sum >manifest-sha512.txt
+make_small_files
 diff <("$program" valid "$work/bag") <(echo "$work/bag is valid")
 peer=$(least_of both_through_xargs)
 ratio "100,000 files" "$(least_of "$program" sha256+sha512 "$work/bag/data")" "$peer" 0.80

@@ -11,4 +11,5 @@ pub mod laws;
 mod line;
 mod making;
 
+pub use line::put_making;
 pub use making::make_folder;

@@ -8,8 +8,9 @@ use bag_output::put_line;
 use bag_tree::{Out, Refused, Stop, TreeFault};
 use itoa::Buffer;
 
-/// Hands the line to the output, or nothing where the bag was made and that isn't to be said.
-pub(crate) fn put_making<W: Out>(
+/// Hands the line about a folder of this name to the output, or nothing where the bag was made and the making is quiet. The name
+/// and the path of a file are written as fields of a line.
+pub fn put_making<W: Out>(
     name: &str,
     made: &Result<(), MakeFault>,
     quiet: bool,

@@ -1,10 +1,12 @@
-//! Worked examples of the program, and of the trees of folders on the disk that it checks.
+//! Worked examples of the program: words, what it writes, and its exit status.
 #![tactic(auto)]
 
 #[cfg(test)]
-mod folders;
+mod by_profile;
 #[cfg(test)]
-mod fresh;
+mod by_words;
+#[cfg(test)]
+mod depths;
 #[cfg(test)]
 mod making;
 #[cfg(test)]
@@ -13,3 +15,5 @@ mod program;
 mod rows;
 #[cfg(test)]
 mod several;
+#[cfg(test)]
+mod whole_checks;

@@ -1,13 +1,13 @@
 //! Folders on the disk that the program makes bags, and checks.
-use crate::fresh::fresh_folder;
 use crate::program::is_performed;
 use crate::rows::sees_that;
+use row_bags::fresh;
 use std::fs;
 use std::test::Fail;
 
 /// Makes a fresh folder with a file of three bytes.
 fn make_folder(rt: &HostRuntime, test: &str) -> Result<String, Fail> {
-    let base = fresh_folder(rt, test)?;
+    let base = fresh(rt, test)?;
     fs::write(rt, format!(in rt.alloc(); "{base}/a")?, "abc")?;
     Ok(base)
 }

@@ -1,8 +1,8 @@
 //! What the program writes, and its exit status.
-use crate::fresh::fresh_folder;
 use crate::rows::sees_that;
 use bag_cli::{Usage, perform, plan_of, program, refuse_words};
 use bag_store::WriterOut;
+use row_bags::fresh;
 use std::alloc::Global;
 use std::fs;
 use std::os::unix::fs::symlink;
@@ -154,7 +154,7 @@ const ROWS: &[Row] = &[
 
 /// Makes a fresh folder of a row, and gives its path.
 fn make_folder(rt: &HostRuntime, row: &Row) -> Result<String, Fail> {
-    let base = fresh_folder(rt, "program")?;
+    let base = fresh(rt, "program")?;
     if let Some(bytes) = row.bagit_txt {
         fs::write(rt, format!(in rt.alloc(); "{base}/bagit.txt")?, bytes)?;
     }

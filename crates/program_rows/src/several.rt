@@ -1,11 +1,9 @@
 //! The program over several folders on the disk.
-use crate::fresh::fresh_folder;
 use crate::program::is_performed;
 use crate::rows::sees_that;
+use row_bags::{DECLARATION, fresh};
 use std::fs;
 use std::test::Fail;
-
-const DECLARATION: &[u8] = b"BagIt-Version: 1.0\nTag-File-Character-Encoding: UTF-8\n";
 
 /// The lines of a folder in which there is nothing, but for the last.
 const NOTHING: &str = "\
@@ -16,7 +14,7 @@ const NOTHING: &str = "\
 
 /// Makes a fresh folder, and in it the smallest bag.
 fn make_bag(rt: &HostRuntime, test: &str) -> Result<String, Fail> {
-    let base = fresh_folder(rt, test)?;
+    let base = fresh(rt, test)?;
     fs::create_dir(rt, format!(in rt.alloc(); "{base}/data")?)?;
     fs::write(rt, format!(in rt.alloc(); "{base}/bagit.txt")?, DECLARATION)?;
     fs::write(
@@ -43,7 +41,7 @@ fn are_told(
 #[test]
 fn the_greatest_status_counts(rt: HostRuntime) -> Result<(), Fail> {
     let good = make_bag(&rt, "several-good")?;
-    let bad = fresh_folder(&rt, "several-bad")?;
+    let bad = fresh(&rt, "several-bad")?;
     let (good, bad) = (good.as_str(), bad.as_str());
     let two = ["--validate", good, bad];
     sees_that(&rt, are_told(&rt, &two, good, bad, "", 1)?, "two");
@@ -57,7 +55,7 @@ fn the_greatest_status_counts(rt: HostRuntime) -> Result<(), Fail> {
 
 #[test]
 fn each_folder_has_its_own_limit(rt: HostRuntime) -> Result<(), Fail> {
-    let bad = fresh_folder(&rt, "several-limit")?;
+    let bad = fresh(&rt, "several-limit")?;
     let bad = bad.as_str();
     let words = ["--validate", "--max-faults", "1", bad, bad];
     let line = "101 no-declaration bagit.txt - - -\n";
@@ -71,7 +69,7 @@ fn each_folder_has_its_own_limit(rt: HostRuntime) -> Result<(), Fail> {
 
 #[test]
 fn a_report_goes_on_after_a_line(rt: HostRuntime) -> Result<(), Fail> {
-    let bad = fresh_folder(&rt, "several-after")?;
+    let bad = fresh(&rt, "several-after")?;
     let bad = bad.as_str();
     let words = [
         "--validate",

@@ -2,14 +2,19 @@
 #![tactic(auto)]
 
 mod bags;
+mod check_row;
 mod checks;
+pub mod cursors;
 mod drawn;
 mod folders;
 mod judged;
 mod samples;
 mod stages;
+pub mod tables;
+pub mod tag_files;
 
 pub use bags::{DECLARATION, DECLARED, Files, put, put_files, tree_of};
+pub use check_row::CheckRow;
 pub use checks::{after_check, is_checked, request_for, request_of, written};
 pub use drawn::mixed;
 pub use folders::{fresh, write_bag};

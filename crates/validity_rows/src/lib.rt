@@ -1,5 +1,5 @@
 //! Worked examples of whole checks, as tables: what a bag holds, what is asked for, which payload files are opened, and what is
-//! written. They run over bags in memory and over folders on the disk.
+//! written. They run over bags in memory.
 #![tactic(auto)]
 
 #[cfg(test)]
@@ -7,18 +7,10 @@ mod changed;
 #[cfg(test)]
 mod compare;
 #[cfg(test)]
-mod cursors;
-#[cfg(test)]
-mod folders;
-#[cfg(test)]
 mod plain_validity;
 #[cfg(test)]
 mod refused_calls;
 #[cfg(test)]
 mod rows;
-#[cfg(test)]
-mod tables;
-#[cfg(test)]
-mod tag_files;
 #[cfg(test)]
 mod thousands;

@@ -1,23 +1,11 @@
 //! Whole checks of bags in memory.
-use crate::{cursors, tables, tag_files};
 use bag_report::{Depth, Options};
 use bag_store::MemoryTree;
 use bag_text::is_payload;
-use row_bags::{Files, after_check, request_of, tree_of};
+use row_bags::{CheckRow, after_check, cursors, request_of, tables, tag_files, tree_of};
 use std::alloc::Global;
 use std::process::Abort;
 use std::test::Fail;
-
-/// What a bag holds, list after list, what is asked for, which payload files are opened, and what is written.
-pub(crate) struct Row {
-    pub(crate) bag: &'static [Files],
-    pub(crate) clashes: bool,
-    pub(crate) after: Option<&'static str>,
-    pub(crate) limit: Option<u64>,
-    pub(crate) opened: &'static [&'static str],
-    pub(crate) output: &'static str,
-    pub(crate) status: u8,
-}
 
 /// What a whole check is asked for.
 pub(crate) fn full(clashes: bool) -> Options {
@@ -43,14 +31,14 @@ fn has_opened(tree: &MemoryTree, paths: &[&str]) -> bool {
 }
 
 /// Whether a check writes what a row says, ends with its exit status, and opens its payload files.
-fn is_right(alloc: Global, row: &Row) -> Result<bool, Fail> {
+fn is_right(alloc: Global, row: &CheckRow) -> Result<bool, Fail> {
     let request = request_of(alloc, full(row.clashes), row.after, row.limit)?;
     let tree = tree_of(alloc, row.bag)?;
     let (tree, holds) = after_check(alloc, tree, request, (row.output, row.status));
     Ok(holds && has_opened(&tree, row.opened))
 }
 
-fn sees_rows(rt: &impl Abort, alloc: Global, rows: &[Row]) -> Result<(), Fail> {
+fn sees_rows(rt: &impl Abort, alloc: Global, rows: &[CheckRow]) -> Result<(), Fail> {
     for (place, row) in rows.iter().enumerate() {
         assert!(rt; is_right(alloc, row)?, "row {place}");
     }
@@ -84,5 +72,6 @@ fn tag_manifests(rt: HostRuntime) -> Result<(), Fail> {
 
 #[test]
 fn cursors_and_limits(rt: HostRuntime) -> Result<(), Fail> {
+    sees_rows(&rt, rt.alloc(), &[cursors::NONE_ASKED])?;
     sees_rows(&rt, rt.alloc(), cursors::ROWS)
 }

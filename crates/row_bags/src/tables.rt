@@ -1,14 +1,15 @@
 //! Bags, and what a whole check of them writes.
-use crate::rows::Row;
-use row_bags::{
-    DECLARED, ESCAPED, FETCHED, NAMED_AGAIN, NAMED_ONCE, OTHER_VERSION, TAG_NAMES, TWO_DIGESTS,
-    UNREAD_LINES, WRONG_DIGESTS,
+use crate::bags::DECLARED;
+use crate::check_row::CheckRow;
+use crate::samples::{
+    ESCAPED, FETCHED, NAMED_AGAIN, NAMED_ONCE, OTHER_VERSION, TAG_NAMES, TWO_DIGESTS, UNREAD_LINES,
+    WRONG_DIGESTS,
 };
 
 /// Bags without files, and declarations.
-pub(crate) const DECLARATIONS: &[Row] = &[
+pub const DECLARATIONS: &[CheckRow] = &[
     // an empty payload
-    Row {
+    CheckRow {
         bag: &[DECLARED, &[("manifest-sha256.txt", b"")]],
         clashes: false,
         after: None,
@@ -18,7 +19,7 @@ pub(crate) const DECLARATIONS: &[Row] = &[
         status: 0,
     },
     // an empty folder
-    Row {
+    CheckRow {
         bag: &[],
         clashes: false,
         after: None,
@@ -31,7 +32,7 @@ d has faults: 3\n",
         status: 1,
     },
     // a third line in the declaration, and another digest
-    Row {
+    CheckRow {
         bag: &[&[
             (
                 "bagit.txt",
@@ -53,7 +54,7 @@ d has faults: 2\n",
         status: 1,
     },
     // another version
-    Row {
+    CheckRow {
         bag: OTHER_VERSION,
         clashes: false,
         after: None,
@@ -66,9 +67,9 @@ d has faults: 1\n",
 ];
 
 /// Lines of tag files.
-pub(crate) const LINES: &[Row] = &[
+pub const LINES: &[CheckRow] = &[
     // lines that do not read
-    Row {
+    CheckRow {
         bag: UNREAD_LINES,
         clashes: false,
         after: None,
@@ -82,7 +83,7 @@ d has faults: 4\n",
         status: 1,
     },
     // metadata with a size that differs
-    Row {
+    CheckRow {
         bag: &[
             DECLARED,
             &[
@@ -108,7 +109,7 @@ d has faults: 2\n",
         status: 1,
     },
     // files to fetch
-    Row {
+    CheckRow {
         bag: FETCHED,
         clashes: false,
         after: None,
@@ -122,7 +123,7 @@ d has faults: 4\n",
         status: 1,
     },
     // paths that a tag manifest may not name, and one that is not there
-    Row {
+    CheckRow {
         bag: TAG_NAMES,
         clashes: false,
         after: None,
@@ -138,9 +139,9 @@ d has faults: 4\n",
 ];
 
 /// Names of payload files.
-pub(crate) const NAMES: &[Row] = &[
+pub const NAMES: &[CheckRow] = &[
     // a path that is spelled
-    Row {
+    CheckRow {
         bag: ESCAPED,
         clashes: false,
         after: None,
@@ -150,7 +151,7 @@ pub(crate) const NAMES: &[Row] = &[
         status: 0,
     },
     // a file that some manifests do not name
-    Row {
+    CheckRow {
         bag: NAMED_ONCE,
         clashes: false,
         after: None,
@@ -162,7 +163,7 @@ d has faults: 2\n",
         status: 1,
     },
     // names that clash, unasked
-    Row {
+    CheckRow {
         bag: &[
             DECLARED,
             &[
@@ -182,7 +183,7 @@ d has faults: 2\n",
         status: 0,
     },
     // names that clash
-    Row {
+    CheckRow {
         bag: &[
             DECLARED,
             &[
@@ -203,7 +204,7 @@ d has faults: 1\n",
         status: 1,
     },
     // a path that is named again, and is not there
-    Row {
+    CheckRow {
         bag: NAMED_AGAIN,
         clashes: false,
         after: None,
@@ -216,7 +217,7 @@ d has faults: 3\n",
         status: 1,
     },
     // a file that no manifest names is not opened
-    Row {
+    CheckRow {
         bag: &[
             DECLARED,
             &[
@@ -239,9 +240,9 @@ d has faults: 1\n",
 ];
 
 /// Digests of payload files.
-pub(crate) const DIGESTS: &[Row] = &[
+pub const DIGESTS: &[CheckRow] = &[
     // two algorithms, one file
-    Row {
+    CheckRow {
         bag: TWO_DIGESTS,
         clashes: false,
         after: None,
@@ -251,7 +252,7 @@ pub(crate) const DIGESTS: &[Row] = &[
         status: 0,
     },
     // both digests differ
-    Row {
+    CheckRow {
         bag: WRONG_DIGESTS,
         clashes: false,
         after: None,
@@ -263,7 +264,7 @@ d has faults: 2\n",
         status: 1,
     },
     // digests and paths as other programs spell them
-    Row {
+    CheckRow {
         bag: &[
             DECLARED,
             &[
@@ -283,7 +284,7 @@ d has faults: 2\n",
         status: 0,
     },
     // a path that is named again, and its first digest differs
-    Row {
+    CheckRow {
         bag: &[
             DECLARED,
             &[
@@ -304,7 +305,7 @@ d has faults: 2\n",
         status: 1,
     },
     // each algorithm that differs, with the digest in lower case
-    Row {
+    CheckRow {
         bag: &[
             DECLARED,
             &[
@@ -338,7 +339,7 @@ d has faults: 3\n",
         status: 1,
     },
     // files whose folders sort otherwise than their paths
-    Row {
+    CheckRow {
         bag: &[
             DECLARED,
             &[

@@ -1,8 +1,9 @@
 //! Folders that the tests make on the disk.
 use crate::fresh::fresh_folder;
 use crate::rows::{sees, sees_that};
-use bag_store::{FileEntry, FileTree, Listing, Tree, TreeFault, read_whole};
+use bag_file_tree::FileTree;
 use bag_text::Text;
+use bag_tree::{FileEntry, Listing, Tree, TreeFault, read_whole};
 use std::alloc::AllocError;
 use std::os::unix::fs::symlink;
 use std::test::Fail;

@@ -1,10 +1,12 @@
 //! Bags, and what a whole check of them writes that has a cursor or a limit.
-use crate::rows::Row;
-use row_bags::{DECLARED, UNREAD_LINES, WRONG_DIGESTS};
+use crate::bags::DECLARED;
+use crate::check_row::CheckRow;
+use crate::samples::{UNREAD_LINES, WRONG_DIGESTS};
 
-pub(crate) const ROWS: &[Row] = &[
+/// Checks with a cursor or a limit.
+pub const ROWS: &[CheckRow] = &[
     // up to two faults
-    Row {
+    CheckRow {
         bag: UNREAD_LINES,
         clashes: false,
         after: None,
@@ -16,7 +18,7 @@ d stopped, faults: 2\n",
         status: 1,
     },
     // up to as many faults as there are
-    Row {
+    CheckRow {
         bag: UNREAD_LINES,
         clashes: false,
         after: None,
@@ -29,18 +31,8 @@ d stopped, faults: 2\n",
 d stopped, faults: 4\n",
         status: 1,
     },
-    // none are asked for
-    Row {
-        bag: UNREAD_LINES,
-        clashes: false,
-        after: None,
-        limit: Some(0),
-        opened: &[],
-        output: "d stopped, faults: 0\n",
-        status: 1,
-    },
     // above the first
-    Row {
+    CheckRow {
         bag: WRONG_DIGESTS,
         clashes: false,
         after: Some(
@@ -53,7 +45,7 @@ d rest done, faults: 1\n",
         status: 1,
     },
     // above the last
-    Row {
+    CheckRow {
         bag: WRONG_DIGESTS,
         clashes: false,
         after: Some(
@@ -65,7 +57,7 @@ d rest done, faults: 1\n",
         status: 1,
     },
     // a limit that is reached before a file is summed
-    Row {
+    CheckRow {
         bag: &[
             DECLARED,
             &[
@@ -85,7 +77,7 @@ d rest done, faults: 1\n",
         status: 1,
     },
     // and one that is reached by it
-    Row {
+    CheckRow {
         bag: &[
             DECLARED,
             &[
@@ -107,3 +99,14 @@ d rest done, faults: 1\n",
         status: 1,
     },
 ];
+
+/// A check that is asked for no fault. No words ask for that.
+pub const NONE_ASKED: CheckRow = CheckRow {
+    bag: UNREAD_LINES,
+    clashes: false,
+    after: None,
+    limit: Some(0),
+    opened: &[],
+    output: "d stopped, faults: 0\n",
+    status: 1,
+};

@@ -1,10 +1,11 @@
 //! Bags with tag manifests (RFC 8493, 2.2.1), and what a whole check of them writes.
-use crate::rows::Row;
-use row_bags::DECLARED;
+use crate::bags::DECLARED;
+use crate::check_row::CheckRow;
 
-pub(crate) const ROWS: &[Row] = &[
+/// Bags with tag manifests.
+pub const ROWS: &[CheckRow] = &[
     // each tag file is right
-    Row {
+    CheckRow {
         bag: &[
             DECLARED,
             &[
@@ -33,7 +34,7 @@ pub(crate) const ROWS: &[Row] = &[
         status: 0,
     },
     // tag files that differ, among payload files that differ
-    Row {
+    CheckRow {
         bag: &[
             DECLARED,
             &[
@@ -66,7 +67,7 @@ d has faults: 4\n",
         status: 1,
     },
     // above a fault of a tag file
-    Row {
+    CheckRow {
         bag: &[
             DECLARED,
             &[
@@ -93,7 +94,7 @@ d rest done, faults: 1\n",
         status: 1,
     },
     // a manifest of an algorithm that is not known is compared with nothing, and with its own digest
-    Row {
+    CheckRow {
         bag: &[
             DECLARED,
             &[
