@@ -18,9 +18,11 @@ pub(crate) const REFUSED: u8 = 3;
 /// Does a plan on the disks that a runtime reaches: writes the reports, what was made or the help to `out`, and what is refused
 /// beside that to `err`.
 ///
-/// Gives the exit status: 0 where no bag has a fault or each was made, 1 where one has, 2 where the profile is refused, and 3
-/// where a read, a write or a growth was; over several folders the greatest. The profile is read first. Where `out` refuses,
-/// it stops. Unless the status is 2 or 3, `out` took a whole report for each bag of the plan.
+/// Gives the exit status, over several folders the greatest: 0 where a bag was checked to its end, without a cursor, and has no
+/// fault, or was made; 1 where it has faults, or the report was one above a cursor or stopped at its limit; 2 where the profile is
+/// refused; and 3 where a read, a write or a growth was, or a bag wasn't made. The profile is read first. Where `out` refuses, it
+/// stops. Unless the status is 2 or 3, `out` took a whole report for each bag that was checked, and the line of each that was made
+/// but for a quiet plan.
 pub fn perform<R, O, E>(rt: &R, plan: &Plan, out: &mut O, err: &mut E) -> u8
 where
     R: Disks + AllocGlobal,

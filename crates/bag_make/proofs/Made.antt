@@ -1,5 +1,5 @@
 -- What making a bag leaves.
-use Rattle.std.proofs.Common.{◌≡◌, ◌≤◌, inl, inr, ℕ, ◌++◌, ◌-◌, List, [], true, false, Bool, ◌||◌, IsTrue, map, take, Some, refl, sym, ap, ◌∙◌, subst, arith}
+use Rattle.std.proofs.Common.{◌≡◌, ◌≤◌, inl, inr, ℕ, ◌++◌, ◌-◌, List, [], true, false, Bool, ◌||◌, IsTrue, map, take, All, Some, refl, sym, ap, ◌∙◌, subst, arith}
 use Rattle.std.specs.List.{slice_get}
 use Rattle.std.specs.List.Sorted.{IsStrictlySortedBy}
 use Rattle.std.proofs.lemmas.Bool.{false_from_ne_true, or_from}
@@ -14,6 +14,7 @@ use Rattle.bag_made.specs.Made.{File, made}
 use Rattle.bag_made.specs.Valid.{MadeIsValid}
 use Rattle.bag_make.specs.Make.{CanAsk, CanTell, HasMade, HasNoFault, HasStoppedAt, HasBegunFile, Leaves, MayRefuseMaking}
 use Rattle.bag_make.specs.Plan.{after, is_in_the_way, steps}
+use Rattle.bag_make.specs.Request.{AreTexts}
 use Rattle.bag_make.specs.Steps.{CanTakeAll, HasLeft, HasStopped, HasTaken, after_steps, new_folder}
 use Rattle.bag_make.specs.declared.fault.MakeFault.{MakeFault}
 use Rattle.bag_make.specs.declared.fault.MakeFault.TheVariants as fault_of
@@ -34,22 +35,23 @@ module _ (algs : List Alg) (info : List NewElement) (old mid new : TreeState) (p
       no_folder (has_file old.bag new_folder) (has_folder old.bag new_folder) can.0
 
   -- all steps make the bag
-  pub has_made : CanAsk algs info → IsStrictlySortedBy rank_cmp algs → (IsTrue old.honest → IsTrue old.plain) → mid.failures ≡ old.failures → new.failures ≡ mid.failures
+  pub has_made : CanAsk algs info → All AreTexts info → IsStrictlySortedBy rank_cmp algs → (IsTrue old.honest → IsTrue old.plain) → mid.failures ≡ old.failures
       → (IsTrue old.honest → mid.openings ≡ old.openings ++ map (λ (e : File). e.0) (files_of old.bag)) → HasMade algs info old new
-  has_made asked ascend plain calm more_calm opened = record {
+  has_made asked texts ascend plain calm opened = record {
     asked = asked;
+    texts = texts;
     ascend = ascend;
     bag = λ honest.
         taken.bag (keeps.honest ∙ honest) ∙ ap (after_steps planned) keeps.bag ∙ ap (λ xs. after_steps xs old.bag) (are honest).0
         ∙ steps_make old.bag algs info is_bag (are honest).1 (folder_is_free honest);
     free = λ honest. ((are honest).1, folder_is_free honest);
     plain = λ honest. (plain honest, taken.plain (keeps.honest ∙ honest) (keeps.plain ∙ plain honest));
-    failures = more_calm ∙ calm;
+    failures = taken.calm ∙ calm;
     openings = λ honest. taken.openings ∙ opened honest;
   }
 
 -- and it has no fault
-pub made_has_no_fault : MadeIsValid → (algs : List Alg) (info : List NewElement) (old new : TreeState) → IsBag old.bag → HasMade algs info old new → IsTrue old.honest → CanTell old.bag info
+pub made_has_no_fault : MadeIsValid → (algs : List Alg) (info : List NewElement) (old new : TreeState) → IsBag old.bag → HasMade algs info old new → IsTrue old.honest → CanTell old.bag
     → HasNoFault new.bag
 made_has_no_fault law algs info old new is_bag h honest can =
     subst HasNoFault (sym (h.bag honest))
@@ -57,17 +59,25 @@ made_has_no_fault law algs info old new is_bag h honest can =
       is_bag = is_bag;
       some_alg = h.asked.0;
       ascending = h.ascend;
-      texts = can.texts;
+      texts = h.texts;
       good = h.asked.1;
       count = can.count;
       size = can.size;
     }))
 
+-- a refused step opened no file
+pub opens_nothing : (step : Step) (before new : TreeState) → HasLeft step before new → new.openings ≡ before.openings
+opens_nothing MakeFolder before new left = left.openings
+opens_nothing (MoveIn top) before new left = left.openings
+opens_nothing Rename before new left = left.openings
+opens_nothing (Create name bytes) before new (inl left) = left.openings
+opens_nothing (Create name bytes) before new (inr left) = left.begun.openings
+
 -- where it was refused before a step
 pub leaves_bag : (algs : List Alg) (info : List NewElement) (old new : TreeState) (fault : MakeFault) → MayRefuseMaking algs info old new fault → IsTrue old.honest → Leaves algs info old.bag new.bag fault
 leaves_bag algs info old new fault_of.NoAlgorithm h honest = h.1.bag
 leaves_bag algs info old new fault_of.BadValue h honest = h.1.bag
-leaves_bag algs info old new fault_of.InTheWay h honest = h.1.bag
+leaves_bag algs info old new fault_of.InTheWay h honest = h.1.keeps.bag
 leaves_bag algs info old new (fault_of.ReadStopped stop) h honest = h.1.bag
 leaves_bag algs info old new fault_of.Memory h honest = h.1.bag
 leaves_bag algs info old new (fault_of.StepRefused place cause) (asked, h) honest =

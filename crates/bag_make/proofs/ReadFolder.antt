@@ -1,5 +1,5 @@
 -- Reading the files of a folder.
-use Rattle.std.proofs.Common.{◌≡◌, ◌≢◌, inl, inr, ℕ, ◌++◌, List, [], ◌∷◌, true, false, IsTrue, length, map, take, All, Contains, Option, None, Some, refl, sym, ap, ◌∙◌, subst}
+use Rattle.std.proofs.Common.{◌≡◌, ◌≢◌, inl, inr, ℕ, ◌+◌, ◌++◌, List, [], ◌∷◌, true, false, IsTrue, length, map, take, slice_get, All, Contains, Option, None, Some, refl, sym, ap, ◌∙◌, subst}
 use Rattle.std.specs.FinMap.{get-entries}
 use Rattle.std.specs.Option.{option_map}
 use Rattle.std.proofs.lemmas.List.Elements.{All-contains, All-from_recursion}
@@ -18,14 +18,15 @@ use Rattle.bag_tree.specs.declared.fault.TreeFault.TheVariants.{Memory}
 use Rattle.bag_tree.proofs.ListingLaw.{listings_are_of_the_bag}
 use Rattle.bag_facts.specs.Stops.{MayRefuseFacts}
 use Rattle.bag_facts.specs.Wanted.{paths_of}
-use Rattle.bag_facts.proofs.ListedFiles.{listed_file, own_size}
+use Rattle.bag_facts.proofs.ListedFiles.{own_size}
 use Rattle.bag_facts.proofs.Mapped.{contains_mapped}
 use Rattle.bag_facts.proofs.Reading.{later_refusal}
 use Rattle.bag_made.specs.Made.{File, new_payload}
+use Rattle.bag_made.proofs.Entries.{at_place}
 use Rattle.bag_made.proofs.Held.{found, has_listed, one_file, content_of}
 use Rattle.bag_make.specs.Plan.{is_in_the_way}
-use Rattle.bag_make.specs.Reading.{IsStopped, MayRefuseReading, OpensFolder}
-use Rattle.bag_make.specs.Stops.{MayStopMaking, StopsSumming}
+use Rattle.bag_make.specs.Reading.{HasListed, HasRefusedNothing, IsStopped, MayRefuseReading, OpensFolder}
+use Rattle.bag_make.specs.Stops.{IsAtFile, IsCalm, MayStopMaking, StopsSumming}
 use Rattle.bag_make.specs.Summed.{AreSummed, AreSummedFiles, OpensFirstOf, entry_of}
 use Rattle.bag_make.specs.declared.fault.MakeFault.{MakeFault}
 use Rattle.bag_make.specs.declared.fault.MakeFault.TheVariants as fault_of
@@ -62,6 +63,14 @@ paths_listed : (es : List File) → paths_of (map entry_of es) ≡ map (λ (e : 
 paths_listed [] = refl
 paths_listed (e ∷ es) = ap (λ xs. e.0 ∷ xs) (paths_listed es)
 
+-- where nothing was refused behind the listing either
+pub nothing_refused : (old mid new : TreeState) → HasListed old mid → IsCalm mid new → HasRefusedNothing old new
+nothing_refused old mid new listed calm = record {
+  failures = calm.failures ∙ listed.failures;
+  plain = listed.plain;
+  last = λ same. calm.last (ap length (same ∙ sym listed.openings)) ∙ listed.last;
+}
+
 module _ (listing : Listing) (ordered : IsOrdered listing.files) where
   -- what is listed of a bag are its paths
   pub paths_are : (bag : Bag) → IsListingOf bag listing → paths_of listing.files ≡ map (λ (e : File). e.0) (files_of bag)
@@ -77,10 +86,13 @@ module _ (listing : Listing) (ordered : IsOrdered listing.files) where
       s.are
 
   module _ (old mid new : TreeState) (keeps : Keeps old mid) (none : mid.openings ≡ old.openings) (of : IsTrue old.honest → IsListingOf old.bag listing) where
+    from_old : IsTrue old.honest → (n : ℕ) → mid.openings ++ take n (paths_of listing.files) ≡ old.openings ++ take n (map (λ (e : File). e.0) (files_of old.bag))
+    from_old honest n = ap (λ xs. xs ++ take n (paths_of listing.files)) none ∙ ap (λ xs. old.openings ++ take n xs) (paths_are old.bag (of honest))
+
     pub opens_folder : OpensFirstOf (paths_of listing.files) mid new → OpensFolder old new
     opens_folder h = λ honest. (
       h.0,
-      h.1 ∙ ap (λ xs. xs ++ take h.0 (paths_of listing.files)) none ∙ ap (λ xs. old.openings ++ take h.0 xs) (paths_are old.bag (of honest)),
+      h.1 ∙ from_old honest h.0,
     )
 
     pub opened_folder : new.openings ≡ mid.openings ++ paths_of listing.files → IsTrue old.honest → new.openings ≡ old.openings ++ map (λ (e : File). e.0) (files_of old.bag)
@@ -92,25 +104,39 @@ module _ (listing : Listing) (ordered : IsOrdered listing.files) where
         ap (λ bag. option_map length (file bag entry.path)) keeps.bag
         ∙ sym ((of (sym keeps.honest ∙ honest)).files entry.path) ∙ own_size listing.files entry ordered.ascending c))
 
+    at_file : (path : List ℕ) → IsAtFile (paths_of listing.files) mid new path → IsTrue old.honest → IsAtFile (map (λ (e : File). e.0) (files_of old.bag)) old new path
+    at_file path (k, at, opens) honest =
+        (
+          k,
+          subst (λ xs. slice_get xs k ≡ Some path) (paths_are old.bag (of honest)) at,
+          elim opens [
+            | inl before ↦ inl (before ∙ from_old honest k)
+            | inr it ↦ inr (it ∙ from_old honest (k + 1))
+          ],
+        )
+
     -- where a file is refused, nothing is planned
-    pub files_refused : (stop : Stop) (fault : MakeFault) → (IsTrue old.honest → is_in_the_way old.bag ≡ false) → StopsSumming listing.files mid new stop → IsStopped stop fault
+    pub files_refused : HasListed old mid → (stop : Stop) (fault : MakeFault) → (IsTrue old.honest → is_in_the_way old.bag ≡ false) → StopsSumming listing.files mid new stop → IsStopped stop fault
         → MayRefuseReading old new fault
-    files_refused stop (fault_of.ReadStopped other) free h (same, not) = subst (MayStopMaking old new) (sym same) (record {
+    files_refused listed stop (fault_of.ReadStopped other) free h (same, not) = subst (MayStopMaking old new) (sym same) (record {
       cause = later_refusal old mid new stop.cause keeps (h.cause entries_are);
       not_memory = not;
       answered = h.answered;
       path = elim h.path [
         | inl m ↦ absurd (not m.0)
-        | inr c ↦
-            let entry = contains_mapped (λ (e : FileEntry). e.path) listing.files stop.path c in
+        | inr at ↦
+            let entry = contains_mapped (λ (e : FileEntry). e.path) listing.files stop.path (at_place (paths_of listing.files) at.0 stop.path at.1) in
             inr (
               subst (λ p. is_path p ≡ true) entry.2 (All-contains (λ (e : FileEntry). IsTrue (is_path e.path)) listing.files entry.0 ordered.paths entry.1),
-              λ honest. (listed_file old.bag listing.files stop.path (of honest).files c, free honest),
+              λ honest. (at_file stop.path at honest, free honest),
             )
       ];
     })
-    files_refused stop fault_of.Memory free h is = tt
-    files_refused stop fault_of.NoAlgorithm free h is = absurd is
-    files_refused stop fault_of.InTheWay free h is = absurd is
-    files_refused stop fault_of.BadValue free h is = absurd is
-    files_refused stop (fault_of.StepRefused place cause) free h is = absurd is
+    files_refused listed stop fault_of.Memory free h is = elim (h.memory is) [
+      | inl last ↦ inl last
+      | inr calm ↦ inr (nothing_refused old mid new listed calm)
+    ]
+    files_refused listed stop fault_of.NoAlgorithm free h is = absurd is
+    files_refused listed stop fault_of.InTheWay free h is = absurd is
+    files_refused listed stop fault_of.BadValue free h is = absurd is
+    files_refused listed stop (fault_of.StepRefused place cause) free h is = absurd is

@@ -1,24 +1,26 @@
 -- Summing files one after another.
-use Rattle.std.proofs.Common.{◌≡◌, ◌≢◌, ◌<◌, ◌≤◌, ◌+◌, ◌++◌, ◌∷◌, inl, inr, ℕ, List, [], length, map, take, get_or, None, Some, IsTrue, All, Contains, refl, sym, ap, ◌∙◌, subst, arith, append_assoc, append-nil}
+use Rattle.std.proofs.Common.{◌≡◌, ◌≢◌, ◌<◌, ◌≤◌, ◌+◌, ◌++◌, ◌∷◌, inl, inr, ℕ, List, [], length, map, take, get_or, None, Some, IsTrue, All, Contains, refl, sym, ap, ◌∙◌, subst, arith, append_assoc, append-nil, length-append, slice_get}
 use Rattle.std.specs.Option.{option_map}
 use Rattle.std.proofs.lemmas.List.{map-append, take_all, take-map}
 use Rattle.std.proofs.lemmas.List.Elements.{All-nil, All-cons, All-append, All-contains}
+use Rattle.std.proofs.lemmas.Option.{slice_get_read, slice_get-map, slice_get_within}
 use Rattle.bag_text.specs.Path.{under}
 use Rattle.bag_text.specs.declared.alg.Alg.{Alg}
-use Rattle.bag_text.proofs.ListOf.{contains_cases, contains_nothing, contains_first}
+use Rattle.bag_text.proofs.ListOf.{contains_first}
 use Rattle.bag_tree.specs.Bag.{file}
 use Rattle.bag_tree.specs.Tree.{TreeState, CameFromTree, IsEntryOf, Keeps, OpensAtMost}
 use Rattle.bag_tree.specs.Whole.{MayRefuseWhole}
+use Rattle.bag_tree.specs.declared.answer.Answer.TheVariants.{Refused}
 use Rattle.bag_tree.specs.declared.listing.FileEntry.{FileEntry}
 use Rattle.bag_tree.specs.declared.fault.Stop.{Stop}
 use Rattle.bag_tree.specs.declared.fault.TreeFault.{TreeFault}
 use Rattle.bag_tree.specs.declared.fault.TreeFault.TheVariants.{NotFound, Changed, NoneOpen, Memory}
-use Rattle.bag_facts.specs.Stops.{IsOutOfMemory, IsStopAt, MayRefuseFacts}
+use Rattle.bag_facts.specs.Stops.{IsOutOfMemory, MayRefuseFacts}
 use Rattle.bag_facts.specs.Wanted.{paths_of}
-use Rattle.bag_facts.proofs.Mapped.{mapped_contains, take_one_more}
+use Rattle.bag_facts.proofs.Mapped.{take_one_more}
 use Rattle.bag_facts.proofs.Reading.{keeps_itself, keeps_on, later_refusal}
 use Rattle.bag_made.specs.Made.{File, data_folder, new_payload}
-use Rattle.bag_make.specs.Stops.{StopsSumming}
+use Rattle.bag_make.specs.Stops.{IsAtFile, IsCalm, IsRefusalOf, StopsSumming}
 use Rattle.bag_make.specs.Summed.{IsSummed, AreSummed, IsSummedEntry, AreSummedFiles, OpensFirstOf, entry_of}
 use Rattle.bag_make.specs.declared.summed.SummedFile.{SummedFile}
 
@@ -36,23 +38,44 @@ came_from old new entry Changed (size, other) = (entry.size, size)
 came_from old new entry Memory h = tt
 came_from old new entry other h = h.1
 
+pub calm_itself : (state : TreeState) → IsCalm state state
+calm_itself state = record { failures = refl; grows = omega arith; last = λ _. refl }
+
+pub calm_on : (old mid new : TreeState) → IsCalm old mid → IsCalm mid new → IsCalm old new
+calm_on old mid new a b = record {
+  failures = b.failures ∙ a.failures;
+  grows = omega (arith, a.grows, b.grows);
+  last = λ same. b.last (omega (arith, same, a.grows, b.grows)) ∙ a.last (omega (arith, same, a.grows, b.grows));
+}
+
+-- a file was opened, and nothing was refused
+pub calm_opened : (old new : TreeState) (path : List ℕ) → new.failures ≡ old.failures → new.openings ≡ old.openings ++ path ∷ [] → IsCalm old new
+calm_opened old new path calm once =
+    let longer : length new.openings ≡ length old.openings + 1 = ap length once ∙ length-append old.openings (path ∷ []) in
+    record { failures = calm; grows = omega (arith, longer); last = λ same. absurd (omega (arith, same, longer)) }
+
 -- want of memory stops it
-pub stop_of_memory : (files : List FileEntry) (old new : TreeState) (stop : Stop) → IsOutOfMemory stop → StopsSumming files old new stop
-stop_of_memory files old new stop m = record { cause = λ are. rw m.0 tt; answered = rw m.0 tt; path = inl m; memory = λ _. m.1 }
+pub stop_of_memory : (files : List FileEntry) (old new : TreeState) (stop : Stop) → IsOutOfMemory stop → IsCalm old new → StopsSumming files old new stop
+stop_of_memory files old new stop m calm = record { cause = λ are. rw m.0 tt; answered = rw m.0 tt; path = inl m; memory = λ _. inr calm }
 
 one_is : (P : FileEntry → Type 0) (entry : FileEntry) → All P (entry ∷ []) → P entry
 one_is P entry all = All-contains P (entry ∷ []) entry all (contains_first entry [])
 
 -- and so does the refusal of a file
-pub stop_of_refusal : (entry : FileEntry) (old new : TreeState) (cause : TreeFault) (stop : Stop) → MayRefuseWhole old new entry cause → IsStopAt cause entry.path stop
-    → StopsSumming (entry ∷ []) old new stop
-stop_of_refusal entry old new cause stop refused (inl (same, at, no_memory)) = record {
+pub stop_of_refusal : (entry : FileEntry) (old new : TreeState) (cause : TreeFault) (stop : Stop) → MayRefuseWhole old new entry cause → (cause ≢ Changed → new.last ≡ Refused cause)
+    → OpensAtMost old new entry.path → IsRefusalOf cause entry.path stop → StopsSumming (entry ∷ []) old new stop
+stop_of_refusal entry old new cause stop refused answered opens (inl (not, same, at)) = record {
   cause = λ are. subst (MayRefuseFacts old new) (sym same) (refused_file old new entry cause (λ honest. one_is (IsEntryOf old.bag) entry (are honest)) refused);
   answered = subst (CameFromTree new) (sym same) (came_from old new entry cause refused);
-  path = inr (subst (Contains (entry.path ∷ [])) (sym at) (contains_first entry.path []));
-  memory = λ m. absurd (no_memory (sym same ∙ m));
+  path = inr (0, ap Some (sym at), elim opens [ | inl none ↦ inl (none ∙ sym (append-nil old.openings)) | inr once ↦ inr once ]);
+  memory = λ m. absurd (not (sym same ∙ m));
 }
-stop_of_refusal entry old new cause stop refused (inr m) = stop_of_memory (entry ∷ []) old new stop m
+stop_of_refusal entry old new cause stop refused answered opens (inr (is, m)) = record {
+  cause = λ are. rw m.0 tt;
+  answered = rw m.0 tt;
+  path = inl m;
+  memory = λ _. inl (answered (λ changed. let clash : Memory ≡ Changed = sym is ∙ changed in cc) ∙ ap Refused is);
+}
 
 abbrev moved : File → File
 moved e = (under data_folder e.0, e.1)
@@ -73,14 +96,14 @@ sums_more algs files i e summed one lt is h s =
 -- the first of the listed files were summed
 pub record SumsFirst (files : List FileEntry) (count : ℕ) (algs : List Alg) (old new : TreeState) (sums : List SummedFile) : Type 0 where
   pub keeps : Keeps old new
-  pub calm : new.failures ≡ old.failures
+  pub calm : IsCalm old new
   pub opened : new.openings ≡ old.openings ++ paths_of (take count files)
   pub summed : AreSummedFiles old (take count files) algs sums
 
 pub sums_none : (files : List FileEntry) (algs : List Alg) (old : TreeState) → SumsFirst files 0 algs old old []
 sums_none files algs old = record {
   keeps = keeps_itself old;
-  calm = refl;
+  calm = calm_itself old;
   opened = sym (append-nil old.openings);
   summed = record { files = []; listed = refl; are = tt; honest = λ _. All-nil (λ (e : File). file old.bag e.0 ≡ Some e.1) };
 }
@@ -116,11 +139,11 @@ module _ (files : List FileEntry) (i : ℕ) (entry : FileEntry) (algs : List Alg
       ∙ ap (λ xs. old.openings ++ xs) (sym (ap paths_of next ∙ map-append (λ (e : FileEntry). e.path) (take i files) (entry ∷ [])))
 
   -- one more was summed
-  pub sums_one_more : (after : List SummedFile) (one : SummedFile) → after ≡ summed ++ one ∷ [] → Keeps mid new → new.failures ≡ mid.failures
+  pub sums_one_more : (after : List SummedFile) (one : SummedFile) → after ≡ summed ++ one ∷ [] → Keeps mid new → IsCalm mid new
       → new.openings ≡ mid.openings ++ entry.path ∷ [] → IsSummedEntry mid entry algs one → SumsFirst files (i + 1) algs old new after
   sums_one_more after one e k calm once s = record {
     keeps = keeps_on old mid new before.keeps k;
-    calm = calm ∙ before.calm;
+    calm = calm_on old mid new before.calm calm;
     opened = opened_more once;
     summed = subst (AreSummedFiles old (take (i + 1) files) algs) (sym e) (added one s);
   }
@@ -128,10 +151,31 @@ module _ (files : List FileEntry) (i : ℕ) (entry : FileEntry) (algs : List Alg
   first_paths : (count : ℕ) → paths_of (take count files) ≡ take count (paths_of files)
   first_paths count = sym (take-map (λ (e : FileEntry). e.path) count files)
 
+  still : new.openings ≡ mid.openings → new.openings ≡ old.openings ++ take i (paths_of files)
+  still none = none ∙ before.opened ∙ ap (λ xs. old.openings ++ xs) (first_paths i)
+
+  opened_next : new.openings ≡ mid.openings ++ entry.path ∷ [] → new.openings ≡ old.openings ++ take (i + 1) (paths_of files)
+  opened_next once = opened_more once ∙ ap (λ xs. old.openings ++ xs) (first_paths (i + 1))
+
+  its_path : slice_get (paths_of files) i ≡ Some entry.path
+  its_path = slice_get-map (λ (e : FileEntry). e.path) files i ∙ ap (option_map (λ (e : FileEntry). e.path)) (slice_get_read files (length files) i entry refl lt is)
+
+  at_the_file : (path : List ℕ) → IsAtFile (entry.path ∷ []) mid new path → IsAtFile (paths_of files) old new path
+  at_the_file path (k, at, opens) =
+      let first : k ≡ 0 = omega (arith, slice_get_within (entry.path ∷ []) k path at) in
+      let same : Some entry.path ≡ Some path = subst (λ n. slice_get (entry.path ∷ []) n ≡ Some path) first at in (
+        i,
+        its_path ∙ same,
+        elim opens [
+          | inl none ↦ inl (still (none ∙ ap (λ n. mid.openings ++ take n (entry.path ∷ [])) first ∙ append-nil mid.openings))
+          | inr once ↦ inr (opened_next (once ∙ ap (λ n. mid.openings ++ take (n + 1) (entry.path ∷ [])) first))
+        ],
+      )
+
   -- it stopped at a file
   pub opens_first : OpensAtMost mid new entry.path → OpensFirstOf (paths_of files) old new
-  opens_first (inl none) = (i, none ∙ before.opened ∙ ap (λ xs. old.openings ++ xs) (first_paths i))
-  opens_first (inr once) = (i + 1, opened_more once ∙ ap (λ xs. old.openings ++ xs) (first_paths (i + 1)))
+  opens_first (inl none) = (i, still none)
+  opens_first (inr once) = (i + 1, opened_next once)
 
   entry_is : (IsTrue old.honest → All (IsEntryOf old.bag) files) → IsTrue mid.honest → All (IsEntryOf mid.bag) (entry ∷ [])
   entry_is are honest =
@@ -145,12 +189,12 @@ module _ (files : List FileEntry) (i : ℕ) (entry : FileEntry) (algs : List Alg
     answered = h.answered;
     path = elim h.path [
       | inl m ↦ inl m
-      | inr c ↦ elim (contains_cases entry.path [] stop.path c) [
-        | inl same ↦ inr (subst (Contains (paths_of files)) same (mapped_contains (λ (e : FileEntry). e.path) files entry listed))
-        | inr none ↦ absurd (contains_nothing stop.path none)
-      ]
+      | inr at ↦ inr (at_the_file stop.path at)
     ];
-    memory = h.memory;
+    memory = λ m. elim (h.memory m) [
+      | inl last ↦ inl last
+      | inr calm ↦ inr (calm_on old mid new before.calm calm)
+    ];
   }
 
 -- all were gone through

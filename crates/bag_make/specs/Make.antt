@@ -3,7 +3,6 @@ use Rattle.std.specs.Prelude.{ℕ, ◌≡◌, ◌≢◌, ◌⊎◌, ◌≤◌, �
 use Rattle.std.specs.List.{list_any}
 use Rattle.std.specs.List.Sorted.{IsStrictlySortedBy}
 use Rattle.bag_text.specs.Alg.{rank_cmp}
-use Rattle.bag_text.specs.Text.{IsText}
 use Rattle.bag_text.specs.declared.alg.Alg.{Alg}
 use Rattle.bag_tree.specs.Bag.{Bag, files_of, has_folder}
 use Rattle.bag_tree.specs.Tree.{TreeState, Keeps}
@@ -14,7 +13,8 @@ use Rattle.bag_write_tree.specs.Steps.{create}
 use Rattle.bag_made.specs.Made.{made}
 use Rattle.bag_made.specs.Valid.{full, is_refused}
 use Rattle.bag_make.specs.Plan.{after, is_in_the_way, steps}
-use Rattle.bag_make.specs.Request.{IsRequestFault}
+use Rattle.bag_make.specs.Reading.{HasListed, IsWantOfMemory}
+use Rattle.bag_make.specs.Request.{AreTexts, IsRequestFault}
 use Rattle.bag_make.specs.Steps.{HasStopped, new_folder}
 use Rattle.bag_make.specs.Stops.{MayStopMaking}
 use Rattle.bag_make.specs.declared.fault.MakeFault.{MakeFault}
@@ -30,6 +30,7 @@ CanAsk algs info = (algs ≢ []) × (list_any is_refused info ≡ false)
 -- file of the folder was opened once, in path order, and no other. The device didn't fail. A set names each algorithm once.
 pub record HasMade (algs : List Alg) (info : List NewElement) (old new : TreeState) : Type 0 where
   pub asked : CanAsk algs info
+  pub texts : All AreTexts info
   pub ascend : IsStrictlySortedBy rank_cmp algs
   pub bag : IsTrue old.honest → new.bag ≡ made old.bag algs info
   pub free : IsTrue old.honest → (is_in_the_way old.bag ≡ false) × (has_folder old.bag new_folder ≡ false)
@@ -37,23 +38,25 @@ pub record HasMade (algs : List Alg) (info : List NewElement) (old new : TreeSta
   pub failures : new.failures ≡ old.failures
   pub openings : IsTrue old.honest → new.openings ≡ old.openings ++ map (λ e. e.0) (files_of old.bag)
 
--- The steps up to the one that was refused were taken, when all was read and the bag was as before. The cause is one that the
--- step may be refused for.
+-- The steps up to the one that was refused were taken, when all was read, each file once and in path order, the device hadn't failed
+-- and the bag was as before. The cause is the tree's answer, and one that the step may be refused for.
 pub record HasStoppedAt (algs : List Alg) (info : List NewElement) (old new : TreeState) (place : ℕ) (cause : TreeFault) : Type 0 where
   pub free : IsTrue old.honest → is_in_the_way old.bag ≡ false
   pub planned : List Step
   pub steps : IsTrue old.honest → planned ≡ steps old.bag algs info
   pub read : TreeState
   pub keeps : Keeps old read
+  pub failures : read.failures ≡ old.failures
+  pub openings : IsTrue old.honest → new.openings ≡ old.openings ++ map (λ e. e.0) (files_of old.bag)
   pub stopped : HasStopped planned read new (record { step = place; cause = cause })
 
 -- When each refusal comes. Up to want of memory the tree's bag is as it was.
 abbrev pub MayRefuseMaking : List Alg → List NewElement → TreeState → TreeState → MakeFault → Type 0
 MayRefuseMaking algs info old new NoAlgorithm = IsRequestFault algs info NoAlgorithm × Keeps old new
 MayRefuseMaking algs info old new BadValue = IsRequestFault algs info BadValue × Keeps old new
-MayRefuseMaking algs info old new InTheWay = CanAsk algs info × Keeps old new × (IsTrue old.honest → is_in_the_way old.bag ≡ true)
+MayRefuseMaking algs info old new InTheWay = CanAsk algs info × HasListed old new × (IsTrue old.honest → is_in_the_way old.bag ≡ true)
 MayRefuseMaking algs info old new (ReadStopped stop) = CanAsk algs info × Keeps old new × MayStopMaking old new stop
-MayRefuseMaking algs info old new Memory = CanAsk algs info × Keeps old new
+MayRefuseMaking algs info old new Memory = CanAsk algs info × Keeps old new × IsWantOfMemory old new
 MayRefuseMaking algs info old new (StepRefused place cause) = CanAsk algs info × HasStoppedAt algs info old new place cause
 
 -- the file that a step makes is begun
@@ -69,9 +72,8 @@ abbrev pub Leaves : List Alg → List NewElement → Bag → Bag → MakeFault �
 Leaves algs info old new (StepRefused place cause) = (new ≡ after (place - 1) old algs info) ⊎ HasBegunFile algs info old new place
 Leaves algs info old new fault = new ≡ old
 
--- the elements are texts, and the number of the files and their bytes together can be told
-pub record CanTell (bag : Bag) (info : List NewElement) : Type 0 where
-  pub texts : All (λ element. IsText element.0 × IsText element.1) info
+-- the number of the files and their bytes together can be told
+pub record CanTell (bag : Bag) : Type 0 where
   pub count : length (files_of bag) < 2 ^ 64
   pub size : sum_by (λ e. length e.1) (files_of bag) < 2 ^ 64
 

@@ -1,7 +1,8 @@
 -- How the files of a folder are read before a bag is made of them.
-use Rattle.std.specs.Prelude.{ℕ, ◌≡◌, ◌++◌, true, IsTrue, List, map, take}
+use Rattle.std.specs.Prelude.{ℕ, ◌≡◌, ◌⊎◌, ◌++◌, true, IsTrue, List, map, take}
 use Rattle.bag_tree.specs.Bag.{files_of}
-use Rattle.bag_tree.specs.Tree.{TreeState}
+use Rattle.bag_tree.specs.Tree.{TreeState, Keeps}
+use Rattle.bag_tree.specs.declared.answer.Answer.TheVariants.{Given, Refused}
 use Rattle.bag_tree.specs.declared.fault.Stop.{Stop}
 use Rattle.bag_tree.specs.declared.fault.TreeFault.TheVariants as cause_of
 use Rattle.bag_make.specs.Plan.{is_in_the_way}
@@ -13,11 +14,28 @@ use Rattle.bag_make.specs.declared.fault.MakeFault.TheVariants.{InTheWay, ReadSt
 abbrev pub OpensFolder : TreeState → TreeState → Type 0
 OpensFolder old new = IsTrue old.honest → (count : ℕ) × (new.openings ≡ old.openings ++ take count (map (λ e. e.0) (files_of old.bag)))
 
+-- The files were listed and no file was opened. The device didn't fail, and of an honest tree only files and folders stand there.
+pub record HasListed (old new : TreeState) : Type 0 where
+  pub keeps : Keeps old new
+  pub failures : new.failures ≡ old.failures
+  pub plain : IsTrue old.honest → IsTrue old.plain
+  pub openings : new.openings ≡ old.openings
+  pub last : new.last ≡ Given
+
+-- The tree refused for want of memory; or it refused nothing, and there was no memory for what was read.
+pub record HasRefusedNothing (old new : TreeState) : Type 0 where
+  pub failures : new.failures ≡ old.failures
+  pub plain : IsTrue old.honest → IsTrue old.plain
+  pub last : new.openings ≡ old.openings → new.last ≡ Given
+
+abbrev pub IsWantOfMemory : TreeState → TreeState → Type 0
+IsWantOfMemory old new = (new.last ≡ Refused cause_of.Memory) ⊎ HasRefusedNothing old new
+
 -- why nothing is planned
 abbrev pub MayRefuseReading : TreeState → TreeState → MakeFault → Type 0
-MayRefuseReading old new InTheWay = IsTrue old.honest → is_in_the_way old.bag ≡ true
+MayRefuseReading old new InTheWay = HasListed old new × (IsTrue old.honest → is_in_the_way old.bag ≡ true)
 MayRefuseReading old new (ReadStopped stop) = MayStopMaking old new stop
-MayRefuseReading old new Memory = Unit {0}
+MayRefuseReading old new Memory = IsWantOfMemory old new
 MayRefuseReading old new fault = ⊥
 
 -- the refusal that a stop is

@@ -1,11 +1,16 @@
 -- What no bag can be made with.
 use Rattle.std.specs.Prelude.{◌≡◌, ◌≢◌, true, List, []}
 use Rattle.std.specs.List.{list_any}
+use Rattle.bag_text.specs.Text.{IsText}
 use Rattle.bag_text.specs.declared.alg.Alg.{Alg}
 use Rattle.bag_write.specs.Element.{NewElement}
 use Rattle.bag_made.specs.Valid.{is_refused}
 use Rattle.bag_make.specs.declared.fault.MakeFault.{MakeFault}
 use Rattle.bag_make.specs.declared.fault.MakeFault.TheVariants.{NoAlgorithm, BadValue}
+
+-- a label and its value are texts
+abbrev pub AreTexts : NewElement → Type 0
+AreTexts element = IsText element.0 × IsText element.1
 
 -- There is no algorithm; or there is one, and an element that can't be given.
 abbrev pub IsRequestFault : List Alg → List NewElement → MakeFault → Type 0

@@ -3,6 +3,7 @@ use Rattle.std.specs.Prelude.{ℕ, ◌≡◌, ◌≢◌, ◌⊎◌, ◌≤◌, �
 use Rattle.bag_text.specs.Path.{is_base_name, under}
 use Rattle.bag_tree.specs.Bag.{Bag}
 use Rattle.bag_tree.specs.Tree.{TreeState}
+use Rattle.bag_tree.specs.declared.answer.Answer.TheVariants.{Refused}
 use Rattle.bag_tree.specs.declared.fault.TreeFault.{TreeFault}
 use Rattle.bag_write_tree.specs.Changes.{HasChanged, HasBegun, IsSame, MayRefuseChange}
 use Rattle.bag_write_tree.specs.Steps.{make_folder, move_in, rename_folder, create, is_taken, has_within, lacks_folder, lacks_source}
@@ -68,16 +69,18 @@ MayRefuseStep (MoveIn top) old new = MayRefuseChange (lacks_source old.bag top n
 MayRefuseStep Rename old new = MayRefuseChange (lacks_folder old.bag new_folder ≡ true) (is_taken old.bag data_folder ≡ true) old new
 MayRefuseStep (Create name bytes) old new = MayRefuseChange ⊥ (is_taken old.bag name ≡ true) old new
 
--- These steps were taken. The bag of an honest tree is then the steps' bag, each step could be taken, and no file was opened.
+-- These steps were taken. The bag of an honest tree is then the steps' bag, each step could be taken, the device didn't fail, and no
+-- file was opened.
 pub record HasTaken (steps : List Step) (old new : TreeState) : Type 0 where
   pub bag : IsTrue old.honest → new.bag ≡ after_steps steps old.bag
   pub possible : IsTrue old.honest → CanTakeAll steps old.bag
   pub plain : IsTrue old.honest → IsTrue old.plain → IsTrue new.plain
   pub honest : new.honest ≡ old.honest
-  pub failures : old.failures ≤ new.failures
+  pub calm : new.failures ≡ old.failures
   pub openings : new.openings ≡ old.openings
 
--- All steps before this one were taken, and this one was refused. It left nothing, but that a file may be begun.
+-- All steps before this one were taken, and this one was refused, as the tree answered. It left nothing, but that a file may be
+-- begun.
 pub record HasStopped (steps : List Step) (old new : TreeState) (refusal : Refusal) : Type 0 where
   pub first : 1 ≤ refusal.step
   pub step : Step
@@ -86,3 +89,4 @@ pub record HasStopped (steps : List Step) (old new : TreeState) (refusal : Refus
   pub taken : HasTaken (take (refusal.step - 1) steps) old before
   pub left : HasLeft step before new
   pub refused : MayRefuseStep step before new refusal.cause
+  pub answered : new.last ≡ Refused refusal.cause

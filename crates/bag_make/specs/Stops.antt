@@ -1,29 +1,47 @@
 -- Why the files of a folder can't be read.
-use Rattle.std.specs.Prelude.{◌≡◌, ◌≢◌, ◌⊎◌, true, false, IsTrue, List, [], All, Contains}
+use Rattle.std.specs.Prelude.{ℕ, ◌≡◌, ◌≢◌, ◌⊎◌, ◌≤◌, ◌+◌, ◌++◌, true, false, IsTrue, List, [], Some, All, length, map, take, slice_get}
 use Rattle.bag_text.specs.Path.{is_path}
-use Rattle.bag_tree.specs.Bag.{HasFile}
+use Rattle.bag_tree.specs.Bag.{files_of}
 use Rattle.bag_tree.specs.Tree.{TreeState, CameFromTree, IsEntryOf}
+use Rattle.bag_tree.specs.declared.answer.Answer.TheVariants.{Refused}
 use Rattle.bag_tree.specs.declared.listing.FileEntry.{FileEntry}
 use Rattle.bag_tree.specs.declared.fault.Stop.{Stop}
+use Rattle.bag_tree.specs.declared.fault.TreeFault.{TreeFault}
 use Rattle.bag_tree.specs.declared.fault.TreeFault.TheVariants.{Memory}
 use Rattle.bag_facts.specs.Stops.{IsOfListing, IsOutOfMemory, MayRefuseFacts}
 use Rattle.bag_facts.specs.Wanted.{paths_of}
 use Rattle.bag_make.specs.Plan.{is_in_the_way}
 
+-- The refusal of a file is told so: with its path, or without one where it was for want of memory.
+abbrev pub IsRefusalOf : TreeFault → List ℕ → Stop → Type 0
+IsRefusalOf cause path stop = ((cause ≢ Memory) × (stop.cause ≡ cause) × (stop.path ≡ path)) ⊎ ((cause ≡ Memory) × IsOutOfMemory stop)
+
+-- Nothing was refused: the device didn't fail, and where no file was opened, nothing was asked.
+pub record IsCalm (old new : TreeState) : Type 0 where
+  pub failures : new.failures ≡ old.failures
+  pub grows : length old.openings ≤ length new.openings
+  pub last : length new.openings ≡ length old.openings → new.last ≡ old.last
+
+-- this file was refused when those before it had been opened, in this order, and it once at most
+abbrev pub IsAtFile : List (List ℕ) → TreeState → TreeState → List ℕ → Type 0
+IsAtFile paths old new path =
+    (k : ℕ) × (slice_get paths k ≡ Some path) × ((new.openings ≡ old.openings ++ take k paths) ⊎ (new.openings ≡ old.openings ++ take (k + 1) paths))
+
 -- Summing listed files stopped at one of them, or for want of memory.
 pub record StopsSumming (files : List FileEntry) (old new : TreeState) (stop : Stop) : Type 0 where
   pub cause : (IsTrue old.honest → All (IsEntryOf old.bag) files) → MayRefuseFacts old new stop.cause
   pub answered : CameFromTree new stop.cause
-  pub path : IsOutOfMemory stop ⊎ Contains (paths_of files) stop.path
-  pub memory : stop.cause ≡ Memory → stop.path ≡ []
+  pub path : IsOutOfMemory stop ⊎ IsAtFile (paths_of files) old new stop.path
+  pub memory : stop.cause ≡ Memory → (new.last ≡ Refused Memory) ⊎ IsCalm old new
 
--- a file was refused: of an honest tree one of its bag, which has nothing in the way
-abbrev pub IsOfFolder : TreeState → Stop → Type 0
-IsOfFolder old stop = (is_path stop.path ≡ true) × (IsTrue old.honest → HasFile old.bag stop.path × (is_in_the_way old.bag ≡ false))
+-- A file was refused. Of an honest tree it is the one of its bag at which reading had come, and nothing is in the way.
+abbrev pub IsOfFolder : TreeState → TreeState → Stop → Type 0
+IsOfFolder old new stop =
+    (is_path stop.path ≡ true) × (IsTrue old.honest → IsAtFile (map (λ e. e.0) (files_of old.bag)) old new stop.path × (is_in_the_way old.bag ≡ false))
 
 -- A stop tells the cause, which is the tree's own answer, and the file that was refused; none where it was the listing.
 pub record MayStopMaking (old new : TreeState) (stop : Stop) : Type 0 where
   pub cause : MayRefuseFacts old new stop.cause
   pub not_memory : stop.cause ≢ Memory
   pub answered : CameFromTree new stop.cause
-  pub path : IsOfListing old new stop ⊎ IsOfFolder old stop
+  pub path : IsOfListing old new stop ⊎ IsOfFolder old new stop

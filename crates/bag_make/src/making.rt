@@ -44,7 +44,7 @@ pub fn make<T: WriteTree>(
     ensures failures { (T.state tree).failures ≤ (T.state result.0).failures }
     ensures untouched { (algs ≡ []) ⊎ (list_any is_refused info.now ≡ true) → result.0 ≡ tree }
     ensures made { OnOk result.1 (HasMade algs info.now (T.state tree) (T.state result.0)) }
-    ensures valid { OnOk result.1 (IsTrue (T.state tree).honest → CanTell (T.state tree).bag info.now → HasNoFault (T.state result.0).bag) }
+    ensures valid { OnOk result.1 (IsTrue (T.state tree).honest → CanTell (T.state tree).bag → HasNoFault (T.state result.0).bag) }
     ensures opens { OpensFolder (T.state tree) (T.state result.0) }
     ensures refused { IfErr result.1 (MayRefuseMaking algs info.now (T.state tree) (T.state result.0)) }
     ensures leaves { IfErr result.1 (λ fault. IsTrue (T.state tree).honest → Leaves algs info.now (T.state tree).bag (T.state result.0).bag fault) }

@@ -1,7 +1,8 @@
 //! What no bag can be made with.
-ghost use Rattle.std.specs.Prelude.{◌≡◌, ◌≢◌, [], false, OnOk, IfErr};
+ghost use Rattle.std.specs.Prelude.{◌≡◌, ◌≢◌, [], false, All, OnOk, IfErr};
 ghost use Rattle.std.specs.List.{list_any};
-ghost use Rattle.bag_make.specs.Request.{IsRequestFault};
+ghost use Rattle.bag_text.specs.Text.{IsText};
+ghost use Rattle.bag_make.specs.Request.{AreTexts, IsRequestFault};
 ghost use Rattle.bag_made.specs.Valid.{is_refused as is_refused_by};
 
 use crate::MakeFault;
@@ -15,6 +16,7 @@ pub(crate) const OXUM_LABEL: &str = "Payload-Oxum";
 /// memory.
 pub fn check_request(algs: AlgSet, info: &[(Text, Text)]) -> Result<(), MakeFault>
     ensures good { OnOk result ((algs ≢ []) × (list_any is_refused_by info.now ≡ false)) }
+    ensures texts { OnOk result (All AreTexts info.now) }
     ensures refused { IfErr result (IsRequestFault algs info.now) }
 {
     if algs.is_empty() {
@@ -23,8 +25,23 @@ pub fn check_request(algs: AlgSet, info: &[(Text, Text)]) -> Result<(), MakeFaul
     if has_refused(info) {
         return Err(MakeFault::BadValue);
     }
+    see_texts(info);
     Ok(())
 }
+
+/// Does nothing but say that the elements are texts.
+fn see_texts(info: &[(Text, Text)])
+    ensures { All AreTexts info.now }
+{
+    for element in info {
+        see_both(element.0.as_str(), element.1.as_str());
+    }
+}
+
+/// Does nothing but say that what a `&str` holds is a text.
+fn see_both(label: &str, value: &str)
+    ensures { IsText label.now × IsText value.now }
+{}
 
 fn has_refused(info: &[(Text, Text)]) -> bool
     ensures { result ≡ list_any is_refused_by info.now }

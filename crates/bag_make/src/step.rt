@@ -1,5 +1,6 @@
 //! The steps in which a bag is made.
 ghost use Rattle.std.specs.Prelude.{◌≡◌, ◌⊎◌, OnOk, OnErr, IfErr, IsTrue, All};
+ghost use Rattle.bag_tree.specs.declared.answer.Answer.TheVariants.{Refused};
 ghost use Rattle.bag_make.specs.Steps.{CanTake, IsStep, HasDone, HasLeft, MayRefuseStep, HasTaken, HasStopped};
 
 use bag_text::{Items, Text};
@@ -37,7 +38,6 @@ pub struct Refusal {
 pub fn take_steps<T: WriteTree>(tree: &mut T, steps: &[Step]) -> Result<(), Refusal>
     requires { All IsStep steps.now }
     ensures taken { OnOk result (HasTaken steps.now (T.state tree.old) (T.state tree.new)) }
-    ensures calm { OnOk result ((T.state tree.new).failures ≡ (T.state tree.old).failures) }
     ensures stopped { IfErr result (HasStopped steps.now (T.state tree.old) (T.state tree.new)) }
 {
     for (place, step) in steps.iter().enumerate() {
@@ -59,6 +59,7 @@ fn take_step<T: WriteTree>(tree: &mut T, step: &Step) -> Result<(), TreeFault>
     ensures calm { OnOk result ((T.state tree.new).failures ≡ (T.state tree.old).failures) }
     ensures left { OnErr result (HasLeft step.now (T.state tree.old) (T.state tree.new)) }
     ensures refused { IfErr result (MayRefuseStep step.now (T.state tree.old) (T.state tree.new)) }
+    ensures answered { IfErr result (λ cause. (T.state tree.new).last ≡ Refused cause) }
 {
     match step {
         Step::MakeFolder => tree.make_folder(NEW_FOLDER),

@@ -5,12 +5,11 @@ ghost use Rattle.bag_tree.specs.Tree.{Keeps, OpensAtMost};
 ghost use Rattle.bag_digest.specs.Digest.{AreSumsOf};
 ghost use Rattle.bag_facts.specs.Wanted.{paths_of};
 ghost use Rattle.bag_made.specs.Made.{data_folder};
-ghost use Rattle.bag_make.specs.Stops.{StopsSumming};
+ghost use Rattle.bag_make.specs.Stops.{IsCalm, IsRefusalOf, StopsSumming};
 ghost use Rattle.bag_make.specs.Summed.{AreSummed, AreSummedFiles, IsSummedEntry, OpensFirstOf};
 ghost use Rattle.bag_make.specs.declared.summed.SummedFile.{SummedFile as Digested};
 
 use bag_digest::{Digests, Sums, digest_file};
-use bag_facts::stop_at;
 use bag_text::{AlgSet, Items, Text};
 use bag_tree::{FileEntry, Stop, Tree, TreeFault};
 use std::alloc::{AllocError, Global};
@@ -38,7 +37,7 @@ pub fn sum_files<T: Tree>(
     algs: AlgSet,
 ) -> Result<Vec<SummedFile>, Stop>
     ensures keeps { Keeps (T.state tree.old) (T.state tree.new) }
-    ensures calm { OnOk result ((T.state tree.new).failures ≡ (T.state tree.old).failures) }
+    ensures calm { OnOk result (IsCalm (T.state tree.old) (T.state tree.new)) }
     ensures opens { OpensFirstOf (paths_of files.now) (T.state tree.old) (T.state tree.new) }
     ensures opened { OnOk result ((T.state tree.new).openings ≡ (T.state tree.old).openings ++ paths_of files.now) }
     ensures summed { IfOk result (λ summed. AreSummedFiles (T.state tree.old) files.now algs summed.items) }
@@ -60,7 +59,7 @@ fn sum_each<T: Tree>(
 ) -> Result<Vec<SummedFile>, Stop>
     requires { 0 < length buffer.old }
     ensures keeps { Keeps (T.state tree.old) (T.state tree.new) }
-    ensures calm { OnOk result ((T.state tree.new).failures ≡ (T.state tree.old).failures) }
+    ensures calm { OnOk result (IsCalm (T.state tree.old) (T.state tree.new)) }
     ensures opens { OpensFirstOf (paths_of files.now) (T.state tree.old) (T.state tree.new) }
     ensures opened { OnOk result ((T.state tree.new).openings ≡ (T.state tree.old).openings ++ paths_of files.now) }
     ensures summed { IfOk result (λ summed. AreSummedFiles (T.state tree.old) files.now algs summed.items) }
@@ -84,19 +83,34 @@ fn append_summed<T: Tree>(
 ) -> Result<(), Stop>
     requires { 0 < length buffer.old }
     ensures keeps { Keeps (T.state tree.old) (T.state tree.new) }
-    ensures calm { OnOk result ((T.state tree.new).failures ≡ (T.state tree.old).failures) }
+    ensures calm { OnOk result (IsCalm (T.state tree.old) (T.state tree.new)) }
     ensures opened { OnOk result ((T.state tree.new).openings ≡ (T.state tree.old).openings ++ entry.now.path ∷ []) }
     ensures opens { OnErr result (OpensAtMost (T.state tree.old) (T.state tree.new) entry.now.path) }
     ensures summed { OnOk result ((one : Digested) × (summed.new.items ≡ summed.old.items ++ one ∷ []) × IsSummedEntry (T.state tree.old) entry.now algs one) }
     ensures stop { IfErr result (StopsSumming (entry.now ∷ []) (T.state tree.old) (T.state tree.new)) }
 {
+    // Copied before the file is read, so that its refusal isn't told as want of memory.
+    let Ok(path) = entry.path.copy(alloc) else {
+        return Err(Stop::without_path(alloc, TreeFault::Memory));
+    };
     let sums = match digest_file(tree, entry, algs, buffer) {
         Ok(sums) => sums,
-        Err(cause) => return Err(stop_at(alloc, cause, &entry.path)),
+        Err(cause) => return Err(refusal_of(alloc, cause, path)),
     };
     match push_summed(alloc, summed, entry.path.as_str(), sums) {
         Ok(()) => Ok(()),
         Err(AllocError) => Err(Stop::without_path(alloc, TreeFault::Memory)),
+    }
+}
+
+/// The stop of a refusal of a file. Want of memory names no file.
+fn refusal_of(alloc: Global, cause: TreeFault, path: Text) -> Stop
+    ensures { IsRefusalOf cause path result }
+{
+    if cause == TreeFault::Memory {
+        Stop::without_path(alloc, cause)
+    } else {
+        Stop { cause, path }
     }
 }
 

@@ -7,7 +7,7 @@ use Rattle.bag_tree.specs.Bag.{Bag}
 use Rattle.bag_tree.specs.Tree.{TreeState}
 use Rattle.bag_write.specs.Element.{NewElement}
 use Rattle.bag_made.specs.Made as bag
-use Rattle.bag_make.specs.Make.{CanTell, HasNoFault, Leaves}
+use Rattle.bag_make.specs.Make.{CanTell, HasNoFault, Leaves, MayRefuseMaking}
 use Rattle.bag_make.specs.declared.fault.MakeFault.{MakeFault}
 use Rattle.bag_making.specs.Making.{IsMaking}
 use Rattle.bag_making.specs.MakingLine.{made, not_made, reason}
@@ -16,14 +16,15 @@ use Rattle.bag_making.specs.MakingLine.{made, not_made, reason}
 pub record IsToldMade (name : List ℕ) (algs : List Alg) (info : List NewElement) (quiet : Bool) (old new : Bag) (before after : Option (List ℕ)) (n : ℕ) : Type 0 where
   pub status : n ≡ 0
   pub made_bag : new ≡ bag.made old algs info
-  pub valid : CanTell old info → HasNoFault new
+  pub valid : CanTell old → HasNoFault new
   pub said : Appends before after (if quiet then [] else made name)
 
--- the bag wasn't made, and the reason was said, and tells what is left
-pub record IsToldNotMade (name : List ℕ) (algs : List Alg) (info : List NewElement) (old new : Bag) (before after : Option (List ℕ)) (n : ℕ) : Type 0 where
+-- The bag wasn't made. The reason was said, which comes only where it is so, and tells what is left.
+pub record IsToldNotMade (name : List ℕ) (algs : List Alg) (info : List NewElement) (old new : TreeState) (before after : Option (List ℕ)) (n : ℕ) : Type 0 where
   pub status : n ≡ 3
   pub fault : MakeFault
-  pub left : Leaves algs info old new fault
+  pub refused : MayRefuseMaking algs info old new fault
+  pub left : Leaves algs info old.bag new.bag fault
   pub said : Appends before after (not_made name (reason fault))
 
 -- the law: of an honest folder, where the output didn't refuse, one of the two
@@ -31,4 +32,4 @@ abbrev pub HonestFoldersAreTold : Type 0
 HonestFoldersAreTold =
     (name : List ℕ) (algs : List Alg) (info : List NewElement) (quiet : Bool) (old new : TreeState) (before after : Option (List ℕ)) (refused : Bool) (n : ℕ) → IsTrue old.honest
     → IsMaking name algs info quiet old new before after refused (Ok n)
-    → IsToldMade name algs info quiet old.bag new.bag before after n ⊎ IsToldNotMade name algs info old.bag new.bag before after n
+    → IsToldMade name algs info quiet old.bag new.bag before after n ⊎ IsToldNotMade name algs info old new before after n

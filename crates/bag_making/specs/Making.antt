@@ -19,7 +19,7 @@ pub record IsMake (algs : List Alg) (info : List NewElement) (old new : TreeStat
   pub failures : old.failures ≤ new.failures
   pub untouched : (algs ≡ []) ⊎ (list_any is_refused info ≡ true) → new ≡ old
   pub made_bag : OnOk made (HasMade algs info old new)
-  pub valid : OnOk made (IsTrue old.honest → CanTell old.bag info → HasNoFault new.bag)
+  pub valid : OnOk made (IsTrue old.honest → CanTell old.bag → HasNoFault new.bag)
   pub opens : OpensFolder old new
   pub refused : IfErr made (MayRefuseMaking algs info old new)
   pub leaves : IfErr made (λ fault. IsTrue old.honest → Leaves algs info old.bag new.bag fault)

@@ -1,6 +1,6 @@
 use Rattle.std.proofs.Common.{◌≡◌, ◌∙◌, ap, sym, subst}
 use Rattle.bag_make.specs.Steps.{HasStopped, HasTaken}
-use Rattle.bag_make.proofs.Made.{has_made}
+use Rattle.bag_make.proofs.Made.{has_made, opens_nothing}
 use Rattle.bag_make.proofs.making.make_in.Goals as goal
 
 pub returns-in-Ok-clause-made : goal.returns-in-Ok-clause-made
@@ -9,12 +9,13 @@ returns-in-Ok-clause-made g c =
     let read = c.in_ok-steps.ensures in
     has_made c.args.algs c.args.info.now (state c.args.tree.now) (state c.read_and_plan.new.tree) (state c.take_steps.new.tree) c.in_ok-steps.steps.items (g.met.T.Tree.is_bag c.args.tree.now) read.keeps read.planned
     (subst (λ xs. HasTaken xs (state c.read_and_plan.new.tree) (state c.take_steps.new.tree)) c.deref.ensures.value c.in-Ok.ensures.taken)
-    c.in_ok-check_request.ensures.good read.ascend read.plain read.calm c.in-Ok.ensures.calm read.opened
+    c.in_ok-check_request.ensures.good c.in_ok-check_request.ensures.texts read.ascend read.plain read.calm read.opened
 
 pub returns-clause-refused : goal.returns-clause-refused
 returns-clause-refused g c =
     let state = g.T.Tree.state in
-    let read = c.in_ok-steps.ensures in (
+    let read = c.in_ok-steps.ensures in
+    let stopped = c.in-Err.ensures.stopped in (
       c.in_ok-check_request.ensures.good,
       record {
         free = λ honest. (read.planned honest).1;
@@ -22,6 +23,8 @@ returns-clause-refused g c =
         steps = λ honest. (read.planned honest).0;
         read = state c.read_and_plan.new.tree;
         keeps = read.keeps;
-        stopped = subst (λ xs. HasStopped xs (state c.read_and_plan.new.tree) (state c.take_steps.new.tree) c.in-Err.refusal) c.deref.ensures.value c.in-Err.ensures.stopped;
+        failures = read.calm;
+        openings = λ honest. opens_nothing stopped.step stopped.before (state c.take_steps.new.tree) stopped.left ∙ stopped.taken.openings ∙ read.opened honest;
+        stopped = subst (λ xs. HasStopped xs (state c.read_and_plan.new.tree) (state c.take_steps.new.tree) c.in-Err.refusal) c.deref.ensures.value stopped;
       },
     )

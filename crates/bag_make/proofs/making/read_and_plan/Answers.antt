@@ -19,6 +19,7 @@ pub returns-in-Err-sum_files-clause-refused : goal.returns-in-Err-sum_files-clau
 returns-in-Err-sum_files-clause-refused g c =
     let state = g.T.Tree.state in
     files_refused c.in-Ok.listing c.in-Ok.ensures.ordered (state c.args.tree.now) (state c.list.new.self) (state c.sum_files.new.tree) c.list.ensures.keeps c.list.ensures.openings c.in-Ok.ensures.honest
+    (record { keeps = c.list.ensures.keeps; failures = c.in-Ok.ensures.calm; plain = c.in-Ok.ensures.plain; openings = c.list.ensures.openings; last = c.in-Ok.ensures.last })
     c.in-Err-sum_files.stop c.stopped-in-Err-sum_files.result
     (λ honest. sym (c.is_in_the_way.ensures.of_bag (state c.args.tree.now).bag c.in-Ok.ensures.ordered (c.in-Ok.ensures.honest honest)) ∙ c.if-is_in_the_way.false)
     (subst (λ xs. StopsSumming xs (state c.list.new.self) (state c.sum_files.new.tree) c.in-Err-sum_files.stop) c.as_slice.ensures c.in-Err-sum_files.ensures.stop)

@@ -16,8 +16,8 @@ one_can [] step bag all can = (can, tt)
 one_can (x ∷ steps) step bag all can = (all.0, one_can steps step (change x bag) all.1 can)
 
 more_taken : (steps : List Step) (i : ℕ) (step : Step) (old mid new : TreeState) → i < length steps → step ≡ get_or steps i step
-    → HasTaken (take i steps) old mid → HasDone step mid new → (IsTrue mid.honest → CanTake step mid.bag) → HasTaken (take (i + 1) steps) old new
-more_taken steps i step old mid new within is taken done can = record {
+    → HasTaken (take i steps) old mid → HasDone step mid new → (IsTrue mid.honest → CanTake step mid.bag) → new.failures ≡ mid.failures → HasTaken (take (i + 1) steps) old new
+more_taken steps i step old mid new within is taken done can calm = record {
   bag = λ h.
       done.bag (subst IsTrue (sym taken.honest) h) ∙ ap (change step) (taken.bag h)
       ∙ sym (fold_more (λ b step. change step b) old.bag steps i step within ∙ ap (λ s. change s (after_steps (take i steps) old.bag)) (sym is));
@@ -26,7 +26,7 @@ more_taken steps i step old mid new within is taken done can = record {
       (one_can (take i steps) step old.bag (taken.possible h) (subst (CanTake step) (taken.bag h) (can (subst IsTrue (sym taken.honest) h))));
   plain = λ h p. done.plain (subst IsTrue (sym taken.honest) h) (taken.plain h p);
   honest = done.honest ∙ taken.honest;
-  failures = omega (arith, done.failures, taken.failures);
+  calm = calm ∙ taken.calm;
   openings = done.openings ∙ taken.openings;
 }
 
@@ -39,17 +39,14 @@ returns-in-Err-clause-stopped g c =
       step = c.index-steps-place.result;
       place = ap (slice_get c.args.steps.now) back ∙ slice_get_read c.args.steps.now (length c.args.steps.now) c.loop-place.place c.index-steps-place.result refl c.loop-place-test.true c.index-steps-place.is;
       before = state c.loop-place.tree;
-      taken = subst (λ n. HasTaken (take n c.args.steps.now) (state c.args.tree.now) (state c.loop-place.tree)) (sym back) c.loop-place.invariant.taken;
+      taken = subst (λ n. HasTaken (take n c.args.steps.now) (state c.args.tree.now) (state c.loop-place.tree)) (sym back) c.loop-place.invariant;
       left = c.in-Err.ensures.left;
       refused = c.in-Err.ensures.refused;
+      answered = c.in-Err.ensures.answered;
     }
 
 pub loop-place-preserved : goal.loop-place-preserved
 loop-place-preserved g c =
     let state = g.T.Tree.state in
-    record {
-      taken =
-          more_taken c.args.steps.now c.loop-place.place c.index-steps-place.result (state c.args.tree.now) (state c.loop-place.tree) (state c.take_step.new.tree)
-          c.loop-place-test.true c.index-steps-place.is c.loop-place.invariant.taken c.in_default.ensures.done c.in_default.ensures.possible;
-      calm = c.in_default.ensures.calm ∙ c.loop-place.invariant.calm;
-    }
+    more_taken c.args.steps.now c.loop-place.place c.index-steps-place.result (state c.args.tree.now) (state c.loop-place.tree) (state c.take_step.new.tree)
+    c.loop-place-test.true c.index-steps-place.is c.loop-place.invariant c.in_default.ensures.done c.in_default.ensures.possible c.in_default.ensures.calm

@@ -1,11 +1,8 @@
-use Rattle.std.proofs.Common.{◌≡◌, take}
+use Rattle.std.proofs.Common.{take}
 use Rattle.bag_make.specs.Steps.{HasTaken}
 use Rattle.bag_make.proofs.step.take_steps.Given as goal
 
 abbrev pub invariant-loop-place : goal.invariant-loop-place
 invariant-loop-place g l =
     let state = g.T.Tree.state in
-    record {
-      taken : HasTaken (take l.place l.steps) (state l.fn.tree) (state l.tree);
-      calm : (state l.tree).failures ≡ (state l.fn.tree).failures;
-    }
+    HasTaken (take l.place l.steps) (state l.fn.tree) (state l.tree)

@@ -1,7 +1,3 @@
-use Rattle.bag_make.proofs.Summing.{stop_of_memory, stop_of_refusal}
+use Rattle.bag_make.proofs.Summing.{calm_itself, calm_opened, stop_of_memory, stop_of_refusal}
 use Rattle.bag_make.proofs.summed.append_summed.Goals as goal
 
-pub returns-in-Err-clause-stop : goal.returns-in-Err-clause-stop
-returns-in-Err-clause-stop g c =
-    let state = g.T.Tree.state in
-    stop_of_refusal c.args.entry.now (state c.args.tree.now) (state c.digest_file.new.tree) c.in-Err.cause c.stop_at.result c.in-Err.ensures.refused c.stop_at.ensures.stop
