@@ -1,5 +1,5 @@
 -- What is composed of listed files and their digests is what is said of the bag.
-use Rattle.std.proofs.Common.{◌≡◌, ℕ, ◌+◌, ◌++◌, ◌∷◌, List, [], length, map, sum_by, Contains, refl, sym, ap, ◌∙◌, subst}
+use Rattle.std.proofs.Common.{◌≡◌, ◌+◌, ◌++◌, ◌∷◌, List, [], length, map, sum_by, Contains, refl, sym, ap, ◌∙◌, subst}
 use Rattle.std.specs.List.{swap}
 use Rattle.std.proofs.lemmas.List.{length-map}
 use Rattle.std.proofs.lemmas.List.Sums.{sum_by-cons}
@@ -16,7 +16,7 @@ use Rattle.bag_digest.specs.Digest.{digest, sum_at}
 use Rattle.bag_stages.specs.MetadataStage.{oxum_label}
 use Rattle.bag_stages.specs.Payload.{oxum_of_files, oxum_text}
 use Rattle.bag_write.specs.Element.{NewElement, info_text}
-use Rattle.bag_write.specs.Entry.{NewEntry, manifest_text}
+use Rattle.bag_write.specs.Entry.{manifest_text}
 use Rattle.bag_made.specs.Made.{File, data_folder, new_payload, entries_of, manifest, named_tag_files, new_tag_files, declaration_file, info_file}
 use Rattle.bag_make.specs.Summed.{AreSummed, entry_of, summed_entry, text_or_none}
 use Rattle.bag_make.specs.Texts.{size_of, info_of, manifests_of, named_of}

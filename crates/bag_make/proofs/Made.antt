@@ -1,21 +1,20 @@
 -- What making a bag leaves.
-use Rattle.std.proofs.Common.{◌≡◌, ◌≤◌, inl, inr, ℕ, ◌++◌, ◌-◌, List, [], true, false, Bool, ◌||◌, IsTrue, map, take, All, Some, refl, sym, ap, ◌∙◌, subst, arith}
+use Rattle.std.proofs.Common.{◌≡◌, inl, inr, ◌++◌, ◌-◌, List, true, false, Bool, ◌||◌, IsTrue, map, take, All, Some, refl, sym, ap, ◌∙◌, subst}
 use Rattle.std.specs.List.{slice_get}
 use Rattle.std.specs.List.Sorted.{IsStrictlySortedBy}
-use Rattle.std.proofs.lemmas.Bool.{false_from_ne_true, or_from}
+use Rattle.std.proofs.lemmas.Bool.{false_from_ne_true}
 use Rattle.bag_text.specs.Alg.{rank_cmp}
 use Rattle.bag_text.specs.declared.alg.Alg.{Alg}
-use Rattle.bag_tree.specs.Bag.{Bag, IsBag, files_of, has_file, has_folder}
+use Rattle.bag_tree.specs.Bag.{IsBag, files_of, has_file, has_folder}
 use Rattle.bag_tree.specs.Tree.{TreeState, Keeps}
-use Rattle.bag_tree.specs.declared.fault.TreeFault.{TreeFault}
 use Rattle.bag_write.specs.Element.{NewElement}
 use Rattle.bag_write_tree.specs.Steps.{create}
-use Rattle.bag_made.specs.Made.{File, made}
+use Rattle.bag_made.specs.Made.{File}
 use Rattle.bag_made.specs.Valid.{MadeIsValid}
-use Rattle.bag_make.specs.Make.{CanAsk, CanTell, HasMade, HasNoFault, HasStoppedAt, HasBegunFile, Leaves, MayRefuseMaking}
+use Rattle.bag_make.specs.Make.{CanAsk, CanTell, HasMade, HasNoFault, Leaves, MayRefuseMaking}
 use Rattle.bag_make.specs.Plan.{after, is_in_the_way, steps}
 use Rattle.bag_make.specs.Request.{AreTexts}
-use Rattle.bag_make.specs.Steps.{CanTakeAll, HasLeft, HasStopped, HasTaken, after_steps, new_folder}
+use Rattle.bag_make.specs.Steps.{CanTakeAll, HasLeft, HasTaken, after_steps, new_folder}
 use Rattle.bag_make.specs.declared.fault.MakeFault.{MakeFault}
 use Rattle.bag_make.specs.declared.fault.MakeFault.TheVariants as fault_of
 use Rattle.bag_make.specs.declared.step.Step.{Step}

@@ -1,22 +1,18 @@
 -- Reading the files of a folder.
-use Rattle.std.proofs.Common.{◌≡◌, ◌≢◌, inl, inr, ℕ, ◌+◌, ◌++◌, List, [], ◌∷◌, true, false, IsTrue, length, map, take, slice_get, All, Contains, Option, None, Some, refl, sym, ap, ◌∙◌, subst}
+use Rattle.std.proofs.Common.{◌≡◌, inl, inr, ℕ, ◌+◌, ◌++◌, List, [], ◌∷◌, true, false, IsTrue, length, map, take, slice_get, All, Contains, Some, refl, sym, ap, ◌∙◌, subst}
 use Rattle.std.specs.FinMap.{get-entries}
 use Rattle.std.specs.Option.{option_map}
 use Rattle.std.proofs.lemmas.List.Elements.{All-contains, All-from_recursion}
 use Rattle.bag_text.specs.Path.{is_path}
 use Rattle.bag_text.specs.declared.alg.Alg.{Alg}
-use Rattle.bag_text.proofs.ListOf.{contains_cases, contains_first, contains_behind, contains_nothing, each_from_members}
-use Rattle.bag_tree.specs.Bag.{Bag, HasFile, file, files_of}
+use Rattle.bag_text.proofs.ListOf.{contains_first, contains_behind, each_from_members}
+use Rattle.bag_tree.specs.Bag.{Bag, file, files_of}
 use Rattle.bag_tree.specs.Listing.{IsListingOf, IsOrdered}
-use Rattle.bag_tree.specs.Tree.{TreeState, CameFromTree, IsEntryOf, Keeps, MayRefuse}
-use Rattle.bag_tree.specs.declared.answer.Answer.TheVariants.{Refused}
+use Rattle.bag_tree.specs.Tree.{TreeState, IsEntryOf, Keeps}
 use Rattle.bag_tree.specs.declared.listing.FileEntry.{FileEntry}
 use Rattle.bag_tree.specs.declared.listing.Listing.{Listing}
 use Rattle.bag_tree.specs.declared.fault.Stop.{Stop}
-use Rattle.bag_tree.specs.declared.fault.TreeFault.{TreeFault}
-use Rattle.bag_tree.specs.declared.fault.TreeFault.TheVariants.{Memory}
 use Rattle.bag_tree.proofs.ListingLaw.{listings_are_of_the_bag}
-use Rattle.bag_facts.specs.Stops.{MayRefuseFacts}
 use Rattle.bag_facts.specs.Wanted.{paths_of}
 use Rattle.bag_facts.proofs.ListedFiles.{own_size}
 use Rattle.bag_facts.proofs.Mapped.{contains_mapped}
@@ -105,15 +101,14 @@ module _ (listing : Listing) (ordered : IsOrdered listing.files) where
         ∙ sym ((of (sym keeps.honest ∙ honest)).files entry.path) ∙ own_size listing.files entry ordered.ascending c))
 
     at_file : (path : List ℕ) → IsAtFile (paths_of listing.files) mid new path → IsTrue old.honest → IsAtFile (map (λ (e : File). e.0) (files_of old.bag)) old new path
-    at_file path (k, at, opens) honest =
-        (
-          k,
-          subst (λ xs. slice_get xs k ≡ Some path) (paths_are old.bag (of honest)) at,
-          elim opens [
-            | inl before ↦ inl (before ∙ from_old honest k)
-            | inr it ↦ inr (it ∙ from_old honest (k + 1))
-          ],
-        )
+    at_file path (k, at, opens) honest = (
+      k,
+      subst (λ xs. slice_get xs k ≡ Some path) (paths_are old.bag (of honest)) at,
+      elim opens [
+        | inl before ↦ inl (before ∙ from_old honest k)
+        | inr it ↦ inr (it ∙ from_old honest (k + 1))
+      ],
+    )
 
     -- where a file is refused, nothing is planned
     pub files_refused : HasListed old mid → (stop : Stop) (fault : MakeFault) → (IsTrue old.honest → is_in_the_way old.bag ≡ false) → StopsSumming listing.files mid new stop → IsStopped stop fault

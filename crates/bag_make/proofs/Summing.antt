@@ -1,5 +1,5 @@
 -- Summing files one after another.
-use Rattle.std.proofs.Common.{◌≡◌, ◌≢◌, ◌<◌, ◌≤◌, ◌+◌, ◌++◌, ◌∷◌, inl, inr, ℕ, List, [], length, map, take, get_or, None, Some, IsTrue, All, Contains, refl, sym, ap, ◌∙◌, subst, arith, append_assoc, append-nil, length-append, slice_get}
+use Rattle.std.proofs.Common.{◌≡◌, ◌≢◌, ◌<◌, ◌≤◌, ◌+◌, ◌++◌, ◌∷◌, inl, inr, ℕ, List, [], length, take, get_or, None, Some, IsTrue, All, Contains, refl, sym, ap, ◌∙◌, subst, arith, append_assoc, append-nil, length-append, slice_get}
 use Rattle.std.specs.Option.{option_map}
 use Rattle.std.proofs.lemmas.List.{map-append, take_all, take-map}
 use Rattle.std.proofs.lemmas.List.Elements.{All-nil, All-cons, All-append, All-contains}
@@ -67,7 +67,7 @@ pub stop_of_refusal : (entry : FileEntry) (old new : TreeState) (cause : TreeFau
 stop_of_refusal entry old new cause stop refused answered opens (inl (not, same, at)) = record {
   cause = λ are. subst (MayRefuseFacts old new) (sym same) (refused_file old new entry cause (λ honest. one_is (IsEntryOf old.bag) entry (are honest)) refused);
   answered = subst (CameFromTree new) (sym same) (came_from old new entry cause refused);
-  path = inr (0, ap Some (sym at), elim opens [ | inl none ↦ inl (none ∙ sym (append-nil old.openings)) | inr once ↦ inr once ]);
+  path = inr (0, ap Some (sym at), elim opens [ inl none ↦ inl (none ∙ sym (append-nil old.openings)) | inr once ↦ inr once ]);
   memory = λ m. absurd (not (sym same ∙ m));
 }
 stop_of_refusal entry old new cause stop refused answered opens (inr (is, m)) = record {

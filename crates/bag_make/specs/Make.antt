@@ -1,5 +1,5 @@
 -- What making a bag leaves, and how it is refused.
-use Rattle.std.specs.Prelude.{ℕ, ◌≡◌, ◌≢◌, ◌⊎◌, ◌≤◌, ◌<◌, ◌^◌, ◌-◌, ◌++◌, true, false, IsTrue, List, [], Some, All, None, map, take, slice_get, sum_by, length}
+use Rattle.std.specs.Prelude.{ℕ, ◌≡◌, ◌≢◌, ◌⊎◌, ◌<◌, ◌^◌, ◌-◌, ◌++◌, true, false, IsTrue, List, [], Some, All, None, map, take, slice_get, sum_by, length}
 use Rattle.std.specs.List.{list_any}
 use Rattle.std.specs.List.Sorted.{IsStrictlySortedBy}
 use Rattle.bag_text.specs.Alg.{rank_cmp}

@@ -1,5 +1,5 @@
 -- How the files of a folder are read before a bag is made of them.
-use Rattle.std.specs.Prelude.{ℕ, ◌≡◌, ◌⊎◌, ◌++◌, true, IsTrue, List, map, take}
+use Rattle.std.specs.Prelude.{ℕ, ◌≡◌, ◌⊎◌, ◌++◌, true, IsTrue, map, take}
 use Rattle.bag_tree.specs.Bag.{files_of}
 use Rattle.bag_tree.specs.Tree.{TreeState, Keeps}
 use Rattle.bag_tree.specs.declared.answer.Answer.TheVariants.{Given, Refused}

@@ -1,5 +1,5 @@
 -- Why the files of a folder can't be read.
-use Rattle.std.specs.Prelude.{ℕ, ◌≡◌, ◌≢◌, ◌⊎◌, ◌≤◌, ◌+◌, ◌++◌, true, false, IsTrue, List, [], Some, All, length, map, take, slice_get}
+use Rattle.std.specs.Prelude.{ℕ, ◌≡◌, ◌≢◌, ◌⊎◌, ◌≤◌, ◌+◌, ◌++◌, true, false, IsTrue, List, Some, All, length, map, take, slice_get}
 use Rattle.bag_text.specs.Path.{is_path}
 use Rattle.bag_tree.specs.Bag.{files_of}
 use Rattle.bag_tree.specs.Tree.{TreeState, CameFromTree, IsEntryOf}

@@ -1,5 +1,5 @@
 -- The tag files that are made of listed files, and of digests.
-use Rattle.std.specs.Prelude.{ℕ, List, [], ◌∷◌, ◌++◌, length, map, sum_by}
+use Rattle.std.specs.Prelude.{List, [], ◌∷◌, ◌++◌, length, map, sum_by}
 use Rattle.bag_text.specs.declared.alg.Alg.{Alg}
 use Rattle.bag_line.specs.declared.oxum.Oxum.{Oxum}
 use Rattle.bag_tags.specs.TagName.{tag_path}

@@ -1,4 +1,4 @@
-use Rattle.std.proofs.Common.{◌≡◌, ◌∙◌, ap, sym}
+use Rattle.std.proofs.Common.{◌∙◌, sym}
 use Rattle.std.proofs.lemmas.Result.{IfOk-weaker}
 use Rattle.bag_tree.specs.Bag.{files_of}
 use Rattle.bag_tree.proofs.ListingLaw.{listings_are_of_the_bag}

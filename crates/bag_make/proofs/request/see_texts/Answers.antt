@@ -1,4 +1,4 @@
-use Rattle.std.proofs.Common.{All, sym, subst, take, length}
+use Rattle.std.proofs.Common.{All, sym, subst, take}
 use Rattle.std.proofs.lemmas.List.{take_all}
 use Rattle.std.proofs.lemmas.List.Elements.{All-nil, All-push}
 use Rattle.bag_facts.proofs.Mapped.{take_one_more}

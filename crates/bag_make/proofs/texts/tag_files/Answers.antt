@@ -1,4 +1,4 @@
-use Rattle.std.proofs.Common.{◌∙◌, ◌++◌, ap, sym, subst}
+use Rattle.std.proofs.Common.{◌∙◌, ◌++◌, ap, subst}
 use Rattle.std.specs.List.{swap}
 use Rattle.bag_tags.specs.declared.kind.Kind.TheVariants.{Tag}
 use Rattle.bag_make.specs.Summed.{AreSummed}
