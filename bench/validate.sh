@@ -47,9 +47,10 @@ done
 ratio "sha256 and sha512" "$(least_of validate large)" "$(least_of both_programs "$work/large/data/file")" 1.00
 rm -r "$work/large"
 
-(make_small_files)
+make_small_files
 diff <(validate bag) <(echo "$work/bag is valid")
 ratio "100,000 files" "$(least_of validate bag)" "$(least_of both_through_xargs)" 0.80
+cd "$work"
 rm -r "$work/bag"
 
 # Starts of the program, a hundred in a run.
