@@ -1,7 +1,7 @@
 #!/usr/bin/env bash
 # Makes a bag of a small folder again and again, and each time refuses another of the program's growths: the first, the second, and
-# so on, until a run needs no more. Where the bag isn't made, the program says so, and the folder is as it was or as the steps
-# before the refused one left it, with all its files; at last the bag is made. It needs a C compiler.
+# so on, until none is left to refuse. Where the bag isn't made, the program says so, and the folder is as it was or as the steps
+# before the refused one left it, with all its files. It needs a C compiler.
 #
 # usage: bench/refused_memory.sh [PROGRAM]
 #
@@ -18,6 +18,7 @@ cat >"$work/refuse.c" <<'C'
 #define _GNU_SOURCE
 #include <dlfcn.h>
 #include <stdlib.h>
+#include <unistd.h>
 
 static long left;
 
@@ -26,7 +27,10 @@ __attribute__((constructor)) static void start(void) {
     left = number ? atol(number) : 0;
 }
 
-static int refused(void) { return left > 0 && --left == 0; }
+static int refused(void) {
+    if (left == 0 || --left > 0) return 0;
+    return write(2, "refused\n", 8) == 8;
+}
 
 void *malloc(size_t size) {
     static void *(*next)(size_t);
@@ -45,7 +49,7 @@ cc -shared -fPIC -O1 -o "$work/refuse.so" "$work/refuse.c" -ldl
 mkdir -p "$work/folder/inner"
 printf a >"$work/folder/a"
 printf bc >"$work/folder/inner/b c"
-printf '' >"$work/folder/inner/%"
+for ((file = 0; file < 20; file++)); do printf '%s' "$file" >"$work/folder/inner/file-$file"; done
 
 # The digests of all files of a folder that aren't tag files, wherever they stand.
 files_of() {
@@ -53,7 +57,7 @@ files_of() {
 }
 
 files_of "$work/folder" >"$work/files"
-untouched=0 stopped=0 ended=0 number=0
+made=0 untouched=0 stopped=0 ended=0 number=0
 while :; do
     number=$((number + 1))
     rm -rf "$work/bag"
@@ -62,7 +66,8 @@ while :; do
     REFUSED=$number LD_PRELOAD="$work/refuse.so" "$program" make "$work/bag" >"$work/output" 2>"$work/errors" || status=$?
     files_of "$work/bag" | diff "$work/files" -
     if [[ $(<"$work/output") == made ]]; then
-        break
+        grep -q refused "$work/errors" || break
+        made=$((made + 1))
     elif [[ $(<"$work/output") == 'not made: step '* ]]; then
         stopped=$((stopped + 1))
     elif diff -r "$work/folder" "$work/bag" >"$work/difference"; then
@@ -74,6 +79,6 @@ while :; do
         exit 1
     fi
 done
-echo "made, after $((number - 1)) growths refused in turn: $untouched left the folder as it was, $stopped stopped at a step, $ended ended the program before"
+echo "$((number - 1)) growths refused in turn: $untouched left the folder as it was, $stopped stopped at a step, $ended ended the program before, $made were done without"
 cd "$work/bag"
 sha256sum --check --quiet manifest-sha256.txt tagmanifest-sha256.txt
