@@ -53,16 +53,21 @@ fn is_told(alloc: Global, call: u64, line: &str) -> Result<bool, Fail> {
     Ok(is_ended && out.into_inner().as_slice() == line.as_bytes())
 }
 
+/// Whether the line at a place is written where a call is refused.
+fn is_told_at(alloc: Global, call: u64, place: usize) -> Result<bool, Fail> {
+    match LINES.get(place) {
+        Some(line) => is_told(alloc, call, line),
+        None => Ok(false),
+    }
+}
+
 /// The place of the line where a call is refused: the one before, or the next one.
 fn place_of(alloc: Global, call: u64, before: usize) -> Result<Option<usize>, Fail> {
-    if is_told(alloc, call, LINES[before])? {
+    if is_told_at(alloc, call, before)? {
         return Ok(Some(before));
     }
     let next = before.saturating_add(1);
-    match LINES.get(next) {
-        Some(line) if is_told(alloc, call, line)? => Ok(Some(next)),
-        _ => Ok(None),
-    }
+    Ok(is_told_at(alloc, call, next)?.then_some(next))
 }
 
 /// How many of the lines are written, one after another, up to the first making of which no call is refused.
