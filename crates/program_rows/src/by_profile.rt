@@ -2,6 +2,7 @@
 use crate::by_words::{Check, is_right_of};
 use crate::rows::sees_that;
 use row_bags::{DECLARED, Files, fresh, write_bag};
+use std::alloc::{AllocError, Global};
 use std::fs;
 use std::test::Fail;
 
@@ -43,12 +44,23 @@ const TOLD: &str = "unchecked Data-Empty\n\
 805 manifest-required manifest-sha512.txt - - -\n\
 d has faults: 5\n";
 
+/// The words that check by a profile, before a folder.
+fn words_for<'a>(alloc: Global, quiet: bool, profile: &'a str) -> Result<Vec<&'a str>, AllocError> {
+    let mut words = Vec::<&'a str>::new(alloc);
+    words.push("--validate")?;
+    if quiet {
+        words.push("--quiet")?;
+    }
+    words.push("--profile")?;
+    words.push(profile)?;
+    Ok(words)
+}
+
 /// Whether the program writes this of a folder, by a profile that stands beside it.
-fn is_told(rt: &HostRuntime, home: &str, words: &[&str], output: &str) -> Result<bool, Fail> {
+fn is_told(rt: &HostRuntime, home: &str, quiet: bool, output: &'static str) -> Result<bool, Fail> {
     let profile = format!(in rt.alloc(); "{home}/profile.json")?;
     let base = format!(in rt.alloc(); "{home}/bag")?;
-    let mut words = words.to_vec(rt.alloc())?;
-    words.push(profile.as_str())?;
+    let words = words_for(rt.alloc(), quiet, profile.as_str())?;
     let check = Check {
         words: words.as_slice(),
         output,
