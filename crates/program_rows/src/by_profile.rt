@@ -83,13 +83,8 @@ fn make_home(rt: &HostRuntime) -> Result<String, Fail> {
 fn a_bag_that_does_not_conform(rt: HostRuntime) -> Result<(), Fail> {
     let home = make_home(&rt)?;
     let base = home.as_str();
-    sees_that(
-        &rt,
-        is_told(&rt, base, &["--validate", "--profile"], TOLD)?,
-        "told",
-    );
-    let quiet = ["--validate", "--quiet", "--profile"];
-    sees_that(&rt, is_told(&rt, base, &quiet, QUIET)?, "quiet");
+    sees_that(&rt, is_told(&rt, base, false, TOLD)?, "told");
+    sees_that(&rt, is_told(&rt, base, true, QUIET)?, "quiet");
     fs::remove_dir_all(&rt, base)?;
     Ok(())
 }
