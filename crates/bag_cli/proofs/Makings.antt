@@ -1,5 +1,5 @@
 -- Makings and their statuses.
-use Rattle.std.proofs.Common.{◌≡◌, ◌≤◌, Bool, ℕ, List, Option, arith, map, subst}
+use Rattle.std.proofs.Common.{◌≡◌, ◌≤◌, ◌∷◌, ◌++◌, [], Bool, ℕ, List, Option, arith, map, refl, subst}
 use Rattle.std.specs.declared.result.Result.{Result}
 use Rattle.std.specs.declared.result.Result.TheVariants.{Ok, Err}
 use Rattle.bag_tree.specs.Tree.{TreeState}
@@ -9,17 +9,19 @@ use Rattle.bag_make.specs.declared.fault.MakeFault.{MakeFault}
 use Rattle.bag_making.specs.Making.{IsMaking}
 use Rattle.bag_making.specs.MakingLine.{status}
 use Rattle.bag_arguments.specs.declared.plan.Plan.{Plan}
-use Rattle.bag_cli.specs.InTurn.{Last, Whole}
+use Rattle.bag_cli.specs.InTurn.{HasNoted, Last, Whole}
 use Rattle.bag_cli.specs.Makings.{AreMakingsOf, IsLastMaking, IsTold, IsWholeMaking, element_of}
 use Rattle.bag_cli.proofs.Turns.{turns_status}
 
--- a making with the plan's elements
-pub told_of : (plan : Plan) (info : List NewElement) (tree new : TreeState) (name : List ℕ) (before after : Option (List ℕ)) (refused : Bool) (told : Result ℕ Refused)
-    → info ≡ map element_of plan.info → IsMaking name plan.algs info plan.quiet tree new before after refused told
-    → IsTold plan tree name before after refused told
-told_of plan info tree new name before after refused told is making =
-    let making_with : List NewElement → Type 0 = λ info. IsMaking name plan.algs info plan.quiet tree new before after refused told in
-    record { new = new; making = subst making_with is making }
+-- a making of the tree with the plan's elements, of which is noted how often its device came to fail
+pub noted_making : (plan : Plan) (info : List NewElement) (tree old new : TreeState) (name : List ℕ) (before after : Option (List ℕ)) (refused : Bool) (told : Result ℕ Refused) (start counts : List ℕ)
+    → counts ≡ start ++ new.failures ∷ [] → old ≡ tree → info ≡ map element_of plan.info
+    → IsMaking name plan.algs info plan.quiet old new before after refused told
+    → HasNoted start counts (λ noted. IsTold plan tree name before after refused noted told)
+noted_making plan info tree old new name before after refused told start counts noted same is making =
+    let making_with : List NewElement → Type 0 = λ info. IsMaking name plan.algs info plan.quiet old new before after refused told in
+    let making_of : TreeState → Type 0 = λ tree. IsMaking name plan.algs (map element_of plan.info) plan.quiet tree new before after refused told in
+    (new.failures ∷ [], noted, record { new = new; is_noted = refl; making = subst making_of same (subst making_with is making) })
 
 -- the last making of a name, and a whole one
 abbrev pub ends : Plan → (List ℕ → TreeState) → Last
@@ -33,12 +35,12 @@ status_in (Ok x) n is = omega (arith, is)
 status_in (Err fault) n is = omega (arith, is)
 
 -- a whole making has a status
-pub whole_status_in : (plan : Plan) (tree_of : List ℕ → TreeState) (name : List ℕ) (before after : Option (List ℕ)) (n : ℕ)
-    → IsWholeMaking plan (tree_of name) name before after n → n ≤ 3
-whole_status_in plan tree_of name before after n whole = status_in whole.1.making.made n whole.1.making.tells.0
+pub whole_status_in : (plan : Plan) (tree_of : List ℕ → TreeState) (name : List ℕ) (before after : Option (List ℕ)) (noted : List ℕ) (n : ℕ)
+    → IsWholeMaking plan (tree_of name) name before after noted n → n ≤ 3
+whole_status_in plan tree_of name before after noted n whole = status_in whole.1.making.made n whole.1.making.tells.0
 
 -- what makings give is a status
-pub makings_status : (plan : Plan) (tree_of : List ℕ → TreeState) (names : List (List ℕ)) (before after : Option (List ℕ)) (refused : Bool) (n : ℕ)
-    → AreMakingsOf plan tree_of names before after refused n → n ≤ 3
-makings_status plan tree_of names before after refused n makings =
-    turns_status (ends plan tree_of) (goes plan tree_of) (whole_status_in plan tree_of) names before after refused n makings
+pub makings_status : (plan : Plan) (tree_of : List ℕ → TreeState) (names : List (List ℕ)) (before after : Option (List ℕ)) (refused : Bool) (noted : List ℕ) (n : ℕ)
+    → AreMakingsOf plan tree_of names before after refused noted n → n ≤ 3
+makings_status plan tree_of names before after refused noted n makings =
+    turns_status (ends plan tree_of) (goes plan tree_of) (whole_status_in plan tree_of) names before after refused noted n makings

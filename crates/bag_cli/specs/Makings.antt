@@ -1,5 +1,5 @@
 -- What is done where folders are made bags, and the exit status.
-use Rattle.std.specs.Prelude.{ℕ, ◌≡◌, ◌⊎◌, Bool, List, Option, Result, Ok, Err, map}
+use Rattle.std.specs.Prelude.{ℕ, ◌≡◌, ◌⊎◌, Bool, List, [], ◌∷◌, Option, Result, Ok, Err, map}
 use Rattle.bag_tree.specs.Tree.{TreeState}
 use Rattle.bag_tree.specs.declared.out.Refused.{Refused}
 use Rattle.bag_write.specs.Element.{NewElement}
@@ -11,20 +11,22 @@ use Rattle.bag_cli.specs.InTurn.{AreInTurn}
 abbrev pub element_of : InfoItem → NewElement
 element_of item = (item.label, item.value)
 
--- the folder was made a bag by a plan, or wasn't, and that was told
-pub record IsTold (plan : Plan) (tree : TreeState) (name : List ℕ) (before after : Option (List ℕ)) (refused : Bool) (told : Result ℕ Refused) : Type 0 where
+-- The folder was made a bag by a plan, or wasn't, and that was told. What was noted is how often the device of its tree came to
+-- fail.
+pub record IsTold (plan : Plan) (tree : TreeState) (name : List ℕ) (before after : Option (List ℕ)) (refused : Bool) (noted : List ℕ) (told : Result ℕ Refused) : Type 0 where
   pub new : TreeState
+  pub is_noted : noted ≡ new.failures ∷ []
   pub making : IsMaking name plan.algs (map element_of plan.info) plan.quiet tree new before after refused told
 
 -- a making whose line was written, and its status
-abbrev pub IsWholeMaking : Plan → TreeState → List ℕ → Option (List ℕ) → Option (List ℕ) → ℕ → Type 0
-IsWholeMaking plan tree name before after n = (refused : Bool) × IsTold plan tree name before after refused (Ok n)
+abbrev pub IsWholeMaking : Plan → TreeState → List ℕ → Option (List ℕ) → Option (List ℕ) → List ℕ → ℕ → Type 0
+IsWholeMaking plan tree name before after noted n = (refused : Bool) × IsTold plan tree name before after refused noted (Ok n)
 
 -- a making that is the last: the output refused its line, or memory ran out before it
-abbrev pub IsLastMaking : Plan → TreeState → List ℕ → Option (List ℕ) → Option (List ℕ) → Bool → Type 0
-IsLastMaking plan tree name before after refused = ((refusal : Refused) × IsTold plan tree name before after refused (Err refusal)) ⊎ (after ≡ before)
+abbrev pub IsLastMaking : Plan → TreeState → List ℕ → Option (List ℕ) → Option (List ℕ) → Bool → List ℕ → Type 0
+IsLastMaking plan tree name before after refused noted = ((refusal : Refused) × IsTold plan tree name before after refused noted (Err refusal)) ⊎ (after ≡ before)
 
 -- the makings of the folders of these names in the trees that they name, one after the other
-abbrev pub AreMakingsOf : Plan → (List ℕ → TreeState) → List (List ℕ) → Option (List ℕ) → Option (List ℕ) → Bool → ℕ → Type 0
-AreMakingsOf plan tree_of names before after refused n =
-    AreInTurn (λ name. IsLastMaking plan (tree_of name) name) (λ name. IsWholeMaking plan (tree_of name) name) names before after refused n
+abbrev pub AreMakingsOf : Plan → (List ℕ → TreeState) → List (List ℕ) → Option (List ℕ) → Option (List ℕ) → Bool → List ℕ → ℕ → Type 0
+AreMakingsOf plan tree_of names before after refused noted n =
+    AreInTurn (λ name. IsLastMaking plan (tree_of name) name) (λ name. IsWholeMaking plan (tree_of name) name) names before after refused noted n

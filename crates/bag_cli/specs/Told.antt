@@ -36,8 +36,8 @@ TellsReport plan profile bag name before after n =
 -- the law: over an honest disk, the check of one directory tells the report of the bag that stands there
 abbrev pub HonestDisksAreTold : Type 0
 HonestDisksAreTold =
-    (plan : Plan) (profile : Option Profile) (below : List ℕ → DiskState) (name : List ℕ) (before after : Option (List ℕ)) (refused : Bool) (n : ℕ)
-    → IsTrue (below name).honest → AreChecksOf plan profile (λ name. tree_state (below name) 0) (name ∷ []) before after refused n
+    (plan : Plan) (profile : Option Profile) (below : List ℕ → DiskState) (name : List ℕ) (before after : Option (List ℕ)) (refused : Bool) (noted : List ℕ) (n : ℕ)
+    → IsTrue (below name).honest → AreChecksOf plan profile (λ name. tree_state (below name) 0) (name ∷ []) before after refused noted n
     → TellsReport plan profile (bag_of (below name).nodes) name before after n
 
 -- a plan that checks one directory, without a profile

@@ -1,8 +1,10 @@
 //! Checks of bags, one after the other.
 ghost use Rattle.std.specs.Prelude.{◌≡◌, ◌∷◌, [], MatchOption, None, codes};
 ghost use Rattle.std.specs.Option.{option_copied};
+ghost use Rattle.bag_file_tree.specs.Failures.{counts_of};
 ghost use Rattle.bag_file_tree.specs.FileTree.{tree_state};
 ghost use Rattle.bag_cli.specs.Checked.{AreChecksOf, IsLastCheck, IsWholeCheck};
+ghost use Rattle.bag_cli.specs.InTurn.{HasNoted};
 ghost use Rattle.bag_cli.specs.Sample.{sample_state};
 ghost use Rattle.bag_cli.specs.Status.{whole_status};
 
@@ -10,6 +12,7 @@ use crate::check::{check_folder, check_sample};
 use crate::performing::{REFUSED, say_memory, say_refused};
 use bag_arguments::Plan;
 use bag_disks::Disks;
+use bag_file_tree::Failures;
 use bag_profile::Profile;
 use bag_text::Text;
 use bag_tree::Out;
@@ -22,7 +25,7 @@ pub(crate) fn report_sample<O, E>(alloc: Global, plan: &Plan, out: &mut O, err: 
 where
     O: Out,
     E: Write,
-    ensures { AreChecksOf plan.now None (λ _. sample_state) (codes "sample" ∷ []) (O.taken out.old) (O.taken out.new) (O.has_refused out.new) result }
+    ensures { AreChecksOf plan.now None (λ _. sample_state) (codes "sample" ∷ []) (O.taken out.old) (O.taken out.new) (O.has_refused out.new) (0 ∷ []) result }
 {
     let checked = check_sample(alloc, plan, out);
     status_of_whole(&checked, err).unwrap_or(REFUSED)
@@ -35,6 +38,7 @@ pub(crate) fn check_all<D, O, E>(
     plan: &Plan,
     profile: Option<&Profile>,
     directories: &[Text],
+    failures: &mut Failures,
     out: &mut O,
     err: &mut E,
 ) -> u8
@@ -42,12 +46,14 @@ where
     D: Disks,
     O: Out,
     E: Write,
-    ensures { AreChecksOf plan.now (option_copied profile.entry) (λ name. tree_state (D.below disks.now name) 0) directories.now
-        (O.taken out.old) (O.taken out.new) (O.has_refused out.new) result }
+    ensures { HasNoted (counts_of failures.old) (counts_of failures.new)
+        (λ noted. AreChecksOf plan.now (option_copied profile.entry) (λ name. tree_state (D.below disks.now name) 0) directories.now
+        (O.taken out.old) (O.taken out.new) (O.has_refused out.new) noted result) }
 {
     let mut greatest = 0;
     for directory in directories {
-        match check_next(alloc, disks, plan, profile, directory.as_str(), out, err) {
+        let name = directory.as_str();
+        match check_next(alloc, disks, plan, profile, name, failures, out, err) {
             Some(status) => greatest = greatest.max(status),
             None => return REFUSED,
         }
@@ -63,6 +69,7 @@ fn check_next<D, O, E>(
     plan: &Plan,
     profile: Option<&Profile>,
     directory: &str,
+    failures: &mut Failures,
     out: &mut O,
     err: &mut E,
 ) -> Option<u8>
@@ -70,11 +77,11 @@ where
     D: Disks,
     O: Out,
     E: Write,
-    ensures { MatchOption result
-        (IsLastCheck plan.now (option_copied profile.entry) (tree_state (D.below disks.now directory.now) 0) directory.now (O.taken out.old) (O.taken out.new) (O.has_refused out.new))
-        (λ status. IsWholeCheck plan.now (option_copied profile.entry) (tree_state (D.below disks.now directory.now) 0) directory.now (O.taken out.old) (O.taken out.new) status) }
+    ensures { HasNoted (counts_of failures.old) (counts_of failures.new) (λ noted. MatchOption result
+        (IsLastCheck plan.now (option_copied profile.entry) (tree_state (D.below disks.now directory.now) 0) directory.now (O.taken out.old) (O.taken out.new) (O.has_refused out.new) noted)
+        (λ status. IsWholeCheck plan.now (option_copied profile.entry) (tree_state (D.below disks.now directory.now) 0) directory.now (O.taken out.old) (O.taken out.new) noted status)) }
 {
-    let checked = check_folder(alloc, disks, plan, profile, directory, out);
+    let checked = check_folder(alloc, disks, plan, profile, directory, failures, out);
     status_of_whole(&checked, err)
 }
 

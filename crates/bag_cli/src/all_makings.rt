@@ -1,17 +1,18 @@
 //! Bags that are made of folders, one after the other.
-ghost use Rattle.std.specs.Prelude.{◌≡◌, IfOk, MatchOption, OnErr, map};
+ghost use Rattle.std.specs.Prelude.{◌≡◌, IfOk, MatchOption, MatchResult, map};
+ghost use Rattle.bag_file_tree.specs.Failures.{counts_of};
 ghost use Rattle.bag_file_tree.specs.FileTree.{tree_state};
+ghost use Rattle.bag_cli.specs.InTurn.{HasNoted};
 ghost use Rattle.bag_cli.specs.Makings.{AreMakingsOf, IsLastMaking, IsTold, IsWholeMaking, element_of};
 ghost use Rattle.bag_cli.specs.Performed.{AreMade};
 
 use crate::performing::{REFUSED, say_memory, say_refused};
 use bag_arguments::{InfoItem, Plan};
 use bag_disks::Disks;
-use bag_file_tree::FileTree;
+use bag_file_tree::{Failures, FileTree};
 use bag_making::make_folder;
 use bag_text::Text;
 use bag_tree::{Out, Refused};
-use bag_write_tree::WriteTree;
 use std::alloc::{AllocError, Global};
 use std::io::Write;
 
@@ -20,6 +21,7 @@ pub(crate) fn make_all<D, O, E>(
     alloc: Global,
     disks: &D,
     plan: &Plan,
+    failures: &mut Failures,
     out: &mut O,
     err: &mut E,
 ) -> u8
@@ -27,12 +29,13 @@ where
     D: Disks,
     O: Out,
     E: Write,
-    ensures { AreMade (D.below disks.now) plan.now (O.taken out.old) (O.taken out.new) (O.has_refused out.new) result }
+    ensures { HasNoted (counts_of failures.old) (counts_of failures.new)
+        (λ noted. AreMade (D.below disks.now) plan.now (O.taken out.old) (O.taken out.new) (O.has_refused out.new) noted result) }
 {
     match elements(alloc, plan.info.as_slice()) {
         Ok(info) => {
             let directories = plan.directories.as_slice();
-            make_each(alloc, disks, plan, &info, directories, out, err)
+            make_each(alloc, disks, plan, &info, directories, failures, out, err)
         }
         Err(AllocError) => {
             say_memory(err);
@@ -59,6 +62,7 @@ fn make_each<D, O, E>(
     plan: &Plan,
     info: &[(Text, Text)],
     directories: &[Text],
+    failures: &mut Failures,
     out: &mut O,
     err: &mut E,
 ) -> u8
@@ -67,11 +71,13 @@ where
     O: Out,
     E: Write,
     requires { info.now ≡ map element_of plan.now.info }
-    ensures { AreMakingsOf plan.now (λ name. tree_state (D.below disks.now name) 0) directories.now (O.taken out.old) (O.taken out.new) (O.has_refused out.new) result }
+    ensures { HasNoted (counts_of failures.old) (counts_of failures.new) (λ noted. AreMakingsOf plan.now (λ name. tree_state (D.below disks.now name) 0)
+        directories.now (O.taken out.old) (O.taken out.new) (O.has_refused out.new) noted result) }
 {
     let mut greatest = 0;
     for directory in directories {
-        match make_next(alloc, disks, plan, info, directory.as_str(), out, err) {
+        let name = directory.as_str();
+        match make_next(alloc, disks, plan, info, name, failures, out, err) {
             Some(status) => greatest = greatest.max(status),
             None => return REFUSED,
         }
@@ -86,6 +92,7 @@ fn make_next<D, O, E>(
     plan: &Plan,
     info: &[(Text, Text)],
     directory: &str,
+    failures: &mut Failures,
     out: &mut O,
     err: &mut E,
 ) -> Option<u8>
@@ -94,11 +101,11 @@ where
     O: Out,
     E: Write,
     requires { info.now ≡ map element_of plan.now.info }
-    ensures { MatchOption result
-        (IsLastMaking plan.now (tree_state (D.below disks.now directory.now) 0) directory.now (O.taken out.old) (O.taken out.new) (O.has_refused out.new))
-        (λ status. IsWholeMaking plan.now (tree_state (D.below disks.now directory.now) 0) directory.now (O.taken out.old) (O.taken out.new) status) }
+    ensures { HasNoted (counts_of failures.old) (counts_of failures.new) (λ noted. MatchOption result
+        (IsLastMaking plan.now (tree_state (D.below disks.now directory.now) 0) directory.now (O.taken out.old) (O.taken out.new) (O.has_refused out.new) noted)
+        (λ status. IsWholeMaking plan.now (tree_state (D.below disks.now directory.now) 0) directory.now (O.taken out.old) (O.taken out.new) noted status)) }
 {
-    match make_one(alloc, disks, plan, info, directory, out) {
+    match make_one(alloc, disks, plan, info, directory, failures, out) {
         Ok(Ok(status)) => Some(status),
         Ok(Err(Refused)) => {
             say_refused(err);
@@ -111,35 +118,24 @@ where
     }
 }
 
-/// Makes a folder a bag. Gives the status, or the output's refusal.
+/// Makes a folder a bag, and notes how often its device failed. Gives the status, or the output's refusal.
 fn make_one<D: Disks, O: Out>(
     alloc: Global,
     disks: &D,
     plan: &Plan,
     info: &[(Text, Text)],
     directory: &str,
+    failures: &mut Failures,
     out: &mut O,
 ) -> Result<Result<u8, Refused>, AllocError>
     requires { info.now ≡ map element_of plan.now.info }
-    ensures told { IfOk result (λ told. IsTold plan.now (tree_state (D.below disks.now directory.now) 0) directory.now (O.taken out.old) (O.taken out.new) (O.has_refused out.new) told) }
-    ensures nothing { OnErr result (O.taken out.new ≡ O.taken out.old) }
+    ensures { HasNoted (counts_of failures.old) (counts_of failures.new) (λ noted. MatchResult result
+        (λ told. IsTold plan.now (tree_state (D.below disks.now directory.now) 0) directory.now (O.taken out.old) (O.taken out.new) (O.has_refused out.new) noted told)
+        (λ _. O.taken out.new ≡ O.taken out.old)) }
 {
+    failures.begin()?;
     let tree = FileTree::over(alloc, disks.disk(alloc, directory)?);
-    Ok(make_of(alloc, tree, plan, info, directory, out))
-}
-
-/// Makes a bag of a tree under a name. Gives the status, or the output's refusal.
-fn make_of<T: WriteTree + Drop, O: Out>(
-    alloc: Global,
-    tree: T,
-    plan: &Plan,
-    info: &[(Text, Text)],
-    name: &str,
-    out: &mut O,
-) -> Result<u8, Refused>
-    requires { info.now ≡ map element_of plan.now.info }
-    ensures { IsTold plan.now (T.state tree) name.now (O.taken out.old) (O.taken out.new) (O.has_refused out.new) result }
-{
-    let (_tree, told) = make_folder(alloc, tree, name, plan.algs, info, plan.quiet, out);
-    told
+    let (tree, told) = make_folder(alloc, tree, directory, plan.algs, info, plan.quiet, out);
+    failures.note(&tree);
+    Ok(told)
 }

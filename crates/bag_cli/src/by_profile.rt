@@ -1,11 +1,14 @@
 //! Checks by the profile of a plan.
+ghost use Rattle.bag_cli.specs.InTurn.{HasNoted};
 ghost use Rattle.bag_cli.specs.Performed.{AreCheckedBy, IsChecked, lines_before};
+ghost use Rattle.bag_file_tree.specs.Failures.{counts_of};
 ghost use Rattle.bag_output.specs.Write.{Writes};
 
 use crate::all_checks::check_all;
 use crate::performing::{REFUSED, say_refused};
 use bag_arguments::Plan;
 use bag_disks::Disks;
+use bag_file_tree::Failures;
 use bag_profile::Profile;
 use bag_profile_file::{read_profile, refuse_profile, write_unchecked};
 use bag_tree::{Out, Refused};
@@ -17,6 +20,7 @@ pub(crate) fn check_by_profile<D, O, E>(
     alloc: Global,
     disks: &D,
     plan: &Plan,
+    failures: &mut Failures,
     out: &mut O,
     err: &mut E,
 ) -> u8
@@ -24,21 +28,15 @@ where
     D: Disks,
     O: Out,
     E: Write,
-    ensures { IsChecked (D.below disks.now) (D.file disks.now) plan.now plan.now.profile (O.taken out.old) (O.taken out.new) (O.has_refused out.new) result }
+    ensures { HasNoted (counts_of failures.old) (counts_of failures.new) (λ noted. IsChecked (D.below disks.now) (D.file disks.now) plan.now
+        plan.now.profile (O.taken out.old) (O.taken out.new) (O.has_refused out.new) noted result) }
 {
     let Some(path) = &plan.profile else {
-        return check_all(
-            alloc,
-            disks,
-            plan,
-            None,
-            plan.directories.as_slice(),
-            out,
-            err,
-        );
+        let directories = plan.directories.as_slice();
+        return check_all(alloc, disks, plan, None, directories, failures, out, err);
     };
     match read_profile(alloc, disks, path.as_str()) {
-        Ok(profile) => check_by(alloc, disks, plan, &profile, out, err),
+        Ok(profile) => check_by(alloc, disks, plan, &profile, failures, out, err),
         Err(refusal) => refuse_profile(refusal, err),
     }
 }
@@ -49,6 +47,7 @@ fn check_by<D, O, E>(
     disks: &D,
     plan: &Plan,
     profile: &Profile,
+    failures: &mut Failures,
     out: &mut O,
     err: &mut E,
 ) -> u8
@@ -56,12 +55,22 @@ where
     D: Disks,
     O: Out,
     E: Write,
-    ensures { AreCheckedBy (D.below disks.now) plan.now profile.now (O.taken out.old) (O.taken out.new) (O.has_refused out.new) result }
+    ensures { HasNoted (counts_of failures.old) (counts_of failures.new)
+        (λ noted. AreCheckedBy (D.below disks.now) plan.now profile.now (O.taken out.old) (O.taken out.new) (O.has_refused out.new) noted result) }
 {
     match say_unchecked(plan.quiet, profile, out) {
         Ok(()) => {
             let directories = plan.directories.as_slice();
-            check_all(alloc, disks, plan, Some(profile), directories, out, err)
+            check_all(
+                alloc,
+                disks,
+                plan,
+                Some(profile),
+                directories,
+                failures,
+                out,
+                err,
+            )
         }
         Err(Refused) => {
             say_refused(err);

@@ -1,7 +1,9 @@
 //! What the command line does: the plan of its words, and what that plan says.
 //!
 //! ```
-//! let status = run_program(&rt, &mut WriterOut::new(io::writer(&rt)), &mut rt.stderr());
+//! let mut failures = Failures::new(rt.alloc());
+//! let mut out = WriterOut::new(io::writer(&rt));
+//! let status = run_program(&rt, &mut failures, &mut out, &mut rt.stderr());
 //! ```
 #![tactic(auto)]
 
@@ -17,6 +19,7 @@ mod words;
 
 pub use bag_arguments::{Action, Plan, Usage, plan_of, refuse_words};
 pub use bag_disks::Disks;
+pub use bag_file_tree::Failures;
 pub use bag_tree::WriterOut;
 pub use performing::{perform, perform_over};
 pub use whole_program::{program, run_program};

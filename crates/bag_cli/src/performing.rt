@@ -1,5 +1,7 @@
 //! Does what a plan says.
-ghost use Rattle.std.specs.Prelude.{◌≡◌, ◌≤◌};
+ghost use Rattle.std.specs.Prelude.{◌≡◌, ◌≤◌, []};
+ghost use Rattle.bag_file_tree.specs.Failures.{counts_of};
+ghost use Rattle.bag_cli.specs.InTurn.{HasNoted};
 ghost use Rattle.bag_cli.specs.Performed.{IsPerformed, IsSaid};
 
 use crate::all_checks::report_sample;
@@ -7,6 +9,7 @@ use crate::all_makings::make_all;
 use crate::by_profile::check_by_profile;
 use bag_arguments::{Action, Plan};
 use bag_disks::Disks;
+use bag_file_tree::Failures;
 use bag_output::put_pieces;
 use bag_tree::{Out, Refused};
 use std::alloc::Global;
@@ -23,37 +26,54 @@ pub(crate) const REFUSED: u8 = 3;
 /// refused; and 3 where a read, a write or a growth was, or a bag wasn't made. The profile is read first. Where `out` refuses, it
 /// stops. Unless the status is 2 or 3, `out` took a whole report for each bag that was checked, and the line of each that was made
 /// but for a quiet plan.
-pub fn perform<R, O, E>(rt: &R, plan: &Plan, out: &mut O, err: &mut E) -> u8
+///
+/// `failures` notes for each folder that was looked into how often its device failed.
+pub fn perform<R, O, E>(
+    rt: &R,
+    plan: &Plan,
+    failures: &mut Failures,
+    out: &mut O,
+    err: &mut E,
+) -> u8
 where
     R: Disks + AllocGlobal,
     O: Out,
     E: Write,
     ensures status { result ≤ 3 }
-    ensures performed { IsPerformed (R.below rt.now) (R.file rt.now) plan.now (O.taken out.old) (O.taken out.new) (O.has_refused out.new) result }
+    ensures performed { HasNoted (counts_of failures.old) (counts_of failures.new)
+        (λ noted. IsPerformed (R.below rt.now) (R.file rt.now) plan.now (O.taken out.old) (O.taken out.new) (O.has_refused out.new) noted result) }
 {
-    perform_over(rt.alloc(), rt, plan, out, err)
+    perform_over(rt.alloc(), rt, plan, failures, out, err)
 }
 
 /// Does a plan on any disks, as `perform` on those of a runtime.
-pub fn perform_over<D, O, E>(alloc: Global, disks: &D, plan: &Plan, out: &mut O, err: &mut E) -> u8
+pub fn perform_over<D, O, E>(
+    alloc: Global,
+    disks: &D,
+    plan: &Plan,
+    failures: &mut Failures,
+    out: &mut O,
+    err: &mut E,
+) -> u8
 where
     D: Disks,
     O: Out,
     E: Write,
     ensures status { result ≤ 3 }
-    ensures performed { IsPerformed (D.below disks.now) (D.file disks.now) plan.now (O.taken out.old) (O.taken out.new) (O.has_refused out.new) result }
+    ensures performed { HasNoted (counts_of failures.old) (counts_of failures.new)
+        (λ noted. IsPerformed (D.below disks.now) (D.file disks.now) plan.now (O.taken out.old) (O.taken out.new) (O.has_refused out.new) noted result) }
 {
     match &plan.action {
         Action::Sample => report_sample(alloc, plan, out, err),
         Action::Help(text) => say(text.as_str(), out, err),
-        Action::Check => check_by_profile(alloc, disks, plan, out, err),
-        Action::Make => make_all(alloc, disks, plan, out, err),
+        Action::Check => check_by_profile(alloc, disks, plan, failures, out, err),
+        Action::Make => make_all(alloc, disks, plan, failures, out, err),
     }
 }
 
 /// Writes a text.
 fn say<O: Out, E: Write>(text: &str, out: &mut O, err: &mut E) -> u8
-    ensures { IsSaid text.now (O.taken out.old) (O.taken out.new) (O.has_refused out.new) result }
+    ensures { IsSaid text.now (O.taken out.old) (O.taken out.new) (O.has_refused out.new) [] result }
 {
     match put_pieces(out, &[text]) {
         Ok(()) => 0,

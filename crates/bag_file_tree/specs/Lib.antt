@@ -1,6 +1,7 @@
 pub mod BagBelow
 pub mod Changing
 pub mod DiskBag
+pub mod Failures
 pub mod FileTree
 pub mod FolderWalk
 pub mod Refusal

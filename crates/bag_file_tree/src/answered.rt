@@ -29,6 +29,13 @@ impl Answered {
         }
     }
 
+    /// How often the device failed.
+    pub(crate) fn failures(&self) -> u64
+        ensures { result ≡ self.now.failures }
+    {
+        self.failures
+    }
+
     /// Notes that a call gave what was asked for.
     pub(crate) fn give(&mut self)
         ensures failures { self.new.failures ≡ self.old.failures }

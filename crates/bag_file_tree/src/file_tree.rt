@@ -46,6 +46,13 @@ impl<D: Disk + Drop> FileTree<D> {
             answered: Answered::nothing(),
         }
     }
+
+    /// How often its device has failed.
+    pub fn failures(&self) -> u64
+        ensures { result ≡ (⟦<FileTree<D> as Tree>⟧.state self.now).failures }
+    {
+        self.answered.failures()
+    }
 }
 
 impl<D: Disk + Drop> Tree for FileTree<D> {

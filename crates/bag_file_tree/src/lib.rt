@@ -12,6 +12,7 @@
 
 mod answered;
 mod changing;
+mod failures;
 mod file_tree;
 mod folder_walk;
 pub mod laws;
@@ -25,4 +26,5 @@ mod standing;
 mod target;
 mod writing;
 
+pub use failures::Failures;
 pub use file_tree::FileTree;

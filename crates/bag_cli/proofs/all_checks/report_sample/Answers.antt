@@ -15,6 +15,6 @@ returns g c =
     let refused = g.O.Out.has_refused c.check_sample-checked.new.out in
     let checked = c.check_sample-checked.result in
     let given : c.unwrap_or.result ≡ unwrap_or (whole_status checked) 3 = search rules in
-    let next = next_check plan None sample_state (codes "sample") before after refused checked c.check_sample-checked.ensures.check c.check_sample-checked.ensures.nothing in
-    subst (λ n. AreChecksOf plan None (λ _. sample_state) (codes "sample" ∷ []) before after refused n) (sym given)
-    (only_one (ends plan None (λ _. sample_state)) (goes plan None (λ _. sample_state)) (codes "sample") before after refused (whole_status checked) next)
+    let next = next_check plan None sample_state (codes "sample") before after refused (0 ∷ []) checked c.check_sample-checked.ensures in
+    subst (λ n. AreChecksOf plan None (λ _. sample_state) (codes "sample" ∷ []) before after refused (0 ∷ []) n) (sym given)
+    (only_one (ends plan None (λ _. sample_state)) (goes plan None (λ _. sample_state)) (codes "sample") before after refused (0 ∷ []) (whole_status checked) next)

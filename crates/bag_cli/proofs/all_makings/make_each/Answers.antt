@@ -1,18 +1,20 @@
-use Rattle.std.proofs.Common.{rules, ◌≡◌, ℕ, List, max, subst, arith}
+use Rattle.std.proofs.Common.{rules, ◌≡◌, ℕ, List, [], append-nil, max, subst, sym, arith}
 use Rattle.std.proofs.lemmas.List.{drop_all}
 use Rattle.bag_tree.specs.Tree.{TreeState}
+use Rattle.bag_file_tree.specs.Failures.{counts_of}
 use Rattle.bag_file_tree.specs.FileTree.{tree_state}
 use Rattle.bag_cli.specs.Makings.{IsLastMaking, IsWholeMaking}
 use Rattle.bag_cli.proofs.Makings.{ends, goes, whole_status_in}
-use Rattle.bag_cli.proofs.Turns.{all_whole, at_last, none_yet, one_more}
+use Rattle.bag_cli.proofs.Turns.{looped_all, looped_last, looped_more, none_yet}
 use Rattle.bag_cli.proofs.all_makings.make_each.Goals as goal
 
 pub loop-directory-init : goal.loop-directory-init
 loop-directory-init g c =
+    let plan = c.args.plan.now in
     let tree_of : List ℕ → TreeState = λ name. tree_state (g.D.Disks.below c.args.disks.now name) 0 in
     record {
       most = omega arith;
-      turns = none_yet (ends c.args.plan.now tree_of) (goes c.args.plan.now tree_of) c.args.directories.now (g.O.Out.taken c.args.out.now);
+      turns = ([], sym (append-nil (counts_of c.args.failures.now)), none_yet (ends plan tree_of) (goes plan tree_of) c.args.directories.now (g.O.Out.taken c.args.out.now));
     }
 
 pub returns-in-None : goal.returns-in-None
@@ -23,11 +25,12 @@ returns-in-None g c =
     let now = g.O.Out.taken c.loop-directory.out in
     let after = g.O.Out.taken c.make_next.new.out in
     let refused = g.O.Out.has_refused c.make_next.new.out in
-    let last : IsLastMaking plan (tree_of name) name now after refused =
-    subst (λ name. IsLastMaking plan (tree_of name) name now after refused) c.as_str.ensures c.in-None.ensures in
-    at_last (ends plan tree_of) (goes plan tree_of) c.args.directories.now c.loop-directory.directory-index name
-    (g.O.Out.taken c.args.out.now) now after refused c.loop-directory.greatest
-    c.loop-directory-test.true c.directory-item.is c.loop-directory.invariant.most c.loop-directory.invariant.turns last
+    let done = c.in-None.ensures in
+    let last : IsLastMaking plan (tree_of name) name now after refused done.0 =
+    subst (λ name. IsLastMaking plan (tree_of name) name now after refused done.0) c.as_str-name.ensures done.2 in
+    looped_last (ends plan tree_of) (goes plan tree_of) c.args.directories.now c.loop-directory.directory-index name
+    (g.O.Out.taken c.args.out.now) now after refused (counts_of c.args.failures.now) (counts_of c.loop-directory.failures) (counts_of c.make_next.new.failures) done.0
+    c.loop-directory.greatest c.loop-directory-test.true c.directory-item.is c.loop-directory.invariant.most c.loop-directory.invariant.turns done.1 last
 
 pub loop-directory-preserved : goal.loop-directory-preserved
 loop-directory-preserved g c =
@@ -37,20 +40,24 @@ loop-directory-preserved g c =
     let now = g.O.Out.taken c.loop-directory.out in
     let next = g.O.Out.taken c.make_next.new.out in
     let status = c.in-Some.status in
+    let done = c.in-Some.ensures in
     let most : c.max-greatest.result ≡ max c.loop-directory.greatest status = search rules in
-    let whole : IsWholeMaking plan (tree_of name) name now next status =
-    subst (λ name. IsWholeMaking plan (tree_of name) name now next status) c.as_str.ensures c.in-Some.ensures in
-    let one = whole_status_in plan tree_of name now next status whole in
+    let whole : IsWholeMaking plan (tree_of name) name now next done.0 status =
+    subst (λ name. IsWholeMaking plan (tree_of name) name now next done.0 status) c.as_str-name.ensures done.2 in
+    let one = whole_status_in plan tree_of name now next done.0 status whole in
     record {
       most = omega (arith, most, one, c.loop-directory.invariant.most);
-      turns = one_more (ends plan tree_of) (goes plan tree_of) c.args.directories.now c.loop-directory.directory-index name
-          (g.O.Out.taken c.args.out.now) now next c.loop-directory.greatest status c.max-greatest.result
-          c.loop-directory-test.true c.directory-item.is most c.loop-directory.invariant.turns whole;
+      turns = looped_more (ends plan tree_of) (goes plan tree_of) c.args.directories.now c.loop-directory.directory-index name
+          (g.O.Out.taken c.args.out.now) now next (counts_of c.args.failures.now) (counts_of c.loop-directory.failures) (counts_of c.make_next.new.failures) done.0
+          c.loop-directory.greatest status c.max-greatest.result
+          c.loop-directory-test.true c.directory-item.is most c.loop-directory.invariant.turns done.1 whole;
     }
 
 pub returns : goal.returns
 returns g c =
+    let plan = c.args.plan.now in
     let tree_of : List ℕ → TreeState = λ name. tree_state (g.D.Disks.below c.args.disks.now name) 0 in
-    all_whole (ends c.args.plan.now tree_of) (goes c.args.plan.now tree_of) c.args.directories.now c.loop-directory.directory-index
-    (g.O.Out.taken c.args.out.now) (g.O.Out.taken c.loop-directory.out) (g.O.Out.has_refused c.loop-directory.out) c.loop-directory.greatest
+    looped_all (ends plan tree_of) (goes plan tree_of) c.args.directories.now c.loop-directory.directory-index
+    (g.O.Out.taken c.args.out.now) (g.O.Out.taken c.loop-directory.out) (g.O.Out.has_refused c.loop-directory.out)
+    (counts_of c.args.failures.now) (counts_of c.loop-directory.failures) c.loop-directory.greatest
     (drop_all c.loop-directory.directory-index c.args.directories.now c.loop-directory-test.false) c.loop-directory.invariant.turns

@@ -1,8 +1,9 @@
 use Rattle.std.proofs.Common.{◌≤◌, List, ℕ}
 use Rattle.bag_tree.specs.Tree.{TreeState}
+use Rattle.bag_file_tree.specs.Failures.{counts_of}
 use Rattle.bag_file_tree.specs.FileTree.{tree_state}
 use Rattle.bag_cli.proofs.Makings.{ends, goes}
-use Rattle.bag_cli.proofs.Turns.{TurnsTo}
+use Rattle.bag_cli.proofs.Turns.{Looped}
 use Rattle.bag_cli.proofs.all_makings.make_each.Given as goal
 
 abbrev pub invariant-loop-directory : goal.invariant-loop-directory
@@ -10,5 +11,6 @@ invariant-loop-directory g l = record {
   most : l.greatest ≤ 3;
   turns :
       let tree_of : List ℕ → TreeState = λ name. tree_state (g.D.Disks.below l.fn.disks name) 0 in
-      TurnsTo (ends l.plan tree_of) (goes l.plan tree_of) l.directories l.directory-index (g.O.Out.taken l.fn.out) (g.O.Out.taken l.out) l.greatest;
+      Looped (ends l.plan tree_of) (goes l.plan tree_of) l.directories l.directory-index
+      (g.O.Out.taken l.fn.out) (g.O.Out.taken l.out) (counts_of l.fn.failures) (counts_of l.failures) l.greatest;
 }

@@ -1,19 +1,29 @@
-use Rattle.std.proofs.Common.{refl}
+use Rattle.std.proofs.Common.{[], refl, sym, append-nil}
 use Rattle.std.specs.declared.result.Result.TheVariants.{Ok, Err}
+use Rattle.bag_file_tree.specs.Failures.{counts_of}
 use Rattle.bag_cli.proofs.whole_program.program.Goals as goal
 
 pub returns-in-Ok : goal.returns-in-Ok
-returns-in-Ok g c = record {
-  planned = Ok c.in-Ok.plan;
-  is_planned = c.in-Ok.ensures.planned;
-  taken = c.in-Ok.ensures.taken;
-  done = c.perform_over.ensures.performed;
-}
+returns-in-Ok g c =
+    let performed = c.perform_over.ensures.performed in (
+      performed.0,
+      performed.1,
+      record {
+        planned = Ok c.in-Ok.plan;
+        is_planned = c.in-Ok.ensures.planned;
+        taken = c.in-Ok.ensures.taken;
+        done = performed.2;
+      },
+    )
 
 pub returns-in-Err : goal.returns-in-Err
-returns-in-Err g c = record {
-  planned = Err c.in-Err.refused;
-  is_planned = c.in-Err.ensures.planned;
-  taken = c.in-Err.ensures.taken;
-  done = (c.refuse_words.ensures, refl);
-}
+returns-in-Err g c = (
+  [],
+  sym (append-nil (counts_of c.args.failures.now)),
+  record {
+    planned = Err c.in-Err.refused;
+    is_planned = c.in-Err.ensures.planned;
+    taken = c.in-Err.ensures.taken;
+    done = (c.refuse_words.ensures, refl, refl);
+  },
+)

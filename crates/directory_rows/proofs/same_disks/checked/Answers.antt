@@ -17,8 +17,10 @@ returns g c name one =
     let after = g.O.Out.taken c.perform_over.new.out in
     let refused = g.O.Out.has_refused c.perform_over.new.out in
     let n = c.perform_over.result in
-    let acted = subst (λ (action : Action). IsDoneBy action below file plan before after refused n) one.0 c.perform_over.ensures.performed in
-    let checks = subst (λ (path : Option (List ℕ)). IsChecked below file plan path before after refused n) one.1 acted in
+    let performed = c.perform_over.ensures.performed in
+    let noted = performed.0 in
+    let acted = subst (λ (action : Action). IsDoneBy action below file plan before after refused noted n) one.0 performed.2 in
+    let checks = subst (λ (path : Option (List ℕ)). IsChecked below file plan path before after refused noted n) one.1 acted in
     let tree_of : List ℕ → TreeState = λ name. tree_state (below name) 0 in
-    let check = subst (λ (names : List (List ℕ)). AreChecksOf plan None tree_of names before after refused n) one.2 checks in
-    c.honest_disks_are_told.ensures plan None below name before after refused n refl check
+    let check = subst (λ (names : List (List ℕ)). AreChecksOf plan None tree_of names before after refused noted n) one.2 checks in
+    c.honest_disks_are_told.ensures plan None below name before after refused noted n refl check

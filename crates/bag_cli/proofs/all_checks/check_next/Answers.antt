@@ -1,0 +1,24 @@
+use Rattle.std.proofs.Common.{subst, sym}
+use Rattle.std.specs.Prelude.{MatchOption}
+use Rattle.std.specs.Option.{option_copied}
+use Rattle.bag_file_tree.specs.FileTree.{tree_state}
+use Rattle.bag_cli.specs.Checked.{IsLastCheck, IsWholeCheck}
+use Rattle.bag_cli.proofs.Checks.{next_check}
+use Rattle.bag_cli.proofs.all_checks.check_next.Goals as goal
+
+pub returns : goal.returns
+returns g c =
+    let plan = c.args.plan.now in
+    let profile = option_copied c.args.profile in
+    let tree = tree_state (g.D.Disks.below c.args.disks.now c.args.directory.now) 0 in
+    let name = c.args.directory.now in
+    let before = g.O.Out.taken c.args.out.now in
+    let after = g.O.Out.taken c.check_folder-checked.new.out in
+    let refused = g.O.Out.has_refused c.check_folder-checked.new.out in
+    let done = c.check_folder-checked.ensures in
+    let next = next_check plan profile tree name before after refused done.0 c.check_folder-checked.result done.2 in (
+      done.0,
+      done.1,
+      subst (λ status. MatchOption status (IsLastCheck plan profile tree name before after refused done.0) (λ n. IsWholeCheck plan profile tree name before after done.0 n))
+          (sym c.status_of_whole.ensures) next,
+    )
