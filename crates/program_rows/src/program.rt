@@ -21,14 +21,7 @@ pub(crate) fn answer_to(rt: &HostRuntime, words: &[&str]) -> Answer {
     let mut out = WriterOut::new(Vec::<u8>::new(rt.alloc()));
     let mut told = Vec::<u8>::new(rt.alloc());
     let mut failures = Failures::new(rt.alloc());
-    let status = program(
-        rt.alloc(),
-        rt,
-        words,
-        &mut failures,
-        &mut out,
-        &mut told,
-    );
+    let status = program(rt.alloc(), rt, words, &mut failures, &mut out, &mut told);
     Answer {
         written: out.into_inner(),
         told,
