@@ -47,16 +47,31 @@ fn node(alloc: Global, held: Held) -> Result<Node, AllocError> {
     }
 }
 
+/// Puts what stands at a path into a map.
+fn insert(
+    alloc: Global,
+    nodes: &mut BTreeMap<Vec<u8>, Node>,
+    (path, held): Place,
+) -> Result<(), AllocError> {
+    let _ = nodes.insert(path.as_bytes().to_vec(alloc)?, node(alloc, held)?)?;
+    Ok(())
+}
+
 /// A disk in memory with what stands in a table.
 pub(crate) fn disk(alloc: Global, places: &[Place]) -> Result<MemoryDisk, Fail> {
     let mut nodes = BTreeMap::new(alloc);
-    for (path, held) in places {
-        let _ = nodes.insert(path.as_bytes().to_vec(alloc)?, node(alloc, *held)?)?;
+    for place in places {
+        insert(alloc, &mut nodes, *place)?;
     }
     match MemoryDisk::holding(alloc, nodes) {
         Some(disk) => Ok(disk),
         None => Err(io::Error::from(ErrorKind::InvalidInput).into()),
     }
+}
+
+/// The tree of a disk in memory with what stands in a table.
+pub(crate) fn tree_of(alloc: Global, places: &[Place]) -> Result<FileTree<MemoryDisk>, Fail> {
+    Ok(FileTree::over(alloc, disk(alloc, places)?))
 }
 
 /// A fresh folder of the system's, with a folder that a tree is of and one that is outside that.
@@ -99,12 +114,17 @@ fn put_all(rt: &HostRuntime, folders: &str, places: &[Place]) -> io::Result<()> 
     Ok(())
 }
 
+/// The path of a folder for the test of this name.
+fn path_for(rt: &HostRuntime, test: &str) -> io::Result<String> {
+    let temporary = env::temp_dir(rt)?;
+    let id = process::id(rt.process());
+    Ok(format!(in rt.alloc(); "{}/bagit-{test}-{id}", temporary.as_path().display())?)
+}
+
 impl Folders {
     /// Fresh folders for the test of this name, one with what stands in a table.
     pub(crate) fn holding(rt: &HostRuntime, test: &str, places: &[Place]) -> io::Result<Folders> {
-        let temporary = env::temp_dir(rt)?;
-        let id = process::id(rt.process());
-        let path = format!(in rt.alloc(); "{}/bagit-{test}-{id}", temporary.as_path().display())?;
+        let path = path_for(rt, test)?;
         let _ = fs::remove_dir_all(rt, path.as_str());
         put_all(rt, path.as_str(), places)?;
         Ok(Folders { path })
@@ -119,6 +139,11 @@ impl Folders {
     }
 }
 
+/// The tree of what stands below a folder.
+fn tree_at(rt: &HostRuntime, folder: &str) -> io::Result<FileTree<SystemDisk<HostRuntime>>> {
+    Ok(FileTree::at(rt.clone()?, rt.alloc(), folder)?)
+}
+
 /// The tree of what stands below a folder of these: `base` or `outside`.
 pub(crate) fn tree_in(
     rt: &HostRuntime,
@@ -126,7 +151,7 @@ pub(crate) fn tree_in(
     name: &str,
 ) -> io::Result<FileTree<SystemDisk<HostRuntime>>> {
     let folder = format!(in rt.alloc(); "{folders}/{name}")?;
-    Ok(FileTree::at(rt.clone()?, rt.alloc(), folder.as_str())?)
+    tree_at(rt, folder.as_str())
 }
 
 /// Whether a tree holds these files and no others, and has a payload folder or not.
@@ -150,20 +175,20 @@ fn have_texts<T: Tree>(
     listed: &[FileEntry],
     files: Files,
 ) -> Result<bool, TreeFault> {
-    for (entry, (path, text)) in listed.iter().zip(files.iter()) {
-        if entry.path.as_str() != *path || !has_text(alloc, tree, entry, text)? {
+    for (entry, file) in listed.iter().zip(files) {
+        if !is_file(alloc, tree, entry, *file)? {
             return Ok(false);
         }
     }
     Ok(true)
 }
 
-fn has_text<T: Tree>(
+fn is_file<T: Tree>(
     alloc: Global,
     tree: &mut T,
     entry: &FileEntry,
-    text: &str,
+    (path, text): (&str, &str),
 ) -> Result<bool, TreeFault> {
     let bytes = read_whole(alloc, tree, entry)?;
-    Ok(bytes.as_slice() == text.as_bytes())
+    Ok(entry.path.as_str() == path && bytes.as_slice() == text.as_bytes())
 }

@@ -1,6 +1,6 @@
 //! Steps that can't be made leave all as it is.
-use crate::held::{Files, Folders, Held, Place, SAMPLE, SAMPLE_FILES, disk, holds, tree_in};
-use bag_file_tree::FileTree;
+use crate::held::{Files, Held, Place, SAMPLE, SAMPLE_FILES, holds, tree_of};
+use crate::trials::{Trial, holds_afresh};
 use bag_tree::TreeFault;
 use bag_write_tree::WriteTree;
 use std::alloc::Global;
@@ -28,29 +28,25 @@ fn renames_a_folder_to_what_nothing_has<T: WriteTree>(tree: &mut T) -> bool {
         && tree.rename_folder("d", "d") == Err(TreeFault::Exists)
 }
 
-fn refuses_all<T: WriteTree>(alloc: Global, tree: &mut T) -> Result<bool, TreeFault> {
-    let refused = makes_nothing_twice(tree)
-        && moves_what_is_there_to_where_nothing_is(tree)
-        && renames_a_folder_to_what_nothing_has(tree);
-    Ok(refused && holds(alloc, tree, false, SAMPLE_FILES)?)
+pub(crate) fn refuses_all<T: WriteTree + Drop>(alloc: Global, tree: T) -> Result<bool, TreeFault> {
+    let mut tree = tree;
+    let is_refused = makes_nothing_twice(&mut tree)
+        && moves_what_is_there_to_where_nothing_is(&mut tree)
+        && renames_a_folder_to_what_nothing_has(&mut tree);
+    Ok(holds(alloc, &mut tree, false, SAMPLE_FILES)? && is_refused)
 }
 
 #[test]
 fn nothing_is_replaced_on_a_disk_in_memory(rt: HostRuntime) -> Result<(), Fail> {
     let alloc = rt.alloc();
-    assert!(rt; refuses_all(alloc, &mut FileTree::over(alloc, disk(alloc, SAMPLE)?))?);
+    assert!(rt; refuses_all(alloc, tree_of(alloc, SAMPLE)?)?);
     Ok(())
-}
-
-fn refuse_all(rt: &HostRuntime, folders: &str) -> Result<bool, Fail> {
-    Ok(refuses_all(rt.alloc(), &mut tree_in(rt, folders, "base")?)?)
 }
 
 #[test]
 fn nothing_is_replaced_in_a_real_folder(rt: HostRuntime) -> Result<(), Fail> {
-    let folders = Folders::holding(&rt, "in-the-way", SAMPLE)?;
-    assert!(rt; refuse_all(&rt, folders.path())?);
-    Ok(folders.remove(&rt)?)
+    assert!(rt; holds_afresh(&rt, "in-the-way", SAMPLE, Trial::InTheWay)?);
+    Ok(())
 }
 
 /// A folder with one of the same name in two others, which has a file in one of them and an empty folder in the other.
@@ -68,19 +64,18 @@ const FOLDERS: &[Place] = &[
 
 const FOLDERS_FILES: Files = &[("d/x", "x"), ("m/d/e/f", "")];
 
-fn replaces_no_folder<T: WriteTree>(alloc: Global, tree: &mut T) -> Result<bool, TreeFault> {
-    let refused = tree.move_in("d", "m") == Err(TreeFault::Exists)
+pub(crate) fn replaces_no_folder<T: WriteTree + Drop>(
+    alloc: Global,
+    tree: T,
+) -> Result<bool, TreeFault> {
+    let mut tree = tree;
+    let is_refused = tree.move_in("d", "m") == Err(TreeFault::Exists)
         && tree.move_in("d", "n") == Err(TreeFault::Device);
-    Ok(refused && holds(alloc, tree, false, FOLDERS_FILES)?)
-}
-
-fn replace_no_folder(rt: &HostRuntime, folders: &str) -> Result<bool, Fail> {
-    Ok(replaces_no_folder(rt.alloc(), &mut tree_in(rt, folders, "base")?)?)
+    Ok(holds(alloc, &mut tree, false, FOLDERS_FILES)? && is_refused)
 }
 
 #[test]
 fn a_folder_in_the_folder_is_not_replaced(rt: HostRuntime) -> Result<(), Fail> {
-    let folders = Folders::holding(&rt, "folders", FOLDERS)?;
-    assert!(rt; replace_no_folder(&rt, folders.path())?);
-    Ok(folders.remove(&rt)?)
+    assert!(rt; holds_afresh(&rt, "folders", FOLDERS, Trial::FolderInTheWay)?);
+    Ok(())
 }

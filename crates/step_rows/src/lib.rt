@@ -13,3 +13,5 @@ mod names;
 mod refused_calls;
 #[cfg(test)]
 mod steps;
+#[cfg(test)]
+mod trials;

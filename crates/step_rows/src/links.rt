@@ -1,6 +1,6 @@
 //! Links where a step would go: none is followed, moved or replaced.
-use crate::held::{Folders, Held, Place, disk, tree_in};
-use bag_file_tree::FileTree;
+use crate::held::{Folders, Held, Place, tree_of};
+use crate::trials::{Trial, holds_in};
 use bag_tree::{Tree, TreeFault};
 use bag_write_tree::WriteTree;
 use std::test::Fail;
@@ -29,14 +29,14 @@ fn moves_nothing_through_a_link<T: WriteTree>(tree: &mut T) -> bool {
         && tree.open_file("x") == Ok(())
 }
 
-fn follows_no_link<T: WriteTree>(tree: &mut T) -> bool {
-    makes_nothing_through_a_link(tree) && moves_nothing_through_a_link(tree)
+pub(crate) fn follows_no_link<T: WriteTree + Drop>(tree: T) -> bool {
+    let mut tree = tree;
+    makes_nothing_through_a_link(&mut tree) && moves_nothing_through_a_link(&mut tree)
 }
 
 #[test]
 fn links_on_a_disk_in_memory(rt: HostRuntime) -> Result<(), Fail> {
-    let alloc = rt.alloc();
-    assert!(rt; follows_no_link(&mut FileTree::over(alloc, disk(alloc, LINKED)?)));
+    assert!(rt; follows_no_link(tree_of(rt.alloc(), LINKED)?));
     Ok(())
 }
 
@@ -46,25 +46,22 @@ fn is_link(rt: &HostRuntime, folders: &str, path: &str) -> io::Result<bool> {
     Ok(fs::symlink_metadata(rt, place.as_str())?.is_symlink())
 }
 
-/// How many files a tree has.
-fn count<T: Tree>(tree: &mut T) -> Result<usize, TreeFault> {
-    Ok(tree.list()?.files.len())
-}
-
-fn follow_no_link(rt: &HostRuntime, folders: &str) -> Result<bool, Fail> {
-    Ok(follows_no_link(&mut tree_in(rt, folders, "base")?))
+/// Whether a tree has no file.
+pub(crate) fn is_empty<T: Tree + Drop>(tree: T) -> Result<bool, TreeFault> {
+    let mut tree = tree;
+    Ok(tree.list()?.files.len() == 0)
 }
 
 /// Whether the links stand as before, and nothing is outside.
 fn have_links(rt: &HostRuntime, folders: &str) -> Result<bool, Fail> {
     let links = is_link(rt, folders, "l")? && is_link(rt, folders, "d/x")?;
-    Ok(links && count(&mut tree_in(rt, folders, "outside")?)? == 0)
+    Ok(links && holds_in(rt, folders, "outside", Trial::Empty)?)
 }
 
 #[test]
 fn links_in_a_real_folder(rt: HostRuntime) -> Result<(), Fail> {
     let folders = Folders::holding(&rt, "links", LINKED)?;
-    assert!(rt; follow_no_link(&rt, folders.path())?);
+    assert!(rt; holds_in(&rt, folders.path(), "base", Trial::Links)?);
     assert!(rt; have_links(&rt, folders.path())?);
     Ok(folders.remove(&rt)?)
 }

@@ -1,6 +1,6 @@
 //! Names with line ends, percent signs, blanks and other letters.
-use crate::held::{Files, Folders, Held, Place, disk, holds, tree_in};
-use bag_file_tree::FileTree;
+use crate::held::{Files, Held, Place, holds, tree_of};
+use crate::trials::{Trial, holds_afresh};
 use bag_tree::TreeFault;
 use bag_write_tree::WriteTree;
 use std::alloc::Global;
@@ -37,25 +37,21 @@ const AFTER: Files = &[
     ("data/\u{e9}", "e"),
 ];
 
-fn keep_names<T: WriteTree>(alloc: Global, tree: &mut T) -> Result<bool, TreeFault> {
-    take_steps(tree)?;
-    holds(alloc, tree, true, AFTER)
+pub(crate) fn keep_names<T: WriteTree + Drop>(alloc: Global, tree: T) -> Result<bool, TreeFault> {
+    let mut tree = tree;
+    take_steps(&mut tree)?;
+    holds(alloc, &mut tree, true, AFTER)
 }
 
 #[test]
 fn odd_names_on_a_disk_in_memory(rt: HostRuntime) -> Result<(), Fail> {
     let alloc = rt.alloc();
-    assert!(rt; keep_names(alloc, &mut FileTree::over(alloc, disk(alloc, NAMED)?))?);
+    assert!(rt; keep_names(alloc, tree_of(alloc, NAMED)?)?);
     Ok(())
-}
-
-fn keep_real_names(rt: &HostRuntime, folders: &str) -> Result<bool, Fail> {
-    Ok(keep_names(rt.alloc(), &mut tree_in(rt, folders, "base")?)?)
 }
 
 #[test]
 fn odd_names_in_a_real_folder(rt: HostRuntime) -> Result<(), Fail> {
-    let folders = Folders::holding(&rt, "names", NAMED)?;
-    assert!(rt; keep_real_names(&rt, folders.path())?);
-    Ok(folders.remove(&rt)?)
+    assert!(rt; holds_afresh(&rt, "names", NAMED, Trial::Names)?);
+    Ok(())
 }

@@ -72,14 +72,16 @@ const STEPS: &[(Step, u64, Files)] = &[
     (Step::Create, 2, WRITTEN),
 ];
 
-fn is_refused<T: WriteTree>(
+fn is_refused<T: WriteTree + Drop>(
     alloc: Global,
-    tree: &mut T,
+    tree: T,
     step: Step,
     expected: TreeFault,
     files: Files,
 ) -> Result<bool, TreeFault> {
-    Ok(take(tree, step) == Err(expected) && holds(alloc, tree, false, files)?)
+    let mut tree = tree;
+    let is_refused = take(&mut tree, step) == Err(expected);
+    Ok(holds(alloc, &mut tree, false, files)? && is_refused)
 }
 
 fn refuses_by_each_fault(
@@ -89,13 +91,8 @@ fn refuses_by_each_fault(
     files: Files,
 ) -> Result<bool, Fail> {
     for &(fault, expected) in FAULTS {
-        if !is_refused(
-            alloc,
-            &mut refusing(alloc, number, fault)?,
-            step,
-            expected,
-            files,
-        )? {
+        let tree = refusing(alloc, number, fault)?;
+        if !is_refused(alloc, tree, step, expected, files)? {
             return Ok(false);
         }
     }

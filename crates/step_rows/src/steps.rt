@@ -1,6 +1,6 @@
 //! The steps that make a folder a bag in place.
-use crate::held::{Files, Folders, SAMPLE, disk, holds, tree_in};
-use bag_file_tree::FileTree;
+use crate::held::{Files, SAMPLE, holds, tree_of};
+use crate::trials::{Trial, holds_afresh};
 use bag_tree::TreeFault;
 use bag_write_tree::WriteTree;
 use std::alloc::Global;
@@ -24,30 +24,30 @@ const AFTER: Files = &[
     ("data/x", "abc"),
 ];
 
-fn become_a_bag<T: WriteTree>(alloc: Global, tree: &mut T) -> Result<bool, TreeFault> {
-    take_steps(tree)?;
-    holds(alloc, tree, true, AFTER)
+pub(crate) fn becomes_a_bag<T: WriteTree + Drop>(
+    alloc: Global,
+    tree: T,
+) -> Result<bool, TreeFault> {
+    let mut tree = tree;
+    take_steps(&mut tree)?;
+    holds(alloc, &mut tree, true, AFTER)
 }
 
 #[test]
 fn steps_change_a_disk_in_memory(rt: HostRuntime) -> Result<(), Fail> {
     let alloc = rt.alloc();
-    assert!(rt; become_a_bag(alloc, &mut FileTree::over(alloc, disk(alloc, SAMPLE)?))?);
+    assert!(rt; becomes_a_bag(alloc, tree_of(alloc, SAMPLE)?)?);
     Ok(())
-}
-
-fn change(rt: &HostRuntime, folders: &str) -> Result<bool, Fail> {
-    Ok(become_a_bag(rt.alloc(), &mut tree_in(rt, folders, "base")?)?)
 }
 
 #[test]
 fn steps_change_a_real_folder(rt: HostRuntime) -> Result<(), Fail> {
-    let folders = Folders::holding(&rt, "steps", SAMPLE)?;
-    assert!(rt; change(&rt, folders.path())?);
-    Ok(folders.remove(&rt)?)
+    assert!(rt; holds_afresh(&rt, "steps", SAMPLE, Trial::Bag)?);
+    Ok(())
 }
 
-fn makes_whole<T: WriteTree>(tree: &mut T, bytes: &[u8]) -> Result<bool, TreeFault> {
+fn makes_whole<T: WriteTree + Drop>(tree: T, bytes: &[u8]) -> Result<bool, TreeFault> {
+    let mut tree = tree;
     tree.create("long", bytes)?;
     let listing = tree.list()?;
     let size = bytes.len() as u64;
@@ -61,14 +61,16 @@ fn makes_whole<T: WriteTree>(tree: &mut T, bytes: &[u8]) -> Result<bool, TreeFau
     )
 }
 
-fn make_long_file(rt: &HostRuntime, folders: &str) -> Result<bool, Fail> {
-    let text = "0123456789".repeat(rt.alloc(), 30_000)?;
-    Ok(makes_whole(&mut tree_in(rt, folders, "base")?, text.as_bytes())?)
+pub(crate) fn makes_long_file<T: WriteTree + Drop>(
+    alloc: Global,
+    tree: T,
+) -> Result<bool, TreeFault> {
+    let text = "0123456789".repeat(alloc, 30_000)?;
+    makes_whole(tree, text.as_bytes())
 }
 
 #[test]
 fn a_long_file_is_made_whole(rt: HostRuntime) -> Result<(), Fail> {
-    let folders = Folders::holding(&rt, "long", &[])?;
-    assert!(rt; make_long_file(&rt, folders.path())?);
-    Ok(folders.remove(&rt)?)
+    assert!(rt; holds_afresh(&rt, "long", &[], Trial::LongFile)?);
+    Ok(())
 }
