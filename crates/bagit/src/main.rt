@@ -11,10 +11,5 @@ use std::process::ExitCode;
 fn main(rt: HostRuntime) -> ExitCode {
     let mut failures = Failures::new(rt.alloc());
     let mut out = WriterOut::new(io::writer(&rt));
-    ExitCode::from(run_program(
-        &rt,
-        &mut failures,
-        &mut out,
-        &mut rt.stderr(),
-    ))
+    ExitCode::from(run_program(&rt, &mut failures, &mut out, &mut rt.stderr()))
 }
