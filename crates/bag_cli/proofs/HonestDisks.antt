@@ -4,6 +4,7 @@ use Rattle.std.specs.Io.KnownBytes.{Appends}
 use Rattle.std.specs.List.{concat}
 use Rattle.bag_tree.specs.declared.fault.Stop.{Stop}
 use Rattle.bag_disk.specs.Disk.{DiskState}
+use Rattle.bag_disks.specs.Visits.{Event}
 use Rattle.bag_file_tree.specs.DiskBag.{bag_of}
 use Rattle.bag_file_tree.specs.FileTree.{tree_state}
 use Rattle.bag_fault.specs.declared.fault.Fault.{Fault}
@@ -53,18 +54,18 @@ told request faults Stops before after refused (Unread n stop) calm run = absurd
 told request faults Stops before after refused (Unwritten n) calm run = absurd (calm refl)
 
 -- a check of an honest tree whose whole report was written
-whole_told : (plan : Plan) (profile : Option Profile) (disk : DiskState) (name : List ℕ) (before after : Option (List ℕ)) (noted : List ℕ) (n : ℕ) → IsTrue disk.honest
-    → IsWholeCheck plan profile (tree_state disk 0) name before after noted n → TellsReport plan profile (bag_of disk.nodes) name before after n
+whole_told : (plan : Plan) (profile : Option Profile) (disk : DiskState) (name : List ℕ) (before after : Option (List ℕ)) (visits : List Event) (n : ℕ) → IsTrue disk.honest
+    → IsWholeCheck plan profile (tree_state disk 0) name before after visits n → TellsReport plan profile (bag_of disk.nodes) name before after n
 unfolding Told
-whole_told plan profile disk name before after noted n honest whole calm report is =
-    let stops = MayStop plan.options (tree_state disk 0) whole.check.2.new in
+whole_told plan profile disk name before after visits n honest whole calm report is =
+    let stops = MayStop plan.options (tree_state disk 0) whole.check.0 in
     let run = whole.check.2.by_report honest report is in
     let all = told (request_of plan name) (above plan.after report) stops before after whole.refused whole.outcome (λ three. calm (whole.status_is ∙ three)) run in
     (whole.status_is ∙ ap status all.0, all.1)
 
 pub honest_disks_are_told : HonestDisksAreTold
-honest_disks_are_told plan profile below name before after refused noted n honest (inl last) calm report is = absurd (calm last.0)
-honest_disks_are_told plan profile below name before after refused noted n honest (inr on) calm report is =
+honest_disks_are_told plan profile below name before after refused visits n honest (inl last) calm report is = absurd (calm last.0)
+honest_disks_are_told plan profile below name before after refused visits n honest (inr on) calm report is =
     let same : n ≡ on.first = omega (arith, on.greatest, on.others.0) in
     let all = whole_told plan profile (below name) name before on.mid on.own on.first honest on.whole (λ three. calm (same ∙ three)) report is in
     (same ∙ all.0, subst (λ after. Appends before after _) (sym on.others.1) all.1)

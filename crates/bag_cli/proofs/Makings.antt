@@ -9,19 +9,21 @@ use Rattle.bag_make.specs.declared.fault.MakeFault.{MakeFault}
 use Rattle.bag_making.specs.Making.{IsMaking}
 use Rattle.bag_making.specs.MakingLine.{status}
 use Rattle.bag_arguments.specs.declared.plan.Plan.{Plan}
-use Rattle.bag_cli.specs.InTurn.{HasNoted, Last, Whole}
+use Rattle.bag_disks.specs.Visits.{Event, Entered, Left}
+use Rattle.bag_cli.specs.Checked.{visit_of}
+use Rattle.bag_cli.specs.InTurn.{HasVisited, Last, Whole}
 use Rattle.bag_cli.specs.Makings.{AreMakingsOf, IsLastMaking, IsTold, IsWholeMaking, element_of}
-use Rattle.bag_cli.proofs.Turns.{turns_status}
+use Rattle.bag_cli.proofs.Turns.{added, turns_status}
 
--- a making of the tree with the plan's elements, of which is noted how often its device came to fail
-pub noted_making : (plan : Plan) (info : List NewElement) (tree old new : TreeState) (name : List ℕ) (before after : Option (List ℕ)) (refused : Bool) (told : Result ℕ Refused) (start counts : List ℕ)
-    → counts ≡ start ++ new.failures ∷ [] → old ≡ tree → info ≡ map element_of plan.info
+-- a making of the tree with the plan's elements, which was given for the folder, and left as the making leaves it
+pub visited_making : (plan : Plan) (info : List NewElement) (tree old new : TreeState) (name : List ℕ) (before after : Option (List ℕ)) (refused : Bool) (told : Result ℕ Refused) (start mid visits : List Event)
+    → mid ≡ start ++ Entered name ∷ [] → visits ≡ mid ++ Left new ∷ [] → old ≡ tree → info ≡ map element_of plan.info
     → IsMaking name plan.algs info plan.quiet old new before after refused told
-    → HasNoted start counts (λ noted. IsTold plan tree name before after refused noted told)
-noted_making plan info tree old new name before after refused told start counts noted same is making =
+    → HasVisited start visits (λ visits. IsTold plan tree name before after refused visits told)
+visited_making plan info tree old new name before after refused told start mid visits entered left same is making =
     let making_with : List NewElement → Type 0 = λ info. IsMaking name plan.algs info plan.quiet old new before after refused told in
     let making_of : TreeState → Type 0 = λ tree. IsMaking name plan.algs (map element_of plan.info) plan.quiet tree new before after refused told in
-    (new.failures ∷ [], noted, record { new = new; is_noted = refl; making = subst making_of same (subst making_with is making) })
+    (visit_of name new, added start mid visits (Entered name ∷ []) (Left new ∷ []) entered left, record { new = new; visit = refl; making = subst making_of same (subst making_with is making) })
 
 -- the last making of a name, and a whole one
 abbrev pub ends : Plan → (List ℕ → TreeState) → Last
@@ -35,12 +37,12 @@ status_in (Ok x) n is = omega (arith, is)
 status_in (Err fault) n is = omega (arith, is)
 
 -- a whole making has a status
-pub whole_status_in : (plan : Plan) (tree_of : List ℕ → TreeState) (name : List ℕ) (before after : Option (List ℕ)) (noted : List ℕ) (n : ℕ)
-    → IsWholeMaking plan (tree_of name) name before after noted n → n ≤ 3
-whole_status_in plan tree_of name before after noted n whole = status_in whole.1.making.made n whole.1.making.tells.0
+pub whole_status_in : (plan : Plan) (tree_of : List ℕ → TreeState) (name : List ℕ) (before after : Option (List ℕ)) (visits : List Event) (n : ℕ)
+    → IsWholeMaking plan (tree_of name) name before after visits n → n ≤ 3
+whole_status_in plan tree_of name before after visits n whole = status_in whole.1.making.made n whole.1.making.tells.0
 
 -- what makings give is a status
-pub makings_status : (plan : Plan) (tree_of : List ℕ → TreeState) (names : List (List ℕ)) (before after : Option (List ℕ)) (refused : Bool) (noted : List ℕ) (n : ℕ)
-    → AreMakingsOf plan tree_of names before after refused noted n → n ≤ 3
-makings_status plan tree_of names before after refused noted n makings =
-    turns_status (ends plan tree_of) (goes plan tree_of) (whole_status_in plan tree_of) names before after refused noted n makings
+pub makings_status : (plan : Plan) (tree_of : List ℕ → TreeState) (names : List (List ℕ)) (before after : Option (List ℕ)) (refused : Bool) (visits : List Event) (n : ℕ)
+    → AreMakingsOf plan tree_of names before after refused visits n → n ≤ 3
+makings_status plan tree_of names before after refused visits n makings =
+    turns_status (ends plan tree_of) (goes plan tree_of) (whole_status_in plan tree_of) names before after refused visits n makings

@@ -2,44 +2,37 @@
 use Rattle.std.proofs.Common.{◌≡◌, inl, inr, ◌+◌, ◌∷◌, ◌++◌, ◌≤◌, ◌<◌, Bool, ℕ, List, [], Option, Some, None, refl, sym, ap, ◌∙◌, subst, arith, max, length, drop, get_or, append_assoc, append-nil}
 use Rattle.std.proofs.lemmas.List.{drop_more}
 use Rattle.std.specs.Prelude.{MatchOption, unwrap_or}
-use Rattle.bag_cli.specs.InTurn.{AreInTurn, GoesOn, HasNoted, Last, Whole}
+use Rattle.bag_disks.specs.Visits.{Event}
+use Rattle.bag_cli.specs.InTurn.{AreInTurn, GoesOn, HasVisited, Last, Whole}
 
--- ---- what was noted
+-- ---- visits
 
--- nothing was noted
-pub noted_nothing : (Done : List ℕ → Type 0) (old new : List ℕ) → new ≡ old → Done [] → HasNoted old new Done
-noted_nothing Done old new same done = ([], same ∙ sym (append-nil old), done)
-
--- what is done so is done otherwise, too
-pub noted_for : (Done Done' : List ℕ → Type 0) (old new : List ℕ) → ((noted : List ℕ) → Done noted → Done' noted) → HasNoted old new Done → HasNoted old new Done'
-noted_for Done Done' old new then noted = (noted.0, noted.1, then noted.0 noted.2)
-
--- and more after it
-added : (start mid new so_far own : List ℕ) → mid ≡ start ++ so_far → new ≡ mid ++ own → new ≡ start ++ (so_far ++ own)
+-- some, and more after them
+pub added : (start mid new so_far own : List Event) → mid ≡ start ++ so_far → new ≡ mid ++ own → new ≡ start ++ (so_far ++ own)
 added start mid new so_far own before then = then ∙ ap (λ mid. mid ++ own) before ∙ append_assoc start so_far own
 
 -- ---- statuses
 
 -- the statuses of what is whole are those of a run or a making
 abbrev pub HasStatuses : Whole → Type 0
-HasStatuses Goes = (name : List ℕ) (before after : Option (List ℕ)) (noted : List ℕ) (n : ℕ) → Goes name before after noted n → n ≤ 3
+HasStatuses Goes = (name : List ℕ) (before after : Option (List ℕ)) (visits : List Event) (n : ℕ) → Goes name before after visits n → n ≤ 3
 
 -- what is done in turn has a status
-pub turns_status : (Ends : Last) (Goes : Whole) → HasStatuses Goes → (names : List (List ℕ)) (before after : Option (List ℕ)) (refused : Bool) (noted : List ℕ) (n : ℕ)
-    → AreInTurn Ends Goes names before after refused noted n → n ≤ 3
-turns_status Ends Goes statuses [] before after refused noted n turns = omega (arith, turns.0)
-turns_status Ends Goes statuses (name ∷ names) before after refused noted n (inl last) = omega (arith, last.0)
-turns_status Ends Goes statuses (name ∷ names) before after refused noted n (inr on) =
+pub turns_status : (Ends : Last) (Goes : Whole) → HasStatuses Goes → (names : List (List ℕ)) (before after : Option (List ℕ)) (refused : Bool) (visits : List Event) (n : ℕ)
+    → AreInTurn Ends Goes names before after refused visits n → n ≤ 3
+turns_status Ends Goes statuses [] before after refused visits n turns = omega (arith, turns.0)
+turns_status Ends Goes statuses (name ∷ names) before after refused visits n (inl last) = omega (arith, last.0)
+turns_status Ends Goes statuses (name ∷ names) before after refused visits n (inr on) =
     let one = statuses name before on.mid on.own on.first on.whole in
-    let others = turns_status Ends Goes statuses names on.mid after refused on.left on.rest on.others in
+    let others = turns_status Ends Goes statuses names on.mid after refused on.later on.rest on.others in
     omega (arith, on.greatest, one, others)
 
 -- ---- one after another
 
 -- Done so far for the first i of these names: whatever is done for the others, with it this is all.
-pub TurnsTo : Last → Whole → List (List ℕ) → ℕ → Option (List ℕ) → Option (List ℕ) → List ℕ → ℕ → Type 0
+pub TurnsTo : Last → Whole → List (List ℕ) → ℕ → Option (List ℕ) → Option (List ℕ) → List Event → ℕ → Type 0
 TurnsTo Ends Goes names i before now so_far greatest =
-    (after : Option (List ℕ)) (refused : Bool) (left : List ℕ) (n : ℕ) → AreInTurn Ends Goes (drop i names) now after refused left n
+    (after : Option (List ℕ)) (refused : Bool) (left : List Event) (n : ℕ) → AreInTurn Ends Goes (drop i names) now after refused left n
     → AreInTurn Ends Goes names before after refused (so_far ++ left) (max greatest n)
 
 -- nothing done yet
@@ -48,21 +41,21 @@ unfolding TurnsTo
 none_yet Ends Goes names before after refused left n turns = subst (λ n. AreInTurn Ends Goes names before after refused left n) (omega arith) turns
 
 -- one more, which is whole
-pub one_more : (Ends : Last) (Goes : Whole) (names : List (List ℕ)) (i : ℕ) (name : List ℕ) (before now next : Option (List ℕ)) (so_far own : List ℕ) (greatest n m : ℕ)
+pub one_more : (Ends : Last) (Goes : Whole) (names : List (List ℕ)) (i : ℕ) (name : List ℕ) (before now next : Option (List ℕ)) (so_far own : List Event) (greatest n m : ℕ)
     → i < length names → name ≡ get_or names i name → m ≡ max greatest n → TurnsTo Ends Goes names i before now so_far greatest
     → Goes name now next own n → TurnsTo Ends Goes names (i + 1) before next (so_far ++ own) m
 unfolding TurnsTo
 one_more Ends Goes names i name before now next so_far own greatest n m lt is most turns whole after refused left k others =
     let on : GoesOn (Goes name) (λ mid left rest. AreInTurn Ends Goes (drop (i + 1) names) mid after refused left rest) now (own ++ left) (max n k) =
-    record { mid = next; own = own; left = left; first = n; rest = k; parts = refl; whole = whole; others = others; greatest = refl } in
+    record { mid = next; own = own; later = left; first = n; rest = k; parts = refl; whole = whole; others = others; greatest = refl } in
     let here : AreInTurn Ends Goes (name ∷ drop (i + 1) names) now after refused (own ++ left) (max n k) = inr on in
     let names_left : drop i names ≡ name ∷ drop (i + 1) names = drop_more names i name lt ∙ ap (λ x. x ∷ drop (i + 1) names) (sym is) in
     let all = turns after refused (own ++ left) (max n k) (subst (λ names. AreInTurn Ends Goes names now after refused (own ++ left) (max n k)) (sym names_left) here) in
-    subst (λ noted. AreInTurn Ends Goes names before after refused noted (max m k)) (sym (append_assoc so_far own left))
+    subst (λ visits. AreInTurn Ends Goes names before after refused visits (max m k)) (sym (append_assoc so_far own left))
     (subst (λ n. AreInTurn Ends Goes names before after refused (so_far ++ (own ++ left)) n) (omega (arith, most)) all)
 
 -- the last
-pub at_last : (Ends : Last) (Goes : Whole) (names : List (List ℕ)) (i : ℕ) (name : List ℕ) (before now after : Option (List ℕ)) (refused : Bool) (so_far own : List ℕ) (greatest : ℕ)
+pub at_last : (Ends : Last) (Goes : Whole) (names : List (List ℕ)) (i : ℕ) (name : List ℕ) (before now after : Option (List ℕ)) (refused : Bool) (so_far own : List Event) (greatest : ℕ)
     → i < length names → name ≡ get_or names i name → greatest ≤ 3 → TurnsTo Ends Goes names i before now so_far greatest
     → Ends name now after refused own → AreInTurn Ends Goes names before after refused (so_far ++ own) 3
 unfolding TurnsTo
@@ -73,51 +66,51 @@ at_last Ends Goes names i name before now after refused so_far own greatest lt i
     subst (λ n. AreInTurn Ends Goes names before after refused (so_far ++ own) n) (omega (arith, most)) all
 
 -- all were whole
-pub all_whole : (Ends : Last) (Goes : Whole) (names : List (List ℕ)) (i : ℕ) (before now : Option (List ℕ)) (refused : Bool) (so_far : List ℕ) (greatest : ℕ)
+pub all_whole : (Ends : Last) (Goes : Whole) (names : List (List ℕ)) (i : ℕ) (before now : Option (List ℕ)) (refused : Bool) (so_far : List Event) (greatest : ℕ)
     → drop i names ≡ [] → TurnsTo Ends Goes names i before now so_far greatest → AreInTurn Ends Goes names before now refused so_far greatest
 unfolding TurnsTo
 all_whole Ends Goes names i before now refused so_far greatest none turns =
     let nothing : AreInTurn Ends Goes [] now now refused [] 0 = (refl, refl, refl) in
     let all = turns now refused [] 0 (subst (λ left. AreInTurn Ends Goes left now now refused [] 0) (sym none) nothing) in
-    subst (λ noted. AreInTurn Ends Goes names before now refused noted greatest) (append-nil so_far)
+    subst (λ visits. AreInTurn Ends Goes names before now refused visits greatest) (append-nil so_far)
     (subst (λ n. AreInTurn Ends Goes names before now refused (so_far ++ []) n) (omega arith) all)
 
 -- one alone
-pub only_one : (Ends : Last) (Goes : Whole) (name : List ℕ) (before after : Option (List ℕ)) (refused : Bool) (noted : List ℕ) (next : Option ℕ)
-    → MatchOption next (Ends name before after refused noted) (λ n. Goes name before after noted n)
-    → AreInTurn Ends Goes (name ∷ []) before after refused noted (unwrap_or next 3)
-only_one Ends Goes name before after refused noted None last = inl (refl, last)
-only_one Ends Goes name before after refused noted (Some n) whole =
-    inr (record { mid = after; own = noted; left = []; first = n; rest = 0; parts = sym (append-nil noted); whole = whole; others = (refl, refl, refl); greatest = omega arith })
+pub only_one : (Ends : Last) (Goes : Whole) (name : List ℕ) (before after : Option (List ℕ)) (refused : Bool) (visits : List Event) (next : Option ℕ)
+    → MatchOption next (Ends name before after refused visits) (λ n. Goes name before after visits n)
+    → AreInTurn Ends Goes (name ∷ []) before after refused visits (unwrap_or next 3)
+only_one Ends Goes name before after refused visits None last = inl (refl, last)
+only_one Ends Goes name before after refused visits (Some n) whole =
+    inr (record { mid = after; own = visits; later = []; first = n; rest = 0; parts = sym (append-nil visits); whole = whole; others = (refl, refl, refl); greatest = omega arith })
 
--- ---- a loop over names, with what it has noted since its start
+-- ---- a loop over names, with what it has visits since its start
 
-abbrev pub Looped : Last → Whole → List (List ℕ) → ℕ → Option (List ℕ) → Option (List ℕ) → List ℕ → List ℕ → ℕ → Type 0
-Looped Ends Goes names i before now start counts greatest = HasNoted start counts (λ so_far. TurnsTo Ends Goes names i before now so_far greatest)
+abbrev pub Looped : Last → Whole → List (List ℕ) → ℕ → Option (List ℕ) → Option (List ℕ) → List Event → List Event → ℕ → Type 0
+Looped Ends Goes names i before now start counts greatest = HasVisited start counts (λ so_far. TurnsTo Ends Goes names i before now so_far greatest)
 
 -- one more, which is whole
-pub looped_more : (Ends : Last) (Goes : Whole) (names : List (List ℕ)) (i : ℕ) (name : List ℕ) (before now next : Option (List ℕ)) (start mid new own : List ℕ) (greatest n m : ℕ)
+pub looped_more : (Ends : Last) (Goes : Whole) (names : List (List ℕ)) (i : ℕ) (name : List ℕ) (before now next : Option (List ℕ)) (start mid new own : List Event) (greatest n m : ℕ)
     → i < length names → name ≡ get_or names i name → m ≡ max greatest n → Looped Ends Goes names i before now start mid greatest
     → new ≡ mid ++ own → Goes name now next own n → Looped Ends Goes names (i + 1) before next start new m
-looped_more Ends Goes names i name before now next start mid new own greatest n m lt is most looped noted whole = (
+looped_more Ends Goes names i name before now next start mid new own greatest n m lt is most looped visits whole = (
   looped.0 ++ own,
-  added start mid new looped.0 own looped.1 noted,
+  added start mid new looped.0 own looped.1 visits,
   one_more Ends Goes names i name before now next looped.0 own greatest n m lt is most looped.2 whole,
 )
 
 -- the last
-pub looped_last : (Ends : Last) (Goes : Whole) (names : List (List ℕ)) (i : ℕ) (name : List ℕ) (before now after : Option (List ℕ)) (refused : Bool) (start mid new own : List ℕ) (greatest : ℕ)
+pub looped_last : (Ends : Last) (Goes : Whole) (names : List (List ℕ)) (i : ℕ) (name : List ℕ) (before now after : Option (List ℕ)) (refused : Bool) (start mid new own : List Event) (greatest : ℕ)
     → i < length names → name ≡ get_or names i name → greatest ≤ 3 → Looped Ends Goes names i before now start mid greatest
-    → new ≡ mid ++ own → Ends name now after refused own → HasNoted start new (λ noted. AreInTurn Ends Goes names before after refused noted 3)
-looped_last Ends Goes names i name before now after refused start mid new own greatest lt is most looped noted last = (
+    → new ≡ mid ++ own → Ends name now after refused own → HasVisited start new (λ visits. AreInTurn Ends Goes names before after refused visits 3)
+looped_last Ends Goes names i name before now after refused start mid new own greatest lt is most looped visits last = (
   looped.0 ++ own,
-  added start mid new looped.0 own looped.1 noted,
+  added start mid new looped.0 own looped.1 visits,
   at_last Ends Goes names i name before now after refused looped.0 own greatest lt is most looped.2 last,
 )
 
 -- all were whole
-pub looped_all : (Ends : Last) (Goes : Whole) (names : List (List ℕ)) (i : ℕ) (before now : Option (List ℕ)) (refused : Bool) (start counts : List ℕ) (greatest : ℕ)
+pub looped_all : (Ends : Last) (Goes : Whole) (names : List (List ℕ)) (i : ℕ) (before now : Option (List ℕ)) (refused : Bool) (start counts : List Event) (greatest : ℕ)
     → drop i names ≡ [] → Looped Ends Goes names i before now start counts greatest
-    → HasNoted start counts (λ noted. AreInTurn Ends Goes names before now refused noted greatest)
+    → HasVisited start counts (λ visits. AreInTurn Ends Goes names before now refused visits greatest)
 looped_all Ends Goes names i before now refused start counts greatest none looped =
     (looped.0, looped.1, all_whole Ends Goes names i before now refused looped.0 greatest none looped.2)

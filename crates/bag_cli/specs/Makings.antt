@@ -1,32 +1,34 @@
 -- What is done where folders are made bags, and the exit status.
-use Rattle.std.specs.Prelude.{ℕ, ◌≡◌, ◌⊎◌, Bool, List, [], ◌∷◌, Option, Result, Ok, Err, map}
+use Rattle.std.specs.Prelude.{ℕ, ◌≡◌, ◌⊎◌, Bool, List, [], Option, Result, Ok, Err, map}
 use Rattle.bag_tree.specs.Tree.{TreeState}
 use Rattle.bag_tree.specs.declared.out.Refused.{Refused}
 use Rattle.bag_write.specs.Element.{NewElement}
 use Rattle.bag_making.specs.Making.{IsMaking}
 use Rattle.bag_arguments.specs.declared.plan.InfoItem.{InfoItem}
 use Rattle.bag_arguments.specs.declared.plan.Plan.{Plan}
+use Rattle.bag_disks.specs.Visits.{Event}
+use Rattle.bag_cli.specs.Checked.{visit_of}
 use Rattle.bag_cli.specs.InTurn.{AreInTurn}
 
 abbrev pub element_of : InfoItem → NewElement
 element_of item = (item.label, item.value)
 
--- The folder was made a bag by a plan, or wasn't, and that was told. What was noted is how often the device of its tree came to
--- fail.
-pub record IsTold (plan : Plan) (tree : TreeState) (name : List ℕ) (before after : Option (List ℕ)) (refused : Bool) (noted : List ℕ) (told : Result ℕ Refused) : Type 0 where
+-- The folder was made a bag by a plan, or wasn't, and that was told: of the tree that was given for it, which was left as making
+-- leaves it.
+pub record IsTold (plan : Plan) (tree : TreeState) (name : List ℕ) (before after : Option (List ℕ)) (refused : Bool) (visits : List Event) (told : Result ℕ Refused) : Type 0 where
   pub new : TreeState
-  pub is_noted : noted ≡ new.failures ∷ []
+  pub visit : visits ≡ visit_of name new
   pub making : IsMaking name plan.algs (map element_of plan.info) plan.quiet tree new before after refused told
 
 -- a making whose line was written, and its status
-abbrev pub IsWholeMaking : Plan → TreeState → List ℕ → Option (List ℕ) → Option (List ℕ) → List ℕ → ℕ → Type 0
-IsWholeMaking plan tree name before after noted n = (refused : Bool) × IsTold plan tree name before after refused noted (Ok n)
+abbrev pub IsWholeMaking : Plan → TreeState → List ℕ → Option (List ℕ) → Option (List ℕ) → List Event → ℕ → Type 0
+IsWholeMaking plan tree name before after visits n = (refused : Bool) × IsTold plan tree name before after refused visits (Ok n)
 
--- a making that is the last: the output refused its line, or memory ran out before it
-abbrev pub IsLastMaking : Plan → TreeState → List ℕ → Option (List ℕ) → Option (List ℕ) → Bool → List ℕ → Type 0
-IsLastMaking plan tree name before after refused noted = ((refusal : Refused) × IsTold plan tree name before after refused noted (Err refusal)) ⊎ (after ≡ before)
+-- a making that is the last: the output refused its line, or memory ran out before the folder was looked into
+abbrev pub IsLastMaking : Plan → TreeState → List ℕ → Option (List ℕ) → Option (List ℕ) → Bool → List Event → Type 0
+IsLastMaking plan tree name before after refused visits = ((refusal : Refused) × IsTold plan tree name before after refused visits (Err refusal)) ⊎ ((after ≡ before) × (visits ≡ []))
 
 -- the makings of the folders of these names in the trees that they name, one after the other
-abbrev pub AreMakingsOf : Plan → (List ℕ → TreeState) → List (List ℕ) → Option (List ℕ) → Option (List ℕ) → Bool → List ℕ → ℕ → Type 0
-AreMakingsOf plan tree_of names before after refused noted n =
-    AreInTurn (λ name. IsLastMaking plan (tree_of name) name) (λ name. IsWholeMaking plan (tree_of name) name) names before after refused noted n
+abbrev pub AreMakingsOf : Plan → (List ℕ → TreeState) → List (List ℕ) → Option (List ℕ) → Option (List ℕ) → Bool → List Event → ℕ → Type 0
+AreMakingsOf plan tree_of names before after refused visits n =
+    AreInTurn (λ name. IsLastMaking plan (tree_of name) name) (λ name. IsWholeMaking plan (tree_of name) name) names before after refused visits n

@@ -1,9 +1,11 @@
--- What the checks of honest disks tell.
-use Rattle.std.specs.Prelude.{ℕ, ◌≡◌, ◌≢◌, Bool, IsTrue, List, [], ◌∷◌, Option, None, length, min}
+-- What checks and makings of honest disks tell.
+use Rattle.std.specs.Prelude.{ℕ, ◌≡◌, ◌≢◌, Bool, IsTrue, List, [], ◌∷◌, Option, None, length, map, min}
 use Rattle.std.specs.Io.KnownBytes.{Appends}
 use Rattle.std.specs.List.{concat}
 use Rattle.bag_tree.specs.Bag.{Bag}
+use Rattle.bag_tree.specs.Tree.{TreeState}
 use Rattle.bag_disk.specs.Disk.{DiskState}
+use Rattle.bag_disks.specs.Visits.{Event}
 use Rattle.bag_file_tree.specs.DiskBag.{bag_of}
 use Rattle.bag_file_tree.specs.FileTree.{tree_state}
 use Rattle.bag_fault.specs.declared.fault.Fault.{Fault}
@@ -13,9 +15,11 @@ use Rattle.bag_output.specs.declared.outcome.Request.{Request}
 use Rattle.bag_profile.specs.Profile.{Profile}
 use Rattle.bag_report.specs.Report.{IsReport, above, first}
 use Rattle.bag_walk.specs.Run.{check_of}
+use Rattle.bag_making.specs.Honest.{IsToldMade}
 use Rattle.bag_arguments.specs.declared.plan.Action.TheVariants.{Check}
 use Rattle.bag_arguments.specs.declared.plan.Plan.{Plan}
-use Rattle.bag_cli.specs.Checked.{AreChecksOf, request_of}
+use Rattle.bag_cli.specs.Checked.{AreChecksOf, request_of, visit_of}
+use Rattle.bag_cli.specs.Makings.{AreMakingsOf, element_of}
 
 -- of these faults, which are above the cursor, those that a request shows where nothing is refused
 abbrev pub shown_of : Request → List Fault → List Fault
@@ -36,9 +40,22 @@ TellsReport plan profile bag name before after n =
 -- the law: over an honest disk, the check of one directory tells the report of the bag that stands there
 abbrev pub HonestDisksAreTold : Type 0
 HonestDisksAreTold =
-    (plan : Plan) (profile : Option Profile) (below : List ℕ → DiskState) (name : List ℕ) (before after : Option (List ℕ)) (refused : Bool) (noted : List ℕ) (n : ℕ)
-    → IsTrue (below name).honest → AreChecksOf plan profile (λ name. tree_state (below name) 0) (name ∷ []) before after refused noted n
+    (plan : Plan) (profile : Option Profile) (below : List ℕ → DiskState) (name : List ℕ) (before after : Option (List ℕ)) (refused : Bool) (visits : List Event) (n : ℕ)
+    → IsTrue (below name).honest → AreChecksOf plan profile (λ name. tree_state (below name) 0) (name ∷ []) before after refused visits n
     → TellsReport plan profile (bag_of (below name).nodes) name before after n
+
+-- The folder's tree was left as the bag that the plan makes of what stood there, it has no fault where its size can be told, and
+-- that was said but for a quiet making.
+abbrev pub TellsMade : Plan → Bag → List ℕ → Option (List ℕ) → Option (List ℕ) → List Event → Type 0
+TellsMade plan bag name before after visits =
+    (new : TreeState) × (visits ≡ visit_of name new) × IsToldMade name plan.algs (map element_of plan.info) plan.quiet bag new.bag before after 0
+
+-- the law: over an honest disk, the making of one directory with status 0 left it a bag, and told that
+abbrev pub HonestFoldersAreMade : Type 0
+HonestFoldersAreMade =
+    (plan : Plan) (below : List ℕ → DiskState) (name : List ℕ) (before after : Option (List ℕ)) (refused : Bool) (visits : List Event)
+    → IsTrue (below name).honest → AreMakingsOf plan (λ name. tree_state (below name) 0) (name ∷ []) before after refused visits 0
+    → TellsMade plan (bag_of (below name).nodes) name before after visits
 
 -- a plan that checks one directory, without a profile
 abbrev pub IsCheckOfOne : Plan → List ℕ → Type 0

@@ -1,18 +1,16 @@
 //! Checks of bags, one after the other.
-ghost use Rattle.std.specs.Prelude.{◌≡◌, ◌∷◌, [], MatchOption, None, codes};
+ghost use Rattle.std.specs.Prelude.{◌≡◌, MatchOption};
 ghost use Rattle.std.specs.Option.{option_copied};
-ghost use Rattle.bag_file_tree.specs.Failures.{counts_of};
+ghost use Rattle.bag_disks.specs.Folders.{disks_of, visits_of};
 ghost use Rattle.bag_file_tree.specs.FileTree.{tree_state};
-ghost use Rattle.bag_cli.specs.Checked.{AreChecksOf, IsLastCheck, IsWholeCheck};
-ghost use Rattle.bag_cli.specs.InTurn.{HasNoted};
-ghost use Rattle.bag_cli.specs.Sample.{sample_state};
+ghost use Rattle.bag_cli.specs.Checked.{AreChecksOf, IsLastCheck, IsSampleChecked, IsWholeCheck};
+ghost use Rattle.bag_cli.specs.InTurn.{HasVisited};
 ghost use Rattle.bag_cli.specs.Status.{whole_status};
 
 use crate::check::{check_folder, check_sample};
 use crate::performing::{REFUSED, say_memory, say_refused};
 use bag_arguments::Plan;
-use bag_disks::Disks;
-use bag_file_tree::Failures;
+use bag_disks::{Disks, Folders, Visits};
 use bag_profile::Profile;
 use bag_text::Text;
 use bag_tree::Out;
@@ -25,7 +23,7 @@ pub(crate) fn report_sample<O, E>(alloc: Global, plan: &Plan, out: &mut O, err: 
 where
     O: Out,
     E: Write,
-    ensures { AreChecksOf plan.now None (λ _. sample_state) (codes "sample" ∷ []) (O.taken out.old) (O.taken out.new) (O.has_refused out.new) (0 ∷ []) result }
+    ensures { IsSampleChecked plan.now (O.taken out.old) (O.taken out.new) (O.has_refused out.new) result }
 {
     let checked = check_sample(alloc, plan, out);
     status_of_whole(&checked, err).unwrap_or(REFUSED)
@@ -34,11 +32,11 @@ where
 /// Checks the bags in folders, one after the other.
 pub(crate) fn check_all<D, O, E>(
     alloc: Global,
-    disks: &D,
+    folders: &Folders<'_, D>,
     plan: &Plan,
     profile: Option<&Profile>,
     directories: &[Text],
-    failures: &mut Failures,
+    visits: &mut Visits<D>,
     out: &mut O,
     err: &mut E,
 ) -> u8
@@ -46,14 +44,14 @@ where
     D: Disks,
     O: Out,
     E: Write,
-    ensures { HasNoted (counts_of failures.old) (counts_of failures.new)
-        (λ noted. AreChecksOf plan.now (option_copied profile.entry) (λ name. tree_state (D.below disks.now name) 0) directories.now
-        (O.taken out.old) (O.taken out.new) (O.has_refused out.new) noted result) }
+    ensures { HasVisited (visits_of visits.old) (visits_of visits.new)
+        (λ own. AreChecksOf plan.now (option_copied profile.entry) (λ name. tree_state (D.below (disks_of folders.now) name) 0) directories.now
+        (O.taken out.old) (O.taken out.new) (O.has_refused out.new) own result) }
 {
     let mut greatest = 0;
     for directory in directories {
         let name = directory.as_str();
-        match check_next(alloc, disks, plan, profile, name, failures, out, err) {
+        match check_next(alloc, folders, plan, profile, name, visits, out, err) {
             Some(status) => greatest = greatest.max(status),
             None => return REFUSED,
         }
@@ -65,11 +63,11 @@ where
 /// report was written.
 fn check_next<D, O, E>(
     alloc: Global,
-    disks: &D,
+    folders: &Folders<'_, D>,
     plan: &Plan,
     profile: Option<&Profile>,
     directory: &str,
-    failures: &mut Failures,
+    visits: &mut Visits<D>,
     out: &mut O,
     err: &mut E,
 ) -> Option<u8>
@@ -77,11 +75,11 @@ where
     D: Disks,
     O: Out,
     E: Write,
-    ensures { HasNoted (counts_of failures.old) (counts_of failures.new) (λ noted. MatchOption result
-        (IsLastCheck plan.now (option_copied profile.entry) (tree_state (D.below disks.now directory.now) 0) directory.now (O.taken out.old) (O.taken out.new) (O.has_refused out.new) noted)
-        (λ status. IsWholeCheck plan.now (option_copied profile.entry) (tree_state (D.below disks.now directory.now) 0) directory.now (O.taken out.old) (O.taken out.new) noted status)) }
+    ensures { HasVisited (visits_of visits.old) (visits_of visits.new) (λ own. MatchOption result
+        (IsLastCheck plan.now (option_copied profile.entry) (tree_state (D.below (disks_of folders.now) directory.now) 0) directory.now (O.taken out.old) (O.taken out.new) (O.has_refused out.new) own)
+        (λ status. IsWholeCheck plan.now (option_copied profile.entry) (tree_state (D.below (disks_of folders.now) directory.now) 0) directory.now (O.taken out.old) (O.taken out.new) own status)) }
 {
-    let checked = check_folder(alloc, disks, plan, profile, directory, failures, out);
+    let checked = check_folder(alloc, folders, plan, profile, directory, visits, out);
     status_of_whole(&checked, err)
 }
 

@@ -1,15 +1,14 @@
 //! Bags that are made of folders, one after the other.
-ghost use Rattle.std.specs.Prelude.{◌≡◌, IfOk, MatchOption, MatchResult, map};
-ghost use Rattle.bag_file_tree.specs.Failures.{counts_of};
+ghost use Rattle.std.specs.Prelude.{◌≡◌, [], IfOk, MatchOption, MatchResult, map};
+ghost use Rattle.bag_disks.specs.Folders.{disks_of, visits_of};
 ghost use Rattle.bag_file_tree.specs.FileTree.{tree_state};
-ghost use Rattle.bag_cli.specs.InTurn.{HasNoted};
+ghost use Rattle.bag_cli.specs.InTurn.{HasVisited};
 ghost use Rattle.bag_cli.specs.Makings.{AreMakingsOf, IsLastMaking, IsTold, IsWholeMaking, element_of};
 ghost use Rattle.bag_cli.specs.Performed.{AreMade};
 
 use crate::performing::{REFUSED, say_memory, say_refused};
 use bag_arguments::{InfoItem, Plan};
-use bag_disks::Disks;
-use bag_file_tree::{Failures, FileTree};
+use bag_disks::{Disks, Folders, Visits};
 use bag_making::make_folder;
 use bag_text::Text;
 use bag_tree::{Out, Refused};
@@ -19,9 +18,9 @@ use std::io::Write;
 /// Makes the folders of a plan bags in place, one after the other.
 pub(crate) fn make_all<D, O, E>(
     alloc: Global,
-    disks: &D,
+    folders: &Folders<'_, D>,
     plan: &Plan,
-    failures: &mut Failures,
+    visits: &mut Visits<D>,
     out: &mut O,
     err: &mut E,
 ) -> u8
@@ -29,13 +28,13 @@ where
     D: Disks,
     O: Out,
     E: Write,
-    ensures { HasNoted (counts_of failures.old) (counts_of failures.new)
-        (λ noted. AreMade (D.below disks.now) plan.now (O.taken out.old) (O.taken out.new) (O.has_refused out.new) noted result) }
+    ensures { HasVisited (visits_of visits.old) (visits_of visits.new)
+        (λ own. AreMade (D.below (disks_of folders.now)) plan.now (O.taken out.old) (O.taken out.new) (O.has_refused out.new) own result) }
 {
     match elements(alloc, plan.info.as_slice()) {
         Ok(info) => {
             let directories = plan.directories.as_slice();
-            make_each(alloc, disks, plan, &info, directories, failures, out, err)
+            make_each(alloc, folders, plan, &info, directories, visits, out, err)
         }
         Err(AllocError) => {
             say_memory(err);
@@ -58,11 +57,11 @@ fn elements(alloc: Global, info: &[InfoItem]) -> Result<Vec<(Text, Text)>, Alloc
 /// Makes folders bags, with these elements.
 fn make_each<D, O, E>(
     alloc: Global,
-    disks: &D,
+    folders: &Folders<'_, D>,
     plan: &Plan,
     info: &[(Text, Text)],
     directories: &[Text],
-    failures: &mut Failures,
+    visits: &mut Visits<D>,
     out: &mut O,
     err: &mut E,
 ) -> u8
@@ -71,13 +70,13 @@ where
     O: Out,
     E: Write,
     requires { info.now ≡ map element_of plan.now.info }
-    ensures { HasNoted (counts_of failures.old) (counts_of failures.new) (λ noted. AreMakingsOf plan.now (λ name. tree_state (D.below disks.now name) 0)
-        directories.now (O.taken out.old) (O.taken out.new) (O.has_refused out.new) noted result) }
+    ensures { HasVisited (visits_of visits.old) (visits_of visits.new) (λ own. AreMakingsOf plan.now (λ name. tree_state (D.below (disks_of folders.now) name) 0)
+        directories.now (O.taken out.old) (O.taken out.new) (O.has_refused out.new) own result) }
 {
     let mut greatest = 0;
     for directory in directories {
         let name = directory.as_str();
-        match make_next(alloc, disks, plan, info, name, failures, out, err) {
+        match make_next(alloc, folders, plan, info, name, visits, out, err) {
             Some(status) => greatest = greatest.max(status),
             None => return REFUSED,
         }
@@ -88,11 +87,11 @@ where
 /// Makes a folder a bag, and says on `err` what was refused beside its line. Gives the status where the line was written.
 fn make_next<D, O, E>(
     alloc: Global,
-    disks: &D,
+    folders: &Folders<'_, D>,
     plan: &Plan,
     info: &[(Text, Text)],
     directory: &str,
-    failures: &mut Failures,
+    visits: &mut Visits<D>,
     out: &mut O,
     err: &mut E,
 ) -> Option<u8>
@@ -101,11 +100,11 @@ where
     O: Out,
     E: Write,
     requires { info.now ≡ map element_of plan.now.info }
-    ensures { HasNoted (counts_of failures.old) (counts_of failures.new) (λ noted. MatchOption result
-        (IsLastMaking plan.now (tree_state (D.below disks.now directory.now) 0) directory.now (O.taken out.old) (O.taken out.new) (O.has_refused out.new) noted)
-        (λ status. IsWholeMaking plan.now (tree_state (D.below disks.now directory.now) 0) directory.now (O.taken out.old) (O.taken out.new) noted status)) }
+    ensures { HasVisited (visits_of visits.old) (visits_of visits.new) (λ own. MatchOption result
+        (IsLastMaking plan.now (tree_state (D.below (disks_of folders.now) directory.now) 0) directory.now (O.taken out.old) (O.taken out.new) (O.has_refused out.new) own)
+        (λ status. IsWholeMaking plan.now (tree_state (D.below (disks_of folders.now) directory.now) 0) directory.now (O.taken out.old) (O.taken out.new) own status)) }
 {
-    match make_one(alloc, disks, plan, info, directory, failures, out) {
+    match make_one(alloc, folders, plan, info, directory, visits, out) {
         Ok(Ok(status)) => Some(status),
         Ok(Err(Refused)) => {
             say_refused(err);
@@ -118,24 +117,23 @@ where
     }
 }
 
-/// Makes a folder a bag, and notes how often its device failed. Gives the status, or the output's refusal.
+/// Makes a folder a bag. Gives the status, or the output's refusal.
 fn make_one<D: Disks, O: Out>(
     alloc: Global,
-    disks: &D,
+    folders: &Folders<'_, D>,
     plan: &Plan,
     info: &[(Text, Text)],
     directory: &str,
-    failures: &mut Failures,
+    visits: &mut Visits<D>,
     out: &mut O,
 ) -> Result<Result<u8, Refused>, AllocError>
     requires { info.now ≡ map element_of plan.now.info }
-    ensures { HasNoted (counts_of failures.old) (counts_of failures.new) (λ noted. MatchResult result
-        (λ told. IsTold plan.now (tree_state (D.below disks.now directory.now) 0) directory.now (O.taken out.old) (O.taken out.new) (O.has_refused out.new) noted told)
-        (λ _. O.taken out.new ≡ O.taken out.old)) }
+    ensures { HasVisited (visits_of visits.old) (visits_of visits.new) (λ own. MatchResult result
+        (λ told. IsTold plan.now (tree_state (D.below (disks_of folders.now) directory.now) 0) directory.now (O.taken out.old) (O.taken out.new) (O.has_refused out.new) own told)
+        (λ _. (O.taken out.new ≡ O.taken out.old) × (own ≡ []))) }
 {
-    failures.begin()?;
-    let tree = FileTree::over(alloc, disks.disk(alloc, directory)?);
+    let tree = folders.enter(alloc, directory, visits)?;
     let (tree, told) = make_folder(alloc, tree, directory, plan.algs, info, plan.quiet, out);
-    failures.note(&tree);
+    folders.leave(tree, visits);
     Ok(told)
 }

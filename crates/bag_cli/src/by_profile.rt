@@ -1,14 +1,13 @@
 //! Checks by the profile of a plan.
-ghost use Rattle.bag_cli.specs.InTurn.{HasNoted};
+ghost use Rattle.bag_cli.specs.InTurn.{HasVisited};
 ghost use Rattle.bag_cli.specs.Performed.{AreCheckedBy, IsChecked, lines_before};
-ghost use Rattle.bag_file_tree.specs.Failures.{counts_of};
+ghost use Rattle.bag_disks.specs.Folders.{disks_of, visits_of};
 ghost use Rattle.bag_output.specs.Write.{Writes};
 
 use crate::all_checks::check_all;
 use crate::performing::{REFUSED, say_refused};
 use bag_arguments::Plan;
-use bag_disks::Disks;
-use bag_file_tree::Failures;
+use bag_disks::{Disks, Folders, Visits};
 use bag_profile::Profile;
 use bag_profile_file::{read_profile, refuse_profile, write_unchecked};
 use bag_tree::{Out, Refused};
@@ -18,9 +17,9 @@ use std::io::Write;
 /// Checks the bags in the folders of a plan, by its profile where it has one, which is read first.
 pub(crate) fn check_by_profile<D, O, E>(
     alloc: Global,
-    disks: &D,
+    folders: &Folders<'_, D>,
     plan: &Plan,
-    failures: &mut Failures,
+    visits: &mut Visits<D>,
     out: &mut O,
     err: &mut E,
 ) -> u8
@@ -28,15 +27,15 @@ where
     D: Disks,
     O: Out,
     E: Write,
-    ensures { HasNoted (counts_of failures.old) (counts_of failures.new) (λ noted. IsChecked (D.below disks.now) (D.file disks.now) plan.now
-        plan.now.profile (O.taken out.old) (O.taken out.new) (O.has_refused out.new) noted result) }
+    ensures { HasVisited (visits_of visits.old) (visits_of visits.new) (λ own. IsChecked (D.below (disks_of folders.now)) (D.file (disks_of folders.now)) plan.now
+        plan.now.profile (O.taken out.old) (O.taken out.new) (O.has_refused out.new) own result) }
 {
     let Some(path) = &plan.profile else {
         let directories = plan.directories.as_slice();
-        return check_all(alloc, disks, plan, None, directories, failures, out, err);
+        return check_all(alloc, folders, plan, None, directories, visits, out, err);
     };
-    match read_profile(alloc, disks, path.as_str()) {
-        Ok(profile) => check_by(alloc, disks, plan, &profile, failures, out, err),
+    match read_profile(alloc, folders, path.as_str(), visits) {
+        Ok(profile) => check_by(alloc, folders, plan, &profile, visits, out, err),
         Err(refusal) => refuse_profile(refusal, err),
     }
 }
@@ -44,10 +43,10 @@ where
 /// Says which keys of a profile aren't checked, and checks the bags in the folders of a plan by it.
 fn check_by<D, O, E>(
     alloc: Global,
-    disks: &D,
+    folders: &Folders<'_, D>,
     plan: &Plan,
     profile: &Profile,
-    failures: &mut Failures,
+    visits: &mut Visits<D>,
     out: &mut O,
     err: &mut E,
 ) -> u8
@@ -55,19 +54,19 @@ where
     D: Disks,
     O: Out,
     E: Write,
-    ensures { HasNoted (counts_of failures.old) (counts_of failures.new)
-        (λ noted. AreCheckedBy (D.below disks.now) plan.now profile.now (O.taken out.old) (O.taken out.new) (O.has_refused out.new) noted result) }
+    ensures { HasVisited (visits_of visits.old) (visits_of visits.new)
+        (λ own. AreCheckedBy (D.below (disks_of folders.now)) plan.now profile.now (O.taken out.old) (O.taken out.new) (O.has_refused out.new) own result) }
 {
     match say_unchecked(plan.quiet, profile, out) {
         Ok(()) => {
             let directories = plan.directories.as_slice();
             check_all(
                 alloc,
-                disks,
+                folders,
                 plan,
                 Some(profile),
                 directories,
-                failures,
+                visits,
                 out,
                 err,
             )

@@ -1,43 +1,40 @@
 //! One check: the report of one bag.
-ghost use Rattle.std.specs.Prelude.{◌≡◌, ◌∷◌, [], IfOk, MatchResult, None, codes};
+ghost use Rattle.std.specs.Prelude.{◌≡◌, [], IfOk, MatchResult};
 ghost use Rattle.std.specs.Option.{option_copied};
-ghost use Rattle.bag_file_tree.specs.Failures.{counts_of};
+ghost use Rattle.bag_disks.specs.Folders.{disks_of, visits_of};
 ghost use Rattle.bag_file_tree.specs.FileTree.{tree_state};
-ghost use Rattle.bag_cli.specs.Checked.{IsNotedCheck, request_of};
-ghost use Rattle.bag_cli.specs.InTurn.{HasNoted};
-ghost use Rattle.bag_cli.specs.Sample.{sample_state};
+ghost use Rattle.bag_cli.specs.Checked.{IsCheckOfSample, IsVisitToCheck, request_of};
+ghost use Rattle.bag_cli.specs.InTurn.{HasVisited};
 
 use crate::sample::sample_tree;
 use bag_arguments::Plan;
-use bag_disks::Disks;
+use bag_disks::{Disks, Folders, Visits};
 use bag_fault::Fault;
-use bag_file_tree::{Failures, FileTree};
 use bag_profile::Profile;
 use bag_text::Text;
 use bag_tree::Out;
 use bag_walk::{Outcome, Request, run};
 use std::alloc::{AllocError, Global};
 
-/// Checks the bag in a folder, as a plan says, and notes how often its device failed.
+/// Checks the bag in a folder, as a plan says.
 pub(crate) fn check_folder<D: Disks, O: Out>(
     alloc: Global,
-    disks: &D,
+    folders: &Folders<'_, D>,
     plan: &Plan,
     profile: Option<&Profile>,
     directory: &str,
-    failures: &mut Failures,
+    visits: &mut Visits<D>,
     out: &mut O,
 ) -> Result<Outcome, AllocError>
-    ensures { HasNoted (counts_of failures.old) (counts_of failures.new) (λ noted. MatchResult result
-        (λ outcome. IsNotedCheck plan.now (option_copied profile.entry) (tree_state (D.below disks.now directory.now) 0) directory.now
-        (O.taken out.old) (O.taken out.new) (O.has_refused out.new) noted outcome)
-        (λ _. O.taken out.new ≡ O.taken out.old)) }
+    ensures { HasVisited (visits_of visits.old) (visits_of visits.new) (λ own. MatchResult result
+        (λ outcome. IsVisitToCheck plan.now (option_copied profile.entry) (tree_state (D.below (disks_of folders.now) directory.now) 0) directory.now
+        (O.taken out.old) (O.taken out.new) (O.has_refused out.new) own outcome)
+        (λ _. (O.taken out.new ≡ O.taken out.old) × (own ≡ []))) }
 {
     let request = request_for(alloc, plan, directory)?;
-    failures.begin()?;
-    let tree = FileTree::over(alloc, disks.disk(alloc, directory)?);
+    let tree = folders.enter(alloc, directory, visits)?;
     let (tree, outcome) = run(alloc, tree, profile, request, out);
-    failures.note(&tree);
+    folders.leave(tree, visits);
     Ok(outcome)
 }
 
@@ -48,7 +45,7 @@ pub(crate) fn check_sample<O: Out>(
     out: &mut O,
 ) -> Result<Outcome, AllocError>
     ensures { MatchResult result
-        (λ outcome. IsNotedCheck plan.now None sample_state (codes "sample") (O.taken out.old) (O.taken out.new) (O.has_refused out.new) (0 ∷ []) outcome)
+        (λ outcome. IsCheckOfSample plan.now (O.taken out.old) (O.taken out.new) (O.has_refused out.new) outcome)
         (λ _. O.taken out.new ≡ O.taken out.old) }
 {
     let request = request_for(alloc, plan, "sample")?;

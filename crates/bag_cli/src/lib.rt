@@ -1,9 +1,9 @@
 //! What the command line does: the plan of its words, and what that plan says.
 //!
 //! ```
-//! let mut failures = Failures::new(rt.alloc());
+//! let (folders, mut visits) = Folders::of(&rt);
 //! let mut out = WriterOut::new(io::writer(&rt));
-//! let status = run_program(&rt, &mut failures, &mut out, &mut rt.stderr());
+//! let status = run_program(&rt, &folders, &mut visits, &mut out, &mut rt.stderr());
 //! ```
 #![tactic(auto)]
 
@@ -18,9 +18,8 @@ mod whole_program;
 mod words;
 
 pub use bag_arguments::{Action, Plan, Usage, plan_of, refuse_words};
-pub use bag_disks::Disks;
-pub use bag_file_tree::Failures;
+pub use bag_disks::{Disks, Folders, Visits};
 pub use bag_tree::WriterOut;
-pub use performing::{perform, perform_over};
+pub use performing::perform;
 pub use whole_program::{program, run_program};
 pub use words::Words;

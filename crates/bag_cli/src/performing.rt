@@ -1,15 +1,14 @@
 //! Does what a plan says.
 ghost use Rattle.std.specs.Prelude.{◌≡◌, ◌≤◌, []};
-ghost use Rattle.bag_file_tree.specs.Failures.{counts_of};
-ghost use Rattle.bag_cli.specs.InTurn.{HasNoted};
+ghost use Rattle.bag_disks.specs.Folders.{disks_of, visits_of};
+ghost use Rattle.bag_cli.specs.InTurn.{HasVisited};
 ghost use Rattle.bag_cli.specs.Performed.{IsPerformed, IsSaid};
 
 use crate::all_checks::report_sample;
 use crate::all_makings::make_all;
 use crate::by_profile::check_by_profile;
 use bag_arguments::{Action, Plan};
-use bag_disks::Disks;
-use bag_file_tree::Failures;
+use bag_disks::{Disks, Folders, Visits};
 use bag_output::put_pieces;
 use bag_tree::{Out, Refused};
 use std::alloc::Global;
@@ -18,40 +17,21 @@ use std::io::Write;
 /// The exit status where a read, a write or a growth was refused.
 pub(crate) const REFUSED: u8 = 3;
 
-/// Does a plan on the disks that a runtime reaches: writes the reports, what was made or the help to `out`, and what is refused
-/// beside that to `err`.
+/// Does a plan: writes the reports, what was made or the help to `out`, and what is refused beside that to `err`.
 ///
 /// Gives the exit status, over several folders the greatest: 0 where a bag was checked to its end, without a cursor, and has no
-/// fault, or was made; 1 where it has faults, or the report was one above a cursor or stopped at its limit; 2 where the profile is
+/// fault, or was made, or help was written; 1 where it has faults, or the report was one above a cursor or stopped at its limit; 2 where the profile is
 /// refused; and 3 where a read, a write or a growth was, or a bag wasn't made. The profile is read first. Where `out` refuses, it
 /// stops. Unless the status is 2 or 3, `out` took a whole report for each bag that was checked, and the line of each that was made
 /// but for a quiet plan.
 ///
-/// `failures` notes for each folder that was looked into how often its device failed.
-pub fn perform<R, O, E>(
-    rt: &R,
-    plan: &Plan,
-    failures: &mut Failures,
-    out: &mut O,
-    err: &mut E,
-) -> u8
-where
-    R: Disks + AllocGlobal,
-    O: Out,
-    E: Write,
-    ensures status { result ≤ 3 }
-    ensures performed { HasNoted (counts_of failures.old) (counts_of failures.new)
-        (λ noted. IsPerformed (R.below rt.now) (R.file rt.now) plan.now (O.taken out.old) (O.taken out.new) (O.has_refused out.new) noted result) }
-{
-    perform_over(rt.alloc(), rt, plan, failures, out, err)
-}
-
-/// Does a plan on any disks, as `perform` on those of a runtime.
-pub fn perform_over<D, O, E>(
+/// `visits` are those that were made with the folders: each folder of the plan is looked into once at most, in order, and no other;
+/// the profile's file is read once, and no other.
+pub fn perform<D, O, E>(
     alloc: Global,
-    disks: &D,
+    folders: &Folders<'_, D>,
     plan: &Plan,
-    failures: &mut Failures,
+    visits: &mut Visits<D>,
     out: &mut O,
     err: &mut E,
 ) -> u8
@@ -60,14 +40,14 @@ where
     O: Out,
     E: Write,
     ensures status { result ≤ 3 }
-    ensures performed { HasNoted (counts_of failures.old) (counts_of failures.new)
-        (λ noted. IsPerformed (D.below disks.now) (D.file disks.now) plan.now (O.taken out.old) (O.taken out.new) (O.has_refused out.new) noted result) }
+    ensures performed { HasVisited (visits_of visits.old) (visits_of visits.new)
+        (λ own. IsPerformed (D.below (disks_of folders.now)) (D.file (disks_of folders.now)) plan.now (O.taken out.old) (O.taken out.new) (O.has_refused out.new) own result) }
 {
     match &plan.action {
         Action::Sample => report_sample(alloc, plan, out, err),
         Action::Help(text) => say(text.as_str(), out, err),
-        Action::Check => check_by_profile(alloc, disks, plan, failures, out, err),
-        Action::Make => make_all(alloc, disks, plan, failures, out, err),
+        Action::Check => check_by_profile(alloc, folders, plan, visits, out, err),
+        Action::Make => make_all(alloc, folders, plan, visits, out, err),
     }
 }
 

@@ -1,15 +1,14 @@
 //! The whole program.
 ghost use Rattle.bag_arguments.specs.Words.{texts};
 ghost use Rattle.std.specs.Prelude.{map, string_bytes};
-ghost use Rattle.bag_file_tree.specs.Failures.{counts_of};
-ghost use Rattle.bag_cli.specs.InTurn.{HasNoted};
+ghost use Rattle.bag_disks.specs.Folders.{disks_of, visits_of};
+ghost use Rattle.bag_cli.specs.InTurn.{HasVisited};
 ghost use Rattle.bag_cli.specs.Program.{IsProgram, IsProgramOrNone, IsStarted};
 
-use crate::performing::perform_over;
+use crate::performing::perform;
 use crate::words::{Words, asked_words, texts_of};
 use bag_arguments::{Usage, plan_of, refuse_words};
-use bag_disks::Disks;
-use bag_file_tree::Failures;
+use bag_disks::{Disks, Folders, Visits};
 use bag_tree::Out;
 use std::alloc::Global;
 use std::io::Write;
@@ -20,9 +19,9 @@ use std::io::Write;
 /// `perform` says is that of all others.
 pub fn program<D, O, E>(
     alloc: Global,
-    disks: &D,
+    folders: &Folders<'_, D>,
     words: &[&str],
-    failures: &mut Failures,
+    visits: &mut Visits<D>,
     out: &mut O,
     err: &mut E,
 ) -> u8
@@ -30,50 +29,58 @@ where
     D: Disks,
     O: Out,
     E: Write,
-    ensures { HasNoted (counts_of failures.old) (counts_of failures.new)
-        (λ noted. IsProgram (D.below disks.now) (D.file disks.now) (texts words.now) (O.taken out.old) (O.taken out.new) (O.has_refused out.new) noted result) }
+    ensures { HasVisited (visits_of visits.old) (visits_of visits.new)
+        (λ own. IsProgram (D.below (disks_of folders.now)) (D.file (disks_of folders.now)) (texts words.now) (O.taken out.old) (O.taken out.new) (O.has_refused out.new) own result) }
 {
     match plan_of(alloc, words) {
-        Ok(plan) => perform_over(alloc, disks, &plan, failures, out, err),
+        Ok(plan) => perform(alloc, folders, &plan, visits, out, err),
         Err(refused) => refuse_words(&refused, err),
     }
 }
 
-/// Does what the words ask for that the program was started with, on the disks that its runtime reaches, and gives the exit
-/// status.
+/// Does what the words ask for that the program was started with, in folders that are lent, and gives the exit status.
 ///
 /// A word that isn't UTF-8 is refused.
-pub fn run_program<R, O, E>(rt: &R, failures: &mut Failures, out: &mut O, err: &mut E) -> u8
+pub fn run_program<R, D, O, E>(
+    rt: &R,
+    folders: &Folders<'_, D>,
+    visits: &mut Visits<D>,
+    out: &mut O,
+    err: &mut E,
+) -> u8
 where
-    R: Words + Disks + AllocGlobal,
+    R: Words + AllocGlobal,
+    D: Disks,
     O: Out,
     E: Write,
-    ensures { HasNoted (counts_of failures.old) (counts_of failures.new)
-        (λ noted. IsStarted (R.answers rt.now) (R.below rt.now) (R.file rt.now) (O.taken out.old) (O.taken out.new) (O.has_refused out.new) noted result) }
+    ensures { HasVisited (visits_of visits.old) (visits_of visits.new)
+        (λ own. IsStarted (R.answers rt.now) (D.below (disks_of folders.now)) (D.file (disks_of folders.now)) (O.taken out.old) (O.taken out.new) (O.has_refused out.new) own result) }
 {
     match asked_words(rt.alloc(), rt) {
-        Ok(words) => run_words(rt, &words, failures, out, err),
+        Ok(words) => run_words(rt, folders, &words, visits, out, err),
         Err(usage) => refuse_words(&usage, err),
     }
 }
 
 /// Does what words ask for.
-fn run_words<R, O, E>(
+fn run_words<R, D, O, E>(
     rt: &R,
+    folders: &Folders<'_, D>,
     words: &[String],
-    failures: &mut Failures,
+    visits: &mut Visits<D>,
     out: &mut O,
     err: &mut E,
 ) -> u8
 where
-    R: Disks + AllocGlobal,
+    R: AllocGlobal,
+    D: Disks,
     O: Out,
     E: Write,
-    ensures { HasNoted (counts_of failures.old) (counts_of failures.new)
-        (λ noted. IsProgramOrNone (R.below rt.now) (R.file rt.now) (map string_bytes words.now) (O.taken out.old) (O.taken out.new) (O.has_refused out.new) noted result) }
+    ensures { HasVisited (visits_of visits.old) (visits_of visits.new)
+        (λ own. IsProgramOrNone (D.below (disks_of folders.now)) (D.file (disks_of folders.now)) (map string_bytes words.now) (O.taken out.old) (O.taken out.new) (O.has_refused out.new) own result) }
 {
     match texts_of(rt.alloc(), words) {
-        Ok(texts) => program(rt.alloc(), rt, &texts, failures, out, err),
+        Ok(texts) => program(rt.alloc(), folders, &texts, visits, out, err),
         Err(_) => refuse_words(&Usage::Memory, err),
     }
 }

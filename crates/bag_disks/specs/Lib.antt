@@ -1,1 +1,3 @@
 pub mod File
+pub mod Folders
+pub mod Visits

@@ -1,5 +1,5 @@
 -- Files are written piece by piece.
-use Rattle.std.proofs.Common.{◌≡◌, ℕ, ◌+◌, ◌-◌, ◌≤◌, true, false, cond, IsTrue, List, [], ◌∷◌, ◌++◌, length, length-drop, take, take-add, take_all, drop, arith, Option, Some, None, is_some, append_assoc, append-nil, refl, ap, sym, subst, ◌∙◌}
+use Rattle.std.proofs.Common.{◌≡◌, ℕ, ◌+◌, ◌-◌, ◌≤◌, true, false, cond, IsTrue, List, [], ◌++◌, length, length-drop, take, take-add, take_all, drop, arith, Option, Some, None, is_some, append_assoc, append-nil, refl, ap, sym, subst, ◌∙◌}
 use Rattle.std.proofs.lemmas.Bool.{false≢true}
 use Rattle.std.proofs.Math.Seq.{take-length}
 use Rattle.std.specs.List.{slice_range}
@@ -12,7 +12,7 @@ use Rattle.bag_tree.proofs.SameText.{exact_texts, one_text, text_itself}
 use Rattle.bag_disk.specs.Disk.{DiskState, Nodes, Node, node, OnlyLooks, bytes_of}
 use Rattle.bag_disk.specs.Disk.Node.{File, Folder, Other}
 use Rattle.bag_disk.specs.WritableDisk.{Appends, Closes, HasFile, MakesFile, with_file}
-use Rattle.bag_file_tree.specs.Writing.{HasWritten, HasWrittenSome, Makes, MakesFileOf, Begins}
+use Rattle.bag_file_tree.specs.Writing.{HasWritten, HasWrittenSome, Makes, Begins}
 
 put_again : (nodes : Nodes) (path : List ℕ) (n m : Node) → map.insert (map.insert nodes path n) path m ≡ map.insert nodes path m
 put_again nodes path n m = same_map nat_list_cmp_total exact_texts _ _ (λ q.

@@ -1,7 +1,6 @@
 pub mod BagBelow
 pub mod Changing
 pub mod DiskBag
-pub mod Failures
 pub mod FileTree
 pub mod FolderWalk
 pub mod Refusal

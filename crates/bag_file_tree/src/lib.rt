@@ -12,7 +12,6 @@
 
 mod answered;
 mod changing;
-mod failures;
 mod file_tree;
 mod folder_walk;
 pub mod laws;
@@ -26,5 +25,4 @@ mod standing;
 mod target;
 mod writing;
 
-pub use failures::Failures;
 pub use file_tree::FileTree;

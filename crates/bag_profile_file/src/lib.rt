@@ -1,7 +1,7 @@
 //! Profiles that stand in files: reads one, says why there is none, and writes which of its keys aren't checked.
 //!
 //! ```
-//! match read_profile(alloc, disks, "profile.json") {
+//! match read_profile(alloc, &folders, "profile.json", &mut visits) {
 //!     Ok(profile) => write_unchecked(&profile, &mut out)?,
 //!     Err(refusal) => return refuse_profile(refusal, &mut err),
 //! }

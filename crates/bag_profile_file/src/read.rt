@@ -1,8 +1,11 @@
 //! Reads the profile of a file.
+ghost use Rattle.std.specs.Prelude.{◌≡◌, ◌∷◌, ◌++◌, []};
+ghost use Rattle.bag_disks.specs.Folders.{disks_of, visits_of};
+ghost use Rattle.bag_disks.specs.Visits.{Read};
 ghost use Rattle.bag_profile_file.specs.Read.{IsRead};
 
 use crate::refusal::ProfileRefusal;
-use bag_disks::Disks;
+use bag_disks::{Disks, Folders, Visits};
 use bag_profile::Profile;
 use std::alloc::Global;
 
@@ -12,12 +15,14 @@ pub const MOST_BYTES: u32 = 16_777_216;
 /// Reads the profile of the file at a path, which is one of the system's.
 pub fn read_profile<D: Disks>(
     alloc: Global,
-    disks: &D,
+    folders: &Folders<'_, D>,
     path: &str,
+    visits: &mut Visits<D>,
 ) -> Result<Profile, ProfileRefusal>
-    ensures { IsRead (D.file disks.now path.now) result }
+    ensures profile { IsRead (D.file (disks_of folders.now) path.now) result }
+    ensures read { visits_of visits.new ≡ visits_of visits.old ++ Read path.now ∷ [] }
 {
-    let bytes = disks.read_file(alloc, path, MOST_BYTES)?;
+    let bytes = folders.read_file(alloc, path, MOST_BYTES, visits)?;
     let profile = Profile::read(alloc, &bytes)?;
     Ok(profile)
 }

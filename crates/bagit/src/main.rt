@@ -4,12 +4,13 @@
 //! words it checks a sample bag in memory.
 #![tactic(auto)]
 
-use bag_cli::{Failures, WriterOut, run_program};
+use bag_cli::{Folders, WriterOut, run_program};
 use std::io;
 use std::process::ExitCode;
 
 fn main(rt: HostRuntime) -> ExitCode {
-    let mut failures = Failures::new(rt.alloc());
+    let (folders, mut visits) = Folders::of(&rt);
     let mut out = WriterOut::new(io::writer(&rt));
-    ExitCode::from(run_program(&rt, &mut failures, &mut out, &mut rt.stderr()))
+    let status = run_program(&rt, &folders, &mut visits, &mut out, &mut rt.stderr());
+    ExitCode::from(status)
 }

@@ -1,7 +1,7 @@
 //! Checks of several directories.
 use crate::rows::sees_that;
-use crate::shelf::{Held, Refused, Row, Shelf, are_noted, is_told, plan_for};
-use bag_cli::{Failures, WriterOut, perform_over};
+use crate::shelf::{Held, Refused, Row, Shelf, is_told, plan_for};
+use bag_cli::{Folders, WriterOut, perform};
 use std::alloc::{AllocError, Global};
 use std::test::Fail;
 
@@ -36,12 +36,11 @@ const SHUT: &str = "shut unread - device, faults: 0\n";
 
 const ABSENT: &str = "absent unread - device, faults: 0\n";
 
-/// Directories, what is written for them, the status, and how often their devices fail.
+/// Directories, what is written for them, and the status.
 struct Checks {
     names: &'static [&'static str],
     reports: &'static [&'static str],
     status: u8,
-    failures: &'static [u64],
 }
 
 const CHECKS: &[Checks] = &[
@@ -49,43 +48,36 @@ const CHECKS: &[Checks] = &[
         names: &[],
         reports: &[],
         status: 0,
-        failures: &[],
     },
     Checks {
         names: &["good", "good"],
         reports: &[GOOD, GOOD],
         status: 0,
-        failures: &[0, 0],
     },
     Checks {
         names: &["good", "no declaration"],
         reports: &[GOOD, FAULTY],
         status: 1,
-        failures: &[0, 0],
     },
     Checks {
         names: &["no declaration", "good"],
         reports: &[FAULTY, GOOD],
         status: 1,
-        failures: &[0, 0],
     },
     Checks {
         names: &["shut", "absent", "no declaration", "good"],
         reports: &[SHUT, ABSENT, FAULTY, GOOD],
         status: 3,
-        failures: &[1, 1, 0, 0],
     },
     Checks {
         names: &["good", "absent", "good"],
         reports: &[GOOD, ABSENT, GOOD],
         status: 3,
-        failures: &[0, 1, 0],
     },
     Checks {
         names: &["no declaration", "shut"],
         reports: &[FAULTY, SHUT],
         status: 3,
-        failures: &[0, 1],
     },
 ];
 
@@ -112,22 +104,13 @@ fn each_directory_has_its_report(rt: HostRuntime) -> Result<(), Fail> {
     Ok(())
 }
 
-#[test]
-fn each_failure_of_a_device_is_noted(rt: HostRuntime) -> Result<(), Fail> {
-    for checks in CHECKS {
-        let is_noted = are_noted(rt.alloc(), ROWS, checks.names, checks.failures)?;
-        assert!(rt; is_noted, "{}", checks.status);
-    }
-    Ok(())
-}
-
 /// The status of a check of three directories whose output has this room.
 fn status_in(alloc: Global, room: &mut [u8], err: &mut Vec<u8>) -> Result<u8, Fail> {
     let plan = plan_for(alloc, &["good", "no declaration", "good"])?;
     let shelf = Shelf { rows: ROWS };
-    let mut failures = Failures::new(alloc);
+    let (folders, mut visits) = Folders::of(&shelf);
     let mut out = WriterOut::new(room);
-    Ok(perform_over(alloc, &shelf, &plan, &mut failures, &mut out, err))
+    Ok(perform(alloc, &folders, &plan, &mut visits, &mut out, err))
 }
 
 #[test]

@@ -5,7 +5,7 @@ ghost use Rattle.bag_file_tree.specs.DiskBag.{bag_of};
 ghost use Rattle.bag_memory_disk.specs.MemoryDisk.{fresh, state_of};
 
 use bag_cli::laws::honest_disks_are_told;
-use bag_cli::{Disks, Failures, Plan, perform_over};
+use bag_cli::{Disks, Folders, Plan, perform};
 use bag_disks::ReadFault;
 use bag_memory_disk::MemoryDisk;
 use bag_tree::Out;
@@ -49,7 +49,7 @@ pub fn checked<O: Out, E: Write>(
         → TellsReport plan.now None (bag_of (state_of held.now).nodes) name (O.taken out.old) (O.taken out.new) result }
 {
     honest_disks_are_told();
-    let mut failures = Failures::new(alloc);
     let disks = SameDisks { held };
-    perform_over(alloc, &disks, plan, &mut failures, out, err)
+    let (folders, mut visits) = Folders::of(&disks);
+    perform(alloc, &folders, plan, &mut visits, out, err)
 }

@@ -5,7 +5,7 @@ ghost use Rattle.bag_memory_disk.specs.MemoryDisk.{state_of};
 ghost use Rattle.directory_rows.specs.Shelf.{IsUnopened};
 
 use crate::shelf_disk::ShelfDisk;
-use bag_cli::{Action, Disks, Failures, Plan, WriterOut, perform_over};
+use bag_cli::{Action, Disks, Folders, Plan, WriterOut, perform};
 use bag_disk::DiskFault;
 use bag_disks::ReadFault;
 use bag_facts::{Depth, Options};
@@ -153,26 +153,10 @@ pub(crate) fn is_told(
 ) -> Result<bool, Fail> {
     let plan = plan_for(alloc, names)?;
     let shelf = Shelf { rows };
-    let mut failures = Failures::new(alloc);
+    let (folders, mut visits) = Folders::of(&shelf);
     let mut out = WriterOut::new(Vec::<u8>::new(alloc));
     let mut err = Vec::<u8>::new(alloc);
-    let found = perform_over(alloc, &shelf, &plan, &mut failures, &mut out, &mut err);
+    let found = perform(alloc, &folders, &plan, &mut visits, &mut out, &mut err);
     let is_written = out.into_inner().as_slice() == written.as_bytes();
     Ok(is_written && err.is_empty() && found == status)
-}
-
-/// Whether the program notes that the devices of directories failed so often where it checks them.
-pub(crate) fn are_noted(
-    alloc: Global,
-    rows: &[Row],
-    names: &[&str],
-    counts: &[u64],
-) -> Result<bool, Fail> {
-    let plan = plan_for(alloc, names)?;
-    let shelf = Shelf { rows };
-    let mut failures = Failures::new(alloc);
-    let mut out = WriterOut::new(Vec::<u8>::new(alloc));
-    let mut err = Vec::<u8>::new(alloc);
-    let _ = perform_over(alloc, &shelf, &plan, &mut failures, &mut out, &mut err);
-    Ok(failures.counts() == counts)
 }

@@ -1,5 +1,6 @@
 //! Profiles in files of the system's.
 use crate::rows::{sees, sees_that};
+use bag_disks::Folders;
 use bag_profile_file::{MOST_BYTES, read_profile, refuse_profile, write_unchecked};
 use bag_tree::WriterOut;
 use std::fs::{self, File, OpenFile};
@@ -17,7 +18,8 @@ fn place(rt: &HostRuntime, test: &str) -> Result<String, Fail> {
 /// What is said of the profile at a path, and the exit status: without a refusal nothing, and 0.
 fn said(rt: &HostRuntime, path: &str) -> Result<String, Fail> {
     let mut err = Vec::<u8>::new(rt.alloc());
-    let status = match read_profile(rt.alloc(), rt, path) {
+    let (folders, mut visits) = Folders::of(rt);
+    let status = match read_profile(rt.alloc(), &folders, path, &mut visits) {
         Ok(_) => 0,
         Err(refusal) => refuse_profile(refusal, &mut err),
     };
@@ -95,7 +97,8 @@ const UNCHECKED_LINES: &str = "unchecked -\nunchecked %2D\nunchecked Data-Empty\
 fn writes_the_keys_that_are_not_checked(rt: HostRuntime) -> Result<(), Fail> {
     let path = place(&rt, "unchecked")?;
     fs::write(&rt, path.as_str(), UNCHECKED)?;
-    let profile = read_profile(rt.alloc(), &rt, path.as_str())?;
+    let (folders, mut visits) = Folders::of(&rt);
+    let profile = read_profile(rt.alloc(), &folders, path.as_str(), &mut visits)?;
     let mut out = WriterOut::new(Vec::<u8>::new(rt.alloc()));
     write_unchecked(&profile, &mut out)?;
     let written = out.into_inner();

@@ -1,6 +1,6 @@
 //! What the program writes, and its exit status.
 use crate::rows::sees_that;
-use bag_cli::{Failures, Usage, perform, plan_of, program, refuse_words};
+use bag_cli::{Folders, Usage, perform, plan_of, program, refuse_words};
 use bag_store::WriterOut;
 use row_bags::fresh;
 use std::alloc::Global;
@@ -20,8 +20,15 @@ pub(crate) struct Answer {
 pub(crate) fn answer_to(rt: &HostRuntime, words: &[&str]) -> Answer {
     let mut out = WriterOut::new(Vec::<u8>::new(rt.alloc()));
     let mut told = Vec::<u8>::new(rt.alloc());
-    let mut failures = Failures::new(rt.alloc());
-    let status = program(rt.alloc(), rt, words, &mut failures, &mut out, &mut told);
+    let (folders, mut visits) = Folders::of(rt);
+    let status = program(
+        rt.alloc(),
+        &folders,
+        words,
+        &mut visits,
+        &mut out,
+        &mut told,
+    );
     Answer {
         written: out.into_inner(),
         told,
@@ -64,9 +71,9 @@ fn help_ends_well(rt: HostRuntime) {
 /// The status of the program where its output has this room.
 fn status_in(rt: &HostRuntime, room: &mut [u8], err: &mut Vec<u8>) -> Result<u8, Fail> {
     let plan = plan_of(rt.alloc(), &[])?;
-    let mut failures = Failures::new(rt.alloc());
+    let (folders, mut visits) = Folders::of(rt);
     let mut out = WriterOut::new(room);
-    Ok(perform(rt, &plan, &mut failures, &mut out, err))
+    Ok(perform(rt.alloc(), &folders, &plan, &mut visits, &mut out, err))
 }
 
 #[test]

@@ -1,6 +1,7 @@
 use Rattle.std.proofs.Common.{subst, sym}
 use Rattle.std.specs.Prelude.{MatchOption}
 use Rattle.std.specs.Option.{option_copied}
+use Rattle.bag_disks.specs.Folders.{disks_of}
 use Rattle.bag_file_tree.specs.FileTree.{tree_state}
 use Rattle.bag_cli.specs.Checked.{IsLastCheck, IsWholeCheck}
 use Rattle.bag_cli.proofs.Checks.{next_check}
@@ -10,7 +11,7 @@ pub returns : goal.returns
 returns g c =
     let plan = c.args.plan.now in
     let profile = option_copied c.args.profile in
-    let tree = tree_state (g.D.Disks.below c.args.disks.now c.args.directory.now) 0 in
+    let tree = tree_state (g.D.Disks.below (disks_of c.args.folders.now) c.args.directory.now) 0 in
     let name = c.args.directory.now in
     let before = g.O.Out.taken c.args.out.now in
     let after = g.O.Out.taken c.check_folder-checked.new.out in

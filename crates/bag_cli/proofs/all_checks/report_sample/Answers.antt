@@ -1,11 +1,24 @@
-use Rattle.std.proofs.Common.{rules, ◌≡◌, ◌∷◌, [], None, subst, sym}
-use Rattle.std.specs.Prelude.{codes, unwrap_or}
-use Rattle.bag_cli.specs.Checked.{AreChecksOf}
+use Rattle.std.proofs.Common.{rules, ◌≡◌, ℕ, ◌∷◌, [], List, Option, None, Bool, refl, subst, sym}
+use Rattle.std.specs.Prelude.{MatchResult, codes, unwrap_or}
+use Rattle.std.specs.declared.result.Result.{Result}
+use Rattle.std.specs.declared.result.Result.TheVariants.{Ok, Err}
+use Rattle.bag_disks.specs.Visits.{Event}
+use Rattle.bag_output.specs.declared.outcome.Outcome.{Outcome}
+use Rattle.bag_arguments.specs.declared.plan.Plan.{Plan}
+use Rattle.bag_cli.specs.Checked.{AreCalm, AreChecksOf, IsCheckOfSample, IsVisitToCheck, visit_of}
 use Rattle.bag_cli.specs.Sample.{sample_state}
 use Rattle.bag_cli.specs.Status.{whole_status}
 use Rattle.bag_cli.proofs.Checks.{ends, goes, next_check}
 use Rattle.bag_cli.proofs.Turns.{only_one}
 use Rattle.bag_cli.proofs.all_checks.report_sample.Goals as goal
+
+-- the check of the sample, as a visit to a folder of its name during which no device failed
+as_visit : {E : Type 0} (plan : Plan) (before after : Option (List ℕ)) (refused : Bool) (checked : Result Outcome E)
+    → MatchResult checked (λ outcome. IsCheckOfSample plan before after refused outcome) (λ _. after ≡ before)
+    → (visits : List Event) × AreCalm visits
+    × MatchResult checked (λ outcome. IsVisitToCheck plan None sample_state (codes "sample") before after refused visits outcome) (λ _. (after ≡ before) × (visits ≡ []))
+as_visit plan before after refused (Ok outcome) check = (visit_of (codes "sample") check.0, (check.1, tt), (check.0, refl, check.2))
+as_visit plan before after refused (Err e) nothing = ([], tt, (nothing, refl))
 
 pub returns : goal.returns
 returns g c =
@@ -15,6 +28,10 @@ returns g c =
     let refused = g.O.Out.has_refused c.check_sample-checked.new.out in
     let checked = c.check_sample-checked.result in
     let given : c.unwrap_or.result ≡ unwrap_or (whole_status checked) 3 = search rules in
-    let next = next_check plan None sample_state (codes "sample") before after refused (0 ∷ []) checked c.check_sample-checked.ensures in
-    subst (λ n. AreChecksOf plan None (λ _. sample_state) (codes "sample" ∷ []) before after refused (0 ∷ []) n) (sym given)
-    (only_one (ends plan None (λ _. sample_state)) (goes plan None (λ _. sample_state)) (codes "sample") before after refused (0 ∷ []) (whole_status checked) next)
+    let visit = as_visit plan before after refused checked c.check_sample-checked.ensures in
+    let next = next_check plan None sample_state (codes "sample") before after refused visit.0 checked visit.2 in (
+      visit.0,
+      visit.1,
+      subst (λ n. AreChecksOf plan None (λ _. sample_state) (codes "sample" ∷ []) before after refused visit.0 n) (sym given)
+          (only_one (ends plan None (λ _. sample_state)) (goes plan None (λ _. sample_state)) (codes "sample") before after refused visit.0 (whole_status checked) next),
+    )

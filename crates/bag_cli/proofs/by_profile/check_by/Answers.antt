@@ -1,13 +1,13 @@
 use Rattle.std.proofs.Common.{inl, inr, [], List, ℕ, Some, refl, sym, subst, append-nil}
 use Rattle.bag_tree.specs.Tree.{TreeState}
-use Rattle.bag_file_tree.specs.Failures.{counts_of}
+use Rattle.bag_disks.specs.Folders.{disks_of, visits_of}
 use Rattle.bag_file_tree.specs.FileTree.{tree_state}
 use Rattle.bag_cli.specs.Checked.{AreChecksOf}
 use Rattle.bag_cli.proofs.by_profile.check_by.Goals as goal
 
 pub returns-in-Ok : goal.returns-in-Ok
 returns-in-Ok g c =
-    let tree_of : List ℕ → TreeState = λ name. tree_state (g.D.Disks.below c.args.disks.now name) 0 in
+    let tree_of : List ℕ → TreeState = λ name. tree_state (g.D.Disks.below (disks_of c.args.folders.now) name) 0 in
     let mid = g.O.Out.taken c.say_unchecked.new.out in
     let done = c.check_all.ensures in
     let checks : List (List ℕ) → Type 0 = λ names.
@@ -15,4 +15,4 @@ returns-in-Ok g c =
     (done.0, done.1, inr (mid, c.in-Ok.ensures, subst checks c.as_slice-directories.ensures done.2))
 
 pub returns-in-Err : goal.returns-in-Err
-returns-in-Err g c = ([], sym (append-nil (counts_of c.args.failures.now)), inl (refl, c.in-Err.ensures.1, refl, c.in-Err.ensures.0))
+returns-in-Err g c = ([], sym (append-nil (visits_of c.args.visits.now)), inl (refl, c.in-Err.ensures.1, refl, c.in-Err.ensures.0))

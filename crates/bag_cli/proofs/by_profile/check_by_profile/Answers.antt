@@ -1,26 +1,34 @@
-use Rattle.std.proofs.Common.{[], refl, sym, subst, append-nil}
+use Rattle.std.proofs.Common.{◌≡◌, [], ◌∷◌, ◌++◌, refl, subst}
 use Rattle.std.specs.declared.result.Result.TheVariants.{Ok, Err}
-use Rattle.bag_file_tree.specs.Failures.{counts_of}
+use Rattle.bag_disks.specs.Folders.{disks_of, visits_of}
+use Rattle.bag_disks.specs.Visits.{Read}
 use Rattle.bag_profile_file.specs.Read.{IsRead}
 use Rattle.bag_cli.proofs.Arms.{checked_by_path}
+use Rattle.bag_cli.proofs.Turns.{added}
 use Rattle.bag_cli.proofs.by_profile.check_by_profile.Goals as goal
 
 pub returns-in-Ok : goal.returns-in-Ok
 returns-in-Ok g c =
     let done = c.check_by.ensures in
-    let file = g.D.Disks.file c.args.disks.now in
-    let read = subst (λ path. IsRead (file path) (Ok c.in-Ok.profile)) c.as_str.ensures c.in-Ok.ensures in (
-      done.0,
-      done.1,
-      checked_by_path (g.D.Disks.below c.args.disks.now) file c.args.plan.now c.args.plan.now.profile c.in-Some.path (Ok c.in-Ok.profile) _ _ _ done.0 c.check_by.result c.in-Some.is read done.2,
+    let file = g.D.Disks.file (disks_of c.args.folders.now) in
+    let path = c.in-Some.path in
+    let before = visits_of c.args.visits.now in
+    let mid = visits_of c.read_profile.new.visits in
+    let entered = subst (λ path. mid ≡ before ++ Read path ∷ []) c.as_str.ensures c.read_profile.ensures.read in
+    let read = subst (λ path. IsRead (file path) (Ok c.in-Ok.profile)) c.as_str.ensures c.in-Ok.ensures.profile in (
+      Read path ∷ done.0,
+      added before mid (visits_of c.check_by.new.visits) (Read path ∷ []) done.0 entered done.1,
+      checked_by_path (g.D.Disks.below (disks_of c.args.folders.now)) file c.args.plan.now c.args.plan.now.profile path (Ok c.in-Ok.profile) _ _ _ done.0 c.check_by.result c.in-Some.is read done.2,
     )
 
 pub returns-in-Err : goal.returns-in-Err
 returns-in-Err g c =
-    let file = g.D.Disks.file c.args.disks.now in
-    let read = subst (λ path. IsRead (file path) (Err c.in-Err.refusal)) c.as_str.ensures c.in-Err.ensures in (
-      [],
-      sym (append-nil (counts_of c.args.failures.now)),
-      checked_by_path (g.D.Disks.below c.args.disks.now) file c.args.plan.now c.args.plan.now.profile c.in-Some.path (Err c.in-Err.refusal) _ _ (g.O.Out.has_refused c.args.out.now) []
+    let file = g.D.Disks.file (disks_of c.args.folders.now) in
+    let path = c.in-Some.path in
+    let entered = subst (λ path. visits_of c.read_profile.new.visits ≡ visits_of c.args.visits.now ++ Read path ∷ []) c.as_str.ensures c.read_profile.ensures.read in
+    let read = subst (λ path. IsRead (file path) (Err c.in-Err.refusal)) c.as_str.ensures c.in-Err.ensures.profile in (
+      Read path ∷ [],
+      entered,
+      checked_by_path (g.D.Disks.below (disks_of c.args.folders.now)) file c.args.plan.now c.args.plan.now.profile path (Err c.in-Err.refusal) _ _ (g.O.Out.has_refused c.args.out.now) []
           c.refuse_profile.result c.in-Some.is read (c.refuse_profile.ensures, refl, refl),
     )

@@ -1,11 +1,11 @@
 use Rattle.std.proofs.Common.{[], refl, sym, append-nil}
 use Rattle.std.specs.declared.result.Result.TheVariants.{Ok, Err}
-use Rattle.bag_file_tree.specs.Failures.{counts_of}
+use Rattle.bag_disks.specs.Folders.{visits_of}
 use Rattle.bag_cli.proofs.whole_program.program.Goals as goal
 
 pub returns-in-Ok : goal.returns-in-Ok
 returns-in-Ok g c =
-    let performed = c.perform_over.ensures.performed in (
+    let performed = c.perform.ensures.performed in (
       performed.0,
       performed.1,
       record {
@@ -19,7 +19,7 @@ returns-in-Ok g c =
 pub returns-in-Err : goal.returns-in-Err
 returns-in-Err g c = (
   [],
-  sym (append-nil (counts_of c.args.failures.now)),
+  sym (append-nil (visits_of c.args.visits.now)),
   record {
     planned = Err c.in-Err.refused;
     is_planned = c.in-Err.ensures.planned;

@@ -1,6 +1,6 @@
 use Rattle.std.proofs.Common.{inl, inr, [], ℕ, List, refl, sym, ap, ◌∙◌, subst, append-nil}
 use Rattle.bag_arguments.specs.Words.{texts}
-use Rattle.bag_file_tree.specs.Failures.{counts_of}
+use Rattle.bag_disks.specs.Folders.{disks_of, visits_of}
 use Rattle.bag_cli.specs.Program.{IsProgram}
 use Rattle.bag_cli.proofs.whole_program.run_words.Goals as goal
 
@@ -8,9 +8,9 @@ pub returns-in-Ok : goal.returns-in-Ok
 returns-in-Ok g c =
     let done = c.program.ensures in
     let program_of : List (List ℕ) → Type 0 = λ words.
-    IsProgram (g.R.Disks.below c.args.rt.now) (g.R.Disks.file c.args.rt.now) words (g.O.Out.taken c.args.out.now) (g.O.Out.taken c.program.new.out)
+    IsProgram (g.D.Disks.below (disks_of c.args.folders.now)) (g.D.Disks.file (disks_of c.args.folders.now)) words (g.O.Out.taken c.args.out.now) (g.O.Out.taken c.program.new.out)
     (g.O.Out.has_refused c.program.new.out) done.0 c.program.result in
     (done.0, done.1, inr (subst program_of (ap texts c.deref.ensures.value ∙ c.in-Ok.ensures) done.2))
 
 pub returns-in-Err : goal.returns-in-Err
-returns-in-Err g c = ([], sym (append-nil (counts_of c.args.failures.now)), inl (c.refuse_words.ensures, refl, refl))
+returns-in-Err g c = ([], sym (append-nil (visits_of c.args.visits.now)), inl (c.refuse_words.ensures, refl, refl))

@@ -1,4 +1,3 @@
-use Rattle.std.proofs.Common.{◌∙◌, sym}
 use Rattle.bag_file_tree.proofs.BagSteps.{free_not_taken, none_standing, seen_taken}
 use Rattle.bag_file_tree.proofs.BaseNames.{base_reached}
 use Rattle.bag_file_tree.proofs.Refusals.{due_for}

@@ -1,0 +1,77 @@
+-- Which folders were looked into, as what their trees were left, and which files were read beside them.
+use Rattle.std.specs.Prelude.{ℕ, ◌≡◌, ◌⊎◌, Bool, List, Option, refl}
+use mathlib.Core.Logic.{inl, inr}
+use Rattle.std.specs.Coded.{Coded, code_by, coded×, coded⊎, coded_ℕ, coded_bool, coded_list, coded_option}
+use Rattle.std.specs.FinMap as map
+use Rattle.std.specs.FinSet as set
+use Rattle.bag_text.specs.Text.{text_cmp}
+use Rattle.bag_tree.specs.Bag.{Bag}
+use Rattle.bag_tree.specs.Tree.{TreeState}
+use Rattle.bag_tree.specs.declared.answer.Answer.{Answer}
+use Rattle.bag_tree.specs.contracts.answer.Answer.{the_row}
+
+-- the tree of the files in the folder of this name was given, a tree was left as this, or the file at this path was read
+pub data Event : Type 0 where
+  Entered : List ℕ → Event
+  Left : TreeState → Event
+  Read : List ℕ → Event
+
+-- ---- how the logic stores an event
+
+abbrev coded_text : Coded (List ℕ)
+coded_text = coded_list coded_ℕ
+
+abbrev coded_bag : Coded Bag
+coded_bag =
+    code_by (map.FinMap text_cmp (List ℕ) × set.FinSet text_cmp) (coded× (map.code coded_text coded_text) (set.code coded_text))
+    (λ bag. (bag.files, bag.folders)) (λ parts. record { files = parts.0; folders = parts.1 }) (λ _. refl)
+
+abbrev Reads : Type 0
+Reads = List (List ℕ) × (Option (List ℕ) × (ℕ × Answer))
+
+abbrev coded_reads : Coded Reads
+coded_reads = coded× (coded_list coded_text) (coded× (coded_option coded_text) (coded× coded_ℕ the_row.coded))
+
+abbrev Parts : Type 0
+Parts = Bag × (Bool × (Bool × (ℕ × (ℕ × Reads))))
+
+abbrev parts_of : TreeState → Parts
+parts_of state =
+    (state.bag, (state.plain, (state.honest, (state.entries, (state.failures, (state.openings, (state.rest, (state.given, state.last))))))))
+
+abbrev state_of : Parts → TreeState
+state_of parts = record {
+  bag = parts.0;
+  plain = parts.1.0;
+  honest = parts.1.1.0;
+  entries = parts.1.1.1.0;
+  failures = parts.1.1.1.1.0;
+  openings = parts.1.1.1.1.1.0;
+  rest = parts.1.1.1.1.1.1.0;
+  given = parts.1.1.1.1.1.1.1.0;
+  last = parts.1.1.1.1.1.1.1.1;
+}
+
+abbrev coded_state : Coded TreeState
+coded_state = code_by Parts (coded× coded_bag (coded× coded_bool (coded× coded_bool (coded× coded_ℕ (coded× coded_ℕ coded_reads))))) parts_of state_of (λ _. refl)
+
+abbrev Kinds : Type 0
+Kinds = List ℕ ⊎ (TreeState ⊎ List ℕ)
+
+abbrev split : Event → Kinds
+split (Entered name) = inl name
+split (Left state) = inr (inl state)
+split (Read path) = inr (inr path)
+
+abbrev join : Kinds → Event
+join (inl name) = Entered name
+join (inr (inl state)) = Left state
+join (inr (inr path)) = Read path
+
+pub join_split : (event : Event) → join (split event) ≡ event
+join_split (Entered name) = refl
+join_split (Left state) = refl
+join_split (Read path) = refl
+
+abbrev pub coded_event : Coded Event
+coded_event = code_by Kinds (coded⊎ coded_text (coded⊎ coded_state coded_text)) split join join_split
