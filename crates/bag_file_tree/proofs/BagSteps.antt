@@ -27,16 +27,16 @@ use Rattle.bag_disk.specs.Disk.Node.{File, Folder, Other}
 use Rattle.bag_disk.specs.WritableDisk.{HasFile, Moves, MovesAll, moved, with_file, with_folder}
 use Rattle.bag_disk.proofs.DiskPaths.{none_below_no_folder}
 use Rattle.bag_disk.proofs.Moving.{moves_all}
-use Rattle.bag_file_tree.specs.BagBelow.{bag_of_disk, file_of_disk, folder_of_disk}
+use Rattle.bag_disk_files.specs.BagBelow.{bag_of_disk, file_of_disk, folder_of_disk}
 use Rattle.bag_file_tree.specs.Changing.{MovesInto}
-use Rattle.bag_file_tree.specs.DiskBag.{bag_of}
-use Rattle.bag_file_tree.specs.Refusal.{IsDue, IsDueInStep}
+use Rattle.bag_disk_files.specs.DiskBag.{bag_of}
+use Rattle.bag_disk_files.specs.Refusal.{IsDue, IsDueInStep}
 use Rattle.bag_file_tree.specs.Standing.{IsStanding}
 use Rattle.bag_file_tree.specs.declared.standing.Standing.{Standing}
 use Rattle.bag_file_tree.specs.declared.standing.Standing.TheVariants as standing
-use Rattle.bag_file_tree.specs.declared.refusal.Refusal.{Refusal}
+use Rattle.bag_disk_files.specs.declared.refusal.Refusal.{Refusal}
 use Rattle.bag_file_tree.proofs.BaseNames.{base_not_under, path_in_is_under, target_reached}
-use Rattle.bag_file_tree.proofs.Refusals.{due_in_step, step_due_for}
+use Rattle.bag_disk_files.proofs.Refusals.{due_in_step, step_due_for}
 
 same_bag : (a b : Bag) → ((path : List ℕ) → file a path ≡ file b path) → ((name : List ℕ) → has_folder a name ≡ has_folder b name) → a ≡ b
 same_bag a b files folders =

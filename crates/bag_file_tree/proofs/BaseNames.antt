@@ -11,7 +11,7 @@ use Rattle.bag_tree.proofs.Parents.{is_slash, in_folder}
 use Rattle.bag_disk.specs.Disk.{Nodes, node, IsReached}
 use Rattle.bag_disk.specs.Disk.Node.{Folder}
 use Rattle.bag_disk.specs.Location.{path_in}
-use Rattle.bag_file_tree.proofs.FoundPaths.{components_under, path_in_folder}
+use Rattle.bag_disk_files.proofs.FoundPaths.{components_under, path_in_folder}
 
 one_component : (name : List ℕ) → is_base_name name ≡ true → length (components name) ≡ 1
 one_component name is = eqb-true (length (components name)) 1 (and_parts (is_path name) (length (components name) == 1) is).1

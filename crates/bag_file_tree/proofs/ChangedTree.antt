@@ -18,14 +18,14 @@ use Rattle.bag_disk.specs.Disk.Node.{File, Folder, Other}
 use Rattle.bag_disk.specs.WritableDisk.{Closes, MakesFolder, MovesAll, moved, renamed, with_renamed}
 use Rattle.bag_disk.proofs.Moving.{moves_all}
 use Rattle.bag_file_tree.specs.Changing.{IsMovedIn, IsRenamed, MovesInto, Renames}
-use Rattle.bag_file_tree.specs.DiskBag.{bag_of}
+use Rattle.bag_disk_files.specs.DiskBag.{bag_of}
 use Rattle.bag_file_tree.specs.FileTree.{state_after}
-use Rattle.bag_file_tree.specs.Refusal.{count_after, last_count, one_more_failure}
+use Rattle.bag_file_tree.specs.Answered.{count_after, last_count, one_more_failure}
 use Rattle.bag_file_tree.specs.Writing.{Begins, Makes, MakesFileOf}
-use Rattle.bag_file_tree.specs.declared.refusal.Refusal.{Refusal}
-use Rattle.bag_file_tree.specs.declared.refusal.Refusal.TheVariants.{Device, Special, Name, NotFound, TooMany, Memory, Exists}
+use Rattle.bag_disk_files.specs.declared.refusal.Refusal.{Refusal}
+use Rattle.bag_disk_files.specs.declared.refusal.Refusal.TheVariants.{Device, Special, Name, NotFound, TooMany, Memory, Exists}
 use Rattle.bag_file_tree.proofs.BagSteps.{bag_moved_in, bag_renamed, file_made, folder_made, free_not_taken}
-use Rattle.bag_file_tree.proofs.Plain.{all_plain, other_not_plain}
+use Rattle.bag_disk_files.proofs.Plain.{all_plain, other_not_plain}
 
 -- what stands there stood there before, or is a file or a folder
 abbrev NothingElse : Nodes → Nodes → Type 0

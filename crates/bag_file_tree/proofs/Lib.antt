@@ -1,11 +1,4 @@
 pub mod BagSteps
 pub mod BaseNames
 pub mod ChangedTree
-pub mod DiskCount
-pub mod DiskSteps
-pub mod FoundPaths
-pub mod PathOrder
-pub mod Plain
-pub mod Refusals
-pub mod WholeWalk
 pub mod WrittenFiles

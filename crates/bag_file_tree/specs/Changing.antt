@@ -3,7 +3,7 @@ use Rattle.std.specs.Prelude.{ℕ, ◌≡◌, true, IsTrue, List, None, Some}
 use Rattle.bag_disk.specs.Disk.{DiskState, Nodes, node}
 use Rattle.bag_disk.specs.Disk.Node.{Folder}
 use Rattle.bag_disk.specs.WritableDisk.{Moves}
-use Rattle.bag_file_tree.specs.DiskBag.{bag_of}
+use Rattle.bag_disk_files.specs.DiskBag.{bag_of}
 use Rattle.bag_text.specs.Path.{under}
 use Rattle.bag_write_tree.specs.Steps.{has_within, is_taken, lacks_folder, lacks_source}
 

@@ -6,7 +6,7 @@ use Rattle.bag_tree.specs.declared.answer.Answer.{Answer}
 use Rattle.bag_tree.specs.declared.answer.Answer.TheVariants.{Given}
 use Rattle.bag_file_tree.specs.declared.file_tree.FileTree.{FileTree}
 use Rattle.bag_disk.specs.Disk.{DiskState, is_plain}
-use Rattle.bag_file_tree.specs.DiskBag.{bag_of}
+use Rattle.bag_disk_files.specs.DiskBag.{bag_of}
 
 -- the disk of a tree
 abbrev pub disk_of : {D : Type 0} → FileTree D → D

@@ -1,8 +1,7 @@
-pub mod BagBelow
+pub use Rattle.bag_disk_files.specs.BagBelow
+pub use Rattle.bag_disk_files.specs.DiskBag
+pub mod Answered
 pub mod Changing
-pub mod DiskBag
 pub mod FileTree
-pub mod FolderWalk
-pub mod Refusal
 pub mod Standing
 pub mod Writing

@@ -2,9 +2,9 @@
 ghost use Rattle.std.specs.Prelude.{◌≡◌, ◌≤◌, ◌+◌, IsTrue};
 ghost use Rattle.bag_tree.specs.Tree.{answer_of_read};
 ghost use Rattle.bag_tree.specs.declared.answer.Answer.TheVariants.{Given, Refused};
-ghost use Rattle.bag_file_tree.specs.Refusal.{fault_of, count_after, failure_or_memory, one_more_failure, last_count};
+ghost use Rattle.bag_file_tree.specs.Answered.{fault_of, count_after, failure_or_memory, one_more_failure, last_count};
 
-use crate::refusal::Refusal;
+use bag_disk_files::Refusal;
 use bag_tree::{Answer, TreeFault};
 
 /// What a tree has answered: how often its device failed, how many bytes the open file gave, and the last answer.

@@ -5,13 +5,12 @@ ghost use Rattle.bag_write_tree.specs.Steps.{lacks_folder, lacks_source};
 ghost use Rattle.bag_disk.specs.Disk.{OnlyLooks};
 ghost use Rattle.bag_disk.specs.WritableDisk.{Closes, MakesFolder, Moves};
 ghost use Rattle.bag_file_tree.specs.Changing.{HasTarget, IsRenamed, IsMovedIn, IsTaken, LacksFolder, LacksSource};
-ghost use Rattle.bag_file_tree.specs.Refusal.{HasOther, IsDueInStep};
+ghost use Rattle.bag_disk_files.specs.Refusal.{HasOther, IsDueInStep};
 
-use crate::opening::check_folder;
-use crate::refusal::Refusal;
 use crate::standing::{Standing, check_free, check_taken, standing_at};
 use crate::target::folder_in_the_way;
 use bag_disk::{Disk, DiskFault, WritableDisk, path_in};
+use bag_disk_files::{Refusal, check_folder};
 use std::alloc::Global;
 
 /// Makes a folder in the base folder, where nothing has its name.

@@ -2,14 +2,12 @@
 ghost use Rattle.std.specs.Prelude.{◌≡◌, [], IfOk, false};
 ghost use Rattle.bag_disk.specs.SystemDisk.{base_of, system_state};
 ghost use Rattle.bag_file_tree.specs.FileTree.{disk_of, state_after, tree_state};
-ghost use Rattle.bag_file_tree.specs.BagBelow.{bag_of_disk};
+ghost use Rattle.bag_disk_files.specs.BagBelow.{bag_of_disk};
 
 use crate::answered::Answered;
-use crate::listing::list_below;
-use crate::opening::open_at;
-use crate::refusal::Refusal;
 use crate::{changing, writing};
 use bag_disk::{Disk, SystemDisk, WritableDisk};
+use bag_disk_files::{Refusal, list_below, open_at};
 use bag_tree::{Listing, Tree, TreeFault};
 use bag_write_tree::WriteTree;
 use std::alloc::{AllocError, Global};

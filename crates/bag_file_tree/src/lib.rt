@@ -13,14 +13,7 @@
 mod answered;
 mod changing;
 mod file_tree;
-mod folder_walk;
 pub mod laws;
-mod limit;
-mod listing;
-mod opening;
-mod path;
-mod path_order;
-mod refusal;
 mod standing;
 mod target;
 mod writing;

@@ -4,12 +4,12 @@ ghost use Rattle.bag_text.specs.Path.{is_base_name, is_path};
 ghost use Rattle.bag_write_tree.specs.Steps.{is_taken};
 ghost use Rattle.bag_disk.specs.Disk.{IsReached, is_plain, node};
 ghost use Rattle.bag_file_tree.specs.Changing.{IsTaken};
-ghost use Rattle.bag_file_tree.specs.DiskBag.{bag_of};
-ghost use Rattle.bag_file_tree.specs.Refusal.{HasOther, IsDue, IsDueInStep};
+ghost use Rattle.bag_disk_files.specs.DiskBag.{bag_of};
+ghost use Rattle.bag_disk_files.specs.Refusal.{HasOther, IsDue, IsDueInStep};
 ghost use Rattle.bag_file_tree.specs.Standing.{IsStanding};
 
-use crate::refusal::Refusal;
 use bag_disk::{Disk, DiskFault, Entry};
+use bag_disk_files::Refusal;
 
 /// What can stand in a bag's folder.
 #[derive(Clone, Copy)]

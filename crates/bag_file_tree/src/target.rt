@@ -5,12 +5,11 @@ ghost use Rattle.std.specs.List.{starts_with};
 ghost use Rattle.bag_text.specs.Path.{slash};
 ghost use Rattle.bag_write_tree.specs.Steps as step;
 ghost use Rattle.bag_disk.specs.Disk.{OnlyLooks};
-ghost use Rattle.bag_file_tree.specs.DiskBag.{bag_of};
-ghost use Rattle.bag_file_tree.specs.Refusal.{IsDueInStep};
+ghost use Rattle.bag_disk_files.specs.DiskBag.{bag_of};
+ghost use Rattle.bag_disk_files.specs.Refusal.{IsDueInStep};
 
-use crate::listing::list_below;
-use crate::refusal::Refusal;
 use bag_disk::Disk;
+use bag_disk_files::{Refusal, list_below};
 use bag_tree::FileEntry;
 use std::alloc::Global;
 

@@ -3,12 +3,12 @@ ghost use Rattle.std.specs.Prelude.{◌≡◌, ◌⊎◌, IfErr, IsTrue, None, O
 ghost use Rattle.bag_text.specs.Path.{is_base_name};
 ghost use Rattle.bag_disk.specs.Disk.{OnlyLooks};
 ghost use Rattle.bag_file_tree.specs.Changing.{IsTaken};
-ghost use Rattle.bag_file_tree.specs.Refusal.{HasOther, IsDueInStep};
+ghost use Rattle.bag_disk_files.specs.Refusal.{HasOther, IsDueInStep};
 ghost use Rattle.bag_file_tree.specs.Writing.{Begins, HasWritten, HasWrittenSome, Makes};
 
 use crate::changing::in_the_way;
-use crate::refusal::Refusal;
 use bag_disk::{Disk, DiskFault, WritableDisk};
+use bag_disk_files::Refusal;
 
 /// Makes a file in the base folder, where nothing has its name, and has the device keep it.
 pub(crate) fn create<D: WritableDisk>(disk: &mut D, name: &str, bytes: &[u8]) -> Result<(), Refusal>

@@ -2,7 +2,7 @@ use Rattle.std.proofs.Common.{◌∙◌, sym, subst, IsTrue}
 use Rattle.bag_text.specs.Path.{is_path}
 use Rattle.bag_file_tree.proofs.BagSteps.{file_in_target, folder_in_target, lacks_place, moved_into, target_seen}
 use Rattle.bag_file_tree.proofs.BaseNames.{base_reached, target_is_path}
-use Rattle.bag_file_tree.proofs.Refusals.{due_in_step}
+use Rattle.bag_disk_files.proofs.Refusals.{due_in_step}
 use Rattle.bag_file_tree.proofs.changing.move_in.Goals as goal
 
 pub returns-in-Err-clause-refused : goal.returns-in-Err-clause-refused

@@ -1,6 +1,6 @@
 use Rattle.bag_file_tree.proofs.BagSteps.{lacks_it}
 use Rattle.bag_file_tree.proofs.BaseNames.{base_reached}
-use Rattle.bag_file_tree.proofs.Refusals.{due_in_step}
+use Rattle.bag_disk_files.proofs.Refusals.{due_in_step}
 use Rattle.bag_file_tree.proofs.changing.rename_folder.Goals as goal
 
 pub returns-in-Err-clause-refused : goal.returns-in-Err-clause-refused

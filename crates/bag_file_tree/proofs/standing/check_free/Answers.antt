@@ -1,6 +1,6 @@
 use Rattle.bag_file_tree.proofs.BagSteps.{seen_taken}
 use Rattle.bag_file_tree.proofs.BaseNames.{base_reached}
-use Rattle.bag_file_tree.proofs.Refusals.{due_in_step}
+use Rattle.bag_disk_files.proofs.Refusals.{due_in_step}
 use Rattle.bag_file_tree.proofs.standing.check_free.Goals as goal
 
 pub returns-in-Ok-Some-clause-refused : goal.returns-in-Ok-Some-clause-refused

@@ -1,6 +1,6 @@
 use Rattle.bag_file_tree.proofs.BagSteps.{free_not_taken, none_standing, seen_taken}
 use Rattle.bag_file_tree.proofs.BaseNames.{base_reached}
-use Rattle.bag_file_tree.proofs.Refusals.{due_for}
+use Rattle.bag_disk_files.proofs.Refusals.{due_for}
 use Rattle.bag_file_tree.proofs.standing.check_taken.Goals as goal
 
 pub returns-in-Ok-None-clause-refused : goal.returns-in-Ok-None-clause-refused

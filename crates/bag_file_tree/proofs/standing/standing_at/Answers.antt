@@ -1,4 +1,4 @@
-use Rattle.bag_file_tree.proofs.Plain.{other_seen}
+use Rattle.bag_disk_files.proofs.Plain.{other_seen}
 use Rattle.bag_file_tree.proofs.standing.standing_at.Goals as goal
 
 pub returns-in-Ok-Other-clause-refused : goal.returns-in-Ok-Other-clause-refused

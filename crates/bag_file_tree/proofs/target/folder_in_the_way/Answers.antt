@@ -1,4 +1,4 @@
-use Rattle.bag_file_tree.specs.DiskBag.{bag_of}
+use Rattle.bag_disk_files.specs.DiskBag.{bag_of}
 use Rattle.bag_file_tree.proofs.BagSteps.{listed_within}
 use Rattle.bag_file_tree.proofs.target.folder_in_the_way.Goals as goal
 

@@ -1,0 +1,4 @@
+pub mod BagBelow
+pub mod DiskBag
+pub mod FolderWalk
+pub mod Refusal
