@@ -11,7 +11,7 @@ use clap::{Arg, ArgAction, Command, value_parser};
 use std::alloc::{AllocError, Global};
 
 /// The headings of the options.
-const CHECKING: &str = "Checking, with --validate";
+const CHECKING: &str = "Checking, with --validate, and of the first three one at most";
 
 const MAKING: &str = "Making, by these algorithms, or SHA-256 and SHA-512 where none is given";
 
@@ -37,7 +37,11 @@ fn with_main_arguments<'a>(alloc: Global, command: Command<'a>) -> Result<Comman
 {
     command
         .arg(flag(alloc, "validate", "Check bags, and make none"))?
-        .arg(flag(alloc, "quiet", "Write nothing where all is well"))?
+        .arg(flag(
+            alloc,
+            "quiet",
+            "Write no closing line of a good bag, no made line and no unchecked line",
+        ))?
         .arg(operands(
             alloc,
             "directory",
@@ -68,7 +72,7 @@ fn with_check_arguments<'a>(alloc: Global, command: Command<'a>) -> Result<Comma
             alloc,
             "after",
             "LINE",
-            "Write only the faults after this line of a report",
+            "Write only the faults after this line, of one DIRECTORY",
         ))?
         .arg(number(
             alloc,

@@ -2,7 +2,7 @@
 //!
 //! ```
 //! match plan_of(alloc, &words) {
-//!     Ok(plan) => perform(rt, &plan, &mut out, &mut err),
+//!     Ok(plan) => perform(alloc, &folders, &plan, &mut visits, &mut out, &mut err),
 //!     Err(usage) => refuse_words(&usage, &mut err),
 //! }
 //! ```

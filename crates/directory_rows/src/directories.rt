@@ -26,6 +26,11 @@ const ROWS: &[Row] = &[
         places: &[("bagit.txt", Held::File(DECLARATION))],
         refused: Refused::Base,
     },
+    Row {
+        name: "no memory",
+        places: &[],
+        refused: Refused::Memory,
+    },
 ];
 
 const GOOD: &str = "good has a good declaration\n";
@@ -104,25 +109,44 @@ fn each_directory_has_its_report(rt: HostRuntime) -> Result<(), Fail> {
     Ok(())
 }
 
-/// The status of a check of three directories whose output has this room.
-fn status_in(alloc: Global, room: &mut [u8], err: &mut Vec<u8>) -> Result<u8, Fail> {
-    let plan = plan_for(alloc, &["good", "no declaration", "good"])?;
+/// What is said beside the reports of a check of directories whose output has this room, and the status.
+fn said_in(alloc: Global, names: &[&str], room: &mut [u8]) -> Result<(Vec<u8>, u8), Fail> {
+    let plan = plan_for(alloc, names)?;
     let shelf = Shelf { rows: ROWS };
     let (folders, mut visits) = Folders::of(&shelf);
     let mut out = WriterOut::new(room);
-    Ok(perform(alloc, &folders, &plan, &mut visits, &mut out, err))
+    let mut err = Vec::<u8>::new(alloc);
+    let status = perform(alloc, &folders, &plan, &mut visits, &mut out, &mut err);
+    Ok((err, status))
 }
 
 #[test]
 fn an_output_that_refuses_in_the_second_report(rt: HostRuntime) -> Result<(), Fail> {
     let mut room = [0u8; 33];
-    let mut err = Vec::<u8>::new(rt.alloc());
-    let status = status_in(rt.alloc(), room.as_mut_slice(), &mut err)?;
+    let names = ["good", "no declaration", "good"];
+    let (said, status) = said_in(rt.alloc(), &names, room.as_mut_slice())?;
     let written = b"good has a good declaration\n101 n".as_slice();
     sees_that(&rt, room.as_slice() == written, "output");
     sees_that(
         &rt,
-        err.as_slice() == b"bagit: output refused\n".as_slice(),
+        said.as_slice() == b"bagit: output refused\n".as_slice(),
+        "error output",
+    );
+    sees_that(&rt, status == 3, "status");
+    Ok(())
+}
+
+/// Nothing comes after a directory for whose disk there is no memory.
+#[test]
+fn memory_runs_out_before_the_second_report(rt: HostRuntime) -> Result<(), Fail> {
+    let mut room = [0u8; 60];
+    let names = ["good", "no memory", "good"];
+    let (said, status) = said_in(rt.alloc(), &names, room.as_mut_slice())?;
+    let written = b"good has a good declaration\n\0".as_slice();
+    sees_that(&rt, room.as_slice().starts_with(written), "output");
+    sees_that(
+        &rt,
+        said.as_slice() == b"bagit: out of memory\n".as_slice(),
         "error output",
     );
     sees_that(&rt, status == 3, "status");

@@ -30,6 +30,8 @@ pub(crate) type Place = (&'static str, Held);
 #[derive(Clone, Copy)]
 pub(crate) enum Refused {
     None,
+    /// It isn't given, for want of memory.
+    Memory,
     /// Its base folder may not be read.
     Base,
     /// A numbered call.
@@ -89,6 +91,7 @@ fn disk_of(alloc: Global, row: &Row) -> Result<ShelfDisk, AllocError>
     let disk = holding(alloc, row.places)?;
     match row.refused {
         Refused::None => Ok(ShelfDisk::over(disk, Call::Past, DiskFault::Device)),
+        Refused::Memory => Err(AllocError),
         Refused::Base => Ok(ShelfDisk::over(no_disk(alloc)?, Call::Past, DiskFault::Device)),
         Refused::Numbered(number, fault) => {
             Ok(ShelfDisk::over(disk, Call::Numbered(number), fault))

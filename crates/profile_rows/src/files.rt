@@ -1,7 +1,8 @@
 //! Profiles in files of the system's.
 use crate::rows::{sees, sees_that};
 use bag_disks::Folders;
-use bag_profile_file::{MOST_BYTES, read_profile, refuse_profile, write_unchecked};
+use bag_profile::ProfileFault;
+use bag_profile_file::{MOST_BYTES, ProfileRefusal, read_profile, refuse_profile, write_unchecked};
 use bag_tree::WriterOut;
 use std::fs::{self, File, OpenFile};
 use std::io::Write;
@@ -58,6 +59,19 @@ fn says_why_a_file_is_no_profile(rt: HostRuntime) -> Result<(), Fail> {
         &rt,
         said(&rt, path.as_str())?.as_str(),
         "bagit: profile unread\n3",
+    );
+    Ok(())
+}
+
+#[test]
+fn want_of_memory_is_told(rt: HostRuntime) -> Result<(), Fail> {
+    let mut err = Vec::<u8>::new(rt.alloc());
+    let refusal = ProfileRefusal::Refused(ProfileFault::Memory);
+    sees_that(&rt, refuse_profile(refusal, &mut err) == 3, "status");
+    sees(
+        &rt,
+        String::from_utf8(err)?.as_str(),
+        "bagit: out of memory\n",
     );
     Ok(())
 }

@@ -1,6 +1,6 @@
 //! What the program writes, and its exit status.
 use crate::rows::sees_that;
-use bag_cli::{Folders, Usage, perform, plan_of, program, refuse_words};
+use bag_cli::{Folders, Usage, program, refuse_words};
 use bag_store::WriterOut;
 use row_bags::fresh;
 use std::alloc::Global;
@@ -69,18 +69,22 @@ fn help_ends_well(rt: HostRuntime) {
 }
 
 /// The status of the program where its output has this room.
-fn status_in(rt: &HostRuntime, room: &mut [u8], err: &mut Vec<u8>) -> Result<u8, Fail> {
-    let plan = plan_of(rt.alloc(), &[])?;
+pub(crate) fn status_in(
+    rt: &HostRuntime,
+    words: &[&str],
+    room: &mut [u8],
+    err: &mut Vec<u8>,
+) -> u8 {
     let (folders, mut visits) = Folders::of(rt);
     let mut out = WriterOut::new(room);
-    Ok(perform(rt.alloc(), &folders, &plan, &mut visits, &mut out, err))
+    program(rt.alloc(), &folders, words, &mut visits, &mut out, err)
 }
 
 #[test]
-fn an_output_that_refuses_stops_the_program(rt: HostRuntime) -> Result<(), Fail> {
+fn an_output_that_refuses_stops_the_program(rt: HostRuntime) {
     let mut err = Vec::<u8>::new(rt.alloc());
     let mut room = [0u8; 10];
-    let status = status_in(&rt, room.as_mut_slice(), &mut err)?;
+    let status = status_in(&rt, &[], room.as_mut_slice(), &mut err);
     sees_that(&rt, room.as_slice() == b"sample has".as_slice(), "output");
     sees_that(
         &rt,
@@ -88,7 +92,6 @@ fn an_output_that_refuses_stops_the_program(rt: HostRuntime) -> Result<(), Fail>
         "error output",
     );
     sees_that(&rt, status == 3, "status");
-    Ok(())
 }
 
 /// Words that are refused, each with what is said of them and the status.
