@@ -1,5 +1,5 @@
 -- What is read of the matches.
-use Rattle.std.proofs.Common.{◌≡◌, ◌≢◌, ◌∙◌, ◌<◌, ◌+◌, ℕ, Bool, true, false, List, [], ◌∷◌, ◌++◌, Option, Some, None, refl, sym, ap, bytes_eq, codes, unwrap_or, filter, take, map, option_map, length, if◌then◌else◌}
+use Rattle.std.proofs.Common.{◌≡◌, ◌≢◌, ◌∙◌, ◌<◌, ◌+◌, ℕ, Bool, true, false, List, [], ◌∷◌, ◌++◌, ◌&&◌, ◌||◌, Option, Some, None, refl, sym, ap, bytes_eq, codes, unwrap_or, filter, fold, take, map, option_map, length, if◌then◌else◌}
 use Rattle.std.specs.List.{cons_option, filter_map}
 use Rattle.std.specs.Str.Parse.{ParsesBool}
 use Rattle.std.specs.List.{slice_index_or}
@@ -8,9 +8,9 @@ use Rattle.std.proofs.lemmas.List.{take_more}
 use Rattle.std.proofs.lemmas.List.Elements.{filter_map-append}
 use Rattle.std.proofs.lemmas.Slice.Eq.{bytes_eq-Decides}
 use Rattle.bag_text.specs.Alg.{algs}
-use Rattle.bag_text.specs.AlgList.{with_member}
+use Rattle.bag_text.specs.AlgList.{has_member, same_alg, with_member}
+use Rattle.bag_text.specs.AlgTable.{has_each, has_member-filter, same_alg_same}
 use Rattle.bag_text.specs.declared.alg.Alg.{Alg}
-use Rattle.bag_text.specs.declared.alg.Alg.TheVariants.{Md5, Sha1, Sha256, Sha512}
 use Rattle.clap.specs.Words.{ReadsOne, Text, matched_of, raw_values, rows_of}
 use Rattle.clap.specs.declared.parser.matches.Found.{Found}
 use Rattle.clap.proofs.WalkLemmas.{raw_values-rows}
@@ -55,39 +55,49 @@ pub values_of_some : (found : Found) (id : Text) (r : Option (Bor (List (Bor Tex
 values_of_some found id r words read is =
     ap (λ o. unwrap_or o []) (sym (raw_values-rows found id) ∙ sym read ∙ ap (option_map (λ (s : Bor (List (Bor Text))). map (λ (v : Bor Text). v.now) s.now)) is)
 
+-- one algorithm more, where a test holds of it
 abbrev pub with_if : (Alg → Bool) → List Alg → Alg → List Alg
 with_if p set alg = if p alg then with_member set alg else set
 
+module _ (p q : Alg → Bool) (alg : Alg) where
+  taken_at : p alg ≡ true → (a : Alg) (same : Bool) → same_alg a alg ≡ same
+      → (same || has_member (filter q algs) a) ≡ ((same && p a) || q a)
+  taken_at is a true e = sym (ap (λ b. b || q a) (ap p (same_alg_same a alg e) ∙ is))
+  taken_at is a false e = has_member-filter q a
+
+  left_at : p alg ≡ false → (a : Alg) (same : Bool) → same_alg a alg ≡ same → q a ≡ ((same && p a) || q a)
+  left_at is a true e = sym (ap (λ b. b || q a) (ap p (same_alg_same a alg e) ∙ is))
+  left_at is a false e = refl
+
+  one_more : (here : Bool) → p alg ≡ here
+      → (if here then with_member (filter q algs) alg else filter q algs) ≡ filter (λ a. (same_alg a alg && p a) || q a) algs
+  one_more true is = λ i. filter (λ a. taken_at is a (same_alg a alg) refl i) algs
+  one_more false is = λ i. filter (λ a. left_at is a (same_alg a alg) refl i) algs
+
+regrouped : (same later b c : Bool) → ((later && b) || ((same && b) || c)) ≡ (((same || later) && b) || c)
+regrouped false later b c = refl
+regrouped true false b c = refl
+regrouped true true true c = refl
+regrouped true true false c = refl
+
+-- a set that a test makes, with those of some algorithms of which another test holds
+with_if-each : (p q : Alg → Bool) (some : List Alg)
+    → fold (with_if p) (filter q algs) some ≡ filter (λ a. (has_member some a && p a) || q a) algs
+with_if-each p q [] = refl
+with_if-each p q (alg ∷ rest) =
+    ap (λ set. fold (with_if p) set rest) (one_more p q alg (p alg) refl)
+    ∙ with_if-each p (λ a. (same_alg a alg && p a) || q a) rest
+    ∙ (λ i. filter (λ a. regrouped (same_alg a alg) (has_member rest a) (p a) (q a) i) algs)
+
+listed_passes : (listed b : Bool) → listed ≡ true → ((listed && b) || false) ≡ b
+listed_passes true true e = refl
+listed_passes true false e = refl
+listed_passes false b e = cc
+
 -- algorithms that are added one by one
-pub named_one_by_one : (p : Alg → Bool)
-    → with_if p (with_if p (with_if p (with_if p [] Md5) Sha1) Sha256) Sha512 ≡ filter p algs
-named_one_by_one p = go (p Md5) (p Sha1) (p Sha256) (p Sha512)
-  where
-    go : (a b c d : Bool)
-        → (let first = if a then with_member [] Md5 else [] in
-        let second = if b then with_member first Sha1 else first in
-        let third = if c then with_member second Sha256 else second in
-        if d then with_member third Sha512 else third)
-        ≡ (let fourth = if d then Sha512 ∷ [] else [] in
-        let third = if c then Sha256 ∷ fourth else fourth in
-        let second = if b then Sha1 ∷ third else third in
-        if a then Md5 ∷ second else second)
-    go false false false false = refl
-    go false false false true = refl
-    go false false true false = refl
-    go false false true true = refl
-    go false true false false = refl
-    go false true false true = refl
-    go false true true false = refl
-    go false true true true = refl
-    go true false false false = refl
-    go true false false true = refl
-    go true false true false = refl
-    go true false true true = refl
-    go true true false false = refl
-    go true true false true = refl
-    go true true true false = refl
-    go true true true true = refl
+pub named_one_by_one : (p : Alg → Bool) → fold (with_if p) [] algs ≡ filter p algs
+named_one_by_one p =
+    with_if-each p (λ a. false) algs ∙ (λ i. filter (λ a. listed_passes (has_member algs a) (p a) (has_each a) i) algs)
 
 pub or_default_kept : (set : List Alg) → set ≢ [] → set ≡ or_default set
 or_default_kept [] some = absurd (some refl)

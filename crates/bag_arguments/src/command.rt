@@ -1,12 +1,14 @@
 //! The command: its name and its arguments.
 ghost use Rattle.std.specs.Prelude.{◌≡◌, IfOk, false, map};
 ghost use Rattle.clap.specs.Words.{app_of, rule_of};
+ghost use Rattle.bag_text.specs.Alg.{name as name_of};
 ghost use Rattle.bag_arguments.specs.Arguments as spec;
 ghost use Rattle.bag_arguments.specs.Labels.{label_option};
 
 use crate::Label;
 use crate::help::{ABOUT, AFTER};
 use crate::label::LABELS;
+use bag_text::Alg;
 use clap::{Arg, ArgAction, Command, value_parser};
 use std::alloc::{AllocError, Global};
 
@@ -90,11 +92,21 @@ fn with_check_arguments<'a>(alloc: Global, command: Command<'a>) -> Result<Comma
 fn with_alg_arguments<'a>(alloc: Global, command: Command<'a>) -> Result<Command<'a>, AllocError>
     ensures { IfOk result (λ c. app_of c ≡ spec.with_rules (app_of command.entry) spec.alg_arguments) }
 {
-    command
-        .arg(flag(alloc, "md5", "MD5"))?
-        .arg(flag(alloc, "sha1", "SHA-1"))?
-        .arg(flag(alloc, "sha256", "SHA-256"))?
-        .arg(flag(alloc, "sha512", "SHA-512"))
+    let mut extended = command;
+    for alg in Alg::ALL {
+        extended = extended.arg(alg_argument(alloc, alg))?;
+    }
+    Ok(extended)
+}
+
+/// The option of an algorithm.
+fn alg_argument<'a>(alloc: Global, alg: Alg) -> Arg<'a>
+    ensures rule { rule_of result ≡ spec.flag (name_of alg) }
+    ensures global { result.global ≡ false }
+{
+    let name: &'a str = alg.name();
+    let help: &'a str = alg.title();
+    flag(alloc, name, help)
 }
 
 /// The options of labels.

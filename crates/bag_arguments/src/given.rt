@@ -165,10 +165,11 @@ fn with_named(set: AlgSet, matches: &ArgMatches<'_>, alg: Alg) -> AlgSet
 fn named_algs(matches: &ArgMatches<'_>) -> AlgSet
     ensures { result ≡ spec.named_algs (rows_of (found_of matches.now)) }
 {
-    let set = with_named(AlgSet::empty(), matches, Alg::Md5);
-    let set = with_named(set, matches, Alg::Sha1);
-    let set = with_named(set, matches, Alg::Sha256);
-    with_named(set, matches, Alg::Sha512)
+    let mut set = AlgSet::empty();
+    for alg in Alg::ALL {
+        set = with_named(set, matches, alg);
+    }
+    set
 }
 
 /// The algorithms that are named, or SHA-256 and SHA-512 where none is.

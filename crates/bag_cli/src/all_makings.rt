@@ -9,7 +9,7 @@ ghost use Rattle.bag_cli.specs.Performed.{AreMade};
 use crate::performing::{REFUSED, say_memory, say_refused};
 use bag_arguments::{InfoItem, Plan};
 use bag_disks::{Disks, Folders, Visits};
-use bag_making::make_folder;
+use bag_making::make_and_tell;
 use bag_text::Text;
 use bag_tree::{Out, Refused};
 use std::alloc::{AllocError, Global};
@@ -133,7 +133,7 @@ fn make_one<D: Disks, O: Out>(
         (λ _. (O.taken out.new ≡ O.taken out.old) × (own ≡ []))) }
 {
     let tree = folders.enter(alloc, directory, visits)?;
-    let (tree, told) = make_folder(alloc, tree, directory, plan.algs, info, plan.quiet, out);
+    let (tree, told) = make_and_tell(alloc, tree, directory, plan.algs, info, plan.quiet, out);
     folders.leave(tree, visits);
     Ok(told)
 }

@@ -25,7 +25,7 @@ use Rattle.bag_stages.proofs.BagLists.{files_listed, manifests_listed}
 use Rattle.bag_stages.proofs.HasLists.{Decided, nothing, only, same_set, either, for_each, true_or_not, false_or_not, both_decided, none_decided}
 use Rattle.bag_stages.proofs.ManifestsList.{missing_or_not}
 use Rattle.bag_conformance.specs.ConformanceFaults.{required_code, other_code, IsOfElements, IsOfKind, IsOfTagFiles, IsOfWhole}
-use Rattle.bag_conformance.specs.ConformanceStage.{fetch_txt, identifier_label, required_manifests, allowed_manifests, LacksIdentifier, LacksLabel, RepeatsLabel, HasOtherValue, LacksManifest, HasOtherManifest, LacksTagFile, HasOtherTagFile, HasFetch, HasOtherVersion, IsToBeSerialized}
+use Rattle.bag_conformance.specs.ConformanceStage.{fetch_txt, identifier_label, required_manifests, allowed_manifests, LacksIdentifier, LacksLabel, RepeatsLabel, HasOtherValue, LacksManifest, HasOtherManifest, LacksTagFile, HasOtherTagFile, HasFetchFile, HasOtherVersion, IsToBeSerialized}
 use Rattle.bag_conformance.specs.ProfileRules.{Lists, Excludes, MatchesNone, IsFreeTagFile}
 use Rattle.bag_conformance.proofs.Decisions.{decided_as, not_decided, some_decided, picked, less_or_not, same_or_not, empty_or_not, required_or_not, free_or_not, manifest_or_not, names_listed, excluded_or_not, unmatched_or_not}
 use Rattle.bag_conformance.proofs.ItemFaults.{of_one, of_items}
@@ -185,9 +185,9 @@ module _ (bag : Bag) (profile : Profile) where
       (of_items TagFileNotAllowed (λ path. path) (λ path. 0) (λ path. []) (λ path. HasFile bag path × IsOther path)
       (picked (HasFile bag) IsOther (λ path. both_decided _ _ (free_or_not path) (unmatched_or_not profile TagFilesAllowed path)) (files_listed bag)))
 
-  fetch_files : HasList (λ f. (f.code ≡ FetchNotAllowed) × HasFetch bag profile f)
+  fetch_files : HasList (λ f. (f.code ≡ FetchNotAllowed) × HasFetchFile bag profile f)
   fetch_files =
-      same_set _ (λ f. (f.code ≡ FetchNotAllowed) × HasFetch bag profile f)
+      same_set _ (λ f. (f.code ≡ FetchNotAllowed) × HasFetchFile bag profile f)
       (λ f h. (h.0, (h.1.0, h.1.1.0, h.1.1.1)))
       (λ f h. (h.0, (h.1.0, (h.1.1, h.1.2))))
       (of_one FetchNotAllowed fetch_txt 0 [] ((profile.terms.allow_fetch ≡ false) × HasFile bag fetch_txt)
@@ -196,7 +196,7 @@ module _ (bag : Bag) (profile : Profile) where
   pub tag_files_listed : HasList (λ f. IsOfTagFiles bag profile f)
   tag_files_listed =
       either (λ f. (f.code ≡ TagFileRequired) × LacksTagFile bag profile f) _ lacking_files
-      (either (λ f. (f.code ≡ TagFileNotAllowed) × HasOtherTagFile bag profile f) (λ f. (f.code ≡ FetchNotAllowed) × HasFetch bag profile f) other_files fetch_files)
+      (either (λ f. (f.code ≡ TagFileNotAllowed) × HasOtherTagFile bag profile f) (λ f. (f.code ≡ FetchNotAllowed) × HasFetchFile bag profile f) other_files fetch_files)
 
   other_versions : HasList (λ f. (f.code ≡ VersionNotAccepted) × HasOtherVersion bag profile f)
   other_versions =

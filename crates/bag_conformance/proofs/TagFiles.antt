@@ -9,7 +9,7 @@ use Rattle.bag_profile.specs.Profile.{Profile}
 use Rattle.bag_profile.specs.declared.rule.ListRule.TheVariants.{TagFilesRequired}
 use Rattle.bag_stages.specs.FaultFields.{of_whole}
 use Rattle.bag_conformance.specs.ConformanceFaults.{AreAll, IsOfTagFiles}
-use Rattle.bag_conformance.specs.ConformanceStage.{LacksTagFile, HasOtherTagFile, HasFetch}
+use Rattle.bag_conformance.specs.ConformanceStage.{LacksTagFile, HasOtherTagFile, HasFetchFile}
 use Rattle.bag_conformance.specs.NotAllowed.{IsOtherTagFile}
 use Rattle.bag_conformance.specs.ProfileRules.{Lists}
 use Rattle.bag_conformance.proofs.FaultSets.{FaultsOf, same_all, both_all, whole_at, code_at, at_whole}
@@ -76,7 +76,7 @@ module _ (bag : Bag) (profile : Profile) where
       same_all IsOther HasOther faults to_other from_other (files_all TagFileNotAllowed (IsOtherTagFile profile) bag files listed faults all)
 
   abbrev pub HasSomeFetch : Fault → Type 0
-  HasSomeFetch f = (f.code ≡ FetchNotAllowed) × HasFetch bag profile f
+  HasSomeFetch f = (f.code ≡ FetchNotAllowed) × HasFetchFile bag profile f
 
   assigned : (f : Fault) → (Lacks f ⊎ HasOther f) ⊎ HasSomeFetch f → IsOfTagFiles bag profile f
   assigned f (inl (inl h)) = inl h

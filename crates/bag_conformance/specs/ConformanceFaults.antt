@@ -7,7 +7,7 @@ use Rattle.bag_tags.specs.declared.kind.Kind.TheVariants.{Payload, Tag}
 use Rattle.bag_tree.specs.Bag.{Bag}
 use Rattle.bag_fault.specs.declared.fault.Fault.{Fault}
 use Rattle.bag_profile.specs.Profile.{Profile}
-use Rattle.bag_conformance.specs.ConformanceStage.{LacksIdentifier, LacksLabel, RepeatsLabel, HasOtherValue, LacksManifest, HasOtherManifest, LacksTagFile, HasOtherTagFile, HasFetch, HasOtherVersion, IsToBeSerialized}
+use Rattle.bag_conformance.specs.ConformanceStage.{LacksIdentifier, LacksLabel, RepeatsLabel, HasOtherValue, LacksManifest, HasOtherManifest, LacksTagFile, HasOtherTagFile, HasFetchFile, HasOtherVersion, IsToBeSerialized}
 
 -- the members of a list are exactly these
 abbrev pub AreAll : (Fault → Type 0) → List Fault → Type 0
@@ -42,7 +42,7 @@ module _ (bag : Bag) (profile : Profile) (f : Fault) where
   IsOfTagFiles =
       ((f.code ≡ TagFileRequired) × LacksTagFile bag profile f)
       ⊎ ((f.code ≡ TagFileNotAllowed) × HasOtherTagFile bag profile f)
-      ⊎ ((f.code ≡ FetchNotAllowed) × HasFetch bag profile f)
+      ⊎ ((f.code ≡ FetchNotAllowed) × HasFetchFile bag profile f)
 
   -- about the bag as a whole
   abbrev pub IsOfWhole : Type 0

@@ -88,8 +88,8 @@ module _ (bag : Bag) (profile : Profile) (f : Fault) where
       At f f.path None 0 [] × HasFile bag f.path × IsFreeTagFile f.path × MatchesNone profile TagFilesAllowed f.path
 
   -- fetch.txt is there, and may not be
-  abbrev pub HasFetch : Type 0
-  HasFetch = At f fetch_txt None 0 [] × (profile.terms.allow_fetch ≡ false) × HasFile bag fetch_txt
+  abbrev pub HasFetchFile : Type 0
+  HasFetchFile = At f fetch_txt None 0 [] × (profile.terms.allow_fetch ≡ false) × HasFile bag fetch_txt
 
   -- the bag declares a version that isn't accepted
   abbrev pub HasOtherVersion : Type 0
@@ -115,7 +115,7 @@ module _ (bag : Bag) (profile : Profile) (f : Fault) where
   -- tag files
   ConformanceHolds TagFileRequired = LacksTagFile
   ConformanceHolds TagFileNotAllowed = HasOtherTagFile
-  ConformanceHolds FetchNotAllowed = HasFetch
+  ConformanceHolds FetchNotAllowed = HasFetchFile
   -- the bag as a whole
   ConformanceHolds VersionNotAccepted = HasOtherVersion
   ConformanceHolds SerializationRequired = IsToBeSerialized

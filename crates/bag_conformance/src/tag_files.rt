@@ -5,7 +5,7 @@ ghost use Rattle.bag_tree.specs.Bag.{Bag};
 ghost use Rattle.bag_facts.specs.Facts.{IsFactsOf};
 ghost use Rattle.bag_facts.specs.declared.options.Depth.TheVariants.{Declaration};
 ghost use Rattle.bag_conformance.specs.ConformanceFaults.{AreAll, IsOfTagFiles};
-ghost use Rattle.bag_conformance.specs.ConformanceStage.{LacksTagFile, HasOtherTagFile, HasFetch};
+ghost use Rattle.bag_conformance.specs.ConformanceStage.{LacksTagFile, HasOtherTagFile, HasFetchFile};
 ghost use Rattle.bag_conformance.specs.NotAllowed.{IsOtherTagFile};
 
 use crate::file_fault::file_fault;
@@ -84,7 +84,7 @@ fn is_other_tag_file(profile: &Profile, path: &str) -> bool
 /// The fault that `fetch.txt` is there, and may not be.
 fn fetch_faults(alloc: Global, facts: &Facts, profile: &Profile) -> Result<Vec<Fault>, AllocError>
     ensures { IfOk result (λ faults. (bag : Bag) → IsFactsOf bag facts.now
-        → AreAll (λ f. (f.code ≡ FetchNotAllowed) × HasFetch bag profile.now f) faults.items) }
+        → AreAll (λ f. (f.code ≡ FetchNotAllowed) × HasFetchFile bag profile.now f) faults.items) }
 {
     let path = TagName::Fetch.path(alloc)?;
     if profile.allow_fetch() || !has_file(facts, path.as_str()) {

@@ -1,3 +1,4 @@
 pub mod DeclarationFaults
 pub mod DeclarationLineParts
 pub mod DeclarationLines
+pub mod DeclaredLines

@@ -19,6 +19,7 @@ pub struct Declaration {
     pub version: Option<Text>,
     /// The encoding of line 2, where that line reads.
     pub encoding: Option<Text>,
+    /// What is wrong with it, in line order.
     pub faults: Items<LineFault>,
 }
 

@@ -1,3 +1,4 @@
+pub mod HashValues
 pub mod Spelled
 pub mod SumsOf
 pub mod Updates

@@ -20,5 +20,5 @@ mod path_order;
 mod refusal;
 
 pub use listing::list_below;
-pub use opening::{check_folder, open_at};
+pub use opening::{check_is_folder, open_at};
 pub use refusal::Refusal;

@@ -55,7 +55,7 @@ fn check_folders<D: Disk>(disk: &D, path: &str) -> Result<(), Refusal>
             let Some(folder) = path.get(..end) else {
                 return Err(Refusal::Device);
             };
-            match check_folder(disk, folder) {
+            match check_is_folder(disk, folder) {
                 Ok(()) => {}
                 Err(refusal) => return Err(refusal),
             }
@@ -65,7 +65,7 @@ fn check_folders<D: Disk>(disk: &D, path: &str) -> Result<(), Refusal>
 }
 
 /// Refuses what is no folder.
-pub fn check_folder<D: Disk>(disk: &D, folder: &str) -> Result<(), Refusal>
+pub fn check_is_folder<D: Disk>(disk: &D, folder: &str) -> Result<(), Refusal>
     ensures folder { OnOk result (IsTrue (D.state disk.now).honest → IsReached (D.state disk.now).nodes folder.now → node (D.state disk.now).nodes folder.now ≡ Some Folder) }
     ensures refused { IfErr result (IsDue (IsTrue (D.state disk.now).honest → IsReached (D.state disk.now).nodes folder.now → is_plain (D.state disk.now).nodes ≡ false)
         (IsTrue (D.state disk.now).honest → IsReached (D.state disk.now).nodes folder.now → node (D.state disk.now).nodes folder.now ≡ Some Folder → ⊥) ⊥) }

@@ -1,5 +1,7 @@
 -- A search among listed files, and the manifests that are listed.
-use Rattle.std.proofs.Common.{◌≡◌, ◌↔◌, ℕ, List, [], Bool, length, subst, Contains, IsTrue, Result}
+use Rattle.std.proofs.Common.{◌≡◌, ◌↔◌, ℕ, List, [], Bool, length, bytes_eq, subst, sym, ◌∙◌, Contains, IsTrue, Result}
+use Rattle.std.proofs.lemmas.Slice.Eq.{bytes_eq-Decides}
+use Rattle.std.specs.List.{list_any}
 use Rattle.std.specs.Result.{is_ok}
 use Rattle.std.specs.List.Sorted.{IsStrictlySortedBy, IsBinarySearchResult, IsSearchInRange}
 use Rattle.bag_text.specs.Text.{text_cmp}
@@ -11,6 +13,8 @@ use Rattle.bag_facts.specs.Wanted.{paths_of}
 use Rattle.bag_facts.specs.declared.facts.Facts.{Facts}
 use Rattle.bag_facts.proofs.ByPath.{found, items_ascend}
 use Rattle.bag_facts.proofs.ListedFiles.{file_listed, listed_file}
+use Rattle.bag_facts.proofs.Mapped.{contains_mapped, mapped_contains}
+use Rattle.bag_line.proofs.PickedOut.{any_from, from_any}
 
 some_file : FileEntry
 some_file = record { path = []; size = 0 }
@@ -29,3 +33,13 @@ bag_has bag known files path b facts same tells =
       λ yes. listed_file bag known.listing.files path facts.listing.files (told.0 yes),
       λ has. told.1 (file_listed bag known.listing.files path facts.listing.files has),
     )
+
+-- and so does a test of the path of each file
+pub bag_has_one : (bag : Bag) (known : Facts) (files : List FileEntry) (path : List ℕ) (b : Bool) → IsFactsOf bag known → files ≡ known.listing.files
+    → b ≡ list_any (λ file. bytes_eq file.path path) files → IsTrue b ↔ HasFile bag path
+bag_has_one bag known files path b facts same told = bag_has bag known files path b facts same (λ _. (
+  λ yes. let some = from_any (λ file. bytes_eq file.path path) files (sym told ∙ yes) in
+      subst (Contains (paths_of files)) ((bytes_eq-Decides some.0.path path).0 some.2) (mapped_contains (λ file. file.path) files some.0 some.1),
+  λ has. let some = contains_mapped (λ file. file.path) files path has in
+      told ∙ any_from (λ file. bytes_eq file.path path) files some.0 some.1 ((bytes_eq-Decides some.0.path path).1 some.2),
+))

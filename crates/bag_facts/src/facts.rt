@@ -12,7 +12,7 @@ ghost use Rattle.bag_facts.specs.Wanted.{ForListing, OpensAll, OpensFirst, Opens
 ghost use Rattle.bag_facts.specs.declared.options.Depth.TheVariants as depth_of;
 ghost use Rattle.bag_facts.specs.Stops.{MayStopReading};
 
-use crate::manifest_path::has_manifest;
+use crate::listed_manifest::has_manifest;
 use crate::tag_reader::{TagBytes, read_tag_files};
 use crate::{Depth, FetchList, Manifest, Metadata, Options, TagFacts};
 use bag_tags::{Declaration, Kind, ManifestEntry, TagName};
@@ -86,7 +86,7 @@ impl Facts {
 
     /// What `bagit.txt` declares, where it is there.
     pub fn declaration(&self) -> Option<&Declaration>
-        ensures { (bag : Bag) → IsFactsOf bag self.now → IsReadOf IsDeclarationOf (file bag (codes "bagit.txt")) (option_copied result) }
+        ensures { (bag : Bag) → IsFactsOf bag self.now → IsReadOf IsDeclarationOf (file bag (tag_path file_of.Declaration)) (option_copied result) }
     {
         let Some(TagFacts::Declaration(declaration)) = self.tag(TagName::Declaration) else {
             return None;

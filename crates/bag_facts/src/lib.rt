@@ -15,8 +15,8 @@
 mod arrangement;
 mod facts;
 mod fetch_list;
+mod listed_manifest;
 mod manifest;
-mod manifest_path;
 mod metadata;
 mod options;
 mod tag_facts;

@@ -327,12 +327,6 @@ pub folder_in_target : (nodes : Nodes) (honest : Type 0) (folder top target : Li
 folder_in_target nodes honest folder top target over absent r is at due =
     step_due_for _ _ _ _ _ _ r (λ never. absurd never) (λ never. absurd never) (λ taken h. ap (has_within (bag_of nodes)) (sym (at ∙ path_in_is_under folder top is)) ∙ taken h) due
 
--- whether what follows a path makes it one within
-pub follows_within : (b : Bool) (top path rest : List ℕ) → path ≡ top ++ rest → MatchBool b ((rest ≡ []) ⊎ (starts_with nat_eq rest (slash ∷ []) ≡ true)) ((rest ≢ []) × (starts_with nat_eq rest (slash ∷ []) ≢ true))
-    → b ≡ is_within top path
-follows_within true top path rest parts is = sym (within_after top path rest parts is)
-follows_within false top path rest parts isnt = sym (not_after top path rest parts isnt.0 isnt.1)
-
 any_entry : (top : List ℕ) (es : Entries) → list_any (λ (entry : FileEntry). is_within top entry.path) (list_map (λ e. record { path = e.0; size = length e.1 }) es) ≡ list_any (λ e. is_within top e.0) es
 any_entry top [] = refl
 any_entry top (e ∷ es) = ap (λ b. is_within top e.0 || b) (any_entry top es)

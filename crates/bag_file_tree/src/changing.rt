@@ -10,7 +10,7 @@ ghost use Rattle.bag_disk_files.specs.Refusal.{HasOther, IsDueInStep};
 use crate::standing::{Standing, check_free, check_taken, standing_at};
 use crate::target::folder_in_the_way;
 use bag_disk::{Disk, DiskFault, WritableDisk, path_in};
-use bag_disk_files::{Refusal, check_folder};
+use bag_disk_files::{Refusal, check_is_folder};
 use std::alloc::Global;
 
 /// Makes a folder in the base folder, where nothing has its name.
@@ -55,7 +55,7 @@ pub(crate) fn move_in<D: WritableDisk>(
     ensures refused { IfErr result (IsDueInStep (HasOther (D.state disk.old))
         (LacksSource (D.state disk.old) top.now folder.now) (HasTarget (D.state disk.old) top.now folder.now)) }
 {
-    match check_folder(disk, folder) {
+    match check_is_folder(disk, folder) {
         Ok(()) => {}
         Err(refusal) => return Err(refusal),
     }
@@ -90,7 +90,7 @@ pub(crate) fn rename_folder<D: WritableDisk>(
     ensures refused { IfErr result (IsDueInStep (HasOther (D.state disk.old))
         (LacksFolder (D.state disk.old) from.now) (IsTaken (D.state disk.old) to.now)) }
 {
-    match check_folder(disk, from) {
+    match check_is_folder(disk, from) {
         Ok(()) => {}
         Err(refusal) => return Err(refusal),
     }

@@ -1,8 +1,5 @@
 //! Folders that stand where something is to be moved.
-ghost use Rattle.std.specs.Prelude.{◌≡◌, ◌≢◌, ◌↔◌, ◌⊎◌, ◌++◌, ◌∷◌, [], Any, IsTrue, MatchBool, MatchOption, nat_eq, true};
-ghost use Rattle.std.specs.Prelude.{ℕ, List};
-ghost use Rattle.std.specs.List.{starts_with};
-ghost use Rattle.bag_text.specs.Path.{slash};
+ghost use Rattle.std.specs.Prelude.{◌≡◌, ◌↔◌, Any, IsTrue, true};
 ghost use Rattle.bag_write_tree.specs.Steps as step;
 ghost use Rattle.bag_disk.specs.Disk.{OnlyLooks};
 ghost use Rattle.bag_disk_files.specs.DiskBag.{bag_of};
@@ -11,6 +8,7 @@ ghost use Rattle.bag_disk_files.specs.Refusal.{IsDueInStep};
 use bag_disk::Disk;
 use bag_disk_files::{Refusal, list_below};
 use bag_tree::FileEntry;
+use bag_write_tree::rest_within;
 use std::alloc::Global;
 
 /// Why nothing can be moved to where a folder stands: a file is in it, or it might be replaced. The files below the base
@@ -44,23 +42,5 @@ fn has_within(files: &[FileEntry], top: &str) -> bool
 fn is_within(top: &str, path: &str) -> bool
     ensures { result ≡ step.is_within top.now path.now }
 {
-    let Some(rest) = behind(top, path) else {
-        return false;
-    };
-    is_below(rest)
-}
-
-/// What follows a text in one that begins with it.
-fn behind<'a>(front: &str, text: &'a str) -> Option<&'a str>
-    ensures { MatchOption result ((rest : List ℕ) → text.now ≢ front.now ++ rest) (λ rest. text.now ≡ front.now ++ rest.now) }
-{
-    text.strip_prefix(front)
-}
-
-/// Whether what follows a path is nothing, or below it.
-fn is_below(rest: &str) -> bool
-    ensures { MatchBool result ((rest.now ≡ []) ⊎ (starts_with nat_eq rest.now (slash ∷ []) ≡ true))
-        ((rest.now ≢ []) × (starts_with nat_eq rest.now (slash ∷ []) ≢ true)) }
-{
-    rest.is_empty() || rest.as_bytes().starts_with(b"/".as_slice())
+    rest_within(top, path).is_some()
 }

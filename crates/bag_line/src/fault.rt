@@ -8,8 +8,10 @@ use std::alloc::{AllocError, Global};
 /// A fault of a tag file. Lines count from 1; the line is 0 where the fault is of the whole file.
 #[derive(Debug, Drop)]
 pub struct LineFault {
+    /// Counted from 1; 0 is the file as a whole.
     pub line: u64,
     pub code: Code,
+    /// Empty where there is none.
     pub detail: Text,
 }
 

@@ -18,9 +18,13 @@ use std::alloc::{AllocError, Global};
 /// the path that it gets.
 #[derive(Debug, Drop)]
 pub struct FetchEntry {
+    /// Counted from 1.
     pub line: u64,
+    /// As it stands.
     pub url: Text,
+    /// As it stands: digits, or `-`.
     pub length: Text,
+    /// Decoded, and safe.
     pub path: Text,
 }
 

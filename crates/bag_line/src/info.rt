@@ -17,8 +17,11 @@ use std::alloc::{AllocError, Global};
 /// parts of several lines are joined by one LF.
 #[derive(Debug, Drop)]
 pub struct Element {
+    /// That of the label, counted from 1.
     pub line: u64,
+    /// As it is spelled.
     pub label: Text,
+    /// Joined from all its lines, without blanks around it.
     pub value: Text,
 }
 

@@ -7,7 +7,9 @@ use crate::digits::is_digits;
 /// How many bytes the payload has, and how many files.
 #[derive(Clone, Copy, Debug, PartialEq, Eq)]
 pub struct Oxum {
+    /// Bytes of all payload files.
     pub octets: u64,
+    /// Payload files.
     pub streams: u64,
 }
 

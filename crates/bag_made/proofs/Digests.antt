@@ -1,71 +1,16 @@
 -- A digest has the algorithm's length and lower-case digits.
-use Rattle.std.proofs.Common.{◌≡◌, ℕ, zero, suc, ◌+◌, ◌*◌, ◌/◌, ◌%◌, ◌<◌, true, false, List, [], ◌∷◌, ◌++◌, length, refl, ap, ◌∙◌, arith, slice_index, length-append}
-use Rattle.std.specs.Prelude.{All}
-use Rattle.std.specs.Int.{w32, w64, byte_at, to_le_bytes, to_be_bytes, bytes_low_first, bytes_high_first}
+use Rattle.std.proofs.Common.{◌≡◌, ℕ, ◌*◌, ◌/◌, ◌%◌, ◌<◌, true, false, List, [], ◌∷◌, length, refl, ap, ◌∙◌, arith, slice_index}
 use Rattle.std.specs.List.{list_all}
 use Rattle.std.proofs.lemmas.Bool.{agree_below_at, and_from, or_from, not_from_true, eq-eqb}
-use Rattle.std.proofs.lemmas.List.Elements.{All-nil, All-cons, All-append, All-head, All-tail}
+use Rattle.std.proofs.lemmas.List.Elements.{All-head, All-tail}
 use Rattle.hex.specs.Hex.{encode_with, encode_lower, lower_digits}
 use Rattle.hex.proofs.HexLemmas.{length-encode_with}
-use Rattle.md5.specs.Md5 as by_md5
-use Rattle.sha1.specs.Sha1 as by_sha1
-use Rattle.sha2.specs.Sha256 as by_sha256
-use Rattle.sha2.specs.Sha512 as by_sha512
 use Rattle.bag_text.specs.Alg.{hex_len}
 use Rattle.bag_text.specs.declared.alg.Alg.{Alg}
-use Rattle.bag_text.specs.declared.alg.Alg.TheVariants.{Md5, Sha1, Sha256, Sha512}
+use Rattle.bag_text.specs.declared.alg.Alg.TheVariants.{Md5}
 use Rattle.bag_digest.specs.Digest.{hash, hash_len, digest}
+use Rattle.bag_digest.proofs.HashValues.{AreBytes, value}
 use Rattle.bag_write.specs.Entry.{is_lower_hex_digit, is_bad_digest}
-
-abbrev AreBytes : List ℕ → Type 0
-AreBytes bytes = All (λ b. b < 256) bytes
-
-byte_small : (i n : ℕ) → byte_at i n < 256
-byte_small zero n = omega arith
-byte_small (suc i) n = omega arith
-
-low_first_small : (i k n : ℕ) → AreBytes (bytes_low_first i k n)
-low_first_small i zero n = All-nil (λ b. b < 256)
-low_first_small i (suc k) n = All-cons (λ b. b < 256) (byte_at i n) (bytes_low_first (suc i) k n) (byte_small i n) (low_first_small (suc i) k n)
-
-high_first_small : (k n : ℕ) → AreBytes (bytes_high_first k n)
-high_first_small zero n = All-nil (λ b. b < 256)
-high_first_small (suc k) n = All-cons (λ b. b < 256) (byte_at k n) (bytes_high_first k n) (byte_small k n) (high_first_small k n)
-
--- what is known of a value: how many bytes it has, and that they are bytes
-abbrev IsValue : ℕ → List ℕ → Type 0
-IsValue n bytes = (length bytes ≡ n) × AreBytes bytes
-
-more : (n m k : ℕ) (front back : List ℕ) → IsValue n front → length back ≡ m → AreBytes back → n + m ≡ k → IsValue k (front ++ back)
-more n m k front back (long, small) e all sum = (omega (arith, length-append front back), All-append (λ b. b < 256) front back small all)
-
-md5_words : (h : List ℕ) (n : ℕ) → IsValue (n * 4) (by_md5.digest_bytes h n)
-unfolding by_md5.digest_bytes
-md5_words h zero = (omega arith, All-nil (λ b. b < 256))
-md5_words h (suc n) = more (n * 4) 4 _ (by_md5.digest_bytes h n) (to_le_bytes w32 (slice_index h n)) (md5_words h n) refl (low_first_small 0 4 (slice_index h n)) (omega arith)
-
-sha1_words : (h : List ℕ) (n : ℕ) → IsValue (n * 4) (by_sha1.digest_bytes h n)
-unfolding by_sha1.digest_bytes
-sha1_words h zero = (omega arith, All-nil (λ b. b < 256))
-sha1_words h (suc n) = more (n * 4) 4 _ (by_sha1.digest_bytes h n) (to_be_bytes w32 (slice_index h n)) (sha1_words h n) refl (high_first_small 4 (slice_index h n)) (omega arith)
-
-sha256_words : (h : List ℕ) (n : ℕ) → IsValue (n * 4) (by_sha256.digest_bytes h n)
-unfolding by_sha256.digest_bytes
-sha256_words h zero = (omega arith, All-nil (λ b. b < 256))
-sha256_words h (suc n) = more (n * 4) 4 _ (by_sha256.digest_bytes h n) (to_be_bytes w32 (slice_index h n)) (sha256_words h n) refl (high_first_small 4 (slice_index h n)) (omega arith)
-
-sha512_words : (h : List ℕ) (n : ℕ) → IsValue (n * 8) (by_sha512.digest_bytes h n)
-unfolding by_sha512.digest_bytes
-sha512_words h zero = (omega arith, All-nil (λ b. b < 256))
-sha512_words h (suc n) = more (n * 8) 8 _ (by_sha512.digest_bytes h n) (to_be_bytes w64 (slice_index h n)) (sha512_words h n) refl (high_first_small 8 (slice_index h n)) (omega arith)
-
--- the value of each algorithm
-value : (alg : Alg) (bytes : List ℕ) → IsValue (hash_len alg) (hash alg bytes)
-unfolding by_md5.md5 by_sha1.sha1 by_sha256.sha256 by_sha512.sha512
-value Md5 bytes = md5_words (by_md5.hash_after (by_md5.padded_message bytes) (length (by_md5.padded_message bytes) / 64)) 4
-value Sha1 bytes = sha1_words (by_sha1.hash_after (by_sha1.padded_message bytes) (length (by_sha1.padded_message bytes) / 64)) 5
-value Sha256 bytes = sha256_words (by_sha256.final_hash by_sha256.initial_hash_256 bytes) 8
-value Sha512 bytes = sha512_words (by_sha512.final_hash by_sha512.initial_hash_512 bytes) 8
 
 lower_digit : (d : ℕ) → d < 16 → is_lower_hex_digit (slice_index lower_digits d) ≡ true
 lower_digit d l = agree_below_at (λ d. is_lower_hex_digit (slice_index lower_digits d)) (λ d. true) 16 d refl l
@@ -80,9 +25,7 @@ lower_each (b ∷ bytes) all =
 
 twice : (alg : Alg) → 2 * hash_len alg ≡ hex_len alg
 twice Md5 = refl
-twice Sha1 = refl
-twice Sha256 = refl
-twice Sha512 = refl
+twice _ = refl
 
 digest_length : (alg : Alg) (bytes : List ℕ) → length (digest alg bytes) ≡ hex_len alg
 digest_length alg bytes = length-encode_with lower_digits (hash alg bytes) ∙ ap (λ n. 2 * n) (value alg bytes).0 ∙ twice alg

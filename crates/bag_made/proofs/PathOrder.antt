@@ -10,7 +10,7 @@ use Rattle.std.proofs.lemmas.Bool.{and_parts}
 use Rattle.bag_text.specs.Alg.{rank_cmp}
 use Rattle.bag_text.specs.Text.{text_cmp}
 use Rattle.bag_text.specs.declared.alg.Alg.{Alg}
-use Rattle.bag_text.specs.declared.alg.Alg.TheVariants.{Md5, Sha1, Sha256, Sha512}
+use Rattle.bag_text.specs.declared.alg.Alg.TheVariants.{Md5}
 use Rattle.bag_tags.specs.TagName.{tag_path}
 use Rattle.bag_tags.specs.declared.kind.Kind.TheVariants.{Payload}
 use Rattle.bag_tags.specs.declared.tag_name.TagName.TheVariants.{Declaration, Info, Manifest}
@@ -38,23 +38,10 @@ abbrev path_of : Alg → List ℕ
 path_of alg = tag_path (Manifest Payload alg)
 
 -- the names of manifests are in the order of their algorithms
-path_less : (a b : Alg) → rank_cmp a b ≡ Less → text_cmp (path_of a) (path_of b) ≡ Less
-path_less Md5 Md5 e = cc
-path_less Md5 Sha1 e = refl
-path_less Md5 Sha256 e = refl
-path_less Md5 Sha512 e = refl
-path_less Sha1 Md5 e = cc
-path_less Sha1 Sha1 e = cc
-path_less Sha1 Sha256 e = refl
-path_less Sha1 Sha512 e = refl
-path_less Sha256 Md5 e = cc
-path_less Sha256 Sha1 e = cc
-path_less Sha256 Sha256 e = cc
-path_less Sha256 Sha512 e = refl
-path_less Sha512 Md5 e = cc
-path_less Sha512 Sha1 e = cc
-path_less Sha512 Sha256 e = cc
-path_less Sha512 Sha512 e = cc
+path_order : (a b : Alg) → text_cmp (path_of a) (path_of b) ≡ rank_cmp a b
+path_order Md5 Md5 = refl
+path_order _ Md5 = refl
+path_order _ _ = refl
 
 module _ (text : Alg → List ℕ) where
   abbrev manifests : List Alg → List File
@@ -66,7 +53,7 @@ module _ (text : Alg → List ℕ) where
 
   above_manifest : (a : Alg) (algs : List Alg) → AllByRecursion (λ b. rank_cmp a b ≡ Less) algs → AllByRecursion (λ p. text_cmp (path_of a) p ≡ Less) (map (λ (e : File). e.0) (manifests algs))
   above_manifest a [] up = tt
-  above_manifest a (b ∷ algs) up = (path_less a b up.0, above_manifest a algs up.1)
+  above_manifest a (b ∷ algs) up = (path_order a b ∙ up.0, above_manifest a algs up.1)
 
   manifests_rise : (algs : List Alg) → IsStrictlySortedBy rank_cmp algs → AreInPathOrder (manifests algs)
   unfolding IsStrictlySortedBy

@@ -1,24 +1,25 @@
 -- The manifests of a made bag can be written.
-use Rattle.std.proofs.Common.{◌≡◌, ◌≢◌, inl, inr, ℕ, Bool, true, false, not, List, [], ◌∷◌, map, refl, sym, ap, ◌∙◌, subst, Contains, codes, bytes_eq, IsUtf8}
+use Rattle.std.proofs.Common.{◌≡◌, ◌≢◌, inl, inr, ℕ, Bool, true, false, not, List, [], ◌∷◌, map, refl, sym, ap, ◌∙◌, subst, Contains, codes, bytes_eq, IsUtf8, arith}
 use Rattle.std.specs.Char.{encode_utf8}
 use Rattle.std.specs.Cmp.Lexicographic.{texts_ties}
 use Rattle.std.specs.FinMap.{is_sorted, entries_sorted}
 use Rattle.std.specs.FinMap.Entries.{below_all}
 use Rattle.std.specs.List.{AllByRecursion, IsDistinct, list_any}
 use Rattle.std.specs.List.Sorted.{IsStrictlySortedBy}
-use Rattle.std.specs.Ordering.{is_lt, is_eq}
+use Rattle.std.specs.Ordering.{is_lt}
 use Rattle.std.specs.Str.{is_utf8, chars}
 use Rattle.std.specs.declared.cmp.Ordering.TheVariants.{Less}
 use Rattle.std.proofs.lemmas.Bool.{and_parts, and_from, or_from, not_from_true, false_from_ne_true}
 use Rattle.std.proofs.lemmas.List.Elements.{All-from_recursion}
 use Rattle.std.proofs.lemmas.Slice.Eq.{bytes_eq-Decides}
 use Rattle.std.proofs.lemmas.Str.{IsUtf8-append, IsUtf8-from_is_utf8, is_utf8-from_IsUtf8}
-use Rattle.bag_text.specs.Alg.{rank_cmp}
+use Rattle.bag_text.specs.Alg.{rank, rank_cmp}
 use Rattle.bag_text.specs.Path.{under, first_component, is_path, is_payload_path}
 use Rattle.bag_text.specs.Text.{text_cmp, IsText}
 use Rattle.bag_text.specs.declared.alg.Alg.{Alg}
-use Rattle.bag_text.specs.declared.alg.Alg.TheVariants.{Md5, Sha1, Sha256, Sha512}
+use Rattle.bag_text.specs.declared.alg.Alg.TheVariants.{Md5}
 use Rattle.bag_text.proofs.ListOf.{contains_first, contains_behind, contains_cases, each_from_members, member_has}
+use Rattle.bag_line.proofs.FaultOrder.{lower}
 use Rattle.bag_tags.specs.TagName.{tag_path}
 use Rattle.bag_tags.specs.declared.kind.Kind.{Kind}
 use Rattle.bag_tags.specs.declared.kind.Kind.TheVariants.{Payload, Tag}
@@ -76,9 +77,7 @@ name_tag bag algs info q c h =
   where
     of_alg : (alg : Alg) → CanName Tag (tag_path (Manifest Payload alg))
     of_alg Md5 = (refl, refl)
-    of_alg Sha1 = (refl, refl)
-    of_alg Sha256 = (refl, refl)
-    of_alg Sha512 = (refl, refl)
+    of_alg _ = (refl, refl)
 
 -- in an ordered list no path stands twice
 less_differs : (k p : List ℕ) → is_lt (text_cmp k p) ≡ true → bytes_eq k p ≡ false
@@ -100,20 +99,10 @@ payload_once alg (x ∷ es) e =
 tags_differ : (a b : TagName) → a ≢ b → bytes_eq (tag_path a) (tag_path b) ≡ false
 tags_differ a b other = false_from_ne_true _ (λ same. other (paths_differ a b ((bytes_eq-Decides (tag_path a) (tag_path b)).0 same)))
 
-abbrev alg_of : TagName → Alg
-alg_of (Manifest kind alg) = alg
-alg_of _ = Md5
-
 rank_less : (a b : Alg) → rank_cmp a b ≡ Less → Manifest Payload a ≢ Manifest Payload b
 rank_less a b e same =
-    let one : a ≡ b = ap alg_of same in
-    lt_not_eq (rank_cmp a b) (ap is_lt e) (ap (λ x. is_eq (rank_cmp a x)) (sym one) ∙ itself a)
-  where
-    itself : (a : Alg) → is_eq (rank_cmp a a) ≡ true
-    itself Md5 = refl
-    itself Sha1 = refl
-    itself Sha256 = refl
-    itself Sha512 = refl
+    let one : a ≡ b = cc in
+    omega (arith, ap rank one, lower (rank a) (rank b) e)
 
 module _ (alg : Alg) (text : Alg → List ℕ) where
   abbrev named_manifests : List Alg → List (List ℕ)

@@ -1,7 +1,7 @@
 //! Makes a folder a bag, and says on an output how it went.
 //!
 //! ```
-//! let (tree, told) = make_folder(alloc, tree, "letters", algs, &[(label, value)], false, &mut out);
+//! let (tree, told) = make_and_tell(alloc, tree, "letters", algs, &[(label, value)], false, &mut out);
 //! ```
 //!
 //! What a bag is made of, and why it isn't, is said by `bag_make`.
@@ -12,4 +12,4 @@ mod line;
 mod making;
 
 pub use line::put_making;
-pub use making::make_folder;
+pub use making::make_and_tell;

@@ -15,7 +15,7 @@ use std::alloc::Global;
 ///
 /// Gives the exit status, 0 where the bag was made and 3 where it wasn't; or the output's refusal. The folder is made a bag
 /// before the line is written, so that a refused output doesn't say whether it is one.
-pub fn make_folder<T: WriteTree, W: Out>(
+pub fn make_and_tell<T: WriteTree, W: Out>(
     alloc: Global,
     tree: T,
     name: &str,

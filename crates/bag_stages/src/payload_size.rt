@@ -9,7 +9,9 @@ use std::marker::Model;
 /// How many bytes a payload has, and how many files. The sum of sizes that each fit 64 bits need not fit them.
 #[derive(Drop)]
 pub(crate) struct PayloadSize {
+    /// Bytes of all payload files.
     pub octets: u128,
+    /// Payload files.
     pub streams: u64,
 }
 

@@ -6,7 +6,7 @@ use Rattle.std.proofs.lemmas.Bool.{cases_lt}
 use Rattle.std.proofs.lemmas.List.{get_or-map, length-map}
 use Rattle.std.proofs.lemmas.List.Elements.{Contains-append_left, Contains-push, Contains-push_cases}
 use Rattle.std.proofs.lemmas.Option.{slice_get_within, slice_get-get_or}
-use Rattle.bag_tags.specs.Repeats.{Place, pair_of, FollowsBelow, FollowsSame}
+use Rattle.bag_tags.specs.Repeats.{NamedPath, pair_of, FollowsBelow, FollowsSame}
 
 abbrev pub AreFollowers : List (List ℕ × ℕ) → ℕ → List ℕ → Type 0
 AreFollowers named high places = (i : ℕ) → Contains places i ↔ FollowsBelow named high i
@@ -64,11 +64,11 @@ all_followers named k places h are i = (λ c. inside ((are i).0 c), λ f. (are i
     inside (m, path, j, l, a, b) = (m, path, j, slice_get_within named (m + 1) (path, i) b, a, b)
 
 -- the pair that was read at a place
-read_pair : (named : List Place) (k : ℕ) (d : Place) → k < length named → slice_get (map pair_of named) k ≡ Some (pair_of (get_or named k d))
+read_pair : (named : List NamedPath) (k : ℕ) (d : NamedPath) → k < length named → slice_get (map pair_of named) k ≡ Some (pair_of (get_or named k d))
 read_pair named k d w =
     slice_get-get_or (map pair_of named) k (pair_of d) (omega (arith, length-map named pair_of)) ∙ ap Some (get_or-map pair_of named k d (pair_of d) w)
 
-module _ (named : List Place) (k : ℕ) (d : Place) (places : List ℕ) (some : 0 < k) (w : k < length named) (are : AreFollowers (map pair_of named) k places) where
+module _ (named : List NamedPath) (k : ℕ) (d : NamedPath) (places : List ℕ) (some : 0 < k) (w : k < length named) (are : AreFollowers (map pair_of named) k places) where
   pub same_path : (get_or named (k - 1) d).1.now ≡ (get_or named k d).1.now → AreFollowers (map pair_of named) (k + 1) (places ++ (get_or named k d).2 ∷ [])
   same_path e = one_follower (map pair_of named) k (pair_of (get_or named (k - 1) d)) (pair_of (get_or named k d)) places some (read_pair named (k - 1) d (omega arith)) (read_pair named k d w) e are
 

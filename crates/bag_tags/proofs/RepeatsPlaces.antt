@@ -23,7 +23,7 @@ use Rattle.bag_text.specs.Text.{text_cmp}
 use Rattle.bag_text.proofs.ListOf.{contains_cases, contains_nothing, contains_front, contains_back, contains_either, ascending_joined}
 use Rattle.bag_tags.specs.declared.manifest_line.Judged.{Judged}
 use Rattle.bag_tags.specs.Judged.{names_path, text}
-use Rattle.bag_tags.specs.Repeats.{fingerprint, line_cmp, Place, HasFingerprint, pair_of, places_from, IsRepeatAt, FollowsSame}
+use Rattle.bag_tags.specs.Repeats.{fingerprint, line_cmp, NamedPath, HasFingerprint, pair_of, places_from, IsRepeatAt, FollowsSame}
 use Rattle.bag_line.proofs.PickedOut.{any_from, from_any, both_true}
 
 -- the line at this place reads and names this path
@@ -112,11 +112,11 @@ path_total : IsTotalOrder path_cmp
 path_total = search (comparing, rules)
 
 -- the order of places: by what they hold, one after the other
-abbrev pub place_cmp : Place → Place → Ordering
+abbrev pub place_cmp : NamedPath → NamedPath → Ordering
 place_cmp = then_cmp (then_cmp (on (λ x. x.0) nat_cmp) (on (λ x. x.1.now) text_cmp)) (on (λ x. x.2) nat_cmp)
 
 -- where each place has its path's fingerprint, sorted places are sorted pairs
-pub sorted_places : (xs : List Place) → All HasFingerprint xs → IsSortedBy (λ x y. is_lt (place_cmp x y)) xs → IsSortedBy (λ x y. is_lt (pair_cmp x y)) (map pair_of xs)
+pub sorted_places : (xs : List NamedPath) → All HasFingerprint xs → IsSortedBy (λ x y. is_lt (place_cmp x y)) xs → IsSortedBy (λ x y. is_lt (pair_cmp x y)) (map pair_of xs)
 sorted_places [] has up = λ k d low high. absurd (omega arith)
 sorted_places (x ∷ xs) has up = λ k d low high.
     let within : k + 1 < length (x ∷ xs) = omega (arith, length-map (x ∷ xs) pair_of) in

@@ -2,7 +2,9 @@ pub use Rattle.bag_declaration.specs.Declaration
 pub use Rattle.bag_declaration.specs.DeclarationFaults
 pub use Rattle.bag_declaration.specs.DeclarationLine
 pub use Rattle.bag_line.specs.Fetch
+pub use Rattle.bag_line.specs.FetchLine
 pub use Rattle.bag_line.specs.Info
+pub use Rattle.bag_line.specs.InfoPlaces
 pub use Rattle.bag_line.specs.LineFault
 pub use Rattle.bag_line.specs.LineParts
 pub use Rattle.bag_line.specs.Oxum

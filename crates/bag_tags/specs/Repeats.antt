@@ -27,13 +27,13 @@ pub record IsMarked (places : List ℕ) (old new : List Judged) : Type 0 where
   pub others : (i : ℕ) → ¬ (Contains places i) → slice_get new i ≡ slice_get old i
 
 -- a path with its fingerprint and its place
-abbrev pub Place : Type 0
-Place = ℕ × Bor (List ℕ) × ℕ
+abbrev pub NamedPath : Type 0
+NamedPath = ℕ × Bor (List ℕ) × ℕ
 
-abbrev pub HasFingerprint : Place → Type 0
+abbrev pub HasFingerprint : NamedPath → Type 0
 HasFingerprint x = x.0 ≡ fingerprint x.1.now
 
-abbrev pub pair_of : Place → List ℕ × ℕ
+abbrev pub pair_of : NamedPath → List ℕ × ℕ
 pair_of x = (x.1.now, x.2)
 
 -- the path of each line that reads, with the line's place

@@ -3,7 +3,11 @@ ghost use Rattle.bag_tags.specs.ManifestLine.{LinesReadAsTheirParts, LinesReadOr
 ghost use Rattle.bag_tags.specs.TagName.{TagFilesStandInTheBase, TagPathsDiffer};
 
 pub use bag_declaration::laws::{
-    encoding_lines_read_as_their_parts, version_lines_read_as_their_parts,
+    encoding_lines_read_as_their_parts, lines_declare_or_are_faulty,
+    version_lines_read_as_their_parts,
+};
+pub use bag_line::laws::{
+    each_line_has_one_place, fetch_lines_read_as_their_parts, fetch_lines_read_or_have_one_reason,
 };
 
 /// No two tag files stand at one path.
@@ -16,7 +20,7 @@ pub fn tag_files_stand_in_the_base()
     ensures { TagFilesStandInTheBase }
 {}
 
-/// A line of a manifest names_path just where it is a digest of the algorithm, blanks, and a spelling of a path that may
+/// A line of a manifest reads just where it is a digest of the algorithm, blanks, and a spelling of a path that may
 /// stand there; and it says that digest, in lower case, and that path.
 pub fn lines_read_as_their_parts()
     ensures { LinesReadAsTheirParts }

@@ -23,8 +23,10 @@ const SHORTEST_REST: usize = 3;
 /// A line of a manifest that reads: the digest, and the path that is named.
 #[derive(Debug, Drop)]
 pub struct ManifestEntry {
+    /// Counted from 1.
     pub line: u64,
     pub digest: Digest,
+    /// Decoded, and safe.
     pub path: Text,
 }
 

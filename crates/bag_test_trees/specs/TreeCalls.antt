@@ -9,7 +9,7 @@ use Rattle.bag_tree.specs.declared.fault.TreeFault.{TreeFault}
 use Rattle.bag_tree.specs.declared.listing.Listing.{Listing}
 
 -- what `list` does
-pub record Lists (old new : TreeState) (answer : Result Listing TreeFault) : Type 0 where
+pub record ListCall (old new : TreeState) (answer : Result Listing TreeFault) : Type 0 where
   pub keeps : Keeps old new
   pub calm : OnOk answer (new.failures ≡ old.failures)
   pub openings : new.openings ≡ old.openings
@@ -22,7 +22,7 @@ pub record Lists (old new : TreeState) (answer : Result Listing TreeFault) : Typ
   pub refused : IfErr answer (MayRefuse ⊥ ⊥ old new)
 
 -- what `open_file` does
-pub record Opens (old new : TreeState) (path : List ℕ) (answer : Result (Unit {0}) TreeFault) : Type 0 where
+pub record OpenCall (old new : TreeState) (path : List ℕ) (answer : Result (Unit {0}) TreeFault) : Type 0 where
   pub keeps : Keeps old new
   pub calm : OnOk answer (new.failures ≡ old.failures)
   pub opened : OnOk answer (new.openings ≡ old.openings ++ path ∷ [])
@@ -36,7 +36,7 @@ pub record Opens (old new : TreeState) (path : List ℕ) (answer : Result (Unit 
   pub refused : IfErr answer (MayRefuse (file old.bag path ≡ None) ⊥ old new)
 
 -- what `read` does with room for so many bytes
-pub record Reads (old new : TreeState) (room : ℕ) (buffer : List ℕ) (answer : Result ℕ TreeFault) : Type 0 where
+pub record ReadCall (old new : TreeState) (room : ℕ) (buffer : List ℕ) (answer : Result ℕ TreeFault) : Type 0 where
   pub keeps : Keeps old new
   pub calm : OnOk answer (new.failures ≡ old.failures)
   pub openings : new.openings ≡ old.openings

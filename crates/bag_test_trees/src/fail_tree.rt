@@ -43,7 +43,7 @@ impl<T: Tree + Drop> Tree for FailTree<T> {
     ghost use Rattle.std.specs.Prelude.{◌<◌, IsErrOf, length, true, false};
     ghost use Rattle.bag_tree.specs.declared.fault.TreeFault.TheVariants.{Device, NoneOpen};
     ghost use Rattle.bag_test_trees.specs.Refusals.{after_call, after_opening, after_read, is_kth};
-    ghost use Rattle.bag_test_trees.specs.TreeCalls.{Lists, Opens, Reads};
+    ghost use Rattle.bag_test_trees.specs.TreeCalls.{ListCall, OpenCall, ReadCall};
 
     ghost state = { λ tree. failing (T.state tree.tree) tree.calls };
 
@@ -52,7 +52,7 @@ impl<T: Tree + Drop> Tree for FailTree<T> {
     fn list(&mut self) -> Result<Listing, TreeFault>
         ensures counted { calls_of self.new ≡ after_call (calls_of self.old) }
         ensures kth { is_kth (calls_of self.old).due ≡ true → IsErrOf result Device × (below_of self.new ≡ below_of self.old) }
-        ensures others { is_kth (calls_of self.old).due ≡ false → Lists (T.state (below_of self.old)) (T.state (below_of self.new)) result }
+        ensures others { is_kth (calls_of self.old).due ≡ false → ListCall (T.state (below_of self.old)) (T.state (below_of self.new)) result }
     {
         if self.calls.is_due() {
             return Err(TreeFault::Device);
@@ -63,7 +63,7 @@ impl<T: Tree + Drop> Tree for FailTree<T> {
     fn open_file(&mut self, path: &str) -> Result<(), TreeFault>
         ensures counted { calls_of self.new ≡ after_opening (calls_of self.old) }
         ensures kth { is_kth (calls_of self.old).due ≡ true → IsErrOf result Device × (below_of self.new ≡ below_of self.old) }
-        ensures others { is_kth (calls_of self.old).due ≡ false → Opens (T.state (below_of self.old)) (T.state (below_of self.new)) path.now result }
+        ensures others { is_kth (calls_of self.old).due ≡ false → OpenCall (T.state (below_of self.old)) (T.state (below_of self.new)) path.now result }
     {
         let due = self.calls.is_due();
         self.calls.shut = due;
@@ -79,7 +79,7 @@ impl<T: Tree + Drop> Tree for FailTree<T> {
         ensures kth { is_kth (calls_of self.old).due ≡ true → IsErrOf result Device × (below_of self.new ≡ below_of self.old) }
         ensures shut { is_kth (calls_of self.old).due ≡ false → (calls_of self.old).shut ≡ true → IsErrOf result NoneOpen × (below_of self.new ≡ below_of self.old) }
         ensures others { is_kth (calls_of self.old).due ≡ false → (calls_of self.old).shut ≡ false
-            → Reads (T.state (below_of self.old)) (T.state (below_of self.new)) (length buffer.old) buffer.new result }
+            → ReadCall (T.state (below_of self.old)) (T.state (below_of self.new)) (length buffer.old) buffer.new result }
     {
         if self.calls.is_due() {
             return Err(TreeFault::Device);

@@ -46,7 +46,7 @@ impl Tree for SkewTree {
     ghost use Rattle.bag_memory.specs.MemoryView.{memory_bag};
     ghost use Rattle.bag_memory.specs.MemoryLaw.{passing_is_bag};
     ghost use Rattle.bag_test_trees.specs.SkewTree.{memory_of, listing_of, own_of};
-    ghost use Rattle.bag_test_trees.specs.TreeCalls.{Opens, Reads};
+    ghost use Rattle.bag_test_trees.specs.TreeCalls.{OpenCall, ReadCall};
 
     ghost state = { λ tree. skewed (state_of tree.tree) tree.own };
 
@@ -73,7 +73,7 @@ impl Tree for SkewTree {
     }
 
     fn open_file(&mut self, path: &str) -> Result<(), TreeFault>
-        ensures memory { Opens (memory_of self.old) (memory_of self.new) path.now result }
+        ensures memory { OpenCall (memory_of self.old) (memory_of self.new) path.now result }
         ensures listing { listing_of self.new ≡ listing_of self.old }
         ensures own { own_of self.new ≡ None }
     {
@@ -83,7 +83,7 @@ impl Tree for SkewTree {
 
     fn read(&mut self, buffer: &mut [u8]) -> Result<usize, TreeFault>
         requires { 0 < length buffer.old }
-        ensures memory { Reads (memory_of self.old) (memory_of self.new) (length buffer.old) buffer.new result }
+        ensures memory { ReadCall (memory_of self.old) (memory_of self.new) (length buffer.old) buffer.new result }
         ensures listing { listing_of self.new ≡ listing_of self.old }
         ensures own { own_of self.new ≡ None }
     {

@@ -27,6 +27,18 @@ impl Alg {
         }
     }
 
+    /// The name as its standard writes it, for people.
+    pub fn title(self) -> &'static str
+        ensures { result.now ≡ spec.title self }
+    {
+        match self {
+            Alg::Md5 => "MD5",
+            Alg::Sha1 => "SHA-1",
+            Alg::Sha256 => "SHA-256",
+            Alg::Sha512 => "SHA-512",
+        }
+    }
+
     /// The algorithm of this name, or `None` where it is none of these.
     pub fn from_name(name: &str) -> Option<Alg>
         ensures { result ≡ spec.alg_named name.now }

@@ -36,7 +36,7 @@ pub enum Code {
     OxumAgain = 303,
     /// The payload has another number of bytes or of files than `Payload-Oxum` says (RFC 8493, 2.2.2).
     OxumDiffers = 304,
-    /// There is no `Payload-Oxum` to compare the payload with.
+    /// There is no `Payload-Oxum` to compare the payload with (RFC 8493, 2.2.2).
     NoOxum = 305,
     /// A line of `fetch.txt` isn't a URL, a length and a path (RFC 8493, 2.2.3).
     FetchLine = 401,
@@ -62,7 +62,7 @@ pub enum Code {
     TagmanifestNamesPayload = 506,
     /// A tag manifest names a tag manifest (RFC 8493, 2.2.1).
     TagmanifestNamesTagmanifest = 507,
-    /// A manifest names a path that an earlier line of it names.
+    /// A manifest names a path that an earlier line of it names (RFC 8493, 2.1.3).
     NamedAgain = 508,
     /// A tag manifest doesn't name a payload manifest of the bag (RFC 8493, 2.2.1).
     PayloadManifestNotListed = 509,
@@ -72,7 +72,7 @@ pub enum Code {
     TagFileMissing = 602,
     /// A payload manifest doesn't name a payload file that is there (RFC 8493, 3).
     PayloadFileNotListed = 603,
-    /// The path differs from a lesser one of the payload only by Unicode normalization.
+    /// The path differs from a lesser one of the payload only by Unicode normalization (RFC 8493, 6).
     NameClash = 604,
     /// A payload file hasn't the digest that a payload manifest gives it (RFC 8493, 3).
     PayloadSumDiffers = 701,

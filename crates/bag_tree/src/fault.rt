@@ -79,6 +79,7 @@ impl<T: Drop> From<AllocFailed<T>> for TreeFault {
 #[error("{cause}: '{path}'")]
 pub struct Stop {
     pub cause: TreeFault,
+    /// Of the file that was refused; empty where it is none.
     pub path: Text,
 }
 

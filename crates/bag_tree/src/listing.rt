@@ -13,6 +13,8 @@ pub struct FileEntry {
 /// The files of a tree in the order of their paths, and whether its base folder has the folder `data`.
 #[derive(Debug, Drop)]
 pub struct Listing {
+    /// In the order of their paths by bytes.
     pub files: Items<FileEntry>,
+    /// Whether there is the payload folder, `data`.
     pub has_data: bool,
 }

@@ -9,7 +9,7 @@ use Rattle.bag_text.specs.Alg.{hex_len}
 use Rattle.bag_text.specs.LineEnd.{is_line_end}
 use Rattle.bag_text.specs.Text.{is_blank, has_mark}
 use Rattle.bag_text.specs.declared.alg.Alg.{Alg}
-use Rattle.bag_text.specs.declared.alg.Alg.TheVariants.{Md5, Sha1, Sha256, Sha512}
+use Rattle.bag_text.specs.declared.alg.Alg.TheVariants.{Md5}
 use Rattle.bag_line.proofs.LineParts.{or_false, not_false}
 use Rattle.bag_line.proofs.PickedOut.{both_true}
 use Rattle.bag_write.specs.Entry.{is_lower_hex_digit, is_bad_digest}
@@ -43,9 +43,7 @@ small_at (c ∷ t) (suc i) e = small_at t i (both_true (is_lower_hex_digit c) (l
 
 some_digits : (alg : Alg) → 0 < hex_len alg
 some_digits Md5 = lit< tt
-some_digits Sha1 = lit< tt
-some_digits Sha256 = lit< tt
-some_digits Sha512 = lit< tt
+some_digits _ = lit< tt
 
 same_number : (m n : ℕ) → (m == n) ≡ true → m ≡ n
 same_number m n e = grind (arith, nat_tests)

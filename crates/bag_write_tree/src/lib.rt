@@ -12,6 +12,8 @@
 #![tactic(auto)]
 
 pub mod laws;
+mod within;
 mod write_tree;
 
+pub use within::rest_within;
 pub use write_tree::WriteTree;

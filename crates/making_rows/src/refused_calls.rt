@@ -1,5 +1,5 @@
 //! Makings of which one call is refused, each call in turn.
-use bag_making::make_folder;
+use bag_making::make_and_tell;
 use bag_store::{FailTree, MemoryTree, WriterOut};
 use bag_text::{Alg, AlgSet, Text};
 use std::alloc::{AllocError, Global};
@@ -47,7 +47,7 @@ fn is_told(alloc: Global, call: u64, line: &str) -> Result<bool, Fail> {
     let info = elements(alloc)?;
     let algs = AlgSet::empty().with(Alg::Md5);
     let mut out = WriterOut::new(Vec::<u8>::new(alloc));
-    let (_tree, status) = make_folder(alloc, tree, "d", algs, info.as_slice(), false, &mut out);
+    let (_tree, status) = make_and_tell(alloc, tree, "d", algs, info.as_slice(), false, &mut out);
     let expected = if line == "d made\n" { 0 } else { 3 };
     let is_ended = matches!(status, Ok(found) if found == expected);
     Ok(is_ended && out.into_inner().as_slice() == line.as_bytes())

@@ -6,7 +6,7 @@ use Rattle.bag_tags.specs.TagName.{tag_path}
 use Rattle.bag_tags.specs.declared.tag_name.TagName.TheVariants.{Manifest}
 use Rattle.bag_tree.specs.Bag.{HasFile}
 use Rattle.bag_facts.proofs.AlgsOf.{all_algs, one_alg_more, one_alg_other}
-use Rattle.bag_facts.proofs.ListedPaths.{bag_has}
+use Rattle.bag_facts.proofs.ListedPaths.{bag_has_one}
 use Rattle.bag_facts.proofs.facts.Facts.algs.Goals as goal
 use Rattle.bag_facts.proofs.facts.Facts.algs.Goals.{then-has_manifest, else-has_manifest}
 
@@ -16,7 +16,7 @@ loop-alg-preserved c = λ bag facts.
     let i = c.loop-alg.alg-index in
     let so_far = c.loop-alg.invariant bag facts in
     let tells : IsTrue c.has_manifest.result ↔ IsThere (get_or algs i Md5) =
-    bag_has bag c.args.self.now c.as_slice-files.result.now _ c.has_manifest.result facts c.as_slice-files.ensures c.has_manifest.ensures in
+    bag_has_one bag c.args.self.now c.as_slice-files.result.now _ c.has_manifest.result facts c.as_slice-files.ensures c.has_manifest.ensures in
     elim c.if-has_manifest.branch [
       | then-has_manifest w ↦ rw w.algs-is
           (one_alg_more IsThere i Md5 c.loop-alg.algs c.loop-alg-test.true so_far w.with-algs.result (tells.0 w.if-has_manifest.true) w.with-algs.ensures.members)

@@ -1,5 +1,5 @@
 use Rattle.std.proofs.Common.{ap}
-use Rattle.bag_making.proofs.making.make_folder.Goals as goal
+use Rattle.bag_making.proofs.making.make_and_tell.Goals as goal
 
 pub returns : goal.returns
 returns g c =

@@ -1,5 +1,5 @@
 use Rattle.bag_disk_files.proofs.Plain.{other_seen}
-use Rattle.bag_disk_files.proofs.opening.check_folder.Goals as goal
+use Rattle.bag_disk_files.proofs.opening.check_is_folder.Goals as goal
 
 pub returns-in-Ok-Other-clause-refused : goal.returns-in-Ok-Other-clause-refused
 returns-in-Ok-Other-clause-refused g c = λ honest reached.

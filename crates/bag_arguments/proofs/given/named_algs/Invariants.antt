@@ -1,0 +1,9 @@
+use Rattle.std.proofs.Common.{◌≡◌, [], fold, take}
+use Rattle.bag_text.specs.Alg.{name}
+use Rattle.clap.specs.Words.{found_of, rows_of}
+use Rattle.bag_arguments.specs.Given.{is_given}
+use Rattle.bag_arguments.proofs.Reading.{with_if}
+use Rattle.bag_arguments.proofs.given.named_algs.Given as goal
+
+abbrev pub invariant-loop-alg : goal.invariant-loop-alg
+invariant-loop-alg l = l.set ≡ fold (with_if (λ alg. is_given (rows_of (found_of l.matches)) (name alg))) [] (take l.alg-index l.alg-items)

@@ -1,0 +1,13 @@
+use Rattle.std.proofs.Common.{◌≡◌, bytes_eq, true, false, refl, sym}
+use Rattle.std.proofs.lemmas.Slice.Eq.{bytes_eq-Decides}
+use Rattle.bag_tags.specs.TagName.{tag_path}
+use Rattle.bag_tags.specs.declared.tag_name.TagName.TheVariants.{Manifest}
+use Rattle.bag_facts.proofs.listed_manifest.is_manifest.Goals as goal
+
+pub returns-in-None : goal.returns-in-None
+returns-in-None c =
+    let own = tag_path (Manifest c.args.kind c.args.alg) in
+    elim (bytes_eq c.args.path.now own) as (λ b. bytes_eq c.args.path.now own ≡ b → false ≡ b) [
+      | true ↦ λ same. absurd (c.in-None.ensures (Manifest c.args.kind c.args.alg) (sym ((bytes_eq-Decides c.args.path.now own).0 same)))
+      | false ↦ λ _. refl
+    ] refl
