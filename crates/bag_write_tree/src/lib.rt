@@ -12,8 +12,8 @@
 #![tactic(auto)]
 
 pub mod laws;
-mod within;
+mod path_rest;
 mod write_tree;
 
-pub use within::rest_within;
+pub use path_rest::rest_within;
 pub use write_tree::WriteTree;

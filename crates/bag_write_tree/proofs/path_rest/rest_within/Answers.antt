@@ -1,5 +1,5 @@
 use Rattle.bag_write_tree.proofs.Within.{within_after, not_after, not_in_front}
-use Rattle.bag_write_tree.proofs.within.rest_within.Goals as goal
+use Rattle.bag_write_tree.proofs.path_rest.rest_within.Goals as goal
 
 pub returns-in_default : goal.returns-in_default
 returns-in_default c = not_in_front c.args.top.now c.args.path.now (λ rest e. c.in_default.ensures rest e)

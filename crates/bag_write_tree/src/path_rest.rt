@@ -1,4 +1,4 @@
-//! What stands at a path or below it.
+//! What follows a path in those below it.
 ghost use Rattle.std.specs.Prelude.{◌≡◌, ◌≢◌, ◌⊎◌, ◌++◌, [], ◌∷◌, ℕ, List, MatchBool, MatchOption, true, false, nat_eq};
 ghost use Rattle.std.specs.List.{starts_with};
 ghost use Rattle.bag_text.specs.Path.{slash};
