@@ -1,4 +1,4 @@
-//! `bagit`: checks BagIt bags (RFC 8493).
+//! `bagit`: makes and checks BagIt bags (RFC 8493).
 //!
 //! With `--validate` it checks the bags in directories, else it makes directories bags in place; `--help` says more. With no
 //! words it checks a sample bag in memory.
