@@ -1,5 +1,5 @@
 //! The options that need `--validate`.
-ghost use Rattle.std.specs.Prelude.{◌≡◌};
+ghost use Rattle.std.specs.Prelude.{◌≡◌, Some};
 ghost use Rattle.bag_arguments.specs.Given as spec;
 
 use std::fmt;
@@ -60,6 +60,8 @@ impl CheckOption {
 }
 
 impl fmt::Display for CheckOption {
+    ghost output = { λ option. Some (spec.check_name option) };
+
     fn fmt<W: fmt::Write>(&self, f: &mut fmt::Formatter<W>) -> fmt::Result {
         f.write_str(self.name())
     }
