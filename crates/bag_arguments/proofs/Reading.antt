@@ -10,7 +10,7 @@ use Rattle.std.proofs.lemmas.Slice.Eq.{bytes_eq-Decides}
 use Rattle.bag_text.specs.Alg.{algs}
 use Rattle.bag_text.specs.AlgList.{has_member, same_alg, with_member}
 use Rattle.bag_text.specs.AlgTable.{has_each, has_member-filter, same_alg_same}
-use Rattle.bag_text.specs.declared.alg.Alg.{Alg}
+use Rattle.bag_words.specs.declared.alg.Alg.{Alg}
 use Rattle.clap.specs.Words.{ReadsOne, Text, matched_of, raw_values, rows_of}
 use Rattle.clap.specs.declared.parser.matches.Found.{Found}
 use Rattle.clap.proofs.WalkLemmas.{raw_values-rows}

@@ -10,7 +10,7 @@ use Rattle.std.specs.declared.cmp.Ordering.TheVariants.{Less}
 use Rattle.std.proofs.lemmas.Slice.Eq.{bytes_eq-Decides}
 use Rattle.bag_text.specs.Order.{IsListOf}
 use Rattle.bag_text.specs.Text.{text_cmp}
-use Rattle.bag_text.specs.declared.code.Code.TheVariants.{NameClash}
+use Rattle.bag_words.specs.declared.code.Code.TheVariants.{NameClash}
 use Rattle.bag_text.proofs.ListOf.{contains_back, contains_behind, contains_cases, contains_first, contains_front, contains_nothing, nothing_listed, one_listed, same_members}
 use Rattle.bag_tree.specs.Bag.{Bag}
 use Rattle.bag_fault.proofs.Ascending.{not_less_than_itself}

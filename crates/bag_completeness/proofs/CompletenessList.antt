@@ -1,9 +1,9 @@
 -- Every bag has a list of the faults of its completeness and of its names.
 use Rattle.std.proofs.Common.{◌≡◌, ◌⊎◌, ℕ, List, true, refl, sym, subst}
 use Rattle.bag_text.specs.Path.{is_payload_path}
-use Rattle.bag_text.specs.declared.alg.Alg.{Alg}
-use Rattle.bag_text.specs.declared.code.Code.{Code}
-use Rattle.bag_text.specs.declared.code.Code.TheVariants.{PayloadFileNotListed}
+use Rattle.bag_words.specs.declared.alg.Alg.{Alg}
+use Rattle.bag_words.specs.declared.code.Code.{Code}
+use Rattle.bag_words.specs.declared.code.Code.TheVariants.{PayloadFileNotListed}
 use Rattle.bag_tags.specs.declared.kind.Kind.{Kind}
 use Rattle.bag_tags.specs.declared.kind.Kind.TheVariants.{Payload, Tag}
 use Rattle.bag_tree.specs.Bag.{Bag, has_file, HasFile, LacksFile}

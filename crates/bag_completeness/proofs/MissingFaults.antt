@@ -1,8 +1,8 @@
 -- The faults that manifests name files that aren't there.
 use Rattle.std.proofs.Common.{◌≡◌, List, [], refl, Bool, true, false, None, Some, ap, sym, ◌∙◌, Contains}
 use Rattle.bag_text.specs.Order.{IsListOf}
-use Rattle.bag_text.specs.declared.alg.Alg.{Alg}
-use Rattle.bag_text.specs.declared.code.Code.{Code}
+use Rattle.bag_words.specs.declared.alg.Alg.{Alg}
+use Rattle.bag_words.specs.declared.code.Code.{Code}
 use Rattle.bag_text.proofs.ListOf.{nothing_listed}
 use Rattle.bag_tags.specs.declared.kind.Kind.{Kind}
 use Rattle.bag_tags.specs.declared.manifest.ManifestEntry.{ManifestEntry}

@@ -1,8 +1,8 @@
 -- Manifests that name the payload's files and no other.
 use Rattle.std.proofs.Common.{◌≡◌, ◌<◌, ◌+◌, inl, inr, ℕ, List, [], ◌∷◌, ◌++◌, true, false, length, take, get_or, Some, refl, sym, ap, ◌∙◌, subst, append_assoc}
 use Rattle.bag_text.specs.Path.{is_payload_path}
-use Rattle.bag_text.specs.declared.alg.Alg.{Alg}
-use Rattle.bag_text.specs.declared.code.Code.TheVariants.{PayloadFileMissing, PayloadFileNotListed}
+use Rattle.bag_words.specs.declared.alg.Alg.{Alg}
+use Rattle.bag_words.specs.declared.code.Code.TheVariants.{PayloadFileMissing, PayloadFileNotListed}
 use Rattle.bag_text.proofs.ListOf.{contains_back, contains_cases, contains_either, contains_front, contains_nothing}
 use Rattle.bag_tags.specs.declared.kind.Kind.TheVariants.{Payload}
 use Rattle.bag_tree.specs.Bag.{Bag, file}

@@ -16,8 +16,8 @@ use Rattle.bag_facts.proofs.Mapped.{contains_mapped, mapped_contains}
 use Rattle.bag_stages.proofs.ByPath.{take_whole}
 use Rattle.bag_text.specs.Alg.{algs}
 use Rattle.bag_text.specs.Path.{is_payload_path}
-use Rattle.bag_text.specs.declared.alg.Alg.{Alg}
-use Rattle.bag_text.proofs.AlgSets.{each_is_listed}
+use Rattle.bag_words.specs.declared.alg.Alg.{Alg}
+use Rattle.bag_words.proofs.AlgSets.{each_is_listed}
 use Rattle.bag_text.proofs.ListOf.{contains_back, contains_either, contains_first, contains_front, contains_nothing}
 use Rattle.bag_tags.specs.declared.kind.Kind.TheVariants.{Payload}
 use Rattle.bag_tree.specs.Bag.{Bag, file}

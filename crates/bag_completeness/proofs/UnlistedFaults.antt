@@ -1,8 +1,8 @@
 -- The faults that payload manifests don't name payload files.
 use Rattle.std.proofs.Common.{◌≡◌, List, [], None, Some, ap, subst}
 use Rattle.bag_text.specs.Order.{IsListOf}
-use Rattle.bag_text.specs.declared.alg.Alg.{Alg}
-use Rattle.bag_text.specs.declared.code.Code.TheVariants.{PayloadFileNotListed}
+use Rattle.bag_words.specs.declared.alg.Alg.{Alg}
+use Rattle.bag_words.specs.declared.code.Code.TheVariants.{PayloadFileNotListed}
 use Rattle.bag_text.proofs.ListOf.{nothing_listed}
 use Rattle.bag_tags.specs.declared.kind.Kind.TheVariants.{Payload}
 use Rattle.bag_tree.specs.Bag.{Bag, file}

@@ -3,7 +3,7 @@ use Rattle.std.specs.Prelude.{ℕ, ◌≡◌, List, String, Option, None, Some, 
 use Rattle.std.specs.Borrow.{Bor}
 use Rattle.std.specs.HashMap.{HashMap, get_by_text}
 use Rattle.std.specs.Option.{option_map}
-use Rattle.bag_text.specs.declared.code.Code.TheVariants.{NameClash}
+use Rattle.bag_words.specs.declared.code.Code.TheVariants.{NameClash}
 use Rattle.bag_fault.specs.declared.fault.Fault.{Fault}
 use Rattle.bag_stages.specs.FaultFields.{of_whole}
 use Rattle.bag_completeness.specs.Clashes.{nfc_of, Clashes}

@@ -3,7 +3,7 @@ use Rattle.std.specs.Prelude.{ℕ, ◌≡◌, ◌++◌, Bool, true, List, map}
 use Rattle.std.specs.List.Sorted.{IsPermutation}
 use Rattle.bag_text.specs.Order.{IsListOf}
 use Rattle.bag_text.specs.Text.{text_cmp}
-use Rattle.bag_text.specs.declared.code.Code.TheVariants.{NameClash}
+use Rattle.bag_words.specs.declared.code.Code.TheVariants.{NameClash}
 use Rattle.bag_tree.specs.Bag.{Bag}
 use Rattle.bag_fault.specs.FaultOrder.{fault_cmp}
 use Rattle.bag_fault.specs.declared.fault.Fault.{Fault}

@@ -2,9 +2,9 @@
 use Rattle.std.specs.Prelude.{ℕ, ◌≡◌, ◌⊎◌, Bool, true, List, [], None, Some}
 use Rattle.bag_text.specs.Code.{stage}
 use Rattle.bag_text.specs.Path.{is_payload_path}
-use Rattle.bag_text.specs.declared.alg.Alg.{Alg}
-use Rattle.bag_text.specs.declared.code.Code.{Code}
-use Rattle.bag_text.specs.declared.code.Code.TheVariants.{PayloadFileMissing, TagFileMissing, PayloadFileNotListed, NameClash}
+use Rattle.bag_words.specs.declared.alg.Alg.{Alg}
+use Rattle.bag_words.specs.declared.code.Code.{Code}
+use Rattle.bag_words.specs.declared.code.Code.TheVariants.{PayloadFileMissing, TagFileMissing, PayloadFileNotListed, NameClash}
 use Rattle.bag_tags.specs.declared.kind.Kind.{Kind}
 use Rattle.bag_tags.specs.declared.kind.Kind.TheVariants.{Payload, Tag}
 use Rattle.bag_tree.specs.Bag.{Bag, HasFile, LacksFile}

@@ -1,7 +1,7 @@
 -- Names that are lent, and the names of the payload that the first manifests give.
 use Rattle.std.specs.Prelude.{ℕ, ◌⊎◌, List, Contains, map}
 use Rattle.std.specs.Borrow.{Bor}
-use Rattle.bag_text.specs.declared.alg.Alg.{Alg}
+use Rattle.bag_words.specs.declared.alg.Alg.{Alg}
 use Rattle.bag_tags.specs.declared.kind.Kind.TheVariants.{Payload}
 use Rattle.bag_tree.specs.Bag.{Bag}
 use Rattle.bag_stages.specs.TagFiles.{Names}

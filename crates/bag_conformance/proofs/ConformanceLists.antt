@@ -2,7 +2,7 @@
 use Rattle.std.proofs.Common.{◌≡◌, ◌≢◌, ◌<◌, ℕ, List, [], true, false, Option, None, Some, refl, sym, ap, ◌∙◌, subst, Contains}
 use Rattle.std.specs.List.{enumerate_from}
 use Rattle.bag_text.specs.Text.{same_label}
-use Rattle.bag_text.specs.declared.code.Code.TheVariants.{ProfileIdentifier, LabelRequired, LabelRepeated, ValueNotAllowed, TagFileRequired, TagFileNotAllowed, FetchNotAllowed, VersionNotAccepted, SerializationRequired}
+use Rattle.bag_words.specs.declared.code.Code.TheVariants.{ProfileIdentifier, LabelRequired, LabelRepeated, ValueNotAllowed, TagFileRequired, TagFileNotAllowed, FetchNotAllowed, VersionNotAccepted, SerializationRequired}
 use Rattle.bag_line.specs.Info.{IsElement}
 use Rattle.bag_line.specs.InfoReader as reading
 use Rattle.bag_line.specs.declared.info.Element.{Element}

@@ -5,7 +5,7 @@ use Rattle.std.proofs.lemmas.List.Kept.{IsStrictlySortedBy-filter}
 use Rattle.std.proofs.lemmas.Slice.Eq.{bytes_eq-Decides}
 use Rattle.bag_text.specs.Order.{IsListOf}
 use Rattle.bag_text.specs.Text.{same_label}
-use Rattle.bag_text.specs.declared.code.Code.TheVariants.{ProfileIdentifier, LabelRequired, LabelRepeated, ValueNotAllowed}
+use Rattle.bag_words.specs.declared.code.Code.TheVariants.{ProfileIdentifier, LabelRequired, LabelRepeated, ValueNotAllowed}
 use Rattle.bag_text.proofs.ListOf.{contains_cases, contains_first, contains_behind, contains_nothing, contains_front, contains_back, contains_either}
 use Rattle.bag_line.specs.Info.{IsElement}
 use Rattle.bag_line.specs.declared.info.Element.{Element}

@@ -9,8 +9,8 @@ use Rattle.std.proofs.lemmas.Bool.Decides.{same_from_decides}
 use Rattle.std.proofs.lemmas.Map.Views.{Contains-from_any, list_any-from_Contains}
 use Rattle.std.proofs.lemmas.Slice.Eq.{bytes_eq-Decides}
 use Rattle.bag_text.specs.Order.{IsListOf}
-use Rattle.bag_text.specs.declared.code.Code.{Code}
-use Rattle.bag_text.specs.declared.code.Code.TheVariants.{LabelRequired, LabelRepeated, ValueNotAllowed}
+use Rattle.bag_words.specs.declared.code.Code.{Code}
+use Rattle.bag_words.specs.declared.code.Code.TheVariants.{LabelRequired, LabelRepeated, ValueNotAllowed}
 use Rattle.bag_text.proofs.ListOf.{contains_cases, contains_first, contains_behind, contains_nothing, contains_front, contains_back, contains_either, member_has}
 use Rattle.bag_line.specs.declared.info.Element.{Element}
 use Rattle.bag_line.proofs.FaultOrder.{lower}

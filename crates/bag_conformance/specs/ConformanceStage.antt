@@ -1,8 +1,8 @@
 -- Stage 8: where a bag doesn't conform to a profile (BagIt Profiles Specification, Implementation Details).
 use Rattle.std.specs.Prelude.{ℕ, ◌≡◌, ◌≢◌, true, false, List, [], Option, None, Some, Contains, codes}
 use Rattle.bag_text.specs.Code.{stage}
-use Rattle.bag_text.specs.declared.code.Code.{Code}
-use Rattle.bag_text.specs.declared.code.Code.TheVariants.{ProfileIdentifier, LabelRequired, LabelRepeated, ValueNotAllowed, ManifestRequired, ManifestNotAllowed, TagmanifestRequired, TagmanifestNotAllowed, TagFileRequired, TagFileNotAllowed, FetchNotAllowed, VersionNotAccepted, SerializationRequired}
+use Rattle.bag_words.specs.declared.code.Code.{Code}
+use Rattle.bag_words.specs.declared.code.Code.TheVariants.{ProfileIdentifier, LabelRequired, LabelRepeated, ValueNotAllowed, ManifestRequired, ManifestNotAllowed, TagmanifestRequired, TagmanifestNotAllowed, TagFileRequired, TagFileNotAllowed, FetchNotAllowed, VersionNotAccepted, SerializationRequired}
 use Rattle.bag_line.specs.declared.info.Element.{Element}
 use Rattle.bag_tags.specs.Declaration.{declared_version}
 use Rattle.bag_tags.specs.ManifestName.{manifest_name}

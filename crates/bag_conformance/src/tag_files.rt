@@ -1,6 +1,6 @@
 //! What a profile asks of tag files that are no manifests.
 ghost use Rattle.std.specs.Prelude.{◌≡◌, ◌≢◌, ◌↔◌, IsTrue, IfOk};
-ghost use Rattle.bag_text.specs.declared.code.Code.TheVariants.{TagFileRequired, TagFileNotAllowed, FetchNotAllowed};
+ghost use Rattle.bag_words.specs.declared.code.Code.TheVariants.{TagFileRequired, TagFileNotAllowed, FetchNotAllowed};
 ghost use Rattle.bag_tree.specs.Bag.{Bag};
 ghost use Rattle.bag_facts.specs.Facts.{IsFactsOf};
 ghost use Rattle.bag_facts.specs.declared.options.Depth.TheVariants.{Declaration};

@@ -1,7 +1,7 @@
 //! What a profile asks of a bag as a whole.
 ghost use Rattle.std.specs.Prelude.{◌≡◌, ◌≢◌, IfOk, option_and_then};
 ghost use Rattle.std.specs.Option.{option_copied};
-ghost use Rattle.bag_text.specs.declared.code.Code.TheVariants.{VersionNotAccepted, SerializationRequired};
+ghost use Rattle.bag_words.specs.declared.code.Code.TheVariants.{VersionNotAccepted, SerializationRequired};
 ghost use Rattle.bag_tags.specs.Declaration as declared;
 ghost use Rattle.bag_tree.specs.Bag.{Bag, file};
 ghost use Rattle.bag_facts.specs.Facts.{IsFactsOf};

@@ -2,7 +2,7 @@
 use Rattle.std.specs.Prelude.{ℕ, ◌==◌, List, [], ◌++◌, length, Option, Some, None, nat_le, option_and_then, slice_get, codes, decimal, if◌then◌else◌}
 use Rattle.std.specs.Option.{option_to_list}
 use Rattle.bag_text.specs.Text.{has_mark, same_label}
-use Rattle.bag_text.specs.declared.code.Code.TheVariants.{DeclarationNotUtf8, DeclarationLineCount, DeclarationLine, VersionUnsupported, EncodingUnsupported}
+use Rattle.bag_words.specs.declared.code.Code.TheVariants.{DeclarationNotUtf8, DeclarationLineCount, DeclarationLine, VersionUnsupported, EncodingUnsupported}
 use Rattle.bag_line.specs.LineFault.{line_fault}
 use Rattle.bag_line.specs.declared.fault.LineFault.{LineFault}
 use Rattle.bag_declaration.specs.Declaration.{version_of, encoding_of, is_supported_version}

@@ -3,7 +3,7 @@ use Rattle.std.specs.Prelude.{ℕ, ◌≡◌, ◌≢◌, ◌⊎◌, ◌↔◌, �
 use Rattle.std.specs.List.{list_all}
 use Rattle.bag_text.specs.Lines.{lines_of_file, IsLine}
 use Rattle.bag_text.specs.Text.{is_blank}
-use Rattle.bag_text.specs.declared.code.Code.TheVariants.{DeclarationLine}
+use Rattle.bag_words.specs.declared.code.Code.TheVariants.{DeclarationLine}
 use Rattle.bag_line.specs.LineFault.{line_fault}
 use Rattle.bag_line.specs.LineParts.{AreDigits}
 use Rattle.bag_declaration.specs.Declaration.{version_of, encoding_of, IsDeclarationFault}

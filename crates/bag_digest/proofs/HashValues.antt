@@ -7,8 +7,8 @@ use Rattle.md5.specs.Md5 as by_md5
 use Rattle.sha1.specs.Sha1 as by_sha1
 use Rattle.sha2.specs.Sha256 as by_sha256
 use Rattle.sha2.specs.Sha512 as by_sha512
-use Rattle.bag_text.specs.declared.alg.Alg.{Alg}
-use Rattle.bag_text.specs.declared.alg.Alg.TheVariants.{Md5, Sha1, Sha256, Sha512}
+use Rattle.bag_words.specs.declared.alg.Alg.{Alg}
+use Rattle.bag_words.specs.declared.alg.Alg.TheVariants.{Md5, Sha1, Sha256, Sha512}
 use Rattle.bag_digest.specs.Digest.{hash, hash_len}
 
 abbrev pub AreBytes : List ℕ → Type 0

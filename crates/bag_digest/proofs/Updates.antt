@@ -1,6 +1,6 @@
 -- Hashers that take bytes, one after another.
 use Rattle.std.proofs.Common.{◌≡◌, ◌≢◌, ℕ, ◌<◌, ◌≤◌, ◌+◌, List, ◌++◌, Option, None, length, get_or, set, subst, arith, below_more, get_or-set_same, get_or-set_other}
-use Rattle.bag_text.specs.declared.alg.Alg.{Alg}
+use Rattle.bag_words.specs.declared.alg.Alg.{Alg}
 use Rattle.bag_digest.specs.Digests.{HoldsWhere}
 use Rattle.bag_digest.specs.declared.hasher.Hasher.{Hasher}
 

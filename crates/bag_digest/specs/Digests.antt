@@ -1,7 +1,7 @@
 -- What digests have taken.
 use Rattle.std.specs.Prelude.{ℕ, ◌≡◌, ◌-◌, ◌<◌, List, All, Contains, Option, Some, None, slice_index_or, take}
 use Rattle.bag_text.specs.Alg.{rank}
-use Rattle.bag_text.specs.declared.alg.Alg.{Alg}
+use Rattle.bag_words.specs.declared.alg.Alg.{Alg}
 use Rattle.bag_digest.specs.Digest.{hash, hash_len}
 use Rattle.bag_digest.specs.Hasher.{Holds}
 use Rattle.bag_digest.specs.declared.hasher.Hasher.{Hasher}

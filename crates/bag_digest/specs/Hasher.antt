@@ -3,8 +3,8 @@ use Rattle.std.specs.Prelude.{ℕ, List}
 use Rattle.md5.specs.Md5.{Holds as HoldsMd5}
 use Rattle.sha1.specs.Sha1.{Holds as HoldsSha1}
 use Rattle.sha2.specs.Hashers.{Holds256, Holds512}
-use Rattle.bag_text.specs.declared.alg.Alg.{Alg}
-use Rattle.bag_text.specs.declared.alg.Alg.TheVariants.{Md5, Sha1, Sha256, Sha512}
+use Rattle.bag_words.specs.declared.alg.Alg.{Alg}
+use Rattle.bag_words.specs.declared.alg.Alg.TheVariants.{Md5, Sha1, Sha256, Sha512}
 use Rattle.bag_digest.specs.declared.hasher.Hasher.{Hasher}
 use Rattle.bag_digest.specs.declared.hasher.Hasher.TheVariants as by
 

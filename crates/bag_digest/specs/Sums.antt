@@ -3,7 +3,7 @@ use Rattle.std.specs.Prelude.{ℕ, ◌-◌, List, Option, None, map, take, slice
 use Rattle.std.specs.Option.{option_map}
 use Rattle.hex.specs.Hex.{encode_lower}
 use Rattle.bag_text.specs.Alg.{algs, rank}
-use Rattle.bag_text.specs.declared.alg.Alg.{Alg}
+use Rattle.bag_words.specs.declared.alg.Alg.{Alg}
 use Rattle.bag_digest.specs.Digest.{hash_len}
 use Rattle.bag_digest.specs.declared.sums.Sums.TheInside.{Inside}
 

@@ -1,6 +1,6 @@
 //! Digests of bytes that come piece by piece.
 ghost use Rattle.std.specs.Prelude.{◌≡◌, ℕ, List, [], ◌++◌};
-ghost use Rattle.bag_text.specs.declared.alg.Alg.{Alg as Named};
+ghost use Rattle.bag_words.specs.declared.alg.Alg.{Alg as Named};
 ghost use Rattle.bag_digest.specs.Digest.{AreSumsOf};
 ghost use Rattle.bag_digest.specs.Digests.{HasTaken, HoldsWhere, IsHashWhere};
 

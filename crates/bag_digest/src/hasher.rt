@@ -1,6 +1,6 @@
 //! A hash function in the midst of a message. Each algorithm stands in this file alone.
 ghost use Rattle.std.specs.Prelude.{◌≡◌, ℕ, List, [], ◌++◌, ◌≤◌, length, take};
-ghost use Rattle.bag_text.specs.declared.alg.Alg.{Alg as Named};
+ghost use Rattle.bag_words.specs.declared.alg.Alg.{Alg as Named};
 ghost use Rattle.bag_digest.specs.Digest.{hash, hash_len};
 ghost use Rattle.bag_digest.specs.Hasher.{Holds};
 

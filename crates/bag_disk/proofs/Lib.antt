@@ -1,4 +1,3 @@
 pub mod Below
 pub mod DiskPaths
 pub mod Moving
-pub mod NodeEntries

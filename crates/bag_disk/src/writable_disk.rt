@@ -2,7 +2,8 @@
 ghost use Rattle.std.specs.Prelude.{◌≡◌, ◌≤◌, List, ℕ, IfOk, OnOk, OnErr, IsErrOf, IsTrue, Option, None, Some, is_some, length, take};
 ghost use Rattle.bag_text.specs.Path.{is_path};
 ghost use Rattle.bag_disk.specs.Disk.{Has, IsReached, OnlyLooks, node};
-ghost use Rattle.bag_disk.specs.WritableDisk.{Appends, Closes, HasFile, KeepsOthers, MakesFile, MakesFolder, Moves};
+ghost use Rattle.bag_disk.specs.WritableDisk.{Appends, Closes, HasFile, MakesFile, MakesFolder, Moves};
+ghost use Rattle.bag_tree.specs.Moved.{KeepsOthers};
 ghost use Rattle.bag_disk.specs.declared.disk.DiskFault.TheVariants.{Exists, Name, NotFound};
 
 use crate::disk::{Disk, DiskFault};

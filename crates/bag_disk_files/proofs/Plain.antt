@@ -14,7 +14,7 @@ use Rattle.bag_disk.specs.Location.{path_in}
 use Rattle.bag_disk.specs.Disk.{Nodes, Node, node, Has, IsFolder, IsDisk, IsReached, HasUnnamed, entry_of, is_plain, is_plain_node}
 use Rattle.bag_disk.specs.Disk.Node.{File, Folder, Other}
 use Rattle.bag_tree.proofs.SameText.{one_text, text_itself}
-use Rattle.bag_disk.proofs.NodeEntries.{none_below, t_true}
+use Rattle.bag_tree.proofs.PathEntries.{none_below, t_true}
 use Rattle.bag_disk_files.specs.FolderWalk.{Walked}
 use Rattle.bag_disk.specs.declared.disk.Entry.{Entry}
 use Rattle.bag_disk.specs.declared.disk.Entry.TheVariants as entry

@@ -11,7 +11,7 @@ use Rattle.bag_text.specs.Text.{text_cmp}
 use Rattle.bag_text.specs.Path.{is_base_name, under}
 use Rattle.bag_tree.proofs.SameText.{one_text}
 use Rattle.bag_tree.specs.Bag.{IsBag, file, has_folder}
-use Rattle.bag_disk.proofs.NodeEntries.{none_below, t_true}
+use Rattle.bag_tree.proofs.PathEntries.{none_below, t_true}
 use Rattle.bag_disk.specs.Disk.{Nodes, Node, node, IsDisk, bytes_of, is_folder_node}
 use Rattle.bag_disk.specs.Disk.Node.{File, Folder, Other}
 pub use Rattle.bag_disk.specs.Disk.{empty_disk}

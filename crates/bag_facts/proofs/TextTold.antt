@@ -2,8 +2,8 @@
 use Rattle.std.proofs.Common.{◌≡◌, ◌↔◌, ℕ, List, [], Bool, true, false, refl, sym, ◌∙◌, subst, Any, IsTrue}
 use Rattle.std.specs.Str.{is_utf8}
 use Rattle.bag_text.specs.Text.{IsNoText}
-use Rattle.bag_text.specs.declared.code.Code.{Code}
-use Rattle.bag_text.specs.declared.code.Code.TheVariants.{NotUtf8}
+use Rattle.bag_words.specs.declared.code.Code.{Code}
+use Rattle.bag_words.specs.declared.code.Code.TheVariants.{NotUtf8}
 use Rattle.bag_line.specs.LineFault.{line_fault, AreFaults}
 use Rattle.bag_line.specs.declared.fault.LineFault.{LineFault}
 

@@ -9,7 +9,7 @@ use Rattle.std.proofs.lemmas.List.Kept.{IsStrictlySortedBy-filter}
 use Rattle.std.proofs.lemmas.Slice.Eq.{bytes_eq-Decides}
 use Rattle.bag_text.specs.Text.{text_cmp}
 use Rattle.bag_text.specs.Alg.{algs}
-use Rattle.bag_text.proofs.AlgSets.{each_is_listed}
+use Rattle.bag_words.proofs.AlgSets.{each_is_listed}
 use Rattle.bag_text.proofs.ListOf.{contains_behind, contains_front, contains_back}
 use Rattle.bag_tags.specs.TagName.{tag_path}
 use Rattle.bag_tags.specs.declared.kind.Kind.TheVariants.{Payload, Tag}

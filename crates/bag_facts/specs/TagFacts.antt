@@ -6,7 +6,7 @@ use Rattle.std.specs.Str.{is_utf8}
 use Rattle.bag_text.specs.Text.{text_cmp}
 use Rattle.bag_text.specs.Lines.{lines_of_file}
 use Rattle.bag_text.specs.Order.{IsListOf}
-use Rattle.bag_text.specs.declared.alg.Alg.{Alg}
+use Rattle.bag_words.specs.declared.alg.Alg.{Alg}
 use Rattle.bag_declaration.specs.Declaration.{declared_version, declared_encoding, IsDeclarationFault}
 use Rattle.bag_line.specs.Fetch.{IsFetch, IsFetchFault}
 use Rattle.bag_line.specs.Info.{IsElement, IsInfoFault}

@@ -1,7 +1,7 @@
 //! What is read of a bag.
 ghost use Rattle.std.specs.Prelude.{◌≡◌, ◌≢◌, ◌⊎◌, ◌↔◌, [], IsTrue, IfOk, IfErr, OnOk, OnErr, MatchOption, Any, Contains, codes};
 ghost use Rattle.std.specs.Option.{option_copied};
-ghost use Rattle.bag_text.specs.declared.alg.Alg.{Alg as Named};
+ghost use Rattle.bag_words.specs.declared.alg.Alg.{Alg as Named};
 ghost use Rattle.bag_tags.specs.TagName.{tag_path};
 ghost use Rattle.bag_tags.specs.declared.tag_name.TagName.TheVariants as file_of;
 ghost use Rattle.bag_tree.specs.Bag.{Bag, IsBag, HasFile, file};

@@ -1,6 +1,6 @@
 //! Whether a tag file that was read is UTF-8.
 ghost use Rattle.std.specs.Prelude.{◌≡◌, ◌↔◌, IsTrue, Any};
-ghost use Rattle.bag_text.specs.declared.code.Code.TheVariants.{NotUtf8};
+ghost use Rattle.bag_words.specs.declared.code.Code.TheVariants.{NotUtf8};
 
 use bag_tags::LineFault;
 use bag_text::Code;

@@ -7,8 +7,8 @@ use Rattle.std.proofs.lemmas.List.Sums.{AllPass-from_list_all}
 use Rattle.std.proofs.lemmas.Slice.Eq.{bytes_eq-Decides}
 use Rattle.bag_text.specs.Alg.{algs, name, rank, rank_or_zero, alg_named}
 use Rattle.bag_text.specs.AlgTable.{same_rank}
-use Rattle.bag_text.specs.declared.alg.Alg.{Alg}
-use Rattle.bag_text.proofs.AlgSets.{each_is_listed, name_is_read_again, names_tell_apart}
+use Rattle.bag_words.specs.declared.alg.Alg.{Alg}
+use Rattle.bag_words.proofs.AlgSets.{each_is_listed, name_is_read_again, names_tell_apart}
 use Rattle.bag_fault.specs.FaultLine.{alg_field}
 
 -- what all of the list pass, each algorithm passes

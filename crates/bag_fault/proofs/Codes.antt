@@ -4,8 +4,8 @@ use Rattle.std.specs.List.{list_all}
 use Rattle.std.proofs.lemmas.Bool.Decides.{nat_tests}
 use Rattle.std.proofs.lemmas.Bool.{and_parts}
 use Rattle.bag_text.specs.Code.{number, word, all_codes}
-use Rattle.bag_text.proofs.Codes.{code_numbered, numbered_code}
-use Rattle.bag_text.specs.declared.code.Code.{Code}
+use Rattle.bag_words.proofs.Codes.{code_numbered, numbered_code}
+use Rattle.bag_words.specs.declared.code.Code.{Code}
 
 pub same_some : {A : Type 0} (x y : A) → Some x ≡ Some y → x ≡ y
 same_some x y e = ap (λ o. unwrap_or o x) e

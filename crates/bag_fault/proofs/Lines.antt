@@ -6,7 +6,7 @@ use Rattle.std.proofs.lemmas.Slice.Eq.{bytes_eq-Decides}
 use Rattle.std.proofs.lemmas.Fmt.{decimal_injective, first_decimal}
 use Rattle.percent_encoding.specs.Percent.{percent_decode}
 use Rattle.percent_encoding.proofs.PercentLemmas.{IsByte, round_trip}
-use Rattle.bag_text.specs.declared.code.Code.{Code}
+use Rattle.bag_words.specs.declared.code.Code.{Code}
 use Rattle.bag_text.specs.Code.{number, word}
 use Rattle.bag_fault.specs.declared.field.TheConstants.{ESCAPED}
 use Rattle.bag_fault.specs.FaultLine.{encoded, field, alg_field, line_field, LinesTellFaultsApart}

@@ -10,8 +10,8 @@ use Rattle.percent_encoding.proofs.AsciiSetLemmas.{escaped_from_inside}
 use Rattle.percent_encoding.specs.AsciiSet.{should_percent_encode}
 use Rattle.percent_encoding.proofs.PercentLemmas.{All-percent_encode, IsEscapeByte}
 use Rattle.bag_text.specs.Alg.{name}
-use Rattle.bag_text.specs.declared.alg.Alg.{Alg}
-use Rattle.bag_text.specs.declared.code.Code.{Code}
+use Rattle.bag_words.specs.declared.alg.Alg.{Alg}
+use Rattle.bag_words.specs.declared.code.Code.{Code}
 use Rattle.bag_text.specs.Code.{number, word}
 use Rattle.bag_fault.specs.declared.field.TheConstants.{ESCAPED}
 use Rattle.bag_fault.specs.FaultLine.{encoded, field, alg_field, line_field}

@@ -5,7 +5,7 @@ use Rattle.std.specs.Str.{byte}
 use Rattle.percent_encoding.specs.Percent.{percent_encode_byte}
 use Rattle.bag_text.specs.Alg.{name}
 use Rattle.bag_text.specs.Code.{number, word}
-use Rattle.bag_text.specs.declared.alg.Alg.{Alg}
+use Rattle.bag_words.specs.declared.alg.Alg.{Alg}
 use Rattle.bag_fault.specs.declared.fault.Fault.{Fault}
 use Rattle.bag_fault.specs.FaultOrder.{IsFault}
 

@@ -1,8 +1,8 @@
 //! Faults read back from their lines.
 ghost use Rattle.std.specs.Prelude.{◌≡◌, ◌<◌, ◌^◌, Option, List, ℕ, IfOk, MatchOption, MatchResult, IsUtf8, decimal};
 ghost use Rattle.bag_text.specs.Code.{number};
-ghost use Rattle.bag_text.specs.declared.alg.Alg.{Alg};
-ghost use Rattle.bag_text.specs.declared.code.Code.{Code};
+ghost use Rattle.bag_words.specs.declared.alg.Alg.{Alg};
+ghost use Rattle.bag_words.specs.declared.code.Code.{Code};
 ghost use Rattle.bag_fault.specs.FaultLine as spec;
 ghost use Rattle.bag_fault.specs.FaultOrder.{IsFault};
 ghost use Rattle.bag_fault.specs.LineFields.{AreFields};

@@ -16,17 +16,17 @@ use Rattle.bag_tree.specs.Bag.{Bag, file, files_of, has_file, has_folder}
 use Rattle.bag_tree.specs.Listing.{IsListingOf, IsOrdered}
 use Rattle.bag_tree.specs.declared.listing.FileEntry.{FileEntry}
 use Rattle.bag_tree.specs.declared.listing.Listing.{Listing}
-use Rattle.bag_write_tree.specs.Steps.{is_within, has_within, is_taken, lacks_folder, lacks_source, make_folder, create}
+use Rattle.bag_write_tree.specs.Steps.{has_within, is_taken, lacks_folder, lacks_source, make_folder, create}
+use Rattle.bag_tree.specs.Moved.{MovesAll, is_within, moved}
 use Rattle.bag_write_tree.specs.Steps as step
-use Rattle.bag_write_tree.specs.StepsLaw.{MovesAll as FilesMove}
-use Rattle.bag_write_tree.proofs.Moving.{moves_all as files_move}
-use Rattle.bag_write_tree.proofs.Within.{within_after, within_cases, itself_within, not_after, not_within}
+use Rattle.bag_tree.proofs.Moving.{moves_all}
+use Rattle.bag_tree.proofs.Within.{within_after, within_cases, itself_within, not_after, not_within}
 use Rattle.bag_disk.specs.Disk.{Nodes, Node, node, IsDisk, IsReached, bytes_of, is_folder_node, is_plain}
 use Rattle.bag_disk.specs.Location.{path_in}
 use Rattle.bag_disk.specs.Disk.Node.{File, Folder, Other}
-use Rattle.bag_disk.specs.WritableDisk.{HasFile, Moves, MovesAll, moved, with_file, with_folder}
+use Rattle.bag_disk.specs.WritableDisk.{HasFile, Moves, with_file, with_folder}
 use Rattle.bag_disk.proofs.DiskPaths.{none_below_no_folder}
-use Rattle.bag_disk.proofs.Moving.{moves_all}
+use Rattle.bag_disk.proofs.Moving.{nodes_move}
 use Rattle.bag_disk_files.specs.BagBelow.{bag_of_disk, file_of_disk, folder_of_disk}
 use Rattle.bag_file_tree.specs.Changing.{MovesInto}
 use Rattle.bag_disk_files.specs.DiskBag.{bag_of}
@@ -171,18 +171,18 @@ free_not_within nodes path disk free within =
 
 -- the files when something was moved
 files_moved : (nodes : Nodes) (from to : List ℕ) → IsDisk nodes → node nodes to ≡ None → (path : List ℕ)
-    → file (bag_of (moved from to nodes)) path ≡ map.get (step.moved from to (bag_of nodes).files) path
+    → file (bag_of (moved from to nodes)) path ≡ map.get (moved from to (bag_of nodes).files) path
 files_moved nodes from to disk free path =
-    let all : MovesAll nodes (moved from to nodes) from to = moves_all nodes from to disk free in
-    let files : FilesMove (bag_of nodes).files (step.moved from to (bag_of nodes).files) from to = files_move (bag_of nodes).files from to (λ p within. no_file_below nodes to p disk free within) in
-    elim (is_within to path) as (λ b. is_within to path ≡ b → file (bag_of (moved from to nodes)) path ≡ map.get (step.moved from to (bag_of nodes).files) path) [
+    let all : MovesAll nodes (moved from to nodes) from to = nodes_move nodes from to disk free in
+    let files : MovesAll (bag_of nodes).files (moved from to (bag_of nodes).files) from to = moves_all (bag_of nodes).files from to (λ p within. no_file_below nodes to p disk free within) in
+    elim (is_within to path) as (λ b. is_within to path ≡ b → file (bag_of (moved from to nodes)) path ≡ map.get (moved from to (bag_of nodes).files) path) [
       | true ↦ λ within. elim (within_cases to path within) [
-        | inl itself ↦ subst (λ p. file (bag_of (moved from to nodes)) p ≡ map.get (step.moved from to (bag_of nodes).files) p) (sym itself)
+        | inl itself ↦ subst (λ p. file (bag_of (moved from to nodes)) p ≡ map.get (moved from to (bag_of nodes).files) p) (sym itself)
             (file_of_disk (moved from to nodes) to ∙ ap bytes_of all.arrived ∙ sym (file_of_disk nodes from) ∙ sym files.arrived)
-        | inr below ↦ subst (λ p. file (bag_of (moved from to nodes)) p ≡ map.get (step.moved from to (bag_of nodes).files) p) (sym below.1)
+        | inr below ↦ subst (λ p. file (bag_of (moved from to nodes)) p ≡ map.get (moved from to (bag_of nodes).files) p) (sym below.1)
             (file_of_disk (moved from to nodes) (under to below.0) ∙ ap bytes_of (all.arrived_below below.0) ∙ sym (file_of_disk nodes (under from below.0)) ∙ sym (files.arrived_below below.0))
       ]
-      | false ↦ λ outside. elim (is_within from path) as (λ b. is_within from path ≡ b → file (bag_of (moved from to nodes)) path ≡ map.get (step.moved from to (bag_of nodes).files) path) [
+      | false ↦ λ outside. elim (is_within from path) as (λ b. is_within from path ≡ b → file (bag_of (moved from to nodes)) path ≡ map.get (moved from to (bag_of nodes).files) path) [
         | true ↦ λ within. file_of_disk (moved from to nodes) path ∙ ap bytes_of (all.left path within outside) ∙ sym (files.left path within outside)
         | false ↦ λ off. file_of_disk (moved from to nodes) path ∙ ap bytes_of (all.others path off outside) ∙ sym (file_of_disk nodes path) ∙ sym (files.others path off outside)
       ] refl
@@ -235,7 +235,7 @@ bag_moved_in nodes top folder disk disk_then is free = same_bag (bag_of then) (s
     old = (bag_of nodes).folders
 
     all : MovesAll nodes (moved top (under folder top) nodes) top (under folder top)
-    all = moves_all nodes top (under folder top) disk free
+    all = nodes_move nodes top (under folder top) disk free
 
 -- the bag when a folder was given another name
 pub bag_renamed : (nodes : Nodes) (from to : List ℕ) → IsDisk nodes → IsDisk (moved from to nodes) → is_base_name from ≡ true → is_base_name to ≡ true → node nodes from ≡ Some Folder → node nodes to ≡ None
@@ -268,7 +268,7 @@ bag_renamed nodes from to disk disk_then from_is to_is there free = same_bag (ba
     new = set.insert (bag_of nodes).folders to
 
     all : MovesAll nodes (moved from to nodes) from to
-    all = moves_all nodes from to disk free
+    all = nodes_move nodes from to disk free
 
     two : eq_by_cmp text_cmp to from ≡ false
     two = elim (eq_by_cmp text_cmp to from) as (λ b. eq_by_cmp text_cmp to from ≡ b → b ≡ false) [

@@ -10,13 +10,13 @@ use Rattle.bag_text.specs.Path.{is_base_name, under}
 use Rattle.bag_tree.specs.Bag.{Bag}
 use Rattle.bag_tree.specs.declared.answer.Answer.{Answer}
 use Rattle.bag_write_tree.specs.Changes.{HasBegun, HasChanged, IsSame}
-use Rattle.bag_write_tree.specs.Steps.{is_within}
 use Rattle.bag_write_tree.specs.Steps as step
-use Rattle.bag_write_tree.proofs.Within.{within_cases}
+use Rattle.bag_tree.proofs.Within.{within_cases}
 use Rattle.bag_disk.specs.Disk.{DiskState, Nodes, Node, node, IsDisk, OnlyLooks, is_plain, is_plain_node}
 use Rattle.bag_disk.specs.Disk.Node.{File, Folder, Other}
-use Rattle.bag_disk.specs.WritableDisk.{Closes, MakesFolder, MovesAll, moved, renamed, with_renamed}
-use Rattle.bag_disk.proofs.Moving.{moves_all}
+use Rattle.bag_disk.specs.WritableDisk.{Closes, MakesFolder}
+use Rattle.bag_tree.specs.Moved.{MovesAll, is_within, moved, renamed, with_renamed}
+use Rattle.bag_disk.proofs.Moving.{nodes_move}
 use Rattle.bag_file_tree.specs.Changing.{IsMovedIn, IsRenamed, MovesInto, Renames}
 use Rattle.bag_disk_files.specs.DiskBag.{bag_of}
 use Rattle.bag_file_tree.specs.FileTree.{state_after}
@@ -61,7 +61,7 @@ nothing_else_moved nodes from to disk free path n is = elim (is_within to path) 
 ] refl
   where
     all : MovesAll nodes (moved from to nodes) from to
-    all = moves_all nodes from to disk free
+    all = nodes_move nodes from to disk free
 
 one_more : (b : Bool) (n m : ℕ) → m ≡ cond b n (n + 1) → m ≤ n + 1
 one_more true n m e = omega (arith, e)

@@ -1,5 +1,6 @@
 //! Folders that stand where something is to be moved.
 ghost use Rattle.std.specs.Prelude.{◌≡◌, ◌↔◌, Any, IsTrue, true};
+ghost use Rattle.bag_tree.specs.Moved as moving;
 ghost use Rattle.bag_write_tree.specs.Steps as step;
 ghost use Rattle.bag_disk.specs.Disk.{OnlyLooks};
 ghost use Rattle.bag_disk_files.specs.DiskBag.{bag_of};
@@ -33,14 +34,14 @@ pub(crate) fn folder_in_the_way<D: Disk>(disk: &mut D, alloc: Global, folder: &s
 
 /// Whether one of the files stands at a path or below it.
 fn has_within(files: &[FileEntry], top: &str) -> bool
-    ensures { IsTrue result ↔ Any (λ file. IsTrue (step.is_within top.now file.path)) files.now }
+    ensures { IsTrue result ↔ Any (λ file. IsTrue (moving.is_within top.now file.path)) files.now }
 {
     files.iter().any(|file| is_within(top, file.path.as_str()))
 }
 
 /// Whether a path is another, or below it.
 fn is_within(top: &str, path: &str) -> bool
-    ensures { result ≡ step.is_within top.now path.now }
+    ensures { result ≡ moving.is_within top.now path.now }
 {
     rest_within(top, path).is_some()
 }

@@ -7,7 +7,7 @@ use Rattle.std.proofs.Math.Nat.{eq-or-lt_of_le}
 use Rattle.std.proofs.lemmas.Bool.{cases_lt}
 use Rattle.std.proofs.lemmas.Cmp.{nat_cmp_total}
 use Rattle.bag_text.specs.Code.{number}
-use Rattle.bag_text.specs.declared.code.Code.{Code}
+use Rattle.bag_words.specs.declared.code.Code.{Code}
 use Rattle.bag_line.specs.declared.fault.LineFault.{LineFault}
 use Rattle.bag_line.specs.LineFault.{line_fault, line_fault_cmp}
 

@@ -9,8 +9,8 @@ use Rattle.std.specs.Ordering.{nat_cmp, on}
 use Rattle.bag_text.specs.Lines.{IsLine, lines_of_file}
 use Rattle.bag_text.specs.Text.{IsText, IsNoText, is_blank_line}
 use Rattle.bag_text.specs.Order.{IsListOf}
-use Rattle.bag_text.specs.declared.code.Code.{Code}
-use Rattle.bag_text.specs.declared.code.Code.TheVariants.{NotUtf8}
+use Rattle.bag_words.specs.declared.code.Code.{Code}
+use Rattle.bag_words.specs.declared.code.Code.TheVariants.{NotUtf8}
 use Rattle.bag_text.proofs.ListOf.{nothing_listed, one_listed, contains_cases, contains_nothing, each_from_members}
 use Rattle.bag_text.proofs.Numbered.{numbered_is_line, line_is_numbered}
 use Rattle.bag_line.specs.Reason.{Reason}

@@ -3,8 +3,8 @@ use Rattle.std.proofs.Common.{◌≡◌, ℕ, true, false, [], codes, List, subs
 use Rattle.bag_text.specs.Text.{without_prefix}
 use Rattle.bag_text.specs.Spelling.{unescaped}
 use Rattle.bag_text.specs.Path.{is_payload_path, is_path}
-use Rattle.bag_text.specs.declared.code.Code.{Code}
-use Rattle.bag_text.specs.declared.code.Code.TheVariants.{FetchLine, FetchEscape, FetchUnsafePath, FetchOutsidePayload}
+use Rattle.bag_words.specs.declared.code.Code.{Code}
+use Rattle.bag_words.specs.declared.code.Code.TheVariants.{FetchLine, FetchEscape, FetchUnsafePath, FetchOutsidePayload}
 use Rattle.bag_line.specs.Reason.{Reason}
 use Rattle.bag_line.specs.Fetch.{url_of, length_of, written_of, lacks_part, spelling_of, decoded_or, fetched_path, fetch_line}
 use Rattle.bag_line.specs.FetchVerdict.{verdict, verdict_by_spelling}

@@ -6,7 +6,7 @@ use Rattle.bag_text.specs.Number.{is_digits}
 use Rattle.bag_text.specs.Path.{is_path, is_payload_path, first_component, components}
 use Rattle.bag_text.specs.Spelling.{unescaped}
 use Rattle.bag_text.specs.Text.{is_blank_line, before_blank, after_blanks, without_prefix}
-use Rattle.bag_text.specs.declared.code.Code.TheVariants.{FetchLine, FetchOutsidePayload, FetchUnsafePath}
+use Rattle.bag_words.specs.declared.code.Code.TheVariants.{FetchLine, FetchOutsidePayload, FetchUnsafePath}
 use Rattle.bag_text.proofs.SpellingLaws.{spellings}
 use Rattle.bag_line.specs.Reason.{Reason, ◌>>=◌}
 use Rattle.bag_line.specs.LineParts.{IsWithout}

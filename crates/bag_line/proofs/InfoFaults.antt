@@ -5,8 +5,8 @@ use Rattle.std.specs.Ordering.{nat_cmp, on}
 use Rattle.bag_text.specs.Text.{is_blank_line, IsText, IsNoText}
 use Rattle.bag_text.specs.Lines.{IsLine, lines_of_file}
 use Rattle.bag_text.specs.Order.{IsListOf}
-use Rattle.bag_text.specs.declared.code.Code.{Code}
-use Rattle.bag_text.specs.declared.code.Code.TheVariants.{NotUtf8, InfoLine}
+use Rattle.bag_words.specs.declared.code.Code.{Code}
+use Rattle.bag_words.specs.declared.code.Code.TheVariants.{NotUtf8, InfoLine}
 use Rattle.bag_text.proofs.ListOf.{nothing_listed, one_listed, joined, only_listed, only_from_some, same_members}
 use Rattle.bag_line.specs.Info.{begins_with_blank, is_continuation, begins_element, split, DoesNotSplit, InfoFault, IsInfoFault, IsElement}
 use Rattle.bag_line.specs.InfoReader.{fault_unless, fault_at, faults, wrong}

@@ -4,8 +4,8 @@ use Rattle.std.specs.List.{slice_get, list_any}
 use Rattle.std.proofs.lemmas.Bool.{cases_lt}
 use Rattle.bag_text.specs.Text.{is_blank_line}
 use Rattle.bag_text.specs.Lines.{lines_of_file, IsLine}
-use Rattle.bag_text.specs.declared.code.Code.{Code}
-use Rattle.bag_text.specs.declared.code.Code.TheVariants.{NotUtf8, InfoLine}
+use Rattle.bag_words.specs.declared.code.Code.{Code}
+use Rattle.bag_words.specs.declared.code.Code.TheVariants.{NotUtf8, InfoLine}
 use Rattle.bag_line.specs.Info.{begins_with_blank, is_continuation, begins_element, split, continuations, value_of_parts, DoesNotSplit, IsOrphan, IsElement, InfoFault}
 use Rattle.bag_line.specs.InfoPlaces.{IsAbove, GoesOn, IsFirstOf, IsPartOf, IsFaultOf, IsPassedOver, EachLineHasOnePlace, EachLineIsOfOneElement}
 use Rattle.bag_line.specs.InfoReader.{wrong}

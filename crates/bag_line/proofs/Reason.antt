@@ -1,6 +1,6 @@
 -- Steps that end with a reason why a line doesn't read.
 use Rattle.std.proofs.Common.{◌≡◌, Bool, true, false, cond, refl, Result, Ok, Err}
-use Rattle.bag_text.specs.declared.code.Code.{Code}
+use Rattle.bag_words.specs.declared.code.Code.{Code}
 use Rattle.bag_line.specs.Reason.{Reason, ◌>>=◌}
 
 -- two steps come to an end where each does

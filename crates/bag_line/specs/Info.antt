@@ -4,8 +4,8 @@ use Rattle.std.specs.Str.{byte}
 use Rattle.std.specs.List.{before_first, after_first, list_any, join_with_byte}
 use Rattle.bag_text.specs.Text.{IsNoText, trim, is_blank, is_blank_line}
 use Rattle.bag_text.specs.Lines.{lines_of_file, IsLine, line_feed}
-use Rattle.bag_text.specs.declared.code.Code.{Code}
-use Rattle.bag_text.specs.declared.code.Code.TheVariants.{NotUtf8, InfoLine}
+use Rattle.bag_words.specs.declared.code.Code.{Code}
+use Rattle.bag_words.specs.declared.code.Code.TheVariants.{NotUtf8, InfoLine}
 use Rattle.bag_line.specs.declared.fault.LineFault.{LineFault}
 use Rattle.bag_line.specs.declared.info.Element.{Element}
 

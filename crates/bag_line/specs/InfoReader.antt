@@ -3,7 +3,7 @@ use Rattle.std.specs.Prelude.{ℕ, ◌++◌, ◌||◌, Bool, true, false, List, 
 use Rattle.std.specs.Option.{option_to_list}
 use Rattle.bag_text.specs.Text.{trim, is_blank_line}
 use Rattle.bag_text.specs.Lines.{line_feed}
-use Rattle.bag_text.specs.declared.code.Code.TheVariants.{InfoLine}
+use Rattle.bag_words.specs.declared.code.Code.TheVariants.{InfoLine}
 use Rattle.bag_line.specs.Info.{begins_with_blank, begins_element, split}
 use Rattle.bag_line.specs.LineFault.{line_fault}
 use Rattle.bag_line.specs.declared.fault.LineFault.{LineFault}

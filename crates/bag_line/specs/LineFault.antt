@@ -4,8 +4,8 @@ use Rattle.std.specs.declared.cmp.Ordering.{Ordering}
 use Rattle.std.specs.Ordering.{nat_cmp, on, then_cmp}
 use Rattle.bag_text.specs.Text.{text_cmp}
 use Rattle.bag_text.specs.Code.{number}
-use Rattle.bag_text.specs.declared.code.Code.{Code}
-use Rattle.bag_text.specs.declared.code.Code.TheVariants.{NotUtf8}
+use Rattle.bag_words.specs.declared.code.Code.{Code}
+use Rattle.bag_words.specs.declared.code.Code.TheVariants.{NotUtf8}
 use Rattle.bag_text.specs.Order.{IsListOf}
 use Rattle.bag_line.specs.declared.fault.LineFault.{LineFault}
 

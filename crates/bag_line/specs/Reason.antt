@@ -1,6 +1,6 @@
 -- Why a line of a tag file doesn't read.
 use Rattle.std.specs.Prelude.{ℕ, List, Result, Ok, Err}
-use Rattle.bag_text.specs.declared.code.Code.{Code}
+use Rattle.bag_words.specs.declared.code.Code.{Code}
 
 -- a code, and a fault's detail
 abbrev pub Reason : Type 0

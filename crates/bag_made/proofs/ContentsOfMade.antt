@@ -10,7 +10,7 @@ use Rattle.std.proofs.lemmas.Bool.{and_parts, and_from, false_from_ne_true, fals
 use Rattle.std.proofs.lemmas.Slice.Eq.{bytes_eq-Decides}
 use Rattle.bag_text.specs.Path.{under, first_component}
 use Rattle.bag_text.specs.Text.{text_cmp}
-use Rattle.bag_text.specs.declared.alg.Alg.{Alg}
+use Rattle.bag_words.specs.declared.alg.Alg.{Alg}
 use Rattle.bag_line.proofs.PickedOut.{any_from, from_any}
 use Rattle.bag_tags.specs.TagName.{tag_path}
 use Rattle.bag_tree.specs.Bag.{Bag, HasFile, file, files_of, has_folder}

@@ -5,7 +5,7 @@ use Rattle.std.specs.List.{slice_get}
 use Rattle.std.proofs.lemmas.Option.{slice_get_within, get_or_from_slice_get}
 use Rattle.bag_text.specs.Lines.{lines_of_file}
 use Rattle.bag_text.specs.Text.{IsText}
-use Rattle.bag_text.specs.declared.alg.Alg.{Alg}
+use Rattle.bag_words.specs.declared.alg.Alg.{Alg}
 use Rattle.bag_text.proofs.ListOf.{contains_cases, contains_nothing}
 use Rattle.bag_tags.specs.Manifest.{IsEntry, named}
 use Rattle.bag_tags.specs.declared.kind.Kind.{Kind}

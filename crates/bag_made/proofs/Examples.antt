@@ -16,7 +16,7 @@ use Rattle.hex.specs.Hex.{encode_with}
 use Rattle.md5.specs.Md5.{md5, block_words, rounds, compress, hash_after, digest_bytes}
 use Rattle.bag_text.specs.Path.{under}
 use Rattle.bag_text.specs.Text.{text_cmp, IsText}
-use Rattle.bag_text.specs.declared.alg.Alg.TheVariants.{Md5, Sha256}
+use Rattle.bag_words.specs.declared.alg.Alg.TheVariants.{Md5, Sha256}
 use Rattle.bag_tree.specs.Bag.{Bag, IsBag, files_of}
 use Rattle.bag_write.specs.Element.{NewElement, info_text}
 use Rattle.bag_made.specs.Made.{File, new_payload, new_elements, new_tag_files, manifest}

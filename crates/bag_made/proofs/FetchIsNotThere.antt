@@ -1,9 +1,9 @@
 -- Stage 4: a made bag has nothing to fetch.
 use Rattle.std.proofs.Common.{◌≡◌, ℕ, ◌-◌, List, [], Some, subst}
 use Rattle.std.specs.List.{slice_get}
-use Rattle.bag_text.specs.declared.alg.Alg.{Alg}
-use Rattle.bag_text.specs.declared.code.Code.{Code}
-use Rattle.bag_text.specs.declared.code.Code.TheVariants.{FetchLine, FetchEscape, FetchUnsafePath, FetchOutsidePayload, FetchNotInManifest}
+use Rattle.bag_words.specs.declared.alg.Alg.{Alg}
+use Rattle.bag_words.specs.declared.code.Code.{Code}
+use Rattle.bag_words.specs.declared.code.Code.TheVariants.{FetchLine, FetchEscape, FetchUnsafePath, FetchOutsidePayload, FetchNotInManifest}
 use Rattle.bag_line.specs.Fetch.{IsFetch}
 use Rattle.bag_line.specs.declared.fetch.FetchEntry.{FetchEntry}
 use Rattle.bag_tags.specs.declared.tag_name.TagName.TheVariants.{Fetch}

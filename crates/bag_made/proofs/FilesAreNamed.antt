@@ -2,9 +2,9 @@
 use Rattle.std.proofs.Common.{◌≡◌, inl, inr, ℕ, ◌==◌, true, false, List, ◌∷◌, length, nat_lt, sym, ap, ◌∙◌, subst, Contains, arith}
 use Rattle.std.proofs.lemmas.Bool.{and_parts, eqb-true, ltb-true}
 use Rattle.bag_text.specs.Path.{under, components, is_path, is_payload_path}
-use Rattle.bag_text.specs.declared.alg.Alg.{Alg}
-use Rattle.bag_text.specs.declared.code.Code.{Code}
-use Rattle.bag_text.specs.declared.code.Code.TheVariants.{PayloadFileMissing, TagFileMissing, PayloadFileNotListed, NameClash}
+use Rattle.bag_words.specs.declared.alg.Alg.{Alg}
+use Rattle.bag_words.specs.declared.code.Code.{Code}
+use Rattle.bag_words.specs.declared.code.Code.TheVariants.{PayloadFileMissing, TagFileMissing, PayloadFileNotListed, NameClash}
 use Rattle.bag_text.proofs.ListOf.{contains_cases}
 use Rattle.bag_tags.specs.TagName.{tag_path}
 use Rattle.bag_tags.specs.declared.kind.Kind.{Kind}

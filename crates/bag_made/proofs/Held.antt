@@ -11,7 +11,7 @@ use Rattle.std.proofs.lemmas.Bool.Decides.{nat_tests}
 use Rattle.bag_text.specs.Alg.{name}
 use Rattle.bag_text.specs.Path.{under}
 use Rattle.bag_text.specs.Text.{text_cmp}
-use Rattle.bag_text.specs.declared.alg.Alg.{Alg}
+use Rattle.bag_words.specs.declared.alg.Alg.{Alg}
 use Rattle.bag_text.proofs.ListOf.{contains_cases, contains_first, contains_behind, contains_nothing, contains_either, contains_front, contains_back}
 use Rattle.bag_tags.specs.ManifestName.{manifest_name}
 use Rattle.bag_tags.specs.TagName.{tag_path}

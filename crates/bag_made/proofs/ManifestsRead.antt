@@ -1,8 +1,8 @@
 -- Stage 5: each line of the manifests of a made bag reads, none names a path twice, and tag manifests name the payload manifests.
 use Rattle.std.proofs.Common.{List, ◌∷◌, sym, subst, Contains}
-use Rattle.bag_text.specs.declared.alg.Alg.{Alg}
-use Rattle.bag_text.specs.declared.code.Code.{Code}
-use Rattle.bag_text.specs.declared.code.Code.TheVariants.{ManifestLine, DigestLength, ManifestEscape, ManifestUnsafePath, ManifestOutsidePayload, TagmanifestNamesPayload, TagmanifestNamesTagmanifest, NamedAgain, PayloadManifestNotListed}
+use Rattle.bag_words.specs.declared.alg.Alg.{Alg}
+use Rattle.bag_words.specs.declared.code.Code.{Code}
+use Rattle.bag_words.specs.declared.code.Code.TheVariants.{ManifestLine, DigestLength, ManifestEscape, ManifestUnsafePath, ManifestOutsidePayload, TagmanifestNamesPayload, TagmanifestNamesTagmanifest, NamedAgain, PayloadManifestNotListed}
 use Rattle.bag_text.proofs.ListOf.{contains_behind}
 use Rattle.bag_tags.specs.Manifest.{IsManifestFault}
 use Rattle.bag_tags.specs.ManifestName.{manifest_name}

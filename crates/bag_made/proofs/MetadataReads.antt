@@ -8,9 +8,9 @@ use Rattle.std.proofs.lemmas.Bool.{or_from, or_parts}
 use Rattle.std.proofs.lemmas.List.Elements.{All-push}
 use Rattle.std.proofs.lemmas.List.Folds.{list_any-append}
 use Rattle.bag_text.specs.Text.{IsText, same_label}
-use Rattle.bag_text.specs.declared.alg.Alg.{Alg}
-use Rattle.bag_text.specs.declared.code.Code.{Code}
-use Rattle.bag_text.specs.declared.code.Code.TheVariants.{InfoLine, OxumMalformed, OxumAgain, OxumDiffers, NoOxum}
+use Rattle.bag_words.specs.declared.alg.Alg.{Alg}
+use Rattle.bag_words.specs.declared.code.Code.{Code}
+use Rattle.bag_words.specs.declared.code.Code.TheVariants.{InfoLine, OxumMalformed, OxumAgain, OxumDiffers, NoOxum}
 use Rattle.bag_line.specs.Info.{IsElement, IsInfoFault}
 use Rattle.bag_line.specs.Oxum.{oxum_of}
 use Rattle.bag_line.specs.declared.info.Element.{Element}

@@ -1,6 +1,6 @@
 -- A bag that was made has no fault.
 use Rattle.std.proofs.Common.{◌≡◌, inl, inr, true, List, None}
-use Rattle.bag_text.specs.declared.alg.Alg.{Alg}
+use Rattle.bag_words.specs.declared.alg.Alg.{Alg}
 use Rattle.bag_text.proofs.ListOf.{nothing_listed}
 use Rattle.bag_tree.specs.Bag.{Bag}
 use Rattle.bag_fault.specs.FaultOrder.{fault_cmp}

@@ -9,8 +9,8 @@ use Rattle.std.specs.declared.cmp.Ordering.TheVariants.{Less, Equal, Greater}
 use Rattle.std.proofs.lemmas.Bool.{and_parts}
 use Rattle.bag_text.specs.Alg.{rank_cmp}
 use Rattle.bag_text.specs.Text.{text_cmp}
-use Rattle.bag_text.specs.declared.alg.Alg.{Alg}
-use Rattle.bag_text.specs.declared.alg.Alg.TheVariants.{Md5}
+use Rattle.bag_words.specs.declared.alg.Alg.{Alg}
+use Rattle.bag_words.specs.declared.alg.Alg.TheVariants.{Md5}
 use Rattle.bag_tags.specs.TagName.{tag_path}
 use Rattle.bag_tags.specs.declared.kind.Kind.TheVariants.{Payload}
 use Rattle.bag_tags.specs.declared.tag_name.TagName.TheVariants.{Declaration, Info, Manifest}

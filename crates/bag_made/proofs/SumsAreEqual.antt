@@ -1,8 +1,8 @@
 -- Stage 7: the files of a made bag have the digests that its manifests give.
 use Rattle.std.proofs.Common.{◌≡◌, ℕ, List, Some, sym, ap, ◌∙◌, Contains}
-use Rattle.bag_text.specs.declared.alg.Alg.{Alg}
-use Rattle.bag_text.specs.declared.code.Code.{Code}
-use Rattle.bag_text.specs.declared.code.Code.TheVariants.{PayloadSumDiffers, TagSumDiffers}
+use Rattle.bag_words.specs.declared.alg.Alg.{Alg}
+use Rattle.bag_words.specs.declared.code.Code.{Code}
+use Rattle.bag_words.specs.declared.code.Code.TheVariants.{PayloadSumDiffers, TagSumDiffers}
 use Rattle.bag_tags.specs.declared.kind.Kind.{Kind}
 use Rattle.bag_tags.specs.declared.kind.Kind.TheVariants.{Payload, Tag}
 use Rattle.bag_tags.specs.declared.tag_name.TagName.{TagName}

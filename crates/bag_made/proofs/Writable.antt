@@ -16,8 +16,8 @@ use Rattle.std.proofs.lemmas.Str.{IsUtf8-append, IsUtf8-from_is_utf8, is_utf8-fr
 use Rattle.bag_text.specs.Alg.{rank, rank_cmp}
 use Rattle.bag_text.specs.Path.{under, first_component, is_path, is_payload_path}
 use Rattle.bag_text.specs.Text.{text_cmp, IsText}
-use Rattle.bag_text.specs.declared.alg.Alg.{Alg}
-use Rattle.bag_text.specs.declared.alg.Alg.TheVariants.{Md5}
+use Rattle.bag_words.specs.declared.alg.Alg.{Alg}
+use Rattle.bag_words.specs.declared.alg.Alg.TheVariants.{Md5}
 use Rattle.bag_text.proofs.ListOf.{contains_first, contains_behind, contains_cases, each_from_members, member_has}
 use Rattle.bag_line.proofs.FaultOrder.{lower}
 use Rattle.bag_tags.specs.TagName.{tag_path}

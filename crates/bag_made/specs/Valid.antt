@@ -4,7 +4,7 @@ use Rattle.std.specs.List.{list_any}
 use Rattle.std.specs.List.Sorted.{IsStrictlySortedBy}
 use Rattle.bag_text.specs.Alg.{rank_cmp}
 use Rattle.bag_text.specs.Text.{IsText, same_label}
-use Rattle.bag_text.specs.declared.alg.Alg.{Alg}
+use Rattle.bag_words.specs.declared.alg.Alg.{Alg}
 use Rattle.bag_tree.specs.Bag.{Bag, IsBag, files_of}
 use Rattle.bag_facts.specs.declared.options.Depth.TheVariants.{Full}
 use Rattle.bag_facts.specs.declared.options.Options.{Options}

@@ -4,7 +4,7 @@ use Rattle.std.specs.List.{swap}
 use Rattle.std.proofs.lemmas.List.{length-map}
 use Rattle.std.proofs.lemmas.List.Sums.{sum_by-cons}
 use Rattle.bag_text.specs.Path.{under}
-use Rattle.bag_text.specs.declared.alg.Alg.{Alg}
+use Rattle.bag_words.specs.declared.alg.Alg.{Alg}
 use Rattle.bag_text.proofs.ListOf.{contains_first, contains_behind}
 use Rattle.bag_line.specs.declared.oxum.Oxum.{Oxum}
 use Rattle.bag_tags.specs.TagName.{tag_path}

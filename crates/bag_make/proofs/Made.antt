@@ -4,7 +4,7 @@ use Rattle.std.specs.List.{slice_get}
 use Rattle.std.specs.List.Sorted.{IsStrictlySortedBy}
 use Rattle.std.proofs.lemmas.Bool.{false_from_ne_true}
 use Rattle.bag_text.specs.Alg.{rank_cmp}
-use Rattle.bag_text.specs.declared.alg.Alg.{Alg}
+use Rattle.bag_words.specs.declared.alg.Alg.{Alg}
 use Rattle.bag_tree.specs.Bag.{IsBag, files_of, has_file, has_folder}
 use Rattle.bag_tree.specs.Tree.{TreeState, Keeps}
 use Rattle.bag_write.specs.Element.{NewElement}

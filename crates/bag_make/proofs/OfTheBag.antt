@@ -15,8 +15,8 @@ use Rattle.bag_tree.specs.declared.listing.Listing.{Listing}
 use Rattle.bag_tree.proofs.ListingLaw.{listings_are_of_the_bag}
 use Rattle.bag_tree.proofs.SameText.{text_itself}
 use Rattle.bag_facts.proofs.Mapped.{contains_mapped}
-use Rattle.bag_write_tree.specs.Steps.{is_within}
-use Rattle.bag_write_tree.proofs.Within.{itself_within, under_within}
+use Rattle.bag_tree.specs.Moved.{is_within}
+use Rattle.bag_tree.proofs.Within.{itself_within, under_within}
 use Rattle.bag_made.specs.Made.{File, data_folder}
 use Rattle.bag_make.specs.Plan.{is_in_the_way, in_order, tops, listed_tops, has_new, steps_for, new_file}
 use Rattle.bag_make.specs.Steps.{new_folder, IsStep}

@@ -12,8 +12,9 @@ use Rattle.bag_text.proofs.ListOf.{contains_cases, contains_nothing}
 use Rattle.bag_line.proofs.PickedOut.{any_from}
 use Rattle.bag_tree.specs.Bag.{Bag, HasFile, file, files_of}
 use Rattle.bag_tree.proofs.Parents.{first-under}
-use Rattle.bag_write_tree.specs.Steps.{Files, is_within, renamed, moved, move_in}
-use Rattle.bag_write_tree.proofs.Within.{IsWithin, within_cases, itself_within, under_within, not_within, goes_itself, goes_under, stays}
+use Rattle.bag_write_tree.specs.Steps.{Files, move_in}
+use Rattle.bag_tree.specs.Moved.{is_within, renamed, moved}
+use Rattle.bag_tree.proofs.Within.{IsWithin, within_cases, itself_within, under_within, not_within, goes_itself, goes_under, stays}
 use Rattle.bag_made.specs.Made.{data_folder}
 use Rattle.bag_made.proofs.Held.{content_of, found, has_listed, one_file}
 use Rattle.bag_make.specs.Plan.{is_in_the_way}

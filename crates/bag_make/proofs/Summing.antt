@@ -5,7 +5,7 @@ use Rattle.std.proofs.lemmas.List.{map-append, take_all, take-map}
 use Rattle.std.proofs.lemmas.List.Elements.{All-nil, All-cons, All-append, All-contains}
 use Rattle.std.proofs.lemmas.Option.{slice_get_read, slice_get-map, slice_get_within}
 use Rattle.bag_text.specs.Path.{under}
-use Rattle.bag_text.specs.declared.alg.Alg.{Alg}
+use Rattle.bag_words.specs.declared.alg.Alg.{Alg}
 use Rattle.bag_text.proofs.ListOf.{contains_first}
 use Rattle.bag_tree.specs.Bag.{file}
 use Rattle.bag_tree.specs.Tree.{TreeState, CameFromTree, IsEntryOf, Keeps, OpensAtMost}

@@ -3,7 +3,7 @@ use Rattle.std.specs.Prelude.{ℕ, ◌≡◌, ◌≢◌, ◌⊎◌, ◌<◌, ◌
 use Rattle.std.specs.List.{list_any}
 use Rattle.std.specs.List.Sorted.{IsStrictlySortedBy}
 use Rattle.bag_text.specs.Alg.{rank_cmp}
-use Rattle.bag_text.specs.declared.alg.Alg.{Alg}
+use Rattle.bag_words.specs.declared.alg.Alg.{Alg}
 use Rattle.bag_tree.specs.Bag.{Bag, files_of, has_folder}
 use Rattle.bag_tree.specs.Tree.{TreeState, Keeps}
 use Rattle.bag_tree.specs.declared.fault.TreeFault.{TreeFault}

@@ -1,7 +1,7 @@
 -- Files with their digests.
 use Rattle.std.specs.Prelude.{ℕ, ◌≡◌, ◌++◌, IsTrue, List, [], ◌∷◌, Option, Some, None, All, length, map, take}
 use Rattle.bag_text.specs.Path.{under}
-use Rattle.bag_text.specs.declared.alg.Alg.{Alg}
+use Rattle.bag_words.specs.declared.alg.Alg.{Alg}
 use Rattle.bag_tree.specs.Bag.{file}
 use Rattle.bag_tree.specs.Tree.{TreeState}
 use Rattle.bag_tree.specs.declared.listing.FileEntry.{FileEntry}

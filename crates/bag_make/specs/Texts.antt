@@ -1,6 +1,6 @@
 -- The tag files that are made of listed files, and of digests.
 use Rattle.std.specs.Prelude.{List, [], ◌∷◌, ◌++◌, length, map, sum_by}
-use Rattle.bag_text.specs.declared.alg.Alg.{Alg}
+use Rattle.bag_words.specs.declared.alg.Alg.{Alg}
 use Rattle.bag_line.specs.declared.oxum.Oxum.{Oxum}
 use Rattle.bag_tags.specs.TagName.{tag_path}
 use Rattle.bag_tags.specs.declared.kind.Kind.{Kind}

@@ -3,7 +3,7 @@ ghost use Rattle.std.specs.Prelude.{◌≡◌};
 ghost use Rattle.std.specs.List.{list_any};
 ghost use Rattle.bag_tree.specs.Bag.{Bag};
 ghost use Rattle.bag_tree.specs.Listing.{IsListingOf, IsOrdered};
-ghost use Rattle.bag_write_tree.specs.Steps.{is_within};
+ghost use Rattle.bag_tree.specs.Moved.{is_within};
 ghost use Rattle.bag_make.specs.Plan as plan;
 ghost use Rattle.bag_make.specs.Steps.{new_folder};
 

@@ -2,7 +2,7 @@
 use Rattle.std.specs.Prelude.{ℕ, ◌≡◌, ◌⊎◌, Bool, IsTrue, List, [], Option, if◌then◌else◌}
 use Rattle.std.specs.Io.KnownBytes.{Appends}
 use Rattle.std.specs.declared.result.Result.TheVariants.{Ok}
-use Rattle.bag_text.specs.declared.alg.Alg.{Alg}
+use Rattle.bag_words.specs.declared.alg.Alg.{Alg}
 use Rattle.bag_tree.specs.Bag.{Bag}
 use Rattle.bag_tree.specs.Tree.{TreeState}
 use Rattle.bag_write.specs.Element.{NewElement}

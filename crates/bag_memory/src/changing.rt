@@ -5,6 +5,7 @@ ghost use Rattle.std.specs.FinSet as set;
 ghost use Rattle.bag_text.specs.Path.{under};
 ghost use Rattle.bag_memory.specs.Memory.{bag_of, file_map, folder_set};
 ghost use Rattle.bag_memory.specs.Changing.{IsChangeFault};
+ghost use Rattle.bag_tree.specs.Moved as moving;
 ghost use Rattle.bag_write_tree.specs.Steps as step;
 
 use crate::file_map::{copy_of, insert_file};
@@ -84,7 +85,7 @@ pub(crate) fn move_below(
     top: &str,
     folder: &str,
 ) -> Result<(), TreeFault>
-    ensures files { OnOk result (file_map files.new.entries ≡ step.moved top.now (under folder.now top.now) (file_map files.old.entries)) }
+    ensures files { OnOk result (file_map files.new.entries ≡ moving.moved top.now (under folder.now top.now) (file_map files.old.entries)) }
     ensures folders { OnOk result (folder_set folders.new.keys ≡ set.remove (folder_set folders.old.keys) top.now) }
     ensures there { OnOk result (step.lacks_source (bag_of files.old.entries folders.old.keys) top.now folder.now ≡ false) }
     ensures free { OnOk result (step.has_within (bag_of files.old.entries folders.old.keys) (under folder.now top.now) ≡ false) }
@@ -114,7 +115,7 @@ pub(crate) fn rename_folder(
     from: &str,
     to: &str,
 ) -> Result<(), TreeFault>
-    ensures files { OnOk result (file_map files.new.entries ≡ step.moved from.now to.now (file_map files.old.entries)) }
+    ensures files { OnOk result (file_map files.new.entries ≡ moving.moved from.now to.now (file_map files.old.entries)) }
     ensures folders { OnOk result (folder_set folders.new.keys ≡ set.remove (set.insert (folder_set folders.old.keys) to.now) from.now) }
     ensures there { OnOk result (step.lacks_folder (bag_of files.old.entries folders.old.keys) from.now ≡ false) }
     ensures free { OnOk result (step.is_taken (bag_of files.old.entries folders.old.keys) to.now ≡ false) }

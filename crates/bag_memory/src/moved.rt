@@ -4,7 +4,7 @@ ghost use Rattle.std.specs.FinMap.{entries};
 ghost use Rattle.std.specs.List.{list_any};
 ghost use Rattle.bag_text.specs.Path.{under};
 ghost use Rattle.bag_memory.specs.Memory.{file_map};
-ghost use Rattle.bag_write_tree.specs.Steps as step;
+ghost use Rattle.bag_tree.specs.Moved as moving;
 
 use crate::file_map::{copy_of, insert_file};
 use bag_text::{Items, Text};
@@ -24,7 +24,7 @@ pub(crate) fn joined(alloc: Global, folder: &str, name: &str) -> Result<Text, Al
 
 /// Whether a file stands at a path or below it.
 pub(crate) fn has_within(files: &BTreeMap<Text, Items<u8>>, top: &str) -> bool
-    ensures { result ≡ list_any (λ e. step.is_within top.now e.0) (entries (file_map files.now.entries)) }
+    ensures { result ≡ list_any (λ e. moving.is_within top.now e.0) (entries (file_map files.now.entries)) }
 {
     for (path, _) in files.iter() {
         if rest_within(top, path.as_str()).is_some() {
@@ -41,7 +41,7 @@ pub(crate) fn moved(
     from: &str,
     to: &str,
 ) -> Result<BTreeMap<Text, Items<u8>>, AllocError>
-    ensures { IfOk result (λ moved. file_map moved.entries ≡ step.moved from.now to.now (file_map files.now.entries)) }
+    ensures { IfOk result (λ moved. file_map moved.entries ≡ moving.moved from.now to.now (file_map files.now.entries)) }
 {
     let mut moved = BTreeMap::new(alloc);
     for (path, bytes) in files.iter() {
@@ -53,7 +53,7 @@ pub(crate) fn moved(
 
 /// The path of what stood at a path, when `from` has become `to`.
 fn renamed(alloc: Global, from: &str, to: &str, path: &str) -> Result<Text, AllocError>
-    ensures { IfOk result (λ place. place ≡ step.renamed from.now to.now path.now) }
+    ensures { IfOk result (λ place. place ≡ moving.renamed from.now to.now path.now) }
 {
     let Some(rest) = rest_within(from, path) else {
         return Text::from_str(alloc, path);

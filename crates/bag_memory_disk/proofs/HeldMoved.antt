@@ -14,9 +14,9 @@ use Rattle.std.proofs.Math.Dec.{T}
 use Rattle.std.proofs.lemmas.Bool.{and_from}
 use Rattle.bag_text.specs.Text.{text_cmp}
 use Rattle.bag_tree.proofs.SameText.{exact_texts}
-use Rattle.bag_disk.specs.WritableDisk.{KeepsOthers, moved, with_renamed}
+use Rattle.bag_tree.specs.Moved.{KeepsOthers, moved, with_renamed}
 use Rattle.bag_disk.specs.Disk.{Nodes, node}
-use Rattle.bag_disk.proofs.Moving.{moves_all}
+use Rattle.bag_disk.proofs.Moving.{nodes_move}
 use Rattle.bag_memory_disk.specs.Held.{Held, entries_of, nodes_of}
 use Rattle.bag_memory_disk.specs.Placing.{PassesAsDisk}
 use Rattle.bag_memory_disk.specs.PlacingLaw.{passing_is_disk}
@@ -42,4 +42,4 @@ held_moved held from to new up is = is ∙ ap (with_renamed from to fin.empty) (
 
 -- what stands neither at nor below the two paths of a move to a free place is as before
 pub others_stay : (nodes new : Nodes) (from to : List ℕ) → PassesAsDisk nodes → node nodes to ≡ None → new ≡ moved from to nodes → KeepsOthers nodes new from to
-others_stay nodes new from to passes free is path off outside = ap (λ n. node n path) is ∙ (moves_all nodes from to (passing_is_disk nodes passes) free).others path off outside
+others_stay nodes new from to passes free is path off outside = ap (λ n. node n path) is ∙ (nodes_move nodes from to (passing_is_disk nodes passes) free).others path off outside

@@ -1,7 +1,7 @@
 -- When a disk in memory refuses a change.
 use Rattle.std.specs.Prelude.{ℕ, ◌≡◌, ◌⊎◌, List, Option, None, Some}
 use Rattle.bag_disk.specs.Disk.{Nodes, Has, IsDisk, IsReached, node, bytes_of}
-use Rattle.bag_disk.specs.WritableDisk.{moved}
+use Rattle.bag_tree.specs.Moved.{moved}
 use Rattle.bag_disk.specs.declared.disk.DiskFault.{DiskFault}
 use Rattle.bag_disk.specs.declared.disk.DiskFault.TheVariants.{NotFound, Exists, Name, Memory, Device}
 

@@ -2,8 +2,8 @@
 ghost use Rattle.std.specs.Prelude.{◌≡◌, ◌∷◌, ◌++◌, [], IfErr, IfOk, None, OnErr, OnOk, Some};
 ghost use Rattle.std.specs.FinMap as map;
 ghost use Rattle.bag_text.specs.Path.{slash};
+ghost use Rattle.bag_tree.specs.Moved as moving;
 ghost use Rattle.bag_disk.specs.Disk.{IsDisk, IsReached, node};
-ghost use Rattle.bag_disk.specs.WritableDisk as changed;
 ghost use Rattle.bag_disk.specs.WritableDisk.{Appends, Moves};
 ghost use Rattle.bag_memory_disk.specs.Changing.{MayRefuseAdding, MayRefuseMoving, MayRefuseWriting};
 ghost use Rattle.bag_memory_disk.specs.Held.{node_of, nodes_of};
@@ -102,7 +102,7 @@ fn moved(
     from: &[u8],
     to: &[u8],
 ) -> Result<BTreeMap<Vec<u8>, Node>, AllocError>
-    ensures { IfOk result (λ moved. nodes_of moved.entries ≡ changed.moved from.now to.now (nodes_of nodes.now.entries)) }
+    ensures { IfOk result (λ moved. nodes_of moved.entries ≡ moving.moved from.now to.now (nodes_of nodes.now.entries)) }
 {
     let mut front = from.to_vec(alloc)?;
     front.push(SLASH)?;
@@ -123,7 +123,7 @@ fn renamed(
     path: &[u8],
 ) -> Result<Vec<u8>, AllocError>
     requires { front.now ≡ from.now ++ slash ∷ [] }
-    ensures { IfOk result (λ place. place.items ≡ changed.renamed from.now to.now path.now) }
+    ensures { IfOk result (λ place. place.items ≡ moving.renamed from.now to.now path.now) }
 {
     if path != from && !path.starts_with(front) {
         return path.to_vec(alloc);

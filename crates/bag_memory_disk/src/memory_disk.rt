@@ -275,7 +275,8 @@ impl WritableDisk for MemoryDisk {
     ghost use Rattle.std.specs.Prelude.{◌≡◌, ◌≤◌, IfErr, IfOk, IsErrOf, IsOk, IsTrue, List, None, OnErr, OnOk, Some, is_some, length, take, ℕ};
     ghost use Rattle.bag_text.specs.Path.{is_path};
     ghost use Rattle.bag_disk.specs.Disk.{Has, IsReached, OnlyLooks, node};
-    ghost use Rattle.bag_disk.specs.WritableDisk.{Appends, Closes, HasFile, KeepsOthers, MakesFile, MakesFolder, Moves};
+    ghost use Rattle.bag_disk.specs.WritableDisk.{Appends, Closes, HasFile, MakesFile, MakesFolder, Moves};
+    ghost use Rattle.bag_tree.specs.Moved.{KeepsOthers};
     ghost use Rattle.bag_disk.specs.declared.disk.DiskFault.TheVariants.{Exists, Name, NotFound};
     ghost use Rattle.bag_memory_disk.specs.Changing.{MayRefuseAdding, MayRefuseMoving, MayRefuseWriting};
     ghost use Rattle.bag_memory_disk.specs.MemoryDisk.{barred_of, state_of, written_of};

@@ -2,7 +2,7 @@
 use Rattle.std.proofs.Common.{◌≡◌, ◌≢◌, inl, inr, ℕ, zero, suc, List, [], Option, Bool, true, arith, ap, sym, ◌∙◌, subst}
 use Rattle.bag_text.specs.Code.{stage}
 use Rattle.bag_text.specs.Order.{IsListOf}
-use Rattle.bag_text.specs.declared.code.Code.TheVariants.{NameClash}
+use Rattle.bag_words.specs.declared.code.Code.TheVariants.{NameClash}
 use Rattle.bag_text.proofs.ListOf.{nothing_listed, same_members}
 use Rattle.bag_tree.specs.Bag.{Bag}
 use Rattle.bag_fault.specs.FaultOrder.{fault_cmp}

@@ -2,8 +2,8 @@
 use Rattle.std.proofs.Common.{◌≡◌, ℕ, List, [], ◌∷◌, Option, None, Some, true, false, map, refl, ap, sym, ◌∙◌, subst, is_some}
 use Rattle.bag_text.specs.Code.{stage}
 use Rattle.bag_text.specs.Order.{IsListOf}
-use Rattle.bag_text.specs.declared.code.Code.{Code}
-use Rattle.bag_text.specs.declared.code.Code.TheVariants.{NoDeclaration, DeclarationNotUtf8, DeclarationLineCount, DeclarationLine, VersionUnsupported, EncodingUnsupported}
+use Rattle.bag_words.specs.declared.code.Code.{Code}
+use Rattle.bag_words.specs.declared.code.Code.TheVariants.{NoDeclaration, DeclarationNotUtf8, DeclarationLineCount, DeclarationLine, VersionUnsupported, EncodingUnsupported}
 use Rattle.bag_text.proofs.ListOf.{one_listed, same_members}
 use Rattle.bag_tree.specs.Bag.{Bag, file}
 use Rattle.bag_declaration.specs.declared.declaration.Declaration.{Declaration}

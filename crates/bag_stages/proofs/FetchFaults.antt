@@ -9,11 +9,11 @@ use Rattle.bag_text.specs.Code.{stage}
 use Rattle.bag_text.specs.Lines.{lines_of_file}
 use Rattle.bag_text.specs.Order.{IsListOf}
 use Rattle.bag_text.specs.Text.{text_cmp, IsNoText}
-use Rattle.bag_text.specs.declared.alg.Alg.{Alg}
-use Rattle.bag_text.specs.declared.alg.Alg.TheVariants.{Md5}
-use Rattle.bag_text.specs.declared.code.Code.{Code}
-use Rattle.bag_text.specs.declared.code.Code.TheVariants.{NotUtf8, FetchLine, FetchEscape, FetchUnsafePath, FetchOutsidePayload, FetchNotInManifest}
-use Rattle.bag_text.proofs.AlgSets.{each_is_listed, list_ascends}
+use Rattle.bag_words.specs.declared.alg.Alg.{Alg}
+use Rattle.bag_words.specs.declared.alg.Alg.TheVariants.{Md5}
+use Rattle.bag_words.specs.declared.code.Code.{Code}
+use Rattle.bag_words.specs.declared.code.Code.TheVariants.{NotUtf8, FetchLine, FetchEscape, FetchUnsafePath, FetchOutsidePayload, FetchNotInManifest}
+use Rattle.bag_words.proofs.AlgSets.{each_is_listed, list_ascends}
 use Rattle.bag_text.proofs.ListOf.{contains_cases, contains_nothing, joined, nothing_listed, one_listed, same_members}
 use Rattle.bag_line.specs.Fetch.{IsFetch, FetchFault, IsFetchFault}
 use Rattle.bag_line.specs.LineFault.{AreFaults, not_utf8}

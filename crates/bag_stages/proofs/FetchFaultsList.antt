@@ -3,7 +3,7 @@ use Rattle.std.proofs.Common.{◌≡◌, ◌⊎◌, ℕ, List, Bool, true, false
 use Rattle.std.specs.List.{enumerate_from}
 use Rattle.std.specs.Str.{is_utf8}
 use Rattle.bag_text.specs.Lines.{lines_of_file}
-use Rattle.bag_text.specs.declared.alg.Alg.{Alg}
+use Rattle.bag_words.specs.declared.alg.Alg.{Alg}
 use Rattle.bag_line.specs.FetchVerdict.{entries, faults}
 use Rattle.bag_line.specs.declared.fault.LineFault.{LineFault}
 use Rattle.bag_line.specs.declared.fetch.FetchEntry.{FetchEntry}

@@ -9,7 +9,7 @@ use Rattle.std.specs.Str.{is_utf8}
 use Rattle.std.proofs.lemmas.Map.Views.{Contains-from_any, list_any-from_Contains}
 use Rattle.bag_text.specs.Lines.{lines_of_file}
 use Rattle.bag_text.specs.Text.{text_cmp}
-use Rattle.bag_text.specs.declared.alg.Alg.{Alg}
+use Rattle.bag_words.specs.declared.alg.Alg.{Alg}
 use Rattle.bag_tags.specs.Judged.{judged_and_marked, fault_of}
 use Rattle.bag_line.specs.LineFault.{AreFaults, not_utf8}
 use Rattle.bag_tags.specs.Manifest.{IsManifestFault}

@@ -10,9 +10,9 @@ use Rattle.bag_text.specs.Text.{text_cmp}
 use Rattle.bag_text.specs.Alg.{name, alg_named}
 use Rattle.bag_text.specs.Code.{stage}
 use Rattle.bag_text.specs.Order.{IsListOf}
-use Rattle.bag_text.specs.declared.alg.Alg.{Alg}
-use Rattle.bag_text.specs.declared.code.Code.{Code}
-use Rattle.bag_text.specs.declared.code.Code.TheVariants.{NoPayloadFolder, NoPayloadManifest, AlgorithmUnsupported, NotUtf8}
+use Rattle.bag_words.specs.declared.alg.Alg.{Alg}
+use Rattle.bag_words.specs.declared.code.Code.{Code}
+use Rattle.bag_words.specs.declared.code.Code.TheVariants.{NoPayloadFolder, NoPayloadManifest, AlgorithmUnsupported, NotUtf8}
 use Rattle.bag_text.proofs.ListOf.{nothing_listed, one_listed, joined, same_members}
 use Rattle.bag_tree.specs.Bag.{Bag, file, HasFile, has_folder}
 use Rattle.bag_tree.specs.Listing.{IsOrdered}

@@ -4,7 +4,7 @@ use Rattle.std.specs.Ordering.{on}
 use Rattle.bag_text.specs.Lines.{lines_of_file}
 use Rattle.bag_text.specs.Order.{IsListOf}
 use Rattle.bag_text.specs.Text.{text_cmp}
-use Rattle.bag_text.specs.declared.alg.Alg.{Alg}
+use Rattle.bag_words.specs.declared.alg.Alg.{Alg}
 use Rattle.bag_text.proofs.ListOf.{contains_nothing}
 use Rattle.bag_tags.specs.Manifest.{IsEntry}
 use Rattle.bag_tags.specs.declared.kind.Kind.{Kind}

@@ -1,7 +1,7 @@
 -- Where a fault stands: its fields beside its code.
 use Rattle.std.specs.Prelude.{ℕ, ◌≡◌, List, [], Option, Some, None}
-use Rattle.bag_text.specs.declared.alg.Alg.{Alg}
-use Rattle.bag_text.specs.declared.code.Code.{Code}
+use Rattle.bag_words.specs.declared.alg.Alg.{Alg}
+use Rattle.bag_words.specs.declared.code.Code.{Code}
 use Rattle.bag_line.specs.declared.fault.LineFault.{LineFault}
 use Rattle.bag_tree.specs.Bag.{Bag, file}
 use Rattle.bag_fault.specs.declared.fault.Fault.{Fault}

@@ -1,9 +1,9 @@
 -- Stage 4: what is a fault of the list of files to fetch (RFC 8493, 2.2.3).
 use Rattle.std.specs.Prelude.{ℕ, ◌≡◌, List, None, Some}
 use Rattle.bag_text.specs.Code.{stage}
-use Rattle.bag_text.specs.declared.alg.Alg.{Alg}
-use Rattle.bag_text.specs.declared.code.Code.{Code}
-use Rattle.bag_text.specs.declared.code.Code.TheVariants.{FetchLine, FetchEscape, FetchUnsafePath, FetchOutsidePayload, FetchNotInManifest}
+use Rattle.bag_words.specs.declared.alg.Alg.{Alg}
+use Rattle.bag_words.specs.declared.code.Code.{Code}
+use Rattle.bag_words.specs.declared.code.Code.TheVariants.{FetchLine, FetchEscape, FetchUnsafePath, FetchOutsidePayload, FetchNotInManifest}
 use Rattle.bag_line.specs.Fetch.{IsFetch, IsFetchFault}
 use Rattle.bag_line.specs.declared.fetch.FetchEntry.{FetchEntry}
 use Rattle.bag_tags.specs.TagName.{tag_path}

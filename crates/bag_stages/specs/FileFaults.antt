@@ -1,7 +1,7 @@
 -- The faults of a bag's parts, one listed file at a time.
 use Rattle.std.specs.Prelude.{ℕ, ◌≡◌, ◌⊎◌, true, false, List, [], Some, None, Contains}
 use Rattle.bag_text.specs.Alg.{alg_named}
-use Rattle.bag_text.specs.declared.code.Code.TheVariants.{AlgorithmUnsupported, NotUtf8}
+use Rattle.bag_words.specs.declared.code.Code.TheVariants.{AlgorithmUnsupported, NotUtf8}
 use Rattle.bag_tags.specs.ManifestName.{manifest_name, is_alg_text}
 use Rattle.bag_tags.specs.TagName.{tag_path}
 use Rattle.bag_tags.specs.declared.kind.Kind.{Kind}

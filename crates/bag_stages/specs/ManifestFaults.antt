@@ -1,8 +1,8 @@
 -- The faults of manifests, one manifest at a time.
 use Rattle.std.specs.Prelude.{ℕ, ◌≡◌, ◌⊎◌, true, List, Some, Contains}
 use Rattle.bag_text.specs.Code.{stage}
-use Rattle.bag_text.specs.declared.alg.Alg.{Alg}
-use Rattle.bag_text.specs.declared.code.Code.TheVariants.{PayloadManifestNotListed}
+use Rattle.bag_words.specs.declared.alg.Alg.{Alg}
+use Rattle.bag_words.specs.declared.code.Code.TheVariants.{PayloadManifestNotListed}
 use Rattle.bag_tags.specs.Manifest.{IsManifestFault}
 use Rattle.bag_tags.specs.ManifestName.{manifest_name, is_alg_text}
 use Rattle.bag_tags.specs.declared.kind.Kind.{Kind}

@@ -3,7 +3,7 @@ ghost use Rattle.std.specs.Prelude.{◌≡◌, ◌≢◌, ◌∷◌, ◌++◌, �
 ghost use Rattle.std.specs.List.Sorted.{IsStrictlySortedBy};
 ghost use Rattle.bag_text.specs.Order.{IsListOf, IsOnly};
 ghost use Rattle.bag_text.specs.Text.{text_cmp};
-ghost use Rattle.bag_text.specs.declared.code.Code.TheVariants.{NoPayloadFolder, NoPayloadManifest};
+ghost use Rattle.bag_words.specs.declared.code.Code.TheVariants.{NoPayloadFolder, NoPayloadManifest};
 ghost use Rattle.bag_tags.specs.ManifestName.{is_alg_text, manifest_name};
 ghost use Rattle.bag_tags.specs.declared.kind.Kind.{Kind};
 ghost use Rattle.bag_tree.specs.Bag.{Bag};

@@ -13,6 +13,7 @@ pub use Rattle.bag_digest.specs.Hasher
 pub use Rattle.bag_tree.specs.Heard
 pub use Rattle.bag_test_trees.specs.KthCall
 pub use Rattle.bag_tree.specs.Listing
+pub use Rattle.bag_tree.specs.Moved
 pub use Rattle.bag_disk.specs.Location
 pub use Rattle.bag_memory.specs.Memory
 pub use Rattle.bag_memory.specs.MemoryLaw
@@ -22,7 +23,6 @@ pub use Rattle.bag_test_trees.specs.Refusals
 pub use Rattle.bag_test_trees.specs.SkewTree
 pub use Rattle.bag_test_trees.specs.Skewed
 pub use Rattle.bag_write_tree.specs.Steps
-pub use Rattle.bag_write_tree.specs.StepsLaw
 pub use Rattle.bag_digest.specs.Sums
 pub use Rattle.bag_disk.specs.SystemDisk
 pub use Rattle.bag_tree.specs.Tree

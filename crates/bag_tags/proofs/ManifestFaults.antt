@@ -7,9 +7,9 @@ use Rattle.std.specs.Ordering.{nat_cmp, on}
 use Rattle.bag_text.specs.Lines.{IsLine, lines_of_file}
 use Rattle.bag_text.specs.Text.{IsText, IsNoText}
 use Rattle.bag_text.specs.Order.{IsListOf}
-use Rattle.bag_text.specs.declared.alg.Alg.{Alg}
-use Rattle.bag_text.specs.declared.code.Code.{Code}
-use Rattle.bag_text.specs.declared.code.Code.TheVariants.{NotUtf8, NamedAgain}
+use Rattle.bag_words.specs.declared.alg.Alg.{Alg}
+use Rattle.bag_words.specs.declared.code.Code.{Code}
+use Rattle.bag_words.specs.declared.code.Code.TheVariants.{NotUtf8, NamedAgain}
 use Rattle.bag_text.proofs.ListOf.{nothing_listed, one_listed}
 use Rattle.bag_tags.specs.declared.kind.Kind.{Kind}
 use Rattle.bag_line.specs.declared.fault.LineFault.{LineFault}

@@ -7,7 +7,7 @@ use Rattle.std.proofs.lemmas.Slice.Eq.{bytes_eq-Decides}
 use Rattle.bag_text.specs.Lines.{IsLine}
 use Rattle.bag_text.specs.Text.{is_blank_line}
 use Rattle.bag_text.specs.Order.{IsListOf}
-use Rattle.bag_text.specs.declared.alg.Alg.{Alg}
+use Rattle.bag_words.specs.declared.alg.Alg.{Alg}
 use Rattle.bag_text.proofs.ListOf.{contains_cases, contains_first, contains_behind, contains_nothing, nothing_listed, joined, only_listed, only_from_some, same_members}
 use Rattle.bag_text.proofs.Numbered.{numbered_is_line, line_is_numbered}
 use Rattle.bag_tags.specs.declared.kind.Kind.{Kind}

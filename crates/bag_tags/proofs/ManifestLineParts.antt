@@ -9,8 +9,8 @@ use Rattle.bag_text.specs.Alg.{hex_len}
 use Rattle.bag_text.specs.Path.{is_path, is_payload_path}
 use Rattle.bag_text.specs.Spelling.{unescaped}
 use Rattle.bag_text.specs.Text.{is_blank_line, before_blank, after_blanks, without_prefix}
-use Rattle.bag_text.specs.declared.alg.Alg.{Alg}
-use Rattle.bag_text.specs.declared.code.Code.TheVariants.{ManifestLine, DigestLength, ManifestOutsidePayload, ManifestUnsafePath, TagmanifestNamesPayload, TagmanifestNamesTagmanifest}
+use Rattle.bag_words.specs.declared.alg.Alg.{Alg}
+use Rattle.bag_words.specs.declared.code.Code.TheVariants.{ManifestLine, DigestLength, ManifestOutsidePayload, ManifestUnsafePath, TagmanifestNamesPayload, TagmanifestNamesTagmanifest}
 use Rattle.bag_text.proofs.SpellingLaws.{spellings}
 use Rattle.bag_tags.specs.declared.kind.Kind.{Kind}
 use Rattle.bag_tags.specs.declared.kind.Kind.TheVariants.{Payload, Tag}

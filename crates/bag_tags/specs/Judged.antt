@@ -4,8 +4,8 @@ use Rattle.std.specs.List.{list_any, enumerate_from}
 use Rattle.std.specs.Option.{option_to_list}
 use Rattle.bag_text.specs.Spelling.{unescaped}
 use Rattle.bag_text.specs.Text.{is_blank_line}
-use Rattle.bag_text.specs.declared.alg.Alg.{Alg}
-use Rattle.bag_text.specs.declared.code.Code.TheVariants.{NamedAgain}
+use Rattle.bag_words.specs.declared.alg.Alg.{Alg}
+use Rattle.bag_words.specs.declared.code.Code.TheVariants.{NamedAgain}
 use Rattle.bag_line.specs.Reason.{Reason, ◌>>=◌}
 use Rattle.bag_tags.specs.Manifest.{decoded_or, named_path, manifest_line}
 use Rattle.bag_tags.specs.declared.kind.Kind.{Kind}

@@ -7,7 +7,7 @@ use Rattle.bag_text.specs.Alg.{hex_len}
 use Rattle.bag_text.specs.Path.{is_path, is_payload_path}
 use Rattle.bag_text.specs.Spelling.{Spells}
 use Rattle.bag_text.specs.Text.{is_blank_line}
-use Rattle.bag_text.specs.declared.alg.Alg.{Alg}
+use Rattle.bag_words.specs.declared.alg.Alg.{Alg}
 use Rattle.bag_line.specs.LineParts.{IsCut, IsWithout}
 use Rattle.bag_line.specs.Reason.{Reason}
 use Rattle.bag_tags.specs.Manifest.{Reads, HasReason}

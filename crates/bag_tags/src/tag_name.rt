@@ -1,7 +1,7 @@
 //! The tag files that the checks read, by their names.
 ghost use Rattle.std.specs.Prelude.{◌≡◌, ◌≢◌, IfOk, IsTrue, MatchOption, Some, slice_get};
 ghost use Rattle.std.specs.Str.{byte};
-ghost use Rattle.bag_text.specs.declared.alg.Alg.{Alg};
+ghost use Rattle.bag_words.specs.declared.alg.Alg.{Alg};
 ghost use Rattle.bag_tags.specs.TagName.{tag_path};
 ghost use Rattle.bag_tags.specs.declared.tag_name.TagName.{TagName};
 ghost use Rattle.bag_tags.specs.declared.tag_name.TagName.TheVariants.{Manifest};

@@ -1,6 +1,4 @@
-pub mod AlgSets
 pub mod Blanks
-pub mod Codes
 pub mod FirstByte
 pub mod FirstLine
 pub mod LineLaws

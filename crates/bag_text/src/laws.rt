@@ -1,25 +1,9 @@
 //! Laws of the definitions, each the contract of a function that does nothing.
-ghost use Rattle.std.specs.Prelude.{◌≡◌};
-ghost use Rattle.bag_text.specs.Alg.{EachIsListed, ListAscends, NameIsReadAgain, NamesTellApart, RanksTellApart, algs};
 ghost use Rattle.bag_text.specs.Lines.{LinesAreTheOnlyCut};
 ghost use Rattle.bag_text.specs.Path.{PathsAreJoinedComponents};
 ghost use Rattle.bag_text.specs.Spelling.{EscapedIsReadAgain, UnescapedIsSpelled};
 
-use crate::Alg;
-
-/// The list of all algorithms has each of them once, in the order of their ranks.
-pub fn lists_all_algs()
-    ensures value { Alg.ALL ≡ algs }
-    ensures each { EachIsListed }
-    ensures ascending { ListAscends }
-{}
-
-/// A name names its algorithm, and no two algorithms have one name or one rank.
-pub fn tells_algs_apart()
-    ensures again { NameIsReadAgain }
-    ensures by_name { NamesTellApart }
-    ensures by_rank { RanksTellApart }
-{}
+pub use bag_words::laws::{lists_all_algs, tells_algs_apart};
 
 /// A text is cut into its lines, and into no others.
 pub fn lines_are_the_only_cut()

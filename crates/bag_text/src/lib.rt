@@ -1,4 +1,4 @@
-//! Texts, lines, paths, algorithms and fault codes of bags.
+//! Texts, lines and paths of bags.
 //!
 //! ```
 //! for (number, line) in lines(text_of(&bytes)?) {
@@ -7,15 +7,12 @@
 //! }
 //! ```
 //!
-//! Of RFC 8493 it keeps how lines of tag files end (2.3), what a path is (2.1.2, 5.1), how manifests spell it (2.1.3), and
-//! the algorithms (2.4). Texts and lists that own their memory are in `bag_owned`.
+//! Of RFC 8493 it keeps how lines of tag files end (2.3), what a path is (2.1.2, 5.1), and how manifests spell it (2.1.3).
+//! Texts and lists that own their memory are in `bag_owned`, algorithms and fault codes in `bag_words`.
 #![tactic(auto)]
 
-mod alg;
-mod alg_set;
 mod blank;
 mod byte_search;
-mod code;
 mod label;
 pub mod laws;
 mod line_cut;
@@ -24,11 +21,9 @@ mod read_text;
 mod sort_key;
 mod spelling;
 
-pub use alg::Alg;
-pub use alg_set::AlgSet;
 pub use bag_owned::{Items, Text};
+pub use bag_words::{Alg, AlgSet, Code};
 pub use blank::{is_blank, is_blank_line, split_at_blanks, trim};
-pub use code::Code;
 pub use label::same_label;
 pub use line_cut::Lines;
 pub use path::{Unsafe, check_path, is_payload};

@@ -1,6 +1,6 @@
 -- Payload manifests name payload files, and tag manifests other files.
 use Rattle.std.proofs.Common.{◌≡◌, ℕ, List, refl, subst}
-use Rattle.bag_text.specs.declared.alg.Alg.{Alg}
+use Rattle.bag_words.specs.declared.alg.Alg.{Alg}
 use Rattle.bag_tags.specs.Manifest.{IsEntry}
 use Rattle.bag_tags.specs.ManifestLine.{MayName}
 use Rattle.bag_tags.specs.declared.kind.Kind.{Kind}

@@ -8,8 +8,8 @@ use Rattle.bag_text.specs.Alg.{algs, rank_cmp}
 use Rattle.bag_text.specs.Code.{stage}
 use Rattle.bag_text.specs.Order.{IsListOf, IsOnly}
 use Rattle.bag_text.specs.Text.{text_cmp}
-use Rattle.bag_text.specs.declared.alg.Alg.{Alg}
-use Rattle.bag_text.proofs.AlgSets.{each_is_listed, list_ascends}
+use Rattle.bag_words.specs.declared.alg.Alg.{Alg}
+use Rattle.bag_words.proofs.AlgSets.{each_is_listed, list_ascends}
 use Rattle.bag_text.proofs.ListOf.{nothing_listed, only_listed, same_members}
 use Rattle.bag_tags.specs.Manifest.{IsEntry}
 use Rattle.bag_tags.specs.declared.kind.Kind.{Kind}

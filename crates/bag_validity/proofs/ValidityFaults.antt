@@ -1,9 +1,9 @@
 -- The faults of validity.
 use Rattle.std.proofs.Common.{◌≡◌, ◌≢◌, ℕ, List, Some, refl, sym, subst}
 use Rattle.bag_text.specs.Code.{stage}
-use Rattle.bag_text.specs.declared.alg.Alg.{Alg}
-use Rattle.bag_text.specs.declared.code.Code.{Code}
-use Rattle.bag_text.specs.declared.code.Code.TheVariants.{PayloadSumDiffers, TagSumDiffers}
+use Rattle.bag_words.specs.declared.alg.Alg.{Alg}
+use Rattle.bag_words.specs.declared.code.Code.{Code}
+use Rattle.bag_words.specs.declared.code.Code.TheVariants.{PayloadSumDiffers, TagSumDiffers}
 use Rattle.bag_tags.specs.declared.kind.Kind.{Kind}
 use Rattle.bag_tags.specs.declared.kind.Kind.TheVariants.{Payload, Tag}
 use Rattle.bag_tags.specs.declared.manifest.ManifestEntry.{ManifestEntry}

@@ -3,7 +3,7 @@ use Rattle.std.proofs.Common.{◌≡◌, ◌≢◌, inl, inr, ℕ, List, [], Boo
 use Rattle.std.specs.Str.{is_utf8}
 use Rattle.std.proofs.lemmas.Slice.Eq.{bytes_eq-Decides}
 use Rattle.bag_text.specs.Lines.{lines_of_file}
-use Rattle.bag_text.specs.declared.alg.Alg.{Alg}
+use Rattle.bag_words.specs.declared.alg.Alg.{Alg}
 use Rattle.bag_tags.specs.Judged.{entry_of, judged_and_marked}
 use Rattle.bag_tags.specs.Manifest.{IsEntry}
 use Rattle.bag_tags.specs.declared.kind.Kind.{Kind}

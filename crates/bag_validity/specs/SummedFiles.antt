@@ -1,7 +1,7 @@
 -- The files whose digests are compared (RFC 8493, 2.1.3, 2.2.1 and 3).
 use Rattle.std.specs.Prelude.{ℕ, ◌≡◌, List, Option, Contains, if◌then◌else◌}
 use Rattle.bag_text.specs.Path.{is_payload_path}
-use Rattle.bag_text.specs.declared.alg.Alg.{Alg}
+use Rattle.bag_words.specs.declared.alg.Alg.{Alg}
 use Rattle.bag_tags.specs.declared.kind.Kind.{Kind}
 use Rattle.bag_tags.specs.declared.kind.Kind.TheVariants.{Payload, Tag}
 use Rattle.bag_tree.specs.Bag.{Bag, HasFile}

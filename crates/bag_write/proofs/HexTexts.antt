@@ -8,8 +8,8 @@ use Rattle.std.proofs.lemmas.Str.{IsUtf8-from_ascii}
 use Rattle.bag_text.specs.Alg.{hex_len}
 use Rattle.bag_text.specs.LineEnd.{is_line_end}
 use Rattle.bag_text.specs.Text.{is_blank, has_mark}
-use Rattle.bag_text.specs.declared.alg.Alg.{Alg}
-use Rattle.bag_text.specs.declared.alg.Alg.TheVariants.{Md5}
+use Rattle.bag_words.specs.declared.alg.Alg.{Alg}
+use Rattle.bag_words.specs.declared.alg.Alg.TheVariants.{Md5}
 use Rattle.bag_line.proofs.LineParts.{or_false, not_false}
 use Rattle.bag_line.proofs.PickedOut.{both_true}
 use Rattle.bag_write.specs.Entry.{is_lower_hex_digit, is_bad_digest}

@@ -4,8 +4,8 @@ use Rattle.std.specs.List.{AllByRecursion, list_any}
 use Rattle.std.proofs.lemmas.List.Elements.{recursion_from_All}
 use Rattle.bag_text.specs.Lines.{lines_of_file, IsLine}
 use Rattle.bag_text.specs.Text.{IsText, is_blank_line}
-use Rattle.bag_text.specs.declared.code.Code.{Code}
-use Rattle.bag_text.specs.declared.code.Code.TheVariants.{NotUtf8, InfoLine}
+use Rattle.bag_words.specs.declared.code.Code.{Code}
+use Rattle.bag_words.specs.declared.code.Code.TheVariants.{NotUtf8, InfoLine}
 use Rattle.bag_line.specs.Info.{begins_element, begins_with_blank, continuations, split, value_of_parts, InfoFault, IsElement}
 use Rattle.bag_line.specs.declared.fault.LineFault.{LineFault}
 use Rattle.bag_line.specs.declared.info.Element.{Element}

@@ -9,7 +9,7 @@ use Rattle.bag_text.specs.LineEnd.{is_line_end}
 use Rattle.bag_text.specs.Path.{is_path, is_payload_path, first_component, components}
 use Rattle.bag_text.specs.Spelling.{escape}
 use Rattle.bag_text.specs.Text.{IsText, has_mark}
-use Rattle.bag_text.specs.declared.alg.Alg.{Alg}
+use Rattle.bag_words.specs.declared.alg.Alg.{Alg}
 use Rattle.bag_text.proofs.SpellingLaws.{spellings, read_again}
 use Rattle.bag_line.specs.LineParts.{IsCut}
 use Rattle.bag_line.proofs.LineParts.{or_false, not_false, not_true}

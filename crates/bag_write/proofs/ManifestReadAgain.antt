@@ -8,9 +8,9 @@ use Rattle.std.proofs.lemmas.Option.{slice_get-map}
 use Rattle.std.proofs.lemmas.Slice.Eq.{bytes_eq-Decides}
 use Rattle.bag_text.specs.Lines.{lines_of_file, IsLine}
 use Rattle.bag_text.specs.Text.{IsText}
-use Rattle.bag_text.specs.declared.alg.Alg.{Alg}
-use Rattle.bag_text.specs.declared.code.Code.{Code}
-use Rattle.bag_text.specs.declared.code.Code.TheVariants.{NotUtf8, NamedAgain}
+use Rattle.bag_words.specs.declared.alg.Alg.{Alg}
+use Rattle.bag_words.specs.declared.code.Code.{Code}
+use Rattle.bag_words.specs.declared.code.Code.TheVariants.{NotUtf8, NamedAgain}
 use Rattle.bag_text.proofs.ListOf.{contains_cases, contains_nothing}
 use Rattle.bag_line.specs.Reason.{Reason}
 use Rattle.bag_line.specs.declared.fault.LineFault.{LineFault}

@@ -1,31 +1,15 @@
 -- The changes of a tree, as functions on bags.
-use Rattle.std.specs.Prelude.{ℕ, ◌||◌, ◌&&◌, not, Bool, List, [], ◌∷◌, ◌++◌, fold, bytes_eq, nat_eq, if◌then◌else◌, length, drop}
-use Rattle.std.specs.List.{starts_with, list_any}
+use Rattle.std.specs.Prelude.{ℕ, ◌||◌, ◌&&◌, not, Bool, List}
+use Rattle.std.specs.List.{list_any}
 use Rattle.std.specs.FinMap as map
 use Rattle.std.specs.FinSet as set
-use Rattle.bag_text.specs.Text.{text_cmp}
-use Rattle.bag_text.specs.Path.{slash, under}
+use Rattle.bag_text.specs.Path.{under}
 use Rattle.bag_tree.specs.Bag.{Bag, files_of, has_file, has_folder}
-
--- whether a path is this one, or below it
-abbrev pub is_within : List ℕ → List ℕ → Bool
-is_within top path = bytes_eq path top || starts_with nat_eq path (top ++ slash ∷ [])
-
--- the path of what stood at a path, when `from` has become `to`
-abbrev pub renamed : List ℕ → List ℕ → List ℕ → List ℕ
-renamed from to path = if is_within from path then to ++ drop (length from) path else path
+use Rattle.bag_tree.specs.Moved.{ByPath, is_within, moved}
 
 -- files by their paths
 abbrev pub Files : Type 0
-Files = map.FinMap text_cmp (List ℕ)
-
--- the files, with these put at the paths that they have when `from` has become `to`
-abbrev pub with_renamed : List ℕ → List ℕ → Files → List (List ℕ × List ℕ) → Files
-with_renamed from to files entries = fold (λ files e. map.insert files (renamed from to e.0) e.1) files entries
-
--- the files when `from` has become `to`, with all that is below it
-abbrev pub moved : List ℕ → List ℕ → Files → Files
-moved from to files = with_renamed from to map.empty (map.entries files)
+Files = ByPath (List ℕ)
 
 -- the bag with a folder in its base folder
 abbrev pub make_folder : List ℕ → Bag → Bag

@@ -2,11 +2,11 @@
 ghost use Rattle.std.specs.Prelude.{◌≡◌, ◌≢◌, ◌⊎◌, ◌++◌, [], ◌∷◌, ℕ, List, MatchBool, MatchOption, true, false, nat_eq};
 ghost use Rattle.std.specs.List.{starts_with};
 ghost use Rattle.bag_text.specs.Path.{slash};
-ghost use Rattle.bag_write_tree.specs.Steps as step;
+ghost use Rattle.bag_tree.specs.Moved as moving;
 
 /// What follows a path in one that is the same or below it: nothing, or a `/` and more.
 pub fn rest_within<'a>(top: &str, path: &'a str) -> Option<&'a str>
-    ensures { MatchOption result (step.is_within top.now path.now ≡ false) (λ rest. (step.is_within top.now path.now ≡ true) × (path.now ≡ top.now ++ rest.now)) }
+    ensures { MatchOption result (moving.is_within top.now path.now ≡ false) (λ rest. (moving.is_within top.now path.now ≡ true) × (path.now ≡ top.now ++ rest.now)) }
 {
     let Some(rest) = behind(top, path) else {
         return None;

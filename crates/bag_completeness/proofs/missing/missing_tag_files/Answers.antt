@@ -1,5 +1,5 @@
 use Rattle.bag_tags.specs.declared.kind.Kind.TheVariants.{Tag}
-use Rattle.bag_text.specs.declared.alg.Alg.TheVariants.{Md5}
+use Rattle.bag_words.specs.declared.alg.Alg.TheVariants.{Md5}
 use Rattle.bag_completeness.specs.CompletenessFaults.{IsMissing}
 use Rattle.bag_completeness.proofs.EachOnce.{all_algs, no_alg_yet, once_listed, one_alg_more}
 use Rattle.bag_completeness.proofs.MissingFaults.{told}

@@ -1,4 +1,4 @@
-use Rattle.bag_text.specs.declared.alg.Alg.TheVariants.{Md5}
+use Rattle.bag_words.specs.declared.alg.Alg.TheVariants.{Md5}
 use Rattle.bag_completeness.specs.Names.{texts_of}
 use Rattle.bag_completeness.proofs.PayloadNames.{all_names, files_first, one_manifest_more}
 use Rattle.bag_completeness.proofs.names.payload_names.Goals as goal

@@ -1,4 +1,4 @@
-use Rattle.bag_text.specs.declared.alg.Alg.TheVariants.{Md5}
+use Rattle.bag_words.specs.declared.alg.Alg.TheVariants.{Md5}
 use Rattle.bag_completeness.specs.CompletenessFaults.{IsWrong}
 use Rattle.bag_completeness.proofs.EachOnce.{all_algs, no_alg_yet, one_alg_more}
 use Rattle.bag_completeness.proofs.PayloadNamed.{told}

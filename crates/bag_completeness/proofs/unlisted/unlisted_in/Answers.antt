@@ -1,5 +1,5 @@
 use Rattle.std.proofs.Common.{◌≡◌, ◌↔◌, false, true, sym, ◌∙◌, Contains, IsTrue}
-use Rattle.bag_text.specs.declared.code.Code.TheVariants.{PayloadFileNotListed}
+use Rattle.bag_words.specs.declared.code.Code.TheVariants.{PayloadFileNotListed}
 use Rattle.bag_facts.specs.TagFacts.{entry_paths}
 use Rattle.bag_facts.proofs.ByPath.{items_ascend, paths_ascend}
 use Rattle.bag_completeness.specs.CompletenessFaults.{IsUnlistedPath}

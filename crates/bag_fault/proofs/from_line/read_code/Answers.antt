@@ -2,7 +2,7 @@ use Rattle.std.proofs.Common.{◌≡◌, ◌≢◌, ℕ, Option, Some, None, Ok,
 use Rattle.std.specs.Prelude.{MatchOption}
 use Rattle.std.specs.Option.{ok_or}
 use Rattle.std.proofs.lemmas.Fmt.{parse-decimal}
-use Rattle.bag_text.specs.declared.code.Code.{Code}
+use Rattle.bag_words.specs.declared.code.Code.{Code}
 use Rattle.bag_text.specs.Code.{number}
 use Rattle.bag_fault.specs.declared.from_line.CursorFault.TheVariants.{NotALine}
 use Rattle.bag_fault.proofs.Codes.{small_number, same_code}

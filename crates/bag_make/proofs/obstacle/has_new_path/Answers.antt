@@ -1,7 +1,7 @@
 use Rattle.std.proofs.Common.{Bool, sym, ap, ◌∙◌}
 use Rattle.std.proofs.lemmas.List.Folds.{list_any_at}
 use Rattle.bag_tree.specs.declared.listing.FileEntry.{FileEntry}
-use Rattle.bag_write_tree.specs.Steps.{is_within}
+use Rattle.bag_tree.specs.Moved.{is_within}
 use Rattle.bag_make.specs.Steps.{new_folder}
 use Rattle.bag_make.proofs.obstacle.has_new_path.Goals as goal
 

@@ -1,6 +1,6 @@
 use Rattle.std.proofs.Common.{◌≡◌, false, take}
 use Rattle.std.specs.List.{list_any}
-use Rattle.bag_write_tree.specs.Steps.{is_within}
+use Rattle.bag_tree.specs.Moved.{is_within}
 use Rattle.bag_make.specs.Steps.{new_folder}
 use Rattle.bag_make.proofs.obstacle.has_new_path.Given as goal
 

@@ -1,7 +1,7 @@
 use Rattle.std.proofs.Common.{ap, ◌∙◌}
 use Rattle.std.specs.List.{list_any}
 use Rattle.bag_tree.specs.declared.listing.FileEntry.{FileEntry}
-use Rattle.bag_write_tree.specs.Steps.{is_within}
+use Rattle.bag_tree.specs.Moved.{is_within}
 use Rattle.bag_make.specs.Steps.{new_folder}
 use Rattle.bag_make.proofs.OfTheBag.{has_new_is}
 use Rattle.bag_make.proofs.obstacle.is_in_the_way.Goals as goal

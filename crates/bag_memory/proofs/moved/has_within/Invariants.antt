@@ -1,6 +1,6 @@
 use Rattle.std.proofs.Common.{◌≡◌}
 use Rattle.std.specs.List.{list_any}
-use Rattle.bag_write_tree.specs.Steps.{is_within}
+use Rattle.bag_tree.specs.Moved.{is_within}
 use Rattle.bag_memory.proofs.moved.has_within.Given as goal
 
 abbrev pub invariant-loop-path : goal.invariant-loop-path

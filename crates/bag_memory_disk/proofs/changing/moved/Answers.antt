@@ -1,6 +1,6 @@
 use Rattle.std.proofs.Common.{◌≡◌, rules}
 use Rattle.std.specs.FinMap as map
-use Rattle.bag_disk.specs.WritableDisk.{with_renamed}
+use Rattle.bag_tree.specs.Moved.{with_renamed}
 use Rattle.bag_memory_disk.specs.Held.{entries_of, nodes_of}
 use Rattle.bag_memory_disk.proofs.HeldMoved.{held_moved}
 use Rattle.bag_memory_disk.proofs.changing.moved.Goals as goal

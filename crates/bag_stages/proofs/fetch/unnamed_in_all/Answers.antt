@@ -1,6 +1,6 @@
 use Rattle.std.proofs.Common.{subst}
 use Rattle.bag_text.specs.Alg.{algs}
-use Rattle.bag_text.specs.declared.alg.Alg.TheVariants.{Md5}
+use Rattle.bag_words.specs.declared.alg.Alg.TheVariants.{Md5}
 use Rattle.bag_text.specs.Order.{IsListOf}
 use Rattle.bag_fault.specs.FaultOrder.{fault_cmp}
 use Rattle.bag_stages.specs.FetchFaults.{IsNotInManifest}

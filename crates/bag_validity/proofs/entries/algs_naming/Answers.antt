@@ -1,7 +1,7 @@
 use Rattle.std.proofs.Common.{◌≡◌, ◌↔◌, false, true, ap, sym, ◌∙◌, subst, get_or, IsTrue}
 use Rattle.bag_text.specs.Alg.{algs}
-use Rattle.bag_text.specs.declared.alg.Alg.{Alg}
-use Rattle.bag_text.specs.declared.alg.Alg.TheVariants.{Md5}
+use Rattle.bag_words.specs.declared.alg.Alg.{Alg}
+use Rattle.bag_words.specs.declared.alg.Alg.TheVariants.{Md5}
 use Rattle.bag_tags.specs.declared.kind.Kind.{Kind}
 use Rattle.bag_facts.proofs.AlgsOf.{all_algs, one_alg_more, one_alg_other}
 use Rattle.bag_stages.specs.TagFiles.{Names}

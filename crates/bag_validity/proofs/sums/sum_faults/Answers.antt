@@ -1,7 +1,7 @@
 use Rattle.std.proofs.Common.{◌∙◌, Some, ap, get_or, subst}
 use Rattle.bag_text.specs.Alg.{algs}
 use Rattle.bag_text.specs.Order.{IsOnly}
-use Rattle.bag_text.specs.declared.alg.Alg.TheVariants.{Md5}
+use Rattle.bag_words.specs.declared.alg.Alg.TheVariants.{Md5}
 use Rattle.bag_stages.proofs.ByItem.{no_items}
 use Rattle.bag_validity.specs.SumFaults.{IsOfAlg}
 use Rattle.bag_validity.specs.SummedFiles.{kind_of}

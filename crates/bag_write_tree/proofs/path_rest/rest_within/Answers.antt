@@ -1,4 +1,4 @@
-use Rattle.bag_write_tree.proofs.Within.{within_after, not_after, not_in_front}
+use Rattle.bag_tree.proofs.Within.{within_after, not_after, not_in_front}
 use Rattle.bag_write_tree.proofs.path_rest.rest_within.Goals as goal
 
 pub returns-in_default : goal.returns-in_default

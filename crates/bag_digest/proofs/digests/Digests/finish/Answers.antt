@@ -1,6 +1,6 @@
 use Rattle.std.proofs.Common.{◌-◌, None}
 use Rattle.bag_text.specs.Alg.{rank}
-use Rattle.bag_text.proofs.AlgSets.{rank_within}
+use Rattle.bag_words.proofs.AlgSets.{rank_within}
 use Rattle.bag_digest.proofs.SumsOf.{sums_of_hashes}
 use Rattle.bag_digest.proofs.digests.Digests.finish.Goals as goal
 

@@ -1,6 +1,6 @@
 use Rattle.std.proofs.Common.{rules, arith, ◌<◌}
 use Rattle.std.proofs.lemmas.List.Elements.{All-append, All-from_get_or}
-use Rattle.bag_text.proofs.AlgSets.{rank_within}
+use Rattle.bag_words.proofs.AlgSets.{rank_within}
 use Rattle.bag_digest.proofs.Updates.{one_more}
 use Rattle.bag_digest.proofs.digests.Digests.update.Goals as goal
 

@@ -1,7 +1,7 @@
 use Rattle.std.proofs.Common.{◌≡◌, None, arith}
 use Rattle.std.proofs.lemmas.Grind.{common_steps}
 use Rattle.bag_disk.specs.Disk.{node}
-use Rattle.bag_disk.specs.WritableDisk.{moved}
+use Rattle.bag_tree.specs.Moved.{moved}
 use Rattle.bag_memory_disk.specs.Held.{nodes_of}
 use Rattle.bag_memory_disk.proofs.HeldMoved.{others_stay}
 use Rattle.bag_memory_disk.proofs.Placed.{disk_passes}

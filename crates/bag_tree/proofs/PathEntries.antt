@@ -1,0 +1,26 @@
+-- The entries of what stands at paths, in their order.
+use Rattle.std.proofs.Common.{◌≡◌, ℕ, Bool, true, false, cond, List, [], ◌∷◌, Some, None, refl, ap, ◌∙◌}
+use Rattle.std.proofs.lemmas.Bool.{and_parts}
+use Rattle.std.proofs.Math.Dec.{T}
+use Rattle.std.specs.FinMap.{find}
+use Rattle.std.specs.FinMap.Entries.{below_all}
+use Rattle.std.specs.Ordering.{is_lt, is_eq}
+use Rattle.std.specs.declared.cmp.Ordering.{Ordering}
+use Rattle.std.specs.declared.cmp.Ordering.TheVariants.{Less, Equal, Greater}
+use Rattle.bag_text.specs.Text.{text_cmp}
+
+pub t_true : (b : Bool) → T b → b ≡ true
+t_true true h = refl
+t_true false h = absurd h
+
+less_differs : (o : Ordering) → is_lt o ≡ true → is_eq o ≡ false
+less_differs Less e = refl
+less_differs Equal e = cc
+less_differs Greater e = cc
+
+-- nothing is found at a path that is below all others
+pub none_below : {V : Type 0} (k : List ℕ) (es : List (List ℕ × V)) → below_all text_cmp k es ≡ true → find text_cmp k es ≡ None
+none_below k [] h = refl
+none_below k (e ∷ es) h =
+    let parts = and_parts _ _ h in
+    ap (λ b. cond b (Some e.1) (find text_cmp k es)) (less_differs (text_cmp k e.0) parts.0) ∙ none_below k es parts.1

@@ -1,0 +1,82 @@
+-- What is at a path or below it, and where it goes.
+use Rattle.std.proofs.Common.{◌≡◌, ℕ, ◌||◌, List, [], ◌∷◌, ◌++◌, append_assoc, length, drop, cond, true, false, nat_eq, ◌⊎◌, inl, inr, refl, ap, sym, ◌∙◌}
+use Rattle.std.proofs.lemmas.Bool.{or_left, or_right}
+use Rattle.std.proofs.lemmas.Bool.Decides.{Decides-eqb}
+use Rattle.std.proofs.lemmas.List.Prefix.{front_rest}
+use Rattle.std.proofs.lemmas.Slice.Eq.{starts_is}
+use Rattle.std.specs.List.{starts_with}
+use Rattle.std.specs.Str.{bytes_eq}
+use Rattle.bag_text.specs.Path.{slash, under}
+use Rattle.bag_tree.proofs.SameText.{one_text, text_itself, same_test}
+use Rattle.bag_tree.specs.Moved.{is_within, renamed}
+
+pub prefix_test : (p t : List ℕ) → (starts_with nat_eq t p ≡ true → t ≡ p ++ drop (length p) t) × ((rest : List ℕ) → t ≡ p ++ rest → starts_with nat_eq t p ≡ true)
+prefix_test p t = starts_is Decides-eqb t p (starts_with nat_eq t p) refl
+
+-- what is within a path is at it, or below it
+abbrev pub IsWithin : List ℕ → List ℕ → Type 0
+IsWithin top k = (k ≡ top) ⊎ ((rest : List ℕ) × (k ≡ under top rest))
+
+pub within_cases : (top k : List ℕ) → is_within top k ≡ true → IsWithin top k
+within_cases top k is = elim (bytes_eq k top) as (λ b. bytes_eq k top ≡ b → (b || starts_with nat_eq k (top ++ slash ∷ [])) ≡ true → IsWithin top k) [
+  | true ↦ λ same _. inl (sym (one_text top k (sym (same_test k top) ∙ same)))
+  | false ↦ λ _ below. inr (drop (length (top ++ slash ∷ [])) k, (prefix_test (top ++ slash ∷ []) k).0 below ∙ append_assoc top (slash ∷ []) (drop (length (top ++ slash ∷ [])) k))
+] refl is
+
+pub itself_within : (top : List ℕ) → is_within top top ≡ true
+itself_within top = or_left (bytes_eq top top) _ (same_test top top ∙ text_itself top)
+
+pub under_within : (top rest : List ℕ) → is_within top (under top rest) ≡ true
+under_within top rest = or_right (bytes_eq (under top rest) top) _ ((prefix_test (top ++ slash ∷ []) (under top rest)).1 rest (sym (append_assoc top (slash ∷ []) rest)))
+
+pub not_within : (top k : List ℕ) → (IsWithin top k → ⊥) → is_within top k ≡ false
+not_within top k none = elim (is_within top k) as (λ b. is_within top k ≡ b → b ≡ false) [
+  | true ↦ λ is. absurd (none (within_cases top k is))
+  | false ↦ λ _. refl
+] refl
+
+no_rest : (top : List ℕ) → drop (length top) top ≡ []
+no_rest [] = refl
+no_rest (c ∷ top) = no_rest top
+
+pub nil_append : (top : List ℕ) → top ++ [] ≡ top
+nil_append [] = refl
+nil_append (c ∷ top) = ap (λ t. c ∷ t) (nil_append top)
+
+-- where it goes
+pub goes_itself : (from to : List ℕ) → renamed from to from ≡ to
+goes_itself from to = ap (λ b. cond b (to ++ drop (length from) from) from) (itself_within from) ∙ ap (λ t. to ++ t) (no_rest from) ∙ nil_append to
+
+pub goes_under : (from to rest : List ℕ) → renamed from to (under from rest) ≡ under to rest
+goes_under from to rest =
+    ap (λ b. cond b (to ++ drop (length from) (under from rest)) (under from rest)) (under_within from rest)
+    ∙ ap (λ t. to ++ t) (front_rest (under from rest) from (slash ∷ rest) refl)
+
+pub stays : (from to k : List ℕ) → is_within from k ≡ false → renamed from to k ≡ k
+stays from to k outside = ap (λ b. cond b (to ++ drop (length from) k) k) outside
+
+-- what follows a path in one that is within it
+pub goes_after : (from to k rest : List ℕ) → is_within from k ≡ true → k ≡ from ++ rest → renamed from to k ≡ to ++ rest
+goes_after from to k rest within parts = ap (λ b. cond b (to ++ drop (length from) k) k) within ∙ ap (λ t. to ++ t) (front_rest k from rest parts)
+
+same_front : (top r s : List ℕ) → top ++ r ≡ top ++ s → r ≡ s
+same_front top r s e = sym (front_rest (top ++ r) top r refl) ∙ ap (drop (length top)) e ∙ front_rest (top ++ s) top s refl
+
+-- what follows it is nothing, or begins with a slash
+pub within_after : (top k rest : List ℕ) → k ≡ top ++ rest → (rest ≡ []) ⊎ (starts_with nat_eq rest (slash ∷ []) ≡ true) → is_within top k ≡ true
+within_after top k rest parts (inl none) = ap (is_within top) (parts ∙ ap (λ r. top ++ r) none ∙ nil_append top) ∙ itself_within top
+within_after top k rest parts (inr marked) =
+    ap (is_within top) (parts ∙ ap (λ r. top ++ r) ((prefix_test (slash ∷ []) rest).0 marked)) ∙ under_within top (drop 1 rest)
+
+pub not_after : (top k rest : List ℕ) → k ≡ top ++ rest → (rest ≡ [] → ⊥) → (starts_with nat_eq rest (slash ∷ []) ≡ true → ⊥) → is_within top k ≡ false
+not_after top k rest parts some unmarked = not_within top k (λ is. elim is [
+  | inl itself ↦ some (same_front top rest [] (sym parts ∙ itself ∙ sym (nil_append top)))
+  | inr below ↦ unmarked ((prefix_test (slash ∷ []) rest).1 below.0 (same_front top rest (slash ∷ below.0) (sym parts ∙ below.1)))
+])
+
+-- nothing is within what isn't in front of it
+pub not_in_front : (top k : List ℕ) → ((rest : List ℕ) → k ≡ top ++ rest → ⊥) → is_within top k ≡ false
+not_in_front top k none = not_within top k (λ is. elim is [
+  | inl itself ↦ none [] (itself ∙ sym (nil_append top))
+  | inr below ↦ none (slash ∷ below.0) below.1
+])

@@ -1,0 +1,2 @@
+pub mod AlgSets
+pub mod Codes

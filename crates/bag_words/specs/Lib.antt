@@ -1,0 +1,5 @@
+pub mod Alg
+pub mod AlgList
+pub mod AlgSet
+pub mod AlgTable
+pub mod Code
