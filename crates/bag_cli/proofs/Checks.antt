@@ -1,6 +1,6 @@
 -- Checks and their statuses.
 use Rattle.std.proofs.Common.{◌≡◌, inl, inr, ◌≤◌, ◌∷◌, ◌++◌, [], Bool, ℕ, List, Option, refl, sym, subst, arith}
-use Rattle.std.specs.Prelude.{MatchOption, MatchResult}
+use Rattle.std.specs.Prelude.{IfSome, MatchOption, MatchResult}
 use Rattle.std.specs.declared.result.Result.{Result}
 use Rattle.std.specs.declared.result.Result.TheVariants.{Ok, Err}
 use Rattle.bag_tree.specs.Tree.{TreeState}
@@ -61,6 +61,19 @@ status_in (Stopped n) = omega arith
 status_in (Rest n) = omega arith
 status_in (Unread n stop) = omega arith
 status_in (Unwritten n) = omega arith
+
+-- what the status says of a check is one
+pub next_status : {E : Type 0} (checked : Result Outcome E) (next : Option ℕ) → next ≡ whole_status checked → IfSome next (λ n. n ≤ 3)
+next_status checked next is = subst (λ next. IfSome next (λ n. n ≤ 3)) (sym is) (whole_in checked)
+  where
+    whole_in : {E : Type 0} (checked : Result Outcome E) → IfSome (whole_status checked) (λ n. n ≤ 3)
+    whole_in (Ok Clean) = omega arith
+    whole_in (Ok (Faults n)) = omega arith
+    whole_in (Ok (Stopped n)) = omega arith
+    whole_in (Ok (Rest n)) = omega arith
+    whole_in (Ok (Unread n stop)) = omega arith
+    whole_in (Ok (Unwritten n)) = tt
+    whole_in (Err e) = tt
 
 -- a whole check has a status
 pub whole_status_in : (plan : Plan) (profile : Option Profile) (tree_of : List ℕ → TreeState) (name : List ℕ) (before after : Option (List ℕ)) (visits : List Event) (n : ℕ)

@@ -11,38 +11,32 @@ use Rattle.bag_making.specs.MakingLine.{status}
 use Rattle.bag_arguments.specs.declared.plan.Plan.{Plan}
 use Rattle.bag_disks.specs.Visits.{Event, Entered, Left}
 use Rattle.bag_cli.specs.Checked.{visit_of}
-use Rattle.bag_cli.specs.InTurn.{HasVisited, Last, Whole}
+use Rattle.bag_cli.specs.InTurn.{HasVisited}
 use Rattle.bag_cli.specs.Makings.{AreMakingsOf, IsLastMaking, IsTold, IsWholeMaking, element_of}
 use Rattle.bag_cli.proofs.Turns.{added, turns_status}
 
--- a making of the tree with the plan's elements, which was given for the folder, and left as the making leaves it
+-- a making of the tree that was given for the folder, which was left as the making leaves it
 pub visited_making : (plan : Plan) (info : List NewElement) (tree old new : TreeState) (name : List ℕ) (before after : Option (List ℕ)) (refused : Bool) (told : Result ℕ Refused) (start mid visits : List Event)
-    → mid ≡ start ++ Entered name ∷ [] → visits ≡ mid ++ Left new ∷ [] → old ≡ tree → info ≡ map element_of plan.info
+    → mid ≡ start ++ Entered name ∷ [] → visits ≡ mid ++ Left new ∷ [] → old ≡ tree
     → IsMaking name plan.algs info plan.quiet old new before after refused told
-    → HasVisited start visits (λ visits. IsTold plan tree name before after refused visits told)
-visited_making plan info tree old new name before after refused told start mid visits entered left same is making =
-    let making_with : List NewElement → Type 0 = λ info. IsMaking name plan.algs info plan.quiet old new before after refused told in
-    let making_of : TreeState → Type 0 = λ tree. IsMaking name plan.algs (map element_of plan.info) plan.quiet tree new before after refused told in
-    (visit_of name new, added start mid visits (Entered name ∷ []) (Left new ∷ []) entered left, record { new = new; visit = refl; making = subst making_of same (subst making_with is making) })
-
--- the last making of a name, and a whole one
-abbrev pub ends : Plan → (List ℕ → TreeState) → Last
-ends plan tree_of = λ name. IsLastMaking plan (tree_of name) name
-
-abbrev pub goes : Plan → (List ℕ → TreeState) → Whole
-goes plan tree_of = λ name. IsWholeMaking plan (tree_of name) name
+    → HasVisited start visits (λ visits. IsTold plan info tree name before after refused visits told)
+visited_making plan info tree old new name before after refused told start mid visits entered left same making =
+    let making_of : TreeState → Type 0 = λ tree. IsMaking name plan.algs info plan.quiet tree new before after refused told in
+    (visit_of name new, added start mid visits (Entered name ∷ []) (Left new ∷ []) entered left, record { new = new; visit = refl; making = subst making_of same making })
 
 status_in : (made : Result (Unit {0}) MakeFault) (n : ℕ) → n ≡ status made → n ≤ 3
 status_in (Ok x) n is = omega (arith, is)
 status_in (Err fault) n is = omega (arith, is)
 
--- a whole making has a status
-pub whole_status_in : (plan : Plan) (tree_of : List ℕ → TreeState) (name : List ℕ) (before after : Option (List ℕ)) (visits : List Event) (n : ℕ)
-    → IsWholeMaking plan (tree_of name) name before after visits n → n ≤ 3
-whole_status_in plan tree_of name before after visits n whole = status_in whole.1.making.made n whole.1.making.tells.0
+-- a making that was told has a status
+pub told_status : (plan : Plan) (info : List NewElement) (tree : TreeState) (name : List ℕ) (before after : Option (List ℕ)) (refused : Bool) (visits : List Event) (n : ℕ)
+    → IsTold plan info tree name before after refused visits (Ok n) → n ≤ 3
+told_status plan info tree name before after refused visits n told = status_in told.making.made n told.making.tells.0
 
 -- what makings give is a status
 pub makings_status : (plan : Plan) (tree_of : List ℕ → TreeState) (names : List (List ℕ)) (before after : Option (List ℕ)) (refused : Bool) (visits : List Event) (n : ℕ)
     → AreMakingsOf plan tree_of names before after refused visits n → n ≤ 3
 makings_status plan tree_of names before after refused visits n makings =
-    turns_status (ends plan tree_of) (goes plan tree_of) (whole_status_in plan tree_of) names before after refused visits n makings
+    let info = map element_of plan.info in
+    turns_status (λ name. IsLastMaking plan info (tree_of name) name) (λ name. IsWholeMaking plan info (tree_of name) name)
+    (λ name before after visits n whole. told_status plan info (tree_of name) name before after whole.0 visits n whole.1) names before after refused visits n makings

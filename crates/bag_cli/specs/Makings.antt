@@ -13,22 +13,23 @@ use Rattle.bag_cli.specs.InTurn.{AreInTurn}
 abbrev pub element_of : InfoItem → NewElement
 element_of item = (item.label, item.value)
 
--- The folder was made a bag by a plan, or wasn't, and that was told: of the tree that was given for it, which was left as making
--- leaves it.
-pub record IsTold (plan : Plan) (tree : TreeState) (name : List ℕ) (before after : Option (List ℕ)) (refused : Bool) (visits : List Event) (told : Result ℕ Refused) : Type 0 where
+-- The folder was made a bag by a plan and with these elements, or wasn't, and that was told: of the tree that was given for it,
+-- which was left as making leaves it.
+pub record IsTold (plan : Plan) (info : List NewElement) (tree : TreeState) (name : List ℕ) (before after : Option (List ℕ)) (refused : Bool) (visits : List Event) (told : Result ℕ Refused) : Type 0 where
   pub new : TreeState
   pub visit : visits ≡ visit_of name new
-  pub making : IsMaking name plan.algs (map element_of plan.info) plan.quiet tree new before after refused told
+  pub making : IsMaking name plan.algs info plan.quiet tree new before after refused told
 
 -- a making whose line was written, and its status
-abbrev pub IsWholeMaking : Plan → TreeState → List ℕ → Option (List ℕ) → Option (List ℕ) → List Event → ℕ → Type 0
-IsWholeMaking plan tree name before after visits n = (refused : Bool) × IsTold plan tree name before after refused visits (Ok n)
+abbrev pub IsWholeMaking : Plan → List NewElement → TreeState → List ℕ → Option (List ℕ) → Option (List ℕ) → List Event → ℕ → Type 0
+IsWholeMaking plan info tree name before after visits n = (refused : Bool) × IsTold plan info tree name before after refused visits (Ok n)
 
 -- a making that is the last: the output refused its line, or memory ran out before the folder was looked into
-abbrev pub IsLastMaking : Plan → TreeState → List ℕ → Option (List ℕ) → Option (List ℕ) → Bool → List Event → Type 0
-IsLastMaking plan tree name before after refused visits = ((refusal : Refused) × IsTold plan tree name before after refused visits (Err refusal)) ⊎ ((after ≡ before) × (visits ≡ []))
+abbrev pub IsLastMaking : Plan → List NewElement → TreeState → List ℕ → Option (List ℕ) → Option (List ℕ) → Bool → List Event → Type 0
+IsLastMaking plan info tree name before after refused visits = ((refusal : Refused) × IsTold plan info tree name before after refused visits (Err refusal)) ⊎ ((after ≡ before) × (visits ≡ []))
 
--- the makings of the folders of these names in the trees that they name, one after the other
+-- the makings of the folders of these names in the trees that they name, with the plan's elements, one after the other
 abbrev pub AreMakingsOf : Plan → (List ℕ → TreeState) → List (List ℕ) → Option (List ℕ) → Option (List ℕ) → Bool → List Event → ℕ → Type 0
 AreMakingsOf plan tree_of names before after refused visits n =
-    AreInTurn (λ name. IsLastMaking plan (tree_of name) name) (λ name. IsWholeMaking plan (tree_of name) name) names before after refused visits n
+    let info = map element_of plan.info in
+    AreInTurn (λ name. IsLastMaking plan info (tree_of name) name) (λ name. IsWholeMaking plan info (tree_of name) name) names before after refused visits n

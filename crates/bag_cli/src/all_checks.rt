@@ -1,18 +1,14 @@
 //! Checks of bags, one after the other.
-ghost use Rattle.std.specs.Prelude.{◌≡◌, MatchOption};
-ghost use Rattle.std.specs.Option.{option_copied};
-ghost use Rattle.bag_disks.specs.Folders.{disks_of, visits_of};
-ghost use Rattle.bag_file_tree.specs.FileTree.{tree_state};
-ghost use Rattle.bag_cli.specs.Checked.{AreChecksOf, IsLastCheck, IsSampleChecked, IsWholeCheck};
-ghost use Rattle.bag_cli.specs.InTurn.{HasVisited};
+ghost use Rattle.std.specs.Prelude.{◌≡◌};
+ghost use Rattle.bag_cli.specs.Checked.{IsSampleChecked};
 ghost use Rattle.bag_cli.specs.Status.{whole_status};
 
 use crate::check::{check_folder, check_sample};
+use crate::in_turn::Task;
 use crate::performing::{REFUSED, say_memory, say_refused};
 use bag_arguments::Plan;
 use bag_disks::{Disks, Folders, Visits};
 use bag_profile::Profile;
-use bag_text::Text;
 use bag_tree::Out;
 use bag_walk::{Outcome, status};
 use std::alloc::{AllocError, Global};
@@ -29,58 +25,41 @@ where
     status_of_whole(&checked, err).unwrap_or(REFUSED)
 }
 
-/// Checks the bags in folders, one after the other.
-pub(crate) fn check_all<D, O, E>(
-    alloc: Global,
-    folders: &Folders<'_, D>,
-    plan: &Plan,
-    profile: Option<&Profile>,
-    directories: &[Text],
-    visits: &mut Visits<D>,
-    out: &mut O,
-    err: &mut E,
-) -> u8
-where
-    D: Disks,
-    O: Out,
-    E: Write,
-    ensures { HasVisited (visits_of visits.old) (visits_of visits.new)
-        (λ own. AreChecksOf plan.now (option_copied profile.entry) (λ name. tree_state (D.below (disks_of folders.now) name) 0) directories.now
-        (O.taken out.old) (O.taken out.new) (O.has_refused out.new) own result) }
-{
-    let mut greatest = 0;
-    for directory in directories {
-        let name = directory.as_str();
-        match check_next(alloc, folders, plan, profile, name, visits, out, err) {
-            Some(status) => greatest = greatest.max(status),
-            None => return REFUSED,
-        }
-    }
-    greatest
+/// The checks of the bags in folders as a plan says, by a profile or without one.
+#[derive(Drop)]
+pub(crate) struct Checks<'p> {
+    pub(crate) plan: &'p Plan,
+    pub(crate) profile: Option<&'p Profile>,
 }
 
-/// Checks the bag in a folder, and says on `err` what was refused beside the report. Gives the status where the whole
-/// report was written.
-fn check_next<D, O, E>(
-    alloc: Global,
-    folders: &Folders<'_, D>,
-    plan: &Plan,
-    profile: Option<&Profile>,
-    directory: &str,
-    visits: &mut Visits<D>,
-    out: &mut O,
-    err: &mut E,
-) -> Option<u8>
-where
-    D: Disks,
-    O: Out,
-    E: Write,
-    ensures { HasVisited (visits_of visits.old) (visits_of visits.new) (λ own. MatchOption result
-        (IsLastCheck plan.now (option_copied profile.entry) (tree_state (D.below (disks_of folders.now) directory.now) 0) directory.now (O.taken out.old) (O.taken out.new) (O.has_refused out.new) own)
-        (λ status. IsWholeCheck plan.now (option_copied profile.entry) (tree_state (D.below (disks_of folders.now) directory.now) 0) directory.now (O.taken out.old) (O.taken out.new) own status)) }
-{
-    let checked = check_folder(alloc, folders, plan, profile, directory, visits, out);
-    status_of_whole(&checked, err)
+impl Task for Checks<'_> {
+    ghost use Rattle.std.specs.Option.{option_copied};
+    ghost use Rattle.bag_cli.specs.Checked.{IsLastCheck, IsWholeCheck};
+
+    ghost ends = { λ checks. IsLastCheck checks.plan.now (option_copied checks.profile) };
+
+    ghost goes = { λ checks. IsWholeCheck checks.plan.now (option_copied checks.profile) };
+
+    fn do_in<D: Disks, O: Out, E: Write>(
+        &self,
+        alloc: Global,
+        folders: &Folders<'_, D>,
+        directory: &str,
+        visits: &mut Visits<D>,
+        out: &mut O,
+        err: &mut E,
+    ) -> Option<u8> {
+        let checked = check_folder(
+            alloc,
+            folders,
+            self.plan,
+            self.profile,
+            directory,
+            visits,
+            out,
+        );
+        status_of_whole(&checked, err)
+    }
 }
 
 /// Says on `err` what was refused beside the report, and gives the status where the whole report was written.

@@ -4,7 +4,8 @@ ghost use Rattle.bag_cli.specs.Performed.{AreCheckedBy, IsChecked, lines_before}
 ghost use Rattle.bag_disks.specs.Folders.{disks_of, visits_of};
 ghost use Rattle.bag_output.specs.Write.{Writes};
 
-use crate::all_checks::check_all;
+use crate::all_checks::Checks;
+use crate::in_turn::do_in_turn;
 use crate::performing::{REFUSED, say_refused};
 use bag_arguments::Plan;
 use bag_disks::{Disks, Folders, Visits};
@@ -31,8 +32,12 @@ where
         plan.now.profile (O.taken out.old) (O.taken out.new) (O.has_refused out.new) own result) }
 {
     let Some(path) = &plan.profile else {
+        let checks = Checks {
+            plan,
+            profile: None,
+        };
         let directories = plan.directories.as_slice();
-        return check_all(alloc, folders, plan, None, directories, visits, out, err);
+        return do_in_turn(&checks, alloc, folders, directories, visits, out, err);
     };
     match read_profile(alloc, folders, path.as_str(), visits) {
         Ok(profile) => check_by(alloc, folders, plan, &profile, visits, out, err),
@@ -59,17 +64,10 @@ where
 {
     match say_unchecked(plan.quiet, profile, out) {
         Ok(()) => {
+            let profile = Some(profile);
+            let checks = Checks { plan, profile };
             let directories = plan.directories.as_slice();
-            check_all(
-                alloc,
-                folders,
-                plan,
-                Some(profile),
-                directories,
-                visits,
-                out,
-                err,
-            )
+            do_in_turn(&checks, alloc, folders, directories, visits, out, err)
         }
         Err(Refused) => {
             say_refused(err);

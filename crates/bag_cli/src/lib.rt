@@ -11,6 +11,7 @@ mod all_checks;
 mod all_makings;
 mod by_profile;
 mod check;
+mod in_turn;
 pub mod laws;
 mod performing;
 mod sample;

@@ -12,7 +12,7 @@ use Rattle.bag_cli.proofs.laws.honest_folders_are_made.Goals as goal
 
 -- a whole making with status 0
 whole : HonestFoldersAreTold → (plan : Plan) (below : List ℕ → DiskState) (name : List ℕ) (before after : Option (List ℕ)) (visits : List Event) (n : ℕ)
-    → IsTrue (below name).honest → n ≡ 0 → IsWholeMaking plan (tree_state (below name) 0) name before after visits n
+    → IsTrue (below name).honest → n ≡ 0 → IsWholeMaking plan (map element_of plan.info) (tree_state (below name) 0) name before after visits n
     → TellsMade plan (bag_of (below name).nodes) name before after visits
 whole law plan below name before after visits n honest zero_is making =
     let tree = tree_state (below name) 0 in

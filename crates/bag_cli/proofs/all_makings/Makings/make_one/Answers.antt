@@ -1,11 +1,11 @@
 use Rattle.bag_disks.specs.Folders.{disks_of, visits_of}
 use Rattle.bag_file_tree.specs.FileTree.{tree_state}
 use Rattle.bag_cli.proofs.Makings.{visited_making}
-use Rattle.bag_cli.proofs.all_makings.make_one.Goals as goal
+use Rattle.bag_cli.proofs.all_makings.Makings.make_one.Goals as goal
 
 pub returns : goal.returns
 returns g c =
     let tree = tree_state (g.D.Disks.below (disks_of c.args.folders.now) c.args.directory.now) 0 in
-    visited_making c.args.plan.now c.args.info.now tree _ _ c.args.directory.now (g.O.Out.taken c.args.out.now) (g.O.Out.taken c.make_and_tell-tree.new.out)
+    visited_making c.args.self.now.plan.now c.args.self.now.info.now tree _ _ c.args.directory.now (g.O.Out.taken c.args.out.now) (g.O.Out.taken c.make_and_tell-tree.new.out)
     (g.O.Out.has_refused c.make_and_tell-tree.new.out) c.make_and_tell-tree.result.1 (visits_of c.args.visits.now) (visits_of c.enter.new.visits) (visits_of c.leave.new.visits)
-    c.in_ok-tree.ensures.entered c.leave.ensures c.in_ok-tree.ensures.state c.requires c.make_and_tell-tree.ensures
+    c.in_ok-tree.ensures.entered c.leave.ensures c.in_ok-tree.ensures.state c.make_and_tell-tree.ensures

@@ -4,13 +4,17 @@ use Rattle.std.specs.Option.{option_copied}
 use Rattle.bag_disks.specs.Folders.{disks_of}
 use Rattle.bag_file_tree.specs.FileTree.{tree_state}
 use Rattle.bag_cli.specs.Checked.{IsLastCheck, IsWholeCheck}
-use Rattle.bag_cli.proofs.Checks.{next_check}
-use Rattle.bag_cli.proofs.all_checks.check_next.Goals as goal
+use Rattle.bag_cli.specs.Status.{whole_status}
+use Rattle.bag_cli.proofs.Checks.{next_check, next_status}
+use Rattle.bag_cli.proofs.all_checks.ChecksTask.do_in.Goals as goal
 
-pub returns : goal.returns
-returns g c =
-    let plan = c.args.plan.now in
-    let profile = option_copied c.args.profile in
+pub returns-clause-status : goal.returns-clause-status
+returns-clause-status g c = next_status c.check_folder-checked.result c.status_of_whole.result c.status_of_whole.ensures
+
+pub returns-clause-done : goal.returns-clause-done
+returns-clause-done g c =
+    let plan = c.args.self.now.plan.now in
+    let profile = option_copied c.args.self.now.profile in
     let tree = tree_state (g.D.Disks.below (disks_of c.args.folders.now) c.args.directory.now) 0 in
     let name = c.args.directory.now in
     let before = g.O.Out.taken c.args.out.now in

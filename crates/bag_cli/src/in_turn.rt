@@ -1,0 +1,69 @@
+//! What is done with folders, one after the other.
+ghost use Rattle.std.specs.Prelude.{◌≤◌, ℕ, Bool, List, Option, IfSome, MatchOption};
+ghost use Rattle.bag_tree.specs.Tree.{TreeState};
+ghost use Rattle.bag_disks.specs.Folders.{disks_of, visits_of};
+ghost use Rattle.bag_disks.specs.Visits.{Event};
+ghost use Rattle.bag_file_tree.specs.FileTree.{tree_state};
+ghost use Rattle.bag_cli.specs.InTurn.{AreInTurn, HasVisited};
+
+use crate::performing::REFUSED;
+use bag_disks::{Disks, Folders, Visits};
+use bag_text::Text;
+use bag_tree::Out;
+use std::alloc::Global;
+use std::io::Write;
+
+/// What is to be done with each of some folders.
+pub(crate) trait Task {
+    /// What was done with the tree of a folder and is the last.
+    ghost ends: { Self → TreeState → List ℕ → Option (List ℕ) → Option (List ℕ) → Bool → List Event → Type 0 };
+
+    /// What was done with the tree of a folder after which the next one comes, and its status.
+    ghost goes: { Self → TreeState → List ℕ → Option (List ℕ) → Option (List ℕ) → List Event → ℕ → Type 0 };
+
+    /// Does it with a folder, and says on `err` what was refused beside what it writes. Gives the status where all of that was
+    /// written.
+    fn do_in<D: Disks, O: Out, E: Write>(
+        &self,
+        alloc: Global,
+        folders: &Folders<'_, D>,
+        directory: &str,
+        visits: &mut Visits<D>,
+        out: &mut O,
+        err: &mut E,
+    ) -> Option<u8>
+        ensures status { IfSome result (λ status. status ≤ 3) }
+        ensures done { HasVisited (visits_of visits.old) (visits_of visits.new) (λ own. MatchOption result
+            (ends self.now (tree_state (D.below (disks_of folders.now) directory.now) 0) directory.now (O.taken out.old) (O.taken out.new) (O.has_refused out.new) own)
+            (λ status. goes self.now (tree_state (D.below (disks_of folders.now) directory.now) 0) directory.now (O.taken out.old) (O.taken out.new) own status)) };
+}
+
+/// Does a task with folders, one after the other, until one isn't written whole. Gives the greatest status.
+pub(crate) fn do_in_turn<T, D, O, E>(
+    task: &T,
+    alloc: Global,
+    folders: &Folders<'_, D>,
+    directories: &[Text],
+    visits: &mut Visits<D>,
+    out: &mut O,
+    err: &mut E,
+) -> u8
+where
+    T: Task,
+    D: Disks,
+    O: Out,
+    E: Write,
+    ensures { HasVisited (visits_of visits.old) (visits_of visits.new) (λ own. AreInTurn
+        (λ name. T.ends task.now (tree_state (D.below (disks_of folders.now) name) 0) name)
+        (λ name. T.goes task.now (tree_state (D.below (disks_of folders.now) name) 0) name)
+        directories.now (O.taken out.old) (O.taken out.new) (O.has_refused out.new) own result) }
+{
+    let mut greatest = 0;
+    for directory in directories {
+        match task.do_in(alloc, folders, directory.as_str(), visits, out, err) {
+            Some(status) => greatest = greatest.max(status),
+            None => return REFUSED,
+        }
+    }
+    greatest
+}
