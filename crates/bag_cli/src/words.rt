@@ -1,12 +1,12 @@
 //! The words that the program was started with.
-ghost use Rattle.std.specs.Prelude.{◌≡◌, ◌≢◌, ◌⊎◌, IfOk, List, Result, ⊤, codes, drop, map, string_bytes, ℕ};
+ghost use Rattle.std.specs.Prelude.{◌≡◌, IfOk, List, Result, drop, map, string_bytes, ℕ};
 ghost use Rattle.std.specs.IoError.{error_kind};
 ghost use Rattle.std.specs.declared.io.ErrorKind.TheVariants.{OutOfMemory};
 ghost use Rattle.std.specs.Vec.Iter.{into_iter_items};
 ghost use Rattle.bag_arguments.specs.Words.{texts};
 ghost use Rattle.bag_arguments.specs.declared.usage.Usage.{Usage};
-ghost use Rattle.bag_arguments.specs.declared.usage.Usage.TheVariants.{Memory, Refused};
-ghost use Rattle.bag_cli.specs.Words.{MayHaveAsked, answered};
+ghost use Rattle.bag_arguments.specs.declared.usage.Usage.TheVariants.{Memory};
+ghost use Rattle.bag_cli.specs.Words.{IsUnread, MayAnswer, MayHaveAsked, answered};
 
 use bag_arguments::Usage;
 use bag_text::Text;
@@ -25,9 +25,10 @@ pub trait Words {
         ensures { answers self.now (answered result) };
 }
 
-/// The words that a runtime was started with, of which std says nothing.
+/// The words that a runtime was started with. Std says nothing of them, and of their refusal no more than that a word isn't UTF-8 or
+/// memory ran out.
 impl<R: Env + AllocGlobal> Words for R {
-    ghost answers = { λ _ _. ⊤ };
+    ghost answers = { λ _. MayAnswer };
 
     fn words(&self) -> Result<Args, Usage> {
         match env::args(self) {
@@ -40,7 +41,7 @@ impl<R: Env + AllocGlobal> Words for R {
 /// Why there are no words: one of them isn't UTF-8, or memory ran out.
 fn usage_of(alloc: Global, error: &io::Error) -> Usage
     ensures memory { error_kind error.now ≡ OutOfMemory → result ≡ Memory }
-    ensures refused { error_kind error.now ≢ OutOfMemory → (result ≡ Refused (codes "bagit: a word isn't UTF-8\n")) ⊎ (result ≡ Memory) }
+    ensures unread { IsUnread result }
 {
     if error.kind() == ErrorKind::OutOfMemory {
         return Usage::Memory;
