@@ -13,16 +13,17 @@ use bag_tree::Out;
 use std::alloc::Global;
 use std::io::Write;
 
-/// What is to be done with each of some folders.
+/// What is done with one folder after the other.
 pub(crate) trait Task {
-    /// What was done with the tree of a folder and is the last.
+    /// What was done with the tree of a folder of this name, where that was the last: with what the output took before and after it,
+    /// whether the output has refused, and the visits.
     ghost ends: { Self → TreeState → List ℕ → Option (List ℕ) → Option (List ℕ) → Bool → List Event → Type 0 };
 
-    /// What was done with the tree of a folder after which the next one comes, and its status.
+    /// What was done with it where the next folder comes, with its status.
     ghost goes: { Self → TreeState → List ℕ → Option (List ℕ) → Option (List ℕ) → List Event → ℕ → Type 0 };
 
-    /// Does it with a folder, and says on `err` what was refused beside what it writes. Gives the status where all of that was
-    /// written.
+    /// Does it with a folder, and says on `err` what was refused beside what it writes to `out`. Gives the status where all of that
+    /// was written.
     fn do_in<D: Disks, O: Out, E: Write>(
         &self,
         alloc: Global,
@@ -38,7 +39,7 @@ pub(crate) trait Task {
             (λ status. goes self.now (tree_state (D.below (disks_of folders.now) directory.now) 0) directory.now (O.taken out.old) (O.taken out.new) own status)) };
 }
 
-/// Does a task with folders, one after the other, until one isn't written whole. Gives the greatest status.
+/// Does a task with folders, one after the other, up to the first of which not all was written. Gives the greatest status.
 pub(crate) fn do_in_turn<T, D, O, E>(
     task: &T,
     alloc: Global,
