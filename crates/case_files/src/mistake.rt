@@ -1,0 +1,79 @@
+//! What can be wrong with a case file.
+use std::alloc::{AllocError, AllocFailed};
+use std::{fmt, io};
+
+/// What is wrong with an entry of a case file, or keeps it from being followed.
+#[derive(Clone, Copy, Debug)]
+pub enum Mistake {
+    /// Memory ran out.
+    Memory,
+    /// The system refused a file or a folder of the case.
+    System,
+    /// No entry begins with the word.
+    Entry,
+    /// Lines are wanted of nothing, or of an entry that has no answer.
+    Unasked,
+    /// An escape is none, or has no end.
+    Escape,
+    /// A quoted word has no end.
+    Quote,
+    /// Bytes that are to be a text aren't UTF-8.
+    Text,
+    /// A number is wanted.
+    Number,
+    /// No text, bag, folder or file has the name.
+    Name,
+    /// No command, reader or depth has the name, or it takes other words.
+    Command,
+    /// A row has no `=>`, or no reader.
+    Row,
+    /// There is no folder to put something into, or it can't stand there.
+    Place,
+}
+
+impl Mistake {
+    /// What is told of it.
+    pub fn text(self) -> &'static str {
+        match self {
+            Mistake::Memory => "out of memory",
+            Mistake::System => "the system refuses a file or a folder",
+            Mistake::Entry => "no entry begins with this word",
+            Mistake::Unasked => "lines that are wanted of nothing",
+            Mistake::Escape => "no such escape",
+            Mistake::Quote => "a quoted word has no end",
+            Mistake::Text => "not UTF-8",
+            Mistake::Number => "a number is wanted here",
+            Mistake::Name => "nothing has this name",
+            Mistake::Command => "no command is written so",
+            Mistake::Row => "a row has a reader, and two sides with => between them",
+            Mistake::Place => "this can't stand here",
+        }
+    }
+}
+
+impl fmt::Display for Mistake {
+    fn fmt<W: fmt::Write>(&self, f: &mut fmt::Formatter<W>) -> fmt::Result {
+        f.write_str(self.text())
+    }
+}
+
+impl From<AllocError> for Mistake {
+    fn from(_: AllocError) -> Mistake {
+        Mistake::Memory
+    }
+}
+
+impl<T: Drop> From<AllocFailed<T>> for Mistake {
+    fn from(_: AllocFailed<T>) -> Mistake {
+        Mistake::Memory
+    }
+}
+
+impl From<io::Error> for Mistake {
+    fn from(error: io::Error) -> Mistake {
+        match error.kind() {
+            io::ErrorKind::OutOfMemory => Mistake::Memory,
+            _ => Mistake::System,
+        }
+    }
+}

@@ -1,0 +1,179 @@
+//! What was compared, and how it differs.
+use crate::answers::Answer;
+use crate::lines::Line;
+use crate::mistake::Mistake;
+use crate::texts::Texts;
+use std::alloc::Global;
+use std::str;
+
+/// How many cases there were, how often an answer was compared, how often it differed, and what is told of that.
+#[derive(Drop)]
+pub struct Report {
+    pub text: String,
+    pub cases: u64,
+    pub answers: u64,
+    pub differ: u64,
+}
+
+/// Where an answer is wanted: the file, the line of the entry, and the lines of what is wanted.
+#[derive(Clone, Copy)]
+pub struct Sight<'a> {
+    pub alloc: Global,
+    pub file: &'a str,
+    pub texts: &'a Texts,
+    pub line: Line<'a>,
+    pub part: &'a [Line<'a>],
+}
+
+impl Report {
+    pub fn new(alloc: Global) -> Report {
+        Report {
+            text: String::new(alloc),
+            cases: 0,
+            answers: 0,
+            differ: 0,
+        }
+    }
+
+    /// Compares an answer of one side with what is wanted.
+    pub fn see(
+        &mut self,
+        sight: Sight<'_>,
+        side: &str,
+        wanted: &Answer,
+        found: &Answer,
+    ) -> Result<(), Mistake> {
+        self.answers = self.answers.saturating_add(1);
+        if found.is_same(wanted) {
+            return Ok(());
+        }
+        self.differ = self.differ.saturating_add(1);
+        let (file, number) = (sight.file, sight.number(wanted, found)?);
+        writeln!(self.text, "{file}:{number}: {side}")?;
+        put_difference(&mut self.text, "|", &wanted.written, &found.written)?;
+        put_difference(&mut self.text, "!", &wanted.told, &found.told)?;
+        if wanted.status != found.status {
+            let (wanted, found) = (wanted.status, found.status);
+            writeln!(self.text, "- ? {wanted}\n+ ? {found}")?;
+        }
+        Ok(())
+    }
+
+    /// Adds the counts, in a line.
+    pub fn close(&mut self) -> Result<(), Mistake> {
+        let (cases, answers, differ) = (self.cases, self.answers, self.differ);
+        writeln!(
+            self.text,
+            "{cases} cases, {answers} answers, {differ} differ"
+        )?;
+        Ok(())
+    }
+}
+
+impl Sight<'_> {
+    /// The one answer that is wanted; its status is 0 where none is given.
+    pub fn wanted(&self) -> Result<Answer, Mistake> {
+        if self.part.iter().any(|line| line.word == "then") {
+            return Err(Mistake::Unasked);
+        }
+        self.texts.answer(self.alloc, self.part, 0)
+    }
+
+    /// The number of the line that says what differs: the first whose bytes aren't found, or else the entry's.
+    fn number(&self, wanted: &Answer, found: &Answer) -> Result<usize, Mistake> {
+        if wanted.written.as_slice() != found.written.as_slice() {
+            return self.number_at("|", front(&wanted.written, &found.written));
+        }
+        if wanted.told.as_slice() != found.told.as_slice() {
+            return self.number_at("!", front(&wanted.told, &found.told));
+        }
+        self.number_at("?", 0)
+    }
+
+    /// The number of the line that begins with a word and has the byte at a place.
+    fn number_at(&self, word: &str, place: usize) -> Result<usize, Mistake> {
+        let mut number = self.line.number;
+        let mut bytes = Vec::new(self.alloc);
+        for line in self.part {
+            if line.word == word && bytes.len() <= place {
+                number = line.number;
+                self.texts.add_line(line.rest, &mut bytes)?;
+            }
+        }
+        Ok(number)
+    }
+}
+
+/// How many bytes of whole lines two texts begin with alike.
+fn front(a: &[u8], b: &[u8]) -> usize {
+    let mut end = 0usize;
+    for (place, (x, y)) in a.iter().zip(b).enumerate() {
+        if *x != *y {
+            break;
+        }
+        if *x == b'\n' {
+            end = place.saturating_add(1);
+        }
+    }
+    end
+}
+
+/// How many bytes of whole lines two texts end with alike.
+fn back(a: &[u8], b: &[u8]) -> usize {
+    let mut end = 0usize;
+    for (place, (x, y)) in a.iter().rev().zip(b.iter().rev()).enumerate() {
+        if *x != *y {
+            break;
+        }
+        if *x == b'\n' {
+            end = place;
+        }
+    }
+    end
+}
+
+/// Adds the lines in which a wanted text and the one that was found differ.
+fn put_difference(
+    text: &mut String,
+    word: &str,
+    wanted: &[u8],
+    found: &[u8],
+) -> Result<(), Mistake> {
+    let start = front(wanted, found);
+    let wanted = wanted.get(start..).unwrap_or(wanted);
+    let found = found.get(start..).unwrap_or(found);
+    let end = back(wanted, found);
+    put_lines(
+        text,
+        '-',
+        word,
+        wanted.get(..wanted.len().saturating_sub(end)),
+    )?;
+    put_lines(
+        text,
+        '+',
+        word,
+        found.get(..found.len().saturating_sub(end)),
+    )
+}
+
+/// Adds lines with a mark and a word before each.
+fn put_lines(
+    text: &mut String,
+    mark: char,
+    word: &str,
+    bytes: Option<&[u8]>,
+) -> Result<(), Mistake> {
+    let bytes = bytes.unwrap_or(&[]);
+    let Ok(lines) = str::from_utf8(bytes) else {
+        writeln!(text, "{mark} {word} {bytes:?}")?;
+        return Ok(());
+    };
+    for line in lines.lines() {
+        writeln!(text, "{mark} {word} {line}")?;
+    }
+    if !lines.is_empty() && !lines.ends_with('\n') {
+        writeln!(text, "{mark} {word} (no line end)")?;
+    }
+    Ok(())
+}

@@ -1,0 +1,95 @@
+//! What tag files say.
+use bag_tags::{
+    Kind, LineFault, TagName, manifest_alg, read_declaration, read_fetch, read_info, read_manifest,
+};
+use bag_text::{Alg, Text};
+use case_files::Mistake;
+use std::alloc::Global;
+use std::io::Write;
+
+/// Each fault's code, line and detail.
+fn put_faults(faults: &[LineFault], out: &mut Vec<u8>) -> Result<(), Mistake> {
+    for fault in faults {
+        let (number, line) = (fault.code.number(), fault.line);
+        write!(out, "{number} {line} {}|", fault.detail)?;
+    }
+    Ok(())
+}
+
+fn or_none(text: &Option<Text>) -> &str {
+    match text {
+        Some(text) => text.as_str(),
+        None => "none",
+    }
+}
+
+/// What `bagit.txt` declares: the version, the encoding, and the faults.
+pub(crate) fn declaration(alloc: Global, bytes: &[u8], out: &mut Vec<u8>) -> Result<(), Mistake> {
+    let read = read_declaration(alloc, bytes)?;
+    let (version, encoding) = (or_none(&read.version), or_none(&read.encoding));
+    write!(out, "{version} {encoding}|")?;
+    put_faults(read.faults.as_slice(), out)
+}
+
+/// What metadata says: each element's line, label and value, and the faults.
+pub(crate) fn info(alloc: Global, bytes: &[u8], out: &mut Vec<u8>) -> Result<(), Mistake> {
+    let parsed = read_info(alloc, bytes)?;
+    for element in parsed.items.as_slice() {
+        let line = element.line;
+        write!(out, "{line}<{}><{}>|", element.label, element.value)?;
+    }
+    put_faults(parsed.faults.as_slice(), out)
+}
+
+/// What `fetch.txt` says: each entry's line, URL, length and path, and the faults.
+pub(crate) fn fetch(alloc: Global, bytes: &[u8], out: &mut Vec<u8>) -> Result<(), Mistake> {
+    let parsed = read_fetch(alloc, bytes)?;
+    for entry in parsed.items.as_slice() {
+        let line = entry.line;
+        write!(out, "{line} {} {} {}|", entry.url, entry.length, entry.path)?;
+    }
+    put_faults(parsed.faults.as_slice(), out)
+}
+
+/// What a manifest says: each entry's line, digest and path, and the faults.
+pub(crate) fn manifest(
+    alloc: Global,
+    kind: Kind,
+    alg: Alg,
+    bytes: &[u8],
+    out: &mut Vec<u8>,
+) -> Result<(), Mistake> {
+    let parsed = read_manifest(alloc, kind, alg, bytes)?;
+    for entry in parsed.items.as_slice() {
+        let line = entry.line;
+        let digest = entry.digest.to_text(alloc)?;
+        write!(out, "{line} {digest} {}|", entry.path)?;
+    }
+    put_faults(parsed.faults.as_slice(), out)
+}
+
+/// What a tag file is by its name; `?` where its algorithm isn't supported.
+pub(crate) fn manifest_name(name: &str, out: &mut Vec<u8>) -> Result<(), Mistake> {
+    let mark = if TagName::at(name).is_some() {
+        ""
+    } else {
+        "? "
+    };
+    if let Some(alg) = manifest_alg(Kind::Payload, name) {
+        write!(out, "payload {mark}{alg}")?;
+        return Ok(());
+    }
+    if let Some(alg) = manifest_alg(Kind::Tag, name) {
+        write!(out, "tag {mark}{alg}")?;
+        return Ok(());
+    }
+    let word = match TagName::at(name) {
+        Some(TagName::Declaration) => "declaration",
+        Some(TagName::Info) => "metadata",
+        Some(TagName::Fetch) => "files to fetch",
+        Some(TagName::Manifest(_, _)) => "a manifest without its name",
+        None => "none",
+    };
+    out.extend_from_slice(word.as_bytes())?;
+    Ok(())
+}

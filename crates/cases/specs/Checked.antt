@@ -1,0 +1,20 @@
+-- What a check writes.
+use Rattle.std.specs.Prelude.{ℕ, ◌≡◌, List, [], Bool, Option, Some}
+use Rattle.bag_store.specs.Tree.{TreeState}
+use Rattle.bag_profile.specs.Profile.{Profile}
+use Rattle.bag_output.specs.Closing as spec
+use Rattle.bag_output.specs.declared.outcome.Outcome.{Outcome}
+use Rattle.bag_output.specs.declared.outcome.Request.{Request}
+use Rattle.bag_walk.specs.Run.{IsRun}
+
+-- a run may write this, and end with this exit status
+pub record IsChecked (old new : TreeState) (profile : Option Profile) (request : Request) (output : List ℕ) (status : ℕ) : Type 0 where
+  pub refused : Bool
+  pub outcome : Outcome
+  pub run : IsRun old new profile request (Some []) (Some output) refused outcome
+  pub ends : status ≡ spec.status outcome
+
+-- the same, whatever the tree is after it
+pub record MayBeChecked (old : TreeState) (profile : Option Profile) (request : Request) (output : List ℕ) (status : ℕ) : Type 0 where
+  pub new : TreeState
+  pub checked : IsChecked old new profile request output status

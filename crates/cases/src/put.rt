@@ -1,0 +1,81 @@
+//! What entries put into bags and folders.
+use crate::on_disk;
+use case_files::{Entry, Folder, Mistake, Sort, Spot, Texts, folder_of, words_of};
+use std::alloc::Global;
+
+/// The name of an entry and its bytes, as in `NAME = VALUE`, or of the lines below it.
+fn value_of(alloc: Global, texts: &Texts, entry: Entry<'_>) -> Result<(String, Vec<u8>), Mistake> {
+    let rest = entry.line.rest;
+    let (name, value) = match (rest.split_once(" = "), rest.strip_suffix(" =")) {
+        (Some(halves), _) => halves,
+        (None, Some(name)) => (name, ""),
+        (None, None) => {
+            if entry.below.iter().any(|line| line.word != "|") {
+                return Err(Mistake::Unasked);
+            }
+            let bytes = texts.joined(alloc, entry.below, "|")?;
+            return Ok((texts.text(alloc, rest)?, bytes));
+        }
+    };
+    if !entry.below.is_empty() {
+        return Err(Mistake::Unasked);
+    }
+    Ok((texts.text(alloc, name)?, texts.bytes(alloc, value)?))
+}
+
+/// What an entry puts at a path.
+pub(crate) fn spot_of(
+    alloc: Global,
+    texts: &Texts,
+    sort: Sort,
+    entry: Entry<'_>,
+) -> Result<Spot, Mistake> {
+    let (path, bytes) = value_of(alloc, texts, entry)?;
+    Ok(Spot { path, sort, bytes })
+}
+
+/// `text NAME = VALUE`: gives a text a name.
+pub(crate) fn name_text(alloc: Global, texts: &mut Texts, entry: Entry<'_>) -> Result<(), Mistake> {
+    let (name, bytes) = value_of(alloc, texts, entry)?;
+    texts.name(name, bytes)
+}
+
+/// `beside NAME = VALUE`: puts a file beside the folders.
+pub(crate) fn put_beside(
+    rt: &HostRuntime,
+    texts: &Texts,
+    beside: &mut Folder,
+    entry: Entry<'_>,
+) -> Result<(), Mistake> {
+    let spot = spot_of(rt.alloc(), texts, Sort::File, entry)?;
+    on_disk::put(rt, ".", &spot)?;
+    beside.put(spot)
+}
+
+/// `in FOLDER BAG..`: begins a folder, which holds what the named bags do, also on the disk.
+pub(crate) fn begin_folder(
+    rt: &HostRuntime,
+    bags: &[Folder],
+    folders: &mut Vec<Folder>,
+    rest: &str,
+) -> Result<(), Mistake> {
+    let words = words_of(rt.alloc(), rest)?;
+    let Some((name, held)) = words.split_first() else {
+        return Err(Mistake::Command);
+    };
+    let mut folder = Folder::named(rt.alloc(), *name)?;
+    for bag in held {
+        folder.put_all(rt.alloc(), folder_of(bags, *bag)?)?;
+    }
+    on_disk::make(rt, &folder)?;
+    folders.push(folder)?;
+    Ok(())
+}
+
+/// Puts something into the last folder.
+pub(crate) fn put_last(folders: &mut Vec<Folder>, spot: Spot) -> Result<(), Mistake> {
+    match folders.last_mut() {
+        Some(folder) => folder.put(spot),
+        None => Err(Mistake::Place),
+    }
+}

@@ -1,0 +1,132 @@
+//! Commands, and what each side answers to them.
+use crate::answers::answer_to;
+use crate::commands::Command;
+use crate::shelf::Shelf;
+use crate::{on_disk, stages, trees, turns};
+use bag_cli::{Usage, plan_of};
+use case_files::{Answer, Folder, Mistake, Report, Sight, Sort, folder_of};
+use std::fs;
+
+/// Runs a command, and compares its answers.
+pub(crate) fn run(
+    rt: &HostRuntime,
+    sight: Sight<'_>,
+    folders: &mut Vec<Folder>,
+    beside: &Folder,
+    report: &mut Report,
+) -> Result<(), Mistake> {
+    let text = sight.texts.text(sight.alloc, sight.line.rest)?;
+    let command = Command::of(sight.alloc, text.as_str())?;
+    let words = command.words.as_slice();
+    if let Some(refusing) = command.refusing {
+        return turns::see_in_turn(sight, refusing, &command, folders, beside, report);
+    }
+    match (command.name, words) {
+        ("bagit", _) => {
+            see_on_disk(rt, sight, &command, folders, report)?;
+            see_on_shelf(sight, &command, folders, beside, report)?;
+            see_in_trees(sight, &command, folders, report)
+        }
+        ("ls", [name]) => list(rt, sight, *name, folders, report),
+        ("cat", [place]) => write_out(rt, sight, *place, folders, report),
+        ("stage", _) => stages::see_stage(sight, words, folders, beside, report),
+        _ => Err(Mistake::Command),
+    }
+}
+
+/// Runs the program over the folders on the disk, where no file holds something else than is listed.
+fn see_on_disk(
+    rt: &HostRuntime,
+    sight: Sight<'_>,
+    command: &Command<'_>,
+    folders: &[Folder],
+    report: &mut Report,
+) -> Result<(), Mistake> {
+    if folders.iter().any(|folder| folder.has(Sort::Opened)) {
+        return Ok(());
+    }
+    let room = command.room.unwrap_or(usize::MAX);
+    let found = answer_to(sight.alloc, rt, &command.words, room);
+    report.see(sight, "on the disk", &sight.wanted()?, &found)
+}
+
+/// Runs the program over disks in memory.
+fn see_on_shelf(
+    sight: Sight<'_>,
+    command: &Command<'_>,
+    folders: &[Folder],
+    beside: &Folder,
+    report: &mut Report,
+) -> Result<(), Mistake> {
+    let shelf = Shelf {
+        folders,
+        beside,
+        refused: None,
+    };
+    let room = command.room.unwrap_or(usize::MAX);
+    let found = answer_to(sight.alloc, &shelf, &command.words, room);
+    report.see(sight, "on a disk in memory", &sight.wanted()?, &found)
+}
+
+/// Does with each folder what the words say, as a tree in memory, where they can be one, and keeps what a making leaves.
+fn see_in_trees(
+    sight: Sight<'_>,
+    command: &Command<'_>,
+    folders: &mut Vec<Folder>,
+    report: &mut Report,
+) -> Result<(), Mistake> {
+    let plan = match plan_of(sight.alloc, &command.words) {
+        Ok(plan) => plan,
+        Err(Usage::Memory) => return Err(Mistake::Memory),
+        Err(_) => return Ok(()),
+    };
+    if command.room.is_some() || !trees::are_trees(&plan, folders) {
+        return Ok(());
+    }
+    let mut whole = Answer::of(sight.alloc, Vec::new(sight.alloc));
+    for directory in &plan.directories {
+        let name = directory.as_str();
+        let folder = folder_of(folders, name)?;
+        let (answer, left) = trees::answer_over_tree(sight.alloc, &plan, folder, 0)?;
+        whole.written.extend_from_slice(&answer.written)?;
+        whole.status = whole.status.max(answer.status);
+        folders.retain(|folder| folder.name.as_str() != name);
+        folders.push(left)?;
+    }
+    report.see(sight, "in a tree in memory", &sight.wanted()?, &whole)
+}
+
+/// `ls FOLDER`: the paths of its files.
+fn list(
+    rt: &HostRuntime,
+    sight: Sight<'_>,
+    name: &str,
+    folders: &[Folder],
+    report: &mut Report,
+) -> Result<(), Mistake> {
+    let wanted = sight.wanted()?;
+    let found = trees::listed(sight.alloc, folder_of(folders, name)?)?;
+    let found = Answer::of(sight.alloc, found);
+    report.see(sight, "in memory", &wanted, &found)?;
+    let found = Answer::of(sight.alloc, on_disk::listed(rt, name)?);
+    report.see(sight, "on the disk", &wanted, &found)
+}
+
+/// `cat FOLDER/PATH`: the bytes of a file.
+fn write_out(
+    rt: &HostRuntime,
+    sight: Sight<'_>,
+    place: &str,
+    folders: &[Folder],
+    report: &mut Report,
+) -> Result<(), Mistake> {
+    let Some((name, path)) = place.split_once('/') else {
+        return Err(Mistake::Command);
+    };
+    let wanted = sight.wanted()?;
+    let bytes = folder_of(folders, name)?.file(path)?;
+    let found = Answer::of(sight.alloc, bytes.to_vec(sight.alloc)?);
+    report.see(sight, "in memory", &wanted, &found)?;
+    let found = Answer::of(sight.alloc, fs::read(rt, place)?);
+    report.see(sight, "on the disk", &wanted, &found)
+}

@@ -1,0 +1,169 @@
+//! What checks and makings answer over a tree in memory of which a call is refused, and what it holds then.
+ghost use Rattle.std.specs.Prelude.{None};
+ghost use Rattle.bag_store.specs.Tree.{Keeps};
+ghost use Rattle.cases.specs.Checked.{IsChecked};
+
+use bag_cli::{Action, Plan};
+use bag_making::make_and_tell;
+use bag_store::{FailTree, MemoryTree, Tree, WriterOut, read_whole};
+use bag_text::{Text, check_path};
+use bag_walk::{Request, run, status};
+use case_files::{Answer, Folder, Mistake, Sort, Spot, folder_of};
+use std::alloc::{AllocError, Global};
+use std::io::Write;
+
+/// Whether something can stand in a tree: no link, and a folder without files only where it stands in the base folder.
+fn can_stand(spot: &Spot) -> bool {
+    match spot.sort {
+        Sort::File => check_path(spot.path.as_str()).is_ok(),
+        Sort::Folder => matches!(spot.path.as_str(), "data" | ".bagit-new"),
+        Sort::Link | Sort::Opened => false,
+    }
+}
+
+/// Whether a plan looks at folders alone that can be trees.
+pub(crate) fn are_trees(plan: &Plan, folders: &[Folder]) -> bool {
+    matches!(plan.action, Action::Check | Action::Make)
+        && plan.profile.is_none()
+        && plan.directories.as_slice().iter().all(|directory| {
+            match folder_of(folders, directory.as_str()) {
+                Ok(folder) => folder.spots.iter().all(can_stand),
+                Err(_) => false,
+            }
+        })
+}
+
+/// The tree that holds what a folder does.
+pub(crate) fn tree_of(alloc: Global, folder: &Folder) -> Result<MemoryTree, Mistake> {
+    let mut tree = MemoryTree::new(alloc);
+    for spot in &folder.spots {
+        put(&mut tree, spot)?;
+    }
+    Ok(tree)
+}
+
+/// Puts what stands at a path into a tree.
+fn put(tree: &mut MemoryTree, spot: &Spot) -> Result<(), Mistake> {
+    let path = spot.path.as_str();
+    let put = match (spot.sort, path) {
+        (Sort::File, _) if check_path(path).is_ok() => tree.put_file(path, &spot.bytes),
+        (Sort::Folder, "data") => tree.put_folder("data"),
+        (Sort::Folder, ".bagit-new") => tree.put_folder(".bagit-new"),
+        _ => return Err(Mistake::Place),
+    };
+    match put {
+        Ok(()) => Ok(()),
+        Err(_) => Err(Mistake::Memory),
+    }
+}
+
+/// What a tree holds, under a name: the payload folder, and the files in the order of their paths.
+fn held_by<T: Tree>(alloc: Global, tree: &mut T, name: &str) -> Result<Folder, Mistake> {
+    let mut folder = Folder::named(alloc, name)?;
+    let Ok(listing) = tree.list() else {
+        return Err(Mistake::Memory);
+    };
+    if listing.has_data {
+        folder.put(Spot {
+            path: String::from_str(alloc, "data")?,
+            sort: Sort::Folder,
+            bytes: Vec::new(alloc),
+        })?;
+    }
+    for entry in listing.files.as_slice() {
+        let Ok(bytes) = read_whole(alloc, tree, entry) else {
+            return Err(Mistake::Memory);
+        };
+        folder.put(Spot {
+            path: String::from_str(alloc, entry.path.as_str())?,
+            sort: Sort::File,
+            bytes,
+        })?;
+    }
+    Ok(folder)
+}
+
+/// The paths of the files of a folder, each in a line, in their order.
+pub(crate) fn listed(alloc: Global, folder: &Folder) -> Result<Vec<u8>, Mistake> {
+    let Ok(listing) = tree_of(alloc, folder)?.list() else {
+        return Err(Mistake::Memory);
+    };
+    let mut text = Vec::<u8>::new(alloc);
+    for entry in listing.files.as_slice() {
+        writeln!(text, "{}", entry.path)?;
+    }
+    Ok(text)
+}
+
+fn request_of(alloc: Global, plan: &Plan, name: &str) -> Result<Request, AllocError> {
+    let after = match &plan.after {
+        Some(fault) => Some(fault.copy(alloc)?),
+        None => None,
+    };
+    Ok(Request {
+        options: plan.options,
+        after,
+        limit: plan.limit,
+        quiet: plan.quiet,
+        name: Text::from_str(alloc, name)?,
+    })
+}
+
+fn elements_of(alloc: Global, plan: &Plan) -> Result<Vec<(Text, Text)>, Mistake> {
+    let mut elements = Vec::new(alloc);
+    for item in &plan.info {
+        elements.push((item.label.copy(alloc)?, item.value.copy(alloc)?))?;
+    }
+    Ok(elements)
+}
+
+/// The tree after a check, what the check wrote, and its exit status.
+///
+/// The clause says that a text which compares equal with what was written is one that a run may write.
+fn checked<T: Tree + Drop>(alloc: Global, tree: T, request: Request) -> (T, Vec<u8>, u8)
+    ensures keeps { Keeps (T.state tree) (T.state result.0) }
+    ensures checked { IsChecked (T.state tree) (T.state result.0) None request result.1.items result.2 }
+{
+    let mut out = WriterOut::new(Vec::<u8>::new(alloc));
+    let (tree, outcome) = run(alloc, tree, None, request, &mut out);
+    (tree, out.into_inner(), status(&outcome))
+}
+
+/// The tree after a making, what the making wrote, and its exit status.
+fn made(
+    alloc: Global,
+    tree: FailTree<MemoryTree>,
+    name: &str,
+    plan: &Plan,
+) -> Result<(FailTree<MemoryTree>, Vec<u8>, u8), Mistake> {
+    let elements = elements_of(alloc, plan)?;
+    let mut out = WriterOut::new(Vec::<u8>::new(alloc));
+    let (tree, told) = make_and_tell(
+        alloc, tree, name, plan.algs, &elements, plan.quiet, &mut out,
+    );
+    match told {
+        Ok(status) => Ok((tree, out.into_inner(), status)),
+        Err(_) => Err(Mistake::Memory),
+    }
+}
+
+/// Does with a folder what a plan says, over a tree of which the call of a number is refused, or none for 0. Gives what is written
+/// with the exit status, and what the tree holds then.
+pub(crate) fn answer_over_tree(
+    alloc: Global,
+    plan: &Plan,
+    folder: &Folder,
+    call: u64,
+) -> Result<(Answer, Folder), Mistake> {
+    let name = folder.name.as_str();
+    let tree = FailTree::new(tree_of(alloc, folder)?, call);
+    let (tree, written, status) = match &plan.action {
+        Action::Make => made(alloc, tree, name, plan)?,
+        Action::Check => checked(alloc, tree, request_of(alloc, plan, name)?),
+        Action::Sample | Action::Help(_) => return Err(Mistake::Command),
+    };
+    let mut tree = tree.into_inner();
+    let mut answer = Answer::of(alloc, written);
+    answer.status = status;
+    Ok((answer, held_by(alloc, &mut tree, name)?))
+}
