@@ -3,7 +3,7 @@ use crate::mistake::Mistake;
 use std::alloc::Global;
 
 /// What stands at a path.
-#[derive(Clone, Copy, PartialEq, Eq, Debug)]
+#[derive(Clone, Copy, PartialEq, Eq)]
 pub enum Sort {
     /// A file with these bytes.
     File,

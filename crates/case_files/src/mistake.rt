@@ -1,9 +1,9 @@
 //! What can be wrong with a case file.
 use std::alloc::{AllocError, AllocFailed};
-use std::{fmt, io};
+use std::io;
 
 /// What is wrong with an entry of a case file, or keeps it from being followed.
-#[derive(Clone, Copy, Debug)]
+#[derive(Clone, Copy)]
 pub enum Mistake {
     /// Memory ran out.
     Memory,
@@ -48,12 +48,6 @@ impl Mistake {
             Mistake::Row => "a row has a reader, and two sides with => between them",
             Mistake::Place => "this can't stand here",
         }
-    }
-}
-
-impl fmt::Display for Mistake {
-    fn fmt<W: fmt::Write>(&self, f: &mut fmt::Formatter<W>) -> fmt::Result {
-        f.write_str(self.text())
     }
 }
 

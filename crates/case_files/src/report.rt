@@ -48,15 +48,9 @@ impl Report {
             return Ok(());
         }
         self.differ = self.differ.saturating_add(1);
-        let (file, number) = (sight.file, sight.number(wanted, found)?);
-        writeln!(self.text, "{file}:{number}: {side}")?;
-        put_difference(&mut self.text, "|", &wanted.written, &found.written)?;
-        put_difference(&mut self.text, "!", &wanted.told, &found.told)?;
-        if wanted.status != found.status {
-            let (wanted, found) = (wanted.status, found.status);
-            writeln!(self.text, "- ? {wanted}\n+ ? {found}")?;
-        }
-        Ok(())
+        let number = sight.number(wanted, found)?;
+        writeln!(self.text, "{}:{number}: {side}", sight.file)?;
+        put_differences(&mut self.text, wanted, found)
     }
 
     /// Adds the counts, in a line.
@@ -132,6 +126,16 @@ fn back(a: &[u8], b: &[u8]) -> usize {
     end
 }
 
+/// Adds what differs in two answers.
+fn put_differences(text: &mut String, wanted: &Answer, found: &Answer) -> Result<(), Mistake> {
+    put_difference(text, "|", &wanted.written, &found.written)?;
+    put_difference(text, "!", &wanted.told, &found.told)?;
+    if wanted.status != found.status {
+        writeln!(text, "- ? {}\n+ ? {}", wanted.status, found.status)?;
+    }
+    Ok(())
+}
+
 /// Adds the lines in which a wanted text and the one that was found differ.
 fn put_difference(
     text: &mut String,
@@ -157,7 +161,7 @@ fn put_difference(
     )
 }
 
-/// Adds lines with a mark and a word before each.
+/// Adds lines with a mark and a word before each, and `\` behind the last where it has no end.
 fn put_lines(
     text: &mut String,
     mark: char,
@@ -165,15 +169,13 @@ fn put_lines(
     bytes: Option<&[u8]>,
 ) -> Result<(), Mistake> {
     let bytes = bytes.unwrap_or(&[]);
-    let Ok(lines) = str::from_utf8(bytes) else {
-        writeln!(text, "{mark} {word} {bytes:?}")?;
-        return Ok(());
-    };
+    let lines = str::from_utf8(bytes).unwrap_or("(bytes that are no text)\n");
     for line in lines.lines() {
         writeln!(text, "{mark} {word} {line}")?;
     }
     if !lines.is_empty() && !lines.ends_with('\n') {
-        writeln!(text, "{mark} {word} (no line end)")?;
+        let _ = text.pop();
+        text.push_str("\\\n")?;
     }
     Ok(())
 }

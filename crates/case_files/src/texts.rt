@@ -136,30 +136,30 @@ fn number_of(text: &str) -> Result<u8, Mistake> {
 /// Adds what is escaped at the front of a text, which stands behind a `\`; gives the rest.
 fn add_escaped<'a>(text: &'a str, bytes: &mut Vec<u8>) -> Result<&'a str, Mistake> {
     let mut characters = text.chars();
-    match characters.next() {
-        Some('n') => bytes.push(b'\n')?,
-        Some('r') => bytes.push(b'\r')?,
-        Some('t') => bytes.push(b'\t')?,
-        Some('s') => bytes.push(b' ')?,
-        Some('x') => {
-            let high = digit(characters.next())?;
-            let low = digit(characters.next())?;
-            bytes.push(high.wrapping_mul(16).wrapping_add(low))?;
-        }
-        Some('\\') => bytes.push(b'\\')?,
-        Some('$') => bytes.push(b'$')?,
+    let byte = match characters.next() {
+        Some('n') => b'\n',
+        Some('r') => b'\r',
+        Some('t') => b'\t',
+        Some('s') => b' ',
+        Some('\\') => b'\\',
+        Some('$') => b'$',
+        Some('x') => byte_of(characters.next(), characters.next())?,
         Some(_) | None => return Err(Mistake::Escape),
-    }
+    };
+    bytes.push(byte)?;
     Ok(characters.as_str())
 }
 
-/// The value of a digit of a byte.
-fn digit(character: Option<char>) -> Result<u8, Mistake> {
-    let Some(character) = character else {
-        return Err(Mistake::Escape);
-    };
-    match character.to_digit(16) {
-        Some(digit) if digit < 16 => Ok(digit as u8),
-        Some(_) | None => Err(Mistake::Escape),
+/// The byte of two hex digits.
+fn byte_of(high: Option<char>, low: Option<char>) -> Result<u8, Mistake> {
+    match (digit(high), digit(low)) {
+        (Some(high), Some(low)) => Ok(high.wrapping_mul(16).wrapping_add(low)),
+        _ => Err(Mistake::Escape),
     }
+}
+
+/// The value of a hex digit.
+fn digit(character: Option<char>) -> Option<u8> {
+    let digit = character?.to_digit(16)?;
+    u8::try_from(digit).ok()
 }

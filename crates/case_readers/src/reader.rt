@@ -7,7 +7,7 @@ use std::alloc::Global;
 use std::str;
 
 /// What a row is read by.
-#[derive(Clone, Copy, PartialEq, Eq, Debug)]
+#[derive(Clone, Copy)]
 pub enum Reader {
     /// What `bagit.txt` declares.
     Declaration,

@@ -90,7 +90,7 @@ fn see_file(
     let found = match follow(rt, file, &mut line, &mut inner) {
         Ok(()) => counted(rt.alloc(), inner)?,
         Err(mistake) => {
-            let told = format!(in rt.alloc(); "{file}:{line}: {mistake}\n")?;
+            let told = format!(in rt.alloc(); "{file}:{line}: {}\n", mistake.text())?;
             Answer {
                 written: inner.text.into_bytes(),
                 told: told.into_bytes(),

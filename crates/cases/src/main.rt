@@ -46,7 +46,7 @@ fn main(rt: HostRuntime) -> io::Result<ExitCode> {
             },
         ) => {
             print!(rt; "{}", report.text)?;
-            eprintln!(rt; "{file}:{line}: {mistake}")?;
+            eprintln!(rt; "{file}:{line}: {}", mistake.text())?;
             Ok(ExitCode::from(2))
         }
     }
