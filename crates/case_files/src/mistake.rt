@@ -67,6 +67,7 @@ impl From<io::Error> for Mistake {
     fn from(error: io::Error) -> Mistake {
         match error.kind() {
             io::ErrorKind::OutOfMemory => Mistake::Memory,
+            io::ErrorKind::InvalidData => Mistake::Text,
             _ => Mistake::System,
         }
     }

@@ -113,7 +113,10 @@ fn front(a: &[u8], b: &[u8]) -> usize {
 }
 
 /// How many bytes of whole lines two texts end with alike.
-fn back(a: &[u8], b: &[u8]) -> usize {
+fn back(a: Option<&[u8]>, b: Option<&[u8]>) -> usize {
+    let (Some(a), Some(b)) = (a, b) else {
+        return 0;
+    };
     let mut end = 0usize;
     for (place, (x, y)) in a.iter().rev().zip(b.iter().rev()).enumerate() {
         if *x != *y {
@@ -144,21 +147,13 @@ fn put_difference(
     found: &[u8],
 ) -> Result<(), Mistake> {
     let start = front(wanted, found);
-    let wanted = wanted.get(start..).unwrap_or(wanted);
-    let found = found.get(start..).unwrap_or(found);
-    let end = back(wanted, found);
-    put_lines(
-        text,
-        '-',
-        word,
-        wanted.get(..wanted.len().saturating_sub(end)),
-    )?;
-    put_lines(
-        text,
-        '+',
-        word,
-        found.get(..found.len().saturating_sub(end)),
-    )
+    // the line end before, where there is one, is the same in both
+    let before = start.saturating_sub(1);
+    let end = back(wanted.get(before..), found.get(before..));
+    let wanted = wanted.get(start..wanted.len().saturating_sub(end));
+    let found = found.get(start..found.len().saturating_sub(end));
+    put_lines(text, '-', word, wanted)?;
+    put_lines(text, '+', word, found)
 }
 
 /// Adds lines with a mark and a word before each, and `\` behind the last where it has no end.
