@@ -1,6 +1,7 @@
 //! What words of the command line ask for.
 use bag_arguments::{Action, Plan, Usage, plan_of};
 use bag_facts::Depth;
+use bag_fault::Fault;
 use bag_text::Alg;
 use case_files::{Mistake, words_of};
 use std::alloc::Global;
@@ -32,14 +33,19 @@ fn put_check(alloc: Global, plan: &Plan, out: &mut Vec<u8>) -> Result<(), Mistak
         write!(out, "|profile {file}")?;
     }
     if let Some(fault) = &plan.after {
-        let line = fault.to_line(alloc)?;
-        write!(out, "|after {line}")?;
+        put_cursor(alloc, fault, out)?;
     }
     if let Some(limit) = plan.limit {
         write!(out, "|limit {limit}")?;
     }
-    let quiet = if plan.quiet { "|quiet" } else { "" };
-    write!(out, "{quiet}|")?;
+    let quiet = if plan.quiet { "|quiet|" } else { "|" };
+    out.extend_from_slice(quiet.as_bytes())?;
+    Ok(())
+}
+
+fn put_cursor(alloc: Global, fault: &Fault, out: &mut Vec<u8>) -> Result<(), Mistake> {
+    let line = fault.to_line(alloc)?;
+    write!(out, "|after {line}")?;
     Ok(())
 }
 

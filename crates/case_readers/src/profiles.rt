@@ -1,5 +1,6 @@
 //! What profiles say.
 use bag_profile::{LabelRule, ListRule, Profile, Serialization};
+use bag_text::Text;
 use case_files::Mistake;
 use std::alloc::Global;
 use std::io::Write;
@@ -15,16 +16,21 @@ const LISTS: [(&str, ListRule); 7] = [
     ("V", ListRule::AcceptBagItVersion),
 ];
 
+/// Values, each behind `=`, and `|`.
+fn put_values(values: &[Text], out: &mut Vec<u8>) -> Result<(), Mistake> {
+    for value in values {
+        write!(out, "={value}")?;
+    }
+    out.push(b'|')?;
+    Ok(())
+}
+
 /// The rule of a label: `!` where it is required, `1` where it isn't repeatable, and its values.
 fn put_rule(rule: &LabelRule, out: &mut Vec<u8>) -> Result<(), Mistake> {
     let required = if rule.required { "!" } else { "" };
     let once = if rule.repeatable { "" } else { "1" };
     write!(out, "{}{required}{once}", rule.label)?;
-    for value in &rule.values {
-        write!(out, "={value}")?;
-    }
-    write!(out, "|")?;
-    Ok(())
+    put_values(rule.values.as_slice(), out)
 }
 
 /// A list of names, where it is there.
@@ -34,15 +40,13 @@ fn put_list(
     list: ListRule,
     out: &mut Vec<u8>,
 ) -> Result<(), Mistake> {
-    let Some(names) = profile.names(list) else {
-        return Ok(());
-    };
-    write!(out, "{letter}")?;
-    for name in names {
-        write!(out, "={name}")?;
+    match profile.names(list) {
+        Some(names) => {
+            out.extend_from_slice(letter.as_bytes())?;
+            put_values(names, out)
+        }
+        None => Ok(()),
     }
-    write!(out, "|")?;
-    Ok(())
 }
 
 /// What a profile says of whole bags, and its keys that aren't checked.

@@ -1,6 +1,7 @@
 //! What tag files say.
 use bag_tags::{
-    Kind, LineFault, TagName, manifest_alg, read_declaration, read_fetch, read_info, read_manifest,
+    Kind, LineFault, ManifestEntry, TagName, manifest_alg, read_declaration, read_fetch, read_info,
+    read_manifest,
 };
 use bag_text::{Alg, Text};
 use case_files::Mistake;
@@ -51,6 +52,14 @@ pub(crate) fn fetch(alloc: Global, bytes: &[u8], out: &mut Vec<u8>) -> Result<()
     put_faults(parsed.faults.as_slice(), out)
 }
 
+/// An entry's line, digest and path.
+fn put_entry(alloc: Global, entry: &ManifestEntry, out: &mut Vec<u8>) -> Result<(), Mistake> {
+    let line = entry.line;
+    let digest = entry.digest.to_text(alloc)?;
+    write!(out, "{line} {digest} {}|", entry.path)?;
+    Ok(())
+}
+
 /// What a manifest says: each entry's line, digest and path, and the faults.
 pub(crate) fn manifest(
     alloc: Global,
@@ -61,35 +70,33 @@ pub(crate) fn manifest(
 ) -> Result<(), Mistake> {
     let parsed = read_manifest(alloc, kind, alg, bytes)?;
     for entry in parsed.items.as_slice() {
-        let line = entry.line;
-        let digest = entry.digest.to_text(alloc)?;
-        write!(out, "{line} {digest} {}|", entry.path)?;
+        put_entry(alloc, entry, out)?;
     }
     put_faults(parsed.faults.as_slice(), out)
 }
 
 /// What a tag file is by its name; `?` where its algorithm isn't supported.
 pub(crate) fn manifest_name(name: &str, out: &mut Vec<u8>) -> Result<(), Mistake> {
-    let mark = if TagName::at(name).is_some() {
-        ""
-    } else {
+    let found = TagName::at(name);
+    let (word, alg) = match (
+        manifest_alg(Kind::Payload, name),
+        manifest_alg(Kind::Tag, name),
+    ) {
+        (Some(alg), _) => ("payload ", alg),
+        (None, Some(alg)) => ("tag ", alg),
+        (None, None) => match found {
+            Some(TagName::Declaration) => ("declaration", ""),
+            Some(TagName::Info) => ("metadata", ""),
+            Some(TagName::Fetch) => ("files to fetch", ""),
+            Some(TagName::Manifest(_, _)) => ("a manifest without an algorithm", ""),
+            None => ("none", ""),
+        },
+    };
+    let mark = if found.is_none() && !alg.is_empty() {
         "? "
+    } else {
+        ""
     };
-    if let Some(alg) = manifest_alg(Kind::Payload, name) {
-        write!(out, "payload {mark}{alg}")?;
-        return Ok(());
-    }
-    if let Some(alg) = manifest_alg(Kind::Tag, name) {
-        write!(out, "tag {mark}{alg}")?;
-        return Ok(());
-    }
-    let word = match TagName::at(name) {
-        Some(TagName::Declaration) => "declaration",
-        Some(TagName::Info) => "metadata",
-        Some(TagName::Fetch) => "files to fetch",
-        Some(TagName::Manifest(_, _)) => "a manifest without its name",
-        None => "none",
-    };
-    out.extend_from_slice(word.as_bytes())?;
+    write!(out, "{word}{mark}{alg}")?;
     Ok(())
 }
