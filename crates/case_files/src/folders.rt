@@ -54,10 +54,12 @@ impl Folder {
 
     /// The bytes of the file at a path.
     pub fn file(&self, path: &str) -> Result<&[u8], Mistake> {
-        match self.spots.iter().find(|spot| spot.is_file(path)) {
-            Some(spot) => Ok(spot.bytes.as_slice()),
-            None => Err(Mistake::Name),
+        for spot in &self.spots {
+            if spot.is_file(path) {
+                return Ok(spot.bytes.as_slice());
+            }
         }
+        Err(Mistake::Name)
     }
 
     /// Puts something at a path, in place of the file that stood there.
@@ -80,14 +82,21 @@ impl Folder {
 
     /// Whether something of a sort stands in it.
     pub fn has(&self, sort: Sort) -> bool {
-        self.spots.iter().any(|spot| spot.sort == sort)
+        for spot in &self.spots {
+            if spot.sort == sort {
+                return true;
+            }
+        }
+        false
     }
 }
 
 /// The folder of a name.
 pub fn folder_of<'f>(folders: &'f [Folder], name: &str) -> Result<&'f Folder, Mistake> {
-    match folders.iter().find(|folder| folder.name.as_str() == name) {
-        Some(folder) => Ok(folder),
-        None => Err(Mistake::Name),
+    for folder in folders {
+        if folder.name.as_str() == name {
+            return Ok(folder);
+        }
     }
+    Err(Mistake::Name)
 }

@@ -40,11 +40,12 @@ pub fn lines_of(alloc: Global, text: &str) -> Result<Vec<Line<'_>>, Mistake> {
 /// The lines behind a place that are wanted of the entry there.
 fn below<'a>(lines: &'a [Line<'a>], place: usize) -> &'a [Line<'a>] {
     let rest = lines.get(place.saturating_add(1)..).unwrap_or(&[]);
-    let end = rest.iter().position(|line| !line.is_wanted());
-    match end {
-        Some(end) => rest.get(..end).unwrap_or(rest),
-        None => rest,
+    for (end, line) in rest.iter().enumerate() {
+        if !line.is_wanted() {
+            return rest.get(..end).unwrap_or(rest);
+        }
     }
+    rest
 }
 
 /// The entries of a file, in its order. Lines above the first of them are wanted of it, whatever it says.

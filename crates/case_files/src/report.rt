@@ -67,8 +67,10 @@ impl Report {
 impl Sight<'_> {
     /// The one answer that is wanted; its status is 0 where none is given.
     pub fn wanted(&self) -> Result<Answer, Mistake> {
-        if self.part.iter().any(|line| line.word == "then") {
-            return Err(Mistake::Unasked);
+        for line in self.part {
+            if line.word == "then" {
+                return Err(Mistake::Unasked);
+            }
         }
         self.texts.answer(self.alloc, self.part, 0)
     }

@@ -114,10 +114,12 @@ impl Texts {
 
     /// The answer that lines want. Where they give no status it is this one.
     pub fn answer(&self, alloc: Global, lines: &[Line<'_>], status: u8) -> Result<Answer, Mistake> {
-        let status = match lines.iter().find(|line| line.word == "?") {
-            Some(line) => number_of(line.rest)?,
-            None => status,
-        };
+        let mut status = status;
+        for line in lines {
+            if line.word == "?" {
+                status = number_of(line.rest)?;
+            }
+        }
         Ok(Answer {
             written: self.joined(alloc, lines, "|")?,
             told: self.joined(alloc, lines, "!")?,

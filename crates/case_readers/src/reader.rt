@@ -84,10 +84,12 @@ impl Reader {
     }
 
     fn of_word(word: &str) -> Result<Reader, Mistake> {
-        match ONE_WORD.iter().find(|row| row.0 == word) {
-            Some(row) => Ok(row.1),
-            None => Err(Mistake::Command),
+        for (name, reader) in ONE_WORD {
+            if name == word {
+                return Ok(reader);
+            }
         }
+        Err(Mistake::Command)
     }
 
     fn of_alg(word: &str, alg: &str) -> Result<Reader, Mistake> {

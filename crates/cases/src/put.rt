@@ -10,8 +10,10 @@ fn value_of(alloc: Global, texts: &Texts, entry: Entry<'_>) -> Result<(String, V
         (Some(halves), _) => halves,
         (None, Some(name)) => (name, ""),
         (None, None) => {
-            if entry.below.iter().any(|line| line.word != "|") {
-                return Err(Mistake::Unasked);
+            for line in entry.below {
+                if line.word != "|" {
+                    return Err(Mistake::Unasked);
+                }
             }
             let bytes = texts.joined(alloc, entry.below, "|")?;
             return Ok((texts.text(alloc, rest)?, bytes));

@@ -5,7 +5,7 @@ use crate::shelf::Shelf;
 use crate::{on_disk, stages, trees, turns};
 use bag_cli::{Usage, plan_of};
 use case_files::{Answer, Folder, Mistake, Report, Sight, Sort, folder_of};
-use std::fs;
+use std::{fs, mem};
 
 /// Runs a command, and compares its answers.
 pub(crate) fn run(
@@ -17,11 +17,12 @@ pub(crate) fn run(
 ) -> Result<(), Mistake> {
     let text = sight.texts.text(sight.alloc, sight.line.rest)?;
     let command = Command::of(sight.alloc, text.as_str())?;
-    let words = command.words.as_slice();
-    if let Some(refusing) = command.refusing {
+    let (name, refusing) = (command.name, command.refusing);
+    if let Some(refusing) = refusing {
         return turns::see_in_turn(sight, refusing, &command, folders, beside, report);
     }
-    match (command.name, words) {
+    let words = command.words.as_slice();
+    match (name, words) {
         ("bagit", _) => {
             see_on_disk(rt, sight, &command, folders, report)?;
             see_on_shelf(sight, &command, folders, beside, report)?;
@@ -42,8 +43,10 @@ fn see_on_disk(
     folders: &[Folder],
     report: &mut Report,
 ) -> Result<(), Mistake> {
-    if folders.iter().any(|folder| folder.has(Sort::Opened)) {
-        return Ok(());
+    for folder in folders {
+        if folder.has(Sort::Opened) {
+            return Ok(());
+        }
     }
     let room = command.room.unwrap_or(usize::MAX);
     let found = answer_to(sight.alloc, rt, &command.words, room);
@@ -90,10 +93,19 @@ fn see_in_trees(
         let (answer, left) = trees::answer_over_tree(sight.alloc, &plan, folder, 0)?;
         whole.written.extend_from_slice(&answer.written)?;
         whole.status = whole.status.max(answer.status);
-        folders.retain(|folder| folder.name.as_str() != name);
-        folders.push(left)?;
+        replace(folders, left);
     }
     report.see(sight, "in a tree in memory", &sight.wanted()?, &whole)
+}
+
+/// Puts a folder in the place of the one that has its name.
+fn replace(folders: &mut [Folder], left: Folder) {
+    let mut left = left;
+    for folder in folders {
+        if folder.name.as_str() == left.name.as_str() {
+            mem::swap(folder, &mut left);
+        }
+    }
 }
 
 /// `ls FOLDER`: the paths of its files.

@@ -23,14 +23,22 @@ fn can_stand(spot: &Spot) -> bool {
 
 /// Whether a plan looks at folders alone that can be trees.
 pub(crate) fn are_trees(plan: &Plan, folders: &[Folder]) -> bool {
-    matches!(plan.action, Action::Check | Action::Make)
-        && plan.profile.is_none()
-        && plan.directories.as_slice().iter().all(|directory| {
-            match folder_of(folders, directory.as_str()) {
-                Ok(folder) => folder.spots.iter().all(can_stand),
-                Err(_) => false,
-            }
-        })
+    for directory in plan.directories.as_slice() {
+        match folder_of(folders, directory.as_str()) {
+            Ok(folder) if is_tree(folder) => {}
+            Ok(_) | Err(_) => return false,
+        }
+    }
+    matches!(plan.action, Action::Check | Action::Make) && plan.profile.is_none()
+}
+
+fn is_tree(folder: &Folder) -> bool {
+    for spot in &folder.spots {
+        if !can_stand(spot) {
+            return false;
+        }
+    }
+    true
 }
 
 /// The tree that holds what a folder does.

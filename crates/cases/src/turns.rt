@@ -78,14 +78,18 @@ fn answers_of(sight: Sight<'_>, parts: &[&[Line<'_>]]) -> Result<Vec<Answer>, Mi
 
 /// Which of the answers has come with this one: the next, or the same again.
 fn place_of(answers: &[Answer], next: usize, found: &Answer) -> Option<usize> {
-    let is_at = |place: usize| answers
-        .get(place)
-        .is_some_and(|answer| answer.is_same(found));
-    if is_at(next) {
+    if is_at(answers, next, found) {
         return Some(next);
     }
     let last = next.checked_sub(1)?;
-    is_at(last).then_some(last)
+    is_at(answers, last, found).then_some(last)
+}
+
+fn is_at(answers: &[Answer], place: usize, found: &Answer) -> bool {
+    match answers.get(place) {
+        Some(answer) => answer.is_same(found),
+        None => false,
+    }
 }
 
 /// Compares the answers that come with those that are wanted: each of them has to come, one after another, each for one call or
