@@ -180,6 +180,22 @@ fn write_complaints(text: &mut String, bag: u64, name: &Name) -> Result<(), Allo
     Ok(())
 }
 
+/// Writes that a manifest gives a file another digest than the one that was found.
+fn write_sum(
+    text: &mut String,
+    manifest: &Manifest,
+    field: &str,
+    wanted: &str,
+    found: &str,
+) -> Result<(), AllocError> {
+    text.push_str(if manifest.is_payload {
+        "701 payload-sum-differs "
+    } else {
+        "702 tag-sum-differs "
+    })?;
+    write!(text, "{field} {} - {wanted}:{found}\n", manifest.alg)
+}
+
 /// Writes which manifests give a file that is there another digest.
 fn write_differing(text: &mut String, bag: u64, name: &Name) -> Result<(), AllocError> {
     let Some(held) = drawn(bag, "", name.0) else {
@@ -189,13 +205,7 @@ fn write_differing(text: &mut String, bag: u64, name: &Name) -> Result<(), Alloc
         let given = given(bag, manifest, name.0).unwrap_or(held);
         let (wanted, found) = (manifest.digests[given % 3], manifest.digests[held % 3]);
         if wanted != found {
-            let front = if manifest.is_payload {
-                "701 payload-sum-differs"
-            } else {
-                "702 tag-sum-differs"
-            };
-            let (field, alg) = (name.1, manifest.alg);
-            write!(text, "{front} {field} {alg} - {wanted}:{found}\n")?;
+            write_sum(text, manifest, name.1, wanted, found)?;
         }
     }
     Ok(())

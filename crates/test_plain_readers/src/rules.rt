@@ -69,13 +69,15 @@ fn is_among(number: u64, elements: u64) -> bool {
     false
 }
 
-/// Writes a rule's list of values, as JSON.
+/// Writes a rule's list of values, as JSON. One that isn't empty begins with a value that no element has.
 fn write_values(text: &mut String, rule: u64) -> Result<(), AllocError> {
-    let mut comma = "";
-    for (value, bit, _) in VALUES {
-        if rule & bit != 0 {
-            write!(text, "{comma}\"{value}\"")?;
-            comma = ",";
+    if rule & LISTED == 0 {
+        return Ok(());
+    }
+    text.push_str("\"x\"")?;
+    for (value, bit, _) in &VALUES {
+        if rule & *bit != 0 {
+            write!(text, ",\"{value}\"")?;
         }
     }
     Ok(())
