@@ -1,0 +1,196 @@
+//! A plain reader of `fetch.txt` that tries each prefix of a line, over some hundred texts, and one of thousands of lines.
+use crate::parts::combined;
+use bag_line::read_fetch;
+use std::alloc::{AllocError, Global};
+use std::test::Fail;
+
+/// What `fetch.txt` says: each entry's line, URL, length and path, then each fault's code, line and detail.
+fn said(alloc: Global, bytes: &[u8]) -> Result<String, Fail> {
+    let parsed = read_fetch(alloc, bytes)?;
+    let mut text = String::new(alloc);
+    for entry in parsed.items.as_slice() {
+        let (line, url, length, path) = (entry.line, &entry.url, &entry.length, &entry.path);
+        write!(text, "{line} {url} {length} {path}|")?;
+    }
+    for fault in parsed.faults.as_slice() {
+        let (code, line, detail) = (fault.code.number(), fault.line, &fault.detail);
+        write!(text, "{code} {line} {detail}|")?;
+    }
+    Ok(text)
+}
+
+/// The longest prefix of a line that has only blanks, or none, and the rest.
+fn longest(line: &str, of_blanks: bool) -> (&str, &str) {
+    for end in (0..line.len()).rev() {
+        let at = end.saturating_add(1);
+        if let (Some(prefix), Some(rest)) = (line.get(..at), line.get(at..)) {
+            if prefix.chars().all(|c| (c == ' ' || c == '\t') == of_blanks) {
+                return (prefix, rest);
+            }
+        }
+    }
+    ("", line)
+}
+
+fn is_length(text: &str) -> bool {
+    text == "-" || (!text.is_empty() && text.chars().all(|c| c >= '0' && c <= '9'))
+}
+
+/// The URL, the length and the spelling of the path.
+fn parts_of(line: &str) -> Option<(&str, &str, &str)> {
+    let (url, behind) = longest(line, false);
+    let (gap, behind) = longest(behind, true);
+    let (length, behind) = longest(behind, false);
+    let (second_gap, spelling) = longest(behind, true);
+    if url.is_empty()
+        || gap.is_empty()
+        || !is_length(length)
+        || second_gap.is_empty()
+        || spelling.is_empty()
+    {
+        return None;
+    }
+    Some((url, length, spelling.strip_prefix("./").unwrap_or(spelling)))
+}
+
+/// The character that an escape stands for, by its digits.
+fn escaped(digits: &str) -> Option<&'static str> {
+    match digits {
+        "25" => Some("%"),
+        "0A" | "0a" => Some("\n"),
+        "0D" | "0d" => Some("\r"),
+        _ => None,
+    }
+}
+
+/// The path of a spelling: what stands behind each `%` begins with the two digits of an escape.
+fn path_of(alloc: Global, spelling: &str) -> Result<Option<String>, AllocError> {
+    let mut pieces = spelling.split('%');
+    let mut path = String::from_str(alloc, pieces.next().unwrap_or(""))?;
+    for piece in pieces {
+        let (Some(digits), Some(rest)) = (piece.get(..2), piece.get(2..)) else {
+            return Ok(None);
+        };
+        let Some(character) = escaped(digits) else {
+            return Ok(None);
+        };
+        path.push_str(character)?;
+        path.push_str(rest)?;
+    }
+    Ok(Some(path))
+}
+
+/// Why a file may not be fetched to a path, if it may not.
+fn refusal(path: &str) -> Option<u16> {
+    for name in path.split('/') {
+        if name.is_empty() || name == "." || name == ".." {
+            return Some(403);
+        }
+    }
+    (!path.starts_with("data/")).then_some(404)
+}
+
+/// Writes what a line says, or what is wrong with it.
+fn judge(
+    alloc: Global,
+    number: usize,
+    line: &str,
+    entries: &mut String,
+    faults: &mut String,
+) -> Result<(), AllocError> {
+    let Some((url, length, spelling)) = parts_of(line) else {
+        return write!(faults, "401 {number} |");
+    };
+    let Some(path) = path_of(alloc, spelling)? else {
+        return write!(faults, "402 {number} {spelling}|");
+    };
+    match refusal(path.as_str()) {
+        Some(code) => write!(faults, "{code} {number} {path}|"),
+        None => write!(entries, "{number} {url} {length} {path}|"),
+    }
+}
+
+/// What the plain reader reads in the lines of a text.
+fn read_plainly(alloc: Global, text: &str) -> Result<String, AllocError> {
+    let mut entries = String::new(alloc);
+    let mut faults = String::new(alloc);
+    for (place, line) in text.lines().enumerate() {
+        let (_, behind) = longest(line, true);
+        if !behind.is_empty() {
+            let number = place.saturating_add(1);
+            judge(alloc, number, line, &mut entries, &mut faults)?;
+        }
+    }
+    entries.push_str(faults.as_str())?;
+    Ok(entries)
+}
+
+/// Whether the reader reads in a text what the plain reader reads.
+fn reads_alike(alloc: Global, text: &str) -> Result<bool, Fail> {
+    Ok(said(alloc, text.as_bytes())? == read_plainly(alloc, text)?)
+}
+
+/// What may stand in a line before its path, part by part.
+const PARTS: [&[&str]; 5] = [
+    &["", " "],
+    &["u:v", "é", ""],
+    &[" ", "\t  ", ""],
+    &["-", "07", "-1", "x", ""],
+    &[" ", "\t", ""],
+];
+
+/// What may stand at the end of a line.
+const PATHS: [&str; 14] = [
+    "data/a",
+    "./data/b c ",
+    "././data/a",
+    "data/%25%0a%0D/%0A.%0d",
+    "data/%41",
+    "data/%2",
+    "./%%25",
+    "../x",
+    "data/./x",
+    "data//x",
+    "data",
+    "bagit.txt",
+    "./",
+    "",
+];
+
+/// Lines that begin alike.
+fn lines_of(alloc: Global, head: &str) -> Result<String, AllocError> {
+    let mut text = String::new(alloc);
+    for path in PATHS {
+        write!(text, "{head}{path}\n")?;
+    }
+    Ok(text)
+}
+
+#[test]
+fn reads_as_a_plain_reader(rt: HostRuntime) -> Result<(), Fail> {
+    for head in &combined(rt.alloc(), &PARTS)? {
+        let text = lines_of(rt.alloc(), head.as_str())?;
+        assert!(rt; reads_alike(rt.alloc(), text.as_str())?, "{head}");
+    }
+    Ok(())
+}
+
+/// A text of 2,000 lines, of which each tenth has a bad escape.
+fn thousands(alloc: Global) -> Result<String, AllocError> {
+    let mut text = String::new(alloc);
+    for line in 1..2001u64 {
+        let escape = if line % 10 == 0 { "%41" } else { "%25" };
+        write!(
+            text,
+            "http://a.example/{line} {line} ./data/{escape}{line}\n"
+        )?;
+    }
+    Ok(text)
+}
+
+#[test]
+fn reads_thousands_of_lines(rt: HostRuntime) -> Result<(), Fail> {
+    let text = thousands(rt.alloc())?;
+    assert!(rt; reads_alike(rt.alloc(), text.as_str())?);
+    Ok(())
+}

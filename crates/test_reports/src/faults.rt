@@ -1,0 +1,112 @@
+//! Fault lines, the order of faults, and their copies.
+use bag_report::{CursorFault, Fault};
+use bag_text::{Code, Text};
+use std::alloc::{AllocError, Global};
+use std::test::Fail;
+
+/// A fault whose path and detail are one text.
+fn fault(alloc: Global, text: &str) -> Result<Fault, AllocError> {
+    Ok(Fault {
+        code: Code::NameClash,
+        path: Text::from_str(alloc, text)?,
+        alg: None,
+        line: 0,
+        detail: Text::from_str(alloc, text)?,
+    })
+}
+
+/// Texts, each with the field that stands for it.
+const TEXTS: &[(&str, &str)] = &[
+    ("", "-"),
+    ("-", "%2D"),
+    ("--", "--"),
+    ("data/-", "data/-"),
+    ("data/a b", "data/a%20b"),
+    ("100%", "100%25"),
+    ("data/%61", "data/%2561"),
+    ("a\tb", "a%09b"),
+    ("a\nb", "a%0Ab"),
+    ("\u{0}", "%00"),
+    ("\u{1f}!~\u{7f}", "%1F!~%7F"),
+    ("data/\u{e9}", "data/%C3%A9"),
+    ("\u{20ac}", "%E2%82%AC"),
+    ("\u{1f600}", "%F0%9F%98%80"),
+];
+
+/// Whether the fault whose path and detail are a text has this line, and the line is read as that fault.
+fn is_encoded(alloc: Global, text: &str, line: &str) -> Result<bool, Fail> {
+    let fault = fault(alloc, text)?;
+    let is_written = fault.to_line(alloc)?.as_str() == line;
+    Ok(is_written && Fault::from_line(alloc, line)? == fault)
+}
+
+#[test]
+fn each_text_is_encoded_and_read_back(rt: HostRuntime) -> Result<(), Fail> {
+    for &(text, field) in TEXTS {
+        let line = format!(in rt.alloc(); "604 name-clash {field} - - {field}")?;
+        assert!(rt; is_encoded(rt.alloc(), text, line.as_str())?, "{field}");
+    }
+    Ok(())
+}
+
+/// Ascending: by stage, path, algorithm, line, code and detail.
+const ASCENDING: &[&str] = &[
+    "101 no-declaration z - - -",
+    "201 no-payload-folder - - - -",
+    "202 no-payload-manifest - - - -",
+    "203 algorithm-unsupported manifest-crc.txt - - crc",
+    "509 payload-manifest-not-listed tagmanifest-md5.txt md5 - manifest-md5.txt",
+    "509 payload-manifest-not-listed tagmanifest-md5.txt md5 - manifest-sha1.txt",
+    "506 tagmanifest-names-payload tagmanifest-md5.txt md5 1 data/a",
+    "507 tagmanifest-names-tagmanifest tagmanifest-md5.txt md5 2 tagmanifest-sha1.txt",
+    "501 manifest-line tagmanifest-md5.txt md5 10 -",
+    "602 tag-file-missing Notes.txt md5 - -",
+    "604 name-clash data/a - - data/A",
+    "601 payload-file-missing data/a md5 - -",
+    "601 payload-file-missing data/a sha1 - -",
+    "603 payload-file-not-listed data/a sha1 - -",
+    "601 payload-file-missing data/a sha256 - -",
+    "601 payload-file-missing data/a sha512 - -",
+    "601 payload-file-missing data/a%20b md5 - -",
+    "601 payload-file-missing data/aa md5 - -",
+    "601 payload-file-missing data/b md5 - -",
+    "601 payload-file-missing data/%C3%A9 md5 - -",
+    "701 payload-sum-differs data/a md5 - 0:1",
+    "804 value-not-allowed bag-info.txt - 2 Bag-Count:1",
+    "803 label-repeated bag-info.txt - 3 Bag-Count",
+    "804 value-not-allowed bag-info.txt - 3 Bag-Count:2",
+];
+
+/// Copies of the faults of these lines, the last first.
+fn descending(alloc: Global) -> Result<Vec<Fault>, Fail> {
+    let mut faults = Vec::new(alloc);
+    for line in ASCENDING.iter().rev() {
+        faults.push(Fault::from_line(alloc, line)?.copy(alloc)?)?;
+    }
+    Ok(faults)
+}
+
+#[test]
+fn faults_are_sorted_in_their_order(rt: HostRuntime) -> Result<(), Fail> {
+    let mut faults = descending(rt.alloc())?;
+    faults.sort()?;
+    assert_eq!(rt; faults.len(), ASCENDING.len());
+    for (fault, line) in faults.iter().zip(ASCENDING) {
+        assert_eq!(rt; fault.to_line(rt.alloc())?.as_str(), *line);
+    }
+    Ok(())
+}
+
+/// Refusals, each with its text.
+const CURSOR_FAULTS: &[(CursorFault, &str)] = &[
+    (CursorFault::NotALine, "not a fault line"),
+    (CursorFault::Memory, "out of memory"),
+];
+
+#[test]
+fn refusals_have_their_texts(rt: HostRuntime) -> Result<(), Fail> {
+    for &(refusal, text) in CURSOR_FAULTS {
+        assert_eq!(rt; refusal.to_string(rt.alloc())?.as_str(), text);
+    }
+    Ok(())
+}

@@ -1,0 +1,29 @@
+//! What runs, makings and readers do that no words of the command line and no case file can ask for: the order of faults and
+//! their copies, which files are opened, outputs that refuse at each place, lists and sizes that are not the bag's, thousands of
+//! lines and files, and requests that words can't give.
+#![tactic(auto)]
+
+#[cfg(test)]
+mod checks;
+#[cfg(test)]
+mod faults;
+#[cfg(test)]
+mod large_bags;
+#[cfg(test)]
+mod listings;
+#[cfg(test)]
+mod makings;
+#[cfg(test)]
+mod openings;
+#[cfg(test)]
+mod outputs;
+#[cfg(test)]
+mod profiles;
+#[cfg(test)]
+mod series;
+#[cfg(test)]
+mod texts;
+#[cfg(test)]
+mod words;
+#[cfg(test)]
+mod written;

@@ -1,0 +1,137 @@
+//! Trees that list what isn't there, and sizes that add up to more than 64 bits can hold.
+ghost use Rattle.bag_memory_disk.specs.MemoryDisk.{not_honest};
+
+use crate::checks::{DECLARED, Files, checked, request_of, tree_of};
+use bag_disk::{Disk, DiskFault, Entry};
+use bag_file_tree::FileTree;
+use bag_memory_disk::{MemoryDisk, Node};
+use bag_report::{Depth, Options};
+use bag_store::{SkewTree, Tree};
+use bag_text::{Text, is_payload};
+use std::alloc::{AllocError, Global};
+use std::collections::BTreeMap;
+use std::test::Fail;
+
+/// How trees here are checked.
+fn options_of(depth: Depth) -> Options {
+    Options {
+        depth,
+        clashes: false,
+    }
+}
+
+/// What a whole check of a tree writes.
+fn written<T: Tree + Drop>(alloc: Global, tree: T, depth: Depth) -> Result<String, Fail> {
+    let request = request_of(alloc, options_of(depth), None, None)?;
+    let (_tree, text) = checked(alloc, tree, request)?;
+    Ok(text)
+}
+
+#[test]
+fn a_listing_of_too_many(rt: HostRuntime) -> Result<(), Fail> {
+    let tree = SkewTree::new(tree_of(rt.alloc(), &[])?, None);
+    let text = written(rt.alloc(), tree, Depth::Full)?;
+    assert_eq!(rt; text.as_str(), "d unread - too-many, faults: 0\n3");
+    Ok(())
+}
+
+/// The manifest of a file `data/a` that is `a`.
+const NAMED: (&str, &[u8]) = (
+    "manifest-md5.txt",
+    b"0cc175b9c0f1b6a831c399e269772661  data/a\n",
+);
+
+/// What isn't listed is missing, and isn't opened.
+#[test]
+fn a_file_that_is_not_listed(rt: HostRuntime) -> Result<(), Fail> {
+    let listing = tree_of(rt.alloc(), &[NAMED])?.list()?;
+    let tree = tree_of(rt.alloc(), &[("data/a", b"a"), NAMED])?;
+    let tree = SkewTree::new(tree, Some(listing));
+    let text = written(rt.alloc(), tree, Depth::Full)?;
+    let wanted = "601 payload-file-missing data/a md5 - -\nd has faults: 1\n1";
+    assert_eq!(rt; text.as_str(), wanted);
+    Ok(())
+}
+
+/// A disk that says of each payload file that it has the greatest size.
+#[derive(Drop)]
+struct Enlarged<D> {
+    disk: D,
+}
+
+impl<D: Disk + Drop> Disk for Enlarged<D> {
+    ghost state = { λ enlarged. not_honest (D.state enlarged.disk) };
+
+    ghost is_disk = { λ enlarged. D.is_disk enlarged.disk };
+
+    fn entry_at(&self, path: &str) -> Result<Entry, DiskFault> {
+        match self.disk.entry_at(path) {
+            Ok(Entry::File(_)) if is_payload(path) => Ok(Entry::File(u64::MAX)),
+            answer => answer,
+        }
+    }
+
+    fn enter(&mut self, folder: &str) -> Result<(), DiskFault> {
+        self.disk.enter(folder)
+    }
+
+    fn next_name(&mut self) -> Result<Option<Text>, DiskFault> {
+        self.disk.next_name()
+    }
+
+    fn open(&mut self, path: &str) -> Result<(), DiskFault> {
+        self.disk.open(path)
+    }
+
+    fn is_open(&self) -> bool {
+        self.disk.is_open()
+    }
+
+    fn close(&mut self) {
+        self.disk.close();
+    }
+
+    fn read(&mut self, buffer: &mut [u8]) -> Result<usize, DiskFault> {
+        self.disk.read(buffer)
+    }
+}
+
+/// The files of a bag with two payload files.
+const SIZED: Files = &[
+    ("bag-info.txt", b"Payload-Oxum: 0.2\n"),
+    ("data/a", b""),
+    ("data/b", b""),
+    ("manifest-sha256.txt", b""),
+];
+
+/// Puts files on a disk's places.
+fn put_nodes(
+    alloc: Global,
+    nodes: &mut BTreeMap<Vec<u8>, Node>,
+    files: Files,
+) -> Result<(), AllocError> {
+    for (path, bytes) in files {
+        let node = Node::File(bytes.to_vec(alloc)?);
+        let _ = nodes.insert(path.as_bytes().to_vec(alloc)?, node)?;
+    }
+    Ok(())
+}
+
+/// The disk of these files.
+fn disk(alloc: Global) -> Result<Option<MemoryDisk>, AllocError> {
+    let mut nodes = BTreeMap::new(alloc);
+    let _ = nodes.insert(b"data".to_vec(alloc)?, Node::Folder)?;
+    put_nodes(alloc, &mut nodes, DECLARED)?;
+    put_nodes(alloc, &mut nodes, SIZED)?;
+    Ok(MemoryDisk::holding(alloc, nodes))
+}
+
+#[test]
+fn sizes_add_up_without_loss(rt: HostRuntime) -> Result<(), Fail> {
+    let disk = disk(rt.alloc())?.ok_or("no disk")?;
+    let tree = FileTree::over(rt.alloc(), Enlarged { disk });
+    let text = written(rt.alloc(), tree, Depth::Fast)?;
+    let wanted = "304 oxum-differs bag-info.txt - 1 0.2:36893488147419103230.2\nd has faults: 1\n1";
+    assert_eq!(rt; text.as_str(), wanted);
+    Ok(())
+}

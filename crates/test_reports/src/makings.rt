@@ -1,0 +1,268 @@
+//! Bags that are made of folders in memory: requests that no words ask for, the line of each way in which a making can end, and
+//! thousands of files.
+use crate::checks::{Files, opened, put_files, put_letters};
+use crate::series::{Parts, text_of};
+use bag_make::MakeFault;
+use bag_making::{make_and_tell, put_making};
+use bag_store::{FailTree, MemoryTree, Stop, Tree, TreeFault, WriteTree, WriterOut, read_whole};
+use bag_text::{Alg, AlgSet, Text};
+use std::alloc::{AllocError, Global};
+use std::test::Fail;
+
+fn set_of(algs: &[Alg]) -> AlgSet {
+    let mut set = AlgSet::empty();
+    for alg in algs {
+        set = set.with(*alg);
+    }
+    set
+}
+
+fn elements(alloc: Global, info: &[(&str, &str)]) -> Result<Vec<(Text, Text)>, AllocError> {
+    let mut elements = Vec::new(alloc);
+    for (label, value) in info {
+        elements.push((Text::from_str(alloc, label)?, Text::from_str(alloc, value)?))?;
+    }
+    Ok(elements)
+}
+
+/// The algorithms, and the labels with their values.
+type Request = (&'static [Alg], &'static [(&'static str, &'static str)]);
+
+/// The tree of which a bag was to be made, and what is said of it.
+fn made<T: WriteTree + Drop>(
+    alloc: Global,
+    tree: T,
+    (algs, info): Request,
+) -> Result<(T, String), Fail> {
+    let info = elements(alloc, info)?;
+    let mut out = WriterOut::new(Vec::<u8>::new(alloc));
+    let (tree, _status) = make_and_tell(alloc, tree, "d", set_of(algs), &info, false, &mut out);
+    Ok((tree, String::from_utf8(out.into_inner())?))
+}
+
+/// A file in the way.
+const TAKEN: Files = &[(".bagit-new/x", b"x")];
+
+const NO_ALGORITHM: &str = "d not made: no algorithm\n";
+
+const BAD_VALUE: &str = "d not made: bad value\n";
+
+const IN_THE_WAY: &str = "d not made: .bagit-new is there\n";
+
+/// What a folder holds, what is asked for, and what is said. Where a folder and a request are bad in more than one way, the first
+/// refusal is told.
+const REFUSED: &[(Files, Request, &str)] = &[
+    (TAKEN, (&[], &[("a:b", "x")]), NO_ALGORITHM),
+    (&[], (&[], &[]), NO_ALGORITHM),
+    (TAKEN, (&[Alg::Md5], &[("a:b", "x")]), BAD_VALUE),
+    (TAKEN, (&[Alg::Md5], &[("payload-oxum", "0.0")]), BAD_VALUE),
+    (
+        &[],
+        (&[Alg::Md5], &[("a", "b"), ("PAYLOAD-Oxum", "0.0")]),
+        BAD_VALUE,
+    ),
+    (&[], (&[Alg::Md5], &[("a", "b"), ("a", "b\nc")]), BAD_VALUE),
+    (&[], (&[Alg::Md5], &[("", "x")]), BAD_VALUE),
+    (TAKEN, (&[Alg::Md5], &[]), IN_THE_WAY),
+    (&[(".bagit-new", b"")], (&[Alg::Md5], &[]), IN_THE_WAY),
+];
+
+/// A folder with these files.
+fn folder(alloc: Global, files: Files) -> Result<MemoryTree, Fail> {
+    let mut tree = MemoryTree::new(alloc);
+    put_files(&mut tree, files)?;
+    Ok(tree)
+}
+
+/// Whether a tree holds these files and no others.
+fn holds(alloc: Global, tree: &mut MemoryTree, files: Files) -> Result<bool, Fail> {
+    let listing = tree.list()?;
+    let mut is_same = listing.files.as_slice().len() == files.len();
+    for (entry, (path, bytes)) in listing.files.as_slice().iter().zip(files) {
+        let held = read_whole(alloc, tree, entry)?;
+        is_same = is_same && entry.path.as_str() == *path && held.as_slice() == *bytes;
+    }
+    Ok(is_same)
+}
+
+/// Whether a making is refused with this line, and leaves the folder as it was.
+fn is_refused(alloc: Global, files: Files, request: Request, line: &str) -> Result<bool, Fail> {
+    let (mut tree, told) = made(alloc, folder(alloc, files)?, request)?;
+    Ok(told.as_str() == line && holds(alloc, &mut tree, files)?)
+}
+
+/// Whether a making is refused with this line where the tree refuses its first call.
+fn is_unread(alloc: Global, files: Files, request: Request, line: &str) -> Result<bool, Fail> {
+    let tree = FailTree::new(folder(alloc, files)?, 1);
+    let (_tree, told) = made(alloc, tree, request)?;
+    Ok(told.as_str() == line)
+}
+
+#[test]
+fn bad_requests_are_refused_before_the_folder_is_listed(rt: HostRuntime) -> Result<(), Fail> {
+    for &(files, request, line) in REFUSED {
+        let unread = if line == IN_THE_WAY {
+            "d not made: read - device\n"
+        } else {
+            line
+        };
+        assert!(rt; is_refused(rt.alloc(), files, request, line)?, "{line}");
+        assert!(rt; is_unread(rt.alloc(), files, request, unread)?, "{line}");
+    }
+    Ok(())
+}
+
+/// What a making of `d` writes that ended so.
+fn told(alloc: Global, made: &Result<(), MakeFault>, quiet: bool) -> Result<String, Fail> {
+    let mut out = WriterOut::new(Vec::<u8>::new(alloc));
+    let _ = put_making("d", made, quiet, &mut out);
+    Ok(String::from_utf8(out.into_inner())?)
+}
+
+#[test]
+fn a_bag_that_is_made(rt: HostRuntime) -> Result<(), Fail> {
+    assert_eq!(rt; told(rt.alloc(), &Ok(()), false)?.as_str(), "d made\n");
+    assert_eq!(rt; told(rt.alloc(), &Ok(()), true)?.as_str(), "");
+    Ok(())
+}
+
+/// Whether a making that was refused so writes this line, quiet or not.
+fn is_told(alloc: Global, fault: MakeFault, line: &str) -> Result<bool, Fail> {
+    let made = Err(fault);
+    Ok(told(alloc, &made, false)?.as_str() == line && told(alloc, &made, true)?.as_str() == line)
+}
+
+#[test]
+fn a_request_that_is_refused(rt: HostRuntime) -> Result<(), Fail> {
+    let alloc = rt.alloc();
+    assert!(rt; is_told(alloc, MakeFault::NoAlgorithm, NO_ALGORITHM)?);
+    assert!(rt; is_told(alloc, MakeFault::InTheWay, IN_THE_WAY)?);
+    assert!(rt; is_told(alloc, MakeFault::BadValue, BAD_VALUE)?);
+    let line = "d not made: out of memory\n";
+    assert!(rt; is_told(alloc, MakeFault::Memory, line)?);
+    Ok(())
+}
+
+/// The causes, and their words.
+const CAUSES: &[(TreeFault, &str)] = &[
+    (TreeFault::Device, "device"),
+    (TreeFault::Special, "special"),
+    (TreeFault::Name, "name"),
+    (TreeFault::NotFound, "not-found"),
+    (TreeFault::TooMany, "too-many"),
+    (TreeFault::Changed, "changed"),
+    (TreeFault::NoneOpen, "none-open"),
+    (TreeFault::Memory, "memory"),
+    (TreeFault::Exists, "exists"),
+];
+
+#[test]
+fn a_step_that_is_refused(rt: HostRuntime) -> Result<(), Fail> {
+    for &(cause, word) in CAUSES {
+        let line = format!(in rt.alloc(); "d not made: step 18446744073709551615 {word}\n")?;
+        let fault = MakeFault::StepRefused(u64::MAX, cause);
+        assert!(rt; is_told(rt.alloc(), fault, line.as_str())?, "{word}");
+    }
+    Ok(())
+}
+
+#[test]
+fn a_file_that_is_not_read(rt: HostRuntime) -> Result<(), Fail> {
+    for (path, field) in [("", "-"), ("a b", "a%20b")] {
+        let path = Text::from_str(rt.alloc(), path)?;
+        let cause = TreeFault::Special;
+        let line = format!(in rt.alloc(); "d not made: read {field} special\n")?;
+        let fault = MakeFault::ReadStopped(Stop { cause, path });
+        assert!(rt; is_told(rt.alloc(), fault, line.as_str())?, "{field}");
+    }
+    Ok(())
+}
+
+/// A folder of so many numbers: its paths, and how many letters each file has; how many files the bag has by MD5 and SHA-1, and
+/// its manifests.
+struct Large {
+    count: u64,
+    paths: Parts,
+    size: usize,
+    files: usize,
+    manifests: [(&'static str, Parts); 2],
+}
+
+const LARGE: &[Large] = &[
+    Large {
+        count: 5000,
+        paths: &["d/a/#\n", "d/b/#\n"],
+        size: 1,
+        files: 10_006,
+        manifests: [
+            (
+                "manifest-md5.txt",
+                &[
+                    "0cc175b9c0f1b6a831c399e269772661  data/d/a/#\n",
+                    "0cc175b9c0f1b6a831c399e269772661  data/d/b/#\n",
+                ],
+            ),
+            (
+                "manifest-sha1.txt",
+                &[
+                    "86f7e437faa5a7fce15d1ddcb9eaeaea377667b8  data/d/a/#\n",
+                    "86f7e437faa5a7fce15d1ddcb9eaeaea377667b8  data/d/b/#\n",
+                ],
+            ),
+        ],
+    },
+    Large {
+        count: 0,
+        paths: &["a\n"],
+        size: 1_000_000,
+        files: 7,
+        manifests: [
+            (
+                "manifest-md5.txt",
+                &["7707d6ae4e027c70eea2a935c2296f21  data/a\n"],
+            ),
+            (
+                "manifest-sha1.txt",
+                &["34aa973cd4c4daa4f61eeb2bdbad27316534016f  data/a\n"],
+            ),
+        ],
+    },
+];
+
+/// The tree in which a row's folder was made a bag, where each file was opened once, in order.
+fn made_of(alloc: Global, row: &Large) -> Result<Option<MemoryTree>, Fail> {
+    let mut tree = MemoryTree::new(alloc);
+    let paths = text_of(alloc, row.paths, row.count)?;
+    put_letters(alloc, &mut tree, paths.as_str(), row.size)?;
+    let (tree, _told) = made(alloc, tree, (&[Alg::Sha1, Alg::Md5], &[]))?;
+    Ok((opened(alloc, &tree)? == paths).then_some(tree))
+}
+
+/// Whether a tree has so many files, and among them a row's manifests.
+fn has_manifests(alloc: Global, tree: &mut MemoryTree, row: &Large) -> Result<bool, Fail> {
+    let listing = tree.list()?;
+    let mut found = 0usize;
+    for entry in listing.files.as_slice() {
+        for (path, parts) in row.manifests {
+            if entry.path.as_str() == path {
+                let held = read_whole(alloc, tree, entry)?;
+                let wanted = text_of(alloc, parts, row.count)?;
+                found = found.wrapping_add(usize::from(held.as_slice() == wanted.as_bytes()));
+            }
+        }
+    }
+    Ok(found == 2 && listing.files.as_slice().len() == row.files)
+}
+
+#[test]
+fn ten_thousand_files_and_a_million_bytes(rt: HostRuntime) -> Result<(), Fail> {
+    for row in LARGE {
+        let mut tree = made_of(rt.alloc(), row)?.ok_or("openings")?;
+        assert!(rt;
+            has_manifests(rt.alloc(), &mut tree, row)?,
+            "{} files",
+            row.files
+        );
+    }
+    Ok(())
+}
