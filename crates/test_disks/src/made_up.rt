@@ -1,0 +1,141 @@
+//! Trees over disks that no disk is: what they name stands twice, or at no path, or is too much.
+ghost use Rattle.bag_disk.specs.SystemDisk.{system_state};
+ghost use Rattle.bag_disk.specs.Disk.{empty_disk};
+
+use crate::held::{ends, listed};
+use bag_disk::{Disk, DiskFault, Entry};
+use bag_file_tree::FileTree;
+use bag_text::{Items, Text};
+use bag_tree::{Tree, TreeFault};
+use std::alloc::Global;
+use std::test::Fail;
+
+/// A disk that says of each path but one that an empty file stands there.
+#[derive(Drop)]
+struct MadeUp {
+    alloc: Global,
+    /// What its base folder names, in this order.
+    names: &'static [&'static str],
+    /// The path of a folder, which names nothing.
+    folder: &'static str,
+    /// How much its base folder names where it names more: numbers of eight digits.
+    count: usize,
+    in_base: bool,
+    named: usize,
+    openings: Items<Text>,
+    has_open: bool,
+}
+
+impl MadeUp {
+    fn tree(
+        alloc: Global,
+        names: &'static [&'static str],
+        folder: &'static str,
+        count: usize,
+    ) -> FileTree<MadeUp> {
+        let disk = MadeUp {
+            alloc,
+            names,
+            folder,
+            count,
+            in_base: false,
+            named: 0,
+            openings: Items::new(alloc),
+            has_open: false,
+        };
+        FileTree::over(alloc, disk)
+    }
+}
+
+impl Disk for MadeUp {
+    ghost state = { λ disk. system_state disk.openings disk.has_open };
+
+    ghost is_disk = { λ _. empty_disk };
+
+    fn entry_at(&self, path: &str) -> Result<Entry, DiskFault> {
+        if path == self.folder {
+            Ok(Entry::Folder)
+        } else {
+            Ok(Entry::File(0))
+        }
+    }
+
+    fn enter(&mut self, folder: &str) -> Result<(), DiskFault> {
+        self.in_base = folder.is_empty();
+        self.named = 0;
+        Ok(())
+    }
+
+    fn next_name(&mut self) -> Result<Option<Text>, DiskFault> {
+        let number = self.named;
+        if !self.in_base || (number >= self.names.len() && number >= self.count) {
+            return Ok(None);
+        }
+        self.named = number.saturating_add(1);
+        match self.names.get(number) {
+            Some(name) => Ok(Some(Text::from_str(self.alloc, *name)?)),
+            None => Ok(Some(Text::from_string(format!(in self.alloc; "{number:08}")?))),
+        }
+    }
+
+    fn open(&mut self, path: &str) -> Result<(), DiskFault> {
+        self.has_open = false;
+        self.openings.push(Text::from_str(self.alloc, path)?)?;
+        self.has_open = true;
+        Ok(())
+    }
+
+    fn is_open(&self) -> bool {
+        self.has_open
+    }
+
+    fn close(&mut self) {
+        self.has_open = false;
+    }
+
+    fn read(&mut self, _buffer: &mut [u8]) -> Result<usize, DiskFault> {
+        Ok(0)
+    }
+}
+
+/// What the base folder names, a name twice or one that is no path, and which of these is a folder.
+const ODD: &[(&[&str], &str)] = &[(&["a", "b", "a"], "b"), (&["a", ".", ".."], "..")];
+
+#[test]
+fn lists_nothing_where_a_name_is_given_twice_or_is_no_path(rt: HostRuntime) -> Result<(), Fail> {
+    for &(names, folder) in ODD {
+        let found = listed(rt.alloc(), &mut MadeUp::tree(rt.alloc(), names, folder, 0))?;
+        assert!(rt; found.as_str() == "device", "{found}");
+    }
+    Ok(())
+}
+
+#[test]
+fn opens_nothing_beside_the_base_folder(rt: HostRuntime) -> Result<(), Fail> {
+    for path in ["../b", "", "b/"] {
+        let mut tree = MadeUp::tree(rt.alloc(), &[], "b", 0);
+        let wanted = Err(TreeFault::NotFound);
+        assert!(rt; ends(rt.alloc(), &mut tree, (path, 0), wanted)?, "{path}");
+    }
+    Ok(())
+}
+
+/// How many files and folders a tree may have.
+const MOST_ENTRIES: usize = 16_777_216;
+
+/// How many files are listed where a folder has so many.
+fn count_listed(alloc: Global, count: usize) -> Result<usize, TreeFault> {
+    Ok(MadeUp::tree(alloc, &[], "", count).list()?.files.len())
+}
+
+#[test]
+fn one_more_is_too_many(rt: HostRuntime) {
+    let found = count_listed(rt.alloc(), MOST_ENTRIES + 1);
+    assert!(rt; found == Err(TreeFault::TooMany));
+}
+
+#[test]
+fn that_many_are_listed(rt: HostRuntime) {
+    let found = count_listed(rt.alloc(), MOST_ENTRIES);
+    assert!(rt; found == Ok(MOST_ENTRIES));
+}

@@ -1,0 +1,60 @@
+//! Profiles in files of the system's.
+use crate::folders::path_of;
+use bag_disks::Folders;
+use bag_profile::ProfileFault;
+use bag_profile_file::{MOST_BYTES, ProfileRefusal, read_profile, refuse_profile};
+use std::fs::{self, File, OpenFile};
+use std::io::Write;
+use std::test::Fail;
+
+/// What is said of the profile at a path, and the exit status: without a refusal nothing, and 0.
+fn said(rt: &HostRuntime, path: &str) -> Result<String, Fail> {
+    let mut err = Vec::<u8>::new(rt.alloc());
+    let (folders, mut visits) = Folders::of(rt);
+    let status = match read_profile(rt.alloc(), &folders, path, &mut visits) {
+        Ok(_) => 0,
+        Err(refusal) => refuse_profile(refusal, &mut err),
+    };
+    write!(err, "{status}")?;
+    Ok(String::from_utf8(err)?)
+}
+
+/// A folder, a device without an end, and no path.
+#[test]
+fn reads_regular_files_alone(rt: HostRuntime) -> Result<(), Fail> {
+    for path in ["/", "/dev/zero", ""] {
+        let found = said(&rt, path)?;
+        assert!(rt;
+            found.as_str() == "bagit: profile unread\n3",
+            "{path}: {found}"
+        );
+    }
+    Ok(())
+}
+
+/// A file of zeros of the most bytes is read, and one of a byte more isn't.
+#[test]
+fn reads_no_larger_file(rt: HostRuntime) -> Result<(), Fail> {
+    let path = path_of(&rt, "large-profile")?;
+    let file = File::create(&rt, path.as_str())?;
+    let most = u64::from(MOST_BYTES);
+    for (size, wanted) in [
+        (most, "bagit: profile: not JSON\n2"),
+        (most + 1, "bagit: profile unread\n3"),
+    ] {
+        file.set_len(size)?;
+        let found = said(&rt, path.as_str())?;
+        assert!(rt; found.as_str() == wanted, "{size}: {found}");
+    }
+    fs::remove_file(&rt, path.as_str())?;
+    Ok(())
+}
+
+#[test]
+fn want_of_memory_is_told(rt: HostRuntime) -> Result<(), Fail> {
+    let mut err = Vec::<u8>::new(rt.alloc());
+    let refusal = ProfileRefusal::Refused(ProfileFault::Memory);
+    assert!(rt; refuse_profile(refusal, &mut err) == 3);
+    assert!(rt; err.as_slice() == b"bagit: out of memory\n".as_slice());
+    Ok(())
+}

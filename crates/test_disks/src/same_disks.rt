@@ -1,0 +1,55 @@
+//! Honest disks with files, and the program over them.
+ghost use Rattle.std.specs.Prelude.{◌≡◌, List, None, ℕ};
+ghost use Rattle.bag_cli.specs.Told.{IsCheckOfOne, TellsReport};
+ghost use Rattle.bag_file_tree.specs.DiskBag.{bag_of};
+ghost use Rattle.bag_memory_disk.specs.MemoryDisk.{fresh, state_of};
+
+use bag_cli::laws::honest_disks_are_told;
+use bag_cli::{Disks, Folders, Plan, perform};
+use bag_disks::ReadFault;
+use bag_memory_disk::MemoryDisk;
+use bag_tree::Out;
+use std::alloc::{AllocError, Global};
+use std::io::Write;
+
+/// Disks that hold the same below each base folder, and no file beside them.
+#[derive(Drop)]
+struct SameDisks<'a> {
+    held: &'a MemoryDisk,
+}
+
+impl<'a> Disks for SameDisks<'a> {
+    type Disk = MemoryDisk;
+
+    ghost below = { λ disks _. fresh (state_of disks.held.now).nodes };
+
+    ghost file = { λ _ _ bytes. bytes ≡ None };
+
+    fn disk(&self, alloc: Global, _base: &str) -> Result<MemoryDisk, AllocError> {
+        self.held.fresh_copy(alloc)
+    }
+
+    fn read_file(&self, _alloc: Global, _path: &str, _most: u32) -> Result<Vec<u8>, ReadFault> {
+        Err(ReadFault::Unread)
+    }
+}
+
+/// Checks what a disk holds as the program does, and gives the status.
+///
+/// Unless the status is 3, for a plan that checks one directory without a profile the output took the report of the bag that
+/// stands on the disk.
+pub fn checked<O: Out, E: Write>(
+    alloc: Global,
+    held: &MemoryDisk,
+    plan: &Plan,
+    out: &mut O,
+    err: &mut E,
+) -> u8
+    ensures { (name : List ℕ) → IsCheckOfOne plan.now name
+        → TellsReport plan.now None (bag_of (state_of held.now).nodes) name (O.taken out.old) (O.taken out.new) result }
+{
+    honest_disks_are_told();
+    let disks = SameDisks { held };
+    let (folders, mut visits) = Folders::of(&disks);
+    perform(alloc, &folders, plan, &mut visits, out, err)
+}

@@ -1,0 +1,141 @@
+//! The digests of files of trees in memory, however the reads are cut, and where a call of the tree is refused.
+ghost use Rattle.std.specs.Prelude.{◌<◌, length};
+
+use crate::pieces::summed;
+use bag_store::{FailTree, FileEntry, MemoryTree, Sums, TreeFault, digest_file};
+use bag_text::{Alg, AlgSet, Text};
+use std::alloc::{AllocError, Global};
+use std::test::Fail;
+
+const PATH: &str = "data/x";
+
+/// So many bytes, of which no neighbours are alike.
+pub(crate) fn bytes_of(alloc: Global, size: u32) -> Result<Vec<u8>, AllocError> {
+    (0..size).map(|index| (index % 251) as u8).collect(alloc)
+}
+
+/// The digests of a file of these bytes, which is listed with a path and a size, of a tree of which the call of this number is
+/// refused.
+fn digests(
+    alloc: Global,
+    bytes: &[u8],
+    listed: (&str, u64),
+    refused: u64,
+    algs: AlgSet,
+    buffer: &mut [u8],
+) -> Result<Result<Sums, TreeFault>, AllocError>
+    requires { 0 < length buffer.old }
+{
+    let (path, size) = listed;
+    let path = Text::from_str(alloc, path)?;
+    let mut tree = MemoryTree::new(alloc);
+    tree.put_file(PATH, bytes)?;
+    let mut tree = FailTree::new(tree, refused);
+    Ok(digest_file(&mut tree, &FileEntry { path, size }, algs, buffer))
+}
+
+/// Whether the digest of a file of these bytes by each algorithm is that of its bytes.
+fn are_summed(alloc: Global, bytes: &[u8], buffer: &mut [u8]) -> Result<bool, Fail>
+    requires { 0 < length buffer.old }
+{
+    let listed = (PATH, bytes.len() as u64);
+    for alg in Alg::ALL {
+        let algs = AlgSet::empty().with(alg);
+        let found = digests(alloc, bytes, listed, 0, algs, buffer)??.hex(alloc, alg)?;
+        if !summed(algs, &[bytes]).is_spelled(alg, found.as_str()) {
+            return Ok(false);
+        }
+    }
+    Ok(true)
+}
+
+#[test]
+fn files_are_summed_through_any_buffer(rt: HostRuntime) -> Result<(), Fail> {
+    for size in [0, 1, 3, 7, 8, 70_000] {
+        let bytes = bytes_of(rt.alloc(), size)?;
+        assert!(rt; are_summed(rt.alloc(), &bytes, &mut [0; 1])?, "{size}");
+        assert!(rt; are_summed(rt.alloc(), &bytes, &mut [0; 7])?, "{size}");
+        assert!(rt; are_summed(rt.alloc(), &bytes, &mut [0; 65_536])?, "{size}");
+    }
+    Ok(())
+}
+
+/// How a file of seven bytes is listed, its path and its size, each with what its digests are refused for.
+const REFUSED: &[((&str, u64), TreeFault)] = &[
+    ((PATH, 0), TreeFault::Changed),
+    ((PATH, 6), TreeFault::Changed),
+    ((PATH, 8), TreeFault::Changed),
+    ((PATH, u64::MAX), TreeFault::Changed),
+    (("data/y", 7), TreeFault::NotFound),
+    (("/data/x", 7), TreeFault::NotFound),
+];
+
+/// Whether each row is refused.
+fn are_refused(alloc: Global, buffer: &mut [u8]) -> Result<bool, AllocError>
+    requires { 0 < length buffer.old }
+{
+    for &(listed, fault) in REFUSED {
+        let found = digests(alloc, b"abcdefg", listed, 0, AlgSet::empty(), buffer)?;
+        if found.err() != Some(fault) {
+            return Ok(false);
+        }
+    }
+    Ok(true)
+}
+
+#[test]
+fn other_sizes_and_paths_are_refused(rt: HostRuntime) -> Result<(), Fail> {
+    assert!(rt; are_refused(rt.alloc(), &mut [0; 1])?);
+    assert!(rt; are_refused(rt.alloc(), &mut [0; 7])?);
+    assert!(rt; are_refused(rt.alloc(), &mut [0; 65_536])?);
+    Ok(())
+}
+
+/// Whether a pass makes a call for the opening, one for each piece, and one for the end: at most two more than there are bytes.
+fn takes_few_calls(alloc: Global, size: u32, buffer: &mut [u8]) -> Result<bool, AllocError>
+    requires { 0 < length buffer.old }
+{
+    let bytes = bytes_of(alloc, size)?;
+    let size = u64::from(size);
+    let calls = size.div_ceil(buffer.len() as u64) + 2;
+    for call in 1..=size + 3 {
+        let found = digests(alloc, &bytes, (PATH, size), call, AlgSet::empty(), buffer)?;
+        let refusal = (call <= calls).then_some(TreeFault::Device);
+        if found.err() != refusal {
+            return Ok(false);
+        }
+    }
+    Ok(calls <= size + 2)
+}
+
+#[test]
+fn a_pass_takes_few_calls(rt: HostRuntime) -> Result<(), Fail> {
+    for size in [0, 1, 2, 3, 7, 64] {
+        assert!(rt; takes_few_calls(rt.alloc(), size, &mut [0; 1])?, "{size}");
+        assert!(rt; takes_few_calls(rt.alloc(), size, &mut [0; 2])?, "{size}");
+        assert!(rt; takes_few_calls(rt.alloc(), size, &mut [0; 3])?, "{size}");
+        assert!(rt; takes_few_calls(rt.alloc(), size, &mut [0; 64])?, "{size}");
+    }
+    Ok(())
+}
+
+/// The digests of `abc`, as RFC 1321 and FIPS 180 publish them.
+const OF_ABC: &[(Alg, &str)] = &[
+    (Alg::Md5, "900150983cd24fb0d6963f7d28e17f72"),
+    (Alg::Sha1, "a9993e364706816aba3e25717850c26c9cd0d89d"),
+];
+
+/// Reads a byte at a time: an opening, three reads that give a byte, and one at the end.
+#[test]
+fn the_fifth_call_is_the_last(rt: HostRuntime) -> Result<(), Fail> {
+    for &(alg, wanted) in OF_ABC {
+        let algs = AlgSet::empty().with(alg);
+        for call in 1..=5 {
+            let found = digests(rt.alloc(), b"abc", (PATH, 3), call, algs, &mut [0; 1])?;
+            assert!(rt; found.err() == Some(TreeFault::Device), "{call}");
+        }
+        let found = digests(rt.alloc(), b"abc", (PATH, 3), 6, algs, &mut [0; 1])??;
+        assert!(rt; found.is_spelled(alg, wanted), "{wanted}");
+    }
+    Ok(())
+}

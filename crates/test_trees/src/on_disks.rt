@@ -1,0 +1,85 @@
+//! Trees of disks in memory, of which a call is refused or none.
+use crate::steps::{Name, Step, holds, take, take_all};
+use crate::trials::{DISK_TRIALS, Held, Place, SAMPLE, SAMPLE_HELD, TRIALS};
+use bag_memory_disk::{Call, MemoryDisk, Node, RefusingDisk};
+use bag_store::{DiskFault, FileTree, TreeFault};
+use std::alloc::{AllocError, Global};
+use std::collections::BTreeMap;
+use std::io::{self, ErrorKind};
+use std::test::Fail;
+
+fn node(alloc: Global, held: Held) -> Result<Node, AllocError> {
+    match held {
+        Held::File(text) => Ok(Node::File(text.as_bytes().to_vec(alloc)?)),
+        Held::Folder => Ok(Node::Folder),
+        Held::Link => Ok(Node::Other),
+    }
+}
+
+/// The disk of a table.
+fn disk(alloc: Global, places: &[Place]) -> Result<MemoryDisk, Fail> {
+    let mut nodes = BTreeMap::new(alloc);
+    for (path, held) in places {
+        let _ = nodes.insert(path.as_bytes().to_vec(alloc)?, node(alloc, *held)?)?;
+    }
+    match MemoryDisk::holding(alloc, nodes) {
+        Some(disk) => Ok(disk),
+        None => Err(io::Error::from(ErrorKind::InvalidInput).into()),
+    }
+}
+
+#[test]
+fn steps_change_a_disk_in_memory(rt: HostRuntime) -> Result<(), Fail> {
+    for trials in [TRIALS, DISK_TRIALS] {
+        for trial in trials {
+            let mut tree = FileTree::over(rt.alloc(), disk(rt.alloc(), trial.before)?);
+            let is_right = take_all(&mut tree, trial.steps).is_none()
+                && holds(rt.alloc(), &mut tree, trial.after);
+            assert!(rt; is_right, "{}", trial.title);
+        }
+    }
+    Ok(())
+}
+
+/// Each fault of a disk, and how a step is refused by it.
+const FAULTS: &[(DiskFault, TreeFault)] = &[
+    (DiskFault::NotFound, TreeFault::Device),
+    (DiskFault::Exists, TreeFault::Device),
+    (DiskFault::Name, TreeFault::Device),
+    (DiskFault::Memory, TreeFault::Memory),
+    (DiskFault::Device, TreeFault::Device),
+];
+
+/// A step, the number of a call of it, and what the tree holds where it is refused at that: a file that is made isn't there, is
+/// empty, or isn't known to be kept.
+const REFUSED: &[(Step, u64, &str)] = &[
+    (Step::MakeFolder(Name::M), 0, SAMPLE_HELD),
+    (Step::MoveIn(Name::X, Name::N), 0, SAMPLE_HELD),
+    (Step::RenameFolder(Name::D, Name::M), 0, SAMPLE_HELD),
+    (Step::Create(Name::Zero, "xyz"), 0, SAMPLE_HELD),
+    (
+        Step::Create(Name::Zero, "xyz"),
+        1,
+        "false, 0=, d-=, d/e/f=ef, d/x=x, x=abc",
+    ),
+    (
+        Step::Create(Name::Zero, "xyz"),
+        2,
+        "false, 0=xyz, d-=, d/e/f=ef, d/x=x, x=abc",
+    ),
+];
+
+#[test]
+fn a_refused_call_refuses_the_step(rt: HostRuntime) -> Result<(), Fail> {
+    for &(step, number, held) in REFUSED {
+        for &(fault, expected) in FAULTS {
+            let disk = disk(rt.alloc(), SAMPLE)?;
+            let disk = RefusingDisk::over(disk, Call::Numbered(number), fault);
+            let mut tree = FileTree::over(rt.alloc(), disk);
+            let is_right = take(&mut tree, step) == Err(expected)
+                && holds(rt.alloc(), &mut tree, held);
+            assert!(rt; is_right, "{held}");
+        }
+    }
+    Ok(())
+}

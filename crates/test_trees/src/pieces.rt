@@ -1,0 +1,107 @@
+//! That digests are the published ones in whatever pieces their bytes come, and no others.
+use crate::values::VALUES;
+use bag_store::{Digests, HexFault, Sums};
+use bag_text::{Alg, AlgSet};
+use std::alloc::Global;
+use std::test::Fail;
+
+/// The digests of bytes that come in these pieces.
+pub(crate) fn summed(algs: AlgSet, pieces: &[&[u8]]) -> Sums {
+    let mut digests = Digests::new(algs);
+    for piece in pieces {
+        digests.update(piece);
+    }
+    digests.finish()
+}
+
+/// The digests of bytes that come one by one.
+fn by_bytes(algs: AlgSet, bytes: &[u8]) -> Sums {
+    let mut digests = Digests::new(algs);
+    for byte in bytes.chunks(1) {
+        digests.update(byte);
+    }
+    digests.finish()
+}
+
+/// The set of every algorithm.
+fn every_alg() -> AlgSet {
+    let mut algs = AlgSet::empty();
+    for alg in Alg::ALL {
+        algs = algs.with(alg);
+    }
+    algs
+}
+
+/// Whether the digest by an algorithm is this text, and no other.
+fn is_value(alloc: Global, sums: &Sums, alg: Alg, value: &str) -> Result<bool, Fail> {
+    let found = sums.hex(alloc, alg)?;
+    let upper = value.to_ascii_uppercase(alloc)?;
+    Ok(
+        found.as_str() == value
+            && sums.is_spelled(alg, value)
+            && !sums.is_spelled(alg, upper.as_str())
+            && !sums.is_spelled(alg, ""),
+    )
+}
+
+/// With an empty piece between the two.
+#[test]
+fn pieces_have_the_digest_of_the_whole(rt: HostRuntime) -> Result<(), Fail> {
+    for &(alg, text, value) in VALUES {
+        let bytes = text.as_bytes();
+        let sums = by_bytes(every_alg(), bytes);
+        assert!(rt; is_value(rt.alloc(), &sums, alg, value)?, "{value}");
+        for place in 0..=bytes.len() {
+            let (front, back) = bytes.split_at(place);
+            let sums = summed(every_alg(), &[front, b"", back]);
+            assert!(rt; is_value(rt.alloc(), &sums, alg, value)?, "{value} {place}");
+        }
+    }
+    Ok(())
+}
+
+/// Whether no digest is taken that differs from this one in a digit.
+fn is_alone(sums: &Sums, alg: Alg, digest: &mut [u8]) -> bool {
+    for place in 0..digest.len() {
+        let byte = digest[place];
+        for other in [byte ^ 0x01, byte ^ 0x10] {
+            digest[place] = other;
+            if sums.is_digest(alg, digest) {
+                return false;
+            }
+        }
+        digest[place] = byte;
+    }
+    true
+}
+
+#[test]
+fn each_digest_is_taken_and_no_other(rt: HostRuntime) -> Result<(), Fail> {
+    for &(alg, text, value) in VALUES {
+        let sums = summed(every_alg(), &[text.as_bytes()]);
+        let mut digest = hex::decode(rt.alloc(), value)?;
+        let is_taken = sums.is_digest(alg, &digest) && !sums.is_digest(alg, b"");
+        assert!(rt; is_taken && is_alone(&sums, alg, &mut digest), "{value}");
+    }
+    Ok(())
+}
+
+/// Only the algorithms that were asked for have a digest, and each of them has. It is no digest of another one.
+#[test]
+fn no_other_algorithm_has_a_digest(rt: HostRuntime) -> Result<(), Fail> {
+    for asked in Alg::ALL {
+        let algs = AlgSet::empty().with(asked);
+        for &(alg, text, value) in VALUES {
+            let is_asked = alg == asked;
+            let sums = summed(algs, &[text.as_bytes()]);
+            let digest = hex::decode(rt.alloc(), value)?;
+            assert!(rt; sums.is_digest(alg, &digest) == is_asked, "{value}");
+            assert!(rt; sums.is_digest(asked, &digest) == is_asked, "{value}");
+            let refusal = (!is_asked).then_some(HexFault::NotAsked);
+            assert!(rt; sums.hex(rt.alloc(), alg).err() == refusal, "{value}");
+            let is_spelled = summed(algs, &[]).is_spelled(alg, value);
+            assert!(rt; is_spelled == (is_asked && text.is_empty()), "{value}");
+        }
+    }
+    Ok(())
+}

@@ -1,0 +1,114 @@
+//! What no contract says of trees in memory and of writers: that the calls succeed while there is memory and room.
+use crate::files::bytes_of;
+use bag_store::{FileEntry, MemoryTree, Out, Refused, Tree, TreeFault, WriterOut, read_whole};
+use bag_text::check_path;
+use std::alloc::Global;
+use std::io::{self, Write};
+use std::test::Fail;
+
+/// Puts the file of a number into a tree.
+fn put(alloc: Global, tree: &mut MemoryTree, index: usize, bytes: &[u8]) -> Result<(), Fail> {
+    let path = format!(in alloc; "data/{}/{index}", index % 7)?;
+    check_path(path.as_str())?;
+    Ok(tree.put_file(path.as_str(), bytes)?)
+}
+
+/// Whether each of these files is read as these bytes.
+fn are_read(
+    alloc: Global,
+    tree: &mut MemoryTree,
+    files: &[FileEntry],
+    bytes: &[u8],
+) -> Result<bool, TreeFault> {
+    for entry in files {
+        if read_whole(alloc, tree, entry)?.as_slice() != bytes {
+            return Ok(false);
+        }
+    }
+    Ok(true)
+}
+
+/// Whether a tree lists so many files of this size, and reads each, after they were put into it. It is empty at first.
+fn lists_and_reads(
+    alloc: Global,
+    tree: &mut MemoryTree,
+    count: usize,
+    size: u32,
+) -> Result<bool, Fail> {
+    let bytes = bytes_of(alloc, size)?;
+    tree.put_folder("data")?;
+    for index in 0..count {
+        put(alloc, tree, index, &bytes)?;
+    }
+    let listing = tree.list()?;
+    let files = listing.files.as_slice();
+    Ok(
+        listing.has_data
+            && files.len() == count
+            && are_read(alloc, tree, files, &bytes)?
+            && tree.openings().len() == count,
+    )
+}
+
+/// Counts of files, and their sizes.
+const SIZES: &[(usize, u32)] = &[
+    (0, 0),
+    (1, 0),
+    (1, 3),
+    (2, 4096),
+    (9, 4097),
+    (300, 1),
+    (2, 50_000),
+];
+
+#[test]
+fn files_in_memory_are_listed_and_read(rt: HostRuntime) -> Result<(), Fail> {
+    for &(count, size) in SIZES {
+        let mut tree = MemoryTree::new(rt.alloc());
+        assert!(rt;
+            lists_and_reads(rt.alloc(), &mut tree, count, size)?,
+            "{count}"
+        );
+    }
+    Ok(())
+}
+
+/// Takes what it has room for, and then nothing.
+#[derive(Drop)]
+struct Short {
+    taken: Vec<u8>,
+    room: usize,
+}
+
+impl Write for Short {
+    fn write(&mut self, bytes: &[u8]) -> io::Result<usize> {
+        let count = bytes.len().min(self.room);
+        self.taken.extend_from_slice(&bytes[..count])?;
+        self.room -= count;
+        Ok(count)
+    }
+
+    fn flush(&mut self) -> io::Result<()> {
+        Ok(())
+    }
+}
+
+/// What is put into an output with room for three bytes, in order, and what each call answers.
+const PUTS: &[(&[u8], Result<usize, Refused>)] = &[
+    (b"ab", Ok(2)),
+    (b"cdef", Ok(1)),
+    (b"def", Err(Refused)),
+    (b"d", Err(Refused)),
+];
+
+#[test]
+fn a_writer_that_takes_nothing_has_refused(rt: HostRuntime) {
+    let mut out = WriterOut::new(Short {
+        taken: Vec::new(rt.alloc()),
+        room: 3,
+    });
+    for &(bytes, answer) in PUTS {
+        assert!(rt; out.put(bytes) == answer, "{bytes:?}");
+    }
+    assert!(rt; out.into_inner().taken.as_slice() == b"abc".as_slice());
+}
