@@ -28,6 +28,7 @@ pub(crate) fn run(
             see_on_shelf(sight, &command, folders, beside, report)?;
             see_in_trees(sight, &command, folders, report)
         }
+        ("on-disk", _) => see_on_disk(rt, sight, &command, folders, report),
         ("ls", [name]) => list(rt, sight, *name, folders, report),
         ("cat", [place]) => write_out(rt, sight, *place, folders, report),
         ("stage", _) => stages::see_stage(sight, words, folders, beside, report),

@@ -6,7 +6,7 @@ ghost use Rattle.bag_memory_disk.specs.Refusing.{refusing};
 use crate::held::{Held, Place, disk};
 use crate::refusals::FAULTS;
 use crate::same_rows::plan_for;
-use bag_cli::{Disks, Folders, WriterOut, perform};
+use bag_cli::{Disks, Folders, WriterOut, perform, program};
 use bag_disk::DiskFault;
 use bag_disks::ReadFault;
 use bag_memory_disk::{Call, MemoryDisk, RefusingDisk};
@@ -113,5 +113,27 @@ fn memory_runs_out_before_the_second_report(rt: HostRuntime) -> Result<(), Fail>
         let found = told(rt.alloc(), &disks, names)?;
         assert!(rt; found.as_str() == wanted, "{found}");
     }
+    Ok(())
+}
+
+/// What the program writes to words, what it says beside that, and the status.
+fn answered(alloc: Global, disks: &RefusingDisks<'_>, words: &[&str]) -> (Vec<u8>, Vec<u8>, u8) {
+    let (folders, mut visits) = Folders::of(disks);
+    let mut out = WriterOut::new(Vec::<u8>::new(alloc));
+    let mut err = Vec::<u8>::new(alloc);
+    let status = program(alloc, &folders, words, &mut visits, &mut out, &mut err);
+    (out.into_inner(), err, status)
+}
+
+#[test]
+fn help_ends_well(rt: HostRuntime) -> Result<(), Fail> {
+    let held = disk(rt.alloc(), PLACES)?;
+    let disks = RefusingDisks {
+        held: &held,
+        path: "none",
+        fault: DiskFault::Device,
+    };
+    let (written, said, status) = answered(rt.alloc(), &disks, &["--help"]);
+    assert!(rt; !written.is_empty() && said.is_empty() && status == 0);
     Ok(())
 }

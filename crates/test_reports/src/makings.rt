@@ -112,6 +112,52 @@ fn bad_requests_are_refused_before_the_folder_is_listed(rt: HostRuntime) -> Resu
     Ok(())
 }
 
+/// A bag whose metadata has labels that no option has, in the order in which they were given, the size of the payload last.
+const LABELLED: Files = &[
+    (
+        "bag-info.txt",
+        b"Source-Organization: Z\nContact-Name: Ann\nContact-Name: Bo\na b: \na: b: c :d\n#: %0A\nPayload-Oxum-: 1.1\n\
+          Bag-Count: 1 of 2\nPayload-Oxum: 5.2\n",
+    ),
+    (
+        "bagit.txt",
+        b"BagIt-Version: 1.0\nTag-File-Character-Encoding: UTF-8\n",
+    ),
+    ("data/c", b"abc"),
+    ("data/data/a", b"ab"),
+    (
+        "manifest-sha1.txt",
+        b"a9993e364706816aba3e25717850c26c9cd0d89d  data/c\n\
+          da23614e02469a0d7c7bd1bdab5c9c474b1904dc  data/data/a\n",
+    ),
+    (
+        "tagmanifest-sha1.txt",
+        b"98bc3f77dfe452b8cf133849aab3b71f6c4184a9  bag-info.txt\n\
+          8010d7758f1793d0221c529fef818ff988dda141  bagit.txt\n\
+          56d7a8de62a1fb07112fd7050df44cd04fecf8d4  manifest-sha1.txt\n",
+    ),
+];
+
+/// What that bag's metadata was to say.
+const LABELS: &[(&str, &str)] = &[
+    ("Source-Organization", "Z"),
+    ("Contact-Name", "Ann"),
+    ("Contact-Name", "Bo"),
+    ("a b", ""),
+    ("a", "b: c :d"),
+    ("#", "%0A"),
+    ("Payload-Oxum-", "1.1"),
+    ("Bag-Count", "1 of 2"),
+];
+
+#[test]
+fn labels_that_no_option_has(rt: HostRuntime) -> Result<(), Fail> {
+    let tree = folder(rt.alloc(), &[("c", b"abc"), ("data/a", b"ab")])?;
+    let (mut tree, told) = made(rt.alloc(), tree, (&[Alg::Sha1], LABELS))?;
+    assert!(rt; told.as_str() == "d made\n" && holds(rt.alloc(), &mut tree, LABELLED)?);
+    Ok(())
+}
+
 /// What a making of `d` writes that ended so.
 fn told(alloc: Global, made: &Result<(), MakeFault>, quiet: bool) -> Result<String, Fail> {
     let mut out = WriterOut::new(Vec::<u8>::new(alloc));
