@@ -231,7 +231,7 @@ struct Large {
     paths: Parts,
     size: usize,
     files: usize,
-    manifests: [(&'static str, Parts); 2],
+    manifests: &'static [(&'static str, Parts)],
 }
 
 const LARGE: &[Large] = &[
@@ -240,7 +240,7 @@ const LARGE: &[Large] = &[
         paths: &["d/a/#\n", "d/b/#\n"],
         size: 1,
         files: 10_006,
-        manifests: [
+        manifests: &[
             (
                 "manifest-md5.txt",
                 &[
@@ -262,7 +262,7 @@ const LARGE: &[Large] = &[
         paths: &["a\n"],
         size: 1_000_000,
         files: 7,
-        manifests: [
+        manifests: &[
             (
                 "manifest-md5.txt",
                 &["7707d6ae4e027c70eea2a935c2296f21  data/a\n"],
@@ -290,7 +290,7 @@ fn has_manifests(alloc: Global, tree: &mut MemoryTree, row: &Large) -> Result<bo
     let mut found = 0usize;
     for entry in listing.files.as_slice() {
         for (path, parts) in row.manifests {
-            if entry.path.as_str() == path {
+            if entry.path.as_str() == *path {
                 let held = read_whole(alloc, tree, entry)?;
                 let wanted = text_of(alloc, parts, row.count)?;
                 found = found.wrapping_add(usize::from(held.as_slice() == wanted.as_bytes()));

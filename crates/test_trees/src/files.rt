@@ -34,15 +34,16 @@ fn digests(
     Ok(digest_file(&mut tree, &FileEntry { path, size }, algs, buffer))
 }
 
-/// Whether the digest of a file of these bytes by each algorithm is that of its bytes.
-fn are_summed(alloc: Global, bytes: &[u8], buffer: &mut [u8]) -> Result<bool, Fail>
+/// Whether the digest of a file of so many bytes by each algorithm is that of its bytes.
+fn is_summed(alloc: Global, size: u32, buffer: &mut [u8]) -> Result<bool, Fail>
     requires { 0 < length buffer.old }
 {
-    let listed = (PATH, bytes.len() as u64);
+    let bytes = bytes_of(alloc, size)?;
     for alg in Alg::ALL {
         let algs = AlgSet::empty().with(alg);
-        let found = digests(alloc, bytes, listed, 0, algs, buffer)??.hex(alloc, alg)?;
-        if !summed(algs, &[bytes]).is_spelled(alg, found.as_str()) {
+        let listed = (PATH, u64::from(size));
+        let found = digests(alloc, &bytes, listed, 0, algs, buffer)??.hex(alloc, alg)?;
+        if !summed(algs, &[&bytes]).is_spelled(alg, found.as_str()) {
             return Ok(false);
         }
     }
@@ -52,10 +53,10 @@ fn are_summed(alloc: Global, bytes: &[u8], buffer: &mut [u8]) -> Result<bool, Fa
 #[test]
 fn files_are_summed_through_any_buffer(rt: HostRuntime) -> Result<(), Fail> {
     for size in [0, 1, 3, 7, 8, 70_000] {
-        let bytes = bytes_of(rt.alloc(), size)?;
-        assert!(rt; are_summed(rt.alloc(), &bytes, &mut [0; 1])?, "{size}");
-        assert!(rt; are_summed(rt.alloc(), &bytes, &mut [0; 7])?, "{size}");
-        assert!(rt; are_summed(rt.alloc(), &bytes, &mut [0; 65_536])?, "{size}");
+        let is_right = is_summed(rt.alloc(), size, &mut [0; 1])?
+            && is_summed(rt.alloc(), size, &mut [0; 7])?
+            && is_summed(rt.alloc(), size, &mut [0; 65_536])?;
+        assert!(rt; is_right, "{size}");
     }
     Ok(())
 }
@@ -85,9 +86,10 @@ fn are_refused(alloc: Global, buffer: &mut [u8]) -> Result<bool, AllocError>
 
 #[test]
 fn other_sizes_and_paths_are_refused(rt: HostRuntime) -> Result<(), Fail> {
-    assert!(rt; are_refused(rt.alloc(), &mut [0; 1])?);
-    assert!(rt; are_refused(rt.alloc(), &mut [0; 7])?);
-    assert!(rt; are_refused(rt.alloc(), &mut [0; 65_536])?);
+    let is_right = are_refused(rt.alloc(), &mut [0; 1])?
+        && are_refused(rt.alloc(), &mut [0; 7])?
+        && are_refused(rt.alloc(), &mut [0; 65_536])?;
+    assert!(rt; is_right);
     Ok(())
 }
 
@@ -111,10 +113,11 @@ fn takes_few_calls(alloc: Global, size: u32, buffer: &mut [u8]) -> Result<bool, 
 #[test]
 fn a_pass_takes_few_calls(rt: HostRuntime) -> Result<(), Fail> {
     for size in [0, 1, 2, 3, 7, 64] {
-        assert!(rt; takes_few_calls(rt.alloc(), size, &mut [0; 1])?, "{size}");
-        assert!(rt; takes_few_calls(rt.alloc(), size, &mut [0; 2])?, "{size}");
-        assert!(rt; takes_few_calls(rt.alloc(), size, &mut [0; 3])?, "{size}");
-        assert!(rt; takes_few_calls(rt.alloc(), size, &mut [0; 64])?, "{size}");
+        let is_right = takes_few_calls(rt.alloc(), size, &mut [0; 1])?
+            && takes_few_calls(rt.alloc(), size, &mut [0; 2])?
+            && takes_few_calls(rt.alloc(), size, &mut [0; 3])?
+            && takes_few_calls(rt.alloc(), size, &mut [0; 64])?;
+        assert!(rt; is_right, "{size}");
     }
     Ok(())
 }
@@ -125,17 +128,24 @@ const OF_ABC: &[(Alg, &str)] = &[
     (Alg::Sha1, "a9993e364706816aba3e25717850c26c9cd0d89d"),
 ];
 
-/// Reads a byte at a time: an opening, three reads that give a byte, and one at the end.
+/// Whether each call but the sixth refuses the digest of `abc`, which is read a byte at a time.
+fn is_sixth_past(alloc: Global, alg: Alg, wanted: &str) -> Result<bool, Fail> {
+    let algs = AlgSet::empty().with(alg);
+    for call in 1..=5 {
+        let found = digests(alloc, b"abc", (PATH, 3), call, algs, &mut [0; 1])?;
+        if found.err() != Some(TreeFault::Device) {
+            return Ok(false);
+        }
+    }
+    let found = digests(alloc, b"abc", (PATH, 3), 6, algs, &mut [0; 1])??;
+    Ok(found.is_spelled(alg, wanted))
+}
+
+/// An opening, three reads that give a byte, and one at the end.
 #[test]
 fn the_fifth_call_is_the_last(rt: HostRuntime) -> Result<(), Fail> {
     for &(alg, wanted) in OF_ABC {
-        let algs = AlgSet::empty().with(alg);
-        for call in 1..=5 {
-            let found = digests(rt.alloc(), b"abc", (PATH, 3), call, algs, &mut [0; 1])?;
-            assert!(rt; found.err() == Some(TreeFault::Device), "{call}");
-        }
-        let found = digests(rt.alloc(), b"abc", (PATH, 3), 6, algs, &mut [0; 1])??;
-        assert!(rt; found.is_spelled(alg, wanted), "{wanted}");
+        assert!(rt; is_sixth_past(rt.alloc(), alg, wanted)?, "{wanted}");
     }
     Ok(())
 }

@@ -93,12 +93,17 @@ fn makes_long_file<T: WriteTree>(alloc: Global, tree: &mut T) -> Result<bool, Tr
     Ok(holds(alloc, tree, held.as_str()))
 }
 
+/// Whether a long file is made in a folder that is made for it.
+fn is_long_file_made(rt: &HostRuntime, folders: &str) -> Result<bool, Fail> {
+    make_folders(rt, folders, &[])?;
+    let mut tree = tree_of(rt, folders, "base")?;
+    Ok(makes_long_file(rt.alloc(), &mut tree)?)
+}
+
 #[test]
 fn a_long_file_is_made_whole(rt: HostRuntime) -> Result<(), Fail> {
     let folders = path_of(&rt, "long-step")?;
-    make_folders(&rt, folders.as_str(), &[])?;
-    let mut tree = tree_of(&rt, folders.as_str(), "base")?;
-    assert!(rt; makes_long_file(rt.alloc(), &mut tree)?);
+    assert!(rt; is_long_file_made(&rt, folders.as_str())?);
     fs::remove_dir_all(&rt, folders.as_str())?;
     Ok(())
 }

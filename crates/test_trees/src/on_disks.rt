@@ -1,6 +1,6 @@
 //! Trees of disks in memory, of which a call is refused or none.
 use crate::steps::{Name, Step, holds, take, take_all};
-use crate::trials::{DISK_TRIALS, Held, Place, SAMPLE, SAMPLE_HELD, TRIALS};
+use crate::trials::{DISK_TRIALS, Held, Place, SAMPLE, SAMPLE_HELD, TRIALS, Trial};
 use bag_memory_disk::{Call, MemoryDisk, Node, RefusingDisk};
 use bag_store::{DiskFault, FileTree, TreeFault};
 use std::alloc::{AllocError, Global};
@@ -28,14 +28,17 @@ fn disk(alloc: Global, places: &[Place]) -> Result<MemoryDisk, Fail> {
     }
 }
 
+/// Whether a trial is right on a disk in memory.
+fn is_right(alloc: Global, trial: &Trial) -> Result<bool, Fail> {
+    let mut tree = FileTree::over(alloc, disk(alloc, trial.before)?);
+    Ok(take_all(&mut tree, trial.steps).is_none() && holds(alloc, &mut tree, trial.after))
+}
+
 #[test]
 fn steps_change_a_disk_in_memory(rt: HostRuntime) -> Result<(), Fail> {
     for trials in [TRIALS, DISK_TRIALS] {
         for trial in trials {
-            let mut tree = FileTree::over(rt.alloc(), disk(rt.alloc(), trial.before)?);
-            let is_right = take_all(&mut tree, trial.steps).is_none()
-                && holds(rt.alloc(), &mut tree, trial.after);
-            assert!(rt; is_right, "{}", trial.title);
+            assert!(rt; is_right(rt.alloc(), trial)?, "{}", trial.title);
         }
     }
     Ok(())
@@ -69,16 +72,22 @@ const REFUSED: &[(Step, u64, &str)] = &[
     ),
 ];
 
+/// Whether a step on the sample is refused so where a call is refused by a fault, and this is held then.
+fn is_refused(
+    alloc: Global,
+    (step, number, held): (Step, u64, &str),
+    (fault, expected): (DiskFault, TreeFault),
+) -> Result<bool, Fail> {
+    let disk = RefusingDisk::over(disk(alloc, SAMPLE)?, Call::Numbered(number), fault);
+    let mut tree = FileTree::over(alloc, disk);
+    Ok(take(&mut tree, step) == Err(expected) && holds(alloc, &mut tree, held))
+}
+
 #[test]
 fn a_refused_call_refuses_the_step(rt: HostRuntime) -> Result<(), Fail> {
-    for &(step, number, held) in REFUSED {
-        for &(fault, expected) in FAULTS {
-            let disk = disk(rt.alloc(), SAMPLE)?;
-            let disk = RefusingDisk::over(disk, Call::Numbered(number), fault);
-            let mut tree = FileTree::over(rt.alloc(), disk);
-            let is_right = take(&mut tree, step) == Err(expected)
-                && holds(rt.alloc(), &mut tree, held);
-            assert!(rt; is_right, "{held}");
+    for &row in REFUSED {
+        for &fault in FAULTS {
+            assert!(rt; is_refused(rt.alloc(), row, fault)?, "{}", row.2);
         }
     }
     Ok(())

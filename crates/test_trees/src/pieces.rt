@@ -1,5 +1,5 @@
 //! That digests are the published ones in whatever pieces their bytes come, and no others.
-use crate::values::VALUES;
+use crate::values::{VALUES, Value};
 use bag_store::{Digests, HexFault, Sums};
 use bag_text::{Alg, AlgSet};
 use std::alloc::Global;
@@ -44,18 +44,23 @@ fn is_value(alloc: Global, sums: &Sums, alg: Alg, value: &str) -> Result<bool, F
     )
 }
 
-/// With an empty piece between the two.
+/// Whether the digest is this one where the bytes come one by one, and in two pieces with an empty one between.
+fn is_value_in_pieces(alloc: Global, (alg, text, value): Value) -> Result<bool, Fail> {
+    let bytes = text.as_bytes();
+    for place in 0..=bytes.len() {
+        let (front, back) = bytes.split_at(place);
+        let sums = summed(every_alg(), &[front, b"", back]);
+        if !is_value(alloc, &sums, alg, value)? {
+            return Ok(false);
+        }
+    }
+    is_value(alloc, &by_bytes(every_alg(), bytes), alg, value)
+}
+
 #[test]
 fn pieces_have_the_digest_of_the_whole(rt: HostRuntime) -> Result<(), Fail> {
-    for &(alg, text, value) in VALUES {
-        let bytes = text.as_bytes();
-        let sums = by_bytes(every_alg(), bytes);
-        assert!(rt; is_value(rt.alloc(), &sums, alg, value)?, "{value}");
-        for place in 0..=bytes.len() {
-            let (front, back) = bytes.split_at(place);
-            let sums = summed(every_alg(), &[front, b"", back]);
-            assert!(rt; is_value(rt.alloc(), &sums, alg, value)?, "{value} {place}");
-        }
+    for &row in VALUES {
+        assert!(rt; is_value_in_pieces(rt.alloc(), row)?, "{}", row.2);
     }
     Ok(())
 }
@@ -75,32 +80,44 @@ fn is_alone(sums: &Sums, alg: Alg, digest: &mut [u8]) -> bool {
     true
 }
 
+/// Whether the digest of a text is this one, and no other.
+fn is_taken(alloc: Global, (alg, text, value): Value) -> Result<bool, Fail> {
+    let mut digest = hex::decode(alloc, value)?;
+    let sums = summed(every_alg(), &[text.as_bytes()]);
+    let is_taken = sums.is_digest(alg, &digest) && !sums.is_digest(alg, b"");
+    Ok(is_taken && is_alone(&sums, alg, &mut digest))
+}
+
 #[test]
 fn each_digest_is_taken_and_no_other(rt: HostRuntime) -> Result<(), Fail> {
-    for &(alg, text, value) in VALUES {
-        let sums = summed(every_alg(), &[text.as_bytes()]);
-        let mut digest = hex::decode(rt.alloc(), value)?;
-        let is_taken = sums.is_digest(alg, &digest) && !sums.is_digest(alg, b"");
-        assert!(rt; is_taken && is_alone(&sums, alg, &mut digest), "{value}");
+    for &row in VALUES {
+        assert!(rt; is_taken(rt.alloc(), row)?, "{}", row.2);
     }
     Ok(())
 }
 
-/// Only the algorithms that were asked for have a digest, and each of them has. It is no digest of another one.
+/// Whether a digest is taken and spelled where its algorithm alone was asked for, and is none of another algorithm that was.
+fn is_told_apart(alloc: Global, asked: Alg, (alg, text, value): Value) -> Result<bool, Fail> {
+    let is_asked = alg == asked;
+    let algs = AlgSet::empty().with(asked);
+    let digest = hex::decode(alloc, value)?;
+    let sums = summed(algs, &[text.as_bytes()]);
+    let refusal = (!is_asked).then_some(HexFault::NotAsked);
+    let is_spelled = summed(algs, &[]).is_spelled(alg, value);
+    Ok(
+        sums.is_digest(alg, &digest) == is_asked
+            && sums.is_digest(asked, &digest) == is_asked
+            && sums.hex(alloc, alg).err() == refusal
+            && is_spelled == (is_asked && text.is_empty()),
+    )
+}
+
+/// Only the algorithms that were asked for have a digest, and each of them has.
 #[test]
 fn no_other_algorithm_has_a_digest(rt: HostRuntime) -> Result<(), Fail> {
     for asked in Alg::ALL {
-        let algs = AlgSet::empty().with(asked);
-        for &(alg, text, value) in VALUES {
-            let is_asked = alg == asked;
-            let sums = summed(algs, &[text.as_bytes()]);
-            let digest = hex::decode(rt.alloc(), value)?;
-            assert!(rt; sums.is_digest(alg, &digest) == is_asked, "{value}");
-            assert!(rt; sums.is_digest(asked, &digest) == is_asked, "{value}");
-            let refusal = (!is_asked).then_some(HexFault::NotAsked);
-            assert!(rt; sums.hex(rt.alloc(), alg).err() == refusal, "{value}");
-            let is_spelled = summed(algs, &[]).is_spelled(alg, value);
-            assert!(rt; is_spelled == (is_asked && text.is_empty()), "{value}");
+        for &row in VALUES {
+            assert!(rt; is_told_apart(rt.alloc(), asked, row)?, "{}", row.2);
         }
     }
     Ok(())
