@@ -77,7 +77,13 @@ pub(crate) fn begin_folder(
 /// Puts something into the last folder.
 pub(crate) fn put_last(folders: &mut Vec<Folder>, spot: Spot) -> Result<(), Mistake> {
     match folders.last_mut() {
-        Some(folder) => folder.put(spot),
+        Some(folder) => {
+            // one file of a folder can hold something else when it is opened
+            if spot.sort == Sort::Opened && folder.has(Sort::Opened) {
+                return Err(Mistake::Place);
+            }
+            folder.put(spot)
+        }
         None => Err(Mistake::Place),
     }
 }

@@ -67,17 +67,25 @@ fn holding(alloc: Global, folder: &Folder) -> Result<MemoryDisk, AllocError>
     }
 }
 
-/// The disk, of which files hold something else when they are opened.
-fn swapped(alloc: Global, disk: MemoryDisk, folder: &Folder) -> Result<MemoryDisk, AllocError>
+/// The first file of a folder that holds something else when it is opened.
+fn opened_in(folder: &Folder) -> Option<&Spot> {
+    for spot in &folder.spots {
+        if spot.sort == Sort::Opened {
+            return Some(spot);
+        }
+    }
+    None
+}
+
+/// The disk, of which a file holds something else when it is opened, where there is one.
+fn swapped(alloc: Global, disk: MemoryDisk, opened: Option<&Spot>) -> Result<MemoryDisk, AllocError>
     requires { IsUnopened (state_of disk) }
     ensures { IfOk result (λ disk. IsUnopened (state_of disk)) }
 {
     let mut disk = disk;
-    for spot in &folder.spots {
-        if spot.sort == Sort::Opened {
-            let path = Text::from_str(alloc, spot.path.as_str())?;
-            disk.swap(path, spot.bytes.as_slice().to_vec(alloc)?);
-        }
+    if let Some(spot) = opened {
+        let path = Text::from_str(alloc, spot.path.as_str())?;
+        disk.swap(path, spot.bytes.as_slice().to_vec(alloc)?);
     }
     Ok(disk)
 }
@@ -91,7 +99,7 @@ impl<'a> Disks for Shelf<'a> {
 
     fn disk(&self, alloc: Global, base: &str) -> Result<ShelfDisk, AllocError> {
         let disk = match folder_of(self.folders, base) {
-            Ok(folder) => swapped(alloc, holding(alloc, folder)?, folder)?,
+            Ok(folder) => swapped(alloc, holding(alloc, folder)?, opened_in(folder))?,
             Err(_) => no_disk(alloc)?,
         };
         let (call, fault) = match self.refused {
