@@ -192,15 +192,28 @@ const ANSWERED: &[(Change, Result<(), DiskFault>)] = &[
     (Change::Rename("a", "b"), NOT_FOUND),
 ];
 
+/// Whether changes in turn are answered so.
+fn are_answered<D: WritableDisk>(disk: &mut D) -> bool {
+    for (change, answer) in ANSWERED {
+        if make(disk, *change) != *answer {
+            return false;
+        }
+    }
+    true
+}
+
+/// Whether the changes are answered so on the disk below a folder, and the file stands there then.
+fn changes_below(rt: &HostRuntime, base: &str) -> Result<bool, Fail> {
+    let mut disk = SystemDisk::new(rt.clone()?, rt.alloc(), base)?;
+    let are_answered = are_answered(&mut disk);
+    let mut tree = FileTree::over(rt.alloc(), disk);
+    Ok(are_answered && ends(rt.alloc(), &mut tree, ("data/b", 3), Ok("abc"))?)
+}
+
 #[test]
 fn changes_a_real_folder(rt: HostRuntime) -> Result<(), Fail> {
     let base = fresh_folder(&rt, "changes")?;
-    let mut disk = SystemDisk::new(rt.clone()?, rt.alloc(), base.as_str())?;
-    for (place, (change, answer)) in ANSWERED.iter().enumerate() {
-        assert!(rt; make(&mut disk, *change) == *answer, "{place}");
-    }
-    let mut tree = FileTree::over(rt.alloc(), disk);
-    assert!(rt; ends(rt.alloc(), &mut tree, ("data/b", 3), Ok("abc"))?);
+    assert!(rt; changes_below(&rt, base.as_str())?);
     fs::remove_dir_all(&rt, base.as_str())?;
     Ok(())
 }

@@ -74,16 +74,21 @@ fn make_all(rt: &HostRuntime, base: &str) -> io::Result<()> {
     make_files(rt, base, files.as_slice())
 }
 
+/// Whether they are listed, and one of them is read.
+fn are_listed(rt: &HostRuntime, base: &str) -> io::Result<bool> {
+    make_all(rt, base)?;
+    let wanted = "true, .a/.c 5, .b 2, a-b 3, a.b 3, a/b 3, data/sub/x 10, é 2";
+    Ok(
+        listed_at(rt, base)?.as_str() == wanted
+            && is_read(rt, base, ("data/sub/x", 10), Ok("data/sub/x"))?,
+    )
+}
+
 #[test]
 fn lists_files_by_the_bytes_of_their_paths(rt: HostRuntime) -> Result<(), Fail> {
     let base = fresh_folder(&rt, "lists")?;
-    let base = base.as_str();
-    make_all(&rt, base)?;
-    let found = listed_at(&rt, base)?;
-    let wanted = "true, .a/.c 5, .b 2, a-b 3, a.b 3, a/b 3, data/sub/x 10, é 2";
-    assert!(rt; found.as_str() == wanted, "{found}");
-    assert!(rt; is_read(&rt, base, ("data/sub/x", 10), Ok("data/sub/x"))?);
-    fs::remove_dir_all(&rt, base)?;
+    assert!(rt; are_listed(&rt, base.as_str())?);
+    fs::remove_dir_all(&rt, base.as_str())?;
     Ok(())
 }
 
@@ -111,21 +116,29 @@ const UNREAD: &[(&str, TreeFault)] = &[
     ("bag/none", TreeFault::NotFound),
 ];
 
+/// Whether each row is refused so.
+fn are_refused(rt: &HostRuntime, base: &str) -> io::Result<bool> {
+    make_link(rt, base)?;
+    for &(path, wanted) in LISTED {
+        if listed_at(rt, place(rt, base, path)?.as_str())?.as_str() != wanted {
+            return Ok(false);
+        }
+    }
+    for &(path, fault) in UNREAD {
+        if !is_read(rt, base, (path, 8), Err(fault))? {
+            return Ok(false);
+        }
+    }
+    Ok(true)
+}
+
 /// Nothing is listed below an empty base, either.
 #[test]
 fn refuses_what_is_no_file_below_it(rt: HostRuntime) -> Result<(), Fail> {
     let base = fresh_folder(&rt, "refuses")?;
-    let base = base.as_str();
-    make_link(&rt, base)?;
-    for &(path, wanted) in LISTED {
-        let found = listed_at(&rt, place(&rt, base, path)?.as_str())?;
-        assert!(rt; found.as_str() == wanted, "{path}: {found}");
-    }
-    for &(path, fault) in UNREAD {
-        assert!(rt; is_read(&rt, base, (path, 8), Err(fault))?, "{path}");
-    }
+    assert!(rt; are_refused(&rt, base.as_str())?);
     assert!(rt; listed_at(&rt, "")?.as_str() == "device");
-    fs::remove_dir_all(&rt, base)?;
+    fs::remove_dir_all(&rt, base.as_str())?;
     Ok(())
 }
 
@@ -199,14 +212,20 @@ fn is_too_long_joined(rt: &HostRuntime, bag: &str, tail: &str) -> io::Result<boo
     Ok(is_too_long)
 }
 
+/// The same of folders that are made for it.
+fn are_too_long(rt: &HostRuntime, bag: &str, tail: &str) -> io::Result<bool> {
+    make_deep(rt, bag)?;
+    make_deep(rt, tail)?;
+    let are_too_long = is_too_long_joined(rt, bag, tail)?;
+    remove_deep(rt, tail)?;
+    remove_deep(rt, bag)?;
+    Ok(are_too_long)
+}
+
 #[test]
 fn refuses_paths_that_the_system_finds_too_long(rt: HostRuntime) -> Result<(), Fail> {
     let bag = path_of(&rt, "long")?;
     let tail = path_of(&rt, "tail")?;
-    make_deep(&rt, bag.as_str())?;
-    make_deep(&rt, tail.as_str())?;
-    assert!(rt; is_too_long_joined(&rt, bag.as_str(), tail.as_str())?);
-    remove_deep(&rt, tail.as_str())?;
-    remove_deep(&rt, bag.as_str())?;
+    assert!(rt; are_too_long(&rt, bag.as_str(), tail.as_str())?);
     Ok(())
 }

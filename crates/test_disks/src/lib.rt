@@ -21,6 +21,6 @@ mod profiles;
 #[cfg(test)]
 mod refusals;
 #[cfg(test)]
-mod refusing_disks;
+mod refused_runs;
 #[cfg(test)]
 mod same_rows;

@@ -4,7 +4,7 @@ use bag_file_tree::FileTree;
 use bag_memory_disk::MemoryDisk;
 use bag_text::Text;
 use bag_tree::TreeFault;
-use std::alloc::Global;
+use std::alloc::{AllocError, Global};
 use std::test::Fail;
 
 /// What stands on a disk, and its listing or the word of its refusal.
@@ -111,15 +111,24 @@ const NO_DISKS: &[&[Place]] = &[
     &[(b"a\xc3", Held::Folder)],
 ];
 
+/// Whether this is the listing of what stands on a disk, or the word of its refusal; none where that is no disk.
+fn is_listed(alloc: Global, places: &[Place], wanted: Option<&str>) -> Result<bool, AllocError> {
+    match maybe_disk(alloc, places)? {
+        Some(disk) => {
+            let found = listed(alloc, &mut FileTree::over(alloc, disk))?;
+            Ok(wanted == Some(found.as_str()))
+        }
+        None => Ok(wanted.is_none()),
+    }
+}
+
 #[test]
 fn lists_what_stands_on_a_disk(rt: HostRuntime) -> Result<(), Fail> {
     for &(places, wanted) in LISTED {
-        let mut tree = FileTree::over(rt.alloc(), disk(rt.alloc(), places)?);
-        let found = listed(rt.alloc(), &mut tree)?;
-        assert!(rt; found.as_str() == wanted, "{found}");
+        assert!(rt; is_listed(rt.alloc(), places, Some(wanted))?, "{wanted}");
     }
     for (place, places) in NO_DISKS.iter().enumerate() {
-        assert!(rt; maybe_disk(rt.alloc(), *places)?.is_none(), "{place}");
+        assert!(rt; is_listed(rt.alloc(), *places, None)?, "{place}");
     }
     Ok(())
 }
@@ -146,7 +155,14 @@ const TWO: &[Place] = &[(b"a", Held::File("abc")), (b"b", Held::File("b"))];
 
 /// What stands on a disk, what its file `a` holds when it is opened, a path that is listed with a size, and the text of the file or
 /// how it is refused.
-const OPENED: &[(&[Place], Option<&str>, (&str, u64), Result<&str, TreeFault>)] = &[
+type Opened = (
+    &'static [Place],
+    Option<&'static str>,
+    (&'static str, u64),
+    Result<&'static str, TreeFault>,
+);
+
+const OPENED: &[Opened] = &[
     (PLACES, None, ("a/b", 3), Ok("abc")),
     (PLACES, None, ("e", 0), Ok("")),
     (PLACES, None, ("a", 3), Err(TreeFault::NotFound)),
@@ -166,12 +182,16 @@ const OPENED: &[(&[Place], Option<&str>, (&str, u64), Result<&str, TreeFault>)] 
     (TWO, Some("xyz"), ("b", 1), Ok("b")),
 ];
 
+/// Whether a file is opened so.
+fn is_opened(alloc: Global, (places, text, listed, wanted): Opened) -> Result<bool, Fail> {
+    let mut tree = FileTree::over(alloc, swapped(alloc, places, text)?);
+    Ok(ends(alloc, &mut tree, listed, wanted)?)
+}
+
 #[test]
 fn opens_the_files_of_a_disk_and_nothing_else(rt: HostRuntime) -> Result<(), Fail> {
-    for &(places, text, listed, wanted) in OPENED {
-        let mut tree = FileTree::over(rt.alloc(), swapped(rt.alloc(), places, text)?);
-        let path = listed.0;
-        assert!(rt; ends(rt.alloc(), &mut tree, listed, wanted)?, "{path}");
+    for (place, row) in OPENED.iter().enumerate() {
+        assert!(rt; is_opened(rt.alloc(), *row)?, "{place}");
     }
     Ok(())
 }

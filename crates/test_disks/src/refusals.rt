@@ -85,12 +85,19 @@ const READS: &[(u64, DiskFault, TreeFault)] = &[
     (2, DiskFault::Memory, TreeFault::Memory),
 ];
 
+/// Whether reading the file is refused so where a call is refused by a fault.
+fn is_unread(
+    alloc: Global,
+    (number, fault, refusal): (u64, DiskFault, TreeFault),
+) -> Result<bool, Fail> {
+    let mut tree = refusing(alloc, Call::Numbered(number), fault)?;
+    Ok(ends(alloc, &mut tree, ("a/b", 1), Err(refusal))?)
+}
+
 #[test]
 fn a_refused_opening_or_read_refuses_the_file(rt: HostRuntime) -> Result<(), Fail> {
-    for &(number, fault, refusal) in READS {
-        let mut tree = refusing(rt.alloc(), Call::Numbered(number), fault)?;
-        let holds = ends(rt.alloc(), &mut tree, ("a/b", 1), Err(refusal))?;
-        assert!(rt; holds, "{number}");
+    for &row in READS {
+        assert!(rt; is_unread(rt.alloc(), row)?, "{}", row.0);
     }
     Ok(())
 }
@@ -98,13 +105,17 @@ fn a_refused_opening_or_read_refuses_the_file(rt: HostRuntime) -> Result<(), Fai
 /// Folders that may not be read, each with the listing or the word of its refusal.
 const BARRED: &[(&str, &str)] = &[("", "device"), ("a", "device"), ("b", LISTED)];
 
+/// Whether this is the listing or the word of its refusal where a folder may not be read.
+fn is_barred(alloc: Global, folder: &str, wanted: &str) -> Result<bool, Fail> {
+    let mut disk = disk(alloc, PLACES)?;
+    disk.bar(Text::from_str(alloc, folder)?)?;
+    Ok(listed(alloc, &mut FileTree::over(alloc, disk))?.as_str() == wanted)
+}
+
 #[test]
 fn folders_that_may_not_be_read(rt: HostRuntime) -> Result<(), Fail> {
     for &(folder, wanted) in BARRED {
-        let mut disk = disk(rt.alloc(), PLACES)?;
-        disk.bar(Text::from_str(rt.alloc(), folder)?)?;
-        let found = listed(rt.alloc(), &mut FileTree::over(rt.alloc(), disk))?;
-        assert!(rt; found.as_str() == wanted, "{found}");
+        assert!(rt; is_barred(rt.alloc(), folder, wanted)?, "{folder}");
     }
     Ok(())
 }

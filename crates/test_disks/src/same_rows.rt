@@ -29,42 +29,48 @@ pub(crate) fn plan_for(alloc: Global, names: &[&str]) -> Result<Plan, AllocError
     })
 }
 
-/// What stands on a disk, what is written of it, and the status.
-const ROWS: &[(&[Place], &[u8], u8)] = &[
+/// What stands on a disk.
+pub(crate) const DECLARED: &[Place] = &[
     (
-        &[
-            (
-                b"bagit.txt",
-                Held::File("BagIt-Version: 1.0\nTag-File-Character-Encoding: UTF-8\n"),
-            ),
-            (b"data", Held::Folder),
-        ],
-        b"d has a good declaration\n",
-        0,
+        b"bagit.txt",
+        Held::File("BagIt-Version: 1.0\nTag-File-Character-Encoding: UTF-8\n"),
     ),
+    (b"data", Held::Folder),
+];
+
+const OTHER_VERSION: &[Place] = &[
     (
-        &[
-            (
-                b"bagit.txt",
-                Held::File("BagIt-Version: 2.0\nTag-File-Character-Encoding: UTF-8\n"),
-            ),
-            (b"data", Held::Folder),
-        ],
-        b"105 version-unsupported bagit.txt - 1 2.0\nd has faults: 1\n",
+        b"bagit.txt",
+        Held::File("BagIt-Version: 2.0\nTag-File-Character-Encoding: UTF-8\n"),
+    ),
+    (b"data", Held::Folder),
+];
+
+/// What is written of a disk, and the status.
+const ROWS: &[(&[Place], &str, u8)] = &[
+    (DECLARED, "d has a good declaration\n", 0),
+    (
+        OTHER_VERSION,
+        "105 version-unsupported bagit.txt - 1 2.0\nd has faults: 1\n",
         1,
     ),
 ];
 
+/// Whether a check of a disk writes this and ends with this status.
+fn is_told(alloc: Global, places: &[Place], wanted: &str, status: u8) -> Result<bool, Fail> {
+    let plan = plan_for(alloc, &["d"])?;
+    let disk = disk(alloc, places)?;
+    let mut out = WriterOut::new(Vec::<u8>::new(alloc));
+    let mut err = Vec::<u8>::new(alloc);
+    let found = checked(alloc, &disk, &plan, &mut out, &mut err);
+    let is_written = out.into_inner().as_slice() == wanted.as_bytes();
+    Ok(is_written && err.is_empty() && found == status)
+}
+
 #[test]
 fn an_honest_disk_has_its_report(rt: HostRuntime) -> Result<(), Fail> {
-    let plan = plan_for(rt.alloc(), &["d"])?;
     for &(places, wanted, status) in ROWS {
-        let disk = disk(rt.alloc(), places)?;
-        let mut out = WriterOut::new(Vec::<u8>::new(rt.alloc()));
-        let mut err = Vec::<u8>::new(rt.alloc());
-        let found = checked(rt.alloc(), &disk, &plan, &mut out, &mut err);
-        let is_told = out.into_inner().as_slice() == wanted && err.is_empty();
-        assert!(rt; is_told && found == status, "{found}");
+        assert!(rt; is_told(rt.alloc(), places, wanted, status)?, "{wanted}");
     }
     Ok(())
 }
