@@ -121,7 +121,7 @@ fn opens_nothing_beside_the_base_folder(rt: HostRuntime) -> Result<(), Fail> {
 }
 
 /// How many files and folders a tree may have.
-const MOST_ENTRIES: usize = 1_000;
+const MOST_ENTRIES: usize = 16_777_216;
 
 /// How many files are listed where a folder has so many.
 fn count_listed(alloc: Global, count: usize) -> Result<usize, TreeFault> {
