@@ -105,6 +105,10 @@ const ROWS: &[Row] = &[
     ),
 ];
 
+fn is_text(bytes: &[u8], text: &str) -> bool {
+    bytes == text.as_bytes()
+}
+
 /// Whether the program tells that.
 fn are_checked(alloc: Global, (names, written, said, wanted): Row) -> Result<bool, Fail> {
     let plan = plan_for(alloc, names)?;
@@ -114,11 +118,7 @@ fn are_checked(alloc: Global, (names, written, said, wanted): Row) -> Result<boo
     let mut out = WriterOut::new(Vec::<u8>::new(alloc));
     let mut err = Vec::<u8>::new(alloc);
     let status = perform(alloc, &folders, &plan, &mut visits, &mut out, &mut err);
-    Ok(
-        status == wanted
-            && out.into_inner().as_slice() == written.as_bytes()
-            && err.as_slice() == said.as_bytes(),
-    )
+    Ok(status == wanted && is_text(&out.into_inner(), written) && is_text(&err, said))
 }
 
 #[test]
