@@ -10,16 +10,22 @@ trap 'rm -rf "$room"' EXIT
 cp -r crates/cases/data/. "$room"
 cd "$room"
 RANDOM=${1:-$$}
+tried=0
 told=0
-mapfile -t files < <(ls ./*.cases | shuf --random-source=<(yes "$RANDOM") -n 10)
+mapfile -t files < <(ls ./*.cases | grep -v broken | shuf --random-source=<(yes "$RANDOM"))
 for file in "${files[@]}"; do
     file=${file#./}
     # the wanted lines, statuses and right sides of rows that have a digit; not those that belong to a text or a file
     mapfile -t lines < <(awk '/^[a-z$-]/ { answers = /^\$/ } (answers && /^[|!?] .*[0-9]/) || /^- .*=> .*[0-9]/ { print NR }' "$file")
+    [ ${#lines[@]} -gt 0 ] || continue
+    [ "$tried" -lt 10 ] || break
+    tried=$((tried + 1))
     line=${lines[RANDOM % ${#lines[@]}]}
     cp "$file" kept
     awk -v line="$line" 'NR == line { at = match($0, /[0-9][^0-9]*$/); d = (substr($0, at, 1) + 1) % 10; $0 = substr($0, 1, at - 1) d substr($0, at + 1) } { print }' kept >"$file"
-    if "$program" "$file" 2>/dev/null | grep -q "^$file:$line: "; then
+    "$program" "$file" >report 2>&1 || true
+    # a digit in the name of a text makes it a name that nobody gave, which stops the program at the entry
+    if grep -qE "^$file:($line: |[0-9]+: nothing has this name)" report; then
         told=$((told + 1))
     else
         echo "not told: $file:$line: $(sed -n "${line}p" "$file")"

@@ -3,8 +3,9 @@ use crate::answers::answer_to;
 use crate::commands::Command;
 use crate::shelf::Shelf;
 use crate::{on_disk, stages, trees, turns};
-use bag_cli::{Usage, plan_of};
+use bag_cli::{Plan, Usage, plan_of};
 use case_files::{Answer, Folder, Mistake, Report, Sight, Sort, folder_of};
+use std::alloc::Global;
 use std::{fs, mem};
 
 /// Runs a command, and compares its answers.
@@ -79,24 +80,44 @@ fn see_in_trees(
     folders: &mut Vec<Folder>,
     report: &mut Report,
 ) -> Result<(), Mistake> {
-    let plan = match plan_of(sight.alloc, &command.words) {
-        Ok(plan) => plan,
-        Err(Usage::Memory) => return Err(Mistake::Memory),
-        Err(_) => return Ok(()),
-    };
-    if command.room.is_some() || !trees::are_trees(&plan, folders) {
+    match plan_of(sight.alloc, &command.words) {
+        Ok(plan) => see_plan(sight, command.room, &plan, folders, report),
+        Err(Usage::Memory) => Err(Mistake::Memory),
+        Err(_) => Ok(()),
+    }
+}
+
+/// Does what a plan says.
+fn see_plan(
+    sight: Sight<'_>,
+    room: Option<usize>,
+    plan: &Plan,
+    folders: &mut [Folder],
+    report: &mut Report,
+) -> Result<(), Mistake> {
+    if room.is_some() || !trees::are_trees(plan, folders) {
         return Ok(());
     }
     let mut whole = Answer::of(sight.alloc, Vec::new(sight.alloc));
     for directory in &plan.directories {
-        let name = directory.as_str();
-        let folder = folder_of(folders, name)?;
-        let (answer, left) = trees::answer_over_tree(sight.alloc, &plan, folder, 0)?;
-        whole.written.extend_from_slice(&answer.written)?;
-        whole.status = whole.status.max(answer.status);
-        replace(folders, left);
+        add_answer(sight.alloc, plan, folders, directory.as_str(), &mut whole)?;
     }
     report.see(sight, "in a tree in memory", &sight.wanted()?, &whole)
+}
+
+/// Does with one folder what a plan says, and adds what is answered.
+fn add_answer(
+    alloc: Global,
+    plan: &Plan,
+    folders: &mut [Folder],
+    name: &str,
+    whole: &mut Answer,
+) -> Result<(), Mistake> {
+    let (answer, left) = trees::answer_over_tree(alloc, plan, folder_of(folders, name)?, 0)?;
+    whole.written.extend_from_slice(&answer.written)?;
+    whole.status = whole.status.max(answer.status);
+    replace(folders, left);
+    Ok(())
 }
 
 /// Puts a folder in the place of the one that has its name.

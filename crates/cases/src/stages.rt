@@ -50,6 +50,26 @@ fn stage_answer(
     Ok(Answer::of(alloc, text.into_bytes()))
 }
 
+/// Compares the faults of a stage at each depth.
+fn see_depths(
+    sight: Sight<'_>,
+    folder: &Folder,
+    profile: Option<&Profile>,
+    (number, depths): (&str, &str),
+    report: &mut Report,
+) -> Result<(), Mistake> {
+    let Ok(stage) = number.parse::<u8>() else {
+        return Err(Mistake::Number);
+    };
+    let wanted = sight.wanted()?;
+    for depth in depths.split(',') {
+        let options = options_of(depth)?;
+        let found = stage_answer(sight.alloc, folder, profile, stage, options)?;
+        report.see(sight, depth, &wanted, &found)?;
+    }
+    Ok(())
+}
+
 /// `stage NUMBER DEPTH,.. FOLDER [PROFILE]`: the lines of the faults of one stage, the same at each depth.
 pub(crate) fn see_stage(
     sight: Sight<'_>,
@@ -58,23 +78,16 @@ pub(crate) fn see_stage(
     beside: &Folder,
     report: &mut Report,
 ) -> Result<(), Mistake> {
-    let (number, depths, name, profile) = match words {
-        [number, depths, name] => (number, depths, name, None),
-        [number, depths, name, file] => {
-            let profile = profile_of(sight.alloc, beside, *file)?;
-            (number, depths, name, Some(profile))
+    match words {
+        [number, depths, name] => {
+            let folder = folder_of(folders, *name)?;
+            see_depths(sight, folder, None, (*number, *depths), report)
         }
-        _ => return Err(Mistake::Command),
-    };
-    let Ok(stage) = number.parse::<u8>() else {
-        return Err(Mistake::Number);
-    };
-    let wanted = sight.wanted()?;
-    let folder = folder_of(folders, *name)?;
-    for depth in depths.split(',') {
-        let options = options_of(depth)?;
-        let found = stage_answer(sight.alloc, folder, profile.as_ref(), stage, options)?;
-        report.see(sight, depth, &wanted, &found)?;
+        [number, depths, name, file] => {
+            let folder = folder_of(folders, *name)?;
+            let profile = profile_of(sight.alloc, beside, *file)?;
+            see_depths(sight, folder, Some(&profile), (*number, *depths), report)
+        }
+        _ => Err(Mistake::Command),
     }
-    Ok(())
 }
