@@ -19,6 +19,7 @@ impl Answer {
         }
     }
 
+    /// Whether all three are the same, byte for byte.
     pub fn is_same(&self, other: &Answer) -> bool {
         self.written.as_slice() == other.written.as_slice()
             && self.told.as_slice() == other.told.as_slice()

@@ -45,6 +45,7 @@ impl Spot {
 }
 
 impl Folder {
+    /// An empty folder with a name. An error only for want of memory, as of each call here but `file`.
     pub fn named(alloc: Global, name: &str) -> Result<Folder, Mistake> {
         Ok(Folder {
             name: String::from_str(alloc, name)?,

@@ -26,6 +26,7 @@ pub struct Sight<'a> {
 }
 
 impl Report {
+    /// Nothing was compared yet.
     pub fn new(alloc: Global) -> Report {
         Report {
             text: String::new(alloc),

@@ -12,6 +12,7 @@ pub struct Texts {
 }
 
 impl Texts {
+    /// No text has a name yet.
     pub fn new(alloc: Global) -> Texts {
         Texts {
             named: BTreeMap::new(alloc),
