@@ -1,5 +1,5 @@
 //! Faults of completeness, and clashes of names.
-ghost use Rattle.std.specs.Prelude.{◌≡◌, [], true, false, Option, IfOk};
+ghost use Rattle.std.specs.Prelude.{◌≡◌, ⊤, [], true, false, Option, IfOk};
 ghost use Rattle.std.specs.List.Sorted.{IsStrictlySortedBy};
 ghost use Rattle.std.specs.Option.{option_copied};
 ghost use Rattle.bag_text.specs.Order.{IsListOf};
@@ -12,7 +12,7 @@ ghost use Rattle.bag_source.specs.Completeness.{IsSoughtAbove, IsStageAbove};
 ghost use Rattle.bag_source.specs.Source.{first_of};
 
 use crate::queue::Queue;
-use crate::{Quiet, Source};
+use crate::{InOrder, Quiet, Source};
 use bag_facts::Facts;
 use bag_fault::Fault;
 use bag_tree::{Stop, Tree};
@@ -54,6 +54,8 @@ impl<T: Tree> Source<T> for Completeness {
 
     ghost found = { λ s. first_of s.faults };
 
+    ghost in_order = { ⊤ };
+
     ghost is_first = { λ bag s fault h e. e };
 
     ghost ascends = { λ bag s h. h };
@@ -69,6 +71,10 @@ impl<T: Tree> Source<T> for Completeness {
     fn advance(&mut self) {
         self.faults.leave_first();
     }
+}
+
+impl<T: Tree> InOrder<T> for Completeness {
+    ghost is_in_order = { tt };
 }
 
 impl<T: Tree> Quiet<T> for Completeness {
