@@ -1,5 +1,5 @@
 //! The files whose digests are to be compared.
-ghost use Rattle.std.specs.Prelude.{◌≡◌, ◌≢◌, [], false, IfOk, MatchOption, Contains};
+ghost use Rattle.std.specs.Prelude.{◌≡◌, ◌≢◌, [], IfOk};
 ghost use Rattle.std.specs.Option.{option_copied};
 ghost use Rattle.bag_tree.specs.Bag.{Bag};
 ghost use Rattle.bag_facts.specs.Facts.{IsFactsOf};
@@ -7,13 +7,13 @@ ghost use Rattle.bag_facts.specs.declared.options.Depth.TheVariants as depth_of;
 ghost use Rattle.bag_source.specs.Files.{AreToSum, IsToSum};
 ghost use Rattle.bag_source.specs.Validity.{is_passed};
 
-use crate::{ToSum, expected_of};
+use crate::to_sum::ToSum;
 use bag_facts::{Depth, Facts};
 use bag_fault::Fault;
 use bag_text::Text;
 use bag_tree::FileEntry;
+use bag_validity::expected_of;
 use std::alloc::{AllocError, Global};
-use std::cmp::Ordering;
 
 /// The stage of faults of digests.
 const STAGE: u8 = 7;
@@ -49,7 +49,6 @@ fn to_sum_of(
     file: &FileEntry,
     after: Option<&Fault>,
 ) -> Result<Option<ToSum>, AllocError>
-    requires { Contains facts.now.listing.files file.now }
     ensures { IfOk result (λ to_sum. (bag : Bag) → IsFactsOf bag facts.now → facts.now.options.depth ≡ depth_of.Full
         → IsToSum bag (option_copied after.entry) file.now to_sum) }
 {
