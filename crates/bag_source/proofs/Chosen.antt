@@ -27,7 +27,7 @@ use Rattle.bag_facts.specs.Facts.{IsFactsOf}
 use Rattle.bag_facts.specs.Wanted.{paths_of}
 use Rattle.bag_facts.specs.declared.facts.Facts.{Facts}
 use Rattle.bag_facts.specs.declared.options.Depth.{Depth}
-use Rattle.bag_facts.specs.declared.options.Depth.TheVariants.{Declaration, Full}
+use Rattle.bag_facts.specs.declared.options.Depth.TheVariants.{Declaration, Fast, Complete, Full}
 use Rattle.bag_facts.proofs.ListedFiles.{file_listed, listed_file, own_size}
 use Rattle.bag_facts.proofs.Mapped.{mapped_contains, take_one_more}
 use Rattle.bag_stages.specs.TagFiles.{lines_in, manifest_of}
@@ -283,3 +283,24 @@ module _ (bag : Bag) (after : Option Fault) (facts : Facts) (of : IsFactsOf bag 
 pub none_of : (bag : Bag) (after : Option Fault) → IsOfBag bag after [] []
 unfolding IsStrictlySortedBy
 none_of bag after = record { files = record { in_order = tt; entries = λ to_sum c. absurd (contains_nothing to_sum c) }; ascends = tt }
+
+-- of a bag, whatever the depth
+module _ (bag : Bag) (after : Option Fault) (facts : Facts) (of : IsFactsOf bag facts) (chosen : List ToSum)
+    (at_full : facts.options.depth ≡ Full → AreToSum bag after facts.listing.files chosen) (at_other : facts.options.depth ≢ Full → chosen ≡ []) where
+  of_all : facts.options.depth ≡ Full → IsOfBag bag after chosen []
+  of_all full = record {
+    files = chosen_of bag after facts of chosen (at_full full);
+    ascends = (chosen_faults bag after facts of chosen (at_full full)).ascending;
+  }
+
+  of_none : facts.options.depth ≢ Full → IsOfBag bag after chosen []
+  of_none other = subst (λ l. IsOfBag bag after l []) (sym (at_other other)) (none_of bag after)
+
+  of_by : (depth : Depth) → facts.options.depth ≡ depth → IsOfBag bag after chosen []
+  of_by Declaration e = of_none (λ full. let clash : Declaration ≡ Full = sym e ∙ full in cc)
+  of_by Fast e = of_none (λ full. let clash : Fast ≡ Full = sym e ∙ full in cc)
+  of_by Complete e = of_none (λ full. let clash : Complete ≡ Full = sym e ∙ full in cc)
+  of_by Full e = of_all e
+
+  pub chosen_is_of : IsOfBag bag after chosen []
+  chosen_is_of = of_by facts.options.depth refl
