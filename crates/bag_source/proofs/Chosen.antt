@@ -1,6 +1,5 @@
 -- The files whose digests are to be compared, and their faults.
-use Rattle.std.proofs.Common.{◌≡◌, ◌≢◌, ◌<◌, ◌≤◌, ◌+◌, ◌++◌, ◌∷◌, ◌⊎◌, inl, inr, ℕ, Bool, true, false, cond, List, [], length, map, take, get_or, Option, None, Some, Contains, refl, sym, ap, ◌∙◌, subst, arith, is_lt, is_some, nat_lt, ◌==◌, ◌&&◌, ◌||◌}
-use Rattle.std.specs.Option.{option_map}
+use Rattle.std.proofs.Common.{◌≡◌, ◌≢◌, ◌<◌, ◌≤◌, ◌+◌, ◌++◌, ◌∷◌, ◌⊎◌, inl, inr, ℕ, Bool, true, false, List, [], length, map, take, get_or, Option, None, Some, Contains, refl, sym, ap, ◌∙◌, subst, is_lt, is_some, nat_lt, ◌==◌, ◌&&◌, ◌||◌}
 use Rattle.std.specs.List.Sorted.{IsStrictlySortedBy}
 use Rattle.std.specs.Ordering.{nat_cmp, ordering_then}
 use Rattle.std.specs.Cmp.{nat_cmp_is}
@@ -16,8 +15,6 @@ use Rattle.bag_text.specs.Text.{text_cmp}
 use Rattle.bag_text.proofs.ListOf.{contains_back, contains_behind, contains_cases, contains_either, contains_first, contains_front, contains_nothing, joined, member_has, nothing_listed, one_listed, same_members}
 use Rattle.bag_tags.proofs.ManifestEntries.{entry_named}
 use Rattle.bag_tree.specs.Bag.{Bag, file, HasFile}
-use Rattle.bag_tree.specs.Listing.{IsOrdered}
-use Rattle.bag_tree.specs.Tree.{IsEntryOf}
 use Rattle.bag_tree.specs.declared.listing.FileEntry.{FileEntry}
 use Rattle.bag_fault.specs.FaultOrder.{fault_cmp}
 use Rattle.bag_fault.specs.declared.fault.Fault.{Fault}
@@ -29,7 +26,7 @@ use Rattle.bag_facts.specs.declared.facts.Facts.{Facts}
 use Rattle.bag_facts.specs.declared.options.Depth.{Depth}
 use Rattle.bag_facts.specs.declared.options.Depth.TheVariants.{Declaration, Fast, Complete, Full}
 use Rattle.bag_facts.proofs.ListedFiles.{file_listed, listed_file, own_size}
-use Rattle.bag_facts.proofs.Mapped.{mapped_contains, take_one_more}
+use Rattle.bag_facts.proofs.Mapped.{take_one_more}
 use Rattle.bag_stages.specs.TagFiles.{lines_in, manifest_of}
 use Rattle.bag_stages.proofs.ByItem.{before_next}
 use Rattle.bag_stages.proofs.InFile.{less_by_path}
@@ -97,8 +94,10 @@ module _ (bag : Bag) (after : Option Fault) where
           same_members text_cmp (λ path. IsBefore path ⊎ (path ≡ file.path)) IsNow (paths_to_sum chosen ++ file.path ∷ [])
           (λ path h. elim h [
             | inl a ↦ from_before path a
-            | inr e ↦ (subst (λ l. Contains l path) (sym paths_now) (contains_back (paths_of before) (file.path ∷ []) path (subst (Contains (file.path ∷ [])) (sym e) (contains_first file.path []))),
-                subst (IsAhead bag after) (sym e) ahead)
+            | inr e ↦ (
+              subst (λ l. Contains l path) (sym paths_now) (contains_back (paths_of before) (file.path ∷ []) path (subst (Contains (file.path ∷ [])) (sym e) (contains_first file.path []))),
+              subst (IsAhead bag after) (sym e) ahead,
+            )
           ])
           (λ path h. elim (to_cases path h) [ inl a ↦ inl a | inr b ↦ inr b.0 ])
           (joined text_cmp IsBefore (λ path. path ≡ file.path) (paths_to_sum chosen) (file.path ∷ []) so_far.paths last

@@ -1,5 +1,5 @@
 -- The choice of the files whose digests are to be compared.
-use Rattle.std.specs.Prelude.{ℕ, ◌≡◌, true, false, List, Option, Contains, MatchOption}
+use Rattle.std.specs.Prelude.{ℕ, ◌≡◌, false, List, Option, Contains, MatchOption}
 use Rattle.bag_text.specs.Order.{IsListOf}
 use Rattle.bag_text.specs.Text.{text_cmp}
 use Rattle.bag_tree.specs.Bag.{Bag}

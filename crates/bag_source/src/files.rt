@@ -71,9 +71,7 @@ fn is_passed(after: Option<&Fault>, path: &Text) -> bool
 {
     match after {
         None => false,
-        Some(cursor) => {
-            cursor.stage() > STAGE || cursor.stage() == STAGE && *path < cursor.path
-        }
+        Some(cursor) => { cursor.stage() > STAGE || cursor.stage() == STAGE && *path < cursor.path }
     }
 }
 

@@ -1,7 +1,7 @@
 use Rattle.std.proofs.Common.{subst}
 use Rattle.std.specs.Option.{option_copied}
 use Rattle.bag_facts.specs.Wanted.{paths_of}
-use Rattle.bag_source.specs.Files.{AreToSum, IsToSum}
+use Rattle.bag_source.specs.Files.{IsToSum}
 use Rattle.std.specs.List.Sorted.{IsStrictlySortedBy}
 use Rattle.bag_text.specs.Text.{text_cmp}
 use Rattle.bag_source.proofs.Chosen.{all_chosen, none_chosen, one_added, one_passed_over}

@@ -1,8 +1,5 @@
-use Rattle.std.proofs.Common.{◌≡◌, ◌≢◌, ◌∙◌, false, true, [], sym, subst}
+use Rattle.std.proofs.Common.{◌≡◌, ◌≢◌, ◌∙◌, false, true, [], sym}
 use Rattle.std.specs.Option.{option_copied}
-use Rattle.bag_facts.specs.declared.options.Depth.{Depth}
-use Rattle.bag_facts.specs.declared.options.Depth.TheVariants.{Declaration, Full}
-use Rattle.bag_source.specs.Files.{TellsItsFaults}
 use Rattle.bag_source.specs.Validity.{is_passed}
 use Rattle.bag_source.proofs.Chosen.{named_by, not_declaration, tells, unnamed_by}
 use Rattle.bag_source.proofs.files.to_sum_of.Goals as goal
