@@ -35,7 +35,7 @@ use Rattle.bag_validity.specs.SumFaults.{faults_of_bytes}
 use Rattle.bag_validity.specs.SummedFiles.{IsNamed, IsSummed}
 use Rattle.bag_validity.specs.ValidityStage.{IsOfFile, IsOfValidity}
 use Rattle.bag_validity.specs.declared.expected.Expected.{Expected}
-use Rattle.bag_validity.proofs.SummedFiles.{named_some, some_named}
+use Rattle.bag_validity.proofs.SummedFiles.{faulty_is_summed, named_some, some_named}
 use Rattle.bag_validity.proofs.ValidityFaults.{validity_of_entry, validity_of_stage_seven, IsOfSomeEntry}
 use Rattle.bag_report.specs.Report.{above, is_above}
 use Rattle.bag_report.proofs.Filtered.{filtered_list}
@@ -146,15 +146,6 @@ module _ (bag : Bag) (after : Option Fault) (files : List FileEntry) (i : ℕ) (
 
 pub all_chosen : (bag : Bag) (after : Option Fault) (files : List FileEntry) (i : ℕ) (chosen : List ToSum) → length files ≤ i → AreToSum bag after (take i files) chosen → AreToSum bag after files chosen
 all_chosen bag after files i chosen le h = subst (λ l. AreToSum bag after l chosen) (take_all i files le) h
-
--- each fault of a digest is of a file that is there and that a manifest names
-entry_is_summed : (bag : Bag) (f : Fault) → IsOfSomeEntry bag f → IsSummed bag f.path
-entry_is_summed bag f (kind, (alg, (entry, listed, (content, there, differ, is)))) =
-    let at : f.path ≡ entry.path = ap (λ (x : Fault). x.path) is in
-    subst (IsSummed bag) (sym at) (ap is_some there, (kind, alg, entry_named kind alg (lines_in bag (manifest_of kind alg)) entry listed))
-
-pub faulty_is_summed : (bag : Bag) (f : Fault) → IsOfValidity bag f → IsSummed bag f.path
-faulty_is_summed bag f h = entry_is_summed bag f (validity_of_entry bag f h)
 
 pub not_declaration : (depth : Depth) → depth ≡ Full → depth ≢ Declaration
 not_declaration depth full is = let clash : Full ≡ Declaration = sym full ∙ is in cc

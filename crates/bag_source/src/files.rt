@@ -71,7 +71,10 @@ fn is_passed(after: Option<&Fault>, path: &Text) -> bool
 {
     match after {
         None => false,
-        Some(cursor) => { cursor.stage() > STAGE || cursor.stage() == STAGE && *path < cursor.path }
+        Some(cursor) => {
+            let stage = cursor.stage();
+            stage > STAGE || stage == STAGE && *path < cursor.path
+        }
     }
 }
 
@@ -83,14 +86,4 @@ fn copy_of_file(alloc: Global, file: &FileEntry) -> Result<FileEntry, AllocError
         path: file.path.copy(alloc)?,
         size: file.size,
     })
-}
-
-/// An equal cursor.
-pub(crate) fn copy_of(alloc: Global, after: Option<&Fault>) -> Result<Option<Fault>, AllocError>
-    ensures { IfOk result (λ copy. copy ≡ option_copied after.entry) }
-{
-    match after {
-        None => Ok(None),
-        Some(cursor) => Ok(Some(cursor.copy(alloc)?)),
-    }
 }
