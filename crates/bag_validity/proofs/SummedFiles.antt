@@ -1,12 +1,16 @@
 -- The files whose digests are compared.
-use Rattle.std.proofs.Common.{◌≢◌, ℕ, List, [], ◌∷◌, refl, subst, Contains}
+use Rattle.std.proofs.Common.{◌≡◌, ◌≢◌, ℕ, List, [], ◌∷◌, ap, is_some, refl, subst, sym, Contains}
 use Rattle.bag_words.specs.declared.alg.Alg.{Alg}
 use Rattle.bag_text.proofs.ListOf.{contains_first, contains_nothing}
+use Rattle.bag_tags.proofs.ManifestEntries.{entry_named}
 use Rattle.bag_tree.specs.Bag.{Bag}
-use Rattle.bag_stages.specs.TagFiles.{Names}
+use Rattle.bag_fault.specs.declared.fault.Fault.{Fault}
+use Rattle.bag_stages.specs.TagFiles.{lines_in, manifest_of, Names}
 use Rattle.bag_validity.specs.Given.{AreNaming}
-use Rattle.bag_validity.specs.SummedFiles.{kind_of, IsNamed}
+use Rattle.bag_validity.specs.SummedFiles.{kind_of, IsNamed, IsSummed}
+use Rattle.bag_validity.specs.ValidityStage.{IsOfValidity}
 use Rattle.bag_validity.proofs.NamesByKind.{names_by_kind}
+use Rattle.bag_validity.proofs.ValidityFaults.{validity_of_entry, IsOfSomeEntry}
 
 -- of the algorithms whose manifests name a path there is one exactly where a manifest, of whatever kind, names it
 module _ (bag : Bag) (path : List ℕ) where
@@ -18,3 +22,13 @@ module _ (bag : Bag) (path : List ℕ) where
   named_some set are (kind, alg, named) none =
       let one : Names bag (kind_of path) alg path = subst (λ k. Names bag k alg path) (names_by_kind bag kind alg path named) named in
       contains_nothing alg (subst (λ s. Contains s alg) none ((are alg).1 one))
+
+-- each fault of a digest is of a file that is there and that a manifest names
+module _ (bag : Bag) (f : Fault) where
+  entry_is_summed : IsOfSomeEntry bag f → IsSummed bag f.path
+  entry_is_summed (kind, (alg, (entry, listed, (content, there, differ, is)))) =
+      let at : f.path ≡ entry.path = ap (λ (x : Fault). x.path) is in
+      subst (IsSummed bag) (sym at) (ap is_some there, (kind, alg, entry_named kind alg (lines_in bag (manifest_of kind alg)) entry listed))
+
+  pub faulty_is_summed : IsOfValidity bag f → IsSummed bag f.path
+  faulty_is_summed h = entry_is_summed (validity_of_entry bag f h)
