@@ -1,5 +1,5 @@
 //! Faults of completeness, and clashes of names.
-ghost use Rattle.std.specs.Prelude.{◌≡◌, ◌≢◌, [], true, false, Option, IfOk};
+ghost use Rattle.std.specs.Prelude.{◌≡◌, ◌≢◌, ⊤, [], true, false, Option, IfOk};
 ghost use Rattle.std.specs.List.Sorted.{IsStrictlySortedBy};
 ghost use Rattle.std.specs.Option.{option_copied};
 ghost use Rattle.bag_text.specs.Order.{IsListOf};
@@ -15,7 +15,7 @@ ghost use Rattle.bag_source.specs.Source.{first_of};
 
 use crate::ascending::{above, merged};
 use crate::queue::Queue;
-use crate::{Quiet, Source};
+use crate::{InOrder, Quiet, Source};
 use bag_completeness::{clashes_asked, is_exact, missing_of, unlisted_of};
 use bag_facts::Facts;
 use bag_fault::Fault;
@@ -131,6 +131,8 @@ impl<T: Tree> Source<T> for Completeness {
 
     ghost found = { λ s. first_of s.faults };
 
+    ghost in_order = { ⊤ };
+
     ghost is_first = { λ bag s fault h e. e };
 
     ghost ascends = { λ bag s h. h };
@@ -146,6 +148,10 @@ impl<T: Tree> Source<T> for Completeness {
     fn advance(&mut self) {
         self.faults.leave_first();
     }
+}
+
+impl<T: Tree> InOrder<T> for Completeness {
+    ghost is_in_order = { tt };
 }
 
 impl<T: Tree> Quiet<T> for Completeness {
