@@ -82,7 +82,12 @@ fn is_joined(alloc: Global, tree: &mut MemoryTree, places: [usize; 3]) -> Result
 fn merged_sources_give_each_fault_once(rt: HostRuntime) -> Result<(), Fail> {
     let mut tree = tree_of(rt.alloc(), &[])?;
     for number in 0..1296usize {
-        let places = [number % 6, number / 6 % 6, number / 36 % 6, number / 216 % 6];
+        let places = [
+            number % 6,
+            number / 6 % 6,
+            number / 36 % 6,
+            number / 216 % 6,
+        ];
         assert!(rt; is_merged(rt.alloc(), &mut tree, places)?, "{number}");
     }
     Ok(())

@@ -59,7 +59,12 @@ fn write_fault(alloc: Global, fault: &Fault, text: &mut String) -> Result<(), Al
 }
 
 fn write_stop(stop: &Stop, text: &mut String) -> Result<(), AllocError> {
-    write!(text, "unread {} {}\n", stop.path.as_str(), stop.cause.word())
+    write!(
+        text,
+        "unread {} {}\n",
+        stop.path.as_str(),
+        stop.cause.word()
+    )
 }
 
 /// A walk over a bag at depth `Full`, above the fault of a line where one is given.
@@ -181,7 +186,10 @@ fn is_right(alloc: Global, row: &Row, steps: usize) -> Result<bool, Fail> {
 fn steps_open_no_file_behind_their_fault(rt: HostRuntime) -> Result<(), Fail> {
     for (place, row) in ROWS.iter().enumerate() {
         for steps in 0..=row.steps.len() {
-            assert!(rt; is_right(rt.alloc(), row, steps)?, "row {place}, {steps} steps");
+            assert!(rt;
+                is_right(rt.alloc(), row, steps)?,
+                "row {place}, {steps} steps"
+            );
         }
     }
     Ok(())
