@@ -11,7 +11,7 @@
 
 pub mod laws;
 mod runner;
-mod validity;
+mod segment;
 
 pub use bag_output::{Outcome, Request, status};
 pub use runner::run;
