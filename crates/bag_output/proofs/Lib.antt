@@ -1,4 +1,3 @@
 pub mod Ending
 pub mod Lines
-pub mod Standing
 pub mod Writing

@@ -1,17 +1,14 @@
--- What is written of a list of faults that is at hand.
-use Rattle.std.specs.Prelude.{ℕ, ◌≡◌, ◌<◌, ◌≤◌, ◌⊎◌, ◌++◌, Bool, true, List, Option, length, take}
+-- What a run writes of the faults of a report.
+use Rattle.std.specs.Prelude.{ℕ, ◌≡◌, ◌≤◌, ◌⊎◌, Bool, true, List, Option, length, take}
 use Rattle.std.specs.Io.KnownBytes.{Appends}
-use Rattle.std.specs.List.{concat}
 use Rattle.bag_tree.specs.declared.fault.Stop.{Stop}
 use Rattle.bag_fault.specs.declared.fault.Fault.{Fault}
 use Rattle.bag_output.specs.Closing.{closing, count_of}
-use Rattle.bag_output.specs.Ending.{limit_of, written, MayEnd, ReachesEnd, Wrote}
+use Rattle.bag_output.specs.Ending.{MayEnd, ReachesEnd, Wrote}
 use Rattle.bag_output.specs.Write.{IsCut}
 use Rattle.bag_output.specs.declared.outcome.Outcome.{Outcome}
 use Rattle.bag_output.specs.declared.outcome.Outcome.TheVariants.{Unwritten}
 use Rattle.bag_output.specs.declared.outcome.Request.{Request}
-use Rattle.bag_output.specs.declared.report_writer.Progress.{Progress}
-use Rattle.bag_output.specs.declared.report_writer.Progress.TheVariants.{Written, Ended}
 
 -- the closing line of an outcome was written, or the output refused it
 abbrev pub Closes : Request → Outcome → Option (List ℕ) → Option (List ℕ) → Bool → Outcome → Type 0
@@ -27,13 +24,3 @@ pub record WritesReport (request : Request) (faults : List Fault) (Stops : Stop 
   pub may_end : MayEnd request count Stops ending
   pub all : ReachesEnd ending → count ≡ length faults
   pub wrote : Wrote request (take count faults) ending before after refused outcome
-
--- these faults stand in a report, so many before them
-abbrev pub StandsAt : ℕ → List Fault → List Fault → Type 0
-StandsAt before faults report = (front more : List Fault) × (length front ≡ before) × (report ≡ front ++ (faults ++ more))
-
--- The lines of the first n faults of a report were written, fewer than the limit; or the run has ended.
-abbrev pub Progresses : Request → List Fault → ℕ → (Stop → Type 0) → Option (List ℕ) → Option (List ℕ) → Bool → Progress → Type 0
-Progresses request report n Stops before after refused (Written count) =
-    (count ≡ n) × (n < limit_of request) × Appends before after (concat (written (take n report)))
-Progresses request report n Stops before after refused (Ended outcome) = WritesReport request report Stops before after refused outcome

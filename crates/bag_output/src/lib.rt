@@ -1,7 +1,9 @@
 //! What a run writes: a line for each fault, and the line that ends a report.
 //!
 //! ```
-//! let outcome = write_rest(alloc, &faults, 0, &request, &mut out);
+//! fill_line(&mut line, &fault)?;
+//! put_all(&mut out, line.as_bytes())?;
+//! let outcome = close(&request, end_of_report(&request, 1), &mut out);
 //! let exit = status(&outcome);
 //! ```
 //!
@@ -15,5 +17,5 @@ mod write;
 
 pub use closing::put_line;
 pub use outcome::{Outcome, Request, status};
-pub use report_writer::{Progress, close, write_lines, write_rest};
-pub use write::put_pieces;
+pub use report_writer::{close, end_of_report, fill_line};
+pub use write::{put_all, put_pieces};

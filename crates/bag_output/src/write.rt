@@ -4,8 +4,8 @@ ghost use Rattle.bag_output.specs.Write.{Writes, text_of};
 
 use bag_tree::{Out, Refused};
 
-/// Hands all bytes to the output.
-pub(crate) fn put_all<W: Out>(out: &mut W, bytes: &[u8]) -> Result<(), Refused>
+/// Hands all bytes to the output, in one write where it takes them whole.
+pub fn put_all<W: Out>(out: &mut W, bytes: &[u8]) -> Result<(), Refused>
     ensures { Writes (W.taken out.old) (W.taken out.new) (W.has_refused out.new) bytes.now result }
 {
     let mut rest = bytes;

@@ -1,9 +1,9 @@
--- Which of two sources were filled.
+-- Which of two sources have been filled.
 use Rattle.std.specs.Prelude.{Bool, true, false}
 use Rattle.bag_source.specs.declared.merge.Filled.{Filled}
 use Rattle.bag_source.specs.declared.merge.Filled.TheVariants.{Neither, First, Both}
 
--- the first alone, so that the second is the next to be filled
+-- the first alone has, so the second is the next
 abbrev pub awaits_second : Filled → Bool
 awaits_second Neither = false
 awaits_second First = true

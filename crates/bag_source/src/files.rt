@@ -1,5 +1,5 @@
 //! The files whose digests are to be compared.
-ghost use Rattle.std.specs.Prelude.{◌≡◌, ◌≢◌, [], false, IfOk, MatchOption, Contains};
+ghost use Rattle.std.specs.Prelude.{◌≡◌, ◌≢◌, [], IfOk};
 ghost use Rattle.std.specs.Option.{option_copied};
 ghost use Rattle.bag_tree.specs.Bag.{Bag};
 ghost use Rattle.bag_facts.specs.Facts.{IsFactsOf};
@@ -7,13 +7,13 @@ ghost use Rattle.bag_facts.specs.declared.options.Depth.TheVariants as depth_of;
 ghost use Rattle.bag_source.specs.Files.{AreToSum, IsToSum};
 ghost use Rattle.bag_source.specs.Validity.{is_passed};
 
-use crate::{ToSum, expected_of};
+use crate::to_sum::ToSum;
 use bag_facts::{Depth, Facts};
 use bag_fault::Fault;
 use bag_text::Text;
 use bag_tree::FileEntry;
+use bag_validity::expected_of;
 use std::alloc::{AllocError, Global};
-use std::cmp::Ordering;
 
 /// The stage of faults of digests.
 const STAGE: u8 = 7;
@@ -49,7 +49,6 @@ fn to_sum_of(
     file: &FileEntry,
     after: Option<&Fault>,
 ) -> Result<Option<ToSum>, AllocError>
-    requires { Contains facts.now.listing.files file.now }
     ensures { IfOk result (λ to_sum. (bag : Bag) → IsFactsOf bag facts.now → facts.now.options.depth ≡ depth_of.Full
         → IsToSum bag (option_copied after.entry) file.now to_sum) }
 {
@@ -73,7 +72,8 @@ fn is_passed(after: Option<&Fault>, path: &Text) -> bool
     match after {
         None => false,
         Some(cursor) => {
-            cursor.stage() > STAGE || cursor.stage() == STAGE && *path < cursor.path
+            let stage = cursor.stage();
+            stage > STAGE || stage == STAGE && *path < cursor.path
         }
     }
 }
@@ -86,14 +86,4 @@ fn copy_of_file(alloc: Global, file: &FileEntry) -> Result<FileEntry, AllocError
         path: file.path.copy(alloc)?,
         size: file.size,
     })
-}
-
-/// An equal cursor.
-pub(crate) fn copy_of(alloc: Global, after: Option<&Fault>) -> Result<Option<Fault>, AllocError>
-    ensures { IfOk result (λ copy. copy ≡ option_copied after.entry) }
-{
-    match after {
-        None => Ok(None),
-        Some(cursor) => Ok(Some(cursor.copy(alloc)?)),
-    }
 }

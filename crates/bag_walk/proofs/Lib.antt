@@ -1,11 +1,9 @@
 pub mod ByReport
+pub mod Closed
 pub mod CursorLaw
 pub mod Early
-pub mod NamedFiles
 pub mod Openings
-pub mod Parts
 pub mod Running
+pub mod SegmentLines
 pub mod Shown
-pub mod StageByStage
-pub mod SummedFiles
-pub mod Summing
+pub mod Walked

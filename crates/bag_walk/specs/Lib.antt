@@ -5,6 +5,5 @@ pub use Rattle.bag_output.specs.Writer
 pub mod Cursor
 pub mod Openings
 pub mod Run
-pub mod Runner
+pub mod Segment
 pub mod Stops
-pub mod Validity

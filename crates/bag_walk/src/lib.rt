@@ -11,7 +11,8 @@
 
 pub mod laws;
 mod runner;
-mod validity;
+mod segment;
 
 pub use bag_output::{Outcome, Request, status};
+pub use bag_source::{Completeness, Fixed, InOrder, Merge, Quiet, Source, Then, Validity, Walk};
 pub use runner::run;

@@ -1,0 +1,61 @@
+-- A run over a walk, by its segment.
+use Rattle.std.proofs.Common.{◌≡◌, ◌++◌, ◌∷◌, ◌-◌, inl, inr, ℕ, Bool, List, [], Option, min, ap, ◌∙◌, subst, arith}
+use Rattle.bag_tree.specs.Tree.{TreeState}
+use Rattle.bag_tree.specs.declared.fault.Stop.{Stop}
+use Rattle.bag_fault.specs.declared.fault.Fault.{Fault}
+use Rattle.bag_output.specs.declared.outcome.Outcome.{Outcome}
+use Rattle.bag_output.specs.declared.outcome.Request.{Request}
+use Rattle.bag_source.specs.Openings.{OpensAgain}
+use Rattle.bag_source.specs.Source.{IsNext, MayStopFilling}
+use Rattle.bag_walk.specs.Segment.{ClosesSegment, EndsSegment, IfUnread, IsReached, IsRead, MayStopRun, MayStopWalk, StopsWalk, WritesCalmly, looked_past}
+use Rattle.bag_walk.specs.declared.segment.Segment.{Segment}
+use Rattle.bag_walk.specs.declared.segment.SegmentEnd.{SegmentEnd}
+use Rattle.bag_walk.specs.declared.segment.SegmentEnd.TheVariants.{Full, AtEnd, Unread, Unwritten}
+use Rattle.bag_walk.proofs.Running.{wider_end}
+
+pub looked_before : (faults : List Fault) (limit n : ℕ) (end : SegmentEnd) → EndsSegment faults limit n end → min n (limit - 1) ≡ looked_past end n
+looked_before faults limit n Full e = omega (arith, e.0)
+looked_before faults limit n AtEnd e = omega (arith, e.0)
+looked_before faults limit n (Unread stop) e = omega (arith, e.0)
+looked_before faults limit n Unwritten e = omega (arith, e.0)
+
+module _ (todo left : List (List ℕ)) (old new : TreeState) (again : OpensAgain todo left old new) where
+  reached : (path : List ℕ) → IsNext left old path → IsReached todo old new path
+  reached path ((rest, is), there) = (
+    again.passed,
+    rest,
+    again.left ∙ ap (λ l. again.passed ++ l) is,
+    elim again.openings [
+      | inl e ↦ inl e
+      | inr (last, more, same, e) ↦ (let one : last ≡ path = cc in inr (e ∙ ap (λ p. old.openings ++ (again.passed ++ p ∷ [])) one))
+    ],
+  )
+
+  stops_at : (stop : Stop) → MayStopFilling left old new stop → StopsWalk todo old new stop
+  stops_at stop h = record {
+    cause = h.cause;
+    answered = h.answered;
+    path = elim h.path [ inl none ↦ inl none | inr next ↦ inr (reached stop.path next) ];
+    memory = h.memory;
+  }
+
+  stops_run : (IsOf : Type 0) (stop : Stop) → MayStopWalk IsOf left old new stop → MayStopRun IsOf todo old new stop
+  stops_run IsOf stop (inl memory) = inl memory
+  stops_run IsOf stop (inr h) = inr (λ of. stops_at stop (h of))
+
+  -- what a segment says of it is so of the run
+  pub calmly : (request : Request) (faults : List Fault) (IsOf : Type 0) (segment : Segment) (before after : Option (List ℕ)) (refused : Bool) (outcome : Outcome)
+      → ClosesSegment request faults segment before after refused outcome → IfUnread segment.end (MayStopWalk IsOf left old new) → (IsRead segment.end → new.failures ≡ old.failures)
+      → WritesCalmly request faults (MayStopRun IsOf todo old new) old new before after refused outcome
+  calmly request faults IsOf segment before after refused outcome (w, read) stops calm = (
+    record {
+      count = w.count;
+      ending = w.ending;
+      within = w.within;
+      may_end = wider_end request w.count _ (MayStopRun IsOf todo old new) w.ending
+          (λ stop is. stops_run IsOf stop (subst (λ end. IfUnread end (MayStopWalk IsOf left old new)) is stops)) w.may_end;
+      all = w.all;
+      wrote = w.wrote;
+    },
+    λ answered. calm (read answered),
+  )

@@ -1,0 +1,15 @@
+use Rattle.bag_walk.proofs.Closed.{closes_at_end, closes_full, closes_unread, closes_unwritten}
+use Rattle.bag_walk.proofs.segment.close_segment.Goals as goal
+
+pub returns-in-Full-clause-closes : goal.returns-in-Full-clause-closes
+returns-in-Full-clause-closes g c = λ faults began s. closes_full c.args.request.now faults began _ _ c.args.segment _ _ _ c.in-Full.is c.close.ensures s
+
+pub returns-in-AtEnd-clause-closes : goal.returns-in-AtEnd-clause-closes
+returns-in-AtEnd-clause-closes g c = λ faults began s.
+    closes_at_end c.args.request.now faults began _ _ c.args.segment _ _ _ c.in-AtEnd.is (rw c.end_of_report.ensures at c.close-in-AtEnd.ensures) s
+
+pub returns-in-Unread-clause-closes : goal.returns-in-Unread-clause-closes
+returns-in-Unread-clause-closes g c = λ faults began s. closes_unread c.args.request.now faults began _ _ c.args.segment c.in-Unread.stop _ _ _ c.in-Unread.is c.close-in-Unread.ensures s
+
+pub returns-in-Unwritten-clause-closes : goal.returns-in-Unwritten-clause-closes
+returns-in-Unwritten-clause-closes g c = λ faults began s. closes_unwritten c.args.request.now faults began _ _ c.args.segment c.in-Unwritten.is s

@@ -1,0 +1,87 @@
+-- A segment of a report: the lines of its first faults.
+use Rattle.std.specs.Prelude.{ℕ, ◌-◌, ◌<◌, ◌≤◌, ◌≡◌, ◌++◌, ◌∷◌, ⊤, ◌⊎◌, Bool, true, List, [], Option, length, take, drop}
+use Rattle.std.specs.Io.KnownBytes.{Appends}
+use Rattle.std.specs.List.{concat}
+use Rattle.bag_tree.specs.Tree.{TreeState, CameFromTree}
+use Rattle.bag_tree.specs.declared.fault.Stop.{Stop}
+use Rattle.bag_tree.specs.declared.fault.TreeFault.TheVariants.{Memory}
+use Rattle.bag_fault.specs.declared.fault.Fault.{Fault}
+use Rattle.bag_facts.specs.Stops.{IsOutOfMemory, MayRefuseFacts}
+use Rattle.bag_output.specs.Ending.{IsAnswered, IsCutAt, written}
+use Rattle.bag_output.specs.Writer.{WritesReport}
+use Rattle.bag_output.specs.declared.outcome.Outcome.{Outcome}
+use Rattle.bag_output.specs.declared.outcome.Request.{Request}
+use Rattle.bag_source.specs.Source.{MayStopFilling}
+use Rattle.bag_walk.specs.declared.segment.Segment.{Segment}
+use Rattle.bag_walk.specs.declared.segment.SegmentEnd.{SegmentEnd}
+use Rattle.bag_walk.specs.declared.segment.SegmentEnd.TheVariants.{Full, AtEnd, Unread, Unwritten}
+
+-- So a segment of these faults may end that has written the lines of n of them.
+abbrev pub EndsSegment : List Fault → ℕ → ℕ → SegmentEnd → Type 0
+EndsSegment faults limit n Full = (n ≡ limit) × (n ≤ length faults)
+EndsSegment faults limit n AtEnd = (n < limit) × (n ≡ length faults)
+EndsSegment faults limit n (Unread stop) = (n < limit) × (n ≤ length faults)
+EndsSegment faults limit n Unwritten = (n < limit) × (n < length faults)
+
+-- the lines of the first n faults were written, and where the output refused a proper part of the next line
+abbrev pub WroteFirst : List Fault → ℕ → Option (List ℕ) → Option (List ℕ) → Bool → SegmentEnd → Type 0
+WroteFirst faults n before after refused Unwritten =
+    (refused ≡ true) × ((bytes : List ℕ) × IsCutAt n (written faults) bytes × Appends before after bytes)
+WroteFirst faults n before after refused end = Appends before after (concat (written (take n faults)))
+
+-- a segment of these faults
+pub record IsSegment (faults : List Fault) (limit : ℕ) (before after : Option (List ℕ)) (refused : Bool) (segment : Segment) : Type 0 where
+  pub ends : EndsSegment faults limit segment.written segment.end
+  pub wrote : WroteFirst faults segment.written before after refused segment.end
+
+-- the tree and memory refused nothing
+abbrev pub IsRead : SegmentEnd → Type 0
+IsRead (Unread stop) = ⊥
+IsRead end = ⊤
+
+-- what refused them
+abbrev pub IfUnread : SegmentEnd → (Stop → Type 0) → Type 0
+IfUnread (Unread stop) Stops = Stops stop
+IfUnread end Stops = ⊤
+
+-- Why a walk stops: for want of memory, or where its source is of an honest tree's bag at the next file to be opened.
+abbrev pub MayStopWalk : Type 0 → List (List ℕ) → TreeState → TreeState → Stop → Type 0
+MayStopWalk IsOf todo old new stop = IsOutOfMemory stop ⊎ (IsOf → MayStopFilling todo old new stop)
+
+-- how many faults are less than the one that was looked for last, where n were written
+abbrev pub looked_past : SegmentEnd → ℕ → ℕ
+looked_past Full n = n - 1
+looked_past end n = n
+
+-- The faults that were still to come when a segment had looked furthest: behind those that it wrote, and at its limit the
+-- last that it wrote too.
+abbrev pub still_to_come : Segment → List Fault → List Fault
+still_to_come segment faults = drop (looked_past segment.end segment.written) faults
+
+-- the lines of the first of these faults and a closing line were written, which tells of a stop that the segment tells of
+abbrev pub ClosesSegment : Request → List Fault → Segment → Option (List ℕ) → Option (List ℕ) → Bool → Outcome → Type 0
+ClosesSegment request faults segment before after refused outcome =
+    (writes : WritesReport request faults (λ stop. segment.end ≡ Unread stop) before after refused outcome)
+    × (IsAnswered writes.ending → IsRead segment.end)
+
+-- the file was to be opened: those before it were opened, each once, and it once at most
+abbrev pub IsReached : List (List ℕ) → TreeState → TreeState → List ℕ → Type 0
+IsReached todo old new path =
+    (passed : List (List ℕ)) × (rest : List (List ℕ)) × (todo ≡ passed ++ path ∷ rest)
+    × ((new.openings ≡ old.openings ++ passed) ⊎ (new.openings ≡ old.openings ++ (passed ++ path ∷ [])))
+
+-- Why a run over a walk stops whose source is of an honest tree's bag: at a file that was to be opened, or for want of
+-- memory.
+pub record StopsWalk (todo : List (List ℕ)) (old new : TreeState) (stop : Stop) : Type 0 where
+  pub cause : MayRefuseFacts old new stop.cause
+  pub answered : CameFromTree new stop.cause
+  pub path : IsOutOfMemory stop ⊎ IsReached todo old new stop.path
+  pub memory : stop.cause ≡ Memory → stop.path ≡ []
+
+abbrev pub MayStopRun : Type 0 → List (List ℕ) → TreeState → TreeState → Stop → Type 0
+MayStopRun IsOf todo old new stop = IsOutOfMemory stop ⊎ (IsOf → StopsWalk todo old new stop)
+
+-- the lines of the first of these faults and a closing line were written, and no device failed where the run was answered
+abbrev pub WritesCalmly : Request → List Fault → (Stop → Type 0) → TreeState → TreeState → Option (List ℕ) → Option (List ℕ) → Bool → Outcome → Type 0
+WritesCalmly request faults Stops old new before after refused outcome =
+    (writes : WritesReport request faults Stops before after refused outcome) × (IsAnswered writes.ending → new.failures ≡ old.failures)

@@ -1,0 +1,118 @@
+//! The lines of a report's faults, each written when its fault is found.
+ghost use Rattle.std.specs.Prelude.{◌≡◌, ℕ, List, Option, IsTrue};
+ghost use Rattle.bag_tree.specs.Bag.{Bag};
+ghost use Rattle.bag_tree.specs.Tree.{Keeps};
+ghost use Rattle.bag_fault.specs.declared.fault.Fault.{Fault as Spoken};
+ghost use Rattle.bag_facts.specs.Stops.{IsOutOfMemory};
+ghost use Rattle.bag_output.specs.Closing.{count_of};
+ghost use Rattle.bag_output.specs.Ending.{limit_of};
+ghost use Rattle.bag_source.specs.Openings.{OpensAgain, OpensNoneBehind};
+ghost use Rattle.bag_source.specs.Source.{Sees};
+ghost use Rattle.bag_source.specs.Steps.{shown_by, to_give};
+ghost use Rattle.bag_walk.specs.Segment.{ClosesSegment, IfUnread, IsRead, IsSegment, MayStopWalk, still_to_come};
+
+use bag_output::{Outcome, Request, close, end_of_report, fill_line, put_all};
+use bag_source::{InOrder, Steps};
+use bag_tree::{Out, Refused, Stop, Tree, TreeFault};
+use std::alloc::Global;
+
+/// How a segment of a report ended.
+#[derive(Debug, Drop)]
+pub(crate) enum SegmentEnd {
+    /// With as many faults as its limit.
+    Full,
+    /// At the end of the report, with fewer faults than its limit.
+    AtEnd,
+    /// The tree or memory refused.
+    Unread(Stop),
+    /// The output refused.
+    Unwritten,
+}
+
+/// A segment of a report: so many lines were written, and so it ended.
+#[derive(Debug, Drop)]
+pub(crate) struct Segment {
+    pub(crate) written: u64,
+    pub(crate) end: SegmentEnd,
+}
+
+/// Writes a line for each fault that a walk has still to give, up to the limit. Each line is handed to the output before the
+/// next fault is looked for.
+///
+/// Each line ends in LF, and is one write where the output takes it whole. Where memory for a line runs out, the segment is
+/// `Unread` with a stop that names no file; where the output refuses, nothing more is written.
+pub(crate) fn write_faults<T: Tree, S: InOrder<T>, W: Out>(
+    alloc: Global,
+    walk: &mut Steps<T, S>,
+    limit: u64,
+    out: &mut W,
+) -> Segment
+    ensures keeps { Keeps (T.state walk.old.tree) (T.state walk.new.tree) }
+    ensures calm { IsRead result.end → (T.state walk.new.tree).failures ≡ (T.state walk.old.tree).failures }
+    ensures opens { OpensAgain (S.todo walk.old.source) (S.todo walk.new.source) (T.state walk.old.tree) (T.state walk.new.tree) }
+    ensures behind { (bag : Bag) → S.is_of bag walk.old.source → Sees (T.state walk.old.tree) (S.todo walk.old.source) bag
+        → OpensNoneBehind (still_to_come result (to_give (shown_by walk.old.is_shown (S.found walk.old.source)) (S.remaining bag walk.old.source))) (T.state walk.old.tree) (T.state walk.new.tree) }
+    ensures seen { (bag : Bag) → S.is_of bag walk.old.source → Sees (T.state walk.old.tree) (S.todo walk.old.source) bag
+        → IsSegment (to_give (shown_by walk.old.is_shown (S.found walk.old.source)) (S.remaining bag walk.old.source)) limit (W.taken out.old) (W.taken out.new) (W.has_refused out.new) result }
+    ensures unseen { (faults : List Spoken) × IsSegment faults limit (W.taken out.old) (W.taken out.new) (W.has_refused out.new) result }
+    ensures stop { IfUnread result.end (MayStopWalk (IsTrue (T.state walk.old.tree).honest → S.is_of (T.state walk.old.tree).bag walk.old.source)
+        (S.todo walk.new.source) (T.state walk.old.tree) (T.state walk.new.tree)) }
+{
+    let mut line = String::new(alloc);
+    let mut written = 0;
+    'given: while written < limit {
+        match walk.step() {
+            Ok(()) => {}
+            Err(stop) => return Segment {
+                written,
+                end: SegmentEnd::Unread(stop),
+            },
+        }
+        let Some(fault) = walk.shown() else {
+            return Segment {
+                written,
+                end: SegmentEnd::AtEnd,
+            };
+        };
+        let Ok(()) = fill_line(&mut line, fault) else {
+            return Segment {
+                written,
+                end: SegmentEnd::Unread(out_of_memory(alloc)),
+            };
+        };
+        if let Err(Refused) = put_all(out, line.as_bytes()) {
+            return Segment {
+                written,
+                end: SegmentEnd::Unwritten,
+            };
+        }
+        written += 1;
+    }
+    Segment {
+        written,
+        end: SegmentEnd::Full,
+    }
+}
+
+/// Writes the closing line of a run whose lines were written so.
+pub(crate) fn close_segment<W: Out>(request: &Request, segment: Segment, out: &mut W) -> Outcome
+    ensures closes { (faults : List Spoken) (began : Option (List ℕ))
+        → IsSegment faults (limit_of request.now) began (W.taken out.old) (W.has_refused out.old) segment
+        → ClosesSegment request.now faults segment began (W.taken out.new) (W.has_refused out.new) result }
+    ensures count { count_of result ≡ segment.written }
+{
+    let Segment { written, end } = segment;
+    match end {
+        SegmentEnd::Full => close(request, Outcome::Stopped(written), out),
+        SegmentEnd::AtEnd => close(request, end_of_report(request, written), out),
+        SegmentEnd::Unread(stop) => close(request, Outcome::Unread(written, stop), out),
+        SegmentEnd::Unwritten => Outcome::Unwritten(written),
+    }
+}
+
+/// The stop where memory ran out.
+pub(crate) fn out_of_memory(alloc: Global) -> Stop
+    ensures { IsOutOfMemory result }
+{
+    Stop::without_path(alloc, TreeFault::Memory)
+}
