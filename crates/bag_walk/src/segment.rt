@@ -9,7 +9,8 @@ ghost use Rattle.bag_output.specs.Ending.{limit_of};
 ghost use Rattle.bag_source.specs.Openings.{OpensAgain, OpensNoneBehind};
 ghost use Rattle.bag_source.specs.Source.{Sees};
 ghost use Rattle.bag_source.specs.Steps.{shown_by, to_give};
-ghost use Rattle.bag_walk.specs.Segment.{ClosesSegment, IfUnread, IsRead, IsSegment, MayStopWalk, still_to_come};
+ghost use Rattle.bag_walk.specs.Segment.{ClosesSegment, IfUnread, IsRead, IsSegment, MayStopWalk, StopsAt, still_to_come};
+ghost use Rattle.bag_walk.specs.Stops.{IfStopped};
 
 use bag_output::{Outcome, Request, close, end_of_report, fill_line, put_all};
 use bag_source::{InOrder, Steps};
@@ -100,6 +101,7 @@ pub(crate) fn close_segment<W: Out>(request: &Request, segment: Segment, out: &m
         → IsSegment faults (limit_of request.now) began (W.taken out.old) (W.has_refused out.old) segment
         → ClosesSegment request.now faults segment began (W.taken out.new) (W.has_refused out.new) result }
     ensures count { count_of result ≡ segment.written }
+    ensures stop { IfStopped result (StopsAt segment) }
 {
     let Segment { written, end } = segment;
     match end {
