@@ -5,8 +5,8 @@
 //! let exit = status(&outcome);
 //! ```
 //!
-//! What stands in the lines is said by `bag_report`, and how they are written by `bag_output`; a run says which of them
-//! are written, and how it ended.
+//! What stands in the lines is said by `bag_report`, how faults are found one at a time by `bag_source`, and how lines are
+//! written by `bag_output`; a run says which of them are written, which files are opened before each, and how it ended.
 #![tactic(auto)]
 
 pub mod laws;
@@ -14,4 +14,7 @@ mod runner;
 mod segment;
 
 pub use bag_output::{Outcome, Request, status};
+pub use bag_source::{
+    Completeness, Fixed, InOrder, Merge, Quiet, Source, Steps, Then, Validity, Walk,
+};
 pub use runner::run;

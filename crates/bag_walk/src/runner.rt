@@ -101,7 +101,8 @@ fn run_of_walk<T: Tree, S: InOrder<T> + Drop, W: Out>(
     ensures stop { IfStopped result.1 (MayStopRun (IsTrue (T.state walk.tree).honest → S.is_of (T.state walk.tree).bag walk.source) (S.todo walk.source) (T.state walk.tree) (T.state result.0)) }
 {
     let mut walk = walk;
-    let segment = write_faults(alloc, &mut walk, limit_of(request), out);
+    let mut line = String::new(alloc);
+    let segment = write_faults(alloc, &mut walk, &mut line, limit_of(request), out);
     let outcome = close_segment(request, segment, out);
     (walk.into_tree(), outcome)
 }

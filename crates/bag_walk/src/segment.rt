@@ -41,10 +41,12 @@ pub(crate) struct Segment {
 /// next fault is looked for.
 ///
 /// Each line ends in LF, and is one write where the output takes it whole. Where memory for a line runs out, the segment is
-/// `Unread` with a stop that names no file; where the output refuses, nothing more is written.
+/// `Unread` with a stop that names no file; where the output refuses, nothing more is written. The buffer is used for each
+/// line.
 pub(crate) fn write_faults<T: Tree, S: InOrder<T>, W: Out>(
     alloc: Global,
     walk: &mut Steps<T, S>,
+    line: &mut String,
     limit: u64,
     out: &mut W,
 ) -> Segment
@@ -59,7 +61,6 @@ pub(crate) fn write_faults<T: Tree, S: InOrder<T>, W: Out>(
     ensures stop { IfUnread result.end (MayStopWalk (IsTrue (T.state walk.old.tree).honest → S.is_of (T.state walk.old.tree).bag walk.old.source)
         (S.todo walk.new.source) (T.state walk.old.tree) (T.state walk.new.tree)) }
 {
-    let mut line = String::new(alloc);
     let mut written = 0;
     'given: while written < limit {
         match walk.step() {
@@ -75,7 +76,7 @@ pub(crate) fn write_faults<T: Tree, S: InOrder<T>, W: Out>(
                 end: SegmentEnd::AtEnd,
             };
         };
-        let Ok(()) = fill_line(&mut line, fault) else {
+        let Ok(()) = fill_line(line, fault) else {
             return Segment {
                 written,
                 end: SegmentEnd::Unread(out_of_memory(alloc)),
