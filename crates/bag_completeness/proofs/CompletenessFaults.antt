@@ -122,11 +122,11 @@ module _ (bag : Bag) where
   pub no_clashes_sought : (clashes : Bool) → clashes ≡ false → IsListOf fault_cmp (IsSoughtClash clashes bag) []
   no_clashes_sought clashes unasked = nothing_listed fault_cmp _ (λ f h. let clash : false ≡ true = sym unasked ∙ h.1 in cc)
 
-  sought_is : (clashes : Bool) (f : Fault) → IsIncomplete bag f ⊎ IsSoughtClash clashes bag f → IsSoughtInStageSix clashes bag f
+  pub sought_is : (clashes : Bool) (f : Fault) → IsIncomplete bag f ⊎ IsSoughtClash clashes bag f → IsSoughtInStageSix clashes bag f
   sought_is clashes f (inl h) = (incomplete_is bag f h, λ e. absurd (no_clash bag f h e))
   sought_is clashes f (inr h) = (h.0.0, λ e. h.1)
 
-  is_sought : (clashes : Bool) (f : Fault) → IsSoughtInStageSix clashes bag f → IsIncomplete bag f ⊎ IsSoughtClash clashes bag f
+  pub is_sought : (clashes : Bool) (f : Fault) → IsSoughtInStageSix clashes bag f → IsIncomplete bag f ⊎ IsSoughtClash clashes bag f
   is_sought clashes f h = elim (is_either bag f h.0) [ inl a ↦ inl a | inr clash ↦ inr (clash, h.1 clash.1) ]
 
   -- both, sorted

@@ -40,8 +40,9 @@ fn faults_of_files(alloc: Global, facts: &Facts) -> Result<Vec<Fault>, AllocErro
     Ok(faults)
 }
 
-/// The clashes of names where the options ask for them, and else none.
-fn clashes_asked(alloc: Global, facts: &Facts) -> Result<Vec<Fault>, AllocError>
+/// The clashes of names where the options ask for them, and else none, in the order of their paths. The facts are read for more
+/// than the declaration. Fails only where memory runs out.
+pub fn clashes_asked(alloc: Global, facts: &Facts) -> Result<Vec<Fault>, AllocError>
     ensures { IfOk result (λ faults. (bag : Bag) → IsFactsOf bag facts.now → facts.now.options.depth ≢ Declaration
         → IsListOf fault_cmp (IsSoughtClash facts.now.options.clashes bag) faults.items) }
 {

@@ -21,4 +21,7 @@ mod payload;
 mod seek;
 mod unlisted;
 
-pub use completeness::completeness_faults;
+pub use completeness::{clashes_asked, completeness_faults};
+pub use missing::missing_of;
+pub use payload::is_exact;
+pub use unlisted::unlisted_of;

@@ -34,8 +34,9 @@ pub(crate) fn missing_tag_files(alloc: Global, facts: &Facts) -> Result<Vec<Faul
     Ok(faults)
 }
 
-/// The faults that the manifest of an algorithm names files that aren't there, where it is there itself.
-pub(crate) fn missing_of(
+/// The faults that the manifest of an algorithm names files that aren't there, where it is there itself, in the order of their
+/// paths. The facts are read for more than the declaration. Fails only where memory runs out.
+pub fn missing_of(
     alloc: Global,
     facts: &Facts,
     kind: Kind,

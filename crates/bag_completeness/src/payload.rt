@@ -45,8 +45,9 @@ fn faults_of(alloc: Global, facts: &Facts, alg: Alg) -> Result<Vec<Fault>, Alloc
     Ok(faults)
 }
 
-/// Whether the payload manifest of an algorithm is there and names the payload's files and no other.
-fn is_exact(facts: &Facts, alg: Alg) -> bool
+/// Whether the payload manifest of an algorithm is there and names the payload's files and no other, so that it has no fault
+/// of completeness. The facts are read for more than the declaration.
+pub fn is_exact(facts: &Facts, alg: Alg) -> bool
     ensures { (bag : Bag) → IsFactsOf bag facts.now → facts.now.options.depth ≢ Declaration → IsTrue result → IsNamedExactly bag alg }
 {
     match facts.manifest(Kind::Payload, alg) {

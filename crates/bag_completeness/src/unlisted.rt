@@ -21,8 +21,9 @@ use bag_text::{Alg, Code, Text, is_payload};
 use bag_tree::FileEntry;
 use std::alloc::{AllocError, Global};
 
-/// The faults that the payload manifest of an algorithm doesn't name payload files, where it is there.
-pub(crate) fn unlisted_of(alloc: Global, facts: &Facts, alg: Alg) -> Result<Vec<Fault>, AllocError>
+/// The faults that the payload manifest of an algorithm doesn't name payload files, where it is there, in the order of their
+/// paths. The facts are read for more than the declaration. Fails only where memory runs out.
+pub fn unlisted_of(alloc: Global, facts: &Facts, alg: Alg) -> Result<Vec<Fault>, AllocError>
     ensures { IfOk result (λ faults. (bag : Bag) → IsFactsOf bag facts.now → facts.now.options.depth ≢ Declaration
         → IsListOf fault_cmp (IsUnlisted bag alg) faults.items) }
 {

@@ -60,6 +60,14 @@ module _ (bag : Bag) (profile : Option Profile) (f : Fault) where
   unfolding Is
   is_of_validity h = inr (inr (inr (inr (inr (inr (inl h))))))
 
+  -- and of the sixth those of completeness and of names
+  pub of_completeness : Is bag profile f → stage f.code ≡ 6 → IsOfCompleteness bag f
+  of_completeness h e = subst (λ n. IsOf bag profile n f) e (in_its_stage h)
+
+  pub is_of_completeness : IsOfCompleteness bag f → Is bag profile f
+  unfolding Is
+  is_of_completeness h = inr (inr (inr (inr (inr (inl h)))))
+
 -- the list of a stage's set has the faults of the bag that are of the stage
 module _ (clashes : Bool) (bag : Bag) (profile : Option Profile) (faults : List Fault) where
   not_clash : (k : ℕ) (f : Fault) → k ≢ 6 → stage f.code ≡ k → f.code ≡ NameClash → clashes ≡ true

@@ -31,6 +31,13 @@ impl<T: Tree + Drop> FailTree<T> {
     }
 
     /// The tree that it stands over.
+    pub fn inner(&self) -> &T
+        ensures { result.now ≡ below_of self.now }
+    {
+        &self.tree
+    }
+
+    /// The tree that it stands over, once no more calls are made.
     pub fn into_inner(self) -> T
         ensures { result ≡ below_of self }
     {

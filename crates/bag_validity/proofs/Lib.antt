@@ -1,4 +1,4 @@
-pub mod EntriesNaming
+pub mod GivenByAlg
 pub mod NamesByKind
 pub mod SumFaults
 pub mod SummedFiles

@@ -1,9 +1,11 @@
 -- The faults of one file's digests, one manifest after another.
-use Rattle.std.proofs.Common.{◌≡◌, ◌≢◌, ◌<◌, ◌≤◌, ◌+◌, ◌++◌, inl, inr, ℕ, List, length, take, get_or, Option, None, Some, sym, ap, ◌∙◌, subst, append-nil, Contains}
+use Rattle.std.proofs.Common.{◌≡◌, ◌≢◌, ◌<◌, ◌≤◌, ◌+◌, ◌++◌, ℕ, Bool, true, false, cond, List, length, take, get_or, Option, None, Some, refl, sym, ap, ◌∙◌, subst, append-nil, bytes_eq, Contains}
 use Rattle.std.specs.Option.{option_to_list}
 use Rattle.std.specs.Ordering.{on}
 use Rattle.std.specs.declared.cmp.Ordering.TheVariants.{Less}
 use Rattle.std.proofs.lemmas.List.{get_or_default, take_all}
+use Rattle.std.proofs.lemmas.Slice.Eq.{bytes_eq-Decides}
+use Rattle.hex.specs.Hex.{encode_lower}
 use Rattle.bag_text.specs.Alg.{algs, rank_cmp}
 use Rattle.bag_text.specs.Code.{stage}
 use Rattle.bag_text.specs.Order.{IsListOf, IsOnly}
@@ -14,9 +16,9 @@ use Rattle.bag_text.proofs.ListOf.{nothing_listed, only_listed, same_members}
 use Rattle.bag_tags.specs.Manifest.{IsEntry}
 use Rattle.bag_tags.specs.declared.kind.Kind.{Kind}
 use Rattle.bag_tags.specs.declared.manifest.ManifestEntry.{ManifestEntry}
-use Rattle.bag_tags.proofs.ManifestEntries.{entry_named, entry_of_path_once}
+use Rattle.bag_tags.proofs.ManifestEntries.{entry_named, entry_of_path_once, named_has_entry}
 use Rattle.bag_tree.specs.Bag.{Bag, file}
-use Rattle.bag_digest.specs.Digest.{digest, sum_at}
+use Rattle.bag_digest.specs.Digest.{digest}
 use Rattle.bag_fault.specs.FaultOrder.{fault_cmp}
 use Rattle.bag_fault.specs.declared.fault.Fault.{Fault}
 use Rattle.bag_facts.specs.TagFacts.{entry_paths, AreEntriesOf}
@@ -24,11 +26,19 @@ use Rattle.bag_facts.proofs.Mapped.{mapped_contains}
 use Rattle.bag_stages.specs.TagFiles.{lines_in, lines_or_none, manifest_of, Names}
 use Rattle.bag_stages.proofs.ByItem.{OfSome, one_item_more}
 use Rattle.bag_stages.proofs.InFile.{less_by_alg}
-use Rattle.bag_validity.specs.SumFaults.{fault_of_sum, IsOfAlg, TellsOfSum}
-use Rattle.bag_validity.specs.SummedFiles.{kind_of, AreSumsFor}
-use Rattle.bag_validity.specs.ValidityStage.{IsEntryIn, IsOfFile}
+use Rattle.bag_validity.specs.Given.{IsSpelledBy}
+use Rattle.bag_validity.specs.SumFaults.{differing, differing_code, sum_differs}
+use Rattle.bag_validity.specs.SummedFiles.{kind_of}
+use Rattle.bag_validity.specs.ValidityStage.{expected_and_found, IsEntryIn, IsOfFile}
+use Rattle.bag_validity.specs.declared.expected.Expected.{Expected}
 use Rattle.bag_validity.proofs.NamesByKind.{names_by_kind}
-use Rattle.bag_validity.proofs.ValidityFaults.{entry_of_validity, validity_of_entry}
+use Rattle.bag_validity.proofs.ValidityFaults.{entry_of_validity, fault_of_sum, validity_of_entry}
+
+-- the fault of a file that is there, by its entry in one manifest
+abbrev pub IsOfAlg : Bag → List ℕ → Kind → Alg → Fault → Type 0
+IsOfAlg bag path kind alg f =
+    (entry : ManifestEntry) × (content : List ℕ) × IsEntryIn bag kind alg entry × (entry.path ≡ path) × (file bag path ≡ Some content)
+    × (entry.digest ≢ digest alg content) × (f ≡ fault_of_sum kind alg entry (digest alg content))
 
 entries_by : (kind : Kind) (alg : Alg) (content : Option (List ℕ)) (entries : List ManifestEntry) → AreEntriesOf kind alg content entries
     → IsListOf (on (λ e. e.path) text_cmp) (IsEntry kind alg (lines_or_none content)) entries
@@ -38,43 +48,64 @@ entries_by kind alg None entries none =
 entries_by kind alg (Some bytes) entries list = list
 
 -- one manifest
-module _ (bag : Bag) (path : List ℕ) (kind : Kind) (alg : Alg) (entries : List ManifestEntry) (are : AreEntriesOf kind alg (file bag (manifest_of kind alg)) entries) where
-  pub listed : IsListOf (on (λ e. e.path) text_cmp) (IsEntryIn bag kind alg) entries
-  listed = entries_by kind alg (file bag (manifest_of kind alg)) entries are
+module _ (bag : Bag) (path : List ℕ) (kind : Kind) (alg : Alg) where
+  module _ (entries : List ManifestEntry) (are : AreEntriesOf kind alg (file bag (manifest_of kind alg)) entries) where
+    pub listed : IsListOf (on (λ e. e.path) text_cmp) (IsEntryIn bag kind alg) entries
+    listed = entries_by kind alg (file bag (manifest_of kind alg)) entries are
 
-  -- one that doesn't name the file
-  pub none_by_alg : ¬ (Contains (entry_paths entries) path) → IsOnly (IsOfAlg bag path kind alg) None
-  none_by_alg lacks f h = lacks (subst (Contains (entry_paths entries)) h.3 (mapped_contains (λ e. e.path) entries h.0 ((listed.members h.0).1 h.2)))
+    -- it doesn't name a path that no entry has
+    pub not_named : ¬ (Contains (entry_paths entries) path) → ¬ (Names bag kind alg path)
+    not_named lacks named =
+        let e = named_has_entry kind alg (lines_in bag (manifest_of kind alg)) path named in
+        lacks (subst (Contains (entry_paths entries)) e.2 (mapped_contains (λ e. e.path) entries e.0 ((listed.members e.0).1 e.1)))
 
-  -- one that names it, and its digests
-  module _ (content : List ℕ) (sums : List (Option (List ℕ))) (there : file bag path ≡ Some content) (sums_are : AreSumsFor bag path content sums)
-      (entry : ManifestEntry) (c : Contains entries entry) (at : entry.path ≡ path) where
-    is_in : IsEntryIn bag kind alg entry
-    is_in = (listed.members entry).0 c
+  -- one that doesn't name the file has no fault of it
+  pub none_by_alg : ¬ (Names bag kind alg path) → IsOnly (IsOfAlg bag path kind alg) None
+  none_by_alg lacks f h = lacks (subst (Names bag kind alg) h.3 (entry_named kind alg (lines_in bag (manifest_of kind alg)) h.0 h.2))
 
-    asked : sum_at sums alg ≡ Some (digest alg content)
-    asked = sums_are.2.each alg (sums_are.1 kind alg (subst (Names bag kind alg) at (entry_named kind alg (lines_in bag (manifest_of kind alg)) entry is_in)))
+-- a manifest that gives a digest for a path names it
+pub spelled_is_named : (bag : Bag) (path : List ℕ) (kind : Kind) (one : Expected) → IsSpelledBy bag path kind one → Names bag kind one.alg path
+spelled_is_named bag path kind one given =
+    subst (Names bag kind one.alg) given.path_is (entry_named kind one.alg (lines_in bag (manifest_of kind one.alg)) given.entry given.listed)
 
-    same_entry : (f : Fault) (h : IsOfAlg bag path kind alg f) → h.0 ≡ entry
-    same_entry f h = entry_of_path_once kind alg (lines_in bag (manifest_of kind alg)) h.0 entry h.2 is_in (h.3 ∙ sym at)
+-- its fault of a file that is there
+module _ (bag : Bag) (path content : List ℕ) (there : file bag path ≡ Some content) (kind : Kind) (right : kind ≡ kind_of path) (one : Expected) (given : IsSpelledBy bag path kind one) where
+  abbrev found : List ℕ
+  found = digest one.alg content
 
-    same_content : (f : Fault) (h : IsOfAlg bag path kind alg f) → h.1 ≡ content
-    same_content f h = let both : Some h.1 ≡ Some content = sym h.4 ∙ there in cc
+  same_entry : (f : Fault) (h : IsOfAlg bag path kind one.alg f) → h.0 ≡ given.entry
+  same_entry f h = entry_of_path_once kind one.alg (lines_in bag (manifest_of kind one.alg)) h.0 given.entry h.2 given.listed (h.3 ∙ sym given.path_is)
 
-    pub told_by_alg : (fault : Option Fault) → TellsOfSum kind alg entry (sum_at sums alg) fault → IsOnly (IsOfAlg bag path kind alg) fault
-    told_by_alg None right = λ f h. elim right [
-      | inl none ↦ (let clash : None ≡ Some (digest alg content) = sym none ∙ asked in cc)
-      | inr same ↦ (let both : Some entry.digest ≡ Some (digest alg content) = sym same ∙ asked in
-          let is : entry.digest ≡ digest alg content = cc in
-          absurd (h.5 (ap (λ (e : ManifestEntry). e.digest) (same_entry f h) ∙ is ∙ sym (ap (digest alg) (same_content f h)))))
-    ]
-    told_by_alg (Some g) (found, at_found, differ, is) =
-        let both : Some found ≡ Some (digest alg content) = sym at_found ∙ asked in
-        let same : found ≡ digest alg content = cc in
-        let told : g ≡ fault_of_sum kind alg entry (digest alg content) = is ∙ ap (fault_of_sum kind alg entry) same in (
-          (entry, content, is_in, at, there, subst (λ d. entry.digest ≢ d) same differ, told),
-          λ f h. h.6 ∙ (λ i. fault_of_sum kind alg (same_entry f h i) (digest alg (same_content f h i))) ∙ sym told,
-        )
+  same_content : (f : Fault) (h : IsOfAlg bag path kind one.alg f) → h.1 ≡ content
+  same_content f h = let both : Some h.1 ≡ Some content = sym h.4 ∙ there in cc
+
+  same_fault : sum_differs path one found ≡ fault_of_sum kind one.alg given.entry found
+  same_fault = λ i. record {
+    code = differing_code (sym right i);
+    path = sym given.path_is i;
+    alg = Some one.alg;
+    line = 0;
+    detail = expected_and_found (sym given.digest_is i) found;
+  }
+
+  differing_by : (same : Bool) → bytes_eq (encode_lower one.digest) found ≡ same → IsOnly (IsOfAlg bag path kind one.alg) (cond same None (Some (sum_differs path one found)))
+  differing_by true e = λ f h.
+      h.5 (ap (λ (e : ManifestEntry). e.digest) (same_entry f h) ∙ given.digest_is ∙ (bytes_eq-Decides (encode_lower one.digest) found).0 e ∙ sym (ap (digest one.alg) (same_content f h)))
+  differing_by false e = (
+    (
+      given.entry,
+      content,
+      given.listed,
+      given.path_is,
+      there,
+      (λ is. let clash : false ≡ true = sym e ∙ (bytes_eq-Decides (encode_lower one.digest) found).1 (sym given.digest_is ∙ is) in cc),
+      same_fault,
+    ),
+    λ f h. h.6 ∙ (λ i. fault_of_sum kind one.alg (same_entry f h i) (digest one.alg (same_content f h i))) ∙ sym same_fault,
+  )
+
+  pub only_differing : IsOnly (IsOfAlg bag path kind one.alg) (differing path content one)
+  only_differing = differing_by (bytes_eq (encode_lower one.digest) found) refl
 
 module _ (bag : Bag) (path : List ℕ) (kind : Kind) where
   less_of_alg : (a b : Alg) (x y : Fault) → IsOfAlg bag path kind a x → IsOfAlg bag path kind b y → rank_cmp a b ≡ Less → fault_cmp x y ≡ Less

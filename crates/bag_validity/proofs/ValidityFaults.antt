@@ -10,8 +10,18 @@ use Rattle.bag_tags.specs.declared.manifest.ManifestEntry.{ManifestEntry}
 use Rattle.bag_tree.specs.Bag.{Bag, file}
 use Rattle.bag_digest.specs.Digest.{digest}
 use Rattle.bag_fault.specs.declared.fault.Fault.{Fault}
-use Rattle.bag_validity.specs.SumFaults.{differing_code, fault_of_sum}
-use Rattle.bag_validity.specs.ValidityStage.{Differs, IsEntryIn, IsOfValidity, ValidityFaultsAreOfStageSeven, ValidityHolds}
+use Rattle.bag_validity.specs.SumFaults.{differing_code}
+use Rattle.bag_validity.specs.ValidityStage.{expected_and_found, Differs, IsEntryIn, IsOfValidity, ValidityFaultsAreOfStageSeven, ValidityHolds}
+
+-- the fault of an entry's file that has this digest
+abbrev pub fault_of_sum : Kind → Alg → ManifestEntry → List ℕ → Fault
+fault_of_sum kind alg entry found = record {
+  code = differing_code kind;
+  path = entry.path;
+  alg = Some alg;
+  line = 0;
+  detail = expected_and_found entry.digest found;
+}
 
 -- the fault of a file of these bytes whose digest isn't the one that an entry gives
 abbrev pub sum_fault : Kind → Alg → ManifestEntry → List ℕ → Fault

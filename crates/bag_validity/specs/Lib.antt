@@ -1,3 +1,4 @@
+pub mod Given
 pub mod SumFaults
 pub mod SummedFiles
 pub mod ValidityStage

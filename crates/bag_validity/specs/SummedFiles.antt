@@ -1,11 +1,10 @@
 -- The files whose digests are compared (RFC 8493, 2.1.3, 2.2.1 and 3).
-use Rattle.std.specs.Prelude.{ℕ, ◌≡◌, List, Option, Contains, if◌then◌else◌}
+use Rattle.std.specs.Prelude.{ℕ, ◌≡◌, List, if◌then◌else◌}
 use Rattle.bag_text.specs.Path.{is_payload_path}
 use Rattle.bag_words.specs.declared.alg.Alg.{Alg}
 use Rattle.bag_tags.specs.declared.kind.Kind.{Kind}
 use Rattle.bag_tags.specs.declared.kind.Kind.TheVariants.{Payload, Tag}
 use Rattle.bag_tree.specs.Bag.{Bag, HasFile}
-use Rattle.bag_digest.specs.Digest.{AreSumsOf}
 use Rattle.bag_stages.specs.TagFiles.{Names}
 
 -- the kind of the manifests that may name a path: payload manifests name payload files, and tag manifests the others
@@ -19,11 +18,6 @@ IsNamed bag path = (kind : Kind) × (alg : Alg) × Names bag kind alg path
 -- a file that is there and that a manifest names: its digests are compared
 abbrev pub IsSummed : Bag → List ℕ → Type 0
 IsSummed bag path = HasFile bag path × IsNamed bag path
-
--- the digests of these bytes, by each algorithm whose manifest names the path at the least
-abbrev pub AreSumsFor : Bag → List ℕ → List ℕ → List (Option (List ℕ)) → Type 0
-AreSumsFor bag path content sums =
-    (asked : List Alg) × ((kind : Kind) (alg : Alg) → Names bag kind alg path → Contains asked alg) × AreSumsOf asked content sums
 
 -- the law: only manifests of this kind name a path
 abbrev pub NamesByKind : Type 0

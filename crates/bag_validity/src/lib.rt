@@ -1,9 +1,9 @@
 //! The faults of a valid bag (RFC 8493, 3), one file at a time: digests that aren't those that manifests give.
 //!
 //! ```
-//! let algs = algs_naming(&facts, &entry.path);
+//! let expected = expected_of(alloc, &facts, &entry.path)?;
 //! let sums = digest_file(&mut tree, entry, algs, &mut buffer)?;
-//! for fault in &sum_faults(alloc, &facts, &entry.path, &sums)? {
+//! for fault in &faults_by(alloc, &entry.path, expected.as_slice(), &sums)? {
 //!     let line = fault.to_line(alloc)?;
 //! }
 //! ```
@@ -11,9 +11,9 @@
 //! No file is opened.
 #![tactic(auto)]
 
-mod entries;
+mod expected;
+mod faults;
 pub mod laws;
-mod sums;
 
-pub use entries::algs_naming;
-pub use sums::sum_faults;
+pub use expected::{Expected, expected_of};
+pub use faults::faults_by;

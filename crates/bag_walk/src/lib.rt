@@ -14,7 +14,5 @@ mod runner;
 mod segment;
 
 pub use bag_output::{Outcome, Request, status};
-pub use bag_source::{
-    Completeness, Fixed, InOrder, Merge, Quiet, Source, Steps, Then, Validity, Walk,
-};
+pub use bag_source::{Completeness, Fixed, InOrder, Merge, Quiet, Source, Then, Validity, Walk};
 pub use runner::run;

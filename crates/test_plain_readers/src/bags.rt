@@ -1,6 +1,6 @@
 //! Generated bags, and what a plain check of their names and digests finds: for each path it looks through all names and all
 //! manifests, and it compares each pair of names.
-use crate::checks::{DECLARATION, lines_found, put};
+use crate::checks::{DECLARATION, lines_behind, lines_found, put};
 use crate::drawn::mixed;
 use bag_report::{Depth, Options};
 use bag_store::MemoryTree;
@@ -276,6 +276,20 @@ fn is_alike(alloc: Global, bag: u64, options: Options) -> Result<bool, Fail> {
     Ok(found == plain_lines(alloc, bag, options)?)
 }
 
+/// Whether checks of the bag of a number above each of its faults find what stands behind that fault.
+fn goes_on(alloc: Global, bag: u64, options: Options) -> Result<bool, Fail> {
+    let lines = plain_lines(alloc, bag, options)?;
+    let mut behind = lines.as_str();
+    for line in lines.as_str().lines() {
+        behind = behind.split_once('\n').map_or("", |(_, rest)| rest);
+        let found = lines_behind(alloc, tree_of(alloc, bag)?, options, line, "67")?;
+        if found.as_str() != behind {
+            return Ok(false);
+        }
+    }
+    Ok(true)
+}
+
 /// How deep bags are checked, and whether names that clash are looked for.
 const CHECKS: [(Depth, bool); 2] = [(Depth::Complete, true), (Depth::Full, false)];
 
@@ -285,6 +299,17 @@ fn finds_what_a_plain_check_finds(rt: HostRuntime) -> Result<(), Fail> {
         for (depth, clashes) in CHECKS {
             let options = Options { depth, clashes };
             assert!(rt; is_alike(rt.alloc(), bag, options)?, "bag {bag}");
+        }
+    }
+    Ok(())
+}
+
+#[test]
+fn goes_on_behind_each_fault(rt: HostRuntime) -> Result<(), Fail> {
+    for bag in 0..150 {
+        for (depth, clashes) in CHECKS {
+            let options = Options { depth, clashes };
+            assert!(rt; goes_on(rt.alloc(), bag, options)?, "bag {bag}");
         }
     }
     Ok(())

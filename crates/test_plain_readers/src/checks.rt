@@ -1,5 +1,5 @@
 //! Bags in memory, and what checks of them write.
-use bag_report::{Options, Profile};
+use bag_report::{Fault, Options, Profile};
 use bag_store::{MemoryTree, WriterOut};
 use bag_text::{Text, check_path};
 use bag_walk::{Request, run};
@@ -15,16 +15,17 @@ pub(crate) fn put(tree: &mut MemoryTree, path: &str, bytes: &[u8]) -> Result<(),
     Ok(tree.put_file(path, bytes)?)
 }
 
-/// What a check of a tree writes.
+/// What a check of a tree writes, above a fault where one is given.
 fn report(
     alloc: Global,
     tree: MemoryTree,
     profile: Option<&Profile>,
     options: Options,
+    after: Option<Fault>,
 ) -> Result<String, Fail> {
     let request = Request {
         options,
-        after: None,
+        after,
         limit: None,
         quiet: false,
         name: Text::from_str(alloc, "d")?,
@@ -42,9 +43,27 @@ pub(crate) fn lines_found(
     options: Options,
     digits: &str,
 ) -> Result<String, Fail> {
-    let report = report(alloc, tree, profile, options)?;
+    let report = report(alloc, tree, profile, options, None)?;
+    picked(alloc, report.as_str(), digits)
+}
+
+/// What it writes of them above the fault of a line.
+pub(crate) fn lines_behind(
+    alloc: Global,
+    tree: MemoryTree,
+    options: Options,
+    line: &str,
+    digits: &str,
+) -> Result<String, Fail> {
+    let after = Fault::from_line(alloc, line)?;
+    let report = report(alloc, tree, None, options, Some(after))?;
+    picked(alloc, report.as_str(), digits)
+}
+
+/// The lines of a report that begin with one of these digits.
+fn picked(alloc: Global, report: &str, digits: &str) -> Result<String, Fail> {
     let mut text = String::new(alloc);
-    for line in report.as_str().lines() {
+    for line in report.lines() {
         if digits.contains(line.get(..1).unwrap_or("-")) {
             write!(text, "{line}\n")?;
         }

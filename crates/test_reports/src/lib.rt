@@ -1,6 +1,6 @@
-//! What runs, makings and readers do that no words of the command line and no case file can ask for: the order of faults and
-//! their copies, which files are opened, outputs that refuse at each place, lists and sizes that are not the bag's, thousands of
-//! lines and files, and requests that words can't give.
+//! What runs, walks, makings and readers do that no words of the command line and no case file can ask for: the order of faults and
+//! their copies, which files are opened, faults that are taken one at a time, outputs that refuse at each place, lists and sizes that
+//! are not the bag's, thousands of lines and files, and requests that words can't give.
 #![tactic(auto)]
 
 #[cfg(test)]
@@ -22,7 +22,11 @@ mod profiles;
 #[cfg(test)]
 mod series;
 #[cfg(test)]
+mod sources;
+#[cfg(test)]
 mod texts;
+#[cfg(test)]
+mod walks;
 #[cfg(test)]
 mod words;
 #[cfg(test)]
