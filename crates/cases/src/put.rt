@@ -62,16 +62,22 @@ pub(crate) fn begin_folder(
     rest: &str,
 ) -> Result<(), Mistake> {
     let words = words_of(rt.alloc(), rest)?;
-    let Some((name, held)) = words.split_first() else {
-        return Err(Mistake::Command);
-    };
-    let mut folder = Folder::named(rt.alloc(), *name)?;
-    for bag in held {
-        folder.put_all(rt.alloc(), folder_of(bags, *bag)?)?;
-    }
+    let folder = folder_with(rt.alloc(), bags, &words)?;
     on_disk::make(rt, &folder)?;
     folders.push(folder)?;
     Ok(())
+}
+
+/// A folder with the first of these names, which holds what the bags with the others do.
+fn folder_with(alloc: Global, bags: &[Folder], words: &[&str]) -> Result<Folder, Mistake> {
+    let Some((name, held)) = words.split_first() else {
+        return Err(Mistake::Command);
+    };
+    let mut folder = Folder::named(alloc, *name)?;
+    for bag in held {
+        folder.put_all(alloc, folder_of(bags, *bag)?)?;
+    }
+    Ok(folder)
 }
 
 /// Puts something into the last folder.

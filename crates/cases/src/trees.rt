@@ -5,7 +5,7 @@ ghost use Rattle.cases.specs.Checked.{IsChecked};
 
 use bag_cli::{Action, Plan};
 use bag_making::make_and_tell;
-use bag_store::{FailTree, MemoryTree, Tree, WriterOut, read_whole};
+use bag_store::{FailTree, FileEntry, Listing, MemoryTree, Tree, WriterOut, read_whole};
 use bag_text::{Text, check_path};
 use bag_walk::{Request, run, status};
 use case_files::{Answer, Folder, Mistake, Sort, Spot, folder_of};
@@ -68,36 +68,51 @@ fn put(tree: &mut MemoryTree, spot: &Spot) -> Result<(), Mistake> {
 /// What a tree holds, under a name: the payload folder, and the files in the order of their paths.
 fn held_by<T: Tree>(alloc: Global, tree: &mut T, name: &str) -> Result<Folder, Mistake> {
     let mut folder = Folder::named(alloc, name)?;
-    let Ok(listing) = tree.list() else {
-        return Err(Mistake::Memory);
-    };
+    put_held(alloc, tree, &mut folder)?;
+    Ok(folder)
+}
+
+fn put_held<T: Tree>(alloc: Global, tree: &mut T, folder: &mut Folder) -> Result<(), Mistake> {
+    match tree.list() {
+        Ok(listing) => put_listed(alloc, tree, &listing, folder),
+        Err(_) => Err(Mistake::Memory),
+    }
+}
+
+fn put_listed<T: Tree>(
+    alloc: Global,
+    tree: &mut T,
+    listing: &Listing,
+    folder: &mut Folder,
+) -> Result<(), Mistake> {
     if listing.has_data {
-        folder.put(Spot {
-            path: String::from_str(alloc, "data")?,
-            sort: Sort::Folder,
-            bytes: Vec::new(alloc),
-        })?;
+        folder.put(Spot::of(alloc, "data", Sort::Folder, Vec::new(alloc))?)?;
     }
     for entry in listing.files.as_slice() {
-        let Ok(bytes) = read_whole(alloc, tree, entry) else {
-            return Err(Mistake::Memory);
-        };
-        folder.put(Spot {
-            path: String::from_str(alloc, entry.path.as_str())?,
-            sort: Sort::File,
-            bytes,
-        })?;
+        match read_whole(alloc, tree, entry) {
+            Ok(bytes) => folder.put(Spot::of(alloc, entry.path.as_str(), Sort::File, bytes)?)?,
+            Err(_) => return Err(Mistake::Memory),
+        }
     }
-    Ok(folder)
+    Ok(())
 }
 
 /// The paths of the files of a folder, each in a line, in their order.
 pub(crate) fn listed(alloc: Global, folder: &Folder) -> Result<Vec<u8>, Mistake> {
-    let Ok(listing) = tree_of(alloc, folder)?.list() else {
-        return Err(Mistake::Memory);
-    };
+    paths_of(alloc, &mut tree_of(alloc, folder)?)
+}
+
+/// The paths of the files of a tree, each in a line.
+pub(crate) fn paths_of<T: Tree>(alloc: Global, tree: &mut T) -> Result<Vec<u8>, Mistake> {
+    match tree.list() {
+        Ok(listing) => lines_of_paths(alloc, listing.files.as_slice()),
+        Err(_) => Err(Mistake::System),
+    }
+}
+
+fn lines_of_paths(alloc: Global, files: &[FileEntry]) -> Result<Vec<u8>, Mistake> {
     let mut text = Vec::<u8>::new(alloc);
-    for entry in listing.files.as_slice() {
+    for entry in files {
         writeln!(text, "{}", entry.path)?;
     }
     Ok(text)

@@ -165,5 +165,5 @@ fn see_place(
         part: *part,
         ..sight
     };
-    report.see(sight, side.as_str(), wanted, found)
+    report.compare(sight, side.as_str(), wanted, found)
 }
