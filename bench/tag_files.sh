@@ -132,7 +132,8 @@ measure() {
 # Prints the ratio for a bag.
 judge() {
     local bag=$1 fault=$2 read= judged=
-    diff <(look_up "$bag" | head -n 1 | cut -d' ' -f1) <(echo "$fault")
+    look_up "$bag" >"$work/output"
+    diff <(head -n 1 "$work/output" | cut -d' ' -f1) <(echo "$fault")
     read=$(least_of read_bag "$bag")
     judged=$(least_of look_up "$bag")
     awk -v bag="$bag" -v read="$read" -v judged="$judged" 'BEGIN {

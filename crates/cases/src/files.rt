@@ -50,10 +50,10 @@ fn follow_all(
     follow_entries(rt, file, &lines, &mut session, line, report)
 }
 
-fn follow_entries(
+fn follow_entries<'a>(
     rt: &HostRuntime,
     file: &str,
-    lines: &[Line<'_>],
+    lines: &'a [Line<'a>],
     session: &mut Session,
     line: &mut usize,
     report: &mut Report,
@@ -90,10 +90,10 @@ fn follow(
     follow_plain_entries(rt, file, &lines, &mut session, line, report)
 }
 
-fn follow_plain_entries(
+fn follow_plain_entries<'a>(
     rt: &HostRuntime,
     file: &str,
-    lines: &[Line<'_>],
+    lines: &'a [Line<'a>],
     session: &mut Session,
     line: &mut usize,
     report: &mut Report,

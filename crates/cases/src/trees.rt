@@ -152,21 +152,30 @@ fn checked<T: Tree + Drop>(alloc: Global, tree: T, request: Request) -> (T, Vec<
     (tree, out.into_inner(), status(&outcome))
 }
 
-/// The tree after a making, what the making wrote, and its exit status.
+/// What a tree holds after a check or a making, which wrote this and ended with this status.
+fn left_in(
+    alloc: Global,
+    (tree, written, status): (FailTree<MemoryTree>, Vec<u8>, u8),
+    name: &str,
+) -> Result<(Answer, Folder), Mistake> {
+    let mut answer = Answer::of(alloc, written);
+    answer.status = status;
+    let folder = held_by(alloc, &mut tree.into_inner(), name)?;
+    Ok((answer, folder))
+}
+
+/// Makes a folder a bag, as a plan says.
 fn made(
     alloc: Global,
     tree: FailTree<MemoryTree>,
     name: &str,
     plan: &Plan,
-) -> Result<(FailTree<MemoryTree>, Vec<u8>, u8), Mistake> {
-    let elements = elements_of(alloc, plan)?;
+    elements: &[(Text, Text)],
+) -> Result<(Answer, Folder), Mistake> {
     let mut out = WriterOut::new(Vec::<u8>::new(alloc));
-    let (tree, told) = make_and_tell(
-        alloc, tree, name, plan.algs, &elements, plan.quiet, &mut out,
-    );
-    match told {
-        Ok(status) => Ok((tree, out.into_inner(), status)),
-        Err(_) => Err(Mistake::Memory),
+    match make_and_tell(alloc, tree, name, plan.algs, elements, plan.quiet, &mut out) {
+        (tree, Ok(status)) => left_in(alloc, (tree, out.into_inner(), status), name),
+        (_, Err(_)) => Err(Mistake::Memory),
     }
 }
 
@@ -179,14 +188,21 @@ pub(crate) fn answer_over_tree(
     call: u64,
 ) -> Result<(Answer, Folder), Mistake> {
     let name = folder.name.as_str();
-    let tree = FailTree::new(tree_of(alloc, folder)?, call);
-    let (tree, written, status) = match &plan.action {
-        Action::Make => made(alloc, tree, name, plan)?,
-        Action::Check => checked(alloc, tree, request_of(alloc, plan, name)?),
-        Action::Sample | Action::Help(_) => return Err(Mistake::Command),
-    };
-    let mut tree = tree.into_inner();
-    let mut answer = Answer::of(alloc, written);
-    answer.status = status;
-    Ok((answer, held_by(alloc, &mut tree, name)?))
+    match &plan.action {
+        Action::Make => {
+            let elements = elements_of(alloc, plan)?;
+            made(alloc, failing(alloc, folder, call)?, name, plan, &elements)
+        }
+        Action::Check => {
+            let request = request_of(alloc, plan, name)?;
+            let checked = checked(alloc, failing(alloc, folder, call)?, request);
+            left_in(alloc, checked, name)
+        }
+        Action::Sample | Action::Help(_) => Err(Mistake::Command),
+    }
+}
+
+/// The tree that holds what a folder does, of which the call of a number is refused.
+fn failing(alloc: Global, folder: &Folder, call: u64) -> Result<FailTree<MemoryTree>, Mistake> {
+    Ok(FailTree::new(tree_of(alloc, folder)?, call))
 }

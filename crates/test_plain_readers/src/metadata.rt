@@ -156,6 +156,6 @@ fn reads_thousands_of_elements(rt: HostRuntime) {
         .lines()
         .collect(rt.alloc())
         .expect(&rt, "succeeds");
-    assert_eq!(rt; lines.len(), 23_003);
+    assert!(rt; lines.len() == 23_003);
     reads_alike(&rt, rt.alloc(), &lines)
 }

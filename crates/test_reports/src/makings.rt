@@ -183,8 +183,8 @@ fn told(stop: &impl Abort, alloc: Global, made: &Result<(), MakeFault>, quiet: b
 
 #[test]
 fn a_bag_that_is_made(rt: HostRuntime) {
-    assert_eq!(rt; told(&rt, rt.alloc(), &Ok(()), false).as_str(), "d made\n");
-    assert_eq!(rt; told(&rt, rt.alloc(), &Ok(()), true).as_str(), "");
+    assert!(rt; told(&rt, rt.alloc(), &Ok(()), false).as_str() == "d made\n");
+    assert!(rt; told(&rt, rt.alloc(), &Ok(()), true).as_str() == "");
 }
 
 /// Whether a making that was refused so writes this line, quiet or not.

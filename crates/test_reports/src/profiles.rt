@@ -31,28 +31,43 @@ fn has_labels(profile: &Profile, labels: &str) -> bool {
     true
 }
 
+/// Whether a text is a profile that has these labels, and as many patterns.
+fn is_read(stop: &impl Abort, alloc: Global, text: &str, labels: &str) -> bool {
+    let profile = Profile::read(alloc, text.as_bytes()).expect(stop, "succeeds");
+    has_all(&profile, labels)
+}
+
+fn has_all(profile: &Profile, labels: &str) -> bool {
+    match profile.names(ListRule::TagFilesAllowed) {
+        Some(patterns) => {
+            patterns.len() == 1001 && profile.labels().len() == 1001 && has_labels(profile, labels)
+        }
+        None => false,
+    }
+}
+
 #[test]
 fn reads_a_large_profile(rt: HostRuntime) {
     let labels = text_of(&rt, rt.alloc(), &["Label-#\n", "Last\n"], 1000);
     let text = large_profile(&rt, rt.alloc());
-    let profile = Profile::read(rt.alloc(), text.as_bytes()).expect(&rt, "succeeds");
-    let patterns = profile
-        .names(ListRule::TagFilesAllowed)
-        .expect(&rt, "a list");
-    assert_eq!(rt; profile.labels().len(), 1001);
-    assert_eq!(rt; patterns.len(), 1001);
-    assert!(rt; has_labels(&profile, labels.as_str()));
+    assert!(rt; is_read(&rt, rt.alloc(), text.as_str(), labels.as_str()));
+}
+
+/// Whether a pattern of many stars between these texts matches a long name.
+fn is_matched(stop: &impl Abort, alloc: Global, begin: &str, end: &str) -> bool {
+    let stars = "*a".repeat(alloc, 1_000).expect(stop, "succeeds");
+    let pattern = format!(in alloc; "{begin}{stars}{end}").expect(stop, "succeeds");
+    let name = "a".repeat(alloc, 10_000).expect(stop, "succeeds");
+    matches(pattern.as_str(), name.as_str())
 }
 
 /// Many stars, and names that match, that fail at the end, and that fail at the beginning.
 #[test]
 fn many_stars_end_at_once(rt: HostRuntime) {
-    let alloc = rt.alloc();
-    let stars = "*a".repeat(alloc, 1_000).expect(&rt, "succeeds");
-    let name = "a".repeat(alloc, 10_000).expect(&rt, "succeeds");
-    assert!(rt; matches(stars.as_str(), name.as_str()), "stars");
-    let ends = format!(in alloc; "{stars}*b").expect(&rt, "succeeds");
-    assert!(rt; !matches(ends.as_str(), name.as_str()), "ends");
-    let begins = format!(in alloc; "b{stars}").expect(&rt, "succeeds");
-    assert!(rt; !matches(begins.as_str(), name.as_str()), "begins");
+    for (begin, end, wanted) in [("", "", true), ("", "*b", false), ("b", "", false)] {
+        assert!(rt;
+            is_matched(&rt, rt.alloc(), begin, end) == wanted,
+            "{begin}{end}"
+        );
+    }
 }

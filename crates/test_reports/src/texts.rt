@@ -33,9 +33,9 @@ fn copies(stop: &impl Abort, alloc: Global, text: &str, count: usize) -> Items<T
 #[test]
 fn keeps_items(rt: HostRuntime) {
     let items = copies(&rt, rt.alloc(), "data/\u{e4}", 10_000);
-    assert_eq!(rt; items.as_slice().len(), 10_000);
+    assert!(rt; items.as_slice().len() == 10_000);
     for item in items.iter() {
-        assert_eq!(rt; item.as_str(), "data/\u{e4}");
+        assert!(rt; item.as_str() == "data/\u{e4}");
     }
 }
 
