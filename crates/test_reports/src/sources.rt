@@ -89,7 +89,12 @@ fn is_joined(
 fn merged_sources_give_each_fault_once(rt: HostRuntime) {
     let mut tree = tree_of(&rt, rt.alloc(), &[]);
     for number in 0..1296usize {
-        let places = [number % 6, number / 6 % 6, number / 36 % 6, number / 216 % 6];
+        let places = [
+            number % 6,
+            number / 6 % 6,
+            number / 36 % 6,
+            number / 216 % 6,
+        ];
         assert!(rt; is_merged(&rt, rt.alloc(), &mut tree, places), "{number}");
     }
 }

@@ -33,12 +33,7 @@ const EACH_ONCE: Files = &[
 ];
 
 /// Writes what a step gives: the path and the algorithm of a fault, the end, or the path and the cause of a refusal.
-fn write_step<T: Tree>(
-    stop: &impl Abort,
-    alloc: Global,
-    walk: &mut Walk<T>,
-    text: &mut String,
-) {
+fn write_step<T: Tree>(stop: &impl Abort, alloc: Global, walk: &mut Walk<T>, text: &mut String) {
     match walk.next() {
         Ok(Some(fault)) => write_fault(stop, alloc, fault, text),
         Ok(None) => text.push_str("end\n").expect(stop, "succeeds"),
@@ -182,7 +177,10 @@ fn is_right(stop: &impl Abort, alloc: Global, row: &Row, steps: usize) -> bool {
 fn steps_open_no_file_behind_their_fault(rt: HostRuntime) {
     for (place, row) in ROWS.iter().enumerate() {
         for steps in 0..=row.steps.len() {
-            assert!(rt; is_right(&rt, rt.alloc(), row, steps), "row {place}, {steps} steps");
+            assert!(rt;
+                is_right(&rt, rt.alloc(), row, steps),
+                "row {place}, {steps} steps"
+            );
         }
     }
 }
