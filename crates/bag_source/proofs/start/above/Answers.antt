@@ -1,4 +1,4 @@
-use Rattle.std.proofs.Common.{◌≡◌, filter, rules}
+use Rattle.std.proofs.Common.{rules}
 use Rattle.std.specs.Option.{option_copied}
 use Rattle.std.proofs.lemmas.Fn.{filter_same}
 use Rattle.bag_report.specs.Report.{is_above}
