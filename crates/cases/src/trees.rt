@@ -173,9 +173,10 @@ fn made(
     elements: &[(Text, Text)],
 ) -> Result<(Answer, Folder), Mistake> {
     let mut out = WriterOut::new(Vec::<u8>::new(alloc));
-    match make_and_tell(alloc, tree, name, plan.algs, elements, plan.quiet, &mut out) {
-        (tree, Ok(status)) => left_in(alloc, (tree, out.into_inner(), status), name),
-        (_, Err(_)) => Err(Mistake::Memory),
+    let (tree, told) = make_and_tell(alloc, tree, name, plan.algs, elements, plan.quiet, &mut out);
+    match told {
+        Ok(status) => left_in(alloc, (tree, out.into_inner(), status), name),
+        Err(_) => Err(Mistake::Memory),
     }
 }
 
