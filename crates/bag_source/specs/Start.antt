@@ -1,5 +1,6 @@
 -- A walk that was started.
-use Rattle.std.specs.Prelude.{ℕ, ◌≡◌, false, true, List, Option, IsTrue, filter}
+use Rattle.std.specs.Prelude.{ℕ, ◌≡◌, ◌<◌, false, true, List, Option, IsTrue, filter}
+use Rattle.bag_text.specs.Code.{stage}
 use Rattle.bag_text.specs.Order.{IsListOf}
 use Rattle.bag_text.specs.Path.{is_payload_path}
 use Rattle.bag_text.specs.Text.{text_cmp}
@@ -7,6 +8,7 @@ use Rattle.bag_words.specs.declared.alg.Alg.{Alg}
 use Rattle.bag_tags.specs.declared.kind.Kind.TheVariants.{Payload}
 use Rattle.bag_tree.specs.Bag.{Bag, HasFile, IsBag}
 use Rattle.bag_tree.specs.Tree.{TreeState}
+use Rattle.bag_fault.specs.FaultOrder.{fault_cmp}
 use Rattle.bag_fault.specs.declared.fault.Fault.{Fault}
 use Rattle.bag_facts.specs.declared.options.Depth.TheVariants.{Full}
 use Rattle.bag_facts.specs.declared.options.Options.{Options}
@@ -14,8 +16,12 @@ use Rattle.bag_profile.specs.Profile.{Profile}
 use Rattle.bag_report.specs.Report.{Check}
 use Rattle.bag_stages.specs.TagFiles.{Names}
 use Rattle.bag_validity.specs.SummedFiles.{IsSummed}
-use Rattle.bag_source.specs.Steps.{StandsAt}
+use Rattle.bag_source.specs.Steps.{IsAhead, StandsAt}
 use Rattle.bag_source.specs.Validity.{is_passed}
+
+-- the part of a report that is of the stages before this one and above a cursor
+abbrev pub AreAheadBefore : Check → ℕ → Option Fault → List Fault → Type 0
+AreAheadBefore check k after faults = IsListOf fault_cmp (λ f. IsAhead check after f × (stage f.code < k)) faults
 
 -- A file whose digests are still to be compared: at depth Full one that is there and that a manifest names, and that the
 -- cursor hasn't passed.
