@@ -2,6 +2,7 @@ pub mod ByReport
 pub mod Closed
 pub mod CursorLaw
 pub mod Early
+pub mod LastLines
 pub mod Openings
 pub mod Running
 pub mod SegmentLines
