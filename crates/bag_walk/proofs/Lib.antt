@@ -6,5 +6,7 @@ pub mod LastLines
 pub mod Openings
 pub mod Running
 pub mod SegmentLines
+pub mod SegmentStart
+pub mod SegmentSteps
 pub mod Shown
 pub mod Walked
