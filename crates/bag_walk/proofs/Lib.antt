@@ -8,5 +8,6 @@ pub mod Running
 pub mod SegmentLines
 pub mod SegmentStart
 pub mod SegmentSteps
+pub mod SegmentSums
 pub mod Shown
 pub mod Walked

@@ -7,5 +7,6 @@ pub mod Lines
 pub mod Openings
 pub mod Run
 pub mod Segment
+pub mod SegmentLaws
 pub mod Segments
 pub mod Stops
