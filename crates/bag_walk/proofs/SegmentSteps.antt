@@ -1,11 +1,9 @@
 -- Segment after segment of a report.
-use Rattle.std.proofs.Common.{◌≡◌, ◌<◌, ◌≤◌, ◌+◌, ◌-◌, ◌++◌, ◌∷◌, ◌⊎◌, inl, inr, ℕ, zero, suc, Bool, true, false, List, [], length, take, drop, get_or, slice_get, None, Some, Option, IsTrue, refl, sym, ap, ◌∙◌, subst, arith, true≢false, append_assoc}
+use Rattle.std.proofs.Common.{◌≡◌, ◌<◌, ◌≤◌, ◌+◌, ◌-◌, ◌++◌, ◌∷◌, inl, inr, ℕ, zero, suc, Bool, true, false, List, [], length, take, drop, get_or, slice_get, None, Some, Option, refl, sym, ap, ◌∙◌, subst, arith, true≢false, append_assoc}
 use Rattle.std.specs.List.{concat}
 use Rattle.std.specs.List.Sorted.{IsStrictlySortedBy}
 use Rattle.std.specs.Io.KnownBytes.{Appends}
-use Rattle.std.proofs.lemmas.Grind.{common_steps}
 use Rattle.std.proofs.lemmas.List.{append_cancel_left, drop_more, drop_all, map-append, take-append-drop, length-drop}
-use Rattle.bag_text.proofs.ListOf.{one_list}
 use Rattle.bag_tree.specs.Bag.{HasFile}
 use Rattle.bag_tree.specs.Tree.{TreeState, Keeps}
 use Rattle.bag_tree.specs.declared.fault.Stop.{Stop}
@@ -18,9 +16,9 @@ use Rattle.bag_facts.specs.declared.options.Options.{Options}
 use Rattle.bag_facts.proofs.Reading.{keeps_itself, keeps_on, later_refusal}
 use Rattle.bag_report.specs.Report.{above, first}
 use Rattle.bag_validity.specs.SummedFiles.{IsSummed}
-use Rattle.bag_output.specs.Ending.{IsCutAt, ended, written, written_line}
+use Rattle.bag_output.specs.Ending.{ended, written, written_line}
 use Rattle.bag_output.specs.declared.outcome.Outcome.{Outcome}
-use Rattle.bag_output.specs.declared.outcome.Outcome.TheVariants.{Stopped, Unread, Unwritten}
+use Rattle.bag_output.specs.declared.outcome.Outcome.TheVariants.{Stopped, Unwritten}
 use Rattle.bag_output.proofs.Writing.{Appends-append, Appends-nil}
 use Rattle.bag_walk.specs.Lines.{IsLastLine, IsLastOf}
 use Rattle.bag_walk.specs.Segment.{EndsSegment, IfUnread, WroteFirst}

@@ -35,7 +35,8 @@ const WRONG_DIGESTS: Files = &[
     ),
 ];
 
-const WRONG: &str = "701 payload-sum-differs data/x md5 - 900150983cd24fb0d6963f7d28e17f72:0cc175b9c0f1b6a831c399e269772661
+const WRONG: &str =
+    "701 payload-sum-differs data/x md5 - 900150983cd24fb0d6963f7d28e17f72:0cc175b9c0f1b6a831c399e269772661
 701 payload-sum-differs data/x sha1 - a9993e364706816aba3e25717850c26c9cd0d89d:86f7e437faa5a7fce15d1ddcb9eaeaea377667b8
 ";
 
@@ -75,7 +76,10 @@ fn each_call_is_refused_in_turn(rt: HostRuntime) -> Result<(), Fail> {
     for call in 1..40 {
         let tree = FailTree::new(tree_of(alloc, WRONG_DIGESTS)?, call);
         let (tree, text, outcome) = in_segments(alloc, tree, &[1, 1, 1, 1])?;
-        assert!(rt; text.as_str() == WRONG && matches!(outcome, Outcome::Faults(2)), "call {call}");
+        assert!(rt;
+            text.as_str() == WRONG && matches!(outcome, Outcome::Faults(2)),
+            "call {call}"
+        );
     }
     let (tree, text, outcome) = in_segments(alloc, tree_of(alloc, WRONG_DIGESTS)?, &[1, 1])?;
     assert!(rt; text.as_str() == WRONG && matches!(outcome, Outcome::Stopped(2)));

@@ -1,4 +1,4 @@
-use Rattle.std.proofs.Common.{ℕ, List, ◌+◌, ◌∙◌, sym, subst, arith, refl}
+use Rattle.std.proofs.Common.{ℕ, ◌+◌, ◌∙◌, sym, subst, arith, refl}
 use Rattle.std.specs.Option.{option_copied}
 use Rattle.std.proofs.lemmas.List.Sums.{sum_by_more}
 use Rattle.bag_facts.proofs.Reading.{keeps_on}
