@@ -60,7 +60,8 @@ fn end_of_report(written: u64) -> Outcome
 /// other behind the last fault that was written.
 ///
 /// It ends with the first segment that comes to the end of the report or whose output refuses. One whose reading is refused
-/// is followed by the next. The outcome counts the lines of all segments; the tree comes back.
+/// is followed by the next. The outcome counts the lines of all segments; the tree comes back. For a limit of 0 it isn't
+/// looked at.
 pub fn run_segments<T: Tree, W: Out>(
     alloc: Global,
     tree: T,
@@ -71,6 +72,7 @@ pub fn run_segments<T: Tree, W: Out>(
 ) -> (T, Outcome)
     requires { sum limits.now < 2 ^ 64 }
     ensures keeps { Keeps (T.state tree) (T.state result.0) }
+    ensures untouched { sum limits.now ≡ 0 → result.0 ≡ tree }
     ensures stop { spec.IsStopped options (T.state tree) (T.state result.0) result.1 }
     ensures segments { spec.RunsInSegments (T.state tree) (T.state result.0) (option_copied profile.entry) options limits.now (W.taken out.old) (W.taken out.new) (W.has_refused out.new) result.1 }
 {
@@ -103,6 +105,7 @@ fn write_segment<T: Tree, W: Out>(
 ) -> (T, Segment)
     ensures keeps { Keeps (T.state tree) (T.state result.0) }
     ensures bounded { result.1.written ≤ limit }
+    ensures untouched { limit ≡ 0 → result.0 ≡ tree }
     ensures stop { IfUnread result.1.end (MayStop options (T.state tree) (T.state result.0)) }
     ensures segment { IsTrue (T.state tree).honest → (report : List Spoken)
         → IsReport (record { bag = (T.state tree).bag; profile = option_copied profile.entry; options = options }) report

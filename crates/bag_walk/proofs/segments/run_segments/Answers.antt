@@ -32,6 +32,9 @@ loop-limit-preserved g c =
     record {
       keeps = keeps_on (state c.args.tree) (state c.loop-limit.tree) (state step.result.0) has.keeps step.ensures.keeps;
       bounded = omega (arith, step.ensures.bounded, has.bounded, sum_by_more (λ (x : ℕ). x) c.args.limits.now i 0 c.loop-limit-test.true);
+      untouched = λ none.
+          step.ensures.untouched (omega (arith, none, sum_by_more (λ (x : ℕ). x) c.args.limits.now i 0 c.loop-limit-test.true))
+          ∙ has.untouched (omega (arith, none, sum_by_more (λ (x : ℕ). x) c.args.limits.now i 0 c.loop-limit-test.true));
       stop =
           subst (IsStopped c.args.options (state c.args.tree) (state step.result.0)) (sym c.outcome-outcome.ensures)
           (stopped_at_last c.args.options (state c.args.tree) (state c.loop-limit.tree) (state step.result.0) _ step.result.1.end has.keeps step.ensures.stop);
