@@ -2,8 +2,12 @@ pub mod ByReport
 pub mod Closed
 pub mod CursorLaw
 pub mod Early
+pub mod LastLines
 pub mod Openings
 pub mod Running
 pub mod SegmentLines
+pub mod SegmentStart
+pub mod SegmentSteps
+pub mod SegmentSums
 pub mod Shown
 pub mod Walked

@@ -17,6 +17,7 @@ use Rattle.bag_source.specs.Openings.{Opens, OpensAgain, OpensNoneBehind}
 use Rattle.bag_source.specs.Source.{first_of, rest_of, MayStopFilling, Sees}
 use Rattle.bag_source.specs.Shown.{front_is, none_is}
 use Rattle.bag_source.proofs.Filling.{sees_later, sees_second, stop_later}
+use Rattle.bag_walk.specs.Lines.{IsLastOf}
 use Rattle.bag_walk.specs.Segment.{IsSegment, MayStopWalk}
 use Rattle.bag_walk.specs.declared.segment.Segment.{Segment}
 use Rattle.bag_walk.specs.declared.segment.SegmentEnd.TheVariants.{Full, AtEnd, Unread, Unwritten}
@@ -98,19 +99,20 @@ one_line_more given f old mid new t more =
     (Appends-append old mid new (concat (written given)) (written_line f) t more)
 
 -- so many faults were given and written; of a bag that is seen they are the first
-pub record HasWritten (limit count : ℕ) (IsOf IsOfNow : Bag → Type 0) (left left_now : Bag → List Fault) (todo todo_now : List (List ℕ)) (old now : TreeState) (before after : Option (List ℕ)) : Type 0 where
+pub record HasWritten (limit count : ℕ) (IsOf IsOfNow : Bag → Type 0) (left left_now : Bag → List Fault) (todo todo_now : List (List ℕ)) (old now : TreeState) (before after : Option (List ℕ)) (line line_now : List ℕ) : Type 0 where
   pub keeps : Keeps old now
   pub calm : now.failures ≡ old.failures
   pub within : count ≤ limit
   pub given : List Fault
   pub count_is : length given ≡ count
   pub written_so_far : Appends before after (concat (written given))
+  pub last : (rest : List Fault) → IsLastOf (given ++ rest) count line line_now
   pub opens : Opens todo todo_now old now
   pub behind : (bag : Bag) → IsOf bag → Sees old todo bag → OpensNoneBehind (drop (count - 1) (left bag)) old now
   pub seen : (bag : Bag) → IsOf bag → Sees old todo bag → IsOfNow bag × (left bag ≡ given ++ left_now bag)
 
-module _ (limit count : ℕ) (IsOf IsOfNow : Bag → Type 0) (left left_now : Bag → List Fault) (todo todo_now : List (List ℕ)) (old now new : TreeState) (before mid : Option (List ℕ))
-    (has : HasWritten limit count IsOf IsOfNow left left_now todo todo_now old now before mid) where
+module _ (limit count : ℕ) (IsOf IsOfNow : Bag → Type 0) (left left_now : Bag → List Fault) (todo todo_now : List (List ℕ)) (old now new : TreeState) (before mid : Option (List ℕ)) (line line_now : List ℕ)
+    (has : HasWritten limit count IsOf IsOfNow left left_now todo todo_now old now before mid line line_now) where
   pub sees_now : (bag : Bag) → Sees old todo bag → Sees now todo_now bag
   sees_now bag sees = sees_later old now todo_now bag has.keeps (sees_second old has.opens.opened todo_now bag (subst (λ l. Sees old l bag) has.opens.left sees))
 
@@ -158,6 +160,10 @@ module _ (limit count : ℕ) (IsOf IsOfNow : Bag → Type 0) (left left_now : Ba
   module _ (bag : Bag) (h : IsOf bag) (sees : Sees old todo bag) where
     pub left_is : left bag ≡ has.given ++ left_now bag
     left_is = (has.seen bag h sees).1
+
+    -- and the last line is of the last of them
+    pub last_is : (same : List ℕ) → same ≡ line_now → IsLastOf (left bag) count line same
+    last_is same e = rw e (subst (λ faults. IsLastOf faults count line line_now) (sym left_is) (has.last (left_now bag)))
 
     to_come : drop count (left bag) ≡ left_now bag
     to_come = ap (drop count) left_is ∙ ap (λ n. drop n (has.given ++ left_now bag)) (sym has.count_is) ∙ behind_given has.given (left_now bag)

@@ -1,5 +1,5 @@
 -- A run over a walk, by its segment.
-use Rattle.std.proofs.Common.{◌≡◌, ◌++◌, ◌∷◌, ◌-◌, inl, inr, ℕ, Bool, List, [], Option, min, ap, ◌∙◌, subst, arith}
+use Rattle.std.proofs.Common.{◌≡◌, ◌≤◌, ◌++◌, ◌∷◌, ◌-◌, inl, inr, ℕ, Bool, List, [], Option, min, ap, ◌∙◌, subst, arith}
 use Rattle.bag_tree.specs.Tree.{TreeState}
 use Rattle.bag_tree.specs.declared.fault.Stop.{Stop}
 use Rattle.bag_fault.specs.declared.fault.Fault.{Fault}
@@ -20,6 +20,12 @@ looked_before faults limit n Full e = omega (arith, e.0)
 looked_before faults limit n AtEnd e = omega (arith, e.0)
 looked_before faults limit n (Unread stop) e = omega (arith, e.0)
 looked_before faults limit n Unwritten e = omega (arith, e.0)
+
+pub within_limit : (faults : List Fault) (limit n : ℕ) (end : SegmentEnd) → EndsSegment faults limit n end → n ≤ limit
+within_limit faults limit n Full e = omega (arith, e.0)
+within_limit faults limit n AtEnd e = omega (arith, e.0)
+within_limit faults limit n (Unread stop) e = omega (arith, e.0)
+within_limit faults limit n Unwritten e = omega (arith, e.0)
 
 module _ (todo left : List (List ℕ)) (old new : TreeState) (again : OpensAgain todo left old new) where
   reached : (path : List ℕ) → IsNext left old path → IsReached todo old new path
@@ -44,6 +50,13 @@ module _ (todo left : List (List ℕ)) (old new : TreeState) (again : OpensAgain
   stops_run : (IsOf : Type 0) (stop : Stop) → MayStopWalk IsOf left old new stop → MayStopRun IsOf todo old new stop
   stops_run IsOf stop (inl memory) = inl memory
   stops_run IsOf stop (inr h) = inr (λ of. stops_at stop (h of))
+
+  -- the stop of a segment
+  pub stops_segment : (IsOf : Type 0) (end : SegmentEnd) → IfUnread end (MayStopWalk IsOf left old new) → IfUnread end (MayStopRun IsOf todo old new)
+  stops_segment IsOf Full stops = tt
+  stops_segment IsOf AtEnd stops = tt
+  stops_segment IsOf (Unread stop) stops = stops_run IsOf stop stops
+  stops_segment IsOf Unwritten stops = tt
 
   -- what a segment says of it is so of the run
   pub calmly : (request : Request) (faults : List Fault) (IsOf : Type 0) (segment : Segment) (before after : Option (List ℕ)) (refused : Bool) (outcome : Outcome)

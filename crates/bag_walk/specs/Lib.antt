@@ -3,7 +3,10 @@ pub use Rattle.bag_output.specs.Ending
 pub use Rattle.bag_output.specs.Write
 pub use Rattle.bag_output.specs.Writer
 pub mod Cursor
+pub mod Lines
 pub mod Openings
 pub mod Run
 pub mod Segment
+pub mod SegmentLaws
+pub mod Segments
 pub mod Stops

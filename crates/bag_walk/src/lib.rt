@@ -10,9 +10,12 @@
 #![tactic(auto)]
 
 pub mod laws;
+mod lines;
 mod runner;
 mod segment;
+mod segments;
 
 pub use bag_output::{Outcome, Request, status};
 pub use bag_source::{Completeness, Fixed, InOrder, Merge, Quiet, Source, Then, Validity, Walk};
 pub use runner::run;
+pub use segments::run_segments;

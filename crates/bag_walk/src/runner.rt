@@ -13,6 +13,7 @@ ghost use Rattle.bag_walk.specs.Run.{IsRun, IsRunByReport};
 ghost use Rattle.bag_walk.specs.Segment.{MayStopRun, WritesCalmly};
 ghost use Rattle.bag_walk.specs.Stops.{IfStopped};
 
+use crate::lines::Lines;
 use crate::segment::{close_segment, out_of_memory, write_faults};
 use bag_output::{Outcome, Request, close};
 use bag_report::{Fault, Profile};
@@ -101,8 +102,8 @@ fn run_of_walk<T: Tree, S: InOrder<T> + Drop, W: Out>(
     ensures stop { IfStopped result.1 (MayStopRun (IsTrue (T.state walk.tree).honest → S.is_of (T.state walk.tree).bag walk.source) (S.todo walk.source) (T.state walk.tree) (T.state result.0)) }
 {
     let mut walk = walk;
-    let mut line = String::new(alloc);
-    let segment = write_faults(alloc, &mut walk, &mut line, limit_of(request), out);
+    let mut lines = Lines::new(alloc);
+    let segment = write_faults(alloc, &mut walk, &mut lines, limit_of(request), out);
     let outcome = close_segment(request, segment, out);
     (walk.into_tree(), outcome)
 }

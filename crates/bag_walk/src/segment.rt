@@ -1,5 +1,5 @@
 //! The lines of a report's faults, each written when its fault is found.
-ghost use Rattle.std.specs.Prelude.{◌≡◌, ℕ, List, Option, IsTrue};
+ghost use Rattle.std.specs.Prelude.{◌≡◌, ℕ, List, Option, IsTrue, string_bytes};
 ghost use Rattle.bag_tree.specs.Bag.{Bag};
 ghost use Rattle.bag_tree.specs.Tree.{Keeps};
 ghost use Rattle.bag_fault.specs.declared.fault.Fault.{Fault as Spoken};
@@ -9,10 +9,12 @@ ghost use Rattle.bag_output.specs.Ending.{limit_of};
 ghost use Rattle.bag_source.specs.Openings.{OpensAgain, OpensNoneBehind};
 ghost use Rattle.bag_source.specs.Source.{Sees};
 ghost use Rattle.bag_source.specs.Steps.{shown_by, to_give};
+ghost use Rattle.bag_walk.specs.Lines.{IsLastOf};
 ghost use Rattle.bag_walk.specs.Segment.{ClosesSegment, IfUnread, IsRead, IsSegment, MayStopWalk, StopsAt, still_to_come};
 ghost use Rattle.bag_walk.specs.Stops.{IfStopped};
 
-use bag_output::{Outcome, Request, close, end_of_report, fill_line, put_all};
+use crate::lines::Lines;
+use bag_output::{Outcome, Request, close, end_of_report, put_all};
 use bag_source::{InOrder, Steps};
 use bag_tree::{Out, Refused, Stop, Tree, TreeFault};
 use std::alloc::Global;
@@ -41,12 +43,12 @@ pub(crate) struct Segment {
 /// next fault is looked for.
 ///
 /// Each line ends in LF, and is one write where the output takes it whole. Where memory for a line runs out, the segment is
-/// `Unread` with a stop that names no file; where the output refuses, nothing more is written. The buffer is used for each
-/// line.
+/// `Unread` with a stop that names no file; where the output refuses, nothing more is written. The last line that was
+/// written is kept.
 pub(crate) fn write_faults<T: Tree, S: InOrder<T>, W: Out>(
     alloc: Global,
     walk: &mut Steps<T, S>,
-    line: &mut String,
+    lines: &mut Lines,
     limit: u64,
     out: &mut W,
 ) -> Segment
@@ -57,6 +59,8 @@ pub(crate) fn write_faults<T: Tree, S: InOrder<T>, W: Out>(
         → OpensNoneBehind (still_to_come result (to_give (shown_by walk.old.is_shown (S.found walk.old.source)) (S.remaining bag walk.old.source))) (T.state walk.old.tree) (T.state walk.new.tree) }
     ensures seen { (bag : Bag) → S.is_of bag walk.old.source → Sees (T.state walk.old.tree) (S.todo walk.old.source) bag
         → IsSegment (to_give (shown_by walk.old.is_shown (S.found walk.old.source)) (S.remaining bag walk.old.source)) limit (W.taken out.old) (W.taken out.new) (W.has_refused out.new) result }
+    ensures last { (bag : Bag) → S.is_of bag walk.old.source → Sees (T.state walk.old.tree) (S.todo walk.old.source) bag
+        → IsLastOf (to_give (shown_by walk.old.is_shown (S.found walk.old.source)) (S.remaining bag walk.old.source)) result.written (string_bytes lines.old.last) (string_bytes lines.new.last) }
     ensures unseen { (faults : List Spoken) × IsSegment faults limit (W.taken out.old) (W.taken out.new) (W.has_refused out.new) result }
     ensures stop { IfUnread result.end (MayStopWalk (IsTrue (T.state walk.old.tree).honest → S.is_of (T.state walk.old.tree).bag walk.old.source)
         (S.todo walk.new.source) (T.state walk.old.tree) (T.state walk.new.tree)) }
@@ -76,18 +80,19 @@ pub(crate) fn write_faults<T: Tree, S: InOrder<T>, W: Out>(
                 end: SegmentEnd::AtEnd,
             };
         };
-        let Ok(()) = fill_line(line, fault) else {
+        let Ok(()) = lines.fill(fault) else {
             return Segment {
                 written,
                 end: SegmentEnd::Unread(out_of_memory(alloc)),
             };
         };
-        if let Err(Refused) = put_all(out, line.as_bytes()) {
+        if let Err(Refused) = put_all(out, lines.next.as_bytes()) {
             return Segment {
                 written,
                 end: SegmentEnd::Unwritten,
             };
         }
+        lines.turn();
         written += 1;
     }
     Segment {

@@ -20,6 +20,8 @@ mod outputs;
 #[cfg(test)]
 mod profiles;
 #[cfg(test)]
+mod segments;
+#[cfg(test)]
 mod series;
 #[cfg(test)]
 mod sources;

@@ -7,7 +7,7 @@ use std::alloc::Global;
 use std::process::Abort;
 
 /// Three files that hold `a`, to which two manifests give other digests.
-const EACH_TWICE: Files = &[
+pub(crate) const EACH_TWICE: Files = &[
     ("data/a", b"a"),
     ("data/b", b"a"),
     ("data/c", b"a"),

@@ -1,0 +1,56 @@
+-- A segment over a walk that was started behind others.
+use Rattle.std.proofs.Common.{◌≡◌, ◌≤◌, ℕ, inl, Bool, true, List, [], length, drop, Option, None, IsTrue, sym, ap, ◌∙◌, subst}
+use Rattle.bag_text.proofs.ListOf.{one_list}
+use Rattle.bag_tree.specs.Bag.{Bag}
+use Rattle.bag_tree.specs.Tree.{TreeState, Keeps}
+use Rattle.bag_fault.specs.FaultOrder.{fault_cmp}
+use Rattle.bag_fault.specs.declared.fault.Fault.{Fault}
+use Rattle.bag_fault.proofs.Ordered.{fault_cmp_total}
+use Rattle.bag_facts.specs.declared.options.Options.{Options}
+use Rattle.bag_profile.specs.Profile.{Profile}
+use Rattle.bag_report.specs.Report.{IsReport, above}
+use Rattle.bag_output.specs.declared.outcome.Request.{Request}
+use Rattle.bag_source.specs.Source.{Sees}
+use Rattle.bag_source.specs.Start.{IsStarted}
+use Rattle.bag_walk.specs.Lines.{IsLastLine, IsLastOf}
+use Rattle.bag_walk.specs.Run.{IsAsked}
+use Rattle.bag_walk.specs.Segment.{IfUnread, IsSegment, MayStopRun}
+use Rattle.bag_walk.specs.Segments.{cursor_behind, GoesOn}
+use Rattle.bag_walk.specs.Stops.{MayStop}
+use Rattle.bag_walk.specs.declared.segment.Segment.{Segment}
+use Rattle.bag_walk.specs.declared.segment.SegmentEnd.{SegmentEnd}
+use Rattle.bag_walk.specs.declared.segment.SegmentEnd.TheVariants.{Full, AtEnd, Unread, Unwritten}
+use Rattle.bag_walk.proofs.Running.{sees_of, stop_of_walk}
+use Rattle.bag_walk.proofs.SegmentSteps.{above_behind, last_later}
+use Rattle.bag_walk.proofs.Shown.{above_report}
+
+-- a request for the faults above a cursor
+abbrev asking_of : Options → Option Fault → Request
+asking_of options after = record { options = options; after = after; limit = None; quiet = true; name = [] }
+
+module _ (old mid new : TreeState) (profile : Option Profile) (options : Options) (after : Option Fault) (IsOf : Bag → Type 0) (left : Bag → List Fault) (todo : List (List ℕ))
+    (started : IsStarted old profile options after IsOf left todo) (k : Keeps old mid) where
+  pub stop_of_started : (end : SegmentEnd) → IfUnread end (MayStopRun (IsTrue mid.honest → IsOf mid.bag) todo mid new) → IfUnread end (MayStop options old new)
+  stop_of_started Full stops = tt
+  stop_of_started AtEnd stops = tt
+  stop_of_started (Unread stop) stops = stop_of_walk old mid new profile (asking_of options after) IsOf left todo started k stop stops
+  stop_of_started Unwritten stops = tt
+
+  module _ (honest : IsTrue old.honest) (report : List Fault) (is : IsReport (record { bag = old.bag; profile = profile; options = options }) report) (n : ℕ) (within : n ≤ length report)
+      (behind : after ≡ cursor_behind n report) where
+    -- what is left is the rest of the report
+    left_behind : left started.seen ≡ drop n report
+    left_behind =
+        one_list fault_cmp fault_cmp_total (IsAsked started.seen profile (asking_of options after)) (left started.seen) (above after report) started.stands
+        (above_report started.seen profile (asking_of options after) report (subst (λ bag. IsReport (record { bag = bag; profile = profile; options = options }) report) (sym (started.honest honest)) is))
+        ∙ ap (λ cursor. above cursor report) behind ∙ above_behind n report is.ascending within
+
+    pub goes_on : (limit : ℕ) (before then : Option (List ℕ)) (refused : Bool) (line next : List ℕ) (segment : Segment) → IsLastLine (cursor_behind n report) line
+        → ((bag : Bag) → IsOf bag → Sees mid todo bag → IsSegment (left bag) limit before then refused segment)
+        → ((bag : Bag) → IsOf bag → Sees mid todo bag → IsLastOf (left bag) segment.written line next)
+        → GoesOn report n limit before then refused next segment
+    goes_on limit before then refused line next segment was seen last =
+        let sees = sees_of old mid new profile (asking_of options after) IsOf left todo started k (inl honest) in record {
+          writes = subst (λ faults. IsSegment faults limit before then refused segment) left_behind (seen started.seen started.of sees);
+          last = last_later n segment.written report line next was (subst (λ faults. IsLastOf faults segment.written line next) left_behind (last started.seen started.of sees));
+        }

@@ -1,0 +1,283 @@
+-- Segment after segment of a report.
+use Rattle.std.proofs.Common.{◌≡◌, ◌<◌, ◌≤◌, ◌+◌, ◌-◌, ◌++◌, ◌∷◌, inl, inr, ℕ, zero, suc, Bool, true, false, List, [], length, take, drop, get_or, slice_get, None, Some, Option, refl, sym, ap, ◌∙◌, subst, arith, true≢false, append_assoc}
+use Rattle.std.specs.List.{concat}
+use Rattle.std.specs.List.Sorted.{IsStrictlySortedBy}
+use Rattle.std.specs.Io.KnownBytes.{Appends}
+use Rattle.std.proofs.lemmas.List.{append_cancel_left, drop_more, drop_all, map-append, take-append-drop, length-drop}
+use Rattle.bag_tree.specs.Bag.{HasFile}
+use Rattle.bag_tree.specs.Tree.{TreeState, Keeps}
+use Rattle.bag_tree.specs.declared.fault.Stop.{Stop}
+use Rattle.bag_tree.specs.declared.fault.TreeFault.{TreeFault}
+use Rattle.bag_tree.specs.declared.fault.TreeFault.TheVariants.{Device, Special, Name, NotFound, TooMany, Changed, NoneOpen, Memory, Exists}
+use Rattle.bag_fault.specs.FaultOrder.{fault_cmp}
+use Rattle.bag_fault.specs.declared.fault.Fault.{Fault}
+use Rattle.bag_facts.specs.Stops.{MayRefuseFacts}
+use Rattle.bag_facts.specs.declared.options.Options.{Options}
+use Rattle.bag_facts.proofs.Reading.{keeps_itself, keeps_on, later_refusal}
+use Rattle.bag_report.specs.Report.{above, first}
+use Rattle.bag_validity.specs.SummedFiles.{IsSummed}
+use Rattle.bag_output.specs.Ending.{ended, written, written_line}
+use Rattle.bag_output.specs.declared.outcome.Outcome.{Outcome}
+use Rattle.bag_output.specs.declared.outcome.Outcome.TheVariants.{Stopped, Unwritten}
+use Rattle.bag_output.proofs.Writing.{Appends-append, Appends-nil}
+use Rattle.bag_walk.specs.Lines.{IsLastLine, IsLastOf}
+use Rattle.bag_walk.specs.Segment.{EndsSegment, IfUnread, WroteFirst}
+use Rattle.bag_walk.specs.Segments.{cursor_behind, SegmentsJoin, cost, SegmentsFrom, AreSegments, WroteSegments, MayLose, IsStopped, RunsOfSegments, is_last, outcome_at}
+use Rattle.bag_walk.specs.Stops.{MayStop}
+use Rattle.bag_walk.specs.declared.segment.SegmentEnd.{SegmentEnd}
+use Rattle.bag_walk.specs.declared.segment.SegmentEnd.TheVariants as end_of
+use Rattle.bag_walk.proofs.CursorLaw.{cursor_cuts_list}
+
+-- ---- what stands behind the first faults
+
+at_place : (n : ℕ) (faults : List Fault) → n < length faults → (f : Fault) × (slice_get faults n ≡ Some f)
+at_place n [] less = absurd (omega arith)
+at_place zero (f ∷ faults) less = (f, refl)
+at_place (suc n) (f ∷ faults) less = at_place n faults (omega arith)
+
+all_above : (faults : List Fault) → above None faults ≡ faults
+all_above [] = refl
+all_above (f ∷ faults) = ap (λ rest. f ∷ rest) (all_above faults)
+
+-- what is above the last of the first n faults is the rest
+pub above_behind : (n : ℕ) (report : List Fault) → IsStrictlySortedBy fault_cmp report → n ≤ length report → above (cursor_behind n report) report ≡ drop n report
+above_behind zero report sorted within = all_above report
+above_behind (suc n) report sorted within =
+    let at = at_place n report (omega arith) in
+    let same : suc n ≡ n + 1 = omega arith in
+    let cut : take (suc n) report ++ above (Some at.0) report ≡ report = subst (λ k. take k report ++ above (Some at.0) report ≡ report) (sym same) (cursor_cuts_list report n at.0 sorted at.1) in
+    ap (λ cursor. above cursor report) at.1 ∙ append_cancel_left (take (suc n) report) _ _ (cut ∙ sym (take-append-drop (suc n) report))
+
+take_nothing : (n : ℕ) → take {A = Fault} n [] ≡ []
+take_nothing zero = refl
+take_nothing (suc n) = refl
+
+take_joined : (n m : ℕ) (faults : List Fault) → take n faults ++ take m (drop n faults) ≡ take (n + m) faults
+take_joined zero m faults = let same : m ≡ 0 + m = omega arith in ap (λ k. take k faults) same
+take_joined (suc n) m [] = take_nothing m ∙ sym (take_nothing (suc n + m))
+take_joined (suc n) m (f ∷ faults) =
+    let same : suc n + m ≡ suc (n + m) = omega arith in rw same (ap (λ rest. f ∷ rest) (take_joined n m faults))
+
+pub segments_join : SegmentsJoin
+segments_join report n m sorted within = ap (λ rest. take n report ++ take m rest) (above_behind n report sorted within) ∙ take_joined n m report
+
+-- a fault of the rest stands so much later
+at_later : (n k : ℕ) (faults : List Fault) (f : Fault) → slice_get (drop n faults) k ≡ Some f → slice_get faults (n + k) ≡ Some f
+at_later zero k faults f at = let same : k ≡ 0 + k = omega arith in subst (λ i. slice_get faults i ≡ Some f) same at
+at_later (suc n) k [] f at = cc
+at_later (suc n) k (x ∷ faults) f at = let same : suc n + k ≡ suc (n + k) = omega arith in rw same (at_later n k faults f at)
+
+-- and so does its line
+line_later : (n k : ℕ) (faults : List Fault) (line : List ℕ) → slice_get (written (drop n faults)) k ≡ Some line → slice_get (written faults) (n + k) ≡ Some line
+line_later zero k faults line at = let same : k ≡ 0 + k = omega arith in subst (λ i. slice_get (written faults) i ≡ Some line) same at
+line_later (suc n) k [] line at = cc
+line_later (suc n) k (x ∷ faults) line at = let same : suc n + k ≡ suc (n + k) = omega arith in rw same (line_later n k faults line at)
+
+lines_joined : (n k : ℕ) (faults : List Fault) → take n (written faults) ++ take k (written (drop n faults)) ≡ take (n + k) (written faults)
+lines_joined zero k faults = let same : k ≡ 0 + k = omega arith in ap (λ i. take i (written faults)) same
+lines_joined (suc n) k [] = lines_of_none k ∙ sym (lines_of_none (suc n + k))
+  where
+    lines_of_none : (i : ℕ) → take {A = List ℕ} i [] ≡ []
+    lines_of_none zero = refl
+    lines_of_none (suc i) = refl
+lines_joined (suc n) k (x ∷ faults) =
+    let same : suc n + k ≡ suc (n + k) = omega arith in rw same (ap (λ rest. written_line x ∷ rest) (lines_joined n k faults))
+
+concat_joined : (xs ys : List (List ℕ)) → concat (xs ++ ys) ≡ concat xs ++ concat ys
+concat_joined [] ys = refl
+concat_joined (x ∷ xs) ys = ap (λ rest. x ++ rest) (concat_joined xs ys) ∙ sym (append_assoc x (concat xs) (concat ys))
+
+-- the line of the last of the rest's first faults
+pub last_later : (n k : ℕ) (report : List Fault) (old new : List ℕ) → IsLastLine (cursor_behind n report) old → IsLastOf (drop n report) k old new → IsLastLine (cursor_behind (n + k) report) new
+last_later n zero report old new was same =
+    let none : n + 0 ≡ n = omega arith in rw (none, same) was
+last_later n (suc k) report old new was (f, at, is) =
+    let one_more : n + suc k ≡ suc (n + k) = omega arith in
+    rw one_more (subst (λ last. IsLastLine last new) (sym (at_later n k report f at)) is)
+
+-- ---- what was written
+
+module _ (n k : ℕ) (report : List Fault) (began before after : Option (List ℕ)) (so : Appends began before (concat (written (first n report)))) where
+  whole : Appends before after (concat (written (take k (drop n report)))) → Appends began after (concat (written (first (n + k) report)))
+  whole more =
+      subst (Appends began after)
+      (sym (concat_joined (written (take n report)) (written (take k (drop n report)))) ∙ ap concat (sym (map-append written_line (take n report) (take k (drop n report))) ∙ ap written (take_joined n k report)))
+      (Appends-append began before after (concat (written (take n report))) _ so more)
+
+  -- what a segment wrote behind what others wrote
+  pub wrote_on : (refused : Bool) (end : SegmentEnd) → WroteFirst (drop n report) k before after refused end → WroteSegments (n + k) report began after refused (outcome_at (n + k) end)
+  wrote_on refused end_of.Full more = whole more
+  wrote_on refused end_of.AtEnd more = wrote_ended (n + k) (whole more)
+    where
+      wrote_ended : (m : ℕ) → Appends began after (concat (written (first (n + k) report))) → WroteSegments (n + k) report began after refused (ended None m)
+      wrote_ended zero t = t
+      wrote_ended (suc m) t = t
+  wrote_on refused (end_of.Unread stop) more = whole more
+  wrote_on refused end_of.Unwritten (is, (bytes, (part, rest, at, some, all), taken)) = (
+    is,
+    (
+      concat (written (take n report)) ++ bytes,
+      (
+        part,
+        rest,
+        line_later n k report (part ++ rest) at,
+        some,
+        ap (λ b. concat (written (take n report)) ++ b) all
+            ∙ sym (append_assoc (concat (written (take n report))) (concat (take k (written (drop n report)))) part)
+            ∙ ap (λ b. b ++ part)
+            (ap (λ l. concat l ++ concat (take k (written (drop n report)))) (lines_taken n report)
+            ∙ sym (concat_joined (take n (written report)) (take k (written (drop n report)))) ∙ ap concat (lines_joined n k report)),
+      ),
+      Appends-append began before after (concat (written (take n report))) bytes so taken,
+    ),
+  )
+    where
+      lines_taken : (m : ℕ) (faults : List Fault) → written (take m faults) ≡ take m (written faults)
+      lines_taken zero faults = refl
+      lines_taken (suc m) [] = refl
+      lines_taken (suc m) (f ∷ faults) = ap (λ l. written_line f ∷ l) (lines_taken m faults)
+
+-- ---- why a segment stopped, by what the tree was before all of them and after
+
+paid_by : (cause : TreeFault) (old new : TreeState) → old.failures ≤ new.failures → MayRefuseFacts old new cause → old.failures + cost cause ≤ new.failures
+paid_by Device old new le h = omega arith
+paid_by Special old new le h = let rose : old.failures < new.failures = h.0 in omega arith
+paid_by Name old new le h = let rose : old.failures < new.failures = h.0 in omega arith
+paid_by NotFound old new le h = omega arith
+paid_by TooMany old new le h = omega arith
+paid_by Changed old new le h = omega arith
+paid_by NoneOpen old new le h = omega arith
+paid_by Memory old new le h = omega arith
+paid_by Exists old new le h = omega arith
+
+lasting_refusal : (old mid new : TreeState) (cause : TreeFault) → Keeps mid new → MayRefuseFacts old mid cause → MayRefuseFacts old new cause
+lasting_refusal old mid new Device k h = omega arith
+lasting_refusal old mid new Special k h = let rose : old.failures < mid.failures = h.0 in (omega arith, h.1)
+lasting_refusal old mid new Name k h = let rose : old.failures < mid.failures = h.0 in (omega arith, h.1)
+lasting_refusal old mid new NotFound k h = h
+lasting_refusal old mid new TooMany k h = h
+lasting_refusal old mid new Changed k h = h
+lasting_refusal old mid new NoneOpen k h = h
+lasting_refusal old mid new Memory k h = h
+lasting_refusal old mid new Exists k h = h
+
+module _ (options : Options) (old mid next new : TreeState) (k : Keeps old mid) (l : Keeps next new) (stop : Stop) where
+  -- a stop of one segment, as a stop of them all
+  pub may_lose : MayStop options mid next stop → MayLose options old new stop
+  may_lose h = record {
+    cause = lasting_refusal old next new stop.cause l (later_refusal old mid next stop.cause k h.cause);
+    path = elim h.path [
+      | inl none ↦ inl none.1
+      | inr (inl listing) ↦ inl listing.0
+      | inr (inr (inl file)) ↦ inr (inl (file.0, λ honest. subst (λ bag. HasFile bag stop.path) k.bag (file.1 (k.honest ∙ honest))))
+      | inr (inr (inr summed)) ↦ inr (inr (summed.0, summed.1, λ honest. subst (λ bag. IsSummed bag stop.path) k.bag (summed.2 (k.honest ∙ honest))))
+    ];
+    memory = h.memory;
+  }
+
+ended_is_no_stop : (options : Options) (old new : TreeState) (n : ℕ) → IsStopped options old new (ended None n)
+ended_is_no_stop options old new zero = tt
+ended_is_no_stop options old new (suc n) = tt
+
+pub stopped_at_last : (options : Options) (old mid new : TreeState) (n : ℕ) (end : SegmentEnd) → Keeps old mid → IfUnread end (MayStop options mid new) → IsStopped options old new (outcome_at n end)
+stopped_at_last options old mid new n end_of.Full k h = tt
+stopped_at_last options old mid new n end_of.AtEnd k h = ended_is_no_stop options old new n
+stopped_at_last options old mid new n (end_of.Unread stop) k h = (may_lose options old mid new new k (keeps_itself new) stop h, h.answered)
+stopped_at_last options old mid new n end_of.Unwritten k h = tt
+
+-- ---- segment after segment
+
+-- the segments of the first limits
+pub record SoFar (options : Options) (report : List Fault) (limits : List ℕ) (i : ℕ) (old now : TreeState) (count : ℕ) (line : List ℕ) (before after : Option (List ℕ)) (outcome : Outcome) : Type 0 where
+  pub lost : ℕ
+  pub few_lost : old.failures + lost ≤ now.failures
+  pub within : count ≤ length report
+  pub last : IsLastLine (cursor_behind count report) line
+  pub wrote : Appends before after (concat (written (first count report)))
+  pub shown : (refused : Bool) → WroteSegments count report before after refused outcome
+  pub follows : (new : TreeState) → Keeps now new → (u n : ℕ) (last : Outcome) → SegmentsFrom report (MayLose options old new) lost count outcome (drop i limits) u n last
+      → AreSegments report (MayLose options old new) limits u n last
+
+pub so_far_none : (options : Options) (report : List Fault) (limits : List ℕ) (old : TreeState) (line : List ℕ) (before : Option (List ℕ)) → line ≡ []
+    → SoFar options report limits 0 old old 0 line before before (Stopped 0)
+so_far_none options report limits old line before none = record {
+  lost = 0;
+  few_lost = omega arith;
+  within = omega arith;
+  last = none;
+  wrote = Appends-nil before;
+  shown = λ refused. Appends-nil before;
+  follows = λ new k u n last rest. rest;
+}
+
+module _ (options : Options) (report : List Fault) (limits : List ℕ) (i : ℕ) (old now : TreeState) (count : ℕ) (line : List ℕ) (before after : Option (List ℕ)) (outcome : Outcome)
+    (so : SoFar options report limits i old now count line before after outcome) (kept : Keeps old now) where
+  -- all limits were gone through
+  pub all_segments : length limits ≤ i → (refused : Bool) → RunsOfSegments options report limits old now before after refused outcome
+  all_segments past refused = record {
+    lost = so.lost;
+    count = count;
+    segments = so.follows now (keeps_itself now) so.lost count outcome (rw (drop_all i limits past) (refl, refl, refl));
+    few_lost = so.few_lost;
+    wrote = so.shown refused;
+  }
+
+  module _ (m : ℕ) (new : TreeState) (k : ℕ) (next : List ℕ) (then : Option (List ℕ)) (refused : Bool) (less : i < length limits) (is : m ≡ get_or limits i 0) (keeps : Keeps now new)
+      (last : IsLastLine (cursor_behind (count + k) report) next) where
+    at_limit : drop i limits ≡ m ∷ drop (i + 1) limits
+    at_limit = drop_more limits i 0 less ∙ ap (λ limit. limit ∷ drop (i + 1) limits) (sym is)
+
+    left : length (drop count report) ≡ length report - count
+    left = length-drop count report
+
+    -- one segment more, behind which others follow
+    pub one_segment_more : (end : SegmentEnd) → is_last end ≡ false → EndsSegment (drop count report) m k end → WroteFirst (drop count report) k after then refused end → IfUnread end (MayStop options now new)
+        → SoFar options report limits (i + 1) old new (count + k) next before then (outcome_at (count + k) end)
+    one_segment_more end_of.Full goes ends wrote stops = record {
+      lost = so.lost;
+      few_lost = omega (arith, so.few_lost, keeps.failures);
+      within = omega (arith, ends.1, left, so.within);
+      last = last;
+      wrote = whole count k report before after then so.wrote wrote;
+      shown = λ other. whole count k report before after then so.wrote wrote;
+      follows = λ end keep u n last rest.
+          let P : ℕ → Type 0 = λ w. SegmentsFrom report (MayLose options old end) so.lost (count + w) (Stopped (count + w)) (drop (i + 1) limits) u n last in
+          so.follows end (keeps_on now new end keeps keep) u n last (rw at_limit (inl (omega (arith, ends.0, ends.1, left), subst P ends.0 rest)));
+    }
+    one_segment_more end_of.AtEnd goes ends wrote stops = absurd (true≢false goes)
+    one_segment_more (end_of.Unread stop) goes ends wrote stops =
+        let paid : now.failures + cost stop.cause ≤ new.failures = paid_by stop.cause now new keeps.failures stops.cause in record {
+          lost = so.lost + cost stop.cause;
+          few_lost = omega (arith, so.few_lost, paid);
+          within = omega (arith, ends.1, left, so.within);
+          last = last;
+          wrote = whole count k report before after then so.wrote wrote;
+          shown = λ other. whole count k report before after then so.wrote wrote;
+          follows = λ end keep u n last rest.
+              so.follows end (keeps_on now new end keeps keep) u n last
+              (rw at_limit (inr (inr (inl (k, stop, ends.0, omega (arith, ends.1, left, so.within), may_lose options old now new end kept keep stop stops, rest)))));
+        }
+    one_segment_more end_of.Unwritten goes ends wrote stops = absurd (true≢false goes)
+
+    -- and one behind which none follows
+    pub last_segment : (end : SegmentEnd) → is_last end ≡ true → EndsSegment (drop count report) m k end → WroteFirst (drop count report) k after then refused end
+        → RunsOfSegments options report limits old new before then refused (outcome_at (count + k) end)
+    last_segment end_of.Full ends_all ends wrote = absurd (true≢false (sym ends_all))
+    last_segment end_of.AtEnd ends_all ends wrote =
+        let all : count + k ≡ length report = omega (arith, ends.1, left, so.within) in record {
+          lost = so.lost;
+          count = count + k;
+          segments = so.follows new keeps so.lost (count + k) (ended None (count + k))
+              (rw at_limit (inr (inl (omega (arith, ends.0, ends.1, left), refl, all, ap (ended None) all))));
+          few_lost = omega (arith, so.few_lost, keeps.failures);
+          wrote = wrote_on count k report before after then so.wrote refused end_of.AtEnd wrote;
+        }
+    last_segment (end_of.Unread stop) ends_all ends wrote = absurd (true≢false (sym ends_all))
+    last_segment end_of.Unwritten ends_all ends wrote = record {
+      lost = so.lost;
+      count = count + k;
+      segments = so.follows new keeps so.lost (count + k) (Unwritten (count + k))
+          (rw at_limit (inr (inr (inr (k, ends.0, omega (arith, ends.1, left), refl, refl, refl)))));
+      few_lost = omega (arith, so.few_lost, keeps.failures);
+      wrote = wrote_on count k report before after then so.wrote refused end_of.Unwritten wrote;
+    }

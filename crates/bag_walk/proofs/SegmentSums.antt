@@ -1,0 +1,50 @@
+-- What segments come to where nothing is refused.
+use Rattle.std.proofs.Common.{◌≡◌, ◌≢◌, ◌<◌, ◌≤◌, ◌+◌, ◌∷◌, ◌∙◌, inl, inr, ℕ, true, false, cond, List, [], None, length, min, nat_le, refl, sym, ap, subst, arith}
+use Rattle.std.specs.List.{sum}
+use Rattle.std.proofs.lemmas.Bool.Decides.{nat_tests}
+use Rattle.std.proofs.lemmas.List.Sums.{sum_by-cons}
+use Rattle.bag_fault.specs.declared.fault.Fault.{Fault}
+use Rattle.bag_output.specs.Ending.{ended}
+use Rattle.bag_output.specs.declared.outcome.Outcome.{Outcome}
+use Rattle.bag_output.specs.declared.outcome.Outcome.TheVariants.{Stopped, Unwritten}
+use Rattle.bag_walk.specs.SegmentLaws.{SegmentsAddUp}
+use Rattle.bag_walk.specs.Segments.{SegmentsFrom}
+
+abbrev AddUp : List Fault → ℕ → ℕ → ℕ → ℕ → Outcome → Type 0
+AddUp report all u u' n' outcome' =
+    (u' ≡ u) × (n' ≡ min all (length report)) × (outcome' ≡ cond (nat_le all (length report)) (Stopped all) (ended None (length report)))
+
+module _ (report : List Fault) where
+  all_within : (all u : ℕ) → all ≤ length report → AddUp report all u u all (Stopped all)
+  all_within all u within =
+      let le : nat_le all (length report) ≡ true = grind (arith, nat_tests) in
+      (refl, omega arith, sym (ap (λ b. cond b (Stopped all) (ended None (length report))) le))
+
+  past_end : (all u : ℕ) → length report < all → AddUp report all u u (length report) (ended None (length report))
+  past_end all u past =
+      let gt : nat_le all (length report) ≡ false = grind (arith, nat_tests) in
+      (refl, omega arith, sym (ap (λ b. cond b (Stopped all) (ended None (length report))) gt))
+
+  from : (limits : List ℕ) (u n u' n' : ℕ) (outcome' : Outcome) → n ≤ length report → ((k : ℕ) → outcome' ≢ Unwritten k)
+      → SegmentsFrom report (λ stop. ⊥) u n (Stopped n) limits u' n' outcome' → AddUp report (n + sum limits) u u' n' outcome'
+  from [] u n u' n' outcome' within written (lost, count, last) =
+      let same : n ≡ n + 0 = omega arith in
+      let P : ℕ → Type 0 = λ all. AddUp report all u u' n' outcome' in
+      let whole = all_within n u within in
+      subst P same (lost ∙ whole.0, count ∙ whole.1, last ∙ whole.2)
+  from (m ∷ limits) u n u' n' outcome' within written (inl (full, rest)) =
+      let same : n + m + sum limits ≡ n + sum (m ∷ limits) = omega (arith, sum_by-cons (λ (x : ℕ). x) m limits) in
+      let P : ℕ → Type 0 = λ all. AddUp report all u u' n' outcome' in
+      subst P same (from limits u (n + m) u' n' outcome' (omega (arith, full, within)) written rest)
+  from (m ∷ limits) u n u' n' outcome' within written (inr (inl (less, lost, count, last))) =
+      let past : length report < n + sum (m ∷ limits) = omega (arith, less, within, sum_by-cons (λ (x : ℕ). x) m limits) in
+      let whole = past_end (n + sum (m ∷ limits)) u past in
+      (lost ∙ whole.0, count ∙ whole.1, last ∙ whole.2)
+  from (m ∷ limits) u n u' n' outcome' within written (inr (inr (inl unread))) = absurd unread.4
+  from (m ∷ limits) u n u' n' outcome' within written (inr (inr (inr unwritten))) = absurd (written _ unwritten.5)
+
+pub segments_add_up : SegmentsAddUp
+segments_add_up report limits u n outcome are written =
+    let same : 0 + sum limits ≡ sum limits = omega arith in
+    let P : ℕ → Type 0 = λ all. AddUp report all 0 u n outcome in
+    subst P same (from report limits 0 0 u n outcome (omega arith) written are)

@@ -1,0 +1,17 @@
+use Rattle.std.proofs.Common.{IsTrue}
+use Rattle.bag_walk.proofs.Walked.{stops_segment, within_limit}
+use Rattle.bag_walk.proofs.segments.segment_of_walk.Goals as goal
+
+pub returns-clause-bounded : goal.returns-clause-bounded
+returns-clause-bounded g c =
+    let s = c.write_faults-segment.ensures.unseen in
+    within_limit s.0 c.args.limit c.write_faults-segment.result.written c.write_faults-segment.result.end s.1.ends
+
+pub returns-clause-stop : goal.returns-clause-stop
+returns-clause-stop g c =
+    let state = g.T.Tree.state in
+    let walk = c.args.walk in
+    let new = c.write_faults-segment.new.walk in
+    rw c.into_tree.ensures
+    (stops_segment (g.S.Source.todo walk.source) (g.S.Source.todo new.source) (state walk.tree) (state new.tree) c.write_faults-segment.ensures.opens
+    (IsTrue (state walk.tree).honest → g.S.Source.is_of (state walk.tree).bag walk.source) c.write_faults-segment.result.end c.write_faults-segment.ensures.stop)

@@ -1,0 +1,21 @@
+use Rattle.std.specs.Option.{option_copied}
+use Rattle.bag_walk.proofs.Running.{stop_of_reading}
+use Rattle.bag_walk.proofs.SegmentStart.{goes_on, stop_of_started}
+use Rattle.bag_walk.proofs.segments.write_segment.Goals as goal
+
+pub returns-in-Ok-start-clause-stop : goal.returns-in-Ok-start-clause-stop
+returns-in-Ok-start-clause-stop g c =
+    let state = g.T.Tree.state in
+    let begun = c.in-Ok-start.ensures in
+    stop_of_started (state c.args.tree) (state c.in-Ok-start.walk.tree) (state c.segment_of_walk.result.0) (option_copied c.args.profile) c.args.options c.in-Ok.after _ _ _ begun.started begun.keeps
+    c.segment_of_walk.result.1.end c.segment_of_walk.ensures.stop
+
+pub returns-in-Ok-start-clause-segment : goal.returns-in-Ok-start-clause-segment
+returns-in-Ok-start-clause-segment g c = λ honest report is n within was.
+    let state = g.T.Tree.state in
+    let begun = c.in-Ok-start.ensures in
+    goes_on (state c.args.tree) (state c.in-Ok-start.walk.tree) (state c.segment_of_walk.result.0) (option_copied c.args.profile) c.args.options c.in-Ok.after _ _ _ begun.started begun.keeps
+    honest report is n within (c.in-Ok.ensures _ was) c.args.limit _ _ _ _ _ c.segment_of_walk.result.1 was c.segment_of_walk.ensures.seen c.segment_of_walk.ensures.last
+
+pub returns-in-Err-clause-stop : goal.returns-in-Err-clause-stop
+returns-in-Err-clause-stop g c = let state = g.T.Tree.state in stop_of_reading c.args.options (state c.args.tree) (state c.in-Err.tree) c.in-Err.stop c.in-Err.ensures.stop

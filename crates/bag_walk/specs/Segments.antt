@@ -1,0 +1,111 @@
+-- A report in segments, each with a limit of its own.
+use Rattle.std.specs.Prelude.{zero, suc, ℕ, ◌+◌, ◌-◌, ◌<◌, ◌≤◌, ◌≡◌, ◌⊎◌, ◌++◌, Bool, true, false, IsTrue, List, [], ◌∷◌, Option, None, length, drop, slice_get}
+use Rattle.std.specs.List.{concat}
+use Rattle.std.specs.List.Sorted.{IsStrictlySortedBy}
+use Rattle.std.specs.Io.KnownBytes.{Appends}
+use Rattle.bag_tree.specs.Tree.{TreeState, CameFromTree}
+use Rattle.bag_tree.specs.declared.fault.Stop.{Stop}
+use Rattle.bag_tree.specs.declared.fault.TreeFault.{TreeFault}
+use Rattle.bag_tree.specs.declared.fault.TreeFault.TheVariants.{Device, Special, Name, Memory}
+use Rattle.bag_fault.specs.FaultOrder.{fault_cmp}
+use Rattle.bag_fault.specs.declared.fault.Fault.{Fault}
+use Rattle.bag_facts.specs.Stops.{IsOfFile, MayRefuseFacts}
+use Rattle.bag_facts.specs.declared.options.Options.{Options}
+use Rattle.bag_profile.specs.Profile.{Profile}
+use Rattle.bag_report.specs.Report.{IsReport, above, first}
+use Rattle.bag_output.specs.Ending.{IsCutAt, ended, written}
+use Rattle.bag_output.specs.declared.outcome.Outcome.{Outcome}
+use Rattle.bag_output.specs.declared.outcome.Outcome.TheVariants.{Stopped, Unread, Unwritten}
+use Rattle.bag_walk.specs.Lines.{IsLastLine}
+use Rattle.bag_walk.specs.Segment.{IsSegment}
+use Rattle.bag_walk.specs.Stops.{IfStopped, IsOfSummed}
+use Rattle.bag_walk.specs.declared.segment.Segment.{Segment}
+use Rattle.bag_walk.specs.declared.segment.SegmentEnd.{SegmentEnd}
+use Rattle.bag_walk.specs.declared.segment.SegmentEnd.TheVariants as end_of
+
+-- the last of the first n faults, from which a segment goes on: none where there is none yet
+abbrev pub cursor_behind : ℕ → List Fault → Option Fault
+cursor_behind zero report = None
+cursor_behind (suc n) report = slice_get report n
+
+-- the law: a segment of n faults and one of m behind it are the first n + m faults
+abbrev pub SegmentsJoin : Type 0
+SegmentsJoin =
+    (report : List Fault) (n m : ℕ) → IsStrictlySortedBy fault_cmp report → n ≤ length report
+    → first n report ++ first m (above (cursor_behind n report) report) ≡ first (n + m) report
+
+-- how many limits a refusal costs that only a failure of the device brings
+abbrev pub cost : TreeFault → ℕ
+cost Device = 1
+cost Special = 1
+cost Name = 1
+cost other = 0
+
+-- From where u limits were lost to the device and n faults written, and the last segment ended so, the segments of these
+-- limits lead to u', n' and outcome'. Each limit is in order one of four.
+abbrev pub SegmentsFrom : List Fault → (Stop → Type 0) → ℕ → ℕ → Outcome → List ℕ → ℕ → ℕ → Outcome → Type 0
+SegmentsFrom report Stops u n outcome [] u' n' outcome' = (u' ≡ u) × (n' ≡ n) × (outcome' ≡ outcome)
+SegmentsFrom report Stops u n outcome (m ∷ limits) u' n' outcome' =
+    -- full: so many faults are left
+    ((m ≤ length report - n) × SegmentsFrom report Stops u (n + m) (Stopped (n + m)) limits u' n' outcome')
+    -- the end: fewer are left, and no further limit is looked at
+    ⊎ ((length report - n < m) × (u' ≡ u) × (n' ≡ length report) × (outcome' ≡ ended None (length report)))
+    -- unread: the tree or memory refused behind fewer faults
+    ⊎ ((j : ℕ) × (stop : Stop) × (j < m) × (n + j ≤ length report) × Stops stop
+    × SegmentsFrom report Stops (u + cost stop.cause) (n + j) (Unread (n + j) stop) limits u' n' outcome')
+    -- unwritten: the output refused the line of a fault, and no further limit is looked at
+    ⊎ ((j : ℕ) × (j < m) × (n + j < length report) × (u' ≡ u) × (n' ≡ n + j) × (outcome' ≡ Unwritten (n + j)))
+
+-- the segments of these limits write n faults of the report, lose u limits to the device, and end so
+abbrev pub AreSegments : List Fault → (Stop → Type 0) → List ℕ → ℕ → ℕ → Outcome → Type 0
+AreSegments report Stops limits u n outcome = SegmentsFrom report Stops 0 0 (Stopped 0) limits u n outcome
+
+-- the lines of the first n faults were written, and where the output refused a proper part of the next line
+abbrev pub WroteSegments : ℕ → List Fault → Option (List ℕ) → Option (List ℕ) → Bool → Outcome → Type 0
+WroteSegments n report before after refused (Unwritten k) =
+    (refused ≡ true) × ((bytes : List ℕ) × IsCutAt n (written report) bytes × Appends before after bytes)
+WroteSegments n report before after refused outcome = Appends before after (concat (written (first n report)))
+
+-- why a segment may stop, by what the tree was before all of them and after: it names a file that a run reads, or none
+pub record MayLose (options : Options) (old new : TreeState) (stop : Stop) : Type 0 where
+  pub cause : MayRefuseFacts old new stop.cause
+  pub path : (stop.path ≡ []) ⊎ IsOfFile options old stop ⊎ IsOfSummed options old stop
+  pub memory : stop.cause ≡ Memory → stop.path ≡ []
+
+-- the stop of the last segment, whatever the tree; its cause is the tree's own answer, but for want of memory
+abbrev pub IsStopped : Options → TreeState → TreeState → Outcome → Type 0
+IsStopped options old new outcome = IfStopped outcome (λ stop. MayLose options old new stop × CameFromTree new stop.cause)
+
+-- What the segments of these limits write of a report, and how the last ends. Each failure of the device costs one limit at
+-- most.
+pub record RunsOfSegments (options : Options) (report : List Fault) (limits : List ℕ) (old new : TreeState) (before after : Option (List ℕ)) (refused : Bool) (outcome : Outcome) : Type 0 where
+  pub lost : ℕ
+  pub count : ℕ
+  pub segments : AreSegments report (MayLose options old new) limits lost count outcome
+  pub few_lost : old.failures + lost ≤ new.failures
+  pub wrote : WroteSegments count report before after refused outcome
+
+-- the theorem of segments, by the report of the bag
+abbrev pub RunsInSegments : TreeState → TreeState → Option Profile → Options → List ℕ → Option (List ℕ) → Option (List ℕ) → Bool → Outcome → Type 0
+RunsInSegments old new profile options limits before after refused outcome =
+    IsTrue old.honest → (report : List Fault) → IsReport (record { bag = old.bag; profile = profile; options = options }) report
+    → RunsOfSegments options report limits old new before after refused outcome
+
+-- whether no further segment follows
+abbrev pub is_last : SegmentEnd → Bool
+is_last end_of.Full = false
+is_last end_of.AtEnd = true
+is_last (end_of.Unread stop) = false
+is_last end_of.Unwritten = true
+
+-- the outcome where a segment ended so and n faults were written
+abbrev pub outcome_at : ℕ → SegmentEnd → Outcome
+outcome_at n end_of.Full = Stopped n
+outcome_at n end_of.AtEnd = ended None n
+outcome_at n (end_of.Unread stop) = Unread n stop
+outcome_at n end_of.Unwritten = Unwritten n
+
+-- A segment behind the first n faults of a report, which leaves the line of the last fault that was written.
+pub record GoesOn (report : List Fault) (n limit : ℕ) (before after : Option (List ℕ)) (refused : Bool) (line : List ℕ) (segment : Segment) : Type 0 where
+  pub writes : IsSegment (drop n report) limit before after refused segment
+  pub last : IsLastLine (cursor_behind (n + segment.written) report) line

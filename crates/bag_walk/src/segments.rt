@@ -1,0 +1,156 @@
+//! A report in segments, each with a limit of its own.
+ghost use Rattle.std.specs.Prelude.{◌≡◌, ◌<◌, ◌≤◌, ◌+◌, ◌^◌, ℕ, List, length, sum, IsTrue, string_bytes};
+ghost use Rattle.std.specs.Option.{option_copied};
+ghost use Rattle.bag_tree.specs.Bag.{Bag};
+ghost use Rattle.bag_tree.specs.Tree.{Keeps};
+ghost use Rattle.bag_fault.specs.declared.fault.Fault.{Fault as Spoken};
+ghost use Rattle.bag_report.specs.Report.{IsReport};
+ghost use Rattle.bag_output.specs.Ending.{ended};
+ghost use Rattle.bag_source.specs.Openings.{OpensAgain};
+ghost use Rattle.bag_source.specs.Source.{Sees};
+ghost use Rattle.bag_source.specs.Steps.{shown_by, to_give};
+ghost use Rattle.bag_walk.specs.Lines.{IsLastLine, IsLastOf};
+ghost use Rattle.bag_walk.specs.Segment.{IfUnread, IsSegment, MayStopRun};
+ghost use Rattle.bag_walk.specs.Stops.{MayStop};
+ghost use Rattle.bag_walk.specs.Segments as spec;
+
+use crate::lines::Lines;
+use crate::segment::{Segment, SegmentEnd, out_of_memory, write_faults};
+use bag_output::Outcome;
+use bag_report::{Options, Profile};
+use bag_source::{InOrder, Steps, Walk};
+use bag_tree::{Out, Tree};
+use std::alloc::{AllocError, Global};
+
+impl SegmentEnd {
+    /// Whether no further segment follows.
+    fn is_last(&self) -> bool
+        ensures { result ≡ spec.is_last self.now }
+    {
+        match self {
+            SegmentEnd::Full | SegmentEnd::Unread(_) => false,
+            SegmentEnd::AtEnd | SegmentEnd::Unwritten => true,
+        }
+    }
+
+    /// The outcome where so many faults were written by all segments.
+    fn outcome(self, written: u64) -> Outcome
+        ensures { result ≡ spec.outcome_at written self }
+    {
+        match self {
+            SegmentEnd::Full => Outcome::Stopped(written),
+            SegmentEnd::AtEnd => end_of_report(written),
+            SegmentEnd::Unread(stop) => Outcome::Unread(written, stop),
+            SegmentEnd::Unwritten => Outcome::Unwritten(written),
+        }
+    }
+}
+
+/// The outcome at the end of the report.
+fn end_of_report(written: u64) -> Outcome
+    ensures { result ≡ ended None written }
+{
+    match written {
+        0 => Outcome::Clean,
+        _ => Outcome::Faults(written),
+    }
+}
+
+/// Writes a report in segments, one for each limit, and no closing line. The first begins at the first fault, and each
+/// other behind the last fault that was written.
+///
+/// It ends with the first segment that comes to the end of the report or whose output refuses. One whose reading is refused
+/// is followed by the next. The outcome counts the lines of all segments; the tree comes back. For a limit of 0 it isn't
+/// looked at.
+pub fn run_segments<T: Tree, W: Out>(
+    alloc: Global,
+    tree: T,
+    profile: Option<&Profile>,
+    options: Options,
+    limits: &[u64],
+    out: &mut W,
+) -> (T, Outcome)
+    requires { sum limits.now < 2 ^ 64 }
+    ensures keeps { Keeps (T.state tree) (T.state result.0) }
+    ensures untouched { sum limits.now ≡ 0 → result.0 ≡ tree }
+    ensures stop { spec.IsStopped options (T.state tree) (T.state result.0) result.1 }
+    ensures segments { spec.RunsInSegments (T.state tree) (T.state result.0) (option_copied profile.entry) options limits.now (W.taken out.old) (W.taken out.new) (W.has_refused out.new) result.1 }
+{
+    let mut tree = tree;
+    let mut lines = Lines::new(alloc);
+    let mut written = 0;
+    let mut outcome = Outcome::Stopped(0);
+    for limit in limits {
+        let (left, segment) = write_segment(alloc, tree, profile, options, &mut lines, *limit, out);
+        tree = left;
+        written += segment.written;
+        let last = segment.end.is_last();
+        outcome = segment.end.outcome(written);
+        if last {
+            return (tree, outcome);
+        }
+    }
+    (tree, outcome)
+}
+
+/// Writes the lines of one segment: of the faults behind the last line that was written, up to a limit.
+fn write_segment<T: Tree, W: Out>(
+    alloc: Global,
+    tree: T,
+    profile: Option<&Profile>,
+    options: Options,
+    lines: &mut Lines,
+    limit: u64,
+    out: &mut W,
+) -> (T, Segment)
+    ensures keeps { Keeps (T.state tree) (T.state result.0) }
+    ensures bounded { result.1.written ≤ limit }
+    ensures untouched { limit ≡ 0 → result.0 ≡ tree }
+    ensures stop { IfUnread result.1.end (MayStop options (T.state tree) (T.state result.0)) }
+    ensures segment { IsTrue (T.state tree).honest → (report : List Spoken)
+        → IsReport (record { bag = (T.state tree).bag; profile = option_copied profile.entry; options = options }) report
+        → (n : ℕ) → n ≤ length report → IsLastLine (spec.cursor_behind n report) (string_bytes lines.old.last)
+        → spec.GoesOn report n limit (W.taken out.old) (W.taken out.new) (W.has_refused out.new) (string_bytes lines.new.last) result.1 }
+{
+    if limit == 0 {
+        return (
+            tree,
+            Segment {
+                written: 0,
+                end: SegmentEnd::Full,
+            },
+        );
+    }
+    let Ok(after) = lines.last_fault(alloc) else {
+        let end = SegmentEnd::Unread(out_of_memory(alloc));
+        return (tree, Segment { written: 0, end });
+    };
+    match Walk::start(alloc, tree, profile, options, after) {
+        Ok(walk) => segment_of_walk(alloc, walk, lines, limit, out),
+        Err((tree, stop)) => {
+            let end = SegmentEnd::Unread(stop);
+            (tree, Segment { written: 0, end })
+        }
+    }
+}
+
+/// The segment of the faults that a walk has still to give.
+fn segment_of_walk<T: Tree, S: InOrder<T> + Drop, W: Out>(
+    alloc: Global,
+    walk: Steps<T, S>,
+    lines: &mut Lines,
+    limit: u64,
+    out: &mut W,
+) -> (T, Segment)
+    ensures keeps { Keeps (T.state walk.tree) (T.state result.0) }
+    ensures bounded { result.1.written ≤ limit }
+    ensures stop { IfUnread result.1.end (MayStopRun (IsTrue (T.state walk.tree).honest → S.is_of (T.state walk.tree).bag walk.source) (S.todo walk.source) (T.state walk.tree) (T.state result.0)) }
+    ensures seen { (bag : Bag) → S.is_of bag walk.source → Sees (T.state walk.tree) (S.todo walk.source) bag
+        → IsSegment (to_give (shown_by walk.is_shown (S.found walk.source)) (S.remaining bag walk.source)) limit (W.taken out.old) (W.taken out.new) (W.has_refused out.new) result.1 }
+    ensures last { (bag : Bag) → S.is_of bag walk.source → Sees (T.state walk.tree) (S.todo walk.source) bag
+        → IsLastOf (to_give (shown_by walk.is_shown (S.found walk.source)) (S.remaining bag walk.source)) result.1.written (string_bytes lines.old.last) (string_bytes lines.new.last) }
+{
+    let mut walk = walk;
+    let segment = write_faults(alloc, &mut walk, lines, limit, out);
+    (walk.into_tree(), segment)
+}

@@ -1,0 +1,102 @@
+//! Reports in segments: what they write, how they end, and which files they open.
+ghost use Rattle.std.specs.Prelude.{◌<◌, ◌^◌, sum};
+
+use crate::checks::{Files, opened, tree_of};
+use crate::walks::EACH_TWICE;
+use bag_report::{Depth, Options};
+use bag_store::{FailTree, Tree, WriterOut};
+use bag_walk::{Outcome, run_segments};
+use std::alloc::Global;
+use std::process::Abort;
+use std::test::Fail;
+
+/// A manifest of which no line can be read.
+const UNREAD_LINES: Files = &[(
+    "manifest-md5.txt",
+    b"d41d8cd98f00b204e9800998ecf8427e  data/%41\nd41d8cd98f00b204e9800998ecf8427e  data/../x\nd41d8cd98f00b204e9800998ecf8427e  /etc/x\nd41d8cd98f00b204e9800998ecf8427e  data\n",
+)];
+
+const UNREAD: &str = "503 manifest-escape manifest-md5.txt md5 1 data/%2541
+504 manifest-unsafe-path manifest-md5.txt md5 2 data/../x
+504 manifest-unsafe-path manifest-md5.txt md5 3 /etc/x
+505 manifest-outside-payload manifest-md5.txt md5 4 data
+";
+
+/// A file that holds `a`, to which two manifests give the digests of `abc`.
+const WRONG_DIGESTS: Files = &[
+    ("data/x", b"a"),
+    (
+        "manifest-md5.txt",
+        b"900150983cd24fb0d6963f7d28e17f72  data/x\n",
+    ),
+    (
+        "manifest-sha1.txt",
+        b"a9993e364706816aba3e25717850c26c9cd0d89d  data/x\n",
+    ),
+];
+
+const WRONG: &str =
+    "701 payload-sum-differs data/x md5 - 900150983cd24fb0d6963f7d28e17f72:0cc175b9c0f1b6a831c399e269772661
+701 payload-sum-differs data/x sha1 - a9993e364706816aba3e25717850c26c9cd0d89d:86f7e437faa5a7fce15d1ddcb9eaeaea377667b8
+";
+
+/// The tree after segments, what they wrote, and how they ended.
+fn in_segments<T: Tree + Drop>(
+    alloc: Global,
+    tree: T,
+    limits: &[u64],
+) -> Result<(T, String, Outcome), Fail>
+    requires { sum limits.now < 2 ^ 64 }
+{
+    let options = Options {
+        depth: Depth::Full,
+        clashes: false,
+    };
+    let mut out = WriterOut::new(Vec::<u8>::new(alloc));
+    let (tree, outcome) = run_segments(alloc, tree, None, options, limits, &mut out);
+    Ok((tree, String::from_utf8(out.into_inner())?, outcome))
+}
+
+#[test]
+fn limits_are_taken_in_order(rt: HostRuntime) -> Result<(), Fail> {
+    let alloc = rt.alloc();
+    let tree = tree_of(alloc, UNREAD_LINES)?;
+    let (tree, text, outcome) = in_segments(alloc, tree, &[2, 0, 1, 9])?;
+    assert!(rt; text.as_str() == UNREAD && matches!(outcome, Outcome::Faults(4)));
+    let (tree, text, outcome) = in_segments(alloc, tree, &[2, 2])?;
+    assert!(rt; text.as_str() == UNREAD && matches!(outcome, Outcome::Stopped(4)));
+    let (tree, text, outcome) = in_segments(alloc, tree, &[])?;
+    assert!(rt; text.as_str() == "" && matches!(outcome, Outcome::Stopped(0)));
+    Ok(())
+}
+
+#[test]
+fn each_call_is_refused_in_turn(rt: HostRuntime) -> Result<(), Fail> {
+    let alloc = rt.alloc();
+    for call in 1..40 {
+        let tree = FailTree::new(tree_of(alloc, WRONG_DIGESTS)?, call);
+        let (tree, text, outcome) = in_segments(alloc, tree, &[1, 1, 1, 1])?;
+        assert!(rt;
+            text.as_str() == WRONG && matches!(outcome, Outcome::Faults(2)),
+            "call {call}"
+        );
+    }
+    let (tree, text, outcome) = in_segments(alloc, tree_of(alloc, WRONG_DIGESTS)?, &[1, 1])?;
+    assert!(rt; text.as_str() == WRONG && matches!(outcome, Outcome::Stopped(2)));
+    Ok(())
+}
+
+#[test]
+fn few_files_are_opened_again(rt: HostRuntime) -> Result<(), Fail> {
+    let alloc = rt.alloc();
+    let tree = tree_of(alloc, EACH_TWICE)?;
+    let (tree, text, outcome) = in_segments(alloc, tree, &[1, 1, 1, 1, 1, 1, 1])?;
+    assert!(rt; text.as_str().lines().count() == 6 && matches!(outcome, Outcome::Faults(6)));
+    let opened = opened(alloc, &tree)?;
+    let payload = opened
+        .as_str()
+        .lines()
+        .filter(|path| path.starts_with("data/"));
+    assert!(rt; payload.count() <= 9);
+    Ok(())
+}
