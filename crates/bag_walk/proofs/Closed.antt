@@ -1,5 +1,5 @@
 -- The closing line behind a segment.
-use Rattle.std.proofs.Common.{◌≡◌, ◌<◌, ◌≤◌, ◌++◌, ◌∷◌, ℕ, zero, suc, Bool, List, [], Option, length, min, take, slice_get, refl, sym, ap, ◌∙◌, subst, arith}
+use Rattle.std.proofs.Common.{◌≡◌, ◌<◌, ◌≤◌, ◌++◌, ◌∷◌, ℕ, zero, suc, Bool, List, [], inl, inr, None, Some, Option, length, min, take, slice_get, refl, sym, ap, ◌∙◌, subst, arith}
 use Rattle.std.specs.List.{concat}
 use Rattle.bag_tree.specs.declared.fault.Stop.{Stop}
 use Rattle.bag_fault.specs.declared.fault.Fault.{Fault}
@@ -11,6 +11,7 @@ use Rattle.bag_output.specs.declared.outcome.Outcome.TheVariants as outcome
 use Rattle.bag_output.specs.declared.outcome.Request.{Request}
 use Rattle.bag_output.proofs.Ending.{closed_report, end_may_end, ideal_all, ideal_may_end, take_length, wrote_closed}
 use Rattle.bag_walk.specs.Segment.{ClosesSegment, EndsSegment, IsRead, IsSegment, WroteFirst}
+use Rattle.bag_walk.specs.Stops.{IfStopped}
 use Rattle.bag_walk.specs.declared.segment.Segment.{Segment}
 use Rattle.bag_walk.specs.declared.segment.SegmentEnd.{SegmentEnd}
 use Rattle.bag_walk.specs.declared.segment.SegmentEnd.TheVariants.{Full, AtEnd, Unread, Unwritten}
@@ -107,3 +108,13 @@ module _ (request : Request) (faults : List Fault) (before mid : Option (List �
         },
         λ answered. read_by Unwritten is tt,
       )
+
+-- a closing line leaves the outcome's stop
+pub told_by : (P : Stop → Type 0) (request : Request) (ending result : Outcome) (before after : Option (List ℕ)) (refused : Bool) → Closes request ending before after refused result → IfStopped ending P → IfStopped result P
+told_by P request ending result before after refused (inl c) told = subst (λ o. IfStopped o P) (sym c.0) told
+told_by P request ending result before after refused (inr c) told = subst (λ o. IfStopped o P) (sym c.0) tt
+
+pub end_has_no_stop : (P : Stop → Type 0) (cursor : Option Fault) (n : ℕ) → IfStopped (ended cursor n) P
+end_has_no_stop P None zero = tt
+end_has_no_stop P None (suc n) = tt
+end_has_no_stop P (Some cursor) n = tt

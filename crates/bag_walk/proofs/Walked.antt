@@ -4,10 +4,12 @@ use Rattle.bag_tree.specs.Tree.{TreeState}
 use Rattle.bag_tree.specs.declared.fault.Stop.{Stop}
 use Rattle.bag_fault.specs.declared.fault.Fault.{Fault}
 use Rattle.bag_output.specs.declared.outcome.Outcome.{Outcome}
+use Rattle.bag_output.specs.declared.outcome.Outcome.TheVariants as outcome_of
 use Rattle.bag_output.specs.declared.outcome.Request.{Request}
 use Rattle.bag_source.specs.Openings.{OpensAgain}
 use Rattle.bag_source.specs.Source.{IsNext, MayStopFilling}
-use Rattle.bag_walk.specs.Segment.{ClosesSegment, EndsSegment, IfUnread, IsReached, IsRead, MayStopRun, MayStopWalk, StopsWalk, WritesCalmly, looked_past}
+use Rattle.bag_walk.specs.Segment.{ClosesSegment, EndsSegment, IfUnread, IsReached, IsRead, MayStopRun, MayStopWalk, StopsAt, StopsWalk, WritesCalmly, looked_past}
+use Rattle.bag_walk.specs.Stops.{IfStopped}
 use Rattle.bag_walk.specs.declared.segment.Segment.{Segment}
 use Rattle.bag_walk.specs.declared.segment.SegmentEnd.{SegmentEnd}
 use Rattle.bag_walk.specs.declared.segment.SegmentEnd.TheVariants.{Full, AtEnd, Unread, Unwritten}
@@ -59,3 +61,12 @@ module _ (todo left : List (List ℕ)) (old new : TreeState) (again : OpensAgain
     },
     λ answered. calm (read answered),
   )
+
+  -- and so is the stop that it is answered with
+  pub stopped_run : (IsOf : Type 0) (segment : Segment) (outcome : Outcome) → IfStopped outcome (StopsAt segment) → IfUnread segment.end (MayStopWalk IsOf left old new) → IfStopped outcome (MayStopRun IsOf todo old new)
+  stopped_run IsOf segment (outcome_of.Unread n stop) is stops = stops_run IsOf stop (subst (λ end. IfUnread end (MayStopWalk IsOf left old new)) is stops)
+  stopped_run IsOf segment outcome_of.Clean is stops = tt
+  stopped_run IsOf segment (outcome_of.Faults n) is stops = tt
+  stopped_run IsOf segment (outcome_of.Stopped n) is stops = tt
+  stopped_run IsOf segment (outcome_of.Rest n) is stops = tt
+  stopped_run IsOf segment (outcome_of.Unwritten n) is stops = tt

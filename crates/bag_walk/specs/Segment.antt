@@ -58,10 +58,14 @@ looked_past end n = n
 abbrev pub still_to_come : Segment → List Fault → List Fault
 still_to_come segment faults = drop (looked_past segment.end segment.written) faults
 
+-- the segment ended at this stop
+abbrev pub StopsAt : Segment → Stop → Type 0
+StopsAt segment stop = segment.end ≡ Unread stop
+
 -- the lines of the first of these faults and a closing line were written, which tells of a stop that the segment tells of
 abbrev pub ClosesSegment : Request → List Fault → Segment → Option (List ℕ) → Option (List ℕ) → Bool → Outcome → Type 0
 ClosesSegment request faults segment before after refused outcome =
-    (writes : WritesReport request faults (λ stop. segment.end ≡ Unread stop) before after refused outcome)
+    (writes : WritesReport request faults (StopsAt segment) before after refused outcome)
     × (IsAnswered writes.ending → IsRead segment.end)
 
 -- the file was to be opened: those before it were opened, each once, and it once at most

@@ -5,8 +5,8 @@
 //! let exit = status(&outcome);
 //! ```
 //!
-//! What stands in the lines is said by `bag_report`, and how they are written by `bag_output`; a run says which of them
-//! are written, and how it ended.
+//! What stands in the lines is said by `bag_report`, how faults are found one at a time by `bag_source`, and how lines are
+//! written by `bag_output`; a run says which of them are written, which files are opened before each, and how it ended.
 #![tactic(auto)]
 
 pub mod laws;

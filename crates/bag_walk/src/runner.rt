@@ -8,9 +8,10 @@ ghost use Rattle.bag_output.specs.Ending.{limit_of};
 ghost use Rattle.bag_source.specs.Openings.{OpensAgain, OpensNoneBehind};
 ghost use Rattle.bag_source.specs.Source.{Sees};
 ghost use Rattle.bag_source.specs.Steps.{shown_by, to_give};
-ghost use Rattle.bag_walk.specs.Openings.{LooksNoFurther, OpensInRun, OpensInTurn, OpensListed, OpensNonePassed, written_before};
+ghost use Rattle.bag_walk.specs.Openings.{LooksNoFurther, OpensInRun, OpensInTurn, OpensListed, OpensNonePassed, StopsInTurn, written_before};
 ghost use Rattle.bag_walk.specs.Run.{IsRun, IsRunByReport};
 ghost use Rattle.bag_walk.specs.Segment.{MayStopRun, WritesCalmly};
+ghost use Rattle.bag_walk.specs.Stops.{IfStopped};
 
 use crate::segment::{close_segment, out_of_memory, write_faults};
 use bag_output::{Outcome, Request, close};
@@ -38,6 +39,7 @@ pub fn run<T: Tree, W: Out>(
     ensures payload { OpensListed request.options (T.state tree) (T.state result.0) }
     ensures none_passed { OpensNonePassed request.after (T.state tree) (T.state result.0) }
     ensures in_turn { OpensInTurn (T.state tree) (T.state result.0) (option_copied profile.entry) request result.1 }
+    ensures stopped { StopsInTurn (T.state tree) (T.state result.0) (option_copied profile.entry) request result.1 }
     ensures unlooked { LooksNoFurther (T.state tree) (T.state result.0) (option_copied profile.entry) request }
     ensures untouched { request.limit ≡ Some 0 → result.0 ≡ tree }
     ensures run { IsRun (T.state tree) (T.state result.0) (option_copied profile.entry) request (W.taken out.old) (W.taken out.new) (W.has_refused out.new) result.1 }
@@ -58,6 +60,7 @@ fn run_over<T: Tree, W: Out>(
     ensures opens { OpensInRun request.now.options (T.state tree) (T.state result.0) }
     ensures none_passed { OpensNonePassed request.now.after (T.state tree) (T.state result.0) }
     ensures in_turn { OpensInTurn (T.state tree) (T.state result.0) (option_copied profile.entry) request.now result.1 }
+    ensures stopped { StopsInTurn (T.state tree) (T.state result.0) (option_copied profile.entry) request.now result.1 }
     ensures unlooked { LooksNoFurther (T.state tree) (T.state result.0) (option_copied profile.entry) request.now }
     ensures untouched { request.now.limit ≡ Some 0 → result.0 ≡ tree }
     ensures run { IsRun (T.state tree) (T.state result.0) (option_copied profile.entry) request.now (W.taken out.old) (W.taken out.new) (W.has_refused out.new) result.1 }
@@ -95,9 +98,11 @@ fn run_of_walk<T: Tree, S: InOrder<T> + Drop, W: Out>(
     ensures unseen { (faults : List Spoken) × WritesCalmly request.now faults
         (MayStopRun (IsTrue (T.state walk.tree).honest → S.is_of (T.state walk.tree).bag walk.source) (S.todo walk.source) (T.state walk.tree) (T.state result.0))
         (T.state walk.tree) (T.state result.0) (W.taken out.old) (W.taken out.new) (W.has_refused out.new) result.1 }
+    ensures stop { IfStopped result.1 (MayStopRun (IsTrue (T.state walk.tree).honest → S.is_of (T.state walk.tree).bag walk.source) (S.todo walk.source) (T.state walk.tree) (T.state result.0)) }
 {
     let mut walk = walk;
-    let segment = write_faults(alloc, &mut walk, limit_of(request), out);
+    let mut line = String::new(alloc);
+    let segment = write_faults(alloc, &mut walk, &mut line, limit_of(request), out);
     let outcome = close_segment(request, segment, out);
     (walk.into_tree(), outcome)
 }

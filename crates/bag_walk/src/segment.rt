@@ -9,7 +9,8 @@ ghost use Rattle.bag_output.specs.Ending.{limit_of};
 ghost use Rattle.bag_source.specs.Openings.{OpensAgain, OpensNoneBehind};
 ghost use Rattle.bag_source.specs.Source.{Sees};
 ghost use Rattle.bag_source.specs.Steps.{shown_by, to_give};
-ghost use Rattle.bag_walk.specs.Segment.{ClosesSegment, IfUnread, IsRead, IsSegment, MayStopWalk, still_to_come};
+ghost use Rattle.bag_walk.specs.Segment.{ClosesSegment, IfUnread, IsRead, IsSegment, MayStopWalk, StopsAt, still_to_come};
+ghost use Rattle.bag_walk.specs.Stops.{IfStopped};
 
 use bag_output::{Outcome, Request, close, end_of_report, fill_line, put_all};
 use bag_source::{InOrder, Steps};
@@ -40,10 +41,12 @@ pub(crate) struct Segment {
 /// next fault is looked for.
 ///
 /// Each line ends in LF, and is one write where the output takes it whole. Where memory for a line runs out, the segment is
-/// `Unread` with a stop that names no file; where the output refuses, nothing more is written.
+/// `Unread` with a stop that names no file; where the output refuses, nothing more is written. The buffer is used for each
+/// line.
 pub(crate) fn write_faults<T: Tree, S: InOrder<T>, W: Out>(
     alloc: Global,
     walk: &mut Steps<T, S>,
+    line: &mut String,
     limit: u64,
     out: &mut W,
 ) -> Segment
@@ -58,7 +61,6 @@ pub(crate) fn write_faults<T: Tree, S: InOrder<T>, W: Out>(
     ensures stop { IfUnread result.end (MayStopWalk (IsTrue (T.state walk.old.tree).honest → S.is_of (T.state walk.old.tree).bag walk.old.source)
         (S.todo walk.new.source) (T.state walk.old.tree) (T.state walk.new.tree)) }
 {
-    let mut line = String::new(alloc);
     let mut written = 0;
     'given: while written < limit {
         match walk.step() {
@@ -74,7 +76,7 @@ pub(crate) fn write_faults<T: Tree, S: InOrder<T>, W: Out>(
                 end: SegmentEnd::AtEnd,
             };
         };
-        let Ok(()) = fill_line(&mut line, fault) else {
+        let Ok(()) = fill_line(line, fault) else {
             return Segment {
                 written,
                 end: SegmentEnd::Unread(out_of_memory(alloc)),
@@ -100,6 +102,7 @@ pub(crate) fn close_segment<W: Out>(request: &Request, segment: Segment, out: &m
         → IsSegment faults (limit_of request.now) began (W.taken out.old) (W.has_refused out.old) segment
         → ClosesSegment request.now faults segment began (W.taken out.new) (W.has_refused out.new) result }
     ensures count { count_of result ≡ segment.written }
+    ensures stop { IfStopped result (StopsAt segment) }
 {
     let Segment { written, end } = segment;
     match end {

@@ -3,7 +3,7 @@ use Rattle.bag_output.specs.Ending.{limit_of}
 use Rattle.bag_source.specs.Steps.{shown_by, to_give}
 use Rattle.bag_walk.specs.Openings.{written_before}
 use Rattle.bag_walk.specs.Segment.{looked_past}
-use Rattle.bag_walk.proofs.Walked.{calmly, looked_before}
+use Rattle.bag_walk.proofs.Walked.{calmly, looked_before, stopped_run}
 use Rattle.bag_walk.proofs.runner.run_of_walk.Goals as goal
 
 pub returns-clause-behind : goal.returns-clause-behind
@@ -37,3 +37,11 @@ returns-clause-unseen g c =
           c.args.request.now s.0 (IsTrue (state walk.tree).honest → g.S.Source.is_of (state walk.tree).bag walk.source) c.write_faults-segment.result _ _ _ _
           (c.close_segment-outcome.ensures.closes _ _ s.1) c.write_faults-segment.ensures.stop c.write_faults-segment.ensures.calm,
     )
+
+pub returns-clause-stop : goal.returns-clause-stop
+returns-clause-stop g c =
+    let state = g.T.Tree.state in
+    let walk = c.args.walk in
+    rw c.into_tree.ensures
+    (stopped_run (g.S.Source.todo walk.source) (g.S.Source.todo c.write_faults-segment.new.walk.source) (state walk.tree) (state c.write_faults-segment.new.walk.tree) c.write_faults-segment.ensures.opens
+    (IsTrue (state walk.tree).honest → g.S.Source.is_of (state walk.tree).bag walk.source) c.write_faults-segment.result c.close_segment-outcome.result c.close_segment-outcome.ensures.stop c.write_faults-segment.ensures.stop)

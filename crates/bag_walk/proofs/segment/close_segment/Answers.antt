@@ -1,4 +1,5 @@
-use Rattle.bag_walk.proofs.Closed.{closes_at_end, closes_full, closes_unread, closes_unwritten}
+use Rattle.bag_walk.specs.Segment.{StopsAt}
+use Rattle.bag_walk.proofs.Closed.{closes_at_end, closes_full, closes_unread, closes_unwritten, end_has_no_stop, told_by}
 use Rattle.bag_walk.proofs.segment.close_segment.Goals as goal
 
 pub returns-in-Full-clause-closes : goal.returns-in-Full-clause-closes
@@ -13,3 +14,14 @@ returns-in-Unread-clause-closes g c = λ faults began s. closes_unread c.args.re
 
 pub returns-in-Unwritten-clause-closes : goal.returns-in-Unwritten-clause-closes
 returns-in-Unwritten-clause-closes g c = λ faults began s. closes_unwritten c.args.request.now faults began _ _ c.args.segment c.in-Unwritten.is s
+
+pub returns-in-Full-clause-stop : goal.returns-in-Full-clause-stop
+returns-in-Full-clause-stop g c = told_by (StopsAt c.args.segment) c.args.request.now _ _ _ _ _ c.close.ensures tt
+
+pub returns-in-AtEnd-clause-stop : goal.returns-in-AtEnd-clause-stop
+returns-in-AtEnd-clause-stop g c =
+    told_by (StopsAt c.args.segment) c.args.request.now _ _ _ _ _ c.close-in-AtEnd.ensures
+    (rw c.end_of_report.ensures (end_has_no_stop (StopsAt c.args.segment) c.args.request.now.after c.args.segment.written))
+
+pub returns-in-Unread-clause-stop : goal.returns-in-Unread-clause-stop
+returns-in-Unread-clause-stop g c = told_by (StopsAt c.args.segment) c.args.request.now _ _ _ _ _ c.close-in-Unread.ensures c.in-Unread.is
