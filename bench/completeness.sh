@@ -8,11 +8,11 @@
 #
 # usage: bench/completeness.sh [PROGRAM] [RUNS]
 #
-# PROGRAM is crates/bench/out/bench by default, which `rt run` leaves there.
+# PROGRAM is crates/bagit/out/bagit by default, which `rt run` leaves there.
 set -euo pipefail
 source "$(dirname "$0")/time.sh"
 
-program=$(realpath "${1:-$(dirname "$0")/../crates/bench/out/bench}")
+program=$(realpath "${1:-$(dirname "$0")/../crates/bagit/out/bagit}")
 runs=${2:-5}
 folders=1000
 files_in_each=100
@@ -45,8 +45,12 @@ find_and_sort() {
 }
 
 # The most memory that a check takes, in KiB.
+# Says whether a bag is complete, and without clashes of names.
+complete() { "$program" --validate --completeness-only "$work/$1"; }
+clashes() { "$program" --validate --completeness-only --clashes "$work/$1"; }
+
 peak() {
-    /usr/bin/time -f %M -o "$work/peak" "$program" "$1" "$work/$2" >"$work/output"
+    /usr/bin/time -f %M -o "$work/peak" "$program" --validate --completeness-only "${@:2}" "$work/$1" >"$work/output"
     cat "$work/peak"
 }
 
@@ -54,8 +58,8 @@ peak() {
 compare_clashes() {
     local kind=$1 bag=$2 complete= clashes= run
     for ((run = 0; run < runs; run++)); do
-        complete=$(least "$complete" "$(milliseconds "$program" complete "$work/$bag")")
-        clashes=$(least "$clashes" "$(milliseconds "$program" clashes "$work/$bag")")
+        complete=$(least "$complete" "$(milliseconds complete "$bag")")
+        clashes=$(least "$clashes" "$(milliseconds clashes "$bag")")
     done
     awk -v kind="$kind" -v complete="$complete" -v clashes="$clashes" 'BEGIN {
         printf "%s names: complete: %d ms, clashes too: %d ms, more by %.2f\n", kind, complete, clashes, (clashes - complete) / complete
@@ -67,15 +71,15 @@ make_bag once "$folders" folder image
 make_bag twice $((2 * folders)) folder image
 make_bag marked "$folders" $'recue\u0301' $'num\u00e9ro'
 for bag in once twice marked; do
-    diff <("$program" complete "$work/$bag") <(echo "$work/$bag is complete")
-    diff <("$program" clashes "$work/$bag") <(echo "$work/$bag is complete")
+    diff <(complete "$bag") <(echo "$work/$bag is complete")
+    diff <(clashes "$bag") <(echo "$work/$bag is complete")
 done
 
 peer= complete= complete_twice=
 for ((run = 0; run < runs; run++)); do
     peer=$(least "$peer" "$(milliseconds find_and_sort once)")
-    complete=$(least "$complete" "$(milliseconds "$program" complete "$work/once")")
-    complete_twice=$(least "$complete_twice" "$(milliseconds "$program" complete "$work/twice")")
+    complete=$(least "$complete" "$(milliseconds complete once)")
+    complete_twice=$(least "$complete_twice" "$(milliseconds complete twice)")
 done
 awk -v peer="$peer" -v complete="$complete" -v twice="$complete_twice" 'BEGIN {
     printf "complete: %d ms, find and sort: %d ms, ratio: %.2f; twice the files: %d ms, ratio: %.2f\n",
@@ -87,9 +91,9 @@ compare_clashes other marked
 
 files=$(wc -l <"$work/once.paths")
 path_bytes=$(($(wc -c <"$work/once.paths") - files))
-for mode in complete clashes; do
-    memory=$((($(peak "$mode" once) - $(peak "$mode" empty)) * 1024))
-    awk -v mode="$mode" -v files="$files" -v bytes="$path_bytes" -v memory="$memory" 'BEGIN {
+for option in '' --clashes; do
+    memory=$((($(peak once $option) - $(peak empty $option)) * 1024))
+    awk -v mode="complete${option:+, clashes too}" -v files="$files" -v bytes="$path_bytes" -v memory="$memory" 'BEGIN {
         printf "%s, memory for each file: %.0f bytes; bytes of a path: %.1f\n", mode, memory / files, bytes / files
     }'
 done

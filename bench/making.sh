@@ -7,11 +7,11 @@
 #
 # usage: bench/making.sh [PROGRAM] [RUNS]
 #
-# PROGRAM is crates/bench/out/bench by default, which `rt run` leaves there.
+# PROGRAM is crates/bagit/out/bagit by default, which `rt run` leaves there.
 set -euo pipefail
 source "$(dirname "$0")/time.sh"
 
-program=$(realpath "${1:-$(dirname "$0")/../crates/bench/out/bench}")
+program=$(realpath "${1:-$(dirname "$0")/../crates/bagit/out/bagit}")
 runs=${2:-3}
 folders=200
 files_in_each=500
@@ -25,14 +25,16 @@ for ((folder = 0; folder < folders; folder++)); do
     head -c $((1024 * files_in_each)) /dev/urandom | split -b 1024 -a 3 - "$work/folder/folder-$folder/file-"
 done
 
+make_bag() { "$program" "${@:2}" "$work/$1"; }
+
 made= checked=
 for ((run = 0; run < runs; run++)); do
     rm -rf "$work/bag"
     cp -r "$work/folder" "$work/bag"
-    "$program" list "$work/bag" >"$work/output"
-    made=$(least "$made" "$(milliseconds "$program" make "$work/bag")")
-    diff <(echo made) "$work/output"
-    checked=$(least "$checked" "$(milliseconds "$program" valid "$work/bag")")
+    find "$work/bag" -type f -size +1M
+    made=$(least "$made" "$(milliseconds make_bag bag --sha256 --sha512)")
+    diff <(echo "$work/bag made") "$work/output"
+    checked=$(least "$checked" "$(milliseconds "$program" --validate "$work/bag")")
     diff <(echo "$work/bag is valid") "$work/output"
 done
 awk -v made="$made" -v checked="$checked" 'BEGIN {
@@ -50,8 +52,7 @@ mkdir -p "$work/named/ with blanks "
 for name in 'a b' ' front' 'back ' '*star' 'back\slash' 'tab'$'\t''inside' '-' 'é' ' with blanks /.hidden' ' with blanks /\\'; do
     printf '%s' "$name" >"$work/named/$name"
 done
-"$program" make-md5 "$work/named" >"$work/output"
-diff <(echo made) "$work/output"
+diff <(make_bag named --md5) <(echo "$work/named made")
 cd "$work/named"
 md5sum --check --quiet manifest-md5.txt tagmanifest-md5.txt
 echo "accepted by md5sum: $(cat manifest-md5.txt tagmanifest-md5.txt | wc -l) lines"
@@ -60,7 +61,7 @@ echo "accepted by md5sum: $(cat manifest-md5.txt tagmanifest-md5.txt | wc -l) li
 if command -v strace >"$work/output"; then
     rm -rf "$work/bag"
     cp -r "$work/folder" "$work/bag"
-    strace -f -c -e trace=rename,renameat,renameat2 -o "$work/calls" "$program" make "$work/bag" >"$work/output"
+    strace -f -c -e trace=rename,renameat,renameat2 -o "$work/calls" "$program" --sha256 --sha512 "$work/bag" >"$work/output"
     renames=$(awk '$NF ~ /^rename/ { sum += $4 } END { print sum + 0 }' "$work/calls")
     echo "renames: $renames for $folders entries"
 fi

@@ -1,16 +1,16 @@
 #!/usr/bin/env bash
-# How long `read_manifest` takes for 1,000,000 lines, against `sort -u` on their paths, and how much longer it takes for
+# How long `bagit --validate --fast` takes for a bag with a manifest of 1,000,000 lines, against `sort -u` on their paths, and how much longer it takes for
 # twice as many lines. The lines are of SHA-256 and have paths of 60 bytes: random ones, the same in ascending order, and
 # ones of folders that begin alike, scattered. Counted is the processor time that the programs take, their own and the
 # system's, the reading of the file included, and the least of several runs.
 #
 # usage: bench/manifest.sh [PROGRAM] [RUNS]
 #
-# PROGRAM is crates/bench/out/bench by default, which `rt run` leaves there.
+# PROGRAM is crates/bagit/out/bagit by default, which `rt run` leaves there.
 set -euo pipefail
 source "$(dirname "$0")/time.sh"
 
-program=$(realpath "${1:-$(dirname "$0")/../crates/bench/out/bench}")
+program=$(realpath "${1:-$(dirname "$0")/../crates/bagit/out/bagit}")
 runs=${2:-5}
 lines=1000000
 
@@ -46,15 +46,22 @@ scattered_manifest() {
 }
 
 # Prints both ratios for a kind of manifest.
+# Bags that agree with their oxum, so that a check reads their manifest and looks for nothing in it.
+for bag in once twice; do
+    mkdir -p "$work/$bag/data"
+    printf 'BagIt-Version: 1.0\nTag-File-Character-Encoding: UTF-8\n' >"$work/$bag/bagit.txt"
+    echo 'Payload-Oxum: 0.0' >"$work/$bag/bag-info.txt"
+done
+
 measure() {
     local kind=$1 sorted= read= read_twice= run
-    "${kind}_manifest" "$lines" >"$work/once"
-    "${kind}_manifest" $((2 * lines)) >"$work/twice"
-    cut -c 67- "$work/once" >"$work/paths"
+    "${kind}_manifest" "$lines" >"$work/once/manifest-sha256.txt"
+    "${kind}_manifest" $((2 * lines)) >"$work/twice/manifest-sha256.txt"
+    cut -c 67- "$work/once/manifest-sha256.txt" >"$work/paths"
     for ((run = 0; run < runs; run++)); do
         sorted=$(least "$sorted" "$(milliseconds env LC_ALL=C sort -u "$work/paths")")
-        read=$(least "$read" "$(milliseconds "$program" manifest "$work/once")")
-        read_twice=$(least "$read_twice" "$(milliseconds "$program" manifest "$work/twice")")
+        read=$(least "$read" "$(milliseconds "$program" --validate --fast "$work/once")")
+        read_twice=$(least "$read_twice" "$(milliseconds "$program" --validate --fast "$work/twice")")
     done
     awk -v kind="$kind" -v sorted="$sorted" -v once="$read" -v twice="$read_twice" 'BEGIN {
         printf "%s paths: read: %d ms, sort -u: %d ms, ratio: %.2f; twice the lines: %d ms, ratio: %.2f\n",

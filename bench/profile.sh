@@ -1,24 +1,23 @@
 #!/usr/bin/env bash
-# How long it takes to find where a bag doesn't conform to a profile: metadata of 10,000 elements and 100 tag files, beside a
-# profile of 1,000 labels with 100 values each and of 1,000 patterns, of which each file's is among the last. Of the elements
-# none has a fault, or each has one. Beside it stands what the bag and the profile take to be read, and how much longer twice
-# as many elements take. Counted is the processor time that the program takes, its own and the system's, the least of several
-# runs; each run reads both once and looks for the faults 50 times.
+# How long a bag takes to be checked against a profile, beyond a check without it: metadata of 50,000 elements and 100 tag files,
+# beside a profile of 1,000 labels with 100 values each and of 1,000 patterns, of which each file's is among the last. Of the elements
+# none has a fault, or each has one, which is written. Beside it stands how much longer twice as many elements take, and what the
+# profile takes beside a bag without elements. Counted is the processor time that `bagit --validate --fast` takes, its own and the
+# system's, the least of several runs.
 #
 # usage: bench/profile.sh [PROGRAM] [RUNS]
 #
-# PROGRAM is crates/bench/out/bench by default, which `rt run` leaves there.
+# PROGRAM is crates/bagit/out/bagit by default, which `rt run` leaves there.
 set -euo pipefail
 source "$(dirname "$0")/time.sh"
 
-program=$(realpath "${1:-$(dirname "$0")/../crates/bench/out/bench}")
+program=$(realpath "${1:-$(dirname "$0")/../crates/bagit/out/bagit}")
 runs=${2:-5}
-elements=10000
+elements=50000
 labels=1000
 values=100
 patterns=1000
 files=100
-often=50
 
 work=$(mktemp -d /tmp/bagit-profile.XXXXXX)
 trap 'rm -rf "$work"' EXIT
@@ -41,6 +40,7 @@ profile() {
 metadata() {
     awk -v elements="$1" -v word="$2" -v labels="$labels" -v values="$values" 'BEGIN {
         print "BagIt-Profile-Identifier: urn:p"
+        print "Payload-Oxum: 0.0"
         for (element = 0; element < elements; element++)
             printf "%s-%04d: %s %04d\n", element % 2 ? "label" : "LABEL", element * 617 % labels, word, element % values
     }'
@@ -60,28 +60,34 @@ make_bag() {
 }
 
 # The time that a reader takes over a bag.
-time_of() { milliseconds "$program" "$1" "$work/$2"; }
+# Checks a bag; a check that finds faults ends with 1.
+check() { "$program" --validate --fast "$@" || [[ $? == 1 ]]; }
 
-# Prints the ratio for a kind of values, which begin with a word. The four times of a run are taken one after the other, so that
-# whatever else the machine does meets them alike.
+# How much longer a bag takes with its profile than without, each the least of several runs.
+judged() {
+    local read= whole= run
+    for ((run = 0; run < runs; run++)); do
+        read=$(least "$read" "$(milliseconds check "$work/$1")")
+        whole=$(least "$whole" "$(milliseconds check --profile "$work/$1.json" "$work/$1")")
+    done
+    echo "$((whole - read))"
+}
+
+make_bag none 0 value
+none=$(judged none)
+
 measure() {
-    local kind=$1 word=$2 faults=$3 run read= judged= read_twice= judged_twice=
+    local kind=$1 word=$2 faults=$3 once= twice=
     make_bag once "$elements" "$word"
     make_bag twice $((2 * elements)) "$word"
-    diff <("$program" conforms "$work/once") <(echo "tag files: 3, faults: $faults")
-    diff <("$program" conforms "$work/twice") <(echo "tag files: 3, faults: $((2 * faults))")
-    for ((run = 0; run < runs; run++)); do
-        read=$(least "$read" "$(time_of profile once)")
-        judged=$(least "$judged" "$(time_of conforms-often once)")
-        read_twice=$(least "$read_twice" "$(time_of profile twice)")
-        judged_twice=$(least "$judged_twice" "$(time_of conforms-often twice)")
-    done
-    awk -v kind="$kind" -v often="$often" -v read="$read" -v judged="$judged" -v read_twice="$read_twice" -v judged_twice="$judged_twice" 'BEGIN {
-        once = (judged - read) / often
-        twice = (judged_twice - read_twice) / often
+    diff <(check --profile "$work/once.json" "$work/once" | grep -c ^804) <(echo "$faults")
+    diff <(check --profile "$work/twice.json" "$work/twice" | grep -c ^804) <(echo $((2 * faults)))
+    once=$(judged once)
+    twice=$(judged twice)
+    awk -v kind="$kind" -v once="$once" -v none="$none" -v twice="$twice" 'BEGIN {
         over = twice / once > 2.3 ? sprintf(", over the bar by %.2f", twice / once - 2.3) : ""
-        printf "%s values: %.1f ms, reading: %.1f ms; twice the elements: %.1f ms, ratio: %.2f (at most 2.30%s)\n",
-            kind, once, read, twice, twice / once, over
+        printf "%s values: %d ms, without elements: %d ms; twice the elements: %d ms, ratio: %.2f (at most 2.30%s)\n",
+            kind, once, none, twice, twice / once, over
     }'
 }
 

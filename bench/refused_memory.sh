@@ -5,10 +5,10 @@
 #
 # usage: bench/refused_memory.sh [PROGRAM]
 #
-# PROGRAM is crates/bench/out/bench by default, which `rt run` leaves there.
+# PROGRAM is crates/bagit/out/bagit by default, which `rt run` leaves there.
 set -euo pipefail
 
-program=$(realpath "${1:-$(dirname "$0")/../crates/bench/out/bench}")
+program=$(realpath "${1:-$(dirname "$0")/../crates/bagit/out/bagit}")
 
 work=$(mktemp -d /tmp/bagit-memory.XXXXXX)
 trap 'rm -rf "$work"' EXIT
@@ -63,16 +63,16 @@ while :; do
     rm -rf "$work/bag"
     cp -r "$work/folder" "$work/bag"
     status=0
-    REFUSED=$number LD_PRELOAD="$work/refuse.so" "$program" make "$work/bag" >"$work/output" 2>"$work/errors" || status=$?
+    REFUSED=$number LD_PRELOAD="$work/refuse.so" "$program" "$work/bag" >"$work/output" 2>"$work/errors" || status=$?
     files_of "$work/bag" | diff "$work/files" -
-    if [[ $(<"$work/output") == made ]]; then
+    if [[ $(<"$work/output") == "$work/bag made" ]]; then
         grep -q refused "$work/errors" || break
         made=$((made + 1))
-    elif [[ $(<"$work/output") == 'not made: step '* ]]; then
+    elif [[ $(<"$work/output") == "$work/bag not made: step "* ]]; then
         stopped=$((stopped + 1))
     elif diff -r "$work/folder" "$work/bag" >"$work/difference"; then
         # Said by `make`, or the program had no memory for its own words or its output.
-        if [[ $(<"$work/output") == 'not made: '* ]]; then untouched=$((untouched + 1)); else ended=$((ended + 1)); fi
+        if [[ $(<"$work/output") == "$work/bag not made: "* ]]; then untouched=$((untouched + 1)); else ended=$((ended + 1)); fi
         [[ -s $work/output || $status != 0 ]]
     else
         echo "growth $number: neither made nor refused: $(<"$work/output") $(<"$work/errors")"

@@ -1,20 +1,19 @@
 #!/usr/bin/env bash
-# How long `read_info` and `read_fetch` take, and how much longer for twice as many lines: metadata of 100,000 lines, of
-# which each second is a continuation; one value that goes on over 100,000 lines; a list of 1,000,000 files to fetch.
-# Beside it stands a reader in Python that answers the same counts, as is checked. Counted is the processor time that the
-# programs take, their own and the system's, the reading of the files included, and the least of several runs. Each
-# program reads metadata ten times in a run, so that its start counts little.
+# How long `bagit --validate --fast` takes to read `bag-info.txt` and `fetch.txt`, and how much longer for twice as many lines:
+# metadata of 1,000,000 lines, of which each second is a continuation; one value that goes on over 1,000,000 lines; a list of
+# 1,000,000 files to fetch. Beside it stands a reader in Python. Counted is the processor time that the programs take, their own
+# and the system's, and the least of several runs.
 #
-# Then: how long the files to fetch of a folder take to be looked up in its manifests, against the reading of the three
-# files: 100,000 lines and two manifests of 100,000 entries, which name each of the files, or none.
+# Then: how long 100,000 files to fetch take to be looked up in two manifests of 100,000 entries, which name each of the files, or
+# none: a check whether the bag is complete, which stops at its first fault, against one that only reads the three files.
 #
 # usage: bench/tag_files.sh [PROGRAM] [RUNS]
 #
-# PROGRAM is crates/bench/out/bench by default, which `rt run` leaves there.
+# PROGRAM is crates/bagit/out/bagit by default, which `rt run` leaves there.
 set -euo pipefail
 source "$(dirname "$0")/time.sh"
 
-program=$(realpath "${1:-$(dirname "$0")/../crates/bench/out/bench}")
+program=$(realpath "${1:-$(dirname "$0")/../crates/bagit/out/bagit}")
 runs=${2:-9}
 
 work=$(mktemp -d /tmp/bagit-tag-files.XXXXXX)
@@ -42,11 +41,18 @@ fetched() {
     }'
 }
 
-# A folder with a list of so many files to fetch, and two manifests of so many other files where a third word is there.
-# Each line is of a place far from that of the line before it.
-folder() {
-    mkdir "$1"
-    awk -v lines="$2" -v folder="$1" -v other="${3:-}" 'BEGIN {
+# Makes a bag that agrees with its oxum, so that a check reads its tag files and finds no fault.
+make_bag() {
+    mkdir -p "$work/$1/data"
+    printf 'BagIt-Version: 1.0\nTag-File-Character-Encoding: UTF-8\n' >"$work/$1/bagit.txt"
+    echo 'Payload-Oxum: 0.0' >"$work/$1/bag-info.txt"
+    : >"$work/$1/manifest-md5.txt"
+}
+
+# Adds a list of so many files to fetch to a bag, and two manifests of so many other files where a third word is there. Each line is
+# of a place far from that of the line before it.
+add_fetched() {
+    awk -v lines="$2" -v folder="$work/$1" -v other="${3:-}" 'BEGIN {
         for (line = 0; line < lines; line++) {
             place = line * 62039 % lines
             printf "https://example.org/%d - data/image-%d.tiff\n", line, place >(folder "/fetch.txt")
@@ -56,7 +62,7 @@ folder() {
     }'
 }
 
-# Reads metadata, a list of files to fetch, or that of a folder beside its manifests, and counts as the program does.
+# Reads metadata or a list of files to fetch, and counts what it says.
 cat >"$work/peer.py" <<'PYTHON'
 import re, sys
 
@@ -91,69 +97,56 @@ def text_of(path):
     with open(path, encoding="utf-8", newline="") as file:
         return file.read()
 
-def not_named(folder):
-    files, faults = fetched(text_of(folder + "/fetch.txt"))
-    for manifest in "/manifest-md5.txt", "/manifest-sha1.txt":
-        named = {re.split("[ \t]+", line, maxsplit=1)[1] for line in text_of(folder + manifest).splitlines()}
-        faults += sum(path not in named for _, _, _, path in files)
-    return faults
-
-for reader, path in zip(sys.argv[1::2], sys.argv[2::2]):
-    if reader == "faults":
-        print(f"tag files: 3, faults: {not_named(path)}")
-    else:
-        items, faults = (elements if reader == "info" else fetched)(text_of(path))
-        print(f"items: {len(items)}, faults: {faults}")
+reader, path = sys.argv[1:]
+items, faults = (elements if reader == "bag-info.txt" else fetched)(text_of(path))
+print(f"items: {len(items)}, faults: {faults}")
 PYTHON
 
 peer() {
     python3 "$work/peer.py" "$@"
 }
 
-# A reader and the path of a file, so many times.
-times() {
-    local time
-    for ((time = 0; time < $1; time++)); do printf '%s\n' "$2" "$work/$3"; done
-}
+read_bag() { "$program" --validate --fast "$work/$1"; }
 
-# Prints both ratios for a kind of file: its reader, how many lines, and how often they are read in a run.
+# Stops at the first fault, which is of a file that no manifest names, or that is missing.
+look_up() { "$program" --validate --completeness-only --max-faults 1 "$work/$1" || [[ $? == 1 ]]; }
+
+# Prints both ratios for a kind of file: its name, and how many lines.
 measure() {
-    local kind=$1 reader=$2 lines=$3 often=$4 peer= read= read_twice= run
-    "$kind" "$lines" >"$work/once"
-    "$kind" $((2 * lines)) >"$work/twice"
-    mapfile -t once < <(times "$often" "$reader" once)
-    mapfile -t twice < <(times "$often" "$reader" twice)
-    diff <("$program" "$reader" "$work/once") <(peer "$reader" "$work/once")
-    for ((run = 0; run < runs; run++)); do
-        peer=$(least "$peer" "$(milliseconds peer "${once[@]}")")
-        read=$(least "$read" "$(milliseconds "$program" "${once[@]}")")
-        read_twice=$(least "$read_twice" "$(milliseconds "$program" "${twice[@]}")")
-    done
-    awk -v kind="$kind" -v lines="$lines" -v often="$often" -v peer="$peer" -v once="$read" -v twice="$read_twice" 'BEGIN {
-        printf "%s, %d lines: %.1f ms, Python: %.1f ms, ratio: %.2f; twice the lines: %.1f ms, ratio: %.2f\n",
-            kind, lines, once / often, peer / often, once / peer, twice / often, twice / once
+    local kind=$1 file=$2 lines=$3 peer= once= twice=
+    rm -rf "$work/once" "$work/twice"
+    make_bag once
+    make_bag twice
+    "$kind" "$lines" >>"$work/once/$file"
+    "$kind" $((2 * lines)) >>"$work/twice/$file"
+    diff <(read_bag once) <(echo "$work/once agrees with its oxum")
+    peer=$(least_of peer "$file" "$work/once/$file")
+    once=$(least_of read_bag once)
+    twice=$(least_of read_bag twice)
+    awk -v kind="$kind" -v lines="$lines" -v peer="$peer" -v once="$once" -v twice="$twice" 'BEGIN {
+        printf "%s, %d lines: %d ms, Python: %d ms, ratio: %.2f; twice the lines: %d ms, ratio: %.2f\n",
+            kind, lines, once, peer, once / peer, twice, twice / once
     }'
 }
 
-# Prints the ratio for a folder.
+# Prints the ratio for a bag.
 judge() {
-    local kind=$1 peer= read= judged= run
-    diff <("$program" faults "$work/$kind") <(peer faults "$work/$kind")
-    for ((run = 0; run < runs; run++)); do
-        peer=$(least "$peer" "$(milliseconds peer faults "$work/$kind")")
-        read=$(least "$read" "$(milliseconds "$program" facts "$work/$kind")")
-        judged=$(least "$judged" "$(milliseconds "$program" faults "$work/$kind")")
-    done
-    awk -v kind="$kind" -v peer="$peer" -v read="$read" -v judged="$judged" 'BEGIN {
-        printf "manifests that name %s: read and looked up: %d ms, Python: %d ms, ratio: %.2f; read alone: %d ms, looked up to read: %.2f\n",
-            kind, judged, peer, judged / peer, read, (judged - read) / read
+    local bag=$1 fault=$2 read= judged=
+    look_up "$bag" >"$work/output"
+    diff <(head -n 1 "$work/output" | cut -d' ' -f1) <(echo "$fault")
+    read=$(least_of read_bag "$bag")
+    judged=$(least_of look_up "$bag")
+    awk -v bag="$bag" -v read="$read" -v judged="$judged" 'BEGIN {
+        printf "manifests that name %s: read: %d ms; looked up: %d ms, ratio: %.2f\n", bag, read, judged, judged / read
     }'
 }
 
-measure elements info 100000 10
-measure continued info 100000 10
-measure fetched fetch 1000000 1
-folder "$work/each" 100000
-folder "$work/none" 100000 -2
-judge each
-judge none
+measure elements bag-info.txt 1000000
+measure continued bag-info.txt 1000000
+measure fetched fetch.txt 1000000
+make_bag each
+make_bag none
+add_fetched each 100000
+add_fetched none 100000 -2
+judge each 601
+judge none 405

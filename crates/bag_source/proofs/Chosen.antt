@@ -13,7 +13,6 @@ use Rattle.bag_text.specs.Code.{number, stage}
 use Rattle.bag_text.specs.Order.{IsListOf}
 use Rattle.bag_text.specs.Text.{text_cmp}
 use Rattle.bag_text.proofs.ListOf.{contains_back, contains_behind, contains_cases, contains_either, contains_first, contains_front, contains_nothing, joined, member_has, nothing_listed, one_listed, same_members}
-use Rattle.bag_tags.proofs.ManifestEntries.{entry_named}
 use Rattle.bag_tree.specs.Bag.{Bag, file, HasFile}
 use Rattle.bag_tree.specs.declared.listing.FileEntry.{FileEntry}
 use Rattle.bag_fault.specs.FaultOrder.{fault_cmp}
@@ -27,7 +26,6 @@ use Rattle.bag_facts.specs.declared.options.Depth.{Depth}
 use Rattle.bag_facts.specs.declared.options.Depth.TheVariants.{Declaration, Fast, Complete, Full}
 use Rattle.bag_facts.proofs.ListedFiles.{file_listed, listed_file, own_size}
 use Rattle.bag_facts.proofs.Mapped.{take_one_more}
-use Rattle.bag_stages.specs.TagFiles.{lines_in, manifest_of}
 use Rattle.bag_stages.proofs.ByItem.{before_next}
 use Rattle.bag_stages.proofs.InFile.{less_by_path}
 use Rattle.bag_validity.specs.Given.{AreNaming}
@@ -36,7 +34,7 @@ use Rattle.bag_validity.specs.SummedFiles.{IsNamed, IsSummed}
 use Rattle.bag_validity.specs.ValidityStage.{IsOfFile, IsOfValidity}
 use Rattle.bag_validity.specs.declared.expected.Expected.{Expected}
 use Rattle.bag_validity.proofs.SummedFiles.{faulty_is_summed, named_some, some_named}
-use Rattle.bag_validity.proofs.ValidityFaults.{validity_of_entry, validity_of_stage_seven, IsOfSomeEntry}
+use Rattle.bag_validity.proofs.ValidityFaults.{validity_of_stage_seven}
 use Rattle.bag_report.specs.Report.{above, is_above}
 use Rattle.bag_report.proofs.Filtered.{filtered_list}
 use Rattle.bag_source.specs.Files.{AreToSum, IsAhead, TellsItsFaults}

@@ -30,12 +30,19 @@ pub struct Folder {
 }
 
 impl Spot {
+    /// What stands at a path.
+    pub fn of(alloc: Global, path: &str, sort: Sort, bytes: Vec<u8>) -> Result<Spot, Mistake> {
+        let path = String::from_str(alloc, path)?;
+        Ok(Spot { path, sort, bytes })
+    }
+
     fn copy(&self, alloc: Global) -> Result<Spot, Mistake> {
-        Ok(Spot {
-            path: String::from_str(alloc, self.path.as_str())?,
-            sort: self.sort,
-            bytes: self.bytes.to_vec(alloc)?,
-        })
+        Spot::of(
+            alloc,
+            self.path.as_str(),
+            self.sort,
+            self.bytes.to_vec(alloc)?,
+        )
     }
 
     /// Whether this is the file that is listed at a path.

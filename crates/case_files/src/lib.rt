@@ -2,7 +2,7 @@
 //!
 //! ```
 //! let lines = lines_of(alloc, text)?;
-//! for entry in entries_of(alloc, &lines)? {
+//! if let Some(entry) = entry_at(&lines, 0) {
 //!     let wanted = texts.answer(alloc, entry.below, 0)?;
 //! }
 //! ```
@@ -20,7 +20,7 @@ mod words;
 
 pub use answers::Answer;
 pub use folders::{Folder, Sort, Spot, folder_of};
-pub use lines::{Entry, Line, entries_of, lines_of, parts_of};
+pub use lines::{Entry, Line, entry_at, lines_of, parts_of};
 pub use mistake::Mistake;
 pub use report::{Report, Sight};
 pub use texts::Texts;

@@ -48,18 +48,11 @@ fn below<'a>(lines: &'a [Line<'a>], place: usize) -> &'a [Line<'a>] {
     rest
 }
 
-/// The entries of a file, in its order. Lines above the first of them are wanted of it, whatever it says.
-pub fn entries_of<'a>(alloc: Global, lines: &'a [Line<'a>]) -> Result<Vec<Entry<'a>>, Mistake> {
-    let mut entries = Vec::new(alloc);
-    for (place, line) in lines.iter().enumerate() {
-        if !line.is_wanted() || place == 0 {
-            entries.push(Entry {
-                line: *line,
-                below: below(lines, place),
-            })?;
-        }
-    }
-    Ok(entries)
+/// The entry whose line stands at a place, if one does. The first line of a file is an entry, whatever it says.
+pub fn entry_at<'a>(lines: &'a [Line<'a>], place: usize) -> Option<Entry<'a>> {
+    let line = *lines.get(place)?;
+    let below = below(lines, place);
+    (!line.is_wanted() || place == 0).then_some(Entry { line, below })
 }
 
 /// The lines between `then`: what is wanted of one run after another.

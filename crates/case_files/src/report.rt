@@ -36,8 +36,23 @@ impl Report {
         }
     }
 
-    /// Compares an answer of one side with what is wanted.
-    pub fn see(
+    /// Compares an answer of one side with the one that is wanted.
+    pub fn see(&mut self, sight: Sight<'_>, side: &str, found: &Answer) -> Result<(), Mistake> {
+        self.compare(sight, side, &sight.wanted()?, found)
+    }
+
+    /// Compares what one side wrote, ended well and without a word, with the answer that is wanted.
+    pub fn see_written(
+        &mut self,
+        sight: Sight<'_>,
+        side: &str,
+        written: Vec<u8>,
+    ) -> Result<(), Mistake> {
+        self.see(sight, side, &Answer::of(sight.alloc, written))
+    }
+
+    /// Compares an answer of one side with another one.
+    pub fn compare(
         &mut self,
         sight: Sight<'_>,
         side: &str,
@@ -67,7 +82,7 @@ impl Report {
 
 impl Sight<'_> {
     /// The one answer that is wanted; its status is 0 where none is given.
-    pub fn wanted(&self) -> Result<Answer, Mistake> {
+    fn wanted(&self) -> Result<Answer, Mistake> {
         for line in self.part {
             if line.word == "then" {
                 return Err(Mistake::Unasked);

@@ -51,8 +51,8 @@ fn put_cursor(alloc: Global, fault: &Fault, out: &mut Vec<u8>) -> Result<(), Mis
 
 /// How bags are made: the algorithms, and each element.
 fn put_making(plan: &Plan, out: &mut Vec<u8>) -> Result<(), Mistake> {
-    for alg in Alg::ALL {
-        if plan.algs.has(alg) {
+    for alg in &Alg::ALL {
+        if plan.algs.has(*alg) {
             write!(out, " {}", alg.name())?;
         }
     }
@@ -74,8 +74,16 @@ fn put_plan(alloc: Global, plan: &Plan, out: &mut Vec<u8>) -> Result<(), Mistake
 /// The plan of words, or why they are refused: `refused` where the program takes no such words.
 pub(crate) fn plan(alloc: Global, text: &str, out: &mut Vec<u8>) -> Result<(), Mistake> {
     let words = words_of(alloc, text)?;
-    match plan_of(alloc, &words) {
-        Ok(plan) => put_plan(alloc, &plan, out),
+    put_planned(alloc, &plan_of(alloc, &words), out)
+}
+
+fn put_planned(
+    alloc: Global,
+    planned: &Result<Plan, Usage>,
+    out: &mut Vec<u8>,
+) -> Result<(), Mistake> {
+    match planned {
+        Ok(plan) => put_plan(alloc, plan, out),
         Err(Usage::Refused(_)) => {
             write!(out, "refused")?;
             Ok(())

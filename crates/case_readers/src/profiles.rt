@@ -1,5 +1,5 @@
 //! What profiles say.
-use bag_profile::{LabelRule, ListRule, Profile, Serialization};
+use bag_profile::{LabelRule, ListRule, Profile, ProfileFault, Serialization};
 use bag_text::Text;
 use case_files::Mistake;
 use std::alloc::Global;
@@ -73,16 +73,20 @@ fn put_profile(profile: &Profile, out: &mut Vec<u8>) -> Result<(), Mistake> {
     for rule in profile.labels() {
         put_rule(rule, out)?;
     }
-    for (letter, list) in LISTS {
-        put_list(profile, letter, list, out)?;
+    for (letter, list) in &LISTS {
+        put_list(profile, *letter, *list, out)?;
     }
     put_rest(profile, out)
 }
 
 /// What a profile says, or why it is none.
 pub(crate) fn profile(alloc: Global, bytes: &[u8], out: &mut Vec<u8>) -> Result<(), Mistake> {
-    match Profile::read(alloc, bytes) {
-        Ok(profile) => put_profile(&profile, out),
+    put_read(&Profile::read(alloc, bytes), out)
+}
+
+fn put_read(read: &Result<Profile, ProfileFault>, out: &mut Vec<u8>) -> Result<(), Mistake> {
+    match read {
+        Ok(profile) => put_profile(profile, out),
         Err(fault) => {
             write!(out, "{fault}")?;
             Ok(())

@@ -84,9 +84,9 @@ impl Reader {
     }
 
     fn of_word(word: &str) -> Result<Reader, Mistake> {
-        for (name, reader) in ONE_WORD {
-            if name == word {
-                return Ok(reader);
+        for (name, reader) in &ONE_WORD {
+            if *name == word {
+                return Ok(*reader);
             }
         }
         Err(Mistake::Command)

@@ -5,6 +5,10 @@ use bag_write::{WriteFault, write_info, write_manifest};
 use case_files::Mistake;
 use std::alloc::Global;
 
+fn pair_of(alloc: Global, front: &str, back: &str) -> Result<(Text, Text), Mistake> {
+    Ok((Text::from_str(alloc, front)?, Text::from_str(alloc, back)?))
+}
+
 /// The pairs of a text whose parts have `|` between them.
 fn pairs_of(alloc: Global, text: &str) -> Result<Vec<(Text, Text)>, Mistake> {
     let mut pairs = Vec::new(alloc);
@@ -15,7 +19,7 @@ fn pairs_of(alloc: Global, text: &str) -> Result<Vec<(Text, Text)>, Mistake> {
     for part in text.split('|') {
         match front {
             Some(first) => {
-                pairs.push((Text::from_str(alloc, first)?, Text::from_str(alloc, part)?))?;
+                pairs.push(pair_of(alloc, first, part)?)?;
                 front = None;
             }
             None => front = Some(part),

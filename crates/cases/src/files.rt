@@ -1,7 +1,6 @@
 //! Files of cases, which are followed one after another.
 use crate::session::Session;
-use case_files::{Answer, Entry, Mistake, Report, Sight, entries_of, lines_of};
-use std::alloc::Global;
+use case_files::{Answer, Line, Mistake, Report, entry_at, lines_of};
 use std::fs;
 
 /// Where a file can't be followed further, and why. The line is 0 where none of it was.
@@ -48,14 +47,31 @@ fn follow_all(
     let text = fs::read_to_string(rt, file)?;
     let lines = lines_of(rt.alloc(), text.as_str())?;
     let mut session = Session::new(rt.alloc())?;
-    for entry in &entries_of(rt.alloc(), &lines)? {
-        *line = entry.line.number;
-        match entry.line.rest.strip_prefix("cases ") {
-            Some(other) if entry.line.word == "$" => {
-                let sight = session.sight(rt.alloc(), file, *entry);
-                see_file(rt, sight, other, report)?;
+    follow_entries(rt, file, &lines, &mut session, line, report)
+}
+
+fn follow_entries<'a>(
+    rt: &HostRuntime,
+    file: &str,
+    lines: &'a [Line<'a>],
+    session: &mut Session,
+    line: &mut usize,
+    report: &mut Report,
+) -> Result<(), Mistake> {
+    for place in 0..lines.len() {
+        if let Some(entry) = entry_at(lines, place) {
+            *line = entry.line.number;
+            match entry.line.rest.strip_prefix("cases ") {
+                Some(other) if entry.line.word == "$" => {
+                    let found = found_in(rt, other)?;
+                    report.see(
+                        session.sight(rt.alloc(), file, entry),
+                        "this program",
+                        &found,
+                    )?;
+                }
+                Some(_) | None => session.follow(rt, file, entry, report)?,
             }
-            Some(_) | None => session.follow(rt, file, *entry, report)?,
         }
     }
     session.end(rt)
@@ -71,43 +87,47 @@ fn follow(
     let text = fs::read_to_string(rt, file)?;
     let lines = lines_of(rt.alloc(), text.as_str())?;
     let mut session = Session::new(rt.alloc())?;
-    for entry in &entries_of(rt.alloc(), &lines)? {
-        *line = entry.line.number;
-        session.follow(rt, file, *entry, report)?;
+    follow_plain_entries(rt, file, &lines, &mut session, line, report)
+}
+
+fn follow_plain_entries<'a>(
+    rt: &HostRuntime,
+    file: &str,
+    lines: &'a [Line<'a>],
+    session: &mut Session,
+    line: &mut usize,
+    report: &mut Report,
+) -> Result<(), Mistake> {
+    for place in 0..lines.len() {
+        if let Some(entry) = entry_at(lines, place) {
+            *line = entry.line.number;
+            session.follow(rt, file, entry, report)?;
+        }
     }
     session.end(rt)
 }
 
-/// `cases FILE`: compares what this program prints for a file alone.
-fn see_file(
-    rt: &HostRuntime,
-    sight: Sight<'_>,
-    file: &str,
-    report: &mut Report,
-) -> Result<(), Mistake> {
-    let mut inner = Report::new(rt.alloc());
+/// `cases FILE`: what this program prints for a file alone, and its status.
+fn found_in(rt: &HostRuntime, file: &str) -> Result<Answer, Mistake> {
+    let mut report = Report::new(rt.alloc());
+    let mut told = String::new(rt.alloc());
     let mut line = 0;
-    let found = match follow(rt, file, &mut line, &mut inner) {
-        Ok(()) => counted(rt.alloc(), inner)?,
+    let status = match follow(rt, file, &mut line, &mut report) {
+        Ok(()) => closed(&mut report)?,
         Err(mistake) => {
-            let told = format!(in rt.alloc(); "{file}:{line}: {}\n", mistake.text())?;
-            Answer {
-                written: inner.text.into_bytes(),
-                told: told.into_bytes(),
-                status: 2,
-            }
+            writeln!(told, "{file}:{line}: {}", mistake.text())?;
+            2
         }
     };
-    let wanted = sight.wanted()?;
-    report.see(sight, "this program", &wanted, &found)
+    Ok(Answer {
+        written: report.text.into_bytes(),
+        told: told.into_bytes(),
+        status,
+    })
 }
 
-/// What is printed where a file was followed to its end.
-fn counted(alloc: Global, report: Report) -> Result<Answer, Mistake> {
-    let mut report = report;
+/// The status where a file was followed to its end.
+fn closed(report: &mut Report) -> Result<u8, Mistake> {
     report.close()?;
-    let status = u8::from(report.differ != 0);
-    let mut answer = Answer::of(alloc, report.text.into_bytes());
-    answer.status = status;
-    Ok(answer)
+    Ok(u8::from(report.differ != 0))
 }

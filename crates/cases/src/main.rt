@@ -20,34 +20,29 @@ use case_files::Report;
 use std::process::ExitCode;
 use std::{env, io};
 
-/// Prints what differs, also on the error output, of which the gate shows the end.
-fn close(rt: &HostRuntime, report: &Report) -> io::Result<ExitCode> {
+/// Prints what differs, also on the error output, of which the gate shows the end; or why a file can't be followed.
+fn close(
+    rt: &HostRuntime,
+    report: &Report,
+    stopped: Result<(), Stopped<'_>>,
+) -> io::Result<ExitCode> {
     print!(rt; "{}", report.text)?;
-    if report.differ == 0 {
-        return Ok(ExitCode::SUCCESS);
-    }
-    eprint!(rt; "{}", report.text)?;
-    Ok(ExitCode::FAILURE)
-}
-
-fn main(rt: HostRuntime) -> io::Result<ExitCode> {
-    let mut report = Report::new(rt.alloc());
-    let mut files = Vec::new(rt.alloc());
-    for file in env::args(&rt)?.skip(1) {
-        files.push(file)?;
-    }
-    match run_files(&rt, &files, &mut report) {
-        Ok(()) => close(&rt, &report),
-        Err(
-            Stopped {
-                file,
-                line,
-                mistake,
-            },
-        ) => {
-            print!(rt; "{}", report.text)?;
-            eprintln!(rt; "{file}:{line}: {}", mistake.text())?;
+    match stopped {
+        Ok(()) if report.differ == 0 => Ok(ExitCode::SUCCESS),
+        Ok(()) => {
+            eprint!(rt; "{}", report.text)?;
+            Ok(ExitCode::FAILURE)
+        }
+        Err(at) => {
+            eprintln!(rt; "{}:{}: {}", at.file, at.line, at.mistake.text())?;
             Ok(ExitCode::from(2))
         }
     }
+}
+
+fn main(rt: HostRuntime) -> io::Result<ExitCode> {
+    let files: Vec<String> = env::args(&rt)?.skip(1).collect(rt.alloc())?;
+    let mut report = Report::new(rt.alloc());
+    let stopped = run_files(&rt, &files, &mut report);
+    close(&rt, &report, stopped)
 }

@@ -1,7 +1,7 @@
 //! Folders on the disk, in the folder that the program runs in.
-use bag_store::{FileTree, Tree};
+use crate::trees::paths_of;
+use bag_store::FileTree;
 use case_files::{Folder, Mistake, Sort, Spot};
-use std::io::Write;
 use std::os::unix::fs::symlink;
 use std::{fs, str};
 
@@ -46,12 +46,5 @@ pub(crate) fn put(rt: &HostRuntime, base: &str, spot: &Spot) -> Result<(), Mista
 /// The paths of the files in a folder, each in a line.
 pub(crate) fn listed(rt: &HostRuntime, name: &str) -> Result<Vec<u8>, Mistake> {
     let mut tree = FileTree::at(rt.clone()?, rt.alloc(), name)?;
-    let Ok(listing) = tree.list() else {
-        return Err(Mistake::System);
-    };
-    let mut text = Vec::<u8>::new(rt.alloc());
-    for entry in listing.files.as_slice() {
-        writeln!(text, "{}", entry.path)?;
-    }
-    Ok(text)
+    paths_of(rt.alloc(), &mut tree)
 }

@@ -1,28 +1,40 @@
 //! What entries put into bags and folders.
 use crate::on_disk;
-use case_files::{Entry, Folder, Mistake, Sort, Spot, Texts, folder_of, words_of};
+use case_files::{Entry, Folder, Line, Mistake, Sort, Spot, Texts, folder_of, words_of};
 use std::alloc::Global;
 
-/// The name of an entry and its bytes, as in `NAME = VALUE`, or of the lines below it.
-fn value_of(alloc: Global, texts: &Texts, entry: Entry<'_>) -> Result<(String, Vec<u8>), Mistake> {
-    let rest = entry.line.rest;
-    let (name, value) = match (rest.split_once(" = "), rest.strip_suffix(" =")) {
-        (Some(halves), _) => halves,
-        (None, Some(name)) => (name, ""),
-        (None, None) => {
-            for line in entry.below {
-                if line.word != "|" {
-                    return Err(Mistake::Unasked);
-                }
-            }
-            let bytes = texts.joined(alloc, entry.below, "|")?;
-            return Ok((texts.text(alloc, rest)?, bytes));
+/// The bytes of an entry: those of its value, where it has one, or else of the lines below it.
+fn bytes_of(
+    alloc: Global,
+    texts: &Texts,
+    value: Option<&str>,
+    below: &[Line<'_>],
+) -> Result<Vec<u8>, Mistake> {
+    for line in below {
+        if line.word != "|" || value.is_some() {
+            return Err(Mistake::Unasked);
         }
-    };
-    if !entry.below.is_empty() {
-        return Err(Mistake::Unasked);
     }
-    Ok((texts.text(alloc, name)?, texts.bytes(alloc, value)?))
+    match value {
+        Some(value) => texts.bytes(alloc, value),
+        None => texts.joined(alloc, below, "|"),
+    }
+}
+
+/// The name in an entry and its value, as in `NAME = VALUE`.
+fn name_and_value(rest: &str) -> (&str, Option<&str>) {
+    match (rest.split_once(" = "), rest.strip_suffix(" =")) {
+        (Some((name, value)), _) => (name, Some(value)),
+        (None, Some(name)) => (name, Some("")),
+        (None, None) => (rest, None),
+    }
+}
+
+/// The name of an entry and its bytes.
+fn value_of(alloc: Global, texts: &Texts, entry: Entry<'_>) -> Result<(String, Vec<u8>), Mistake> {
+    let (name, value) = name_and_value(entry.line.rest);
+    let bytes = bytes_of(alloc, texts, value, entry.below)?;
+    Ok((texts.text(alloc, name)?, bytes))
 }
 
 /// What an entry puts at a path.
@@ -62,16 +74,22 @@ pub(crate) fn begin_folder(
     rest: &str,
 ) -> Result<(), Mistake> {
     let words = words_of(rt.alloc(), rest)?;
-    let Some((name, held)) = words.split_first() else {
-        return Err(Mistake::Command);
-    };
-    let mut folder = Folder::named(rt.alloc(), *name)?;
-    for bag in held {
-        folder.put_all(rt.alloc(), folder_of(bags, *bag)?)?;
-    }
+    let folder = folder_with(rt.alloc(), bags, &words)?;
     on_disk::make(rt, &folder)?;
     folders.push(folder)?;
     Ok(())
+}
+
+/// A folder with the first of these names, which holds what the bags with the others do.
+fn folder_with(alloc: Global, bags: &[Folder], words: &[&str]) -> Result<Folder, Mistake> {
+    let Some((name, held)) = words.split_first() else {
+        return Err(Mistake::Command);
+    };
+    let mut folder = Folder::named(alloc, *name)?;
+    for bag in held {
+        folder.put_all(alloc, folder_of(bags, *bag)?)?;
+    }
+    Ok(folder)
 }
 
 /// Puts something into the last folder.

@@ -18,18 +18,28 @@ pub(crate) fn run(
 ) -> Result<(), Mistake> {
     let text = sight.texts.text(sight.alloc, sight.line.rest)?;
     let command = Command::of(sight.alloc, text.as_str())?;
-    let (name, refusing) = (command.name, command.refusing);
-    if let Some(refusing) = refusing {
-        return turns::see_in_turn(sight, refusing, &command, folders, beside, report);
+    run_command(rt, sight, &command, folders, beside, report)
+}
+
+fn run_command(
+    rt: &HostRuntime,
+    sight: Sight<'_>,
+    command: &Command<'_>,
+    folders: &mut Vec<Folder>,
+    beside: &Folder,
+    report: &mut Report,
+) -> Result<(), Mistake> {
+    if let Some(refusing) = command.refusing {
+        return turns::see_in_turn(sight, refusing, command, folders, beside, report);
     }
     let words = command.words.as_slice();
-    match (name, words) {
+    match (command.name, words) {
         ("bagit", _) => {
-            see_on_disk(rt, sight, &command, folders, report)?;
-            see_on_shelf(sight, &command, folders, beside, report)?;
-            see_in_trees(sight, &command, folders, report)
+            see_on_disk(rt, sight, command, folders, report)?;
+            see_on_shelf(sight, command, folders, beside, report)?;
+            see_in_trees(sight, command, folders, report)
         }
-        ("on-disk", _) => see_on_disk(rt, sight, &command, folders, report),
+        ("on-disk", _) => see_on_disk(rt, sight, command, folders, report),
         ("ls", [name]) => list(rt, sight, *name, folders, report),
         ("cat", [place]) => write_out(rt, sight, *place, folders, report),
         ("stage", _) => stages::see_stage(sight, words, folders, beside, report),
@@ -52,7 +62,7 @@ fn see_on_disk(
     }
     let room = command.room.unwrap_or(usize::MAX);
     let found = answer_to(sight.alloc, rt, &command.words, room);
-    report.see(sight, "on the disk", &sight.wanted()?, &found)
+    report.see(sight, "on the disk", &found)
 }
 
 /// Runs the program over disks in memory.
@@ -70,7 +80,7 @@ fn see_on_shelf(
     };
     let room = command.room.unwrap_or(usize::MAX);
     let found = answer_to(sight.alloc, &shelf, &command.words, room);
-    report.see(sight, "on a disk in memory", &sight.wanted()?, &found)
+    report.see(sight, "on a disk in memory", &found)
 }
 
 /// Does with each folder what the words say, as a tree in memory, where they can be one, and keeps what a making leaves.
@@ -102,7 +112,7 @@ fn see_plan(
     for directory in &plan.directories {
         add_answer(sight.alloc, plan, folders, directory.as_str(), &mut whole)?;
     }
-    report.see(sight, "in a tree in memory", &sight.wanted()?, &whole)
+    report.see(sight, "in a tree in memory", &whole)
 }
 
 /// Does with one folder what a plan says, and adds what is answered.
@@ -138,12 +148,9 @@ fn list(
     folders: &[Folder],
     report: &mut Report,
 ) -> Result<(), Mistake> {
-    let wanted = sight.wanted()?;
     let found = trees::listed(sight.alloc, folder_of(folders, name)?)?;
-    let found = Answer::of(sight.alloc, found);
-    report.see(sight, "in memory", &wanted, &found)?;
-    let found = Answer::of(sight.alloc, on_disk::listed(rt, name)?);
-    report.see(sight, "on the disk", &wanted, &found)
+    report.see_written(sight, "in memory", found)?;
+    report.see_written(sight, "on the disk", on_disk::listed(rt, name)?)
 }
 
 /// `cat FOLDER/PATH`: the bytes of a file.
@@ -157,10 +164,7 @@ fn write_out(
     let Some((name, path)) = place.split_once('/') else {
         return Err(Mistake::Command);
     };
-    let wanted = sight.wanted()?;
-    let bytes = folder_of(folders, name)?.file(path)?;
-    let found = Answer::of(sight.alloc, bytes.to_vec(sight.alloc)?);
-    report.see(sight, "in memory", &wanted, &found)?;
-    let found = Answer::of(sight.alloc, fs::read(rt, place)?);
-    report.see(sight, "on the disk", &wanted, &found)
+    let found = folder_of(folders, name)?.file(path)?.to_vec(sight.alloc)?;
+    report.see_written(sight, "in memory", found)?;
+    report.see_written(sight, "on the disk", fs::read(rt, place)?)
 }

@@ -21,6 +21,17 @@ pub(crate) struct Session {
     reader: Option<Reader>,
 }
 
+/// What an entry wants, as texts spell it.
+fn sight_of<'a>(alloc: Global, file: &'a str, texts: &'a Texts, entry: Entry<'a>) -> Sight<'a> {
+    Sight {
+        alloc,
+        file,
+        texts,
+        line: entry.line,
+        part: entry.below,
+    }
+}
+
 impl Session {
     pub(crate) fn new(alloc: Global) -> Result<Session, Mistake> {
         Ok(Session {
@@ -35,13 +46,7 @@ impl Session {
 
     /// What an entry wants, as the texts so far spell it.
     pub(crate) fn sight<'a>(&'a self, alloc: Global, file: &'a str, entry: Entry<'a>) -> Sight<'a> {
-        Sight {
-            alloc,
-            file,
-            texts: &self.texts,
-            line: entry.line,
-            part: entry.below,
-        }
+        sight_of(alloc, file, &self.texts, entry)
     }
 
     /// Follows an entry.
@@ -55,13 +60,7 @@ impl Session {
         let alloc = rt.alloc();
         match entry.line.word {
             "$" => {
-                let sight = Sight {
-                    alloc,
-                    file,
-                    texts: &self.texts,
-                    line: entry.line,
-                    part: entry.below,
-                };
+                let sight = sight_of(alloc, file, &self.texts, entry);
                 running::run(rt, sight, &mut self.folders, &self.beside, report)
             }
             "text" => put::name_text(alloc, &mut self.texts, entry),
@@ -144,11 +143,17 @@ impl Session {
         let Some((left, right)) = entry.line.rest.split_once("=>") else {
             return Err(Mistake::Row);
         };
+        let found = self.read(alloc, reader, left.trim_matches(' '))?;
         let wanted = self.texts.bytes(alloc, right.trim_matches(' '))?;
-        let left = self.texts.bytes(alloc, left.trim_matches(' '))?;
-        let mut read = Vec::new(alloc);
-        reader.read(alloc, &left, &mut read)?;
-        let (wanted, found) = (Answer::of(alloc, wanted), Answer::of(alloc, read));
-        report.see(self.sight(alloc, file, entry), "read", &wanted, &found)
+        let wanted = Answer::of(alloc, wanted);
+        report.compare(self.sight(alloc, file, entry), "read", &wanted, &found)
+    }
+
+    /// What a reader reads of what a text spells.
+    fn read(&self, alloc: Global, reader: Reader, text: &str) -> Result<Answer, Mistake> {
+        let bytes = self.texts.bytes(alloc, text)?;
+        let mut found = Answer::of(alloc, Vec::new(alloc));
+        reader.read(alloc, &bytes, &mut found.written)?;
+        Ok(found)
     }
 }

@@ -77,17 +77,28 @@ fn opened_in(folder: &Folder) -> Option<&Spot> {
     None
 }
 
-/// The disk, of which a file holds something else when it is opened, where there is one.
-fn swapped(alloc: Global, disk: MemoryDisk, opened: Option<&Spot>) -> Result<MemoryDisk, AllocError>
+/// The disk, of which the file at a path holds something else when it is opened.
+fn swapped(disk: MemoryDisk, path: Text, bytes: Vec<u8>) -> MemoryDisk
     requires { IsUnopened (state_of disk) }
-    ensures { IfOk result (λ disk. IsUnopened (state_of disk)) }
+    ensures { IsUnopened (state_of result) }
 {
     let mut disk = disk;
-    if let Some(spot) = opened {
-        let path = Text::from_str(alloc, spot.path.as_str())?;
-        disk.swap(path, spot.bytes.as_slice().to_vec(alloc)?);
+    disk.swap(path, bytes);
+    disk
+}
+
+/// The disk of a folder, of which a file may hold something else when it is opened.
+fn disk_of(alloc: Global, folder: &Folder) -> Result<MemoryDisk, AllocError>
+    ensures { IfOk result (λ disk. IsUnopened (state_of disk)) }
+{
+    match opened_in(folder) {
+        Some(spot) => {
+            let path = Text::from_str(alloc, spot.path.as_str())?;
+            let bytes = spot.bytes.as_slice().to_vec(alloc)?;
+            Ok(swapped(holding(alloc, folder)?, path, bytes))
+        }
+        None => holding(alloc, folder),
     }
-    Ok(disk)
 }
 
 impl<'a> Disks for Shelf<'a> {
@@ -99,7 +110,7 @@ impl<'a> Disks for Shelf<'a> {
 
     fn disk(&self, alloc: Global, base: &str) -> Result<ShelfDisk, AllocError> {
         let disk = match folder_of(self.folders, base) {
-            Ok(folder) => swapped(alloc, holding(alloc, folder)?, opened_in(folder))?,
+            Ok(folder) => disk_of(alloc, folder)?,
             Err(_) => no_disk(alloc)?,
         };
         let (call, fault) = match self.refused {

@@ -2,7 +2,7 @@
 use crate::trees::tree_of;
 use bag_facts::{Depth, Facts, Options};
 use bag_profile::Profile;
-use bag_report::stage_faults;
+use bag_report::{Fault, stage_faults};
 use case_files::{Answer, Folder, Mistake, Report, Sight, folder_of};
 use std::alloc::Global;
 
@@ -22,32 +22,34 @@ fn options_of(word: &str) -> Result<Options, Mistake> {
     Ok(Options { depth, clashes })
 }
 
-/// The profile in a file beside the folders.
-fn profile_of(alloc: Global, beside: &Folder, file: &str) -> Result<Profile, Mistake> {
-    match Profile::read(alloc, beside.file(file)?) {
-        Ok(profile) => Ok(profile),
-        Err(_) => Err(Mistake::Name),
+/// What the tag files of a folder say.
+fn facts_of(alloc: Global, folder: &Folder, options: Options) -> Result<Facts, Mistake> {
+    let mut tree = tree_of(alloc, folder)?;
+    match Facts::read(alloc, &mut tree, options) {
+        Ok(facts) => Ok(facts),
+        Err(_) => Err(Mistake::Memory),
     }
+}
+
+/// The lines of faults.
+fn lines_of_faults(alloc: Global, faults: &[Fault]) -> Result<Answer, Mistake> {
+    let mut text = String::new(alloc);
+    for fault in faults {
+        fault.append_line(&mut text)?;
+        text.push('\n')?;
+    }
+    Ok(Answer::of(alloc, text.into_bytes()))
 }
 
 /// The lines of the faults of a stage, beside a profile where there is one.
 fn stage_answer(
     alloc: Global,
-    folder: &Folder,
+    facts: &Facts,
     profile: Option<&Profile>,
     stage: u8,
-    options: Options,
 ) -> Result<Answer, Mistake> {
-    let mut tree = tree_of(alloc, folder)?;
-    let Ok(facts) = Facts::read(alloc, &mut tree, options) else {
-        return Err(Mistake::Memory);
-    };
-    let mut text = String::new(alloc);
-    for fault in &stage_faults(alloc, &facts, profile, stage)? {
-        fault.append_line(&mut text)?;
-        text.push('\n')?;
-    }
-    Ok(Answer::of(alloc, text.into_bytes()))
+    let faults = stage_faults(alloc, facts, profile, stage)?;
+    lines_of_faults(alloc, &faults)
 }
 
 /// Compares the faults of a stage at each depth.
@@ -61,13 +63,26 @@ fn see_depths(
     let Ok(stage) = number.parse::<u8>() else {
         return Err(Mistake::Number);
     };
-    let wanted = sight.wanted()?;
     for depth in depths.split(',') {
-        let options = options_of(depth)?;
-        let found = stage_answer(sight.alloc, folder, profile, stage, options)?;
-        report.see(sight, depth, &wanted, &found)?;
+        let facts = facts_of(sight.alloc, folder, options_of(depth)?)?;
+        let found = stage_answer(sight.alloc, &facts, profile, stage)?;
+        report.see(sight, depth, &found)?;
     }
     Ok(())
+}
+
+/// The same, beside the profile in a file.
+fn see_with_profile(
+    sight: Sight<'_>,
+    folder: &Folder,
+    profile: &[u8],
+    asked: (&str, &str),
+    report: &mut Report,
+) -> Result<(), Mistake> {
+    match Profile::read(sight.alloc, profile) {
+        Ok(profile) => see_depths(sight, folder, Some(&profile), asked, report),
+        Err(_) => Err(Mistake::Name),
+    }
 }
 
 /// `stage NUMBER DEPTH,.. FOLDER [PROFILE]`: the lines of the faults of one stage, the same at each depth.
@@ -85,8 +100,8 @@ pub(crate) fn see_stage(
         }
         [number, depths, name, file] => {
             let folder = folder_of(folders, *name)?;
-            let profile = profile_of(sight.alloc, beside, *file)?;
-            see_depths(sight, folder, Some(&profile), (*number, *depths), report)
+            let profile = beside.file(*file)?;
+            see_with_profile(sight, folder, profile, (*number, *depths), report)
         }
         _ => Err(Mistake::Command),
     }

@@ -5,7 +5,7 @@ ghost use Rattle.cases.specs.Checked.{IsChecked};
 
 use bag_cli::{Action, Plan};
 use bag_making::make_and_tell;
-use bag_store::{FailTree, MemoryTree, Tree, WriterOut, read_whole};
+use bag_store::{FailTree, FileEntry, Listing, MemoryTree, Tree, WriterOut, read_whole};
 use bag_text::{Text, check_path};
 use bag_walk::{Request, run, status};
 use case_files::{Answer, Folder, Mistake, Sort, Spot, folder_of};
@@ -68,36 +68,51 @@ fn put(tree: &mut MemoryTree, spot: &Spot) -> Result<(), Mistake> {
 /// What a tree holds, under a name: the payload folder, and the files in the order of their paths.
 fn held_by<T: Tree>(alloc: Global, tree: &mut T, name: &str) -> Result<Folder, Mistake> {
     let mut folder = Folder::named(alloc, name)?;
-    let Ok(listing) = tree.list() else {
-        return Err(Mistake::Memory);
-    };
+    put_held(alloc, tree, &mut folder)?;
+    Ok(folder)
+}
+
+fn put_held<T: Tree>(alloc: Global, tree: &mut T, folder: &mut Folder) -> Result<(), Mistake> {
+    match tree.list() {
+        Ok(listing) => put_listed(alloc, tree, &listing, folder),
+        Err(_) => Err(Mistake::Memory),
+    }
+}
+
+fn put_listed<T: Tree>(
+    alloc: Global,
+    tree: &mut T,
+    listing: &Listing,
+    folder: &mut Folder,
+) -> Result<(), Mistake> {
     if listing.has_data {
-        folder.put(Spot {
-            path: String::from_str(alloc, "data")?,
-            sort: Sort::Folder,
-            bytes: Vec::new(alloc),
-        })?;
+        folder.put(Spot::of(alloc, "data", Sort::Folder, Vec::new(alloc))?)?;
     }
     for entry in listing.files.as_slice() {
-        let Ok(bytes) = read_whole(alloc, tree, entry) else {
-            return Err(Mistake::Memory);
-        };
-        folder.put(Spot {
-            path: String::from_str(alloc, entry.path.as_str())?,
-            sort: Sort::File,
-            bytes,
-        })?;
+        match read_whole(alloc, tree, entry) {
+            Ok(bytes) => folder.put(Spot::of(alloc, entry.path.as_str(), Sort::File, bytes)?)?,
+            Err(_) => return Err(Mistake::Memory),
+        }
     }
-    Ok(folder)
+    Ok(())
 }
 
 /// The paths of the files of a folder, each in a line, in their order.
 pub(crate) fn listed(alloc: Global, folder: &Folder) -> Result<Vec<u8>, Mistake> {
-    let Ok(listing) = tree_of(alloc, folder)?.list() else {
-        return Err(Mistake::Memory);
-    };
+    paths_of(alloc, &mut tree_of(alloc, folder)?)
+}
+
+/// The paths of the files of a tree, each in a line.
+pub(crate) fn paths_of<T: Tree>(alloc: Global, tree: &mut T) -> Result<Vec<u8>, Mistake> {
+    match tree.list() {
+        Ok(listing) => lines_of_paths(alloc, listing.files.as_slice()),
+        Err(_) => Err(Mistake::System),
+    }
+}
+
+fn lines_of_paths(alloc: Global, files: &[FileEntry]) -> Result<Vec<u8>, Mistake> {
     let mut text = Vec::<u8>::new(alloc);
-    for entry in listing.files.as_slice() {
+    for entry in files {
         writeln!(text, "{}", entry.path)?;
     }
     Ok(text)
@@ -137,20 +152,30 @@ fn checked<T: Tree + Drop>(alloc: Global, tree: T, request: Request) -> (T, Vec<
     (tree, out.into_inner(), status(&outcome))
 }
 
-/// The tree after a making, what the making wrote, and its exit status.
+/// What a tree holds after a check or a making, which wrote this and ended with this status.
+fn left_in(
+    alloc: Global,
+    (tree, written, status): (FailTree<MemoryTree>, Vec<u8>, u8),
+    name: &str,
+) -> Result<(Answer, Folder), Mistake> {
+    let mut answer = Answer::of(alloc, written);
+    answer.status = status;
+    let folder = held_by(alloc, &mut tree.into_inner(), name)?;
+    Ok((answer, folder))
+}
+
+/// Makes a folder a bag, as a plan says.
 fn made(
     alloc: Global,
     tree: FailTree<MemoryTree>,
     name: &str,
     plan: &Plan,
-) -> Result<(FailTree<MemoryTree>, Vec<u8>, u8), Mistake> {
-    let elements = elements_of(alloc, plan)?;
+    elements: &[(Text, Text)],
+) -> Result<(Answer, Folder), Mistake> {
     let mut out = WriterOut::new(Vec::<u8>::new(alloc));
-    let (tree, told) = make_and_tell(
-        alloc, tree, name, plan.algs, &elements, plan.quiet, &mut out,
-    );
+    let (tree, told) = make_and_tell(alloc, tree, name, plan.algs, elements, plan.quiet, &mut out);
     match told {
-        Ok(status) => Ok((tree, out.into_inner(), status)),
+        Ok(status) => left_in(alloc, (tree, out.into_inner(), status), name),
         Err(_) => Err(Mistake::Memory),
     }
 }
@@ -164,14 +189,21 @@ pub(crate) fn answer_over_tree(
     call: u64,
 ) -> Result<(Answer, Folder), Mistake> {
     let name = folder.name.as_str();
-    let tree = FailTree::new(tree_of(alloc, folder)?, call);
-    let (tree, written, status) = match &plan.action {
-        Action::Make => made(alloc, tree, name, plan)?,
-        Action::Check => checked(alloc, tree, request_of(alloc, plan, name)?),
-        Action::Sample | Action::Help(_) => return Err(Mistake::Command),
-    };
-    let mut tree = tree.into_inner();
-    let mut answer = Answer::of(alloc, written);
-    answer.status = status;
-    Ok((answer, held_by(alloc, &mut tree, name)?))
+    match &plan.action {
+        Action::Make => {
+            let elements = elements_of(alloc, plan)?;
+            made(alloc, failing(alloc, folder, call)?, name, plan, &elements)
+        }
+        Action::Check => {
+            let request = request_of(alloc, plan, name)?;
+            let checked = checked(alloc, failing(alloc, folder, call)?, request);
+            left_in(alloc, checked, name)
+        }
+        Action::Sample | Action::Help(_) => Err(Mistake::Command),
+    }
+}
+
+/// The tree that holds what a folder does, of which the call of a number is refused.
+fn failing(alloc: Global, folder: &Folder, call: u64) -> Result<FailTree<MemoryTree>, Mistake> {
+    Ok(FailTree::new(tree_of(alloc, folder)?, call))
 }

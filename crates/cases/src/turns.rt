@@ -102,19 +102,25 @@ pub(crate) fn see_in_turn(
     beside: &Folder,
     report: &mut Report,
 ) -> Result<(), Mistake> {
-    let Ok(plan) = plan_of(sight.alloc, &command.words) else {
-        return Err(Mistake::Command);
-    };
-    let turns = Turns {
-        alloc: sight.alloc,
-        refusing,
-        words: &command.words,
-        plan: &plan,
-        folders,
-        beside,
-    };
+    match plan_of(sight.alloc, &command.words) {
+        Ok(plan) => {
+            let turns = Turns {
+                alloc: sight.alloc,
+                refusing,
+                words: &command.words,
+                plan: &plan,
+                folders,
+                beside,
+            };
+            see_parts(sight, &turns, report)
+        }
+        Err(_) => Err(Mistake::Command),
+    }
+}
+
+fn see_parts(sight: Sight<'_>, turns: &Turns<'_>, report: &mut Report) -> Result<(), Mistake> {
     let parts = parts_of(sight.alloc, sight.part)?;
-    see_turns(sight, &turns, &parts, report)
+    see_turns(sight, turns, &parts, report)
 }
 
 fn see_turns(
@@ -165,5 +171,5 @@ fn see_place(
         part: *part,
         ..sight
     };
-    report.see(sight, side.as_str(), wanted, found)
+    report.compare(sight, side.as_str(), wanted, found)
 }

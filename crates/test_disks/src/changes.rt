@@ -8,9 +8,9 @@ use bag_disk::{DiskFault, SystemDisk, WritableDisk};
 use bag_file_tree::FileTree;
 use bag_memory_disk::{Call, RefusingDisk};
 use bag_text::check_path;
-use std::alloc::{AllocError, Global};
+use std::alloc::Global;
 use std::fs;
-use std::test::Fail;
+use std::process::Abort;
 
 /// A change of a disk.
 #[derive(Clone, Copy)]
@@ -156,29 +156,32 @@ const CHANGES: &[(Option<u64>, Change, Result<(), DiskFault>, &str)] = &[
 
 /// What a change of the disk of these places answers, of which a call is refused, and the listing after it.
 fn after(
+    stop: &impl Abort,
     alloc: Global,
     refused: Option<u64>,
     change: Change,
-) -> Result<(Result<(), DiskFault>, String), Fail> {
+) -> (Result<(), DiskFault>, String) {
     let call = match refused {
         Some(number) => Call::Numbered(number),
         None => Call::Past,
     };
-    let mut disk = RefusingDisk::over(disk(alloc, PLACES)?, call, DiskFault::Device);
+    let mut disk = RefusingDisk::over(disk(stop, alloc, PLACES), call, DiskFault::Device);
     let answer = make(&mut disk, change);
-    Ok((answer, listed(alloc, &mut FileTree::over(alloc, disk))?))
+    (
+        answer,
+        listed(stop, alloc, &mut FileTree::over(alloc, disk)),
+    )
 }
 
 #[test]
-fn changes_what_stands_there(rt: HostRuntime) -> Result<(), Fail> {
+fn changes_what_stands_there(rt: HostRuntime) {
     for &(refused, change, wanted, held) in CHANGES {
-        let (answer, found) = after(rt.alloc(), refused, change)?;
+        let (answer, found) = after(&rt, rt.alloc(), refused, change);
         assert!(rt;
             answer == wanted && found.as_str() == held,
             "{answer:?} {found}"
         );
     }
-    Ok(())
 }
 
 /// Changes in turn, each with what it answers.
@@ -203,37 +206,42 @@ fn are_answered<D: WritableDisk>(disk: &mut D) -> bool {
 }
 
 /// Whether the changes are answered so on the disk below a folder, and the file stands there then.
-fn changes_below(rt: &HostRuntime, base: &str) -> Result<bool, Fail> {
-    let mut disk = SystemDisk::new(rt.clone()?, rt.alloc(), base)?;
+fn changes_below(stop: &impl Abort, rt: &HostRuntime, base: &str) -> bool {
+    let mut disk = SystemDisk::new(rt.clone().expect(stop, "succeeds"), rt.alloc(), base).expect(
+        stop, "succeeds",
+    );
     let are_answered = are_answered(&mut disk);
     let mut tree = FileTree::over(rt.alloc(), disk);
-    Ok(are_answered && ends(rt.alloc(), &mut tree, ("data/b", 3), Ok("abc"))?)
+    are_answered && ends(stop, rt.alloc(), &mut tree, ("data/b", 3), Ok("abc"))
 }
 
 #[test]
-fn changes_a_real_folder(rt: HostRuntime) -> Result<(), Fail> {
-    let base = fresh_folder(&rt, "changes")?;
-    assert!(rt; changes_below(&rt, base.as_str())?);
-    fs::remove_dir_all(&rt, base.as_str())?;
-    Ok(())
+fn changes_a_real_folder(rt: HostRuntime) {
+    let base = fresh_folder(&rt, &rt, "changes");
+    assert!(rt; changes_below(&rt, &rt, base.as_str()));
+    fs::remove_dir_all(&rt, base.as_str()).expect(&rt, "succeeds");
 }
 
 /// Whether a file is made of a long text and another behind it, and read again whole.
-fn is_read_again<D: WritableDisk + Drop>(alloc: Global, disk: D) -> Result<bool, AllocError> {
+fn is_read_again<D: WritableDisk + Drop>(stop: &impl Abort, alloc: Global, disk: D) -> bool {
     let mut disk = disk;
-    let text = "0123456789".repeat(alloc, 7_000)?;
+    let text = "0123456789".repeat(alloc, 7_000).expect(stop, "succeeds");
     let is_made = make_file(&mut disk, "long", text.as_str(), "abc").is_ok();
-    let whole = format!(in alloc; "{text}abc")?;
+    let whole = format!(in alloc; "{text}abc").expect(stop, "succeeds");
     let listed = ("long", whole.len() as u64);
     let mut tree = FileTree::over(alloc, disk);
-    Ok(is_made && ends(alloc, &mut tree, listed, Ok(whole.as_str()))?)
+    is_made && ends(stop, alloc, &mut tree, listed, Ok(whole.as_str()))
 }
 
 #[test]
-fn a_long_file_is_read_again_whole(rt: HostRuntime) -> Result<(), Fail> {
-    let base = fresh_folder(&rt, "long-file")?;
-    let disk = SystemDisk::new(rt.clone()?, rt.alloc(), base.as_str())?;
-    assert!(rt; is_read_again(rt.alloc(), disk)?);
-    fs::remove_dir_all(&rt, base.as_str())?;
-    Ok(())
+fn a_long_file_is_read_again_whole(rt: HostRuntime) {
+    let base = fresh_folder(&rt, &rt, "long-file");
+    let disk = SystemDisk::new(
+        rt.clone().expect(&rt, "succeeds"),
+        rt.alloc(),
+        base.as_str(),
+    )
+    .expect(&rt, "succeeds");
+    assert!(rt; is_read_again(&rt, rt.alloc(), disk));
+    fs::remove_dir_all(&rt, base.as_str()).expect(&rt, "succeeds");
 }

@@ -3,100 +3,101 @@ use crate::held::{ends, listed};
 use bag_disk::SystemDisk;
 use bag_file_tree::FileTree;
 use bag_tree::TreeFault;
-use std::alloc::AllocError;
 use std::os::unix::fs::symlink;
-use std::test::Fail;
+use std::process::Abort;
 use std::{env, fs, io, process};
 
 /// Where something of a test's own stands.
-pub(crate) fn path_of(rt: &HostRuntime, test: &str) -> io::Result<String> {
-    let folder = env::temp_dir(rt)?;
+pub(crate) fn path_of(stop: &impl Abort, rt: &HostRuntime, test: &str) -> String {
+    let folder = env::temp_dir(rt).expect(stop, "succeeds");
     let id = process::id(rt.process());
-    Ok(format!(in rt.alloc(); "{}/bagit-{test}-{id}", folder.as_path().display())?)
+    format!(in rt.alloc(); "{}/bagit-{test}-{id}", folder.as_path().display()).expect(
+        stop, "succeeds",
+    )
 }
 
 /// A fresh folder for one test.
-pub(crate) fn fresh_folder(rt: &HostRuntime, test: &str) -> io::Result<String> {
-    let path = path_of(rt, test)?;
+pub(crate) fn fresh_folder(stop: &impl Abort, rt: &HostRuntime, test: &str) -> String {
+    let path = path_of(stop, rt, test);
     let _ = fs::remove_dir_all(rt, path.as_str());
-    fs::create_dir(rt, path.as_str())?;
-    Ok(path)
+    fs::create_dir(rt, path.as_str()).expect(stop, "succeeds");
+    path
 }
 
 /// Where a path below a folder stands.
-fn place(rt: &HostRuntime, base: &str, path: &str) -> Result<String, AllocError> {
-    format!(in rt.alloc(); "{base}/{path}")
+fn place(stop: &impl Abort, rt: &HostRuntime, base: &str, path: &str) -> String {
+    format!(in rt.alloc(); "{base}/{path}").expect(stop, "succeeds")
 }
 
-fn make_folders(rt: &HostRuntime, base: &str, paths: &[&str]) -> io::Result<()> {
+fn make_folders(stop: &impl Abort, rt: &HostRuntime, base: &str, paths: &[&str]) {
     for path in paths {
-        fs::create_dir(rt, place(rt, base, *path)?)?;
+        fs::create_dir(rt, place(stop, rt, base, *path)).expect(stop, "succeeds");
     }
-    Ok(())
 }
 
 /// Makes files whose texts are their paths.
-fn make_files(rt: &HostRuntime, base: &str, paths: &[&str]) -> io::Result<()> {
+fn make_files(stop: &impl Abort, rt: &HostRuntime, base: &str, paths: &[&str]) {
     for path in paths {
-        fs::write(rt, place(rt, base, *path)?, *path)?;
+        fs::write(rt, place(stop, rt, base, *path), *path).expect(stop, "succeeds");
     }
-    Ok(())
 }
 
 /// The tree of a folder.
-fn tree_of(
-    rt: &HostRuntime,
-    folder: &str,
-) -> Result<FileTree<SystemDisk<HostRuntime>>, AllocError> {
-    FileTree::at(rt.clone()?, rt.alloc(), folder)
+fn tree_of(stop: &impl Abort, rt: &HostRuntime, folder: &str) -> FileTree<SystemDisk<HostRuntime>> {
+    let system = rt.clone().expect(stop, "succeeds");
+    FileTree::at(system, rt.alloc(), folder).expect(stop, "succeeds")
 }
 
 /// The listing of a folder's tree as a text, or the word of its refusal.
-fn listed_at(rt: &HostRuntime, folder: &str) -> Result<String, AllocError> {
-    listed(rt.alloc(), &mut tree_of(rt, folder)?)
+fn listed_at(stop: &impl Abort, rt: &HostRuntime, folder: &str) -> String {
+    listed(stop, rt.alloc(), &mut tree_of(stop, rt, folder))
 }
 
 /// Whether reading a file of a folder's tree ends so, where it is listed with this size.
 fn is_read(
+    stop: &impl Abort,
     rt: &HostRuntime,
     folder: &str,
     listed: (&str, u64),
     wanted: Result<&str, TreeFault>,
-) -> Result<bool, AllocError> {
-    ends(rt.alloc(), &mut tree_of(rt, folder)?, listed, wanted)
-}
-
-/// Makes the folders and files of a test.
-fn make_all(rt: &HostRuntime, base: &str) -> io::Result<()> {
-    let folders = [".a", "a", "data", "data/sub", "empty", "empty/empty"];
-    make_folders(rt, base, folders.as_slice())?;
-    let files = ["é", "a/b", "a.b", "a-b", "data/sub/x", ".b", ".a/.c"];
-    make_files(rt, base, files.as_slice())
-}
-
-/// Whether they are listed, and one of them is read.
-fn are_listed(rt: &HostRuntime, base: &str) -> io::Result<bool> {
-    make_all(rt, base)?;
-    let wanted = "true, .a/.c 5, .b 2, a-b 3, a.b 3, a/b 3, data/sub/x 10, é 2";
-    Ok(
-        listed_at(rt, base)?.as_str() == wanted
-            && is_read(rt, base, ("data/sub/x", 10), Ok("data/sub/x"))?,
+) -> bool {
+    ends(
+        stop,
+        rt.alloc(),
+        &mut tree_of(stop, rt, folder),
+        listed,
+        wanted,
     )
 }
 
+/// Makes the folders and files of a test.
+fn make_all(stop: &impl Abort, rt: &HostRuntime, base: &str) {
+    let folders = [".a", "a", "data", "data/sub", "empty", "empty/empty"];
+    make_folders(stop, rt, base, folders.as_slice());
+    let files = ["é", "a/b", "a.b", "a-b", "data/sub/x", ".b", ".a/.c"];
+    make_files(stop, rt, base, files.as_slice())
+}
+
+/// Whether they are listed, and one of them is read.
+fn are_listed(stop: &impl Abort, rt: &HostRuntime, base: &str) -> bool {
+    make_all(stop, rt, base);
+    let wanted = "true, .a/.c 5, .b 2, a-b 3, a.b 3, a/b 3, data/sub/x 10, é 2";
+    listed_at(stop, rt, base).as_str() == wanted
+        && is_read(stop, rt, base, ("data/sub/x", 10), Ok("data/sub/x"))
+}
+
 #[test]
-fn lists_files_by_the_bytes_of_their_paths(rt: HostRuntime) -> Result<(), Fail> {
-    let base = fresh_folder(&rt, "lists")?;
-    assert!(rt; are_listed(&rt, base.as_str())?);
-    fs::remove_dir_all(&rt, base.as_str())?;
-    Ok(())
+fn lists_files_by_the_bytes_of_their_paths(rt: HostRuntime) {
+    let base = fresh_folder(&rt, &rt, "lists");
+    assert!(rt; are_listed(&rt, &rt, base.as_str()));
+    fs::remove_dir_all(&rt, base.as_str()).expect(&rt, "succeeds");
 }
 
 /// Makes a folder with a file named `data`, and a link to it.
-fn make_link(rt: &HostRuntime, base: &str) -> io::Result<()> {
-    make_folders(rt, base, &["bag"])?;
-    make_files(rt, base, &["bag/data"])?;
-    symlink(rt, "bag", place(rt, base, "link")?)
+fn make_link(stop: &impl Abort, rt: &HostRuntime, base: &str) {
+    make_folders(stop, rt, base, &["bag"]);
+    make_files(stop, rt, base, &["bag/data"]);
+    symlink(rt, "bag", place(stop, rt, base, "link")).expect(stop, "succeeds");
 }
 
 /// Paths of folders, each with its listing or refusal.
@@ -117,115 +118,108 @@ const UNREAD: &[(&str, TreeFault)] = &[
 ];
 
 /// Whether each row is refused so.
-fn are_refused(rt: &HostRuntime, base: &str) -> io::Result<bool> {
-    make_link(rt, base)?;
+fn are_refused(stop: &impl Abort, rt: &HostRuntime, base: &str) -> bool {
+    make_link(stop, rt, base);
     for &(path, wanted) in LISTED {
-        if listed_at(rt, place(rt, base, path)?.as_str())?.as_str() != wanted {
-            return Ok(false);
+        if listed_at(stop, rt, place(stop, rt, base, path).as_str()).as_str() != wanted {
+            return false;
         }
     }
     for &(path, fault) in UNREAD {
-        if !is_read(rt, base, (path, 8), Err(fault))? {
-            return Ok(false);
+        if !is_read(stop, rt, base, (path, 8), Err(fault)) {
+            return false;
         }
     }
-    Ok(true)
+    true
 }
 
 /// Nothing is listed below an empty base, either.
 #[test]
-fn refuses_what_is_no_file_below_it(rt: HostRuntime) -> Result<(), Fail> {
-    let base = fresh_folder(&rt, "refuses")?;
-    assert!(rt; are_refused(&rt, base.as_str())?);
-    assert!(rt; listed_at(&rt, "")?.as_str() == "device");
-    fs::remove_dir_all(&rt, base.as_str())?;
-    Ok(())
+fn refuses_what_is_no_file_below_it(rt: HostRuntime) {
+    let base = fresh_folder(&rt, &rt, "refuses");
+    assert!(rt; are_refused(&rt, &rt, base.as_str()));
+    assert!(rt; listed_at(&rt, &rt, "").as_str() == "device");
+    fs::remove_dir_all(&rt, base.as_str()).expect(&rt, "succeeds");
 }
 
 /// How deep the deepest folder of a test is.
 const DEPTH: usize = 1500;
 
 /// A folder that stands so deep below another.
-fn deep(rt: &HostRuntime, base: &str, depth: usize) -> Result<String, AllocError> {
-    let mut path = String::from_str(rt.alloc(), base)?;
+fn deep(stop: &impl Abort, rt: &HostRuntime, base: &str, depth: usize) -> String {
+    let mut path = String::from_str(rt.alloc(), base).expect(stop, "succeeds");
     for _ in 0..depth {
-        path.push_str("/d")?;
+        path.push_str("/d").expect(stop, "succeeds");
     }
-    Ok(path)
+    path
 }
 
 /// Where something in the deepest folder below another stands.
-fn deep_place(rt: &HostRuntime, base: &str, name: &str) -> Result<String, AllocError> {
-    place(rt, deep(rt, base, DEPTH)?.as_str(), name)
+fn deep_place(stop: &impl Abort, rt: &HostRuntime, base: &str, name: &str) -> String {
+    place(stop, rt, deep(stop, rt, base, DEPTH).as_str(), name)
 }
 
-fn make_deep(rt: &HostRuntime, base: &str) -> io::Result<()> {
+fn make_deep(stop: &impl Abort, rt: &HostRuntime, base: &str) {
     let _ = fs::remove_dir_all(rt, base);
     for depth in 0..=DEPTH {
-        fs::create_dir(rt, deep(rt, base, depth)?)?;
+        fs::create_dir(rt, deep(stop, rt, base, depth)).expect(stop, "succeeds");
     }
-    Ok(())
 }
 
-fn remove_deep(rt: &HostRuntime, base: &str) -> io::Result<()> {
+fn remove_deep(stop: &impl Abort, rt: &HostRuntime, base: &str) {
     for depth in (0..=DEPTH).rev() {
-        fs::remove_dir(rt, deep(rt, base, depth)?)?;
+        fs::remove_dir(rt, deep(stop, rt, base, depth)).expect(stop, "succeeds");
     }
-    Ok(())
 }
 
 /// The listing of a folder while an empty file stands in the deepest below it.
-fn listed_with_file(rt: &HostRuntime, bag: &str) -> io::Result<String> {
-    let file = deep_place(rt, bag, "x")?;
-    fs::write(rt, file.as_str(), "")?;
-    let found = listed_at(rt, bag)?;
-    fs::remove_file(rt, file.as_str())?;
-    Ok(found)
+fn listed_with_file(stop: &impl Abort, rt: &HostRuntime, bag: &str) -> String {
+    let file = deep_place(stop, rt, bag, "x");
+    fs::write(rt, file.as_str(), "").expect(stop, "succeeds");
+    let found = listed_at(stop, rt, bag);
+    fs::remove_file(rt, file.as_str()).expect(stop, "succeeds");
+    found
 }
 
 #[test]
-fn lists_deep_folders(rt: HostRuntime) -> Result<(), Fail> {
-    let bag = path_of(&rt, "deep")?;
-    make_deep(&rt, bag.as_str())?;
-    let len = listed_with_file(&rt, bag.as_str())?.len();
+fn lists_deep_folders(rt: HostRuntime) {
+    let bag = path_of(&rt, &rt, "deep");
+    make_deep(&rt, &rt, bag.as_str());
+    let len = listed_with_file(&rt, &rt, bag.as_str()).len();
     assert!(rt; len == 2 * DEPTH + 10, "{len}");
-    remove_deep(&rt, bag.as_str())?;
-    Ok(())
+    remove_deep(&rt, &rt, bag.as_str());
 }
 
 /// Whether a folder isn't listed whose deepest folder is below this place, and a file isn't read there.
-fn is_too_long(rt: &HostRuntime, base: &str, joint: &str) -> Result<bool, AllocError> {
-    let file = deep_place(rt, joint, "x")?;
+fn is_too_long(stop: &impl Abort, rt: &HostRuntime, base: &str, joint: &str) -> bool {
+    let file = deep_place(stop, rt, joint, "x");
     let path = file.get(base.len() + 1..).unwrap_or("");
-    Ok(
-        listed_at(rt, base)?.as_str() == "device"
-            && is_read(rt, base, (path, 1), Err(TreeFault::Device))?,
-    )
+    listed_at(stop, rt, base).as_str() == "device"
+        && is_read(stop, rt, base, (path, 1), Err(TreeFault::Device))
 }
 
 /// The same of two deep folders, while the second is below the first.
-fn is_too_long_joined(rt: &HostRuntime, bag: &str, tail: &str) -> io::Result<bool> {
-    let joint = deep_place(rt, bag, "tail")?;
-    fs::rename(rt, tail, joint.as_str())?;
-    let is_too_long = is_too_long(rt, bag, joint.as_str())?;
-    fs::rename(rt, joint.as_str(), tail)?;
-    Ok(is_too_long)
+fn is_too_long_joined(stop: &impl Abort, rt: &HostRuntime, bag: &str, tail: &str) -> bool {
+    let joint = deep_place(stop, rt, bag, "tail");
+    fs::rename(rt, tail, joint.as_str()).expect(stop, "succeeds");
+    let is_too_long = is_too_long(stop, rt, bag, joint.as_str());
+    fs::rename(rt, joint.as_str(), tail).expect(stop, "succeeds");
+    is_too_long
 }
 
 /// The same of folders that are made for it.
-fn are_too_long(rt: &HostRuntime, bag: &str, tail: &str) -> io::Result<bool> {
-    make_deep(rt, bag)?;
-    make_deep(rt, tail)?;
-    let are_too_long = is_too_long_joined(rt, bag, tail)?;
-    remove_deep(rt, tail)?;
-    remove_deep(rt, bag)?;
-    Ok(are_too_long)
+fn are_too_long(stop: &impl Abort, rt: &HostRuntime, bag: &str, tail: &str) -> bool {
+    make_deep(stop, rt, bag);
+    make_deep(stop, rt, tail);
+    let are_too_long = is_too_long_joined(stop, rt, bag, tail);
+    remove_deep(stop, rt, tail);
+    remove_deep(stop, rt, bag);
+    are_too_long
 }
 
 #[test]
-fn refuses_paths_that_the_system_finds_too_long(rt: HostRuntime) -> Result<(), Fail> {
-    let bag = path_of(&rt, "long")?;
-    let tail = path_of(&rt, "tail")?;
-    assert!(rt; are_too_long(&rt, bag.as_str(), tail.as_str())?);
-    Ok(())
+fn refuses_paths_that_the_system_finds_too_long(rt: HostRuntime) {
+    let bag = path_of(&rt, &rt, "long");
+    let tail = path_of(&rt, &rt, "tail");
+    assert!(rt; are_too_long(&rt, &rt, bag.as_str(), tail.as_str()));
 }

@@ -7,6 +7,8 @@ mod same_disks;
 pub use same_disks::checked;
 
 #[cfg(test)]
+mod as_found;
+#[cfg(test)]
 mod changes;
 #[cfg(test)]
 mod folders;

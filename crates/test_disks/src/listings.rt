@@ -4,8 +4,8 @@ use bag_file_tree::FileTree;
 use bag_memory_disk::MemoryDisk;
 use bag_text::Text;
 use bag_tree::TreeFault;
-use std::alloc::{AllocError, Global};
-use std::test::Fail;
+use std::alloc::Global;
+use std::process::Abort;
 
 /// What stands on a disk, and its listing or the word of its refusal.
 const LISTED: &[(&[Place], &str)] = &[
@@ -112,34 +112,39 @@ const NO_DISKS: &[&[Place]] = &[
 ];
 
 /// Whether this is the listing of what stands on a disk, or the word of its refusal; none where that is no disk.
-fn is_listed(alloc: Global, places: &[Place], wanted: Option<&str>) -> Result<bool, AllocError> {
-    match maybe_disk(alloc, places)? {
+fn is_listed(stop: &impl Abort, alloc: Global, places: &[Place], wanted: Option<&str>) -> bool {
+    match maybe_disk(stop, alloc, places) {
         Some(disk) => {
-            let found = listed(alloc, &mut FileTree::over(alloc, disk))?;
-            Ok(wanted == Some(found.as_str()))
+            let found = listed(stop, alloc, &mut FileTree::over(alloc, disk));
+            wanted == Some(found.as_str())
         }
-        None => Ok(wanted.is_none()),
+        None => wanted.is_none(),
     }
 }
 
 #[test]
-fn lists_what_stands_on_a_disk(rt: HostRuntime) -> Result<(), Fail> {
+fn lists_what_stands_on_a_disk(rt: HostRuntime) {
     for &(places, wanted) in LISTED {
-        assert!(rt; is_listed(rt.alloc(), places, Some(wanted))?, "{wanted}");
+        assert!(rt;
+            is_listed(&rt, rt.alloc(), places, Some(wanted)),
+            "{wanted}"
+        );
     }
     for (place, places) in NO_DISKS.iter().enumerate() {
-        assert!(rt; is_listed(rt.alloc(), *places, None)?, "{place}");
+        assert!(rt; is_listed(&rt, rt.alloc(), *places, None), "{place}");
     }
-    Ok(())
 }
 
 /// A disk whose file `a` holds something else when it is opened, where there is something.
-fn swapped(alloc: Global, places: &[Place], text: Option<&str>) -> Result<MemoryDisk, Fail> {
-    let mut disk = disk(alloc, places)?;
+fn swapped(stop: &impl Abort, alloc: Global, places: &[Place], text: Option<&str>) -> MemoryDisk {
+    let mut disk = disk(stop, alloc, places);
     if let Some(text) = text {
-        disk.swap(Text::from_str(alloc, "a")?, text.as_bytes().to_vec(alloc)?);
+        disk.swap(
+            Text::from_str(alloc, "a").expect(stop, "succeeds"),
+            text.as_bytes().to_vec(alloc).expect(stop, "succeeds"),
+        );
     }
-    Ok(disk)
+    disk
 }
 
 const PLACES: &[Place] = &[
@@ -183,15 +188,14 @@ const OPENED: &[Opened] = &[
 ];
 
 /// Whether a file is opened so.
-fn is_opened(alloc: Global, (places, text, listed, wanted): Opened) -> Result<bool, Fail> {
-    let mut tree = FileTree::over(alloc, swapped(alloc, places, text)?);
-    Ok(ends(alloc, &mut tree, listed, wanted)?)
+fn is_opened(stop: &impl Abort, alloc: Global, (places, text, listed, wanted): Opened) -> bool {
+    let mut tree = FileTree::over(alloc, swapped(stop, alloc, places, text));
+    ends(stop, alloc, &mut tree, listed, wanted)
 }
 
 #[test]
-fn opens_the_files_of_a_disk_and_nothing_else(rt: HostRuntime) -> Result<(), Fail> {
+fn opens_the_files_of_a_disk_and_nothing_else(rt: HostRuntime) {
     for (place, row) in OPENED.iter().enumerate() {
-        assert!(rt; is_opened(rt.alloc(), *row)?, "{place}");
+        assert!(rt; is_opened(&rt, rt.alloc(), *row), "{place}");
     }
-    Ok(())
 }

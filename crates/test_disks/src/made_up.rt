@@ -8,7 +8,6 @@ use bag_file_tree::FileTree;
 use bag_text::{Items, Text};
 use bag_tree::{Tree, TreeFault};
 use std::alloc::Global;
-use std::test::Fail;
 
 /// A disk that says of each path but one that an empty file stands there.
 #[derive(Drop)]
@@ -102,22 +101,27 @@ impl Disk for MadeUp {
 const ODD: &[(&[&str], &str)] = &[(&["a", "b", "a"], "b"), (&["a", ".", ".."], "..")];
 
 #[test]
-fn lists_nothing_where_a_name_is_given_twice_or_is_no_path(rt: HostRuntime) -> Result<(), Fail> {
+fn lists_nothing_where_a_name_is_given_twice_or_is_no_path(rt: HostRuntime) {
     for &(names, folder) in ODD {
-        let found = listed(rt.alloc(), &mut MadeUp::tree(rt.alloc(), names, folder, 0))?;
+        let found = listed(
+            &rt,
+            rt.alloc(),
+            &mut MadeUp::tree(rt.alloc(), names, folder, 0),
+        );
         assert!(rt; found.as_str() == "device", "{found}");
     }
-    Ok(())
 }
 
 #[test]
-fn opens_nothing_beside_the_base_folder(rt: HostRuntime) -> Result<(), Fail> {
+fn opens_nothing_beside_the_base_folder(rt: HostRuntime) {
     for path in ["../b", "", "b/"] {
         let mut tree = MadeUp::tree(rt.alloc(), &[], "b", 0);
         let wanted = Err(TreeFault::NotFound);
-        assert!(rt; ends(rt.alloc(), &mut tree, (path, 0), wanted)?, "{path}");
+        assert!(rt;
+            ends(&rt, rt.alloc(), &mut tree, (path, 0), wanted),
+            "{path}"
+        );
     }
-    Ok(())
 }
 
 /// How many files and folders a tree may have.

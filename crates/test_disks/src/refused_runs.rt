@@ -14,7 +14,7 @@ use bag_memory_disk::{Call, MemoryDisk, RefusingDisk};
 use bag_text::Text;
 use bag_walk::{Request, run, status};
 use std::alloc::{AllocError, Global};
-use std::test::Fail;
+use std::process::Abort;
 
 /// What stands on a disk.
 const PLACES: &[Place] = &[
@@ -28,8 +28,8 @@ const PLACES: &[Place] = &[
 ];
 
 /// What asks for the check of the declaration of `d`.
-fn request(alloc: Global) -> Result<Request, AllocError> {
-    Ok(Request {
+fn request(stop: &impl Abort, alloc: Global) -> Request {
+    Request {
         options: Options {
             depth: Depth::Declaration,
             clashes: false,
@@ -37,32 +37,33 @@ fn request(alloc: Global) -> Result<Request, AllocError> {
         after: None,
         limit: None,
         quiet: false,
-        name: Text::from_str(alloc, "d")?,
-    })
+        name: Text::from_str(alloc, "d").expect(stop, "succeeds"),
+    }
 }
 
 /// Whether a check writes this and ends with the status 3 where each look at a path is refused by a fault.
-fn is_told(alloc: Global, path: &str, fault: DiskFault, wanted: &str) -> Result<bool, Fail> {
-    let call = Call::EntryAt(Text::from_str(alloc, path)?);
-    let request = request(alloc)?;
-    let disk = RefusingDisk::over(disk(alloc, PLACES)?, call, fault);
+fn is_told(stop: &impl Abort, alloc: Global, path: &str, fault: DiskFault, wanted: &str) -> bool {
+    let call = Call::EntryAt(Text::from_str(alloc, path).expect(stop, "succeeds"));
+    let request = request(stop, alloc);
+    let disk = RefusingDisk::over(disk(stop, alloc, PLACES), call, fault);
     let mut out = WriterOut::new(Vec::<u8>::new(alloc));
     let (_, outcome) = run(alloc, FileTree::over(alloc, disk), None, request, &mut out);
-    Ok(status(&outcome) == 3 && out.into_inner().as_slice() == wanted.as_bytes())
+    status(&outcome) == 3 && out.into_inner().as_slice() == wanted.as_bytes()
 }
 
 #[test]
-fn each_refused_look_is_told(rt: HostRuntime) -> Result<(), Fail> {
+fn each_refused_look_is_told(rt: HostRuntime) {
     for &(fault, cause, _) in FAULTS {
-        let wanted = format!(in rt.alloc(); "d unread - {cause}, faults: 0\n")?;
+        let wanted = format!(in rt.alloc(); "d unread - {cause}, faults: 0\n").expect(
+            &rt, "succeeds",
+        );
         for path in ["bagit.txt", "data", "data/a", "manifest-md5.txt"] {
             assert!(rt;
-                is_told(rt.alloc(), path, fault, wanted.as_str())?,
+                is_told(&rt, rt.alloc(), path, fault, wanted.as_str()),
                 "{path}"
             );
         }
     }
-    Ok(())
 }
 
 /// Disks that hold the same below each base folder. Below `no memory` there is none, for want of memory, and beside them there is no
@@ -110,38 +111,36 @@ fn is_text(bytes: &[u8], text: &str) -> bool {
 }
 
 /// Whether the program tells that.
-fn are_checked(alloc: Global, (names, written, said, wanted): Row) -> Result<bool, Fail> {
-    let plan = plan_for(alloc, names)?;
-    let held = disk(alloc, DECLARED)?;
+fn are_checked(stop: &impl Abort, alloc: Global, (names, written, said, wanted): Row) -> bool {
+    let plan = plan_for(stop, alloc, names);
+    let held = disk(stop, alloc, DECLARED);
     let disks = ScarceDisks { held: &held };
     let (folders, mut visits) = Folders::of(&disks);
     let mut out = WriterOut::new(Vec::<u8>::new(alloc));
     let mut err = Vec::<u8>::new(alloc);
     let status = perform(alloc, &folders, &plan, &mut visits, &mut out, &mut err);
-    Ok(status == wanted && is_text(&out.into_inner(), written) && is_text(&err, said))
+    status == wanted && is_text(&out.into_inner(), written) && is_text(&err, said)
 }
 
 #[test]
-fn memory_runs_out_before_the_second_report(rt: HostRuntime) -> Result<(), Fail> {
+fn memory_runs_out_before_the_second_report(rt: HostRuntime) {
     for &row in ROWS {
-        assert!(rt; are_checked(rt.alloc(), row)?, "{}", row.1);
+        assert!(rt; are_checked(&rt, rt.alloc(), row), "{}", row.1);
     }
-    Ok(())
 }
 
 /// Whether the program tells its help, nothing beside that, and the status 0.
-fn is_helped(alloc: Global, words: &[&str]) -> Result<bool, Fail> {
-    let held = disk(alloc, DECLARED)?;
+fn is_helped(stop: &impl Abort, alloc: Global, words: &[&str]) -> bool {
+    let held = disk(stop, alloc, DECLARED);
     let disks = ScarceDisks { held: &held };
     let (folders, mut visits) = Folders::of(&disks);
     let mut out = WriterOut::new(Vec::<u8>::new(alloc));
     let mut err = Vec::<u8>::new(alloc);
     let status = program(alloc, &folders, words, &mut visits, &mut out, &mut err);
-    Ok(status == 0 && err.is_empty() && !out.into_inner().is_empty())
+    status == 0 && err.is_empty() && !out.into_inner().is_empty()
 }
 
 #[test]
-fn help_ends_well(rt: HostRuntime) -> Result<(), Fail> {
-    assert!(rt; is_helped(rt.alloc(), &["--help"])?);
-    Ok(())
+fn help_ends_well(rt: HostRuntime) {
+    assert!(rt; is_helped(&rt, rt.alloc(), &["--help"]));
 }

@@ -4,16 +4,18 @@ use crate::held::{Held, Place, disk};
 use bag_cli::{Action, Plan, WriterOut};
 use bag_facts::{Depth, Options};
 use bag_text::{AlgSet, Items, Text};
-use std::alloc::{AllocError, Global};
-use std::test::Fail;
+use std::alloc::Global;
+use std::process::Abort;
 
 /// What asks for the check of the declarations in directories.
-pub(crate) fn plan_for(alloc: Global, names: &[&str]) -> Result<Plan, AllocError> {
+pub(crate) fn plan_for(stop: &impl Abort, alloc: Global, names: &[&str]) -> Plan {
     let mut directories = Items::new(alloc);
     for name in names {
-        directories.push(Text::from_str(alloc, *name)?)?;
+        directories
+            .push(Text::from_str(alloc, *name).expect(stop, "succeeds"))
+            .expect(stop, "succeeds");
     }
-    Ok(Plan {
+    Plan {
         action: Action::Check,
         directories,
         options: Options {
@@ -26,7 +28,7 @@ pub(crate) fn plan_for(alloc: Global, names: &[&str]) -> Result<Plan, AllocError
         quiet: false,
         algs: AlgSet::empty(),
         info: Items::new(alloc),
-    })
+    }
 }
 
 /// What stands on a disk.
@@ -57,20 +59,22 @@ const ROWS: &[(&[Place], &str, u8)] = &[
 ];
 
 /// Whether a check of a disk writes this and ends with this status.
-fn is_told(alloc: Global, places: &[Place], wanted: &str, status: u8) -> Result<bool, Fail> {
-    let plan = plan_for(alloc, &["d"])?;
-    let disk = disk(alloc, places)?;
+fn is_told(stop: &impl Abort, alloc: Global, places: &[Place], wanted: &str, status: u8) -> bool {
+    let plan = plan_for(stop, alloc, &["d"]);
+    let disk = disk(stop, alloc, places);
     let mut out = WriterOut::new(Vec::<u8>::new(alloc));
     let mut err = Vec::<u8>::new(alloc);
     let found = checked(alloc, &disk, &plan, &mut out, &mut err);
     let is_written = out.into_inner().as_slice() == wanted.as_bytes();
-    Ok(is_written && err.is_empty() && found == status)
+    is_written && err.is_empty() && found == status
 }
 
 #[test]
-fn an_honest_disk_has_its_report(rt: HostRuntime) -> Result<(), Fail> {
+fn an_honest_disk_has_its_report(rt: HostRuntime) {
     for &(places, wanted, status) in ROWS {
-        assert!(rt; is_told(rt.alloc(), places, wanted, status)?, "{wanted}");
+        assert!(rt;
+            is_told(&rt, rt.alloc(), places, wanted, status),
+            "{wanted}"
+        );
     }
-    Ok(())
 }

@@ -4,8 +4,8 @@ use crate::checks::{DECLARATION, lines_behind, lines_found, put};
 use crate::drawn::mixed;
 use bag_report::{Depth, Options};
 use bag_store::MemoryTree;
-use std::alloc::{AllocError, Global};
-use std::test::Fail;
+use std::alloc::Global;
+use std::process::Abort;
 
 /// A path, the field of a line that stands for it, and the number of its class: paths of one class differ by normal form alone.
 type Name = (&'static str, &'static str, u8);
@@ -144,16 +144,16 @@ fn is_name(bag: u64, path: &str) -> bool {
 }
 
 /// Writes the clash of a name with the least of its class, where there is a lesser one.
-fn write_clash(text: &mut String, bag: u64, name: &Name) -> Result<(), AllocError> {
+fn write_clash(stop: &impl Abort, text: &mut String, bag: u64, name: &Name) {
     for least in NAMES {
         if least.0 == name.0 || !is_name(bag, name.0) {
-            return Ok(());
+            return;
         }
         if least.2 == name.2 && is_name(bag, least.0) {
-            return write!(text, "604 name-clash {} - - {}\n", name.1, least.1);
+            write!(text, "604 name-clash {} - - {}\n", name.1, least.1).expect(stop, "succeeds");
+            return;
         }
     }
-    Ok(())
 }
 
 /// What is wrong with a path beside a manifest.
@@ -171,146 +171,145 @@ fn complaint(bag: u64, manifest: &Manifest, path: &str) -> Option<&'static str> 
 }
 
 /// Writes what is wrong with a path beside each manifest.
-fn write_complaints(text: &mut String, bag: u64, name: &Name) -> Result<(), AllocError> {
+fn write_complaints(stop: &impl Abort, text: &mut String, bag: u64, name: &Name) {
     for manifest in MANIFESTS {
         if let Some(words) = complaint(bag, manifest, name.0) {
-            write!(text, "{words} {} {} - -\n", name.1, manifest.alg)?;
+            write!(text, "{words} {} {} - -\n", name.1, manifest.alg).expect(stop, "succeeds");
         }
     }
-    Ok(())
 }
 
 /// Writes that a manifest gives a file another digest than the one that was found.
 fn write_sum(
+    stop: &impl Abort,
     text: &mut String,
     manifest: &Manifest,
     field: &str,
     wanted: &str,
     found: &str,
-) -> Result<(), AllocError> {
+) {
     text.push_str(if manifest.is_payload {
         "701 payload-sum-differs "
     } else {
         "702 tag-sum-differs "
-    })?;
-    write!(text, "{field} {} - {wanted}:{found}\n", manifest.alg)
+    })
+    .expect(stop, "succeeds");
+    write!(text, "{field} {} - {wanted}:{found}\n", manifest.alg).expect(stop, "succeeds");
 }
 
 /// Writes which manifests give a file that is there another digest.
-fn write_differing(text: &mut String, bag: u64, name: &Name) -> Result<(), AllocError> {
+fn write_differing(stop: &impl Abort, text: &mut String, bag: u64, name: &Name) {
     let Some(held) = drawn(bag, "", name.0) else {
-        return Ok(());
+        return;
     };
     for manifest in MANIFESTS {
         let given = given(bag, manifest, name.0).unwrap_or(held);
         let (wanted, found) = (manifest.digests[given % 3], manifest.digests[held % 3]);
         if wanted != found {
-            write_sum(text, manifest, name.1, wanted, found)?;
+            write_sum(stop, text, manifest, name.1, wanted, found);
         }
     }
-    Ok(())
 }
 
 /// The lines of the faults of a bag's names and digests.
-fn plain_lines(alloc: Global, bag: u64, options: Options) -> Result<String, AllocError> {
+fn plain_lines(stop: &impl Abort, alloc: Global, bag: u64, options: Options) -> String {
     let mut text = String::new(alloc);
     for name in NAMES {
         if options.clashes {
-            write_clash(&mut text, bag, name)?;
+            write_clash(stop, &mut text, bag, name);
         }
-        write_complaints(&mut text, bag, name)?;
+        write_complaints(stop, &mut text, bag, name);
     }
     if matches!(options.depth, Depth::Full) {
         for name in NAMES {
-            write_differing(&mut text, bag, name)?;
+            write_differing(stop, &mut text, bag, name);
         }
     }
-    Ok(text)
+    text
 }
 
 /// The text of a manifest, whose lines stand in another order than their paths.
-fn text_of(alloc: Global, bag: u64, manifest: &Manifest) -> Result<String, AllocError> {
+fn text_of(stop: &impl Abort, alloc: Global, bag: u64, manifest: &Manifest) -> String {
     let mut text = String::new(alloc);
     for name in NAMES.iter().rev() {
         if let Some(place) = given(bag, manifest, name.0) {
-            write!(text, "{}  {}\n", manifest.digests[place % 3], name.0)?;
+            write!(text, "{}  {}\n", manifest.digests[place % 3], name.0).expect(stop, "succeeds");
         }
     }
-    Ok(text)
+    text
 }
 
 /// Puts a manifest of a bag into a tree, where the bag has it.
 fn put_manifest(
+    stop: &impl Abort,
     alloc: Global,
     tree: &mut MemoryTree,
     bag: u64,
     manifest: &Manifest,
-) -> Result<(), Fail> {
+) {
     if !is_there(bag, manifest) {
-        return Ok(());
+        return;
     }
-    let text = text_of(alloc, bag, manifest)?;
-    put(tree, manifest.file, text.as_bytes())
+    let text = text_of(stop, alloc, bag, manifest);
+    put(stop, tree, manifest.file, text.as_bytes())
 }
 
 /// The bag of a number.
-fn tree_of(alloc: Global, bag: u64) -> Result<MemoryTree, Fail> {
+fn tree_of(stop: &impl Abort, alloc: Global, bag: u64) -> MemoryTree {
     let mut tree = MemoryTree::new(alloc);
-    put(&mut tree, "bagit.txt", DECLARATION)?;
+    put(stop, &mut tree, "bagit.txt", DECLARATION);
     for name in NAMES {
         if let Some(place) = drawn(bag, "", name.0) {
-            put(&mut tree, name.0, CONTENTS[place % 3])?;
+            put(stop, &mut tree, name.0, CONTENTS[place % 3]);
         }
     }
-    put_manifest(alloc, &mut tree, bag, &OTHER)?;
+    put_manifest(stop, alloc, &mut tree, bag, &OTHER);
     for manifest in MANIFESTS {
-        put_manifest(alloc, &mut tree, bag, manifest)?;
+        put_manifest(stop, alloc, &mut tree, bag, manifest);
     }
-    Ok(tree)
+    tree
 }
 
 /// Whether a check of the bag of a number finds what the plain check finds.
-fn is_alike(alloc: Global, bag: u64, options: Options) -> Result<bool, Fail> {
-    let tree = tree_of(alloc, bag)?;
-    let found = lines_found(alloc, tree, None, options, "67")?;
-    Ok(found == plain_lines(alloc, bag, options)?)
+fn is_alike(stop: &impl Abort, alloc: Global, bag: u64, options: Options) -> bool {
+    let tree = tree_of(stop, alloc, bag);
+    let found = lines_found(stop, alloc, tree, None, options, "67");
+    found == plain_lines(stop, alloc, bag, options)
 }
 
 /// Whether checks of the bag of a number above each of its faults find what stands behind that fault.
-fn goes_on(alloc: Global, bag: u64, options: Options) -> Result<bool, Fail> {
-    let lines = plain_lines(alloc, bag, options)?;
+fn goes_on(stop: &impl Abort, alloc: Global, bag: u64, options: Options) -> bool {
+    let lines = plain_lines(stop, alloc, bag, options);
     let mut behind = lines.as_str();
     for line in lines.as_str().lines() {
         behind = behind.split_once('\n').map_or("", |(_, rest)| rest);
-        let found = lines_behind(alloc, tree_of(alloc, bag)?, options, line, "67")?;
-        if found.as_str() != behind {
-            return Ok(false);
+        let tree = tree_of(stop, alloc, bag);
+        if lines_behind(stop, alloc, tree, options, line, "67").as_str() != behind {
+            return false;
         }
     }
-    Ok(true)
+    true
 }
 
 /// How deep bags are checked, and whether names that clash are looked for.
 const CHECKS: [(Depth, bool); 2] = [(Depth::Complete, true), (Depth::Full, false)];
 
 #[test]
-fn finds_what_a_plain_check_finds(rt: HostRuntime) -> Result<(), Fail> {
+fn finds_what_a_plain_check_finds(rt: HostRuntime) {
     for bag in 0..300 {
         for (depth, clashes) in CHECKS {
             let options = Options { depth, clashes };
-            assert!(rt; is_alike(rt.alloc(), bag, options)?, "bag {bag}");
+            assert!(rt; is_alike(&rt, rt.alloc(), bag, options), "bag {bag}");
         }
     }
-    Ok(())
 }
 
 #[test]
-fn goes_on_behind_each_fault(rt: HostRuntime) -> Result<(), Fail> {
+fn goes_on_behind_each_fault(rt: HostRuntime) {
     for bag in 0..150 {
         for (depth, clashes) in CHECKS {
             let options = Options { depth, clashes };
-            assert!(rt; goes_on(rt.alloc(), bag, options)?, "bag {bag}");
+            assert!(rt; goes_on(&rt, rt.alloc(), bag, options), "bag {bag}");
         }
     }
-    Ok(())
 }

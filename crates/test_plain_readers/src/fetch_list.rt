@@ -1,22 +1,22 @@
 //! A plain reader of `fetch.txt` that tries each prefix of a line, over some hundred texts, and one of thousands of lines.
 use crate::parts::combined;
 use bag_line::read_fetch;
-use std::alloc::{AllocError, Global};
-use std::test::Fail;
+use std::alloc::Global;
+use std::process::Abort;
 
 /// What `fetch.txt` says: each entry's line, URL, length and path, then each fault's code, line and detail.
-fn said(alloc: Global, bytes: &[u8]) -> Result<String, Fail> {
-    let parsed = read_fetch(alloc, bytes)?;
+fn said(stop: &impl Abort, alloc: Global, bytes: &[u8]) -> String {
+    let parsed = read_fetch(alloc, bytes).expect(stop, "succeeds");
     let mut text = String::new(alloc);
     for entry in parsed.items.as_slice() {
         let (line, url, length, path) = (entry.line, &entry.url, &entry.length, &entry.path);
-        write!(text, "{line} {url} {length} {path}|")?;
+        write!(text, "{line} {url} {length} {path}|").expect(stop, "succeeds");
     }
     for fault in parsed.faults.as_slice() {
         let (code, line, detail) = (fault.code.number(), fault.line, &fault.detail);
-        write!(text, "{code} {line} {detail}|")?;
+        write!(text, "{code} {line} {detail}|").expect(stop, "succeeds");
     }
-    Ok(text)
+    text
 }
 
 /// The longest prefix of a line that has only blanks, or none, and the rest.
@@ -64,20 +64,20 @@ fn escaped(digits: &str) -> Option<&'static str> {
 }
 
 /// The path of a spelling: what stands behind each `%` begins with the two digits of an escape.
-fn path_of(alloc: Global, spelling: &str) -> Result<Option<String>, AllocError> {
+fn path_of(stop: &impl Abort, alloc: Global, spelling: &str) -> Option<String> {
     let mut pieces = spelling.split('%');
-    let mut path = String::from_str(alloc, pieces.next().unwrap_or(""))?;
+    let mut path = String::from_str(alloc, pieces.next().unwrap_or("")).expect(stop, "succeeds");
     for piece in pieces {
         let (Some(digits), Some(rest)) = (piece.get(..2), piece.get(2..)) else {
-            return Ok(None);
+            return None;
         };
         let Some(character) = escaped(digits) else {
-            return Ok(None);
+            return None;
         };
-        path.push_str(character)?;
-        path.push_str(rest)?;
+        path.push_str(character).expect(stop, "succeeds");
+        path.push_str(rest).expect(stop, "succeeds");
     }
-    Ok(Some(path))
+    Some(path)
 }
 
 /// Why a file may not be fetched to a path, if it may not.
@@ -92,42 +92,46 @@ fn refusal(path: &str) -> Option<u16> {
 
 /// Writes what a line says, or what is wrong with it.
 fn judge(
+    stop: &impl Abort,
     alloc: Global,
     number: usize,
     line: &str,
     entries: &mut String,
     faults: &mut String,
-) -> Result<(), AllocError> {
+) {
     let Some((url, length, spelling)) = parts_of(line) else {
-        return write!(faults, "401 {number} |");
+        write!(faults, "401 {number} |").expect(stop, "succeeds");
+        return;
     };
-    let Some(path) = path_of(alloc, spelling)? else {
-        return write!(faults, "402 {number} {spelling}|");
+    let Some(path) = path_of(stop, alloc, spelling) else {
+        write!(faults, "402 {number} {spelling}|").expect(stop, "succeeds");
+        return;
     };
-    match refusal(path.as_str()) {
+    let judged = match refusal(path.as_str()) {
         Some(code) => write!(faults, "{code} {number} {path}|"),
         None => write!(entries, "{number} {url} {length} {path}|"),
-    }
+    };
+    judged.expect(stop, "succeeds");
 }
 
 /// What the plain reader reads in the lines of a text.
-fn read_plainly(alloc: Global, text: &str) -> Result<String, AllocError> {
+fn read_plainly(stop: &impl Abort, alloc: Global, text: &str) -> String {
     let mut entries = String::new(alloc);
     let mut faults = String::new(alloc);
     for (place, line) in text.lines().enumerate() {
         let (_, behind) = longest(line, true);
         if !behind.is_empty() {
             let number = place.saturating_add(1);
-            judge(alloc, number, line, &mut entries, &mut faults)?;
+            judge(stop, alloc, number, line, &mut entries, &mut faults);
         }
     }
-    entries.push_str(faults.as_str())?;
-    Ok(entries)
+    entries.push_str(faults.as_str()).expect(stop, "succeeds");
+    entries
 }
 
 /// Whether the reader reads in a text what the plain reader reads.
-fn reads_alike(alloc: Global, text: &str) -> Result<bool, Fail> {
-    Ok(said(alloc, text.as_bytes())? == read_plainly(alloc, text)?)
+fn reads_alike(stop: &impl Abort, alloc: Global, text: &str) -> bool {
+    said(stop, alloc, text.as_bytes()) == read_plainly(stop, alloc, text)
 }
 
 /// What may stand in a line before its path, part by part.
@@ -158,39 +162,38 @@ const PATHS: [&str; 14] = [
 ];
 
 /// Lines that begin alike.
-fn lines_of(alloc: Global, head: &str) -> Result<String, AllocError> {
+fn lines_of(stop: &impl Abort, alloc: Global, head: &str) -> String {
     let mut text = String::new(alloc);
     for path in PATHS {
-        write!(text, "{head}{path}\n")?;
+        write!(text, "{head}{path}\n").expect(stop, "succeeds");
     }
-    Ok(text)
+    text
 }
 
 #[test]
-fn reads_as_a_plain_reader(rt: HostRuntime) -> Result<(), Fail> {
-    for head in &combined(rt.alloc(), &PARTS)? {
-        let text = lines_of(rt.alloc(), head.as_str())?;
-        assert!(rt; reads_alike(rt.alloc(), text.as_str())?, "{head}");
+fn reads_as_a_plain_reader(rt: HostRuntime) {
+    for head in &combined(&rt, rt.alloc(), &PARTS) {
+        let text = lines_of(&rt, rt.alloc(), head.as_str());
+        assert!(rt; reads_alike(&rt, rt.alloc(), text.as_str()), "{head}");
     }
-    Ok(())
 }
 
 /// A text of 2,000 lines, of which each tenth has a bad escape.
-fn thousands(alloc: Global) -> Result<String, AllocError> {
+fn thousands(stop: &impl Abort, alloc: Global) -> String {
     let mut text = String::new(alloc);
     for line in 1..2001u64 {
         let escape = if line % 10 == 0 { "%41" } else { "%25" };
         write!(
             text,
             "http://a.example/{line} {line} ./data/{escape}{line}\n"
-        )?;
+        )
+        .expect(stop, "succeeds");
     }
-    Ok(text)
+    text
 }
 
 #[test]
-fn reads_thousands_of_lines(rt: HostRuntime) -> Result<(), Fail> {
-    let text = thousands(rt.alloc())?;
-    assert!(rt; reads_alike(rt.alloc(), text.as_str())?);
-    Ok(())
+fn reads_thousands_of_lines(rt: HostRuntime) {
+    let text = thousands(&rt, rt.alloc());
+    assert!(rt; reads_alike(&rt, rt.alloc(), text.as_str()));
 }

@@ -3,23 +3,22 @@
 use crate::parts::combined;
 use bag_line::read_info;
 use bag_text::trim;
-use std::alloc::{AllocError, Global};
+use std::alloc::Global;
 use std::process::Abort;
-use std::test::Fail;
 
 /// What metadata says: each element's line, label and value, then each fault's code, line and detail.
-fn said(alloc: Global, bytes: &[u8]) -> Result<String, Fail> {
-    let parsed = read_info(alloc, bytes)?;
+fn said(stop: &impl Abort, alloc: Global, bytes: &[u8]) -> String {
+    let parsed = read_info(alloc, bytes).expect(stop, "succeeds");
     let mut text = String::new(alloc);
     for element in parsed.items.as_slice() {
         let (line, label, value) = (element.line, &element.label, &element.value);
-        write!(text, "{line}<{label}><{value}>|")?;
+        write!(text, "{line}<{label}><{value}>|").expect(stop, "succeeds");
     }
     for fault in parsed.faults.as_slice() {
         let (code, line, detail) = (fault.code.number(), fault.line, &fault.detail);
-        write!(text, "{code} {line} {detail}|")?;
+        write!(text, "{code} {line} {detail}|").expect(stop, "succeeds");
     }
-    Ok(text)
+    text
 }
 
 fn is_first(line: &str) -> bool {
@@ -43,17 +42,16 @@ fn has_first(lines: &[&str]) -> bool {
 }
 
 /// Writes the parts of a value that stand in the lines behind its first one.
-fn write_more(text: &mut String, lines: &[&str]) -> Result<(), AllocError> {
+fn write_more(stop: &impl Abort, text: &mut String, lines: &[&str]) {
     for line in lines {
         if is_first(line) {
-            return Ok(());
+            return;
         }
         if !trim(line).is_empty() {
-            text.push('\n')?;
-            text.push_str(trim(line))?;
+            text.push('\n').expect(stop, "succeeds");
+            text.push_str(trim(line)).expect(stop, "succeeds");
         }
     }
-    Ok(())
 }
 
 /// Whether a line that begins no element is a fault: it should begin one, or goes on with none.
@@ -62,51 +60,51 @@ fn is_fault(line: &str, above: &[&str]) -> bool {
 }
 
 /// What the plain reader reads in these lines.
-fn looked_back(alloc: Global, lines: &[&str]) -> Result<String, AllocError> {
+fn looked_back(stop: &impl Abort, alloc: Global, lines: &[&str]) -> String {
     let mut text = String::new(alloc);
     let mut faults = String::new(alloc);
     for (place, line) in lines.iter().enumerate() {
         let number = place.saturating_add(1);
         if let Some((label, part)) = label_and_part(line) {
-            write!(text, "{number}<{label}><{part}")?;
-            write_more(&mut text, lines.get(number..).unwrap_or(&[]))?;
-            text.push_str(">|")?;
+            write!(text, "{number}<{label}><{part}").expect(stop, "succeeds");
+            write_more(stop, &mut text, lines.get(number..).unwrap_or(&[]));
+            text.push_str(">|").expect(stop, "succeeds");
         } else if is_fault(line, lines.get(..place).unwrap_or(&[])) {
-            write!(faults, "301 {number} |")?;
+            write!(faults, "301 {number} |").expect(stop, "succeeds");
         }
     }
-    text.push_str(faults.as_str())?;
-    Ok(text)
+    text.push_str(faults.as_str()).expect(stop, "succeeds");
+    text
 }
 
 /// The ends of lines, in turn: so no line feed ends an empty line behind a carriage return, where both would be one end.
 const ENDS: [&str; 3] = ["\n", "\r", "\r\n"];
 
 /// These lines, each with its end, the first with that of this place.
-fn joined(alloc: Global, lines: &[&str], first_end: usize) -> Result<String, AllocError> {
+fn joined(stop: &impl Abort, alloc: Global, lines: &[&str], first_end: usize) -> String {
     let mut text = String::new(alloc);
     for (place, line) in lines.iter().enumerate() {
-        text.push_str(line)?;
-        text.push_str(ENDS[place.wrapping_add(first_end) % ENDS.len()])?;
+        text.push_str(line).expect(stop, "succeeds");
+        text.push_str(ENDS[place.wrapping_add(first_end) % ENDS.len()])
+            .expect(stop, "succeeds");
     }
-    Ok(text)
+    text
 }
 
 /// The reader reads in these lines what the plain reader reads, whatever their ends.
-fn reads_alike(rt: &impl Abort, alloc: Global, lines: &[&str]) -> Result<(), Fail> {
-    let wanted = looked_back(alloc, lines)?;
+fn reads_alike(rt: &impl Abort, alloc: Global, lines: &[&str]) {
+    let wanted = looked_back(rt, alloc, lines);
     for first_end in 0..ENDS.len() {
-        let text = joined(alloc, lines, first_end)?;
-        assert!(rt; said(alloc, text.as_bytes())? == wanted, "{text:?}");
+        let text = joined(rt, alloc, lines, first_end);
+        assert!(rt; said(rt, alloc, text.as_bytes()) == wanted, "{text:?}");
     }
-    Ok(())
 }
 
 /// A line of each sort.
 const SORTS: [&str; 8] = ["", " \t", "a: b", "c:", "d :e", "f", " g: h ", "\ti"];
 
 #[test]
-fn reads_as_a_reader_that_looks_back(rt: HostRuntime) -> Result<(), Fail> {
+fn reads_as_a_reader_that_looks_back(rt: HostRuntime) {
     for sorts in 0..4096usize {
         let lines = [
             SORTS[sorts % 8],
@@ -114,9 +112,8 @@ fn reads_as_a_reader_that_looks_back(rt: HostRuntime) -> Result<(), Fail> {
             SORTS[sorts / 64 % 8],
             SORTS[sorts / 512 % 8],
         ];
-        reads_alike(&rt, rt.alloc(), &lines)?;
+        reads_alike(&rt, rt.alloc(), &lines);
     }
-    Ok(())
 }
 
 /// What a line may begin with, what may stand behind that, and what at its end.
@@ -128,34 +125,37 @@ const PARTS: [&[&str]; 3] = [
 
 /// The reader reads a line as the plain reader, whatever stands behind it.
 #[test]
-fn splits_lines_at_their_first_colons(rt: HostRuntime) -> Result<(), Fail> {
-    for line in &combined(rt.alloc(), &PARTS)? {
+fn splits_lines_at_their_first_colons(rt: HostRuntime) {
+    for line in &combined(&rt, rt.alloc(), &PARTS) {
         for sort in SORTS {
             let lines = [line.as_str(), sort, line.as_str(), "\ti"];
-            reads_alike(&rt, rt.alloc(), &lines)?;
+            reads_alike(&rt, rt.alloc(), &lines);
         }
     }
-    Ok(())
 }
 
 /// Five thousand elements of two lines, each with a line behind it that is none, and a value of four thousand parts.
-fn thousands(alloc: Global) -> Result<String, AllocError> {
+fn thousands(stop: &impl Abort, alloc: Global) -> String {
     let mut text = String::new(alloc);
     for index in 0..5000u64 {
-        write!(text, "a {index}: b {index}\n\tc {index} \nd {index}\n")?;
+        write!(text, "a {index}: b {index}\n\tc {index} \nd {index}\n").expect(stop, "succeeds");
     }
-    text.push_str("a: part\n")?;
+    text.push_str("a: part\n").expect(stop, "succeeds");
     for _ in 0..4000 {
-        text.push_str("  part \n\n")?;
+        text.push_str("  part \n\n").expect(stop, "succeeds");
     }
-    text.push_str("b\n c\n")?;
-    Ok(text)
+    text.push_str("b\n c\n").expect(stop, "succeeds");
+    text
 }
 
 #[test]
-fn reads_thousands_of_elements(rt: HostRuntime) -> Result<(), Fail> {
-    let text = thousands(rt.alloc())?;
-    let lines: Vec<&str> = text.as_str().lines().collect(rt.alloc())?;
-    assert_eq!(rt; lines.len(), 23_003);
+fn reads_thousands_of_elements(rt: HostRuntime) {
+    let text = thousands(&rt, rt.alloc());
+    let lines: Vec<&str> = text
+        .as_str()
+        .lines()
+        .collect(rt.alloc())
+        .expect(&rt, "succeeds");
+    assert!(rt; lines.len() == 23_003);
     reads_alike(&rt, rt.alloc(), &lines)
 }

@@ -4,8 +4,8 @@ use crate::checks::{DECLARATION, lines_found, put};
 use crate::drawn::mixed;
 use bag_report::{Depth, Options, Profile};
 use bag_store::MemoryTree;
-use std::alloc::{AllocError, Global};
-use std::test::Fail;
+use std::alloc::Global;
+use std::process::Abort;
 
 /// How many elements there are, and of how many numbers their labels are.
 const ELEMENTS: u64 = 2000;
@@ -70,71 +70,73 @@ fn is_among(number: u64, elements: u64) -> bool {
 }
 
 /// Writes a rule's list of values, as JSON. One that isn't empty begins with a value that no element has.
-fn write_values(text: &mut String, rule: u64) -> Result<(), AllocError> {
+fn write_values(stop: &impl Abort, text: &mut String, rule: u64) {
     if rule & LISTED == 0 {
-        return Ok(());
+        return;
     }
-    text.push_str("\"x\"")?;
+    text.push_str("\"x\"").expect(stop, "succeeds");
     for (value, bit, _) in &VALUES {
         if rule & *bit != 0 {
-            write!(text, ",\"{value}\"")?;
+            write!(text, ",\"{value}\"").expect(stop, "succeeds");
         }
     }
-    Ok(())
 }
 
 /// Writes the rules of a number, as JSON.
-fn write_rules(text: &mut String, number: u64) -> Result<(), AllocError> {
+fn write_rules(stop: &impl Abort, text: &mut String, number: u64) {
     let shown = number.saturating_add(FIRST);
     for label in RULE_SPELLINGS {
         let rule = rule_of(number, label);
         let (required, repeatable) = (rule & REQUIRED != 0, rule & SINGLE == 0);
-        write!(text, ",\"{label}{shown}\":{{\"required\":{required},")?;
-        write!(text, "\"repeatable\":{repeatable},\"values\":[")?;
-        write_values(text, rule)?;
-        text.push_str("]}")?;
+        write!(text, ",\"{label}{shown}\":{{\"required\":{required},").expect(stop, "succeeds");
+        write!(text, "\"repeatable\":{repeatable},\"values\":[").expect(stop, "succeeds");
+        write_values(stop, text, rule);
+        text.push_str("]}").expect(stop, "succeeds");
     }
-    Ok(())
 }
 
 /// The profile, as JSON. A rule that asks nothing is its first.
-fn profile_text(alloc: Global) -> Result<String, AllocError> {
+fn profile_text(stop: &impl Abort, alloc: Global) -> String {
     let mut text = String::from_str(
         alloc,
         "{\"BagIt-Profile-Info\":{\"BagIt-Profile-Identifier\":\"urn:p\"},\"Bag-Info\":{\"A\":{}",
-    )?;
+    )
+    .expect(stop, "succeeds");
     for number in 0..RULED {
-        write_rules(&mut text, number)?;
+        write_rules(stop, &mut text, number);
     }
-    text.push_str("}}")?;
-    Ok(text)
+    text.push_str("}}").expect(stop, "succeeds");
+    text
 }
 
 /// The metadata: its first line names the profile, and each later one is an element.
-fn metadata(alloc: Global) -> Result<String, AllocError> {
-    let mut text = String::from_str(alloc, "BagIt-Profile-Identifier: urn:p\n")?;
+fn metadata(stop: &impl Abort, alloc: Global) -> String {
+    let mut text = String::from_str(alloc, "BagIt-Profile-Identifier: urn:p\n").expect(
+        stop, "succeeds",
+    );
     for element in 0..ELEMENTS {
         let label = SPELLINGS[(drawn(element, "spelling", 3) % 3) as usize];
         let number = label_number(element).saturating_add(FIRST);
         let (value, _, _) = value_of(element);
-        write!(text, "{label}{number}: {value}\n")?;
+        write!(text, "{label}{number}: {value}\n").expect(stop, "succeeds");
     }
-    Ok(text)
+    text
 }
 
 /// Writes which labels of a spelling are lacking.
-fn write_lacking(text: &mut String, label: &str) -> Result<(), AllocError> {
+fn write_lacking(stop: &impl Abort, text: &mut String, label: &str) {
     for number in 0..RULED {
         if rule_of(number, label) & REQUIRED != 0 && !is_among(number, ELEMENTS) {
             let shown = number.saturating_add(FIRST);
-            write!(text, "802 label-required bag-info.txt - - {label}{shown}\n")?;
+            write!(text, "802 label-required bag-info.txt - - {label}{shown}\n").expect(
+                stop, "succeeds",
+            );
         }
     }
-    Ok(())
 }
 
 /// Writes that an element isn't the first of its label, by the rules that allow one alone.
-fn write_repeated(text: &mut String, element: u64) -> Result<(), AllocError> {
+fn write_repeated(stop: &impl Abort, text: &mut String, element: u64) {
     let number = label_number(element);
     let (line, shown) = (element.saturating_add(2), number.saturating_add(FIRST));
     for label in RULE_SPELLINGS {
@@ -142,14 +144,14 @@ fn write_repeated(text: &mut String, element: u64) -> Result<(), AllocError> {
             write!(
                 text,
                 "803 label-repeated bag-info.txt - {line} {label}{shown}\n"
-            )?;
+            )
+            .expect(stop, "succeeds");
         }
     }
-    Ok(())
 }
 
 /// Writes that an element's value isn't allowed, by the rules whose lists have others.
-fn write_other_values(text: &mut String, element: u64) -> Result<(), AllocError> {
+fn write_other_values(stop: &impl Abort, text: &mut String, element: u64) {
     let number = label_number(element);
     let (line, shown) = (element.saturating_add(2), number.saturating_add(FIRST));
     let (_, bit, value) = value_of(element);
@@ -159,52 +161,58 @@ fn write_other_values(text: &mut String, element: u64) -> Result<(), AllocError>
             write!(
                 text,
                 "804 value-not-allowed bag-info.txt - {line} {label}{shown}:{value}\n"
-            )?;
+            )
+            .expect(stop, "succeeds");
         }
     }
-    Ok(())
 }
 
 /// The lines of all faults.
-fn plain_lines(alloc: Global) -> Result<String, AllocError> {
+fn plain_lines(stop: &impl Abort, alloc: Global) -> String {
     let mut text = String::new(alloc);
     for label in RULE_SPELLINGS {
-        write_lacking(&mut text, label)?;
+        write_lacking(stop, &mut text, label);
     }
     for element in 0..ELEMENTS {
         if label_number(element) < RULED {
-            write_repeated(&mut text, element)?;
-            write_other_values(&mut text, element)?;
+            write_repeated(stop, &mut text, element);
+            write_other_values(stop, &mut text, element);
         }
     }
-    Ok(text)
+    text
 }
 
 /// A bag with the metadata.
-fn bag(alloc: Global) -> Result<MemoryTree, Fail> {
+fn bag(stop: &impl Abort, alloc: Global) -> MemoryTree {
     let mut tree = MemoryTree::new(alloc);
-    put(&mut tree, "bagit.txt", DECLARATION)?;
-    put(&mut tree, "bag-info.txt", metadata(alloc)?.as_bytes())?;
-    Ok(tree)
+    put(stop, &mut tree, "bagit.txt", DECLARATION);
+    put(
+        stop,
+        &mut tree,
+        "bag-info.txt",
+        metadata(stop, alloc).as_bytes(),
+    );
+    tree
 }
 
 /// The lines of the faults that a check by the profile finds.
-fn found(alloc: Global) -> Result<String, Fail> {
+fn found(stop: &impl Abort, alloc: Global) -> String {
     let options = Options {
         depth: Depth::Fast,
         clashes: false,
     };
-    let tree = bag(alloc)?;
-    let profile = Profile::read(alloc, profile_text(alloc)?.as_bytes())?;
-    lines_found(alloc, tree, Some(&profile), options, "8")
+    let tree = bag(stop, alloc);
+    let profile = Profile::read(alloc, profile_text(stop, alloc).as_bytes()).expect(
+        stop, "succeeds",
+    );
+    lines_found(stop, alloc, tree, Some(&profile), options, "8")
 }
 
 #[test]
-fn thousands_of_elements(rt: HostRuntime) -> Result<(), Fail> {
-    let wanted = plain_lines(rt.alloc())?;
+fn thousands_of_elements(rt: HostRuntime) {
+    let wanted = plain_lines(&rt, rt.alloc());
     for kind in ["\n802 ", "\n803 ", "\n804 "] {
         assert!(rt; wanted.as_str().contains(kind), "{kind}");
     }
-    assert!(rt; found(rt.alloc())? == wanted);
-    Ok(())
+    assert!(rt; found(&rt, rt.alloc()) == wanted);
 }

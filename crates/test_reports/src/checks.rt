@@ -3,9 +3,9 @@ use bag_report::{Fault, Options};
 use bag_store::{MemoryTree, Tree, WriterOut};
 use bag_text::{Text, check_path};
 use bag_walk::{Request, run, status};
-use std::alloc::{AllocError, Global};
+use std::alloc::Global;
 use std::io::Write;
-use std::test::Fail;
+use std::process::Abort;
 
 /// Paths, each with the bytes of its file.
 pub(crate) type Files = &'static [(&'static str, &'static [u8])];
@@ -17,77 +17,78 @@ pub(crate) const DECLARED: Files = &[(
 )];
 
 /// Puts a file into a tree. A text that isn't a path is refused.
-pub(crate) fn put(tree: &mut MemoryTree, path: &str, bytes: &[u8]) -> Result<(), Fail> {
-    check_path(path)?;
-    Ok(tree.put_file(path, bytes)?)
+pub(crate) fn put(stop: &impl Abort, tree: &mut MemoryTree, path: &str, bytes: &[u8]) {
+    check_path(path).expect(stop, "succeeds");
+    tree.put_file(path, bytes).expect(stop, "succeeds")
 }
 
 /// Puts files into a tree.
-pub(crate) fn put_files(tree: &mut MemoryTree, files: Files) -> Result<(), Fail> {
+pub(crate) fn put_files(stop: &impl Abort, tree: &mut MemoryTree, files: Files) {
     for (path, bytes) in files {
-        put(tree, path, bytes)?;
+        put(stop, tree, path, bytes);
     }
-    Ok(())
 }
 
 /// Puts a file of so many times `a` at each of these paths.
 pub(crate) fn put_letters(
+    stop: &impl Abort,
     alloc: Global,
     tree: &mut MemoryTree,
     paths: &str,
     size: usize,
-) -> Result<(), Fail> {
-    let letters = Vec::from_elem(alloc, b'a', size)?;
+) {
+    let letters = Vec::from_elem(alloc, b'a', size).expect(stop, "succeeds");
     for path in paths.lines() {
-        put(tree, path, &letters)?;
+        put(stop, tree, path, &letters);
     }
-    Ok(())
 }
 
 /// A bag in memory, with a payload folder and a declaration.
-pub(crate) fn tree_of(alloc: Global, files: Files) -> Result<MemoryTree, Fail> {
+pub(crate) fn tree_of(stop: &impl Abort, alloc: Global, files: Files) -> MemoryTree {
     let mut tree = MemoryTree::new(alloc);
-    tree.put_folder("data")?;
-    put_files(&mut tree, DECLARED)?;
-    put_files(&mut tree, files)?;
-    Ok(tree)
+    tree.put_folder("data").expect(stop, "succeeds");
+    put_files(stop, &mut tree, DECLARED);
+    put_files(stop, &mut tree, files);
+    tree
 }
 
 /// The paths that a tree opened, each with its line's end.
-pub(crate) fn opened(alloc: Global, tree: &MemoryTree) -> Result<String, AllocError> {
+pub(crate) fn opened(stop: &impl Abort, alloc: Global, tree: &MemoryTree) -> String {
     let mut text = String::new(alloc);
     for path in tree.openings() {
-        text.push_str(path.as_str())?;
-        text.push('\n')?;
+        text.push_str(path.as_str()).expect(stop, "succeeds");
+        text.push('\n').expect(stop, "succeeds");
     }
-    Ok(text)
+    text
 }
 
 /// A request for the faults of a bag called `d`.
 pub(crate) fn request_of(
+    stop: &impl Abort,
     alloc: Global,
     options: Options,
     after: Option<Fault>,
     limit: Option<u64>,
-) -> Result<Request, AllocError> {
-    Ok(Request {
+) -> Request {
+    Request {
         options,
         after,
         limit,
         quiet: false,
-        name: Text::from_str(alloc, "d")?,
-    })
+        name: Text::from_str(alloc, "d").expect(stop, "succeeds"),
+    }
 }
 
 /// The tree after a check, and what the check wrote, with its exit status behind.
 pub(crate) fn checked<T: Tree + Drop>(
+    stop: &impl Abort,
     alloc: Global,
     tree: T,
     request: Request,
-) -> Result<(T, String), Fail> {
+) -> (T, String) {
     let mut out = WriterOut::new(Vec::<u8>::new(alloc));
     let (tree, outcome) = run(alloc, tree, None, request, &mut out);
     let mut text = out.into_inner();
-    write!(text, "{}", status(&outcome))?;
-    Ok((tree, String::from_utf8(text)?))
+    write!(text, "{}", status(&outcome)).expect(stop, "succeeds");
+    (tree, String::from_utf8(text).expect(stop, "succeeds"))
 }

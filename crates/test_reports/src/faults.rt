@@ -1,18 +1,18 @@
 //! Fault lines, the order of faults, and their copies.
 use bag_report::{CursorFault, Fault};
 use bag_text::{Code, Text};
-use std::alloc::{AllocError, Global};
-use std::test::Fail;
+use std::alloc::Global;
+use std::process::Abort;
 
 /// A fault whose path and detail are one text.
-fn fault(alloc: Global, text: &str) -> Result<Fault, AllocError> {
-    Ok(Fault {
+fn fault(stop: &impl Abort, alloc: Global, text: &str) -> Fault {
+    Fault {
         code: Code::NameClash,
-        path: Text::from_str(alloc, text)?,
+        path: Text::from_str(alloc, text).expect(stop, "succeeds"),
         alg: None,
         line: 0,
-        detail: Text::from_str(alloc, text)?,
-    })
+        detail: Text::from_str(alloc, text).expect(stop, "succeeds"),
+    }
 }
 
 /// Texts, each with the field that stands for it.
@@ -34,19 +34,20 @@ const TEXTS: &[(&str, &str)] = &[
 ];
 
 /// Whether the fault whose path and detail are a text has this line, and the line is read as that fault.
-fn is_encoded(alloc: Global, text: &str, line: &str) -> Result<bool, Fail> {
-    let fault = fault(alloc, text)?;
-    let is_written = fault.to_line(alloc)?.as_str() == line;
-    Ok(is_written && Fault::from_line(alloc, line)? == fault)
+fn is_encoded(stop: &impl Abort, alloc: Global, text: &str, line: &str) -> bool {
+    let fault = fault(stop, alloc, text);
+    let is_written = fault.to_line(alloc).expect(stop, "succeeds").as_str() == line;
+    is_written && Fault::from_line(alloc, line).expect(stop, "succeeds") == fault
 }
 
 #[test]
-fn each_text_is_encoded_and_read_back(rt: HostRuntime) -> Result<(), Fail> {
+fn each_text_is_encoded_and_read_back(rt: HostRuntime) {
     for &(text, field) in TEXTS {
-        let line = format!(in rt.alloc(); "604 name-clash {field} - - {field}")?;
-        assert!(rt; is_encoded(rt.alloc(), text, line.as_str())?, "{field}");
+        let line = format!(in rt.alloc(); "604 name-clash {field} - - {field}").expect(
+            &rt, "succeeds",
+        );
+        assert!(rt; is_encoded(&rt, rt.alloc(), text, line.as_str()), "{field}");
     }
-    Ok(())
 }
 
 /// Ascending: by stage, path, algorithm, line, code and detail.
@@ -78,23 +79,37 @@ const ASCENDING: &[&str] = &[
 ];
 
 /// Copies of the faults of these lines, the last first.
-fn descending(alloc: Global) -> Result<Vec<Fault>, Fail> {
+fn descending(stop: &impl Abort, alloc: Global) -> Vec<Fault> {
     let mut faults = Vec::new(alloc);
     for line in ASCENDING.iter().rev() {
-        faults.push(Fault::from_line(alloc, line)?.copy(alloc)?)?;
+        faults
+            .push(
+                Fault::from_line(alloc, line)
+                    .expect(stop, "succeeds")
+                    .copy(alloc)
+                    .expect(stop, "succeeds"),
+            )
+            .expect(stop, "succeeds");
     }
-    Ok(faults)
+    faults
 }
 
 #[test]
-fn faults_are_sorted_in_their_order(rt: HostRuntime) -> Result<(), Fail> {
-    let mut faults = descending(rt.alloc())?;
-    faults.sort()?;
-    assert_eq!(rt; faults.len(), ASCENDING.len());
-    for (fault, line) in faults.iter().zip(ASCENDING) {
-        assert_eq!(rt; fault.to_line(rt.alloc())?.as_str(), *line);
+fn faults_are_sorted_in_their_order(rt: HostRuntime) {
+    let mut faults = descending(&rt, rt.alloc());
+    faults.sort().expect(&rt, "succeeds");
+    assert!(rt; faults.len() == ASCENDING.len() && are_ascending(&rt, rt.alloc(), &faults));
+}
+
+/// Whether faults have these lines.
+fn are_ascending(stop: &impl Abort, alloc: Global, faults: &[Fault]) -> bool {
+    for (fault, wanted) in faults.iter().zip(ASCENDING) {
+        let line = fault.to_line(alloc).expect(stop, "succeeds");
+        if line.as_str() != *wanted {
+            return false;
+        }
     }
-    Ok(())
+    true
 }
 
 /// Refusals, each with its text.
@@ -104,9 +119,14 @@ const CURSOR_FAULTS: &[(CursorFault, &str)] = &[
 ];
 
 #[test]
-fn refusals_have_their_texts(rt: HostRuntime) -> Result<(), Fail> {
+fn refusals_have_their_texts(rt: HostRuntime) {
     for &(refusal, text) in CURSOR_FAULTS {
-        assert_eq!(rt; refusal.to_string(rt.alloc())?.as_str(), text);
+        assert!(rt;
+            refusal
+                .to_string(rt.alloc())
+                .expect(&rt, "succeeds")
+                .as_str()
+                == text
+        );
     }
-    Ok(())
 }

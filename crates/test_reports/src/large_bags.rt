@@ -4,7 +4,7 @@ use crate::series::{Parts, text_of};
 use bag_report::{Depth, Options};
 use bag_store::MemoryTree;
 use std::alloc::Global;
-use std::test::Fail;
+use std::process::Abort;
 
 /// A bag of so many numbers: the paths of its payload files, of which each has so many letters, and its tag files; how deep it
 /// is checked, how many files are opened, and what is written, with the exit status behind.
@@ -169,38 +169,38 @@ const ROWS: &[Row] = &[
 ];
 
 /// The bag of a row.
-fn bag_of(alloc: Global, row: &Row) -> Result<MemoryTree, Fail> {
-    let mut tree = tree_of(alloc, &[])?;
+fn bag_of(stop: &impl Abort, alloc: Global, row: &Row) -> MemoryTree {
+    let mut tree = tree_of(stop, alloc, &[]);
     let (paths, size) = row.files;
     put_letters(
+        stop,
         alloc,
         &mut tree,
-        text_of(alloc, paths, row.count)?.as_str(),
+        text_of(stop, alloc, paths, row.count).as_str(),
         size,
-    )?;
+    );
     for (path, parts) in row.tag_files {
-        let text = text_of(alloc, parts, row.count)?;
-        put(&mut tree, path, text.as_bytes())?;
+        let text = text_of(stop, alloc, parts, row.count);
+        put(stop, &mut tree, path, text.as_bytes());
     }
-    Ok(tree)
+    tree
 }
 
 /// Whether a check of a row's bag opens so many files, and writes what the row says.
-fn is_right(alloc: Global, row: &Row) -> Result<bool, Fail> {
+fn is_right(stop: &impl Abort, alloc: Global, row: &Row) -> bool {
     let options = Options {
         depth: row.depth,
         clashes: true,
     };
-    let request = request_of(alloc, options, None, None)?;
-    let tree = bag_of(alloc, row)?;
-    let (tree, output) = checked(alloc, tree, request)?;
-    Ok(tree.openings().len() == row.opened && output == text_of(alloc, row.output, row.count)?)
+    let request = request_of(stop, alloc, options, None, None);
+    let tree = bag_of(stop, alloc, row);
+    let (tree, output) = checked(stop, alloc, tree, request);
+    tree.openings().len() == row.opened && output == text_of(stop, alloc, row.output, row.count)
 }
 
 #[test]
-fn thousands_of_lines_and_files(rt: HostRuntime) -> Result<(), Fail> {
+fn thousands_of_lines_and_files(rt: HostRuntime) {
     for (place, row) in ROWS.iter().enumerate() {
-        assert!(rt; is_right(rt.alloc(), row)?, "row {place}");
+        assert!(rt; is_right(&rt, rt.alloc(), row), "row {place}");
     }
-    Ok(())
 }

@@ -8,9 +8,9 @@ use bag_memory_disk::{MemoryDisk, Node};
 use bag_report::{Depth, Options};
 use bag_store::{SkewTree, Tree};
 use bag_text::{Text, is_payload};
-use std::alloc::{AllocError, Global};
+use std::alloc::Global;
 use std::collections::BTreeMap;
-use std::test::Fail;
+use std::process::Abort;
 
 /// How trees here are checked.
 fn options_of(depth: Depth) -> Options {
@@ -21,18 +21,17 @@ fn options_of(depth: Depth) -> Options {
 }
 
 /// What a whole check of a tree writes.
-fn written<T: Tree + Drop>(alloc: Global, tree: T, depth: Depth) -> Result<String, Fail> {
-    let request = request_of(alloc, options_of(depth), None, None)?;
-    let (_tree, text) = checked(alloc, tree, request)?;
-    Ok(text)
+fn written<T: Tree + Drop>(stop: &impl Abort, alloc: Global, tree: T, depth: Depth) -> String {
+    let request = request_of(stop, alloc, options_of(depth), None, None);
+    let (_tree, text) = checked(stop, alloc, tree, request);
+    text
 }
 
 #[test]
-fn a_listing_of_too_many(rt: HostRuntime) -> Result<(), Fail> {
-    let tree = SkewTree::new(tree_of(rt.alloc(), &[])?, None);
-    let text = written(rt.alloc(), tree, Depth::Full)?;
-    assert_eq!(rt; text.as_str(), "d unread - too-many, faults: 0\n3");
-    Ok(())
+fn a_listing_of_too_many(rt: HostRuntime) {
+    let tree = SkewTree::new(tree_of(&rt, rt.alloc(), &[]), None);
+    let text = written(&rt, rt.alloc(), tree, Depth::Full);
+    assert!(rt; text.as_str() == "d unread - too-many, faults: 0\n3");
 }
 
 /// The manifest of a file `data/a` that is `a`.
@@ -43,14 +42,15 @@ const NAMED: (&str, &[u8]) = (
 
 /// What isn't listed is missing, and isn't opened.
 #[test]
-fn a_file_that_is_not_listed(rt: HostRuntime) -> Result<(), Fail> {
-    let listing = tree_of(rt.alloc(), &[NAMED])?.list()?;
-    let tree = tree_of(rt.alloc(), &[("data/a", b"a"), NAMED])?;
+fn a_file_that_is_not_listed(rt: HostRuntime) {
+    let listing = tree_of(&rt, rt.alloc(), &[NAMED])
+        .list()
+        .expect(&rt, "succeeds");
+    let tree = tree_of(&rt, rt.alloc(), &[("data/a", b"a"), NAMED]);
     let tree = SkewTree::new(tree, Some(listing));
-    let text = written(rt.alloc(), tree, Depth::Full)?;
+    let text = written(&rt, rt.alloc(), tree, Depth::Full);
     let wanted = "601 payload-file-missing data/a md5 - -\nd has faults: 1\n1";
-    assert_eq!(rt; text.as_str(), wanted);
-    Ok(())
+    assert!(rt; text.as_str() == wanted);
 }
 
 /// A disk that says of each payload file that it has the greatest size.
@@ -105,33 +105,33 @@ const SIZED: Files = &[
 ];
 
 /// Puts files on a disk's places.
-fn put_nodes(
-    alloc: Global,
-    nodes: &mut BTreeMap<Vec<u8>, Node>,
-    files: Files,
-) -> Result<(), AllocError> {
+fn put_nodes(stop: &impl Abort, alloc: Global, nodes: &mut BTreeMap<Vec<u8>, Node>, files: Files) {
     for (path, bytes) in files {
-        let node = Node::File(bytes.to_vec(alloc)?);
-        let _ = nodes.insert(path.as_bytes().to_vec(alloc)?, node)?;
+        let node = Node::File(bytes.to_vec(alloc).expect(stop, "succeeds"));
+        let key = path.as_bytes().to_vec(alloc).expect(stop, "succeeds");
+        let put: Result<_, _> = nodes.insert(key, node);
+        put.expect(stop, "succeeds");
     }
-    Ok(())
 }
 
 /// The disk of these files.
-fn disk(alloc: Global) -> Result<Option<MemoryDisk>, AllocError> {
+fn disk(stop: &impl Abort, alloc: Global) -> Option<MemoryDisk> {
     let mut nodes = BTreeMap::new(alloc);
-    let _ = nodes.insert(b"data".to_vec(alloc)?, Node::Folder)?;
-    put_nodes(alloc, &mut nodes, DECLARED)?;
-    put_nodes(alloc, &mut nodes, SIZED)?;
-    Ok(MemoryDisk::holding(alloc, nodes))
+    let data = b"data".to_vec(alloc).expect(stop, "succeeds");
+    let put: Result<_, _> = nodes.insert(data, Node::Folder);
+    put.expect(stop, "succeeds");
+    put_nodes(stop, alloc, &mut nodes, DECLARED);
+    put_nodes(stop, alloc, &mut nodes, SIZED);
+    MemoryDisk::holding(alloc, nodes)
 }
 
 #[test]
-fn sizes_add_up_without_loss(rt: HostRuntime) -> Result<(), Fail> {
-    let disk = disk(rt.alloc())?.ok_or("no disk")?;
+fn sizes_add_up_without_loss(rt: HostRuntime) {
+    let disk = disk(&rt, rt.alloc())
+        .ok_or("no disk")
+        .expect(&rt, "succeeds");
     let tree = FileTree::over(rt.alloc(), Enlarged { disk });
-    let text = written(rt.alloc(), tree, Depth::Fast)?;
+    let text = written(&rt, rt.alloc(), tree, Depth::Fast);
     let wanted = "304 oxum-differs bag-info.txt - 1 0.2:36893488147419103230.2\nd has faults: 1\n1";
-    assert_eq!(rt; text.as_str(), wanted);
-    Ok(())
+    assert!(rt; text.as_str() == wanted);
 }

@@ -6,8 +6,8 @@ use bag_make::MakeFault;
 use bag_making::{make_and_tell, put_making};
 use bag_store::{FailTree, MemoryTree, Stop, Tree, TreeFault, WriteTree, WriterOut, read_whole};
 use bag_text::{Alg, AlgSet, Text};
-use std::alloc::{AllocError, Global};
-use std::test::Fail;
+use std::alloc::Global;
+use std::process::Abort;
 
 fn set_of(algs: &[Alg]) -> AlgSet {
     let mut set = AlgSet::empty();
@@ -17,12 +17,17 @@ fn set_of(algs: &[Alg]) -> AlgSet {
     set
 }
 
-fn elements(alloc: Global, info: &[(&str, &str)]) -> Result<Vec<(Text, Text)>, AllocError> {
+fn elements(stop: &impl Abort, alloc: Global, info: &[(&str, &str)]) -> Vec<(Text, Text)> {
     let mut elements = Vec::new(alloc);
     for (label, value) in info {
-        elements.push((Text::from_str(alloc, label)?, Text::from_str(alloc, value)?))?;
+        elements
+            .push((
+                Text::from_str(alloc, label).expect(stop, "succeeds"),
+                Text::from_str(alloc, value).expect(stop, "succeeds"),
+            ))
+            .expect(stop, "succeeds");
     }
-    Ok(elements)
+    elements
 }
 
 /// The algorithms, and the labels with their values.
@@ -30,14 +35,18 @@ type Request = (&'static [Alg], &'static [(&'static str, &'static str)]);
 
 /// The tree of which a bag was to be made, and what is said of it.
 fn made<T: WriteTree + Drop>(
+    stop: &impl Abort,
     alloc: Global,
     tree: T,
     (algs, info): Request,
-) -> Result<(T, String), Fail> {
-    let info = elements(alloc, info)?;
+) -> (T, String) {
+    let info = elements(stop, alloc, info);
     let mut out = WriterOut::new(Vec::<u8>::new(alloc));
     let (tree, _status) = make_and_tell(alloc, tree, "d", set_of(algs), &info, false, &mut out);
-    Ok((tree, String::from_utf8(out.into_inner())?))
+    (
+        tree,
+        String::from_utf8(out.into_inner()).expect(stop, "succeeds"),
+    )
 }
 
 /// A file in the way.
@@ -68,48 +77,56 @@ const REFUSED: &[(Files, Request, &str)] = &[
 ];
 
 /// A folder with these files.
-fn folder(alloc: Global, files: Files) -> Result<MemoryTree, Fail> {
+fn folder(stop: &impl Abort, alloc: Global, files: Files) -> MemoryTree {
     let mut tree = MemoryTree::new(alloc);
-    put_files(&mut tree, files)?;
-    Ok(tree)
+    put_files(stop, &mut tree, files);
+    tree
 }
 
 /// Whether a tree holds these files and no others.
-fn holds(alloc: Global, tree: &mut MemoryTree, files: Files) -> Result<bool, Fail> {
-    let listing = tree.list()?;
+fn holds(stop: &impl Abort, alloc: Global, tree: &mut MemoryTree, files: Files) -> bool {
+    let listing = tree.list().expect(stop, "succeeds");
     let mut is_same = listing.files.as_slice().len() == files.len();
     for (entry, (path, bytes)) in listing.files.as_slice().iter().zip(files) {
-        let held = read_whole(alloc, tree, entry)?;
+        let held = read_whole(alloc, tree, entry).expect(stop, "succeeds");
         is_same = is_same && entry.path.as_str() == *path && held.as_slice() == *bytes;
     }
-    Ok(is_same)
+    is_same
 }
 
 /// Whether a making is refused with this line, and leaves the folder as it was.
-fn is_refused(alloc: Global, files: Files, request: Request, line: &str) -> Result<bool, Fail> {
-    let (mut tree, told) = made(alloc, folder(alloc, files)?, request)?;
-    Ok(told.as_str() == line && holds(alloc, &mut tree, files)?)
+fn is_refused(
+    stop: &impl Abort,
+    alloc: Global,
+    files: Files,
+    request: Request,
+    line: &str,
+) -> bool {
+    let (mut tree, told) = made(stop, alloc, folder(stop, alloc, files), request);
+    told.as_str() == line && holds(stop, alloc, &mut tree, files)
 }
 
 /// Whether a making is refused with this line where the tree refuses its first call.
-fn is_unread(alloc: Global, files: Files, request: Request, line: &str) -> Result<bool, Fail> {
-    let tree = FailTree::new(folder(alloc, files)?, 1);
-    let (_tree, told) = made(alloc, tree, request)?;
-    Ok(told.as_str() == line)
+fn is_unread(stop: &impl Abort, alloc: Global, files: Files, request: Request, line: &str) -> bool {
+    let tree = FailTree::new(folder(stop, alloc, files), 1);
+    let (_tree, told) = made(stop, alloc, tree, request);
+    told.as_str() == line
 }
 
 #[test]
-fn bad_requests_are_refused_before_the_folder_is_listed(rt: HostRuntime) -> Result<(), Fail> {
+fn bad_requests_are_refused_before_the_folder_is_listed(rt: HostRuntime) {
     for &(files, request, line) in REFUSED {
         let unread = if line == IN_THE_WAY {
             "d not made: read - device\n"
         } else {
             line
         };
-        assert!(rt; is_refused(rt.alloc(), files, request, line)?, "{line}");
-        assert!(rt; is_unread(rt.alloc(), files, request, unread)?, "{line}");
+        assert!(rt; is_refused(&rt, rt.alloc(), files, request, line), "{line}");
+        assert!(rt;
+            is_unread(&rt, rt.alloc(), files, request, unread),
+            "{line}"
+        );
     }
-    Ok(())
 }
 
 /// A bag whose metadata has labels that no option has, in the order in which they were given, the size of the payload last.
@@ -151,42 +168,40 @@ const LABELS: &[(&str, &str)] = &[
 ];
 
 #[test]
-fn labels_that_no_option_has(rt: HostRuntime) -> Result<(), Fail> {
-    let tree = folder(rt.alloc(), &[("c", b"abc"), ("data/a", b"ab")])?;
-    let (mut tree, told) = made(rt.alloc(), tree, (&[Alg::Sha1], LABELS))?;
-    assert!(rt; told.as_str() == "d made\n" && holds(rt.alloc(), &mut tree, LABELLED)?);
-    Ok(())
+fn labels_that_no_option_has(rt: HostRuntime) {
+    let tree = folder(&rt, rt.alloc(), &[("c", b"abc"), ("data/a", b"ab")]);
+    let (mut tree, told) = made(&rt, rt.alloc(), tree, (&[Alg::Sha1], LABELS));
+    assert!(rt; told.as_str() == "d made\n" && holds(&rt, rt.alloc(), &mut tree, LABELLED));
 }
 
 /// What a making of `d` writes that ended so.
-fn told(alloc: Global, made: &Result<(), MakeFault>, quiet: bool) -> Result<String, Fail> {
+fn told(stop: &impl Abort, alloc: Global, made: &Result<(), MakeFault>, quiet: bool) -> String {
     let mut out = WriterOut::new(Vec::<u8>::new(alloc));
     let _ = put_making("d", made, quiet, &mut out);
-    Ok(String::from_utf8(out.into_inner())?)
+    String::from_utf8(out.into_inner()).expect(stop, "succeeds")
 }
 
 #[test]
-fn a_bag_that_is_made(rt: HostRuntime) -> Result<(), Fail> {
-    assert_eq!(rt; told(rt.alloc(), &Ok(()), false)?.as_str(), "d made\n");
-    assert_eq!(rt; told(rt.alloc(), &Ok(()), true)?.as_str(), "");
-    Ok(())
+fn a_bag_that_is_made(rt: HostRuntime) {
+    assert!(rt; told(&rt, rt.alloc(), &Ok(()), false).as_str() == "d made\n");
+    assert!(rt; told(&rt, rt.alloc(), &Ok(()), true).as_str() == "");
 }
 
 /// Whether a making that was refused so writes this line, quiet or not.
-fn is_told(alloc: Global, fault: MakeFault, line: &str) -> Result<bool, Fail> {
+fn is_told(stop: &impl Abort, alloc: Global, fault: MakeFault, line: &str) -> bool {
     let made = Err(fault);
-    Ok(told(alloc, &made, false)?.as_str() == line && told(alloc, &made, true)?.as_str() == line)
+    told(stop, alloc, &made, false).as_str() == line
+        && told(stop, alloc, &made, true).as_str() == line
 }
 
 #[test]
-fn a_request_that_is_refused(rt: HostRuntime) -> Result<(), Fail> {
+fn a_request_that_is_refused(rt: HostRuntime) {
     let alloc = rt.alloc();
-    assert!(rt; is_told(alloc, MakeFault::NoAlgorithm, NO_ALGORITHM)?);
-    assert!(rt; is_told(alloc, MakeFault::InTheWay, IN_THE_WAY)?);
-    assert!(rt; is_told(alloc, MakeFault::BadValue, BAD_VALUE)?);
+    assert!(rt; is_told(&rt, alloc, MakeFault::NoAlgorithm, NO_ALGORITHM));
+    assert!(rt; is_told(&rt, alloc, MakeFault::InTheWay, IN_THE_WAY));
+    assert!(rt; is_told(&rt, alloc, MakeFault::BadValue, BAD_VALUE));
     let line = "d not made: out of memory\n";
-    assert!(rt; is_told(alloc, MakeFault::Memory, line)?);
-    Ok(())
+    assert!(rt; is_told(&rt, alloc, MakeFault::Memory, line));
 }
 
 /// The causes, and their words.
@@ -203,25 +218,27 @@ const CAUSES: &[(TreeFault, &str)] = &[
 ];
 
 #[test]
-fn a_step_that_is_refused(rt: HostRuntime) -> Result<(), Fail> {
+fn a_step_that_is_refused(rt: HostRuntime) {
     for &(cause, word) in CAUSES {
-        let line = format!(in rt.alloc(); "d not made: step 18446744073709551615 {word}\n")?;
+        let line = format!(in rt.alloc(); "d not made: step 18446744073709551615 {word}\n").expect(
+            &rt, "succeeds",
+        );
         let fault = MakeFault::StepRefused(u64::MAX, cause);
-        assert!(rt; is_told(rt.alloc(), fault, line.as_str())?, "{word}");
+        assert!(rt; is_told(&rt, rt.alloc(), fault, line.as_str()), "{word}");
     }
-    Ok(())
 }
 
 #[test]
-fn a_file_that_is_not_read(rt: HostRuntime) -> Result<(), Fail> {
+fn a_file_that_is_not_read(rt: HostRuntime) {
     for (path, field) in [("", "-"), ("a b", "a%20b")] {
-        let path = Text::from_str(rt.alloc(), path)?;
+        let path = Text::from_str(rt.alloc(), path).expect(&rt, "succeeds");
         let cause = TreeFault::Special;
-        let line = format!(in rt.alloc(); "d not made: read {field} special\n")?;
+        let line = format!(in rt.alloc(); "d not made: read {field} special\n").expect(
+            &rt, "succeeds",
+        );
         let fault = MakeFault::ReadStopped(Stop { cause, path });
-        assert!(rt; is_told(rt.alloc(), fault, line.as_str())?, "{field}");
+        assert!(rt; is_told(&rt, rt.alloc(), fault, line.as_str()), "{field}");
     }
-    Ok(())
 }
 
 /// A folder of so many numbers: its paths, and how many letters each file has; how many files the bag has by MD5 and SHA-1, and
@@ -276,39 +293,40 @@ const LARGE: &[Large] = &[
 ];
 
 /// The tree in which a row's folder was made a bag, where each file was opened once, in order.
-fn made_of(alloc: Global, row: &Large) -> Result<Option<MemoryTree>, Fail> {
+fn made_of(stop: &impl Abort, alloc: Global, row: &Large) -> Option<MemoryTree> {
     let mut tree = MemoryTree::new(alloc);
-    let paths = text_of(alloc, row.paths, row.count)?;
-    put_letters(alloc, &mut tree, paths.as_str(), row.size)?;
-    let (tree, _told) = made(alloc, tree, (&[Alg::Sha1, Alg::Md5], &[]))?;
-    Ok((opened(alloc, &tree)? == paths).then_some(tree))
+    let paths = text_of(stop, alloc, row.paths, row.count);
+    put_letters(stop, alloc, &mut tree, paths.as_str(), row.size);
+    let (tree, _told) = made(stop, alloc, tree, (&[Alg::Sha1, Alg::Md5], &[]));
+    (opened(stop, alloc, &tree) == paths).then_some(tree)
 }
 
 /// Whether a tree has so many files, and among them a row's manifests.
-fn has_manifests(alloc: Global, tree: &mut MemoryTree, row: &Large) -> Result<bool, Fail> {
-    let listing = tree.list()?;
+fn has_manifests(stop: &impl Abort, alloc: Global, tree: &mut MemoryTree, row: &Large) -> bool {
+    let listing = tree.list().expect(stop, "succeeds");
     let mut found = 0usize;
     for entry in listing.files.as_slice() {
         for (path, parts) in row.manifests {
             if entry.path.as_str() == *path {
-                let held = read_whole(alloc, tree, entry)?;
-                let wanted = text_of(alloc, parts, row.count)?;
+                let held = read_whole(alloc, tree, entry).expect(stop, "succeeds");
+                let wanted = text_of(stop, alloc, parts, row.count);
                 found = found.wrapping_add(usize::from(held.as_slice() == wanted.as_bytes()));
             }
         }
     }
-    Ok(found == 2 && listing.files.as_slice().len() == row.files)
+    found == 2 && listing.files.as_slice().len() == row.files
 }
 
 #[test]
-fn ten_thousand_files_and_a_million_bytes(rt: HostRuntime) -> Result<(), Fail> {
+fn ten_thousand_files_and_a_million_bytes(rt: HostRuntime) {
     for row in LARGE {
-        let mut tree = made_of(rt.alloc(), row)?.ok_or("openings")?;
+        let mut tree = made_of(&rt, rt.alloc(), row)
+            .ok_or("openings")
+            .expect(&rt, "succeeds");
         assert!(rt;
-            has_manifests(rt.alloc(), &mut tree, row)?,
+            has_manifests(&rt, rt.alloc(), &mut tree, row),
             "{} files",
             row.files
         );
     }
-    Ok(())
 }

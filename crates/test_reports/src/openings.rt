@@ -2,7 +2,7 @@
 use crate::checks::{Files, checked, opened, request_of, tree_of};
 use bag_report::{Depth, Fault, Options};
 use std::alloc::Global;
-use std::test::Fail;
+use std::process::Abort;
 
 /// What a bag holds beside the declaration, how deep it is checked, above which fault and up to how many; the files that are
 /// opened, and what is written, with the exit status behind.
@@ -177,30 +177,29 @@ const ROWS: &[Row] = &[
 ];
 
 /// The fault of a row's line.
-fn cursor(alloc: Global, line: Option<&str>) -> Result<Option<Fault>, Fail> {
+fn cursor(stop: &impl Abort, alloc: Global, line: Option<&str>) -> Option<Fault> {
     match line {
-        Some(line) => Ok(Some(Fault::from_line(alloc, line)?)),
-        None => Ok(None),
+        Some(line) => Some(Fault::from_line(alloc, line).expect(stop, "succeeds")),
+        None => None,
     }
 }
 
 /// Whether a check opens what a row says, and writes it, whether names that clash are looked for or not.
-fn is_right(alloc: Global, row: &Row, clashes: bool) -> Result<bool, Fail> {
+fn is_right(stop: &impl Abort, alloc: Global, row: &Row, clashes: bool) -> bool {
     let depth = row.depth;
     let (after, limit) = row.asked;
-    let after = cursor(alloc, after)?;
-    let request = request_of(alloc, Options { depth, clashes }, after, limit)?;
-    let tree = tree_of(alloc, row.bag)?;
-    let (tree, output) = checked(alloc, tree, request)?;
-    Ok(output.as_str() == row.output && opened(alloc, &tree)?.as_str() == row.opened)
+    let after = cursor(stop, alloc, after);
+    let request = request_of(stop, alloc, Options { depth, clashes }, after, limit);
+    let tree = tree_of(stop, alloc, row.bag);
+    let (tree, output) = checked(stop, alloc, tree, request);
+    output.as_str() == row.output && opened(stop, alloc, &tree).as_str() == row.opened
 }
 
 #[test]
-fn checks_open_the_files_that_they_must(rt: HostRuntime) -> Result<(), Fail> {
+fn checks_open_the_files_that_they_must(rt: HostRuntime) {
     for (place, row) in ROWS.iter().enumerate() {
         for clashes in [false, true] {
-            assert!(rt; is_right(rt.alloc(), row, clashes)?, "row {place}");
+            assert!(rt; is_right(&rt, rt.alloc(), row, clashes), "row {place}");
         }
     }
-    Ok(())
 }

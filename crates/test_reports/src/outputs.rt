@@ -5,7 +5,7 @@ use bag_store::WriterOut;
 use bag_walk::{Outcome, run};
 use std::alloc::Global;
 use std::io::{self, Write};
-use std::test::Fail;
+use std::process::Abort;
 
 /// Takes at most so many bytes a call until it has no room, and then refuses.
 #[derive(Drop)]
@@ -41,17 +41,18 @@ const WHOLE: &str = "102 declaration-not-utf8 bagit.txt - - bom\n\
 
 /// What a check writes to an output with this much room, and how many lines were written before it refused, if it did.
 fn narrowly_checked(
+    stop: &impl Abort,
     alloc: Global,
     most: usize,
     room: usize,
-) -> Result<(Vec<u8>, Option<u64>), Fail> {
-    let mut tree = tree_of(alloc, &[])?;
-    put(&mut tree, "bagit.txt", MARKED)?;
+) -> (Vec<u8>, Option<u64>) {
+    let mut tree = tree_of(stop, alloc, &[]);
+    put(stop, &mut tree, "bagit.txt", MARKED);
     let options = Options {
         depth: Depth::Declaration,
         clashes: false,
     };
-    let request = request_of(alloc, options, None, None)?;
+    let request = request_of(stop, alloc, options, None, None);
     let mut out = WriterOut::new(Narrow {
         taken: Vec::new(alloc),
         most,
@@ -62,7 +63,7 @@ fn narrowly_checked(
         Outcome::Unwritten(written) => Some(written),
         _ => None,
     };
-    Ok((out.into_inner().taken, refused))
+    (out.into_inner().taken, refused)
 }
 
 /// How many whole lines these bytes are.
@@ -78,33 +79,31 @@ fn lines_in(bytes: &[u8]) -> u64 {
 
 /// Whether an output with this much room takes as much of the text as it has room for, and where that isn't all of it, its
 /// whole lines are counted.
-fn is_cut(alloc: Global, most: usize, room: usize) -> Result<bool, Fail> {
-    let (taken, refused) = narrowly_checked(alloc, most, room)?;
+fn is_cut(stop: &impl Abort, alloc: Global, most: usize, room: usize) -> bool {
+    let (taken, refused) = narrowly_checked(stop, alloc, most, room);
     let is_front = WHOLE.as_bytes().starts_with(&taken) && taken.len() == room.min(WHOLE.len());
     let wanted = (room < WHOLE.len()).then_some(lines_in(&taken));
-    Ok(is_front && refused == wanted)
+    is_front && refused == wanted
 }
 
 /// The most bytes that outputs take.
 const MOST: [usize; 2] = [1, usize::MAX];
 
 #[test]
-fn an_output_that_refuses_at_each_place(rt: HostRuntime) -> Result<(), Fail> {
+fn an_output_that_refuses_at_each_place(rt: HostRuntime) {
     for most in MOST {
         for room in 0..WHOLE.len() {
             assert!(rt;
-                is_cut(rt.alloc(), most, room)?,
+                is_cut(&rt, rt.alloc(), most, room),
                 "{most} bytes, room {room}"
             );
         }
     }
-    Ok(())
 }
 
 #[test]
-fn outputs_with_just_enough_room(rt: HostRuntime) -> Result<(), Fail> {
+fn outputs_with_just_enough_room(rt: HostRuntime) {
     for most in MOST {
-        assert!(rt; is_cut(rt.alloc(), most, WHOLE.len())?, "{most} bytes");
+        assert!(rt; is_cut(&rt, rt.alloc(), most, WHOLE.len()), "{most} bytes");
     }
-    Ok(())
 }

@@ -4,7 +4,7 @@ use bag_report::Fault;
 use bag_store::{MemoryTree, Tree};
 use bag_walk::{Fixed, Merge, Source, Then};
 use std::alloc::Global;
-use std::test::Fail;
+use std::process::Abort;
 
 /// Ascending lines of faults.
 const LINES: [&str; 5] = [
@@ -16,71 +16,78 @@ const LINES: [&str; 5] = [
 ];
 
 /// A source of one of these faults, or of none.
-fn fixed(alloc: Global, place: usize) -> Result<Fixed, Fail> {
+fn fixed(stop: &impl Abort, alloc: Global, place: usize) -> Fixed {
     let mut faults = Vec::new(alloc);
     let Some(line) = LINES.get(place) else {
-        return Ok(Fixed::new(faults));
+        return Fixed::new(faults);
     };
-    faults.push(Fault::from_line(alloc, line)?)?;
-    Ok(Fixed::new(faults))
+    let fault = Fault::from_line(alloc, line).expect(stop, "succeeds");
+    faults.push(fault).expect(stop, "succeeds");
+    Fixed::new(faults)
 }
 
-/// The lines of all faults of a source, in the order in which it gives them.
-fn drained<T: Tree, S: Source<T>>(
+/// Writes the lines of all faults of a source, in the order in which it gives them.
+fn drain<T: Tree, S: Source<T>>(
+    stop: &impl Abort,
     alloc: Global,
     tree: &mut T,
     source: &mut S,
-) -> Result<String, Fail> {
+) -> String {
     let mut text = String::new(alloc);
     for _ in 0..10 {
-        if source.fill(tree).is_err() {
-            text.push_str("refused\n")?;
-            return Ok(text);
-        }
+        source.fill(tree).expect(stop, "succeeds");
         let Some(fault) = source.peek() else {
-            return Ok(text);
+            return text;
         };
-        write!(text, "{}\n", fault.to_line(alloc)?)?;
+        let line = fault.to_line(alloc).expect(stop, "succeeds");
+        write!(text, "{line}\n").expect(stop, "succeeds");
         source.advance();
     }
-    Ok(text)
+    text
 }
 
 /// Each line once that stands at one of these places, in its order.
-fn plain(alloc: Global, places: &[usize]) -> Result<String, Fail> {
+fn plain(stop: &impl Abort, alloc: Global, places: &[usize]) -> String {
     let mut text = String::new(alloc);
     for (place, line) in LINES.iter().enumerate() {
         if places.contains(&place) {
-            write!(text, "{line}\n")?;
+            write!(text, "{line}\n").expect(stop, "succeeds");
         }
     }
-    Ok(text)
+    text
 }
 
 /// Whether sources of the faults at four places, merged by twos and then together, give each once and in order.
-fn is_merged(alloc: Global, tree: &mut MemoryTree, places: [usize; 4]) -> Result<bool, Fail> {
-    let [a, b, c, d] = places;
-    let low = Merge::new(fixed(alloc, a)?, fixed(alloc, b)?);
-    let high = Merge::new(fixed(alloc, c)?, fixed(alloc, d)?);
+fn is_merged(
+    stop: &impl Abort,
+    alloc: Global,
+    tree: &mut MemoryTree,
+    [a, b, c, d]: [usize; 4],
+) -> bool {
+    let low = Merge::new(fixed(stop, alloc, a), fixed(stop, alloc, b));
+    let high = Merge::new(fixed(stop, alloc, c), fixed(stop, alloc, d));
     let mut both = Merge::new(low, high);
-    Ok(drained(alloc, tree, &mut both)? == plain(alloc, &places)?)
+    drain(stop, alloc, tree, &mut both) == plain(stop, alloc, &[a, b, c, d])
 }
 
 /// Whether a merged source and another behind it give the faults of the first, and then those of the other.
-fn is_joined(alloc: Global, tree: &mut MemoryTree, places: [usize; 3]) -> Result<bool, Fail> {
-    let [a, b, c] = places;
-    let mut joined = Then::new(
-        Merge::new(fixed(alloc, a)?, fixed(alloc, b)?),
-        fixed(alloc, c)?,
-    );
-    let mut wanted = plain(alloc, &[a, b])?;
-    wanted.push_str(plain(alloc, &[c])?.as_str())?;
-    Ok(drained(alloc, tree, &mut joined)? == wanted)
+fn is_joined(
+    stop: &impl Abort,
+    alloc: Global,
+    tree: &mut MemoryTree,
+    [a, b, c]: [usize; 3],
+) -> bool {
+    let first = Merge::new(fixed(stop, alloc, a), fixed(stop, alloc, b));
+    let mut joined = Then::new(first, fixed(stop, alloc, c));
+    let mut wanted = plain(stop, alloc, &[a, b]);
+    let behind = plain(stop, alloc, &[c]);
+    wanted.push_str(behind.as_str()).expect(stop, "succeeds");
+    drain(stop, alloc, tree, &mut joined) == wanted
 }
 
 #[test]
-fn merged_sources_give_each_fault_once(rt: HostRuntime) -> Result<(), Fail> {
-    let mut tree = tree_of(rt.alloc(), &[])?;
+fn merged_sources_give_each_fault_once(rt: HostRuntime) {
+    let mut tree = tree_of(&rt, rt.alloc(), &[]);
     for number in 0..1296usize {
         let places = [
             number % 6,
@@ -88,17 +95,15 @@ fn merged_sources_give_each_fault_once(rt: HostRuntime) -> Result<(), Fail> {
             number / 36 % 6,
             number / 216 % 6,
         ];
-        assert!(rt; is_merged(rt.alloc(), &mut tree, places)?, "{number}");
+        assert!(rt; is_merged(&rt, rt.alloc(), &mut tree, places), "{number}");
     }
-    Ok(())
 }
 
 #[test]
-fn one_source_comes_behind_another(rt: HostRuntime) -> Result<(), Fail> {
-    let mut tree = tree_of(rt.alloc(), &[])?;
+fn one_source_comes_behind_another(rt: HostRuntime) {
+    let mut tree = tree_of(&rt, rt.alloc(), &[]);
     for number in 0..216usize {
         let places = [number % 6, number / 6 % 6, number / 36 % 6];
-        assert!(rt; is_joined(rt.alloc(), &mut tree, places)?, "{number}");
+        assert!(rt; is_joined(&rt, rt.alloc(), &mut tree, places), "{number}");
     }
-    Ok(())
 }

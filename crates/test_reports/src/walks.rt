@@ -3,8 +3,8 @@ use crate::checks::{Files, opened, tree_of};
 use bag_report::{Depth, Fault, Options};
 use bag_store::{FailTree, MemoryTree, Stop, Tree};
 use bag_walk::Walk;
-use std::alloc::{AllocError, Global};
-use std::test::Fail;
+use std::alloc::Global;
+use std::process::Abort;
 
 /// Three files that hold `a`, to which two manifests give other digests.
 pub(crate) const EACH_TWICE: Files = &[
@@ -33,72 +33,63 @@ const EACH_ONCE: Files = &[
 ];
 
 /// Writes what a step gives: the path and the algorithm of a fault, the end, or the path and the cause of a refusal.
-fn write_step<T: Tree>(
-    alloc: Global,
-    walk: &mut Walk<T>,
-    text: &mut String,
-) -> Result<(), AllocError> {
+fn write_step<T: Tree>(stop: &impl Abort, alloc: Global, walk: &mut Walk<T>, text: &mut String) {
     match walk.next() {
-        Ok(Some(fault)) => write_fault(alloc, fault, text),
-        Ok(None) => text.push_str("end\n"),
-        Err(stop) => write_stop(&stop, text),
+        Ok(Some(fault)) => write_fault(stop, alloc, fault, text),
+        Ok(None) => text.push_str("end\n").expect(stop, "succeeds"),
+        Err(refused) => write_stop(stop, &refused, text),
     }
 }
 
-fn write_fault(alloc: Global, fault: &Fault, text: &mut String) -> Result<(), AllocError> {
-    let line = fault.to_line(alloc)?;
+fn write_fault(stop: &impl Abort, alloc: Global, fault: &Fault, text: &mut String) {
+    let line = fault.to_line(alloc).expect(stop, "succeeds");
     let mut words = line.as_str().split(' ');
-    let (code, path, alg) = (words.next(), words.nth(1), words.next());
-    write!(
-        text,
-        "{} {} {}\n",
-        code.unwrap_or("-"),
-        path.unwrap_or("-"),
-        alg.unwrap_or("-")
-    )
+    let code = words.next().unwrap_or("-");
+    let path = words.nth(1).unwrap_or("-");
+    let alg = words.next().unwrap_or("-");
+    write!(text, "{code} {path} {alg}\n").expect(stop, "succeeds");
 }
 
-fn write_stop(stop: &Stop, text: &mut String) -> Result<(), AllocError> {
-    write!(
-        text,
-        "unread {} {}\n",
-        stop.path.as_str(),
-        stop.cause.word()
-    )
+fn write_stop(stop: &impl Abort, refused: &Stop, text: &mut String) {
+    let path = refused.path.as_str();
+    let cause = refused.cause.word();
+    write!(text, "unread {path} {cause}\n").expect(stop, "succeeds");
 }
 
-/// A walk over a bag at depth `Full`, above the fault of a line where one is given.
-fn walk_over<T: Tree>(alloc: Global, tree: T, after: Option<&str>) -> Result<Option<Walk<T>>, Fail>
-where
-    T: Drop,
-{
+/// A walk over a bag at depth `Full`, above the fault of a line where one is given; none where a call of the tree was refused.
+fn walk_over<T: Tree + Drop>(
+    stop: &impl Abort,
+    alloc: Global,
+    tree: T,
+    after: Option<&str>,
+) -> Option<Walk<T>> {
     let options = Options {
         depth: Depth::Full,
         clashes: false,
     };
     let cursor = match after {
-        Some(line) => Some(Fault::from_line(alloc, line)?),
+        Some(line) => Some(Fault::from_line(alloc, line).expect(stop, "succeeds")),
         None => None,
     };
-    Ok(Walk::start(alloc, tree, None, options, cursor).ok())
+    Walk::start(alloc, tree, None, options, cursor).ok()
 }
 
-/// What the first steps of a walk give, and behind them the files that were opened.
+/// What the first steps of a walk give, and the files that were opened by then.
 fn steps_of(
+    stop: &impl Abort,
     alloc: Global,
-    bag: Files,
     after: Option<&str>,
     steps: usize,
-) -> Result<(String, String), Fail> {
-    let tree = tree_of(alloc, bag)?;
+) -> (String, String) {
     let mut text = String::new(alloc);
-    let Some(mut walk) = walk_over(alloc, tree, after)? else {
-        return Ok((text, String::new(alloc)));
+    let tree = tree_of(stop, alloc, EACH_TWICE);
+    let Some(mut walk) = walk_over(stop, alloc, tree, after) else {
+        return (text, String::new(alloc));
     };
     for _ in 0..steps {
-        write_step(alloc, &mut walk, &mut text)?;
+        write_step(stop, alloc, &mut walk, &mut text);
     }
-    Ok((text, opened(alloc, &walk.into_tree())?))
+    (text, opened(stop, alloc, &walk.into_tree()))
 }
 
 /// The files that are opened before any step.
@@ -171,42 +162,40 @@ const ROWS: &[Row] = &[
 ];
 
 /// Whether the first steps of a row's walk give what it says, and open it.
-fn is_right(alloc: Global, row: &Row, steps: usize) -> Result<bool, Fail> {
-    let (given, opened) = steps_of(alloc, EACH_TWICE, row.after, steps)?;
+fn is_right(stop: &impl Abort, alloc: Global, row: &Row, steps: usize) -> bool {
+    let (given, opened) = steps_of(stop, alloc, row.after, steps);
     let mut wanted = String::new(alloc);
     let mut payload = "";
     for (step, files) in row.steps.iter().take(steps) {
-        wanted.push_str(step)?;
+        wanted.push_str(step).expect(stop, "succeeds");
         payload = files;
     }
-    Ok(given == wanted && opened.as_str().strip_prefix(TAG_FILES) == Some(payload))
+    given == wanted && opened.as_str().strip_prefix(TAG_FILES) == Some(payload)
 }
 
 #[test]
-fn steps_open_no_file_behind_their_fault(rt: HostRuntime) -> Result<(), Fail> {
+fn steps_open_no_file_behind_their_fault(rt: HostRuntime) {
     for (place, row) in ROWS.iter().enumerate() {
         for steps in 0..=row.steps.len() {
             assert!(rt;
-                is_right(rt.alloc(), row, steps)?,
+                is_right(&rt, rt.alloc(), row, steps),
                 "row {place}, {steps} steps"
             );
         }
     }
-    Ok(())
 }
 
-/// What the steps of a walk give of which a call of the tree is refused, and behind them the files that were opened; nothing where
-/// no step came.
-fn refused_at(alloc: Global, call: u64) -> Result<(String, String), Fail> {
+/// What the steps of a walk give of which a call of the tree is refused, and the files that were opened; nothing where no step came.
+fn refused_at(stop: &impl Abort, alloc: Global, call: u64) -> (String, String) {
     let mut text = String::new(alloc);
-    let tree = FailTree::new(tree_of(alloc, EACH_ONCE)?, call);
-    let Some(mut walk) = walk_over(alloc, tree, None)? else {
-        return Ok((text, String::new(alloc)));
+    let tree = FailTree::new(tree_of(stop, alloc, EACH_ONCE), call);
+    let Some(mut walk) = walk_over(stop, alloc, tree, None) else {
+        return (text, String::new(alloc));
     };
     for _ in 0..5 {
-        write_step(alloc, &mut walk, &mut text)?;
+        write_step(stop, alloc, &mut walk, &mut text);
     }
-    Ok((text, opened(alloc, walk.into_tree().inner())?))
+    (text, opened(stop, alloc, walk.into_tree().inner()))
 }
 
 /// What is given where the file of this path is refused, by its opening or by a read, and what is opened then.
@@ -265,7 +254,7 @@ impl Tally {
 }
 
 #[test]
-fn a_refused_file_is_begun_again(rt: HostRuntime) -> Result<(), Fail> {
+fn a_refused_file_is_begun_again(rt: HostRuntime) {
     let mut tally = Tally {
         at_start: 0,
         opening: [0; 3],
@@ -274,7 +263,7 @@ fn a_refused_file_is_begun_again(rt: HostRuntime) -> Result<(), Fail> {
         other: 0,
     };
     for call in 1..60 {
-        let (given, opened) = refused_at(rt.alloc(), call)?;
+        let (given, opened) = refused_at(&rt, rt.alloc(), call);
         tally.note(given.as_str(), opened.as_str());
     }
     let reads = tally.reading[0];
@@ -282,5 +271,4 @@ fn a_refused_file_is_begun_again(rt: HostRuntime) -> Result<(), Fail> {
     assert_eq!(rt; tally.reading, [reads; 3]);
     assert!(rt; 0 < reads && reads <= 2 && 0 < tally.at_start && 0 < tally.behind);
     assert_eq!(rt; tally.other, 0);
-    Ok(())
 }

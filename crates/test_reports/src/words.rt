@@ -1,13 +1,13 @@
 //! What `--help` says, and what is told where memory ran out.
 use bag_arguments::{Action, Usage, plan_of, refuse_words};
 use std::alloc::Global;
-use std::test::Fail;
+use std::process::Abort;
 
 /// The help that words ask for, or nothing.
-fn help_of(alloc: Global, words: &[&str]) -> Result<String, Fail> {
-    match &plan_of(alloc, words)?.action {
-        Action::Help(text) => Ok(String::from_str(alloc, text.as_str())?),
-        Action::Sample | Action::Check | Action::Make => Ok(String::new(alloc)),
+fn help_of(stop: &impl Abort, alloc: Global, words: &[&str]) -> String {
+    match &plan_of(alloc, words).expect(stop, "succeeds").action {
+        Action::Help(text) => String::from_str(alloc, text.as_str()).expect(stop, "succeeds"),
+        Action::Sample | Action::Check | Action::Make => String::new(alloc),
     }
 }
 
@@ -58,34 +58,33 @@ const PARTS: &[&str] = &[
 ];
 
 #[test]
-fn help_has_its_parts(rt: HostRuntime) -> Result<(), Fail> {
+fn help_has_its_parts(rt: HostRuntime) {
     for &words in HELPED {
-        let help = help_of(rt.alloc(), words)?;
+        let help = help_of(&rt, rt.alloc(), words);
         let mut rest = help.as_str();
         for part in PARTS {
             let (_, behind) = rest.split_once(part).expect(&rt, part);
             rest = behind;
         }
     }
-    Ok(())
 }
 
 /// How many columns a line of the help has at most.
 const COLUMNS: usize = 100;
 
 #[test]
-fn help_is_narrow(rt: HostRuntime) -> Result<(), Fail> {
-    let help = help_of(rt.alloc(), &["--help"])?;
+fn help_is_narrow(rt: HostRuntime) {
+    let help = help_of(&rt, rt.alloc(), &["--help"]);
     for line in help.as_str().lines() {
         assert!(rt; line.chars().count() <= COLUMNS, "{line}");
     }
-    Ok(())
 }
 
 #[test]
-fn want_of_memory_is_told(rt: HostRuntime) -> Result<(), Fail> {
+fn want_of_memory_is_told(rt: HostRuntime) {
     let mut told = Vec::<u8>::new(rt.alloc());
-    assert_eq!(rt; refuse_words(&Usage::Memory, &mut told), 3);
-    assert_eq!(rt; String::from_utf8(told)?.as_str(), "bagit: out of memory\n");
-    Ok(())
+    assert!(rt; refuse_words(&Usage::Memory, &mut told) == 3);
+    assert!(rt;
+        String::from_utf8(told).expect(&rt, "succeeds").as_str() == "bagit: out of memory\n"
+    );
 }

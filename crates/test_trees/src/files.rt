@@ -4,61 +4,67 @@ ghost use Rattle.std.specs.Prelude.{◌<◌, length};
 use crate::pieces::summed;
 use bag_store::{FailTree, FileEntry, MemoryTree, Sums, TreeFault, digest_file};
 use bag_text::{Alg, AlgSet, Text};
-use std::alloc::{AllocError, Global};
-use std::test::Fail;
+use std::alloc::Global;
+use std::process::Abort;
 
 const PATH: &str = "data/x";
 
 /// So many bytes, of which no neighbours are alike.
-pub(crate) fn bytes_of(alloc: Global, size: u32) -> Result<Vec<u8>, AllocError> {
-    (0..size).map(|index| (index % 251) as u8).collect(alloc)
+pub(crate) fn bytes_of(stop: &impl Abort, alloc: Global, size: u32) -> Vec<u8> {
+    (0..size)
+        .map(|index| (index % 251) as u8)
+        .collect(alloc)
+        .expect(stop, "succeeds")
 }
 
 /// The digests of a file of these bytes, which is listed with a path and a size, of a tree of which the call of this number is
 /// refused.
 fn digests(
+    stop: &impl Abort,
     alloc: Global,
     bytes: &[u8],
     listed: (&str, u64),
     refused: u64,
     algs: AlgSet,
     buffer: &mut [u8],
-) -> Result<Result<Sums, TreeFault>, AllocError>
+) -> Result<Sums, TreeFault>
     requires { 0 < length buffer.old }
 {
     let (path, size) = listed;
-    let path = Text::from_str(alloc, path)?;
+    let path = Text::from_str(alloc, path).expect(stop, "succeeds");
     let mut tree = MemoryTree::new(alloc);
-    tree.put_file(PATH, bytes)?;
+    tree.put_file(PATH, bytes).expect(stop, "succeeds");
     let mut tree = FailTree::new(tree, refused);
-    Ok(digest_file(&mut tree, &FileEntry { path, size }, algs, buffer))
+    digest_file(&mut tree, &FileEntry { path, size }, algs, buffer)
 }
 
 /// Whether the digest of a file of so many bytes by each algorithm is that of its bytes.
-fn is_summed(alloc: Global, size: u32, buffer: &mut [u8]) -> Result<bool, Fail>
+fn is_summed(stop: &impl Abort, alloc: Global, size: u32, buffer: &mut [u8]) -> bool
     requires { 0 < length buffer.old }
 {
-    let bytes = bytes_of(alloc, size)?;
+    let bytes = bytes_of(stop, alloc, size);
     for alg in Alg::ALL {
         let algs = AlgSet::empty().with(alg);
         let listed = (PATH, u64::from(size));
-        let found = digests(alloc, &bytes, listed, 0, algs, buffer)??.hex(alloc, alg)?;
+        let found = digests(stop, alloc, &bytes, listed, 0, algs, buffer)
+            .expect(stop, "succeeds")
+            .hex(alloc, alg)
+            .expect(stop, "succeeds");
         if !summed(algs, &[&bytes]).is_spelled(alg, found.as_str()) {
-            return Ok(false);
+            return false;
         }
     }
-    Ok(true)
+    true
 }
 
 #[test]
-fn files_are_summed_through_any_buffer(rt: HostRuntime) -> Result<(), Fail> {
+fn files_are_summed_through_any_buffer(rt: HostRuntime) {
     for size in [0, 1, 3, 7, 8, 70_000] {
-        let is_right = is_summed(rt.alloc(), size, &mut [0; 1])?
-            && is_summed(rt.alloc(), size, &mut [0; 7])?
-            && is_summed(rt.alloc(), size, &mut [0; 65_536])?;
+        let is_right = is_summed(&rt, rt.alloc(), size, &mut [0; 1])
+            && is_summed(&rt, rt.alloc(), size, &mut [0; 7])
+            && is_summed(&rt, rt.alloc(), size, &mut [0; 65_536]);
         assert!(rt; is_right, "{size}");
     }
-    Ok(())
 }
 
 /// How a file of seven bytes is listed, its path and its size, each with what its digests are refused for.
@@ -72,54 +78,60 @@ const REFUSED: &[((&str, u64), TreeFault)] = &[
 ];
 
 /// Whether each row is refused.
-fn are_refused(alloc: Global, buffer: &mut [u8]) -> Result<bool, AllocError>
+fn are_refused(stop: &impl Abort, alloc: Global, buffer: &mut [u8]) -> bool
     requires { 0 < length buffer.old }
 {
     for &(listed, fault) in REFUSED {
-        let found = digests(alloc, b"abcdefg", listed, 0, AlgSet::empty(), buffer)?;
+        let found = digests(stop, alloc, b"abcdefg", listed, 0, AlgSet::empty(), buffer);
         if found.err() != Some(fault) {
-            return Ok(false);
+            return false;
         }
     }
-    Ok(true)
+    true
 }
 
 #[test]
-fn other_sizes_and_paths_are_refused(rt: HostRuntime) -> Result<(), Fail> {
-    let is_right = are_refused(rt.alloc(), &mut [0; 1])?
-        && are_refused(rt.alloc(), &mut [0; 7])?
-        && are_refused(rt.alloc(), &mut [0; 65_536])?;
+fn other_sizes_and_paths_are_refused(rt: HostRuntime) {
+    let is_right = are_refused(&rt, rt.alloc(), &mut [0; 1])
+        && are_refused(&rt, rt.alloc(), &mut [0; 7])
+        && are_refused(&rt, rt.alloc(), &mut [0; 65_536]);
     assert!(rt; is_right);
-    Ok(())
 }
 
 /// Whether a pass makes a call for the opening, one for each piece, and one for the end: at most two more than there are bytes.
-fn takes_few_calls(alloc: Global, size: u32, buffer: &mut [u8]) -> Result<bool, AllocError>
+fn takes_few_calls(stop: &impl Abort, alloc: Global, size: u32, buffer: &mut [u8]) -> bool
     requires { 0 < length buffer.old }
 {
-    let bytes = bytes_of(alloc, size)?;
+    let bytes = bytes_of(stop, alloc, size);
     let size = u64::from(size);
     let calls = size.div_ceil(buffer.len() as u64) + 2;
     for call in 1..=size + 3 {
-        let found = digests(alloc, &bytes, (PATH, size), call, AlgSet::empty(), buffer)?;
+        let found = digests(
+            stop,
+            alloc,
+            &bytes,
+            (PATH, size),
+            call,
+            AlgSet::empty(),
+            buffer,
+        );
         let refusal = (call <= calls).then_some(TreeFault::Device);
         if found.err() != refusal {
-            return Ok(false);
+            return false;
         }
     }
-    Ok(calls <= size + 2)
+    calls <= size + 2
 }
 
 #[test]
-fn a_pass_takes_few_calls(rt: HostRuntime) -> Result<(), Fail> {
+fn a_pass_takes_few_calls(rt: HostRuntime) {
     for size in [0, 1, 2, 3, 7, 64] {
-        let is_right = takes_few_calls(rt.alloc(), size, &mut [0; 1])?
-            && takes_few_calls(rt.alloc(), size, &mut [0; 2])?
-            && takes_few_calls(rt.alloc(), size, &mut [0; 3])?
-            && takes_few_calls(rt.alloc(), size, &mut [0; 64])?;
+        let is_right = takes_few_calls(&rt, rt.alloc(), size, &mut [0; 1])
+            && takes_few_calls(&rt, rt.alloc(), size, &mut [0; 2])
+            && takes_few_calls(&rt, rt.alloc(), size, &mut [0; 3])
+            && takes_few_calls(&rt, rt.alloc(), size, &mut [0; 64]);
         assert!(rt; is_right, "{size}");
     }
-    Ok(())
 }
 
 /// The digests of `abc`, as RFC 1321 and FIPS 180 publish them.
@@ -129,23 +141,24 @@ const OF_ABC: &[(Alg, &str)] = &[
 ];
 
 /// Whether each call but the sixth refuses the digest of `abc`, which is read a byte at a time.
-fn is_sixth_past(alloc: Global, alg: Alg, wanted: &str) -> Result<bool, Fail> {
+fn is_sixth_past(stop: &impl Abort, alloc: Global, alg: Alg, wanted: &str) -> bool {
     let algs = AlgSet::empty().with(alg);
     for call in 1..=5 {
-        let found = digests(alloc, b"abc", (PATH, 3), call, algs, &mut [0; 1])?;
+        let found = digests(stop, alloc, b"abc", (PATH, 3), call, algs, &mut [0; 1]);
         if found.err() != Some(TreeFault::Device) {
-            return Ok(false);
+            return false;
         }
     }
-    let found = digests(alloc, b"abc", (PATH, 3), 6, algs, &mut [0; 1])??;
-    Ok(found.is_spelled(alg, wanted))
+    let found = digests(stop, alloc, b"abc", (PATH, 3), 6, algs, &mut [0; 1]).expect(
+        stop, "succeeds",
+    );
+    found.is_spelled(alg, wanted)
 }
 
 /// An opening, three reads that give a byte, and one at the end.
 #[test]
-fn the_fifth_call_is_the_last(rt: HostRuntime) -> Result<(), Fail> {
+fn the_fifth_call_is_the_last(rt: HostRuntime) {
     for &(alg, wanted) in OF_ABC {
-        assert!(rt; is_sixth_past(rt.alloc(), alg, wanted)?, "{wanted}");
+        assert!(rt; is_sixth_past(&rt, rt.alloc(), alg, wanted), "{wanted}");
     }
-    Ok(())
 }

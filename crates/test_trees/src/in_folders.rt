@@ -4,85 +4,107 @@ use crate::trials::{DISK_TRIALS, Held, Place, TRIALS, Trial};
 use bag_store::{FileTree, SystemDisk, TreeFault, WriteTree};
 use std::alloc::Global;
 use std::os::unix::fs::symlink;
-use std::test::Fail;
+use std::process::Abort;
 use std::{env, fs, io, process};
 
 /// Puts something below the folder `base` beside the folder `outside`.
-fn put(rt: &HostRuntime, folders: &str, (path, held): Place) -> io::Result<()> {
-    let place = format!(in rt.alloc(); "{folders}/base/{path}")?;
-    match held {
+fn put(stop: &impl Abort, rt: &HostRuntime, folders: &str, (path, held): Place) {
+    let place = format!(in rt.alloc(); "{folders}/base/{path}").expect(stop, "succeeds");
+    let made = match held {
         Held::File(text) => fs::write(rt, place.as_str(), text.as_bytes()),
         Held::Folder => fs::create_dir(rt, place.as_str()),
         Held::Link => {
-            let outside = format!(in rt.alloc(); "{folders}/outside")?;
+            let outside = format!(in rt.alloc(); "{folders}/outside").expect(stop, "succeeds");
             symlink(rt, outside.as_str(), place.as_str())
         }
-    }
+    };
+    made.expect(stop, "succeeds");
 }
 
 /// Where the folders of the test of this name stand.
-fn path_of(rt: &HostRuntime, test: &str) -> io::Result<String> {
-    let temporary = env::temp_dir(rt)?;
+fn path_of(stop: &impl Abort, rt: &HostRuntime, test: &str) -> String {
+    let temporary = env::temp_dir(rt).expect(stop, "succeeds");
     let id = process::id(rt.process());
-    Ok(format!(in rt.alloc(); "{}/bagit-{test}-{id}", temporary.as_path().display())?)
+    format!(in rt.alloc(); "{}/bagit-{test}-{id}", temporary.as_path().display()).expect(
+        stop, "succeeds",
+    )
 }
 
 /// Makes the folders `outside` and `base`, with what stands in that, in place of those that stood there.
-fn make_folders(rt: &HostRuntime, folders: &str, places: &[Place]) -> io::Result<()> {
+fn make_folders(stop: &impl Abort, rt: &HostRuntime, folders: &str, places: &[Place]) {
     let _ = fs::remove_dir_all(rt, folders);
     for name in ["outside", "base"] {
-        fs::create_dir_all(rt, format!(in rt.alloc(); "{folders}/{name}")?.as_str())?;
+        fs::create_dir_all(
+            rt,
+            format!(in rt.alloc(); "{folders}/{name}")
+                .expect(stop, "succeeds")
+                .as_str(),
+        )
+        .expect(stop, "succeeds");
     }
     for place in places {
-        put(rt, folders, *place)?;
+        put(stop, rt, folders, *place);
     }
-    Ok(())
 }
 
 /// The tree of a folder of these: `base` or `outside`.
 fn tree_of(
+    stop: &impl Abort,
     rt: &HostRuntime,
     folders: &str,
     name: &str,
-) -> io::Result<FileTree<SystemDisk<HostRuntime>>> {
-    let folder = format!(in rt.alloc(); "{folders}/{name}")?;
-    Ok(FileTree::at(rt.clone()?, rt.alloc(), folder.as_str())?)
+) -> FileTree<SystemDisk<HostRuntime>> {
+    let folder = format!(in rt.alloc(); "{folders}/{name}").expect(stop, "succeeds");
+    FileTree::at(
+        rt.clone().expect(stop, "succeeds"),
+        rt.alloc(),
+        folder.as_str(),
+    )
+    .expect(stop, "succeeds")
 }
 
 /// Whether the links of a table stand as before, and nothing is outside.
-fn have_links(rt: &HostRuntime, folders: &str, places: &[Place]) -> io::Result<bool> {
+fn have_links(stop: &impl Abort, rt: &HostRuntime, folders: &str, places: &[Place]) -> bool {
     for (path, held) in places {
         if let Held::Link = held {
-            let place = format!(in rt.alloc(); "{folders}/base/{path}")?;
-            if !fs::symlink_metadata(rt, place.as_str())?.is_symlink() {
-                return Ok(false);
+            let place = format!(in rt.alloc(); "{folders}/base/{path}").expect(stop, "succeeds");
+            if !fs::symlink_metadata(rt, place.as_str())
+                .expect(stop, "succeeds")
+                .is_symlink()
+            {
+                return false;
             }
         }
     }
-    Ok(holds(rt.alloc(), &mut tree_of(rt, folders, "outside")?, "false"))
-}
-
-/// Whether a trial is right in folders that are made for it.
-fn is_right(rt: &HostRuntime, folders: &str, trial: &Trial) -> io::Result<bool> {
-    make_folders(rt, folders, trial.before)?;
-    let mut tree = tree_of(rt, folders, "base")?;
-    Ok(
-        take_all(&mut tree, trial.steps).is_none()
-            && holds(rt.alloc(), &mut tree, trial.after)
-            && have_links(rt, folders, trial.before)?,
+    holds(
+        rt.alloc(),
+        &mut tree_of(stop, rt, folders, "outside"),
+        "false",
     )
 }
 
+/// Whether a trial is right in folders that are made for it.
+fn is_right(stop: &impl Abort, rt: &HostRuntime, folders: &str, trial: &Trial) -> bool {
+    make_folders(stop, rt, folders, trial.before);
+    let mut tree = tree_of(stop, rt, folders, "base");
+    take_all(&mut tree, trial.steps).is_none()
+        && holds(rt.alloc(), &mut tree, trial.after)
+        && have_links(stop, rt, folders, trial.before)
+}
+
 #[test]
-fn steps_change_a_real_folder(rt: HostRuntime) -> Result<(), Fail> {
-    let folders = path_of(&rt, "steps")?;
+fn steps_change_a_real_folder(rt: HostRuntime) {
+    let folders = path_of(&rt, &rt, "steps");
     for trials in [TRIALS, DISK_TRIALS] {
         for trial in trials {
-            assert!(rt; is_right(&rt, folders.as_str(), trial)?, "{}", trial.title);
+            assert!(rt;
+                is_right(&rt, &rt, folders.as_str(), trial),
+                "{}",
+                trial.title
+            );
         }
     }
-    fs::remove_dir_all(&rt, folders.as_str())?;
-    Ok(())
+    fs::remove_dir_all(&rt, folders.as_str()).expect(&rt, "succeeds");
 }
 
 /// Whether a long file is made and read whole.
@@ -94,16 +116,15 @@ fn makes_long_file<T: WriteTree>(alloc: Global, tree: &mut T) -> Result<bool, Tr
 }
 
 /// Whether a long file is made in a folder that is made for it.
-fn is_long_file_made(rt: &HostRuntime, folders: &str) -> Result<bool, Fail> {
-    make_folders(rt, folders, &[])?;
-    let mut tree = tree_of(rt, folders, "base")?;
-    Ok(makes_long_file(rt.alloc(), &mut tree)?)
+fn is_long_file_made(stop: &impl Abort, rt: &HostRuntime, folders: &str) -> bool {
+    make_folders(stop, rt, folders, &[]);
+    let mut tree = tree_of(stop, rt, folders, "base");
+    makes_long_file(rt.alloc(), &mut tree).expect(stop, "succeeds")
 }
 
 #[test]
-fn a_long_file_is_made_whole(rt: HostRuntime) -> Result<(), Fail> {
-    let folders = path_of(&rt, "long-step")?;
-    assert!(rt; is_long_file_made(&rt, folders.as_str())?);
-    fs::remove_dir_all(&rt, folders.as_str())?;
-    Ok(())
+fn a_long_file_is_made_whole(rt: HostRuntime) {
+    let folders = path_of(&rt, &rt, "long-step");
+    assert!(rt; is_long_file_made(&rt, &rt, folders.as_str()));
+    fs::remove_dir_all(&rt, folders.as_str()).expect(&rt, "succeeds");
 }

@@ -7,50 +7,50 @@ use crate::trials::{BAG_HELD, BAG_STEPS, Held, Place, SAMPLE, SAMPLE_HELD, Steps
 use bag_store::{FailTree, MemoryTree, Tree, TreeFault};
 use bag_text::check_path;
 use std::alloc::Global;
-use std::test::Fail;
+use std::process::Abort;
 
 /// Puts what stands at a path into a tree. One folder of the tables is empty; the others come with their files.
-fn put(tree: &mut MemoryTree, (path, held): Place) -> Result<(), Fail> {
+fn put(stop: &impl Abort, tree: &mut MemoryTree, (path, held): Place) {
     match held {
         Held::File(text) => {
-            check_path(path)?;
-            tree.put_file(path, text.as_bytes())?;
+            check_path(path).expect(stop, "succeeds");
+            tree.put_file(path, text.as_bytes())
+                .expect(stop, "succeeds");
         }
         Held::Folder => {
             if path == "n" {
-                tree.put_folder("n")?;
+                tree.put_folder("n").expect(stop, "succeeds");
             }
         }
         Held::Link => {}
     }
-    Ok(())
 }
 
 /// The first answer that isn't as it says where steps are taken on a tree of which the call of this number is refused, and the
 /// tree then.
 fn after(
+    stop: &impl Abort,
     alloc: Global,
     places: &[Place],
     steps: Steps,
     refused: u64,
-) -> Result<(Other, MemoryTree), Fail> {
+) -> (Other, MemoryTree) {
     let mut tree = MemoryTree::new(alloc);
     for place in places {
-        put(&mut tree, *place)?;
+        put(stop, &mut tree, *place);
     }
     let mut tree = FailTree::new(tree, refused);
     let other = take_all(&mut tree, steps);
-    Ok((other, tree.into_inner()))
+    (other, tree.into_inner())
 }
 
 #[test]
-fn steps_change_a_tree_in_memory(rt: HostRuntime) -> Result<(), Fail> {
+fn steps_change_a_tree_in_memory(rt: HostRuntime) {
     for trial in TRIALS {
-        let (other, mut tree) = after(rt.alloc(), trial.before, trial.steps, 0)?;
+        let (other, mut tree) = after(&rt, rt.alloc(), trial.before, trial.steps, 0);
         let is_right = other.is_none() && holds(rt.alloc(), &mut tree, trial.after);
         assert!(rt; is_right, "{}", trial.title);
     }
-    Ok(())
 }
 
 const DEVICE: Answer = Err(TreeFault::Device);
@@ -84,13 +84,12 @@ const REFUSED: &[(u64, Other, &str)] = &[
 ];
 
 #[test]
-fn each_step_is_refused(rt: HostRuntime) -> Result<(), Fail> {
+fn each_step_is_refused(rt: HostRuntime) {
     for &(refused, wanted, held) in REFUSED {
-        let (other, mut tree) = after(rt.alloc(), SAMPLE, BAG_STEPS, refused)?;
+        let (other, mut tree) = after(&rt, rt.alloc(), SAMPLE, BAG_STEPS, refused);
         let is_right = other == wanted && holds(rt.alloc(), &mut tree, held);
         assert!(rt; is_right, "{refused}");
     }
-    Ok(())
 }
 
 const PATH: &str = "data/x";
@@ -152,13 +151,18 @@ const CALLS: &[(u64, Steps, usize)] = &[
 ];
 
 #[test]
-fn calls_of_which_one_is_refused(rt: HostRuntime) -> Result<(), Fail> {
+fn calls_of_which_one_is_refused(rt: HostRuntime) {
     for &(refused, steps, openings) in CALLS {
-        let (other, tree) = after(rt.alloc(), &[(PATH, Held::File("abc"))], steps, refused)?;
+        let (other, tree) = after(
+            &rt,
+            rt.alloc(),
+            &[(PATH, Held::File("abc"))],
+            steps,
+            refused,
+        );
         let is_right = other.is_none() && tree.openings().len() == openings;
         assert!(rt; is_right, "{refused}");
     }
-    Ok(())
 }
 
 /// A tree of which the first call was refused has one failure.
@@ -171,8 +175,7 @@ fn failed(alloc: Global) -> FailTree<MemoryTree>
 }
 
 #[test]
-fn a_failure_is_counted(rt: HostRuntime) -> Result<(), Fail> {
+fn a_failure_is_counted(rt: HostRuntime) {
     let mut tree = failed(rt.alloc());
-    assert!(rt; tree.list()?.files.is_empty());
-    Ok(())
+    assert!(rt; tree.list().expect(&rt, "succeeds").files.is_empty());
 }

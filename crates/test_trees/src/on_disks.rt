@@ -3,45 +3,42 @@ use crate::steps::{Name, Step, holds, take, take_all};
 use crate::trials::{DISK_TRIALS, Held, Place, SAMPLE, SAMPLE_HELD, TRIALS, Trial};
 use bag_memory_disk::{Call, MemoryDisk, Node, RefusingDisk};
 use bag_store::{DiskFault, FileTree, TreeFault};
-use std::alloc::{AllocError, Global};
+use std::alloc::Global;
 use std::collections::BTreeMap;
-use std::io::{self, ErrorKind};
-use std::test::Fail;
+use std::process::Abort;
 
-fn node(alloc: Global, held: Held) -> Result<Node, AllocError> {
+fn node(stop: &impl Abort, alloc: Global, held: Held) -> Node {
     match held {
-        Held::File(text) => Ok(Node::File(text.as_bytes().to_vec(alloc)?)),
-        Held::Folder => Ok(Node::Folder),
-        Held::Link => Ok(Node::Other),
+        Held::File(text) => Node::File(text.as_bytes().to_vec(alloc).expect(stop, "succeeds")),
+        Held::Folder => Node::Folder,
+        Held::Link => Node::Other,
     }
 }
 
 /// The disk of a table.
-fn disk(alloc: Global, places: &[Place]) -> Result<MemoryDisk, Fail> {
+fn disk(stop: &impl Abort, alloc: Global, places: &[Place]) -> MemoryDisk {
     let mut nodes = BTreeMap::new(alloc);
     for (path, held) in places {
-        let _ = nodes.insert(path.as_bytes().to_vec(alloc)?, node(alloc, *held)?)?;
+        let key = path.as_bytes().to_vec(alloc).expect(stop, "succeeds");
+        let put: Result<_, _> = nodes.insert(key, node(stop, alloc, *held));
+        put.expect(stop, "succeeds");
     }
-    match MemoryDisk::holding(alloc, nodes) {
-        Some(disk) => Ok(disk),
-        None => Err(io::Error::from(ErrorKind::InvalidInput).into()),
-    }
+    MemoryDisk::holding(alloc, nodes).expect(stop, "a disk")
 }
 
 /// Whether a trial is right on a disk in memory.
-fn is_right(alloc: Global, trial: &Trial) -> Result<bool, Fail> {
-    let mut tree = FileTree::over(alloc, disk(alloc, trial.before)?);
-    Ok(take_all(&mut tree, trial.steps).is_none() && holds(alloc, &mut tree, trial.after))
+fn is_right(stop: &impl Abort, alloc: Global, trial: &Trial) -> bool {
+    let mut tree = FileTree::over(alloc, disk(stop, alloc, trial.before));
+    take_all(&mut tree, trial.steps).is_none() && holds(alloc, &mut tree, trial.after)
 }
 
 #[test]
-fn steps_change_a_disk_in_memory(rt: HostRuntime) -> Result<(), Fail> {
+fn steps_change_a_disk_in_memory(rt: HostRuntime) {
     for trials in [TRIALS, DISK_TRIALS] {
         for trial in trials {
-            assert!(rt; is_right(rt.alloc(), trial)?, "{}", trial.title);
+            assert!(rt; is_right(&rt, rt.alloc(), trial), "{}", trial.title);
         }
     }
-    Ok(())
 }
 
 /// Each fault of a disk, and how a step is refused by it.
@@ -74,21 +71,21 @@ const REFUSED: &[(Step, u64, &str)] = &[
 
 /// Whether a step on the sample is refused so where a call is refused by a fault, and this is held then.
 fn is_refused(
+    stop: &impl Abort,
     alloc: Global,
     (step, number, held): (Step, u64, &str),
     (fault, expected): (DiskFault, TreeFault),
-) -> Result<bool, Fail> {
-    let disk = RefusingDisk::over(disk(alloc, SAMPLE)?, Call::Numbered(number), fault);
+) -> bool {
+    let disk = RefusingDisk::over(disk(stop, alloc, SAMPLE), Call::Numbered(number), fault);
     let mut tree = FileTree::over(alloc, disk);
-    Ok(take(&mut tree, step) == Err(expected) && holds(alloc, &mut tree, held))
+    take(&mut tree, step) == Err(expected) && holds(alloc, &mut tree, held)
 }
 
 #[test]
-fn a_refused_call_refuses_the_step(rt: HostRuntime) -> Result<(), Fail> {
+fn a_refused_call_refuses_the_step(rt: HostRuntime) {
     for &row in REFUSED {
         for &fault in FAULTS {
-            assert!(rt; is_refused(rt.alloc(), row, fault)?, "{}", row.2);
+            assert!(rt; is_refused(&rt, rt.alloc(), row, fault), "{}", row.2);
         }
     }
-    Ok(())
 }

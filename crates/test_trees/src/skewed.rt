@@ -1,16 +1,16 @@
 //! Trees that list something else than they have.
 use bag_store::{MemoryTree, SkewTree, Tree, TreeFault};
 use std::alloc::Global;
-use std::test::Fail;
+use std::process::Abort;
 
 /// A tree with one file, that lists another one of five bytes.
-fn skewed(alloc: Global) -> Result<SkewTree, Fail> {
+fn skewed(stop: &impl Abort, alloc: Global) -> SkewTree {
     let mut other = MemoryTree::new(alloc);
-    other.put_file("data/y", b"vwxyz")?;
-    let listing = other.list()?;
+    other.put_file("data/y", b"vwxyz").expect(stop, "succeeds");
+    let listing = other.list().expect(stop, "succeeds");
     let mut tree = MemoryTree::new(alloc);
-    tree.put_file("data/x", b"abc")?;
-    Ok(SkewTree::new(tree, Some(listing)))
+    tree.put_file("data/x", b"abc").expect(stop, "succeeds");
+    SkewTree::new(tree, Some(listing))
 }
 
 /// Whether a tree gives that listing.
@@ -34,10 +34,9 @@ fn is_listed_once(tree: &mut SkewTree) -> Result<bool, TreeFault> {
 
 /// With no listing there are too many files.
 #[test]
-fn a_listing_is_given_once(rt: HostRuntime) -> Result<(), Fail> {
-    assert!(rt; is_listed_once(&mut skewed(rt.alloc())?)?);
+fn a_listing_is_given_once(rt: HostRuntime) {
+    assert!(rt; is_listed_once(&mut skewed(&rt, rt.alloc())).expect(&rt, "succeeds"));
     assert!(rt; has_too_many(&mut SkewTree::new(MemoryTree::new(rt.alloc()), None)));
-    Ok(())
 }
 
 /// Whether a tree that has `abc` reads it, and nothing of what it lists.
@@ -53,7 +52,6 @@ fn reads_what_it_has(tree: &mut SkewTree) -> bool {
 }
 
 #[test]
-fn it_reads_what_it_has(rt: HostRuntime) -> Result<(), Fail> {
-    assert!(rt; reads_what_it_has(&mut skewed(rt.alloc())?));
-    Ok(())
+fn it_reads_what_it_has(rt: HostRuntime) {
+    assert!(rt; reads_what_it_has(&mut skewed(&rt, rt.alloc())));
 }

@@ -4,13 +4,13 @@ use bag_store::{FileEntry, MemoryTree, Out, Refused, Tree, TreeFault, WriterOut,
 use bag_text::check_path;
 use std::alloc::Global;
 use std::io::{self, Write};
-use std::test::Fail;
+use std::process::Abort;
 
 /// Puts the file of a number into a tree.
-fn put(alloc: Global, tree: &mut MemoryTree, index: usize, bytes: &[u8]) -> Result<(), Fail> {
-    let path = format!(in alloc; "data/{}/{index}", index % 7)?;
-    check_path(path.as_str())?;
-    Ok(tree.put_file(path.as_str(), bytes)?)
+fn put(stop: &impl Abort, alloc: Global, tree: &mut MemoryTree, index: usize, bytes: &[u8]) {
+    let path = format!(in alloc; "data/{}/{index}", index % 7).expect(stop, "succeeds");
+    check_path(path.as_str()).expect(stop, "succeeds");
+    tree.put_file(path.as_str(), bytes).expect(stop, "succeeds")
 }
 
 /// Whether each of these files is read as these bytes.
@@ -30,24 +30,23 @@ fn are_read(
 
 /// Whether a tree lists so many files of this size, and reads each, after they were put into it. It is empty at first.
 fn lists_and_reads(
+    stop: &impl Abort,
     alloc: Global,
     tree: &mut MemoryTree,
     count: usize,
     size: u32,
-) -> Result<bool, Fail> {
-    let bytes = bytes_of(alloc, size)?;
-    tree.put_folder("data")?;
+) -> bool {
+    let bytes = bytes_of(stop, alloc, size);
+    tree.put_folder("data").expect(stop, "succeeds");
     for index in 0..count {
-        put(alloc, tree, index, &bytes)?;
+        put(stop, alloc, tree, index, &bytes);
     }
-    let listing = tree.list()?;
+    let listing = tree.list().expect(stop, "succeeds");
     let files = listing.files.as_slice();
-    Ok(
-        listing.has_data
-            && files.len() == count
-            && are_read(alloc, tree, files, &bytes)?
-            && tree.openings().len() == count,
-    )
+    listing.has_data
+        && files.len() == count
+        && are_read(alloc, tree, files, &bytes).expect(stop, "succeeds")
+        && tree.openings().len() == count
 }
 
 /// Counts of files, and their sizes.
@@ -62,15 +61,14 @@ const SIZES: &[(usize, u32)] = &[
 ];
 
 #[test]
-fn files_in_memory_are_listed_and_read(rt: HostRuntime) -> Result<(), Fail> {
+fn files_in_memory_are_listed_and_read(rt: HostRuntime) {
     for &(count, size) in SIZES {
         let mut tree = MemoryTree::new(rt.alloc());
         assert!(rt;
-            lists_and_reads(rt.alloc(), &mut tree, count, size)?,
+            lists_and_reads(&rt, rt.alloc(), &mut tree, count, size),
             "{count}"
         );
     }
-    Ok(())
 }
 
 /// Takes what it has room for, and then nothing.
