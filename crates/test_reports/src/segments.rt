@@ -8,7 +8,6 @@ use bag_store::{FailTree, Tree, WriterOut};
 use bag_walk::{Outcome, run_segments};
 use std::alloc::Global;
 use std::process::Abort;
-use std::test::Fail;
 
 /// A manifest of which no line can be read.
 const UNREAD_LINES: Files = &[(
@@ -42,10 +41,11 @@ const WRONG: &str =
 
 /// The tree after segments, what they wrote, and how they ended.
 fn in_segments<T: Tree + Drop>(
+    stop: &impl Abort,
     alloc: Global,
     tree: T,
     limits: &[u64],
-) -> Result<(T, String, Outcome), Fail>
+) -> (T, String, Outcome)
     requires { sum limits.now < 2 ^ 64 }
 {
     let options = Options {
@@ -54,49 +54,48 @@ fn in_segments<T: Tree + Drop>(
     };
     let mut out = WriterOut::new(Vec::<u8>::new(alloc));
     let (tree, outcome) = run_segments(alloc, tree, None, options, limits, &mut out);
-    Ok((tree, String::from_utf8(out.into_inner())?, outcome))
+    let text = String::from_utf8(out.into_inner()).expect(stop, "succeeds");
+    (tree, text, outcome)
 }
 
 #[test]
-fn limits_are_taken_in_order(rt: HostRuntime) -> Result<(), Fail> {
+fn limits_are_taken_in_order(rt: HostRuntime) {
     let alloc = rt.alloc();
-    let tree = tree_of(alloc, UNREAD_LINES)?;
-    let (tree, text, outcome) = in_segments(alloc, tree, &[2, 0, 1, 9])?;
+    let tree = tree_of(&rt, alloc, UNREAD_LINES);
+    let (tree, text, outcome) = in_segments(&rt, alloc, tree, &[2, 0, 1, 9]);
     assert!(rt; text.as_str() == UNREAD && matches!(outcome, Outcome::Faults(4)));
-    let (tree, text, outcome) = in_segments(alloc, tree, &[2, 2])?;
+    let (tree, text, outcome) = in_segments(&rt, alloc, tree, &[2, 2]);
     assert!(rt; text.as_str() == UNREAD && matches!(outcome, Outcome::Stopped(4)));
-    let (tree, text, outcome) = in_segments(alloc, tree, &[])?;
+    let (_, text, outcome) = in_segments(&rt, alloc, tree, &[]);
     assert!(rt; text.as_str() == "" && matches!(outcome, Outcome::Stopped(0)));
-    Ok(())
 }
 
 #[test]
-fn each_call_is_refused_in_turn(rt: HostRuntime) -> Result<(), Fail> {
+fn each_call_is_refused_in_turn(rt: HostRuntime) {
     let alloc = rt.alloc();
     for call in 1..40 {
-        let tree = FailTree::new(tree_of(alloc, WRONG_DIGESTS)?, call);
-        let (tree, text, outcome) = in_segments(alloc, tree, &[1, 1, 1, 1])?;
+        let tree = FailTree::new(tree_of(&rt, alloc, WRONG_DIGESTS), call);
+        let (_, text, outcome) = in_segments(&rt, alloc, tree, &[1, 1, 1, 1]);
         assert!(rt;
             text.as_str() == WRONG && matches!(outcome, Outcome::Faults(2)),
             "call {call}"
         );
     }
-    let (tree, text, outcome) = in_segments(alloc, tree_of(alloc, WRONG_DIGESTS)?, &[1, 1])?;
+    let tree = tree_of(&rt, alloc, WRONG_DIGESTS);
+    let (_, text, outcome) = in_segments(&rt, alloc, tree, &[1, 1]);
     assert!(rt; text.as_str() == WRONG && matches!(outcome, Outcome::Stopped(2)));
-    Ok(())
 }
 
 #[test]
-fn few_files_are_opened_again(rt: HostRuntime) -> Result<(), Fail> {
+fn few_files_are_opened_again(rt: HostRuntime) {
     let alloc = rt.alloc();
-    let tree = tree_of(alloc, EACH_TWICE)?;
-    let (tree, text, outcome) = in_segments(alloc, tree, &[1, 1, 1, 1, 1, 1, 1])?;
+    let tree = tree_of(&rt, alloc, EACH_TWICE);
+    let (tree, text, outcome) = in_segments(&rt, alloc, tree, &[1, 1, 1, 1, 1, 1, 1]);
     assert!(rt; text.as_str().lines().count() == 6 && matches!(outcome, Outcome::Faults(6)));
-    let opened = opened(alloc, &tree)?;
+    let opened = opened(&rt, alloc, &tree);
     let payload = opened
         .as_str()
         .lines()
         .filter(|path| path.starts_with("data/"));
     assert!(rt; payload.count() <= 9);
-    Ok(())
 }
