@@ -277,14 +277,21 @@ fn is_alike(stop: &impl Abort, alloc: Global, bag: u64, options: Options) -> boo
     found == plain_lines(stop, alloc, bag, options)
 }
 
+/// The lines of a text behind the first so many.
+fn lines_from(stop: &impl Abort, alloc: Global, lines: &str, first: usize) -> String {
+    let mut text = String::new(alloc);
+    for line in lines.lines().skip(first) {
+        write!(text, "{line}\n").expect(stop, "succeeds");
+    }
+    text
+}
+
 /// Whether checks of the bag of a number above each of its faults find what stands behind that fault.
 fn goes_on(stop: &impl Abort, alloc: Global, bag: u64, options: Options) -> bool {
     let lines = plain_lines(stop, alloc, bag, options);
-    let mut behind = lines.as_str();
-    for line in lines.as_str().lines() {
-        behind = behind.split_once('\n').map_or("", |(_, rest)| rest);
-        let tree = tree_of(stop, alloc, bag);
-        if lines_behind(stop, alloc, tree, options, line, "67").as_str() != behind {
+    for (place, line) in lines.as_str().lines().enumerate() {
+        let found = lines_behind(stop, alloc, tree_of(stop, alloc, bag), options, line, "67");
+        if found != lines_from(stop, alloc, lines.as_str(), place.wrapping_add(1)) {
             return false;
         }
     }

@@ -161,16 +161,29 @@ const ROWS: &[Row] = &[
     },
 ];
 
+/// What the first steps of a row give.
+fn given_by(stop: &impl Abort, alloc: Global, row: &Row, steps: usize) -> String {
+    let mut text = String::new(alloc);
+    for (step, _) in row.steps.iter().take(steps) {
+        text.push_str(step).expect(stop, "succeeds");
+    }
+    text
+}
+
+/// The payload files that they open.
+fn opened_by(row: &Row, steps: usize) -> &'static str {
+    match row.steps.get(steps.wrapping_sub(1)) {
+        Some((_, files)) => files,
+        None => "",
+    }
+}
+
 /// Whether the first steps of a row's walk give what it says, and open it.
 fn is_right(stop: &impl Abort, alloc: Global, row: &Row, steps: usize) -> bool {
     let (given, opened) = steps_of(stop, alloc, row.after, steps);
-    let mut wanted = String::new(alloc);
-    let mut payload = "";
-    for (step, files) in row.steps.iter().take(steps) {
-        wanted.push_str(step).expect(stop, "succeeds");
-        payload = files;
-    }
-    given == wanted && opened.as_str().strip_prefix(TAG_FILES) == Some(payload)
+    let payload = opened_by(row, steps);
+    given == given_by(stop, alloc, row, steps)
+        && opened.as_str().strip_prefix(TAG_FILES) == Some(payload)
 }
 
 #[test]
@@ -199,7 +212,7 @@ fn refused_at(stop: &impl Abort, alloc: Global, call: u64) -> (String, String) {
 }
 
 /// What is given where the file of this path is refused, by its opening or by a read, and what is opened then.
-const REFUSED: &[(&str, &str, &str)] = &[
+const REFUSED: [(&str, &str, &str); 3] = [
     (
         "unread data/a device\n701 data/a md5\n701 data/b md5\n701 data/c md5\nend\n",
         "bagit.txt\nmanifest-md5.txt\ndata/a\ndata/b\ndata/c\n",
@@ -232,24 +245,25 @@ impl Tally {
     /// Notes what came of a walk of which one call was refused.
     fn note(&mut self, given: &str, opened: &str) {
         if given.is_empty() {
-            self.at_start += 1;
+            self.at_start = self.at_start.wrapping_add(1);
             return;
         }
         if given == "701 data/a md5\n701 data/b md5\n701 data/c md5\nend\nend\n" {
-            self.behind += 1;
+            self.behind = self.behind.wrapping_add(1);
             return;
         }
-        for (place, (steps, once, again)) in REFUSED.iter().enumerate() {
-            if given == *steps && opened == *once {
-                self.opening[place] += 1;
+        for place in 0..3 {
+            let (steps, once, again) = REFUSED[place];
+            if given == steps && opened == once {
+                self.opening[place] = self.opening[place].wrapping_add(1);
                 return;
             }
-            if given == *steps && opened == *again {
-                self.reading[place] += 1;
+            if given == steps && opened == again {
+                self.reading[place] = self.reading[place].wrapping_add(1);
                 return;
             }
         }
-        self.other += 1;
+        self.other = self.other.wrapping_add(1);
     }
 }
 
