@@ -7,6 +7,7 @@
 //!
 //! What stands in the lines is said by `bag_report`, how faults are found one at a time by `bag_source`, and how lines are
 //! written by `bag_output`; a run says which of them are written, which files are opened before each, and how it ended.
+//! `run_segments` writes a report in segments, of which each goes on behind the last line that was written.
 #![tactic(auto)]
 
 pub mod laws;
