@@ -26,8 +26,8 @@ use std::alloc::{AllocError, Global};
 ///
 /// A fault's line is handed to the output before the next file is opened. Each line ends in LF, and is one write where the
 /// output takes it whole; the closing line takes no memory. At depth `Full` each file that a manifest names and that the
-/// cursor hasn't passed is opened once for all its algorithms, after the lines of stages 1 to 6 were written; where these
-/// reach the limit, none is. The tree comes back, with the last file that was read open.
+/// cursor hasn't passed is opened once at most, for all its algorithms together, after the lines of stages 1 to 6 were written;
+/// where these reach the limit, none is. The tree comes back, with the last file that was read open.
 pub fn run<T: Tree, W: Out>(
     alloc: Global,
     tree: T,
