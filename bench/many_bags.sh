@@ -1,0 +1,45 @@
+#!/usr/bin/env bash
+# How long checks of 200 bags take, one process a bag and a report each, by one, two and four processes at a time: by the clock, the
+# least of several runs, with the files in the page cache. Each bag has 20 files of 256 KiB, with manifests of SHA-256 and SHA-512.
+#
+# usage: bench/many_bags.sh [PROGRAM] [RUNS]
+#
+# PROGRAM is crates/bagit/out/bagit by default, which `rt run` leaves there.
+set -euo pipefail
+source "$(dirname "$0")/time.sh"
+
+program=$(realpath "${1:-$(dirname "$0")/../crates/bagit/out/bagit}")
+runs=${2:-3}
+
+work=$(mktemp -d /tmp/bagit-many.XXXXXX)
+trap 'rm -rf "$work"' EXIT
+cd "$work"
+mkdir bags reports
+
+for ((bag = 100; bag < 300; bag++)); do
+    mkdir -p "bags/$bag/data"
+    printf 'BagIt-Version: 1.0\nTag-File-Character-Encoding: UTF-8\n' >"bags/$bag/bagit.txt"
+    head -c $((20 * 256 * 1024)) /dev/urandom | split -b 256K -a 2 - "bags/$bag/data/file-"
+    (cd "bags/$bag" && sha256sum data/* >manifest-sha256.txt && sha512sum data/* >manifest-sha512.txt)
+done
+
+# As docs/LARGE_BAGS.md has it, with so many processes.
+check_all() {
+    find bags -mindepth 1 -maxdepth 1 -type d -print0 |
+        xargs -0 -P "$1" -I{} sh -c "'$program'"' --validate "$1" >"reports/${1##*/}.txt"; echo "$? $1"' sh {} >statuses
+}
+
+elapsed() {
+    local TIMEFORMAT='%3R'
+    { time "$@"; } 2>"$work/time"
+    awk '{ printf "%d\n", $1 * 1000 }' "$work/time"
+}
+
+one=
+for processes in 1 2 4; do
+    took=
+    for ((run = 0; run < runs; run++)); do took=$(least "$took" "$(elapsed check_all "$processes")"); done
+    [[ $(wc -l <statuses) == 200 && $(sort -n statuses | tail -n 1 | cut -d' ' -f1) == 0 ]]
+    one=${one:-$took}
+    awk -v processes="$processes" -v took="$took" -v one="$one" 'BEGIN { printf "200 bags, %d at a time: %d ms, %.2f times as fast as one at a time\n", processes, took, one / took }'
+done
