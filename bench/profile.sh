@@ -59,7 +59,6 @@ make_bag() {
     profile >"$bag.json"
 }
 
-# The time that a reader takes over a bag.
 # Checks a bag; a check that finds faults ends with 1.
 check() { "$program" --validate --fast "$@" || [[ $? == 1 ]]; }
 
