@@ -7,7 +7,7 @@ use Rattle.bag_output.specs.declared.outcome.Outcome.{Outcome}
 use Rattle.bag_output.specs.declared.outcome.Outcome.TheVariants.{Clean, Faults, Stopped, Rest, Unread, Unwritten}
 use Rattle.bag_output.specs.declared.outcome.Request.{Request}
 use Rattle.bag_profile.specs.Profile.{Profile}
-use Rattle.bag_walk.specs.Openings.{LooksNoFurther, OpensInRun, OpensListed}
+use Rattle.bag_walk.specs.Openings.{LooksNoFurther, OpensInRun, OpensInTurn, OpensListed, OpensNonePassed, StopsInTurn}
 use Rattle.bag_walk.specs.Run.{IsRun, IsRunByReport}
 use Rattle.bag_arguments.specs.declared.plan.Plan.{Plan}
 use Rattle.bag_cli.specs.InTurn.{AreInTurn}
@@ -18,12 +18,15 @@ abbrev pub request_of : Plan → List ℕ → Request
 request_of plan name = record { options = plan.options; after = plan.after; limit = plan.limit; quiet = plan.quiet; name = name }
 
 -- All that is promised of a run over a tree, by a profile or without one, which left it as `new`: it shows the faults of the
--- tree's bag wherever the tree is honest, changes nothing, opens no more than it has to, and stops at its device only where that
--- failed.
+-- tree's bag wherever the tree is honest, changes nothing, opens no more than it has to and only in its turn, and stops at its
+-- device only where that failed.
 pub record IsRunOver (tree new : TreeState) (profile : Option Profile) (request : Request) (before after : Option (List ℕ)) (refused : Bool) (outcome : Outcome) : Type 0 where
   pub keeps : Keeps tree new
   pub opens : OpensInRun request.options tree new
   pub payload : OpensListed request.options tree new
+  pub none_passed : OpensNonePassed request.after tree new
+  pub in_turn : OpensInTurn tree new profile request outcome
+  pub stopped : StopsInTurn tree new profile request outcome
   pub unlooked : LooksNoFurther tree new profile request
   pub untouched : request.limit ≡ Some 0 → new ≡ tree
   pub run : IsRun tree new profile request before after refused outcome
