@@ -4,8 +4,11 @@ pub mod CursorLaw
 pub mod Early
 pub mod LastLines
 pub mod Openings
+pub mod Passed
+pub mod Places
 pub mod Running
 pub mod SegmentLines
+pub mod SegmentOpenings
 pub mod SegmentStart
 pub mod SegmentSteps
 pub mod SegmentSums
