@@ -63,6 +63,10 @@ fn end_of_report(written: u64) -> Outcome
 /// It ends with the first segment that comes to the end of the report or whose output refuses. One whose reading is refused
 /// is followed by the next. The outcome counts the lines of all segments; the tree comes back. For a limit of 0 it isn't
 /// looked at.
+///
+/// Each segment goes on with the file of the last fault that was written, which it may open again, and with none before it. So
+/// the files that payload manifests name are opened once each, and for each segment but the first one of them once more. One
+/// whose reading is refused may open those again that it had found without a fault.
 pub fn run_segments<T: Tree, W: Out>(
     alloc: Global,
     tree: T,
