@@ -3,6 +3,7 @@ pub mod Closed
 pub mod CursorLaw
 pub mod Early
 pub mod LastLines
+pub mod ListedFiles
 pub mod Openings
 pub mod Passed
 pub mod Places

@@ -23,6 +23,10 @@ IsListedFile options bag path = (options.depth ≡ Full) × (is_payload_path pat
 abbrev pub AreListed : Options → Bag → List (List ℕ) → Type 0
 AreListed options bag listed = IsListOf text_cmp (IsListedFile options bag) listed
 
+-- the law: every bag has a list of these files, whatever is asked for
+abbrev pub EachBagHasListedFiles : Type 0
+EachBagHasListedFiles = (options : Options) (bag : Bag) → (listed : List (List ℕ)) × AreListed options bag listed
+
 -- those of them that a cursor hasn't passed
 abbrev pub not_passed : Option Fault → List (List ℕ) → List (List ℕ)
 not_passed cursor listed = filter (λ path. not (is_passed cursor path)) listed

@@ -1,4 +1,4 @@
-use Rattle.std.proofs.Common.{◌≡◌, ◌<◌, ◌+◌, ℕ, refl, arith}
+use Rattle.std.proofs.Common.{◌+◌, refl, arith}
 use Rattle.std.specs.Option.{option_copied}
 use Rattle.bag_facts.proofs.Opens.{opens_none as reads_none}
 use Rattle.bag_walk.specs.Segments.{cursor_behind}
