@@ -3,9 +3,13 @@ pub mod Closed
 pub mod CursorLaw
 pub mod Early
 pub mod LastLines
+pub mod ListedFiles
 pub mod Openings
+pub mod Passed
+pub mod Places
 pub mod Running
 pub mod SegmentLines
+pub mod SegmentOpenings
 pub mod SegmentStart
 pub mod SegmentSteps
 pub mod SegmentSums

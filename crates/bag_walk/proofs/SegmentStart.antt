@@ -1,26 +1,33 @@
 -- A segment over a walk that was started behind others.
-use Rattle.std.proofs.Common.{◌≡◌, ◌≤◌, ℕ, inl, Bool, true, List, [], length, drop, Option, None, IsTrue, sym, ap, ◌∙◌, subst}
+use Rattle.std.proofs.Common.{◌≡◌, ◌<◌, ◌≤◌, ◌+◌, ℕ, inl, Bool, true, List, [], length, drop, filter, Option, None, IsTrue, sym, ap, ◌∙◌, subst}
+use Rattle.std.specs.Cmp.Lexicographic.{nat_list_cmp_total}
+use Rattle.bag_text.specs.Path.{is_payload_path}
+use Rattle.bag_text.specs.Text.{text_cmp}
 use Rattle.bag_text.proofs.ListOf.{one_list}
 use Rattle.bag_tree.specs.Bag.{Bag}
 use Rattle.bag_tree.specs.Tree.{TreeState, Keeps}
 use Rattle.bag_fault.specs.FaultOrder.{fault_cmp}
 use Rattle.bag_fault.specs.declared.fault.Fault.{Fault}
 use Rattle.bag_fault.proofs.Ordered.{fault_cmp_total}
+use Rattle.bag_facts.specs.Wanted.{OpensWanted}
 use Rattle.bag_facts.specs.declared.options.Options.{Options}
 use Rattle.bag_profile.specs.Profile.{Profile}
-use Rattle.bag_report.specs.Report.{IsReport, above}
+use Rattle.bag_report.specs.Report.{Check, IsReport, above}
 use Rattle.bag_output.specs.declared.outcome.Request.{Request}
+use Rattle.bag_source.specs.Openings.{OpensAgain, OpensNoneBehind}
 use Rattle.bag_source.specs.Source.{Sees}
-use Rattle.bag_source.specs.Start.{IsStarted}
+use Rattle.bag_source.specs.Start.{IsListedToOpen, IsStarted}
 use Rattle.bag_walk.specs.Lines.{IsLastLine, IsLastOf}
 use Rattle.bag_walk.specs.Run.{IsAsked}
-use Rattle.bag_walk.specs.Segment.{IfUnread, IsSegment, MayStopRun}
+use Rattle.bag_walk.specs.Segment.{IfUnread, IsSegment, MayStopRun, still_to_come}
+use Rattle.bag_walk.specs.SegmentOpenings.{AreListed, OpensFirst, not_passed}
 use Rattle.bag_walk.specs.Segments.{cursor_behind, GoesOn}
 use Rattle.bag_walk.specs.Stops.{MayStop}
 use Rattle.bag_walk.specs.declared.segment.Segment.{Segment}
 use Rattle.bag_walk.specs.declared.segment.SegmentEnd.{SegmentEnd}
 use Rattle.bag_walk.specs.declared.segment.SegmentEnd.TheVariants.{Full, AtEnd, Unread, Unwritten}
 use Rattle.bag_walk.proofs.Running.{sees_of, stop_of_walk}
+use Rattle.bag_walk.proofs.SegmentOpenings.{not_passed_listed, opens_front}
 use Rattle.bag_walk.proofs.SegmentSteps.{above_behind, last_later}
 use Rattle.bag_walk.proofs.Shown.{above_report}
 
@@ -54,3 +61,24 @@ module _ (old mid new : TreeState) (profile : Option Profile) (options : Options
           writes = subst (λ faults. IsSegment faults limit before then refused segment) left_behind (seen started.seen started.of sees);
           last = last_later n segment.written report line next was (subst (λ faults. IsLastOf faults segment.written line next) left_behind (last started.seen started.of sees));
         }
+
+    abbrev check_seen : Check
+    check_seen = record { bag = started.seen; profile = profile; options = options }
+
+    -- of the payload those files are still to be opened that are listed and that the cursor hasn't passed
+    payload_left : (listed : List (List ℕ)) → AreListed options old.bag listed → filter is_payload_path todo ≡ not_passed (cursor_behind n report) listed
+    payload_left listed are =
+        one_list text_cmp nat_list_cmp_total (IsListedToOpen check_seen after) (filter is_payload_path todo) (not_passed after listed) started.payload
+        (not_passed_listed check_seen after listed (subst (λ bag. AreListed options bag listed) (sym (started.honest honest)) are))
+        ∙ ap (λ cursor. not_passed cursor listed) behind
+
+    pub opens_behind : OpensWanted options old mid → (others : List (List ℕ)) → OpensAgain todo others mid new → (limit : ℕ) → 0 < limit → (before then : Option (List ℕ)) (refused : Bool) (segment : Segment)
+        → ((bag : Bag) → IsOf bag → Sees mid todo bag → IsSegment (left bag) limit before then refused segment)
+        → ((bag : Bag) → IsOf bag → Sees mid todo bag → OpensNoneBehind (still_to_come segment (left bag)) mid new)
+        → (listed : List (List ℕ)) → AreListed options old.bag listed
+        → OpensFirst listed (cursor_behind n report) (cursor_behind (n + segment.written) report) old new segment.end
+    opens_behind read others again limit some before then refused segment seen none listed are =
+        let sees = sees_of old mid new profile (asking_of options after) IsOf left todo started k (inl honest) in
+        let s = subst (λ faults. IsSegment faults limit before then refused segment) left_behind (seen started.seen started.of sees) in
+        let b = subst (λ faults. OpensNoneBehind (still_to_come segment faults) mid new) left_behind (none started.seen started.of sees) in
+        opens_front old mid new options todo others read again n limit report segment some s.ends b listed (cursor_behind n report) (payload_left listed are)

@@ -22,18 +22,17 @@ use Rattle.bag_output.specs.declared.outcome.Outcome.TheVariants.{Stopped, Unwri
 use Rattle.bag_output.proofs.Writing.{Appends-append, Appends-nil}
 use Rattle.bag_walk.specs.Lines.{IsLastLine, IsLastOf}
 use Rattle.bag_walk.specs.Segment.{EndsSegment, IfUnread, WroteFirst}
+use Rattle.bag_walk.specs.SegmentOpenings.{AreListed, OpensFew, OpensFirst}
 use Rattle.bag_walk.specs.Segments.{cursor_behind, SegmentsJoin, cost, SegmentsFrom, AreSegments, WroteSegments, MayLose, IsStopped, RunsOfSegments, is_last, outcome_at}
 use Rattle.bag_walk.specs.Stops.{MayStop}
 use Rattle.bag_walk.specs.declared.segment.SegmentEnd.{SegmentEnd}
 use Rattle.bag_walk.specs.declared.segment.SegmentEnd.TheVariants as end_of
 use Rattle.bag_walk.proofs.CursorLaw.{cursor_cuts_list}
+use Rattle.bag_walk.proofs.Passed.{passed_later}
+use Rattle.bag_walk.proofs.Places.{at_later, at_place}
+use Rattle.bag_walk.proofs.SegmentOpenings.{OpenedSoFar, few_of, few_with_last, full_more, opened_none, unread_more}
 
 -- ---- what stands behind the first faults
-
-at_place : (n : ℕ) (faults : List Fault) → n < length faults → (f : Fault) × (slice_get faults n ≡ Some f)
-at_place n [] less = absurd (omega arith)
-at_place zero (f ∷ faults) less = (f, refl)
-at_place (suc n) (f ∷ faults) less = at_place n faults (omega arith)
 
 all_above : (faults : List Fault) → above None faults ≡ faults
 all_above [] = refl
@@ -61,13 +60,7 @@ take_joined (suc n) m (f ∷ faults) =
 pub segments_join : SegmentsJoin
 segments_join report n m sorted within = ap (λ rest. take n report ++ take m rest) (above_behind n report sorted within) ∙ take_joined n m report
 
--- a fault of the rest stands so much later
-at_later : (n k : ℕ) (faults : List Fault) (f : Fault) → slice_get (drop n faults) k ≡ Some f → slice_get faults (n + k) ≡ Some f
-at_later zero k faults f at = let same : k ≡ 0 + k = omega arith in subst (λ i. slice_get faults i ≡ Some f) same at
-at_later (suc n) k [] f at = cc
-at_later (suc n) k (x ∷ faults) f at = let same : suc n + k ≡ suc (n + k) = omega arith in rw same (at_later n k faults f at)
-
--- and so does its line
+-- a line of the rest stands so much later
 line_later : (n k : ℕ) (faults : List Fault) (line : List ℕ) → slice_get (written (drop n faults)) k ≡ Some line → slice_get (written faults) (n + k) ≡ Some line
 line_later zero k faults line at = let same : k ≡ 0 + k = omega arith in subst (λ i. slice_get (written faults) i ≡ Some line) same at
 line_later (suc n) k [] line at = cc
@@ -190,36 +183,44 @@ stopped_at_last options old mid new n end_of.Unwritten k h = tt
 -- the segments of the first limits
 pub record SoFar (options : Options) (report : List Fault) (limits : List ℕ) (i : ℕ) (old now : TreeState) (count : ℕ) (line : List ℕ) (before after : Option (List ℕ)) (outcome : Outcome) : Type 0 where
   pub lost : ℕ
+  pub unread : ℕ
   pub few_lost : old.failures + lost ≤ now.failures
+  pub gone : i ≤ length limits
   pub within : count ≤ length report
   pub last : IsLastLine (cursor_behind count report) line
   pub wrote : Appends before after (concat (written (first count report)))
   pub shown : (refused : Bool) → WroteSegments count report before after refused outcome
-  pub follows : (new : TreeState) → Keeps now new → (u n : ℕ) (last : Outcome) → SegmentsFrom report (MayLose options old new) lost count outcome (drop i limits) u n last
-      → AreSegments report (MayLose options old new) limits u n last
+  pub follows : (new : TreeState) → Keeps now new → (u r n : ℕ) (last : Outcome) → SegmentsFrom report (MayLose options old new) lost unread count outcome (drop i limits) u r n last
+      → AreSegments report (MayLose options old new) limits u r n last
+  pub opens : (listed : List (List ℕ)) → AreListed options old.bag listed → OpenedSoFar listed i unread (cursor_behind count report) old now
 
 pub so_far_none : (options : Options) (report : List Fault) (limits : List ℕ) (old : TreeState) (line : List ℕ) (before : Option (List ℕ)) → line ≡ []
     → SoFar options report limits 0 old old 0 line before before (Stopped 0)
 so_far_none options report limits old line before none = record {
   lost = 0;
+  unread = 0;
   few_lost = omega arith;
+  gone = omega arith;
   within = omega arith;
   last = none;
   wrote = Appends-nil before;
   shown = λ refused. Appends-nil before;
-  follows = λ new k u n last rest. rest;
+  follows = λ new k u r n last rest. rest;
+  opens = λ listed are. opened_none listed old;
 }
 
 module _ (options : Options) (report : List Fault) (limits : List ℕ) (i : ℕ) (old now : TreeState) (count : ℕ) (line : List ℕ) (before after : Option (List ℕ)) (outcome : Outcome)
-    (so : SoFar options report limits i old now count line before after outcome) (kept : Keeps old now) where
+    (so : SoFar options report limits i old now count line before after outcome) (kept : Keeps old now) (sorted : IsStrictlySortedBy fault_cmp report) where
   -- all limits were gone through
   pub all_segments : length limits ≤ i → (refused : Bool) → RunsOfSegments options report limits old now before after refused outcome
   all_segments past refused = record {
     lost = so.lost;
+    unread = so.unread;
     count = count;
-    segments = so.follows now (keeps_itself now) so.lost count outcome (rw (drop_all i limits past) (refl, refl, refl));
+    segments = so.follows now (keeps_itself now) so.lost so.unread count outcome (rw (drop_all i limits past) (refl, refl, refl, refl));
     few_lost = so.few_lost;
     wrote = so.shown refused;
+    opens = λ listed are. few_of listed i so.unread (length limits) (cursor_behind count report) old now (so.opens listed are) so.gone;
   }
 
   module _ (m : ℕ) (new : TreeState) (k : ℕ) (next : List ℕ) (then : Option (List ℕ)) (refused : Bool) (less : i < length limits) (is : m ≡ get_or limits i 0) (keeps : Keeps now new)
@@ -230,54 +231,75 @@ module _ (options : Options) (report : List Fault) (limits : List ℕ) (i : ℕ)
     left : length (drop count report) ≡ length report - count
     left = length-drop count report
 
+    -- what it opens of the payload
+    abbrev OpensFront : SegmentEnd → Type 0
+    OpensFront end = (listed : List (List ℕ)) → AreListed options old.bag listed → OpensFirst listed (cursor_behind count report) (cursor_behind (count + k) report) now new end
+
+    few_then : (end : SegmentEnd) → OpensFront end → (listed : List (List ℕ)) → AreListed options old.bag listed → OpensFew listed (length limits) so.unread old new
+    few_then end front listed are =
+        few_with_last listed i so.unread (cursor_behind count report) (cursor_behind (count + k) report) old now new end (so.opens listed are) (front listed are) (length limits) less
+
     -- one segment more, behind which others follow
     pub one_segment_more : (end : SegmentEnd) → is_last end ≡ false → EndsSegment (drop count report) m k end → WroteFirst (drop count report) k after then refused end → IfUnread end (MayStop options now new)
-        → SoFar options report limits (i + 1) old new (count + k) next before then (outcome_at (count + k) end)
-    one_segment_more end_of.Full goes ends wrote stops = record {
+        → OpensFront end → SoFar options report limits (i + 1) old new (count + k) next before then (outcome_at (count + k) end)
+    one_segment_more end_of.Full goes ends wrote stops front = record {
       lost = so.lost;
+      unread = so.unread;
       few_lost = omega (arith, so.few_lost, keeps.failures);
+      gone = omega (arith, less);
       within = omega (arith, ends.1, left, so.within);
       last = last;
       wrote = whole count k report before after then so.wrote wrote;
       shown = λ other. whole count k report before after then so.wrote wrote;
-      follows = λ end keep u n last rest.
-          let P : ℕ → Type 0 = λ w. SegmentsFrom report (MayLose options old end) so.lost (count + w) (Stopped (count + w)) (drop (i + 1) limits) u n last in
-          so.follows end (keeps_on now new end keeps keep) u n last (rw at_limit (inl (omega (arith, ends.0, ends.1, left), subst P ends.0 rest)));
+      follows = λ end keep u r n last rest.
+          let P : ℕ → Type 0 = λ w. SegmentsFrom report (MayLose options old end) so.lost so.unread (count + w) (Stopped (count + w)) (drop (i + 1) limits) u r n last in
+          so.follows end (keeps_on now new end keeps keep) u r n last (rw at_limit (inl (omega (arith, ends.0, ends.1, left), subst P ends.0 rest)));
+      opens = λ listed are.
+          full_more listed i so.unread (cursor_behind count report) (cursor_behind (count + k) report) old now new end_of.Full (so.opens listed are) (front listed are) are.ascending
+          (passed_later count k report sorted (omega (arith, ends.1, left, so.within))) refl;
     }
-    one_segment_more end_of.AtEnd goes ends wrote stops = absurd (true≢false goes)
-    one_segment_more (end_of.Unread stop) goes ends wrote stops =
+    one_segment_more end_of.AtEnd goes ends wrote stops front = absurd (true≢false goes)
+    one_segment_more (end_of.Unread stop) goes ends wrote stops front =
         let paid : now.failures + cost stop.cause ≤ new.failures = paid_by stop.cause now new keeps.failures stops.cause in record {
           lost = so.lost + cost stop.cause;
+          unread = so.unread + 1;
           few_lost = omega (arith, so.few_lost, paid);
+          gone = omega (arith, less);
           within = omega (arith, ends.1, left, so.within);
           last = last;
           wrote = whole count k report before after then so.wrote wrote;
           shown = λ other. whole count k report before after then so.wrote wrote;
-          follows = λ end keep u n last rest.
-              so.follows end (keeps_on now new end keeps keep) u n last
+          follows = λ end keep u r n last rest.
+              so.follows end (keeps_on now new end keeps keep) u r n last
               (rw at_limit (inr (inr (inl (k, stop, ends.0, omega (arith, ends.1, left, so.within), may_lose options old now new end kept keep stop stops, rest)))));
+          opens = λ listed are.
+              unread_more listed i so.unread (cursor_behind count report) (cursor_behind (count + k) report) old now new (end_of.Unread stop) (so.opens listed are) (front listed are);
         }
-    one_segment_more end_of.Unwritten goes ends wrote stops = absurd (true≢false goes)
+    one_segment_more end_of.Unwritten goes ends wrote stops front = absurd (true≢false goes)
 
     -- and one behind which none follows
-    pub last_segment : (end : SegmentEnd) → is_last end ≡ true → EndsSegment (drop count report) m k end → WroteFirst (drop count report) k after then refused end
+    pub last_segment : (end : SegmentEnd) → is_last end ≡ true → EndsSegment (drop count report) m k end → WroteFirst (drop count report) k after then refused end → OpensFront end
         → RunsOfSegments options report limits old new before then refused (outcome_at (count + k) end)
-    last_segment end_of.Full ends_all ends wrote = absurd (true≢false (sym ends_all))
-    last_segment end_of.AtEnd ends_all ends wrote =
+    last_segment end_of.Full ends_all ends wrote front = absurd (true≢false (sym ends_all))
+    last_segment end_of.AtEnd ends_all ends wrote front =
         let all : count + k ≡ length report = omega (arith, ends.1, left, so.within) in record {
           lost = so.lost;
+          unread = so.unread;
           count = count + k;
-          segments = so.follows new keeps so.lost (count + k) (ended None (count + k))
-              (rw at_limit (inr (inl (omega (arith, ends.0, ends.1, left), refl, all, ap (ended None) all))));
+          segments = so.follows new keeps so.lost so.unread (count + k) (ended None (count + k))
+              (rw at_limit (inr (inl (omega (arith, ends.0, ends.1, left), refl, refl, all, ap (ended None) all))));
           few_lost = omega (arith, so.few_lost, keeps.failures);
           wrote = wrote_on count k report before after then so.wrote refused end_of.AtEnd wrote;
+          opens = few_then end_of.AtEnd front;
         }
-    last_segment (end_of.Unread stop) ends_all ends wrote = absurd (true≢false (sym ends_all))
-    last_segment end_of.Unwritten ends_all ends wrote = record {
+    last_segment (end_of.Unread stop) ends_all ends wrote front = absurd (true≢false (sym ends_all))
+    last_segment end_of.Unwritten ends_all ends wrote front = record {
       lost = so.lost;
+      unread = so.unread;
       count = count + k;
-      segments = so.follows new keeps so.lost (count + k) (Unwritten (count + k))
-          (rw at_limit (inr (inr (inr (k, ends.0, omega (arith, ends.1, left), refl, refl, refl)))));
+      segments = so.follows new keeps so.lost so.unread (count + k) (Unwritten (count + k))
+          (rw at_limit (inr (inr (inr (k, ends.0, omega (arith, ends.1, left), refl, refl, refl, refl)))));
       few_lost = omega (arith, so.few_lost, keeps.failures);
       wrote = wrote_on count k report before after then so.wrote refused end_of.Unwritten wrote;
+      opens = few_then end_of.Unwritten front;
     }

@@ -10,41 +10,41 @@ use Rattle.bag_output.specs.declared.outcome.Outcome.TheVariants.{Stopped, Unwri
 use Rattle.bag_walk.specs.SegmentLaws.{SegmentsAddUp}
 use Rattle.bag_walk.specs.Segments.{SegmentsFrom}
 
-abbrev AddUp : List Fault → ℕ → ℕ → ℕ → ℕ → Outcome → Type 0
-AddUp report all u u' n' outcome' =
-    (u' ≡ u) × (n' ≡ min all (length report)) × (outcome' ≡ cond (nat_le all (length report)) (Stopped all) (ended None (length report)))
+abbrev AddUp : List Fault → ℕ → ℕ → ℕ → ℕ → ℕ → ℕ → Outcome → Type 0
+AddUp report all u r u' r' n' outcome' =
+    (u' ≡ u) × (r' ≡ r) × (n' ≡ min all (length report)) × (outcome' ≡ cond (nat_le all (length report)) (Stopped all) (ended None (length report)))
 
 module _ (report : List Fault) where
-  all_within : (all u : ℕ) → all ≤ length report → AddUp report all u u all (Stopped all)
-  all_within all u within =
+  all_within : (all u r : ℕ) → all ≤ length report → AddUp report all u r u r all (Stopped all)
+  all_within all u r within =
       let le : nat_le all (length report) ≡ true = grind (arith, nat_tests) in
-      (refl, omega arith, sym (ap (λ b. cond b (Stopped all) (ended None (length report))) le))
+      (refl, refl, omega arith, sym (ap (λ b. cond b (Stopped all) (ended None (length report))) le))
 
-  past_end : (all u : ℕ) → length report < all → AddUp report all u u (length report) (ended None (length report))
-  past_end all u past =
+  past_end : (all u r : ℕ) → length report < all → AddUp report all u r u r (length report) (ended None (length report))
+  past_end all u r past =
       let gt : nat_le all (length report) ≡ false = grind (arith, nat_tests) in
-      (refl, omega arith, sym (ap (λ b. cond b (Stopped all) (ended None (length report))) gt))
+      (refl, refl, omega arith, sym (ap (λ b. cond b (Stopped all) (ended None (length report))) gt))
 
-  from : (limits : List ℕ) (u n u' n' : ℕ) (outcome' : Outcome) → n ≤ length report → ((k : ℕ) → outcome' ≢ Unwritten k)
-      → SegmentsFrom report (λ stop. ⊥) u n (Stopped n) limits u' n' outcome' → AddUp report (n + sum limits) u u' n' outcome'
-  from [] u n u' n' outcome' within written (lost, count, last) =
+  from : (limits : List ℕ) (u r n u' r' n' : ℕ) (outcome' : Outcome) → n ≤ length report → ((k : ℕ) → outcome' ≢ Unwritten k)
+      → SegmentsFrom report (λ stop. ⊥) u r n (Stopped n) limits u' r' n' outcome' → AddUp report (n + sum limits) u r u' r' n' outcome'
+  from [] u r n u' r' n' outcome' within written (lost, unread, count, last) =
       let same : n ≡ n + 0 = omega arith in
-      let P : ℕ → Type 0 = λ all. AddUp report all u u' n' outcome' in
-      let whole = all_within n u within in
-      subst P same (lost ∙ whole.0, count ∙ whole.1, last ∙ whole.2)
-  from (m ∷ limits) u n u' n' outcome' within written (inl (full, rest)) =
+      let P : ℕ → Type 0 = λ all. AddUp report all u r u' r' n' outcome' in
+      let whole = all_within n u r within in
+      subst P same (lost ∙ whole.0, unread ∙ whole.1, count ∙ whole.2, last ∙ whole.3)
+  from (m ∷ limits) u r n u' r' n' outcome' within written (inl (full, rest)) =
       let same : n + m + sum limits ≡ n + sum (m ∷ limits) = omega (arith, sum_by-cons (λ (x : ℕ). x) m limits) in
-      let P : ℕ → Type 0 = λ all. AddUp report all u u' n' outcome' in
-      subst P same (from limits u (n + m) u' n' outcome' (omega (arith, full, within)) written rest)
-  from (m ∷ limits) u n u' n' outcome' within written (inr (inl (less, lost, count, last))) =
+      let P : ℕ → Type 0 = λ all. AddUp report all u r u' r' n' outcome' in
+      subst P same (from limits u r (n + m) u' r' n' outcome' (omega (arith, full, within)) written rest)
+  from (m ∷ limits) u r n u' r' n' outcome' within written (inr (inl (less, lost, unread, count, last))) =
       let past : length report < n + sum (m ∷ limits) = omega (arith, less, within, sum_by-cons (λ (x : ℕ). x) m limits) in
-      let whole = past_end (n + sum (m ∷ limits)) u past in
-      (lost ∙ whole.0, count ∙ whole.1, last ∙ whole.2)
-  from (m ∷ limits) u n u' n' outcome' within written (inr (inr (inl unread))) = absurd unread.4
-  from (m ∷ limits) u n u' n' outcome' within written (inr (inr (inr unwritten))) = absurd (written _ unwritten.5)
+      let whole = past_end (n + sum (m ∷ limits)) u r past in
+      (lost ∙ whole.0, unread ∙ whole.1, count ∙ whole.2, last ∙ whole.3)
+  from (m ∷ limits) u r n u' r' n' outcome' within written (inr (inr (inl stopped))) = absurd stopped.4
+  from (m ∷ limits) u r n u' r' n' outcome' within written (inr (inr (inr unwritten))) = absurd (written _ unwritten.6)
 
 pub segments_add_up : SegmentsAddUp
-segments_add_up report limits u n outcome are written =
+segments_add_up report limits u r n outcome are written =
     let same : 0 + sum limits ≡ sum limits = omega arith in
-    let P : ℕ → Type 0 = λ all. AddUp report all 0 u n outcome in
-    subst P same (from report limits 0 0 u n outcome (omega arith) written are)
+    let P : ℕ → Type 0 = λ all. AddUp report all 0 0 u r n outcome in
+    subst P same (from report limits 0 0 0 u r n outcome (omega arith) written are)

@@ -8,5 +8,6 @@ pub mod Openings
 pub mod Run
 pub mod Segment
 pub mod SegmentLaws
+pub mod SegmentOpenings
 pub mod Segments
 pub mod Stops

@@ -18,6 +18,7 @@ use Rattle.bag_output.specs.declared.outcome.Outcome.{Outcome}
 use Rattle.bag_output.specs.declared.outcome.Outcome.TheVariants.{Stopped, Unread, Unwritten}
 use Rattle.bag_walk.specs.Lines.{IsLastLine}
 use Rattle.bag_walk.specs.Segment.{IsSegment}
+use Rattle.bag_walk.specs.SegmentOpenings.{AreListed, OpensFew}
 use Rattle.bag_walk.specs.Stops.{IfStopped, IsOfSummed}
 use Rattle.bag_walk.specs.declared.segment.Segment.{Segment}
 use Rattle.bag_walk.specs.declared.segment.SegmentEnd.{SegmentEnd}
@@ -41,24 +42,25 @@ cost Special = 1
 cost Name = 1
 cost other = 0
 
--- From where u limits were lost to the device and n faults written, and the last segment ended so, the segments of these
--- limits lead to u', n' and outcome'. Each limit is in order one of four.
-abbrev pub SegmentsFrom : List Fault → (Stop → Type 0) → ℕ → ℕ → Outcome → List ℕ → ℕ → ℕ → Outcome → Type 0
-SegmentsFrom report Stops u n outcome [] u' n' outcome' = (u' ≡ u) × (n' ≡ n) × (outcome' ≡ outcome)
-SegmentsFrom report Stops u n outcome (m ∷ limits) u' n' outcome' =
+-- From where r limits were unread, u of them lost to the device, and n faults written, and the last segment ended so, the
+-- segments of these limits lead to u', r', n' and outcome'. Each limit is in order one of four.
+abbrev pub SegmentsFrom : List Fault → (Stop → Type 0) → ℕ → ℕ → ℕ → Outcome → List ℕ → ℕ → ℕ → ℕ → Outcome → Type 0
+SegmentsFrom report Stops u r n outcome [] u' r' n' outcome' = (u' ≡ u) × (r' ≡ r) × (n' ≡ n) × (outcome' ≡ outcome)
+SegmentsFrom report Stops u r n outcome (m ∷ limits) u' r' n' outcome' =
     -- full: so many faults are left
-    ((m ≤ length report - n) × SegmentsFrom report Stops u (n + m) (Stopped (n + m)) limits u' n' outcome')
+    ((m ≤ length report - n) × SegmentsFrom report Stops u r (n + m) (Stopped (n + m)) limits u' r' n' outcome')
     -- the end: fewer are left, and no further limit is looked at
-    ⊎ ((length report - n < m) × (u' ≡ u) × (n' ≡ length report) × (outcome' ≡ ended None (length report)))
+    ⊎ ((length report - n < m) × (u' ≡ u) × (r' ≡ r) × (n' ≡ length report) × (outcome' ≡ ended None (length report)))
     -- unread: the tree or memory refused behind fewer faults
     ⊎ ((j : ℕ) × (stop : Stop) × (j < m) × (n + j ≤ length report) × Stops stop
-    × SegmentsFrom report Stops (u + cost stop.cause) (n + j) (Unread (n + j) stop) limits u' n' outcome')
+    × SegmentsFrom report Stops (u + cost stop.cause) (r + 1) (n + j) (Unread (n + j) stop) limits u' r' n' outcome')
     -- unwritten: the output refused the line of a fault, and no further limit is looked at
-    ⊎ ((j : ℕ) × (j < m) × (n + j < length report) × (u' ≡ u) × (n' ≡ n + j) × (outcome' ≡ Unwritten (n + j)))
+    ⊎ ((j : ℕ) × (j < m) × (n + j < length report) × (u' ≡ u) × (r' ≡ r) × (n' ≡ n + j) × (outcome' ≡ Unwritten (n + j)))
 
--- the segments of these limits write n faults of the report, lose u limits to the device, and end so
-abbrev pub AreSegments : List Fault → (Stop → Type 0) → List ℕ → ℕ → ℕ → Outcome → Type 0
-AreSegments report Stops limits u n outcome = SegmentsFrom report Stops 0 0 (Stopped 0) limits u n outcome
+-- The segments of these limits write n faults of the report, r of them are unread and u of these lost to the device, and the
+-- last ends so.
+abbrev pub AreSegments : List Fault → (Stop → Type 0) → List ℕ → ℕ → ℕ → ℕ → Outcome → Type 0
+AreSegments report Stops limits u r n outcome = SegmentsFrom report Stops 0 0 0 (Stopped 0) limits u r n outcome
 
 -- the lines of the first n faults were written, and where the output refused a proper part of the next line
 abbrev pub WroteSegments : ℕ → List Fault → Option (List ℕ) → Option (List ℕ) → Bool → Outcome → Type 0
@@ -76,14 +78,16 @@ pub record MayLose (options : Options) (old new : TreeState) (stop : Stop) : Typ
 abbrev pub IsStopped : Options → TreeState → TreeState → Outcome → Type 0
 IsStopped options old new outcome = IfStopped outcome (λ stop. MayLose options old new stop × CameFromTree new stop.cause)
 
--- What the segments of these limits write of a report, and how the last ends. Each failure of the device costs one limit at
--- most.
+-- What the segments of these limits write of a report, how the last ends, and which payload files they open. Each failure of
+-- the device costs one limit at most.
 pub record RunsOfSegments (options : Options) (report : List Fault) (limits : List ℕ) (old new : TreeState) (before after : Option (List ℕ)) (refused : Bool) (outcome : Outcome) : Type 0 where
   pub lost : ℕ
+  pub unread : ℕ
   pub count : ℕ
-  pub segments : AreSegments report (MayLose options old new) limits lost count outcome
+  pub segments : AreSegments report (MayLose options old new) limits lost unread count outcome
   pub few_lost : old.failures + lost ≤ new.failures
   pub wrote : WroteSegments count report before after refused outcome
+  pub opens : (listed : List (List ℕ)) → AreListed options old.bag listed → OpensFew listed (length limits) unread old new
 
 -- the theorem of segments, by the report of the bag
 abbrev pub RunsInSegments : TreeState → TreeState → Option Profile → Options → List ℕ → Option (List ℕ) → Option (List ℕ) → Bool → Outcome → Type 0

@@ -6,11 +6,12 @@ ghost use Rattle.bag_tree.specs.Tree.{Keeps};
 ghost use Rattle.bag_fault.specs.declared.fault.Fault.{Fault as Spoken};
 ghost use Rattle.bag_report.specs.Report.{IsReport};
 ghost use Rattle.bag_output.specs.Ending.{ended};
-ghost use Rattle.bag_source.specs.Openings.{OpensAgain};
+ghost use Rattle.bag_source.specs.Openings.{OpensAgain, OpensNoneBehind};
 ghost use Rattle.bag_source.specs.Source.{Sees};
 ghost use Rattle.bag_source.specs.Steps.{shown_by, to_give};
 ghost use Rattle.bag_walk.specs.Lines.{IsLastLine, IsLastOf};
-ghost use Rattle.bag_walk.specs.Segment.{IfUnread, IsSegment, MayStopRun};
+ghost use Rattle.bag_walk.specs.Segment.{IfUnread, IsSegment, MayStopRun, still_to_come};
+ghost use Rattle.bag_walk.specs.SegmentOpenings.{AreListed, OpensFirst};
 ghost use Rattle.bag_walk.specs.Stops.{MayStop};
 ghost use Rattle.bag_walk.specs.Segments as spec;
 
@@ -62,6 +63,10 @@ fn end_of_report(written: u64) -> Outcome
 /// It ends with the first segment that comes to the end of the report or whose output refuses. One whose reading is refused
 /// is followed by the next. The outcome counts the lines of all segments; the tree comes back. For a limit of 0 it isn't
 /// looked at.
+///
+/// Each segment goes on with the file of the last fault that was written, which it may open again, and with none before it. So
+/// the files that payload manifests name are opened once each, and for each segment but the first one of them once more. One
+/// whose reading is refused may open those again that it had found without a fault.
 pub fn run_segments<T: Tree, W: Out>(
     alloc: Global,
     tree: T,
@@ -111,6 +116,11 @@ fn write_segment<T: Tree, W: Out>(
         → IsReport (record { bag = (T.state tree).bag; profile = option_copied profile.entry; options = options }) report
         → (n : ℕ) → n ≤ length report → IsLastLine (spec.cursor_behind n report) (string_bytes lines.old.last)
         → spec.GoesOn report n limit (W.taken out.old) (W.taken out.new) (W.has_refused out.new) (string_bytes lines.new.last) result.1 }
+    ensures opens { IsTrue (T.state tree).honest → (report : List Spoken)
+        → IsReport (record { bag = (T.state tree).bag; profile = option_copied profile.entry; options = options }) report
+        → (n : ℕ) → n ≤ length report → IsLastLine (spec.cursor_behind n report) (string_bytes lines.old.last)
+        → (listed : List (List ℕ)) → AreListed options (T.state tree).bag listed
+        → OpensFirst listed (spec.cursor_behind n report) (spec.cursor_behind (n + result.1.written) report) (T.state tree) (T.state result.0) result.1.end }
 {
     if limit == 0 {
         return (
@@ -144,6 +154,9 @@ fn segment_of_walk<T: Tree, S: InOrder<T> + Drop, W: Out>(
 ) -> (T, Segment)
     ensures keeps { Keeps (T.state walk.tree) (T.state result.0) }
     ensures bounded { result.1.written ≤ limit }
+    ensures opens { (left : List (List ℕ)) × OpensAgain (S.todo walk.source) left (T.state walk.tree) (T.state result.0) }
+    ensures behind { (bag : Bag) → S.is_of bag walk.source → Sees (T.state walk.tree) (S.todo walk.source) bag
+        → OpensNoneBehind (still_to_come result.1 (to_give (shown_by walk.is_shown (S.found walk.source)) (S.remaining bag walk.source))) (T.state walk.tree) (T.state result.0) }
     ensures stop { IfUnread result.1.end (MayStopRun (IsTrue (T.state walk.tree).honest → S.is_of (T.state walk.tree).bag walk.source) (S.todo walk.source) (T.state walk.tree) (T.state result.0)) }
     ensures seen { (bag : Bag) → S.is_of bag walk.source → Sees (T.state walk.tree) (S.todo walk.source) bag
         → IsSegment (to_give (shown_by walk.is_shown (S.found walk.source)) (S.remaining bag walk.source)) limit (W.taken out.old) (W.taken out.new) (W.has_refused out.new) result.1 }

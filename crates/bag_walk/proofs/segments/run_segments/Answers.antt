@@ -1,10 +1,11 @@
 use Rattle.std.proofs.Common.{ℕ, ◌+◌, ◌∙◌, sym, subst, arith, refl}
 use Rattle.std.specs.Option.{option_copied}
-use Rattle.std.proofs.lemmas.List.Sums.{sum_by_more}
-use Rattle.bag_facts.proofs.Reading.{keeps_on}
+use Rattle.std.proofs.lemmas.List.Sums.{sum_by-take-le, sum_by_more}
+use Rattle.bag_facts.proofs.Reading.{keeps_itself, keeps_on}
 use Rattle.bag_report.specs.Report.{IsReport}
+use Rattle.bag_walk.specs.SegmentOpenings.{AreListed}
 use Rattle.bag_walk.specs.Segments.{IsStopped, RunsOfSegments}
-use Rattle.bag_walk.proofs.SegmentSteps.{SoFar, all_segments, last_segment, one_segment_more, stopped_at_last}
+use Rattle.bag_walk.proofs.SegmentSteps.{SoFar, all_segments, last_segment, one_segment_more, so_far_none, stopped_at_last}
 use Rattle.bag_walk.proofs.segments.run_segments.Goals as goal
 
 pub returns-then-last-clause-segments : goal.returns-then-last-clause-segments
@@ -14,12 +15,14 @@ returns-then-last-clause-segments g c = λ honest report is.
     let has = c.loop-limit.invariant in
     let step = c.write_segment-left in
     let so = has.so_far honest report is in
-    let s = step.ensures.segment (has.keeps.honest ∙ honest) report
-    (subst (λ bag. IsReport (record { bag = bag; profile = option_copied c.args.profile; options = c.args.options }) report) (sym has.keeps.bag) is) c.loop-limit.written so.within so.last in
+    let is_now = subst (λ bag. IsReport (record { bag = bag; profile = option_copied c.args.profile; options = c.args.options }) report) (sym has.keeps.bag) is in
+    let s = step.ensures.segment (has.keeps.honest ∙ honest) report is_now c.loop-limit.written so.within so.last in
     subst (RunsOfSegments c.args.options report c.args.limits.now (state c.args.tree) (state step.result.0) (taken c.args.out.now) (taken step.new.out) (g.W.Out.has_refused step.new.out)) (sym c.outcome-outcome.ensures)
-    (last_segment c.args.options report c.args.limits.now c.loop-limit.limit-index (state c.args.tree) (state c.loop-limit.tree) c.loop-limit.written _ (taken c.args.out.now) (taken c.loop-limit.out) c.loop-limit.outcome so has.keeps
+    (last_segment c.args.options report c.args.limits.now c.loop-limit.limit-index (state c.args.tree) (state c.loop-limit.tree) c.loop-limit.written _ (taken c.args.out.now) (taken c.loop-limit.out) c.loop-limit.outcome so has.keeps is.ascending
     _ (state step.result.0) step.result.1.written _ (taken step.new.out) (g.W.Out.has_refused step.new.out) c.loop-limit-test.true refl step.ensures.keeps s.last
-    step.result.1.end (sym c.is_last-last.ensures ∙ c.if-last.true) s.writes.ends s.writes.wrote)
+    step.result.1.end (sym c.is_last-last.ensures ∙ c.if-last.true) s.writes.ends s.writes.wrote
+    (λ listed are.
+    step.ensures.opens (has.keeps.honest ∙ honest) report is_now c.loop-limit.written so.within so.last listed (subst (λ bag. AreListed c.args.options bag listed) (sym has.keeps.bag) are)))
 
 pub loop-limit-preserved : goal.loop-limit-preserved
 loop-limit-preserved g c =
@@ -40,16 +43,34 @@ loop-limit-preserved g c =
           (stopped_at_last c.args.options (state c.args.tree) (state c.loop-limit.tree) (state step.result.0) _ step.result.1.end has.keeps step.ensures.stop);
       so_far = λ honest report is.
           let so = has.so_far honest report is in
-          let s = step.ensures.segment (has.keeps.honest ∙ honest) report
-          (subst (λ bag. IsReport (record { bag = bag; profile = option_copied c.args.profile; options = c.args.options }) report) (sym has.keeps.bag) is) n so.within so.last in
+          let is_now = subst (λ bag. IsReport (record { bag = bag; profile = option_copied c.args.profile; options = c.args.options }) report) (sym has.keeps.bag) is in
+          let s = step.ensures.segment (has.keeps.honest ∙ honest) report is_now n so.within so.last in
           subst (SoFar c.args.options report c.args.limits.now (i + 1) (state c.args.tree) (state step.result.0) (n + step.result.1.written) _ (taken c.args.out.now) (taken step.new.out)) (sym c.outcome-outcome.ensures)
-          (one_segment_more c.args.options report c.args.limits.now i (state c.args.tree) (state c.loop-limit.tree) n _ (taken c.args.out.now) (taken c.loop-limit.out) c.loop-limit.outcome so has.keeps
+          (one_segment_more c.args.options report c.args.limits.now i (state c.args.tree) (state c.loop-limit.tree) n _ (taken c.args.out.now) (taken c.loop-limit.out) c.loop-limit.outcome so has.keeps is.ascending
           _ (state step.result.0) step.result.1.written _ (taken step.new.out) (g.W.Out.has_refused step.new.out) c.loop-limit-test.true refl step.ensures.keeps s.last
-          step.result.1.end (sym c.is_last-last.ensures ∙ c.if-last.false) s.writes.ends s.writes.wrote step.ensures.stop);
+          step.result.1.end (sym c.is_last-last.ensures ∙ c.if-last.false) s.writes.ends s.writes.wrote step.ensures.stop
+          (λ listed are. step.ensures.opens (has.keeps.honest ∙ honest) report is_now n so.within so.last listed (subst (λ bag. AreListed c.args.options bag listed) (sym has.keeps.bag) are)));
     }
 
 pub returns-clause-segments : goal.returns-clause-segments
 returns-clause-segments g c = λ honest report is.
     let state = g.T.Tree.state in
     all_segments c.args.options report c.args.limits.now c.loop-limit.limit-index (state c.args.tree) (state c.loop-limit.tree) c.loop-limit.written _ (g.W.Out.taken c.args.out.now) (g.W.Out.taken c.loop-limit.out) c.loop-limit.outcome
-    (c.loop-limit.invariant.so_far honest report is) c.loop-limit.invariant.keeps c.loop-limit-test.false (g.W.Out.has_refused c.loop-limit.out)
+    (c.loop-limit.invariant.so_far honest report is) c.loop-limit.invariant.keeps is.ascending c.loop-limit-test.false (g.W.Out.has_refused c.loop-limit.out)
+
+pub loop-limit-init : goal.loop-limit-init
+loop-limit-init g c =
+    let state = g.T.Tree.state c.args.tree in
+    record {
+      keeps = keeps_itself state;
+      bounded = omega arith;
+      untouched = λ none. refl;
+      stop = tt;
+      so_far = λ honest report is. so_far_none c.args.options report c.args.limits.now state _ (g.W.Out.taken c.args.out.now) c.new-lines.ensures;
+    }
+
+pub overflow_add-written : goal.overflow_add-written
+overflow_add-written g c =
+    let i = c.loop-limit.limit-index in
+    let limits = c.args.limits.now in
+    omega (arith, c.requires, c.write_segment-left.ensures.bounded, c.loop-limit.invariant.bounded, sum_by_more (λ (x : ℕ). x) limits i 0 c.loop-limit-test.true, sum_by-take-le (λ (x : ℕ). x) limits (i + 1))

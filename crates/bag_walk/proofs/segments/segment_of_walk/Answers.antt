@@ -15,3 +15,6 @@ returns-clause-stop g c =
     rw c.into_tree.ensures
     (stops_segment (g.S.Source.todo walk.source) (g.S.Source.todo new.source) (state walk.tree) (state new.tree) c.write_faults-segment.ensures.opens
     (IsTrue (state walk.tree).honest → g.S.Source.is_of (state walk.tree).bag walk.source) c.write_faults-segment.result.end c.write_faults-segment.ensures.stop)
+
+pub returns-clause-behind : goal.returns-clause-behind
+returns-clause-behind g c = λ bag h sees. rw c.into_tree.ensures (c.write_faults-segment.ensures.behind bag h sees)

@@ -1,6 +1,10 @@
+use Rattle.std.proofs.Common.{◌+◌, refl, arith}
 use Rattle.std.specs.Option.{option_copied}
+use Rattle.bag_facts.proofs.Opens.{opens_none as reads_none}
+use Rattle.bag_walk.specs.Segments.{cursor_behind}
 use Rattle.bag_walk.proofs.Running.{stop_of_reading}
-use Rattle.bag_walk.proofs.SegmentStart.{goes_on, stop_of_started}
+use Rattle.bag_walk.proofs.SegmentOpenings.{opens_no_payload}
+use Rattle.bag_walk.proofs.SegmentStart.{goes_on, opens_behind, stop_of_started}
 use Rattle.bag_walk.proofs.segments.write_segment.Goals as goal
 
 pub returns-in-Ok-start-clause-stop : goal.returns-in-Ok-start-clause-stop
@@ -19,3 +23,25 @@ returns-in-Ok-start-clause-segment g c = λ honest report is n within was.
 
 pub returns-in-Err-clause-stop : goal.returns-in-Err-clause-stop
 returns-in-Err-clause-stop g c = let state = g.T.Tree.state in stop_of_reading c.args.options (state c.args.tree) (state c.in-Err.tree) c.in-Err.stop c.in-Err.ensures.stop
+
+pub returns-in-Ok-start-clause-opens : goal.returns-in-Ok-start-clause-opens
+returns-in-Ok-start-clause-opens g c = λ honest report is n within was listed are.
+    let state = g.T.Tree.state in
+    let begun = c.in-Ok-start.ensures in
+    let then = c.segment_of_walk.ensures in
+    opens_behind (state c.args.tree) (state c.in-Ok-start.walk.tree) (state c.segment_of_walk.result.0) (option_copied c.args.profile) c.args.options c.in-Ok.after _ _ _ begun.started begun.keeps
+    honest report is n within (c.in-Ok.ensures _ was) begun.opens _ then.opens.1 c.args.limit (omega (arith, c.if-limit-eq0.false)) _ _ _ c.segment_of_walk.result.1 then.seen then.behind listed are
+
+pub returns-in-Err-clause-opens : goal.returns-in-Err-clause-opens
+returns-in-Err-clause-opens g c = λ honest report is n within was listed are.
+    let state = g.T.Tree.state in opens_no_payload c.args.options listed (cursor_behind n report) (cursor_behind (n + 0) report) (state c.args.tree) (state c.in-Err.tree) _ c.in-Err.ensures.opens
+
+pub returns-in_default-clause-opens : goal.returns-in_default-clause-opens
+returns-in_default-clause-opens g c = λ honest report is n within was listed are.
+    let state = g.T.Tree.state c.args.tree in
+    opens_no_payload c.args.options listed (cursor_behind n report) (cursor_behind (n + 0) report) state state _ (reads_none c.args.options state state refl)
+
+pub returns-then-limit-eq0-clause-opens : goal.returns-then-limit-eq0-clause-opens
+returns-then-limit-eq0-clause-opens g c = λ honest report is n within was listed are.
+    let state = g.T.Tree.state c.args.tree in
+    opens_no_payload c.args.options listed (cursor_behind n report) (cursor_behind (n + 0) report) state state _ (reads_none c.args.options state state refl)

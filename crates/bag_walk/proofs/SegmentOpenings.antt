@@ -1,0 +1,181 @@
+-- The payload files that segments open.
+use Rattle.std.proofs.Common.{◌≡◌, ◌<◌, ◌≤◌, ◌+◌, ◌-◌, ◌*◌, ◌++◌, ◌∙◌, inl, inr, ℕ, suc, Bool, true, not, List, [], Option, None, Some, Contains, length, drop, filter, sym, ap, subst, append-nil, append_assoc, arith}
+use Rattle.std.specs.List.Sorted.{IsStrictlySortedBy}
+use Rattle.std.proofs.lemmas.List.{length-append}
+use Rattle.std.proofs.lemmas.List.Elements.{filter-append}
+use Rattle.bag_text.specs.Order.{IsListOf}
+use Rattle.bag_text.specs.Path.{is_payload_path}
+use Rattle.bag_text.specs.Text.{text_cmp}
+use Rattle.bag_text.proofs.ListOf.{contains_either, contains_front, contains_nothing, same_members}
+use Rattle.bag_tree.specs.Tree.{TreeState}
+use Rattle.bag_fault.specs.declared.fault.Fault.{Fault}
+use Rattle.bag_facts.specs.Wanted.{OpensWanted}
+use Rattle.bag_facts.specs.declared.options.Options.{Options}
+use Rattle.bag_facts.proofs.Mapped.{kept}
+use Rattle.bag_report.specs.Report.{Check}
+use Rattle.bag_report.proofs.Filtered.{filtered_list}
+use Rattle.bag_source.specs.Openings.{NoneBehind, OpensAgain, OpensNoneBehind}
+use Rattle.bag_source.specs.Start.{IsListedToOpen}
+use Rattle.bag_source.specs.Validity.{is_passed}
+use Rattle.bag_walk.specs.Segment.{EndsSegment, looked_past, still_to_come}
+use Rattle.bag_walk.specs.SegmentOpenings.{AreListed, IsListedFile, NoneBehindLast, OpensFew, OpensFirst, not_passed}
+use Rattle.bag_walk.specs.Segments.{cursor_behind}
+use Rattle.bag_walk.specs.declared.segment.Segment.{Segment}
+use Rattle.bag_walk.specs.declared.segment.SegmentEnd.{SegmentEnd}
+use Rattle.bag_walk.specs.declared.segment.SegmentEnd.TheVariants.{Full}
+use Rattle.bag_walk.proofs.Openings.{no_payload, opened_front, payload_of}
+use Rattle.bag_walk.proofs.Passed.{no_more, one_twice, opposite}
+use Rattle.bag_walk.proofs.Places.{at_later, at_place, contains_from}
+
+-- ---- one segment
+
+none_behind_nothing : (last : Option Fault) (paths : List (List ℕ)) → paths ≡ [] → NoneBehindLast last paths
+none_behind_nothing None paths none = none
+none_behind_nothing (Some f) paths none = λ path c. absurd (contains_nothing path (subst (λ l. Contains l path) none c))
+
+-- where tag files alone were read, no payload file was opened
+pub opens_no_payload : (options : Options) (listed : List (List ℕ)) (cursor last : Option Fault) (old new : TreeState) (end : SegmentEnd) → OpensWanted options old new
+    → OpensFirst listed cursor last old new end
+opens_no_payload options listed cursor last old new end read =
+    let none : filter is_payload_path read.0 ≡ [] = no_payload options old new read read.0 read.1 in
+    record {
+      opened = read.0;
+      openings = read.1;
+      rest = not_passed cursor listed;
+      first = sym (ap (λ xs. xs ++ not_passed cursor listed) none);
+      none_behind = λ full. none_behind_nothing last (filter is_payload_path read.0) none;
+    }
+
+-- the listed files that a cursor hasn't passed are those of the payload that are still to be opened
+pub not_passed_listed : (check : Check) (cursor : Option Fault) (listed : List (List ℕ)) → AreListed check.options check.bag listed → IsListOf text_cmp (IsListedToOpen check cursor) (not_passed cursor listed)
+not_passed_listed check cursor listed are =
+    let ahead : List ℕ → Bool = λ path. not (is_passed cursor path) in
+    same_members text_cmp (λ path. IsListedFile check.options check.bag path × (ahead path ≡ true)) (IsListedToOpen check cursor) (not_passed cursor listed)
+    (λ path h. (h.0.0, h.0.1, h.0.2, h.0.3, opposite (is_passed cursor path) h.1)) (λ path h. ((h.0, h.1, h.2, h.3), ap not h.4))
+    (filtered_list text_cmp (IsListedFile check.options check.bag) ahead listed are)
+
+-- tag files were read, and then files were opened that were to be
+module _ (old mid new : TreeState) (options : Options) (todo left : List (List ℕ)) (read : OpensWanted options old mid) (again : OpensAgain todo left mid new) where
+  abbrev paths : List (List ℕ)
+  paths = (opened_front todo left mid new again).0
+
+  abbrev more : List (List ℕ)
+  more = (opened_front todo left mid new again).1
+
+  abbrev opened : List (List ℕ)
+  opened = read.0 ++ paths
+
+  payload_is : filter is_payload_path opened ≡ filter is_payload_path paths
+  payload_is = payload_of options read.0 paths read.3
+
+  openings_are : new.openings ≡ old.openings ++ opened
+  openings_are = (opened_front todo left mid new again).2 ∙ ap (λ o. o ++ paths) read.1 ∙ append_assoc old.openings read.0 paths
+
+  front_is : filter is_payload_path todo ≡ filter is_payload_path opened ++ filter is_payload_path more
+  front_is =
+      ap (filter is_payload_path) (opened_front todo left mid new again).3 ∙ filter-append is_payload_path paths more
+      ∙ ap (λ xs. xs ++ filter is_payload_path more) (sym payload_is)
+
+  none_before : (faults : List Fault) → OpensNoneBehind faults mid new → NoneBehind faults (filter is_payload_path opened)
+  none_before faults behind f path c d =
+      behind paths (opened_front todo left mid new again).2 f path c (kept is_payload_path paths path (subst (λ l. Contains l path) payload_is d)).1
+
+  module _ (n limit : ℕ) (report : List Fault) (segment : Segment) (some : 0 < limit) (ends : EndsSegment (drop n report) limit segment.written segment.end)
+      (behind : OpensNoneBehind (still_to_come segment (drop n report)) mid new) where
+    -- none behind the fault that was written last
+    last_at : segment.end ≡ Full → NoneBehindLast (cursor_behind (n + segment.written) report) (filter is_payload_path opened)
+    last_at full =
+        let all : (segment.written ≡ limit) × (segment.written ≤ length (drop n report)) = subst (EndsSegment (drop n report) limit segment.written) full ends in
+        let k : ℕ = segment.written - 1 in
+        let at = at_place k (drop n report) (omega (arith, some, all.0, all.1)) in
+        let place : n + segment.written ≡ suc (n + k) = omega (arith, some, all.0) in
+        let last : cursor_behind (n + segment.written) report ≡ Some at.0 = ap (λ i. cursor_behind i report) place ∙ at_later n k report at.0 at.1 in
+        let waits : Contains (still_to_come segment (drop n report)) at.0 =
+        subst (λ e. Contains (drop (looked_past e segment.written) (drop n report)) at.0) (sym full) (contains_from k (drop n report) at.0 at.1) in
+        subst (λ c. NoneBehindLast c (filter is_payload_path opened)) (sym last) (λ path c. none_before (still_to_come segment (drop n report)) behind at.0 path waits c)
+
+    pub opens_front : (listed : List (List ℕ)) (cursor : Option Fault) → filter is_payload_path todo ≡ not_passed cursor listed
+        → OpensFirst listed cursor (cursor_behind (n + segment.written) report) old new segment.end
+    opens_front listed cursor same = record {
+      opened = opened;
+      openings = openings_are;
+      rest = filter is_payload_path more;
+      first = sym same ∙ front_is;
+      none_behind = last_at;
+    }
+
+-- ---- segment after segment
+
+-- What the first i segments opened of the payload. What the cursor hasn't passed is still to be opened.
+pub record OpenedSoFar (listed : List (List ℕ)) (i unread : ℕ) (cursor : Option Fault) (old now : TreeState) : Type 0 where
+  pub opened : List (List ℕ)
+  pub openings : now.openings ≡ old.openings ++ opened
+  pub only_listed : (path : List ℕ) → Contains (filter is_payload_path opened) path → Contains listed path
+  pub few : length (filter is_payload_path opened) ≤ (unread + 1) * length listed + (i - 1)
+  pub room : length (filter is_payload_path opened) + length (not_passed cursor listed) ≤ (unread + 1) * length listed + i
+
+pub opened_none : (listed : List (List ℕ)) (old : TreeState) → OpenedSoFar listed 0 0 None old old
+opened_none listed old = record {
+  opened = [];
+  openings = sym (append-nil old.openings);
+  only_listed = λ path c. absurd (contains_nothing path c);
+  few = omega arith;
+  room = omega (arith, no_more None listed);
+}
+
+pub few_of : (listed : List (List ℕ)) (i unread segments : ℕ) (cursor : Option Fault) (old now : TreeState) → OpenedSoFar listed i unread cursor old now → i ≤ segments
+    → OpensFew listed segments unread old now
+few_of listed i unread segments cursor old now so le = record { opened = so.opened; openings = so.openings; only_listed = so.only_listed; few = omega (arith, so.few, le) }
+
+module _ (listed : List (List ℕ)) (i unread : ℕ) (cursor last : Option Fault) (old now new : TreeState) (end : SegmentEnd)
+    (so : OpenedSoFar listed i unread cursor old now) (opens : OpensFirst listed cursor last now new end) where
+  abbrev both : List (List ℕ)
+  both = so.opened ++ opens.opened
+
+  both_are : new.openings ≡ old.openings ++ both
+  both_are = opens.openings ∙ ap (λ o. o ++ opens.opened) so.openings ∙ append_assoc old.openings so.opened opens.opened
+
+  payload_both : filter is_payload_path both ≡ filter is_payload_path so.opened ++ filter is_payload_path opens.opened
+  payload_both = filter-append is_payload_path so.opened opens.opened
+
+  size : length (filter is_payload_path both) ≡ length (filter is_payload_path so.opened) + length (filter is_payload_path opens.opened)
+  size = ap length payload_both ∙ length-append (filter is_payload_path so.opened) (filter is_payload_path opens.opened)
+
+  ahead : length (not_passed cursor listed) ≡ length (filter is_payload_path opens.opened) + length opens.rest
+  ahead = ap length opens.first ∙ length-append (filter is_payload_path opens.opened) opens.rest
+
+  only : (path : List ℕ) → Contains (filter is_payload_path both) path → Contains listed path
+  only path c = elim (contains_either (filter is_payload_path so.opened) (filter is_payload_path opens.opened) path (subst (λ l. Contains l path) payload_both c)) [
+    | inl a ↦ so.only_listed path a
+    | inr b ↦ (kept (λ p. not (is_passed cursor p)) listed path (subst (λ l. Contains l path) (sym opens.first) (contains_front (filter is_payload_path opens.opened) opens.rest path b))).1
+  ]
+
+  -- one segment more, behind which none follows
+  pub few_with_last : (segments : ℕ) → i < segments → OpensFew listed segments unread old new
+  few_with_last segments less = record {
+    opened = both;
+    openings = both_are;
+    only_listed = only;
+    few = omega (arith, size, ahead, so.room, less);
+  }
+
+  -- and one behind which others follow: a full one
+  pub full_more : IsStrictlySortedBy text_cmp listed → ((path : List ℕ) → is_passed cursor path ≡ true → is_passed last path ≡ true) → end ≡ Full
+      → OpenedSoFar listed (i + 1) unread last old new
+  full_more sorted later full = record {
+    opened = both;
+    openings = both_are;
+    only_listed = only;
+    few = omega (arith, size, ahead, so.room);
+    room = omega (arith, size, so.room, one_twice cursor last listed (filter is_payload_path opens.opened) opens.rest later sorted opens.first (opens.none_behind full));
+  }
+
+  -- or one that was unread
+  pub unread_more : OpenedSoFar listed (i + 1) (unread + 1) last old new
+  unread_more = record {
+    opened = both;
+    openings = both_are;
+    only_listed = only;
+    few = omega (arith, size, ahead, so.room);
+    room = omega (arith, size, ahead, so.room, no_more last listed);
+  }
