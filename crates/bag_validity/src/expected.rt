@@ -28,9 +28,9 @@ pub struct Expected {
 }
 
 /// The digests that manifests give for a file (RFC 8493, 2.1.3 and 2.2.1), in the order of their algorithms, of facts read for
-/// more than the declaration: none exactly where no manifest names it. Takes time log n of the entries of each manifest that doesn't
-/// name the file at the place where it is looked for first; for the files of a bag in path order the places are those that the
-/// call before left.
+/// more than the declaration: none exactly where no manifest names it. A manifest that names it at the place where it is looked
+/// for first is not searched, and each other takes time log n of its entries. For one file after another in path order, hand
+/// over the places that the call before left.
 pub fn expected_of(
     alloc: Global,
     facts: &Facts,

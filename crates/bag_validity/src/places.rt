@@ -1,8 +1,8 @@
 //! Where entries of manifests are looked for.
 use bag_text::Alg;
 
-/// Where to look first for what manifests give for a file: behind what they gave for the file before it. Of files in path order
-/// most are found there, without a search. The places decide nothing: whatever they are, the same entries are found.
+/// Where to look first for what manifests give for a file: behind what they gave for the file before. In path order most files
+/// are found there, without a search. The places decide nothing: whatever they are, the same entries are found.
 #[derive(Debug, Drop)]
 pub struct Places {
     next: [usize; Alg::ALL.len()],

@@ -1,6 +1,5 @@
-use Rattle.std.proofs.Common.{◌∙◌, rules, of_calls, sym}
+use Rattle.std.proofs.Common.{rules, of_calls}
 use Rattle.std.proofs.lemmas.Fn.{always_returns_same}
-use Rattle.std.proofs.lemmas.Slice.Eq.{bytes_eq-Decides}
 use Rattle.bag_text.specs.Text.{text_cmp}
 use Rattle.bag_facts.proofs.Entries.{entry_found, no_entry_found}
 use Rattle.bag_validity.proofs.expected.entry_near.Goals as goal
