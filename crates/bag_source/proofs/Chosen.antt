@@ -37,7 +37,7 @@ use Rattle.bag_validity.proofs.SummedFiles.{faulty_is_summed, named_some, some_n
 use Rattle.bag_validity.proofs.ValidityFaults.{validity_of_stage_seven}
 use Rattle.bag_report.specs.Report.{above, is_above}
 use Rattle.bag_report.proofs.Filtered.{filtered_list}
-use Rattle.bag_source.specs.Files.{AreToSum, IsAhead, TellsItsFaults}
+use Rattle.bag_source.specs.Files.{AreToSum, IsNamedAhead, TellsItsFaults}
 use Rattle.bag_source.specs.ToSum.{faults_at, faults_in, faults_of_files, paths_to_sum}
 use Rattle.bag_source.specs.Validity.{is_passed, AreFilesOf, IsOfBag}
 use Rattle.bag_source.specs.declared.to_sum.ToSum.{ToSum}
@@ -54,10 +54,10 @@ module _ (bag : Bag) (after : Option Fault) where
   -- one file more, behind all of them
   module _ (before : List FileEntry) (file : FileEntry) (chosen : List ToSum) (so_far : AreToSum bag after before chosen) where
     abbrev IsBefore : List ℕ → Type 0
-    IsBefore path = Contains (paths_of before) path × IsAhead bag after path
+    IsBefore path = Contains (paths_of before) path × IsNamedAhead bag after path
 
     abbrev IsNow : List ℕ → Type 0
-    IsNow path = Contains (paths_of (before ++ file ∷ [])) path × IsAhead bag after path
+    IsNow path = Contains (paths_of (before ++ file ∷ [])) path × IsNamedAhead bag after path
 
     paths_now : paths_of (before ++ file ∷ []) ≡ paths_of before ++ file.path ∷ []
     paths_now = map-append (λ (entry : FileEntry). entry.path) before (file ∷ [])
@@ -65,7 +65,7 @@ module _ (bag : Bag) (after : Option Fault) where
     from_before : (path : List ℕ) → IsBefore path → IsNow path
     from_before path h = (subst (λ l. Contains l path) (sym paths_now) (contains_front (paths_of before) (file.path ∷ []) path h.0), h.1)
 
-    to_cases : (path : List ℕ) → IsNow path → IsBefore path ⊎ ((path ≡ file.path) × IsAhead bag after path)
+    to_cases : (path : List ℕ) → IsNow path → IsBefore path ⊎ ((path ≡ file.path) × IsNamedAhead bag after path)
     to_cases path h = elim (contains_either (paths_of before) (file.path ∷ []) path (subst (λ l. Contains l path) paths_now h.0)) [
       | inl a ↦ inl (a, h.1)
       | inr b ↦ elim (contains_cases file.path [] path b) [ inl same ↦ inr (sym same, h.1) | inr none ↦ absurd (contains_nothing path none) ]
@@ -74,15 +74,15 @@ module _ (bag : Bag) (after : Option Fault) where
     listed_now : (to_sum : ToSum) → Contains chosen to_sum → Contains (before ++ file ∷ []) to_sum.file
     listed_now to_sum c = contains_front before (file ∷ []) to_sum.file (so_far.listed to_sum c)
 
-    pub passed_over : ¬ (IsAhead bag after file.path) → AreToSum bag after (before ++ file ∷ []) chosen
+    pub passed_over : ¬ (IsNamedAhead bag after file.path) → AreToSum bag after (before ++ file ∷ []) chosen
     passed_over lacks = record {
       paths = same_members text_cmp IsBefore IsNow (paths_to_sum chosen) from_before
-          (λ path h. elim (to_cases path h) [ inl a ↦ a | inr b ↦ absurd (lacks (subst (IsAhead bag after) b.0 b.1)) ]) so_far.paths;
+          (λ path h. elim (to_cases path h) [ inl a ↦ a | inr b ↦ absurd (lacks (subst (IsNamedAhead bag after) b.0 b.1)) ]) so_far.paths;
       listed = listed_now;
       faults = so_far.faults;
     }
 
-    module _ (to_sum : ToSum) (is : to_sum.file ≡ file) (ahead : IsAhead bag after file.path) (tells : TellsItsFaults bag to_sum)
+    module _ (to_sum : ToSum) (is : to_sum.file ≡ file) (ahead : IsNamedAhead bag after file.path) (tells : TellsItsFaults bag to_sum)
         (less : (path : List ℕ) → Contains (paths_of before) path → text_cmp path file.path ≡ Less) where
       last : IsListOf text_cmp (λ path. path ≡ file.path) (file.path ∷ [])
       last = one_listed text_cmp (λ path. path ≡ file.path) file.path refl (λ y e. e)
@@ -94,7 +94,7 @@ module _ (bag : Bag) (after : Option Fault) where
             | inl a ↦ from_before path a
             | inr e ↦ (
               subst (λ l. Contains l path) (sym paths_now) (contains_back (paths_of before) (file.path ∷ []) path (subst (Contains (file.path ∷ [])) (sym e) (contains_first file.path []))),
-              subst (IsAhead bag after) (sym e) ahead,
+              subst (IsNamedAhead bag after) (sym e) ahead,
             )
           ])
           (λ path h. elim (to_cases path h) [ inl a ↦ inl a | inr b ↦ inr b.0 ])
@@ -133,10 +133,10 @@ module _ (bag : Bag) (after : Option Fault) (files : List FileEntry) (i : ℕ) (
       let next : file.path ≡ get_or (paths_of files) i file.path = ap path_of at ∙ sym (get_or-map path_of files i file) in
       before_next text_cmp (paths_of files) i file.path path ordered within next (subst (λ l. Contains l path) (sym (take-map path_of i files)) c)
 
-  pub one_passed_over : ¬ (IsAhead bag after file.path) → AreToSum bag after (take (i + 1) files) chosen
+  pub one_passed_over : ¬ (IsNamedAhead bag after file.path) → AreToSum bag after (take (i + 1) files) chosen
   one_passed_over lacks = subst (λ l. AreToSum bag after l chosen) (sym more_files) (passed_over bag after (take i files) file chosen so_far lacks)
 
-  pub one_added : IsStrictlySortedBy text_cmp (paths_of files) → (to_sum : ToSum) → to_sum.file ≡ file → IsAhead bag after file.path → TellsItsFaults bag to_sum
+  pub one_added : IsStrictlySortedBy text_cmp (paths_of files) → (to_sum : ToSum) → to_sum.file ≡ file → IsNamedAhead bag after file.path → TellsItsFaults bag to_sum
       → AreToSum bag after (take (i + 1) files) (chosen ++ to_sum ∷ [])
   one_added ordered to_sum is ahead tells =
       subst (λ l. AreToSum bag after l (chosen ++ to_sum ∷ [])) (sym more_files)
@@ -252,7 +252,7 @@ module _ (bag : Bag) (after : Option Fault) (facts : Facts) (of : IsFactsOf bag 
 
   pub chosen_todo : IsListOf text_cmp (λ path. IsSummed bag path × (is_passed after path ≡ false)) (paths_to_sum chosen)
   chosen_todo =
-      same_members text_cmp (λ path. Contains (paths_of facts.listing.files) path × IsAhead bag after path) (λ path. IsSummed bag path × (is_passed after path ≡ false)) (paths_to_sum chosen)
+      same_members text_cmp (λ path. Contains (paths_of facts.listing.files) path × IsNamedAhead bag after path) (λ path. IsSummed bag path × (is_passed after path ≡ false)) (paths_to_sum chosen)
       (λ path h. ((has_file path h.0, h.1.0), h.1.1)) (λ path h. (is_listed path h.0.0, (h.0.1, h.1))) are.paths
 
   pub chosen_faults : IsListOf fault_cmp (λ f. IsOfValidity bag f × (is_above after f ≡ true)) (faults_of_files bag after chosen)

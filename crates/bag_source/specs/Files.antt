@@ -14,8 +14,8 @@ use Rattle.bag_source.specs.Validity.{is_passed}
 use Rattle.bag_source.specs.declared.to_sum.ToSum.{ToSum}
 
 -- a manifest names the path, and a cursor hasn't passed it
-abbrev pub IsAhead : Bag → Option Fault → List ℕ → Type 0
-IsAhead bag after path = IsNamed bag path × (is_passed after path ≡ false)
+abbrev pub IsNamedAhead : Bag → Option Fault → List ℕ → Type 0
+IsNamedAhead bag after path = IsNamed bag path × (is_passed after path ≡ false)
 
 -- the faults that its digests have are those of the file in the bag
 abbrev pub TellsItsFaults : Bag → ToSum → Type 0
@@ -24,11 +24,11 @@ TellsItsFaults bag to_sum = IsListOf fault_cmp (IsOfFile bag to_sum.file.path) (
 -- the file, where it is ahead of a cursor
 abbrev pub IsToSum : Bag → Option Fault → FileEntry → Option ToSum → Type 0
 IsToSum bag after file chosen =
-    MatchOption chosen (¬ (IsAhead bag after file.path))
-    (λ to_sum. (to_sum.file ≡ file) × IsAhead bag after file.path × TellsItsFaults bag to_sum)
+    MatchOption chosen (¬ (IsNamedAhead bag after file.path))
+    (λ to_sum. (to_sum.file ≡ file) × IsNamedAhead bag after file.path × TellsItsFaults bag to_sum)
 
 -- these are the files, among some, that are ahead of a cursor
 pub record AreToSum (bag : Bag) (after : Option Fault) (files : List FileEntry) (chosen : List ToSum) : Type 0 where
-  pub paths : IsListOf text_cmp (λ path. Contains (paths_of files) path × IsAhead bag after path) (paths_to_sum chosen)
+  pub paths : IsListOf text_cmp (λ path. Contains (paths_of files) path × IsNamedAhead bag after path) (paths_to_sum chosen)
   pub listed : (to_sum : ToSum) → Contains chosen to_sum → Contains files to_sum.file
   pub faults : (to_sum : ToSum) → Contains chosen to_sum → TellsItsFaults bag to_sum

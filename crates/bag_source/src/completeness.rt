@@ -14,8 +14,7 @@ ghost use Rattle.bag_source.specs.Completeness.{IsAbove, IsOfAlg, IsSoughtAbove,
 ghost use Rattle.bag_source.specs.Source.{first_of};
 
 use crate::ascending::{above, merged};
-use crate::queue::Queue;
-use crate::{InOrder, Quiet, Source};
+use crate::{Fixed, InOrder, Quiet, Source};
 use bag_completeness::{clashes_asked, is_exact, missing_of, unlisted_of};
 use bag_facts::Facts;
 use bag_fault::Fault;
@@ -28,7 +27,7 @@ use std::alloc::{AllocError, Global};
 /// file.
 #[derive(Debug, Drop)]
 pub struct Completeness {
-    faults: Queue<Fault>,
+    list: Fixed,
 }
 
 impl Completeness {
@@ -40,14 +39,14 @@ impl Completeness {
         after: Option<&Fault>,
     ) -> Result<Completeness, AllocError>
         ensures sought { IfOk result (λ source. (bag : Bag) → IsFactsOf bag facts.now → reaches facts.now.options.depth 6 ≡ true
-            → IsListOf fault_cmp (IsSoughtAbove facts.now.options.clashes bag (option_copied after.entry)) source.faults) }
-        ensures none { IfOk result (λ source. reaches facts.now.options.depth 6 ≡ false → source.faults ≡ []) }
+            → IsListOf fault_cmp (IsSoughtAbove facts.now.options.clashes bag (option_copied after.entry)) source.list.faults) }
+        ensures none { IfOk result (λ source. reaches facts.now.options.depth 6 ≡ false → source.list.faults ≡ []) }
         ensures reported { IfOk result (λ source. (bag : Bag) (profile : Option Profile) → IsFactsOf bag facts.now
-            → IsStageAbove (record { bag = bag; profile = profile; options = facts.now.options }) 6 (option_copied after.entry) source.faults) }
+            → IsStageAbove (record { bag = bag; profile = profile; options = facts.now.options }) 6 (option_copied after.entry) source.list.faults) }
     {
         let faults = asked(alloc, facts, after)?;
         Ok(Completeness {
-            faults: Queue::new(faults),
+            list: Fixed::of(faults),
         })
     }
 }
@@ -123,13 +122,13 @@ fn of_payload(
 }
 
 impl<T: Tree> Source<T> for Completeness {
-    ghost is_of = { λ bag s. IsStrictlySortedBy fault_cmp s.faults };
+    ghost is_of = { λ bag s. IsStrictlySortedBy fault_cmp s.list.faults };
 
-    ghost remaining = { λ bag s. s.faults };
+    ghost remaining = { λ bag s. s.list.faults };
 
     ghost todo = { λ s. [] };
 
-    ghost found = { λ s. first_of s.faults };
+    ghost found = { λ s. first_of s.list.faults };
 
     ghost in_order = { ⊤ };
 
@@ -137,16 +136,16 @@ impl<T: Tree> Source<T> for Completeness {
 
     ghost ascends = { λ bag s h. h };
 
-    fn fill(&mut self, _tree: &mut T) -> Result<(), Stop> {
-        Ok(())
+    fn fill(&mut self, tree: &mut T) -> Result<(), Stop> {
+        self.list.fill(tree)
     }
 
     fn peek(&self) -> Option<&Fault> {
-        self.faults.first()
+        <Fixed as Source<T>>::peek(&self.list)
     }
 
     fn advance(&mut self) {
-        self.faults.leave_first();
+        <Fixed as Source<T>>::advance(&mut self.list);
     }
 }
 

@@ -12,7 +12,7 @@ use bag_facts::{Depth, Facts};
 use bag_fault::Fault;
 use bag_text::Text;
 use bag_tree::FileEntry;
-use bag_validity::expected_of;
+use bag_validity::{Places, expected_of};
 use std::alloc::{AllocError, Global};
 
 /// The stage of faults of digests.
@@ -33,8 +33,9 @@ pub(crate) fn files_to_sum(
     if facts.options().depth != Depth::Full {
         return Ok(files);
     }
+    let mut places = Places::new();
     for file in facts.files() {
-        let Some(to_sum) = to_sum_of(alloc, facts, file, after)? else {
+        let Some(to_sum) = to_sum_of(alloc, facts, file, after, &mut places)? else {
             continue;
         };
         files.push(to_sum)?;
@@ -48,6 +49,7 @@ fn to_sum_of(
     facts: &Facts,
     file: &FileEntry,
     after: Option<&Fault>,
+    places: &mut Places,
 ) -> Result<Option<ToSum>, AllocError>
     ensures { IfOk result (λ to_sum. (bag : Bag) → IsFactsOf bag facts.now → facts.now.options.depth ≡ depth_of.Full
         → IsToSum bag (option_copied after.entry) file.now to_sum) }
@@ -55,7 +57,7 @@ fn to_sum_of(
     if is_passed(after, &file.path) {
         return Ok(None);
     }
-    let expected = expected_of(alloc, facts, &file.path)?;
+    let expected = expected_of(alloc, facts, &file.path, places)?;
     if expected.is_empty() {
         return Ok(None);
     }

@@ -1,4 +1,5 @@
 pub mod GivenByAlg
+pub mod GivenDigests
 pub mod NamesByKind
 pub mod SumFaults
 pub mod SummedFiles

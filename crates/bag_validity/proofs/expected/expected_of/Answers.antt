@@ -7,7 +7,7 @@ use Rattle.bag_validity.proofs.GivenByAlg.{all_faults, all_naming, no_more, none
 use Rattle.bag_validity.proofs.expected.expected_of.Goals as goal
 
 pub loop-alg-init : goal.loop-alg-init
-loop-alg-init c = λ bag facts deep. rw c.new-expected.ensures.items (none_yet bag c.args.path.now c.kind_of-kind.result)
+loop-alg-init c = λ bag facts deep. rw c.in_ok-expected.ensures.items (none_yet bag c.args.path.now c.kind_of-kind.result)
 
 pub loop-alg-preserved-in_default : goal.loop-alg-preserved-in_default
 loop-alg-preserved-in_default c = λ bag facts deep.
@@ -15,7 +15,7 @@ loop-alg-preserved-in_default c = λ bag facts deep.
     let kind = c.kind_of-kind.result in
     let i = c.loop-alg.alg-index in
     no_more bag path kind i Md5 c.loop-alg.expected.items c.loop-alg-test.true (c.loop-alg.invariant bag facts deep)
-    (subst (IsGivenBy bag path kind (get_or algs i Md5)) c.in_default.is (c.in_ok-one.ensures bag facts deep))
+    (subst (IsGivenBy bag path kind (get_or algs i Md5)) c.in_default.is (c.expected_by.ensures bag facts deep))
 
 pub loop-alg-preserved : goal.loop-alg-preserved
 loop-alg-preserved c = λ bag facts deep.
@@ -24,7 +24,7 @@ loop-alg-preserved c = λ bag facts deep.
     let i = c.loop-alg.alg-index in
     rw c.in_ok-push.ensures.items
     (one_more bag path kind (c.kind_of-kind.ensures ∙ ap kind_of c.as_str.ensures) i Md5 c.loop-alg.expected.items c.in-Some.one c.loop-alg-test.true (c.loop-alg.invariant bag facts deep)
-    (subst (IsGivenBy bag path kind (get_or algs i Md5)) c.in-Some.is (c.in_ok-one.ensures bag facts deep)))
+    (subst (IsGivenBy bag path kind (get_or algs i Md5)) c.in-Some.is (c.expected_by.ensures bag facts deep)))
 
 pub returns-clause-algs : goal.returns-clause-algs
 returns-clause-algs c = λ bag facts deep.

@@ -14,7 +14,7 @@ returns-clause-of g c = rw (c.new-7.ensures, c.new-6.ensures, c.new-5.ensures, c
     let after : Option Fault = option_copied c.args.after in
     let validity = c.in_ok-validity.validity in
     let early = c.in_ok-early.early.items in
-    let complete = c.in_ok-completeness.completeness.faults in
+    let complete = c.in_ok-completeness.completeness.list.faults in
     let sums : List Fault = validity.found ++ faults_of_files bag validity.after validity.pending in
     let late = c.in_ok-late.late.items in
     let none : check.options.depth ≢ Full → sums ≡ [] = λ below. let is = c.in_ok-validity.ensures.none below in
@@ -41,7 +41,7 @@ returns-clause-stands g c = rw (c.new-7.ensures, c.new-6.ensures, c.new-5.ensure
     let sums : List Fault = validity.found ++ faults_of_files bag validity.after validity.pending in
     let none : check.options.depth ≢ Full → sums ≡ [] = λ below. let is = c.in_ok-validity.ensures.none below in
     rw (is.0, is.1) refl in
-    all_joined check after c.in_ok-early.early.items c.in_ok-completeness.completeness.faults sums c.in_ok-late.late.items
+    all_joined check after c.in_ok-early.early.items c.in_ok-completeness.completeness.list.faults sums c.in_ok-late.late.items
     (c.in_ok-early.ensures bag h) (c.in_ok-completeness.ensures.reported bag (option_copied c.args.profile) h)
     (seventh check after sums (λ full. c.in_ok-validity.ensures.faults bag h full) none) (c.in_ok-late.ensures bag h))
 

@@ -6,13 +6,13 @@ use Rattle.bag_source.proofs.validity.Validity.new.Goals as goal
 pub returns-clause-of : goal.returns-clause-of
 returns-clause-of c = λ bag of.
     let files = c.in_ok-files_to_sum.field-0.items in
-    rw (c.in_ok-copy_of.ensures, c.new.ensures, c.new-3.ensures, c.new-2.ensures.items)
+    rw (c.in_ok-copy_of_cursor.ensures, c.new.ensures, c.new-3.ensures, c.new-2.ensures.items)
     (chosen_is_of bag (option_copied c.args.after) c.args.facts.now of files (c.in_ok-files_to_sum.ensures.files bag of) c.in_ok-files_to_sum.ensures.none)
 
 pub returns-clause-faults : goal.returns-clause-faults
 returns-clause-faults c = λ bag of full.
     let files = c.in_ok-files_to_sum.field-0.items in
-    rw (c.in_ok-copy_of.ensures, c.new.ensures, c.new-3.ensures, c.new-2.ensures.items)
+    rw (c.in_ok-copy_of_cursor.ensures, c.new.ensures, c.new-3.ensures, c.new-2.ensures.items)
     (chosen_faults bag (option_copied c.args.after) c.args.facts.now of files (c.in_ok-files_to_sum.ensures.files bag of full))
 
 pub returns-clause-todo : goal.returns-clause-todo

@@ -1,6 +1,0 @@
-use Rattle.std.proofs.Common.{refl}
-use Rattle.bag_source.proofs.Merging.{nothing_opened}
-use Rattle.bag_source.proofs.completeness.CompletenessSource.fill.Goals as goal
-
-pub returns-clause-behind : goal.returns-clause-behind
-returns-clause-behind g c = λ ordered bag h sees. let state = g.T.Tree.state c.args._tree.now in nothing_opened c.args.self.now.faults state state refl

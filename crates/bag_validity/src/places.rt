@@ -1,0 +1,26 @@
+//! Where entries of manifests are looked for.
+use bag_text::Alg;
+
+/// Where to look first for what manifests give for a file: behind what they gave for the file before. In path order most files
+/// are found there, without a search. The places decide nothing: whatever they are, the same entries are found.
+#[derive(Debug, Drop)]
+pub struct Places {
+    next: [usize; Alg::ALL.len()],
+    /// How many manifests named the file before.
+    pub(crate) count: usize,
+}
+
+impl Places {
+    /// At the front of all manifests.
+    pub fn new() -> Places {
+        Places {
+            next: [0; Alg::ALL.len()],
+            count: 0,
+        }
+    }
+
+    /// The place in the manifest of an algorithm.
+    pub(crate) fn of(&mut self, alg: Alg) -> &mut usize {
+        &mut self.next[usize::from(alg.rank()) - 1]
+    }
+}
