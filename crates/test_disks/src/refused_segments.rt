@@ -49,12 +49,7 @@ const REPORT: &str =
 ";
 
 /// Whether segments over the disk, of which the call of this number is refused, write the whole report and come to its end.
-fn are_whole(
-    stop: &impl Abort,
-    alloc: Global,
-    refused: (u64, DiskFault),
-    limits: &[u64],
-) -> bool
+fn are_whole(stop: &impl Abort, alloc: Global, refused: (u64, DiskFault), limits: &[u64]) -> bool
     requires { sum limits.now < 2 ^ 64 }
 {
     let (call, fault) = refused;

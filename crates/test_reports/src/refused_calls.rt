@@ -101,7 +101,8 @@ const FETCHED: Files = &[
     ("manifest-md5.txt", b""),
 ];
 
-const STRICT: &[u8] = br#"{"BagIt-Profile-Info":{"BagIt-Profile-Identifier":"urn:p"},"Bag-Info":{"Source-Organization":{"required":true},"Contact-Name":{"repeatable":false},"Bag-Count":{"values":["1 of 1"]}},"Manifests-Required":["md5","sha512"],"Allow-Fetch.txt":false,"Data-Empty":true}"#;
+const STRICT: &[u8] =
+    br#"{"BagIt-Profile-Info":{"BagIt-Profile-Identifier":"urn:p"},"Bag-Info":{"Source-Organization":{"required":true},"Contact-Name":{"repeatable":false},"Bag-Count":{"values":["1 of 1"]}},"Manifests-Required":["md5","sha512"],"Allow-Fetch.txt":false,"Data-Empty":true}"#;
 
 /// What is written where the first, the second and each further call is refused, repetitions taken together, and where none is.
 const ANSWERS: [&str; 6] = [
