@@ -25,4 +25,6 @@ mod refusals;
 #[cfg(test)]
 mod refused_runs;
 #[cfg(test)]
+mod refused_segments;
+#[cfg(test)]
 mod same_rows;

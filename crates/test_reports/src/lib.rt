@@ -20,6 +20,8 @@ mod outputs;
 #[cfg(test)]
 mod profiles;
 #[cfg(test)]
+mod refused_calls;
+#[cfg(test)]
 mod segments;
 #[cfg(test)]
 mod series;

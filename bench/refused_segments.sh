@@ -1,0 +1,182 @@
+#!/usr/bin/env bash
+# Builds a program of a few lines, in a folder of its own, that calls `run` and `run_segments` over a real folder, and runs it again
+# and again, each time with another growth refused: the first, the second, and so on, until none is left to refuse. What is written
+# must be the report's first lines, as many as the outcome says, and the outcome one that the limits can have where one of them is
+# lost; with a limit more than the report needs all of it is written, whichever growth was refused. It needs a C compiler.
+#
+# usage: bench/refused_segments.sh     after `rt run` in crates/bagit, which proves the libraries
+set -euo pipefail
+source "$(dirname "$0")/growths.sh"
+
+root=$(realpath "$(dirname "$0")/..")
+work=$(mktemp -d /tmp/bagit-segments.XXXXXX)
+trap 'rm -rf "$work"' EXIT
+cd "$work"
+build_refuser
+
+mkdir -p room/crates/segments/src
+ln -s "$root"/crates/* room/crates/
+{ cat "$root/crates.txt"; echo 'segments: bag_text bag_store bag_report bag_walk'; } >room/crates.txt
+cat >room/crates/segments/src/main.rt <<'END'
+//! Checks the folder `d`, in segments where a word says with which limits, and says on the error output how that ended.
+#![tactic(auto)]
+
+use bag_report::{Depth, Options};
+use bag_store::{FileTree, WriterOut};
+use bag_text::Text;
+use bag_walk::{Outcome, Request, run, run_segments};
+use std::process::ExitCode;
+use std::{env, io};
+
+const WHOLE: Options = Options {
+    depth: Depth::Full,
+    clashes: false,
+};
+
+fn checked(rt: &HostRuntime) -> io::Result<Outcome> {
+    let alloc = rt.alloc();
+    let how = match env::args(rt)?.nth(1) {
+        Some(word) => word,
+        None => String::new(alloc),
+    };
+    let tree = FileTree::at(rt.clone()?, alloc, "d")?;
+    let mut out = WriterOut::new(io::writer(rt));
+    let (_tree, outcome) = match how.as_str() {
+        "1,1" => run_segments(alloc, tree, None, WHOLE, &[1, 1], &mut out),
+        "1,1,1,1" => run_segments(alloc, tree, None, WHOLE, &[1, 1, 1, 1], &mut out),
+        "2,0,1,9" => run_segments(alloc, tree, None, WHOLE, &[2, 0, 1, 9], &mut out),
+        "2,0,9,9" => run_segments(alloc, tree, None, WHOLE, &[2, 0, 9, 9], &mut out),
+        "3,3,3,3" => run_segments(alloc, tree, None, WHOLE, &[3, 3, 3, 3], &mut out),
+        _ => {
+            let request = Request {
+                options: WHOLE,
+                after: None,
+                limit: None,
+                quiet: false,
+                name: Text::from_str(alloc, "d")?,
+            };
+            run(alloc, tree, None, request, &mut out)
+        }
+    };
+    Ok(outcome)
+}
+
+fn word_of(outcome: &Outcome) -> &str {
+    match outcome {
+        Outcome::Clean => "clean",
+        Outcome::Faults(_) => "faults",
+        Outcome::Stopped(_) => "stopped",
+        Outcome::Rest(_) => "rest",
+        Outcome::Unread(_, stop) => stop.cause.word(),
+        Outcome::Unwritten(_) => "unwritten",
+    }
+}
+
+fn main(rt: HostRuntime) -> io::Result<ExitCode> {
+    match checked(&rt) {
+        Ok(outcome) => {
+            eprintln!(rt; "{} {}", word_of(&outcome), outcome.count())?;
+            Ok(ExitCode::SUCCESS)
+        }
+        Err(_) => Ok(ExitCode::from(9)),
+    }
+}
+END
+(cd room/crates/segments && rt run >"$work/built" 2>&1) || { cat built; exit 1; }
+program=$work/room/crates/segments/out/segments
+
+growths=0 own=0 wrong=0
+
+# Whether an answer has the report's first lines, as many as its outcome says, and an outcome that is wanted. A run's closing line
+# stands behind them.
+is_right() {
+    local outcome=$(<errors) lines
+    [[ $status == 0 && -n $outcome && " $2 " == *" ${outcome/ /:} "* ]] || return
+    lines=${outcome#* }
+    head -n "$lines" report >front
+    [[ $1 != run ]] || case $outcome in
+        memory*) echo "d unread - memory, faults: $lines" >>front ;;
+        *) echo "d has faults: $lines" >>front ;;
+    esac
+    cmp -s front output
+}
+
+# Refuses each growth of a check of the bag with the faults of the file `report`. Its arguments are the limits, or `run`, how it ends
+# where no growth is refused, and how else it may end where one is.
+in_turn() {
+    local limits=$1 wanted=$2 number=1
+    shift 2
+    if refusing 0 "$program" "$limits" || ! is_right "$limits" "$wanted"; then
+        echo "$limits: $(cat output errors)"
+        exit 1
+    fi
+    while refusing "$number" "$program" "$limits"; do
+        if [[ $status == 9 && ! -s output ]]; then
+            own=$((own + 1))
+        elif ! is_right "$limits" "$wanted $*"; then
+            echo "$limits: growth $number is refused, and the status is $status: $(cat output errors)"
+            wrong=$((wrong + 1))
+        fi
+        number=$((number + 1))
+    done
+    growths=$((growths + number - 1))
+}
+
+sum() { printf '%s' "$1" | "$2sum" | cut -d' ' -f1; }
+m0=$(sum '' md5) ma=$(sum a md5) mb=$(sum b md5) mabc=$(sum abc md5)
+s0=$(sum '' sha1) sa=$(sum a sha1) sabc=$(sum abc sha1)
+
+# A new bag d: its declaration and an empty folder data.
+bag() {
+    rm -rf d
+    mkdir -p d/data
+    printf 'BagIt-Version: 1.0\nTag-File-Character-Encoding: UTF-8\n' >d/bagit.txt
+}
+
+# Puts a text, with printf's escapes, into a file of the bag.
+put() { printf "$2" >"d/$1"; }
+
+# A file that one of three manifests names.
+bag; put data/a a; put manifest-md5.txt "$ma  data/a\n"; put manifest-sha1.txt ''; put manifest-sha256.txt ''
+cat >report <<'END'
+603 payload-file-not-listed data/a sha1 - -
+603 payload-file-not-listed data/a sha256 - -
+END
+in_turn run faults:2 memory:0 memory:1 memory:2
+in_turn 1,1 stopped:2 stopped:1 memory:1
+in_turn 1,1,1,1 faults:2
+
+# A changed file that two manifests name: with two limits more than it has faults, one may be lost.
+bag; put data/x a; put manifest-md5.txt "$mabc  data/x\n"; put manifest-sha1.txt "$sabc  data/x\n"
+cat >report <<END
+701 payload-sum-differs data/x md5 - $mabc:$ma
+701 payload-sum-differs data/x sha1 - $sabc:$sa
+END
+in_turn run faults:2 memory:0 memory:1 memory:2
+in_turn 1,1 stopped:2 stopped:1 memory:1
+in_turn 1,1,1,1 faults:2
+
+# A manifest of which no line can be read. The last limit may be lost, where no further one follows.
+bag; put manifest-md5.txt "$m0  data/%%41\n$m0  data/../x\n$m0  /etc/x\n$m0  data\n"
+cat >report <<'END'
+503 manifest-escape manifest-md5.txt md5 1 data/%2541
+504 manifest-unsafe-path manifest-md5.txt md5 2 data/../x
+504 manifest-unsafe-path manifest-md5.txt md5 3 /etc/x
+505 manifest-outside-payload manifest-md5.txt md5 4 data
+END
+in_turn 2,0,1,9 faults:4 memory:3 memory:4
+in_turn 2,0,9,9 faults:4
+
+# Three changed files that two manifests name.
+bag; for file in a b c; do put "data/$file" a; done
+put manifest-md5.txt "$mb  data/a\n$mb  data/b\n$mb  data/c\n"
+put manifest-sha1.txt "$s0  data/a\n$s0  data/b\n$s0  data/c\n"
+for file in a b c; do
+    echo "701 payload-sum-differs data/$file md5 - $mb:$ma"
+    echo "701 payload-sum-differs data/$file sha1 - $s0:$sa"
+done >report
+in_turn 3,3,3,3 faults:6
+
+echo "$own were of the program around the calls"
+echo "$growths growths refused, $wrong wrong"
+[[ $wrong == 0 ]]
