@@ -1,6 +1,7 @@
 //! A plain reader of `fetch.txt` that tries each prefix of a line, over some hundred texts, and one of thousands of lines.
 use crate::parts::combined;
 use bag_line::read_fetch;
+use bag_text::trim;
 use std::alloc::Global;
 use std::process::Abort;
 
@@ -19,12 +20,21 @@ fn said(stop: &impl Abort, alloc: Global, bytes: &[u8]) -> String {
     text
 }
 
+/// Whether a text has only blanks, or none.
+fn is_all(text: &str, of_blanks: bool) -> bool {
+    if of_blanks {
+        trim(text).is_empty()
+    } else {
+        !text.contains(' ') && !text.contains('\t')
+    }
+}
+
 /// The longest prefix of a line that has only blanks, or none, and the rest.
 fn longest(line: &str, of_blanks: bool) -> (&str, &str) {
     for end in (0..line.len()).rev() {
         let at = end.saturating_add(1);
         if let (Some(prefix), Some(rest)) = (line.get(..at), line.get(at..)) {
-            if prefix.chars().all(|c| (c == ' ' || c == '\t') == of_blanks) {
+            if is_all(prefix, of_blanks) {
                 return (prefix, rest);
             }
         }
@@ -33,7 +43,12 @@ fn longest(line: &str, of_blanks: bool) -> (&str, &str) {
 }
 
 fn is_length(text: &str) -> bool {
-    text == "-" || (!text.is_empty() && text.chars().all(|c| c >= '0' && c <= '9'))
+    for byte in text.as_bytes() {
+        if !byte.is_ascii_digit() {
+            return text == "-";
+        }
+    }
+    !text.is_empty()
 }
 
 /// The URL, the length and the spelling of the path.
@@ -63,31 +78,50 @@ fn escaped(digits: &str) -> Option<&'static str> {
     }
 }
 
-/// The path of a spelling: what stands behind each `%` begins with the two digits of an escape.
-fn path_of(stop: &impl Abort, alloc: Global, spelling: &str) -> Option<String> {
+/// Writes the path of a spelling, if it is one: what stands behind each `%` begins with the two digits of an escape.
+fn write_path(stop: &impl Abort, spelling: &str, path: &mut String) -> bool {
     let mut pieces = spelling.split('%');
-    let mut path = String::from_str(alloc, pieces.next().unwrap_or("")).expect(stop, "succeeds");
+    path.push_str(pieces.next().unwrap_or(""))
+        .expect(stop, "succeeds");
     for piece in pieces {
-        let (Some(digits), Some(rest)) = (piece.get(..2), piece.get(2..)) else {
-            return None;
-        };
-        let Some(character) = escaped(digits) else {
-            return None;
+        let Some(character) = escaped(piece.get(..2).unwrap_or("")) else {
+            return false;
         };
         path.push_str(character).expect(stop, "succeeds");
-        path.push_str(rest).expect(stop, "succeeds");
+        path.push_str(piece.get(2..).unwrap_or(""))
+            .expect(stop, "succeeds");
     }
-    Some(path)
+    true
 }
 
-/// Why a file may not be fetched to a path, if it may not.
-fn refusal(path: &str) -> Option<u16> {
+/// Why a file may not be fetched to a path, or 0.
+fn refusal(path: &str) -> u16 {
     for name in path.split('/') {
         if name.is_empty() || name == "." || name == ".." {
-            return Some(403);
+            return 403;
         }
     }
-    (!path.starts_with("data/")).then_some(404)
+    if path.starts_with("data/") { 0 } else { 404 }
+}
+
+/// Writes the entry of these parts, or what is wrong with its path.
+fn judge_path(
+    stop: &impl Abort,
+    alloc: Global,
+    number: usize,
+    (url, length, spelling): (&str, &str, &str),
+    entries: &mut String,
+    faults: &mut String,
+) {
+    let mut path = String::new(alloc);
+    if !write_path(stop, spelling, &mut path) {
+        write!(faults, "402 {number} {spelling}|").expect(stop, "succeeds");
+        return;
+    }
+    match refusal(path.as_str()) {
+        0 => write!(entries, "{number} {url} {length} {path}|").expect(stop, "succeeds"),
+        code => write!(faults, "{code} {number} {path}|").expect(stop, "succeeds"),
+    }
 }
 
 /// Writes what a line says, or what is wrong with it.
@@ -99,19 +133,10 @@ fn judge(
     entries: &mut String,
     faults: &mut String,
 ) {
-    let Some((url, length, spelling)) = parts_of(line) else {
-        write!(faults, "401 {number} |").expect(stop, "succeeds");
-        return;
-    };
-    let Some(path) = path_of(stop, alloc, spelling) else {
-        write!(faults, "402 {number} {spelling}|").expect(stop, "succeeds");
-        return;
-    };
-    let judged = match refusal(path.as_str()) {
-        Some(code) => write!(faults, "{code} {number} {path}|"),
-        None => write!(entries, "{number} {url} {length} {path}|"),
-    };
-    judged.expect(stop, "succeeds");
+    match parts_of(line) {
+        Some(parts) => judge_path(stop, alloc, number, parts, entries, faults),
+        None => write!(faults, "401 {number} |").expect(stop, "succeeds"),
+    }
 }
 
 /// What the plain reader reads in the lines of a text.

@@ -54,26 +54,34 @@ fn write_more(stop: &impl Abort, text: &mut String, lines: &[&str]) {
     }
 }
 
-/// Whether a line that begins no element is a fault: it should begin one, or goes on with none.
+/// Whether a line is a fault: it begins no element, and should begin one, or goes on with none.
 fn is_fault(line: &str, above: &[&str]) -> bool {
-    !trim(line).is_empty() && (is_first(line) || !has_first(above))
+    label_and_part(line).is_none()
+        && !trim(line).is_empty()
+        && (is_first(line) || !has_first(above))
+}
+
+/// Writes the element that begins in the line of a place, where one does.
+fn write_element(stop: &impl Abort, text: &mut String, lines: &[&str], place: usize, line: &str) {
+    let number = place.saturating_add(1);
+    if let Some((label, part)) = label_and_part(line) {
+        write!(text, "{number}<{label}><{part}").expect(stop, "succeeds");
+        write_more(stop, text, lines.get(number..).unwrap_or(&[]));
+        text.push_str(">|").expect(stop, "succeeds");
+    }
 }
 
 /// What the plain reader reads in these lines.
 fn looked_back(stop: &impl Abort, alloc: Global, lines: &[&str]) -> String {
     let mut text = String::new(alloc);
-    let mut faults = String::new(alloc);
     for (place, line) in lines.iter().enumerate() {
-        let number = place.saturating_add(1);
-        if let Some((label, part)) = label_and_part(line) {
-            write!(text, "{number}<{label}><{part}").expect(stop, "succeeds");
-            write_more(stop, &mut text, lines.get(number..).unwrap_or(&[]));
-            text.push_str(">|").expect(stop, "succeeds");
-        } else if is_fault(line, lines.get(..place).unwrap_or(&[])) {
-            write!(faults, "301 {number} |").expect(stop, "succeeds");
+        write_element(stop, &mut text, lines, place, line);
+    }
+    for (place, line) in lines.iter().enumerate() {
+        if is_fault(line, lines.get(..place).unwrap_or(&[])) {
+            write!(text, "301 {} |", place.saturating_add(1)).expect(stop, "succeeds");
         }
     }
-    text.push_str(faults.as_str()).expect(stop, "succeeds");
     text
 }
 

@@ -1,54 +1,7 @@
-//! Fault lines, the order of faults, and their copies.
+//! The order of faults, and their copies.
 use bag_report::{CursorFault, Fault};
-use bag_text::{Code, Text};
 use std::alloc::Global;
 use std::process::Abort;
-
-/// A fault whose path and detail are one text.
-fn fault(stop: &impl Abort, alloc: Global, text: &str) -> Fault {
-    Fault {
-        code: Code::NameClash,
-        path: Text::from_str(alloc, text).expect(stop, "succeeds"),
-        alg: None,
-        line: 0,
-        detail: Text::from_str(alloc, text).expect(stop, "succeeds"),
-    }
-}
-
-/// Texts, each with the field that stands for it.
-const TEXTS: &[(&str, &str)] = &[
-    ("", "-"),
-    ("-", "%2D"),
-    ("--", "--"),
-    ("data/-", "data/-"),
-    ("data/a b", "data/a%20b"),
-    ("100%", "100%25"),
-    ("data/%61", "data/%2561"),
-    ("a\tb", "a%09b"),
-    ("a\nb", "a%0Ab"),
-    ("\u{0}", "%00"),
-    ("\u{1f}!~\u{7f}", "%1F!~%7F"),
-    ("data/\u{e9}", "data/%C3%A9"),
-    ("\u{20ac}", "%E2%82%AC"),
-    ("\u{1f600}", "%F0%9F%98%80"),
-];
-
-/// Whether the fault whose path and detail are a text has this line, and the line is read as that fault.
-fn is_encoded(stop: &impl Abort, alloc: Global, text: &str, line: &str) -> bool {
-    let fault = fault(stop, alloc, text);
-    let is_written = fault.to_line(alloc).expect(stop, "succeeds").as_str() == line;
-    is_written && Fault::from_line(alloc, line).expect(stop, "succeeds") == fault
-}
-
-#[test]
-fn each_text_is_encoded_and_read_back(rt: HostRuntime) {
-    for &(text, field) in TEXTS {
-        let line = format!(in rt.alloc(); "604 name-clash {field} - - {field}").expect(
-            &rt, "succeeds",
-        );
-        assert!(rt; is_encoded(&rt, rt.alloc(), text, line.as_str()), "{field}");
-    }
-}
 
 /// Ascending: by stage, path, algorithm, line, code and detail.
 const ASCENDING: &[&str] = &[
@@ -78,55 +31,32 @@ const ASCENDING: &[&str] = &[
     "804 value-not-allowed bag-info.txt - 3 Bag-Count:2",
 ];
 
-/// Copies of the faults of these lines, the last first.
-fn descending(stop: &impl Abort, alloc: Global) -> Vec<Fault> {
-    let mut faults = Vec::new(alloc);
+/// A copy of the fault of a line.
+fn copied(stop: &impl Abort, alloc: Global, line: &str) -> Fault {
+    let fault = Fault::from_line(alloc, line).expect(stop, "succeeds");
+    fault.copy(alloc).expect(stop, "succeeds")
+}
+
+#[test]
+fn copies_are_sorted_in_their_order(rt: HostRuntime) {
+    let mut faults = Vec::new(rt.alloc());
     for line in ASCENDING.iter().rev() {
         faults
-            .push(
-                Fault::from_line(alloc, line)
-                    .expect(stop, "succeeds")
-                    .copy(alloc)
-                    .expect(stop, "succeeds"),
-            )
-            .expect(stop, "succeeds");
+            .push(copied(&rt, rt.alloc(), *line))
+            .expect(&rt, "succeeds");
     }
-    faults
-}
-
-#[test]
-fn faults_are_sorted_in_their_order(rt: HostRuntime) {
-    let mut faults = descending(&rt, rt.alloc());
     faults.sort().expect(&rt, "succeeds");
-    assert!(rt; faults.len() == ASCENDING.len() && are_ascending(&rt, rt.alloc(), &faults));
-}
-
-/// Whether faults have these lines.
-fn are_ascending(stop: &impl Abort, alloc: Global, faults: &[Fault]) -> bool {
+    assert!(rt; faults.len() == ASCENDING.len());
     for (fault, wanted) in faults.iter().zip(ASCENDING) {
-        let line = fault.to_line(alloc).expect(stop, "succeeds");
-        if line.as_str() != *wanted {
-            return false;
-        }
+        let line = fault.to_line(rt.alloc()).expect(&rt, "succeeds");
+        assert!(rt; line.as_str() == *wanted, "{line}");
     }
-    true
 }
-
-/// Refusals, each with its text.
-const CURSOR_FAULTS: &[(CursorFault, &str)] = &[
-    (CursorFault::NotALine, "not a fault line"),
-    (CursorFault::Memory, "out of memory"),
-];
 
 #[test]
-fn refusals_have_their_texts(rt: HostRuntime) {
-    for &(refusal, text) in CURSOR_FAULTS {
-        assert!(rt;
-            refusal
-                .to_string(rt.alloc())
-                .expect(&rt, "succeeds")
-                .as_str()
-                == text
-        );
-    }
+fn want_of_memory_is_told(rt: HostRuntime) {
+    let told = CursorFault::Memory
+        .to_string(rt.alloc())
+        .expect(&rt, "succeeds");
+    assert!(rt; told.as_str() == "out of memory");
 }

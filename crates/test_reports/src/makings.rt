@@ -4,7 +4,7 @@ use crate::checks::{Files, opened, put_files, put_letters};
 use crate::series::{Parts, text_of};
 use bag_make::MakeFault;
 use bag_making::{make_and_tell, put_making};
-use bag_store::{FailTree, MemoryTree, Stop, Tree, TreeFault, WriteTree, WriterOut, read_whole};
+use bag_store::{FailTree, MemoryTree, Tree, TreeFault, WriteTree, WriterOut, read_whole};
 use bag_text::{Alg, AlgSet, Text};
 use std::alloc::Global;
 use std::process::Abort;
@@ -56,8 +56,6 @@ const NO_ALGORITHM: &str = "d not made: no algorithm\n";
 
 const BAD_VALUE: &str = "d not made: bad value\n";
 
-const IN_THE_WAY: &str = "d not made: .bagit-new is there\n";
-
 /// What a folder holds, what is asked for, and what is said. Where a folder and a request are bad in more than one way, the first
 /// refusal is told.
 const REFUSED: &[(Files, Request, &str)] = &[
@@ -72,8 +70,6 @@ const REFUSED: &[(Files, Request, &str)] = &[
     ),
     (&[], (&[Alg::Md5], &[("a", "b"), ("a", "b\nc")]), BAD_VALUE),
     (&[], (&[Alg::Md5], &[("", "x")]), BAD_VALUE),
-    (TAKEN, (&[Alg::Md5], &[]), IN_THE_WAY),
-    (&[(".bagit-new", b"")], (&[Alg::Md5], &[]), IN_THE_WAY),
 ];
 
 /// A folder with these files.
@@ -94,38 +90,20 @@ fn holds(stop: &impl Abort, alloc: Global, tree: &mut MemoryTree, files: Files) 
     is_same
 }
 
-/// Whether a making is refused with this line, and leaves the folder as it was.
-fn is_refused(
-    stop: &impl Abort,
-    alloc: Global,
-    files: Files,
-    request: Request,
-    line: &str,
-) -> bool {
+/// A making is refused with this line, and leaves the folder as it was; so it is where the tree refuses its first call.
+fn try_refused(stop: &impl Abort, alloc: Global, files: Files, request: Request, line: &str) {
     let (mut tree, told) = made(stop, alloc, folder(stop, alloc, files), request);
-    told.as_str() == line && holds(stop, alloc, &mut tree, files)
-}
-
-/// Whether a making is refused with this line where the tree refuses its first call.
-fn is_unread(stop: &impl Abort, alloc: Global, files: Files, request: Request, line: &str) -> bool {
-    let tree = FailTree::new(folder(stop, alloc, files), 1);
-    let (_tree, told) = made(stop, alloc, tree, request);
-    told.as_str() == line
+    assert!(stop; told.as_str() == line, "{told}");
+    assert!(stop; holds(stop, alloc, &mut tree, files), "{line}");
+    let unread = FailTree::new(folder(stop, alloc, files), 1);
+    let (_tree, told) = made(stop, alloc, unread, request);
+    assert!(stop; told.as_str() == line, "{told}");
 }
 
 #[test]
 fn bad_requests_are_refused_before_the_folder_is_listed(rt: HostRuntime) {
     for &(files, request, line) in REFUSED {
-        let unread = if line == IN_THE_WAY {
-            "d not made: read - device\n"
-        } else {
-            line
-        };
-        assert!(rt; is_refused(&rt, rt.alloc(), files, request, line), "{line}");
-        assert!(rt;
-            is_unread(&rt, rt.alloc(), files, request, unread),
-            "{line}"
-        );
+        try_refused(&rt, rt.alloc(), files, request, line);
     }
 }
 
@@ -174,36 +152,6 @@ fn labels_that_no_option_has(rt: HostRuntime) {
     assert!(rt; told.as_str() == "d made\n" && holds(&rt, rt.alloc(), &mut tree, LABELLED));
 }
 
-/// What a making of `d` writes that ended so.
-fn told(stop: &impl Abort, alloc: Global, made: &Result<(), MakeFault>, quiet: bool) -> String {
-    let mut out = WriterOut::new(Vec::<u8>::new(alloc));
-    let _ = put_making("d", made, quiet, &mut out);
-    String::from_utf8(out.into_inner()).expect(stop, "succeeds")
-}
-
-#[test]
-fn a_bag_that_is_made(rt: HostRuntime) {
-    assert!(rt; told(&rt, rt.alloc(), &Ok(()), false).as_str() == "d made\n");
-    assert!(rt; told(&rt, rt.alloc(), &Ok(()), true).as_str() == "");
-}
-
-/// Whether a making that was refused so writes this line, quiet or not.
-fn is_told(stop: &impl Abort, alloc: Global, fault: MakeFault, line: &str) -> bool {
-    let made = Err(fault);
-    told(stop, alloc, &made, false).as_str() == line
-        && told(stop, alloc, &made, true).as_str() == line
-}
-
-#[test]
-fn a_request_that_is_refused(rt: HostRuntime) {
-    let alloc = rt.alloc();
-    assert!(rt; is_told(&rt, alloc, MakeFault::NoAlgorithm, NO_ALGORITHM));
-    assert!(rt; is_told(&rt, alloc, MakeFault::InTheWay, IN_THE_WAY));
-    assert!(rt; is_told(&rt, alloc, MakeFault::BadValue, BAD_VALUE));
-    let line = "d not made: out of memory\n";
-    assert!(rt; is_told(&rt, alloc, MakeFault::Memory, line));
-}
-
 /// The causes, and their words.
 const CAUSES: &[(TreeFault, &str)] = &[
     (TreeFault::Device, "device"),
@@ -217,27 +165,26 @@ const CAUSES: &[(TreeFault, &str)] = &[
     (TreeFault::Exists, "exists"),
 ];
 
-#[test]
-fn a_step_that_is_refused(rt: HostRuntime) {
-    for &(cause, word) in CAUSES {
-        let line = format!(in rt.alloc(); "d not made: step 18446744073709551615 {word}\n").expect(
-            &rt, "succeeds",
-        );
-        let fault = MakeFault::StepRefused(u64::MAX, cause);
-        assert!(rt; is_told(&rt, rt.alloc(), fault, line.as_str()), "{word}");
-    }
+/// A making whose step was refused for a cause writes this word, quiet or not.
+fn try_told(stop: &impl Abort, alloc: Global, cause: TreeFault, word: &str, quiet: bool) {
+    let made = Err(MakeFault::StepRefused(u64::MAX, cause));
+    let mut out = WriterOut::new(Vec::<u8>::new(alloc));
+    let _ = put_making("d", &made, quiet, &mut out);
+    let wanted = format!(in alloc; "d not made: step 18446744073709551615 {word}\n").expect(
+        stop, "succeeds",
+    );
+    assert!(stop;
+        out.into_inner().as_slice() == wanted.as_bytes(),
+        "{wanted}"
+    );
 }
 
 #[test]
-fn a_file_that_is_not_read(rt: HostRuntime) {
-    for (path, field) in [("", "-"), ("a b", "a%20b")] {
-        let path = Text::from_str(rt.alloc(), path).expect(&rt, "succeeds");
-        let cause = TreeFault::Special;
-        let line = format!(in rt.alloc(); "d not made: read {field} special\n").expect(
-            &rt, "succeeds",
-        );
-        let fault = MakeFault::ReadStopped(Stop { cause, path });
-        assert!(rt; is_told(&rt, rt.alloc(), fault, line.as_str()), "{field}");
+fn a_step_that_is_refused(rt: HostRuntime) {
+    for &(cause, word) in CAUSES {
+        for quiet in [false, true] {
+            try_told(&rt, rt.alloc(), cause, word, quiet);
+        }
     }
 }
 

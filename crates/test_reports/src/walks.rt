@@ -32,13 +32,15 @@ const EACH_ONCE: Files = &[
     ),
 ];
 
-/// Writes what a step gives: the path and the algorithm of a fault, the end, or the path and the cause of a refusal.
-fn write_step<T: Tree>(stop: &impl Abort, alloc: Global, walk: &mut Walk<T>, text: &mut String) {
+/// What a step gives: the code, the path and the algorithm of a fault, the end, or the path and the cause of a refusal.
+fn step_of<T: Tree>(stop: &impl Abort, alloc: Global, walk: &mut Walk<T>) -> String {
+    let mut text = String::new(alloc);
     match walk.next() {
-        Ok(Some(fault)) => write_fault(stop, alloc, fault, text),
+        Ok(Some(fault)) => write_fault(stop, alloc, fault, &mut text),
         Ok(None) => text.push_str("end\n").expect(stop, "succeeds"),
-        Err(refused) => write_stop(stop, &refused, text),
+        Err(refused) => write_stop(stop, &refused, &mut text),
     }
+    text
 }
 
 fn write_fault(stop: &impl Abort, alloc: Global, fault: &Fault, text: &mut String) {
@@ -72,24 +74,6 @@ fn walk_over<T: Tree + Drop>(
         None => None,
     };
     Walk::start(alloc, tree, None, options, cursor).ok()
-}
-
-/// What the first steps of a walk give, and the files that were opened by then.
-fn steps_of(
-    stop: &impl Abort,
-    alloc: Global,
-    after: Option<&str>,
-    steps: usize,
-) -> (String, String) {
-    let mut text = String::new(alloc);
-    let tree = tree_of(stop, alloc, EACH_TWICE);
-    let Some(mut walk) = walk_over(stop, alloc, tree, after) else {
-        return (text, String::new(alloc));
-    };
-    for _ in 0..steps {
-        write_step(stop, alloc, &mut walk, &mut text);
-    }
-    (text, opened(stop, alloc, &walk.into_tree()))
 }
 
 /// The files that are opened before any step.
@@ -161,128 +145,73 @@ const ROWS: &[Row] = &[
     },
 ];
 
-/// What the first steps of a row give.
-fn given_by(stop: &impl Abort, alloc: Global, row: &Row, steps: usize) -> String {
-    let mut text = String::new(alloc);
-    for (step, _) in row.steps.iter().take(steps) {
-        text.push_str(step).expect(stop, "succeeds");
+/// The first steps of a row's walk give what it says, and open it.
+fn try_steps(stop: &impl Abort, alloc: Global, row: &Row, count: usize) {
+    let tree = tree_of(stop, alloc, EACH_TWICE);
+    let mut walk = walk_over(stop, alloc, tree, row.after).expect(stop, "a walk");
+    let mut payload = "";
+    for (given, files) in row.steps.iter().take(count) {
+        let step = step_of(stop, alloc, &mut walk);
+        assert!(stop; step.as_str() == *given, "{step}");
+        payload = *files;
     }
-    text
-}
-
-/// The payload files that they open.
-fn opened_by(row: &Row, steps: usize) -> &'static str {
-    match row.steps.get(steps.wrapping_sub(1)) {
-        Some((_, files)) => files,
-        None => "",
-    }
-}
-
-/// Whether the first steps of a row's walk give what it says, and open it.
-fn is_right(stop: &impl Abort, alloc: Global, row: &Row, steps: usize) -> bool {
-    let (given, opened) = steps_of(stop, alloc, row.after, steps);
-    let payload = opened_by(row, steps);
-    given == given_by(stop, alloc, row, steps)
-        && opened.as_str().strip_prefix(TAG_FILES) == Some(payload)
+    let opened = opened(stop, alloc, &walk.into_tree());
+    let found = opened.as_str().strip_prefix(TAG_FILES);
+    assert!(stop; found == Some(payload), "{opened}");
 }
 
 #[test]
 fn steps_open_no_file_behind_their_fault(rt: HostRuntime) {
-    for (place, row) in ROWS.iter().enumerate() {
-        for steps in 0..=row.steps.len() {
-            assert!(rt;
-                is_right(&rt, rt.alloc(), row, steps),
-                "row {place}, {steps} steps"
-            );
+    for row in ROWS {
+        for count in 0..=row.steps.len() {
+            try_steps(&rt, rt.alloc(), row, count);
         }
     }
 }
 
-/// What the steps of a walk give of which a call of the tree is refused, and the files that were opened; nothing where no step came.
-fn refused_at(stop: &impl Abort, alloc: Global, call: u64) -> (String, String) {
+/// What the steps of a walk give of which a call of the tree is refused, with the files that were opened behind.
+fn refused_at(stop: &impl Abort, alloc: Global, call: u64) -> String {
     let mut text = String::new(alloc);
     let tree = FailTree::new(tree_of(stop, alloc, EACH_ONCE), call);
     let Some(mut walk) = walk_over(stop, alloc, tree, None) else {
-        return (text, String::new(alloc));
+        text.push_str("none\n").expect(stop, "succeeds");
+        return text;
     };
     for _ in 0..5 {
-        write_step(stop, alloc, &mut walk, &mut text);
+        let step = step_of(stop, alloc, &mut walk);
+        text.push_str(step.as_str()).expect(stop, "succeeds");
     }
-    (text, opened(stop, alloc, walk.into_tree().inner()))
+    let opened = opened(stop, alloc, walk.into_tree().inner());
+    text.push_str(opened.as_str()).expect(stop, "succeeds");
+    text
 }
 
-/// What is given where the file of this path is refused, by its opening or by a read, and what is opened then.
-const REFUSED: [(&str, &str, &str); 3] = [
-    (
-        "unread data/a device\n701 data/a md5\n701 data/b md5\n701 data/c md5\nend\n",
-        "bagit.txt\nmanifest-md5.txt\ndata/a\ndata/b\ndata/c\n",
-        "bagit.txt\nmanifest-md5.txt\ndata/a\ndata/a\ndata/b\ndata/c\n",
-    ),
-    (
-        "701 data/a md5\nunread data/b device\n701 data/b md5\n701 data/c md5\nend\n",
-        "bagit.txt\nmanifest-md5.txt\ndata/a\ndata/b\ndata/c\n",
-        "bagit.txt\nmanifest-md5.txt\ndata/a\ndata/b\ndata/b\ndata/c\n",
-    ),
-    (
-        "701 data/a md5\n701 data/b md5\nunread data/c device\n701 data/c md5\nend\n",
-        "bagit.txt\nmanifest-md5.txt\ndata/a\ndata/b\ndata/c\n",
-        "bagit.txt\nmanifest-md5.txt\ndata/a\ndata/b\ndata/c\ndata/c\n",
-    ),
-];
-
-/// How many of the calls of a walk are refused while it reads the facts, at each file's opening, and at a read of it; and how
-/// many aren't refused before the end.
-#[derive(Drop)]
-struct Tally {
-    at_start: usize,
-    opening: [usize; 3],
-    reading: [usize; 3],
-    behind: usize,
-    other: usize,
-}
-
-impl Tally {
-    /// Notes what came of a walk of which one call was refused.
-    fn note(&mut self, given: &str, opened: &str) {
-        if given.is_empty() {
-            self.at_start = self.at_start.wrapping_add(1);
-            return;
-        }
-        if given == "701 data/a md5\n701 data/b md5\n701 data/c md5\nend\nend\n" {
-            self.behind = self.behind.wrapping_add(1);
-            return;
-        }
-        for place in 0..3 {
-            let (steps, once, again) = REFUSED[place];
-            if given == steps && opened == once {
-                self.opening[place] = self.opening[place].wrapping_add(1);
-                return;
-            }
-            if given == steps && opened == again {
-                self.reading[place] = self.reading[place].wrapping_add(1);
-                return;
-            }
-        }
-        self.other = self.other.wrapping_add(1);
-    }
-}
+/// What comes where call 1, 2, 3 and so on is refused, each answer once: while the facts are read, at each file's opening and at
+/// a read of it, and none before the end.
+const REFUSED: &str = "none\n\
+    unread data/a device\n701 data/a md5\n701 data/b md5\n701 data/c md5\nend\n\
+    bagit.txt\nmanifest-md5.txt\ndata/a\ndata/b\ndata/c\n\
+    unread data/a device\n701 data/a md5\n701 data/b md5\n701 data/c md5\nend\n\
+    bagit.txt\nmanifest-md5.txt\ndata/a\ndata/a\ndata/b\ndata/c\n\
+    701 data/a md5\nunread data/b device\n701 data/b md5\n701 data/c md5\nend\n\
+    bagit.txt\nmanifest-md5.txt\ndata/a\ndata/b\ndata/c\n\
+    701 data/a md5\nunread data/b device\n701 data/b md5\n701 data/c md5\nend\n\
+    bagit.txt\nmanifest-md5.txt\ndata/a\ndata/b\ndata/b\ndata/c\n\
+    701 data/a md5\n701 data/b md5\nunread data/c device\n701 data/c md5\nend\n\
+    bagit.txt\nmanifest-md5.txt\ndata/a\ndata/b\ndata/c\n\
+    701 data/a md5\n701 data/b md5\nunread data/c device\n701 data/c md5\nend\n\
+    bagit.txt\nmanifest-md5.txt\ndata/a\ndata/b\ndata/c\ndata/c\n\
+    701 data/a md5\n701 data/b md5\n701 data/c md5\nend\nend\n\
+    bagit.txt\nmanifest-md5.txt\ndata/a\ndata/b\ndata/c\n";
 
 #[test]
 fn a_refused_file_is_begun_again(rt: HostRuntime) {
-    let mut tally = Tally {
-        at_start: 0,
-        opening: [0; 3],
-        reading: [0; 3],
-        behind: 0,
-        other: 0,
-    };
+    let mut found = String::new(rt.alloc());
     for call in 1..60 {
-        let (given, opened) = refused_at(&rt, rt.alloc(), call);
-        tally.note(given.as_str(), opened.as_str());
+        let answer = refused_at(&rt, rt.alloc(), call);
+        if !found.as_str().ends_with(answer.as_str()) {
+            found.push_str(answer.as_str()).expect(&rt, "succeeds");
+        }
     }
-    let reads = tally.reading[0];
-    assert_eq!(rt; tally.opening, [1; 3]);
-    assert_eq!(rt; tally.reading, [reads; 3]);
-    assert!(rt; 0 < reads && reads <= 2 && 0 < tally.at_start && 0 < tally.behind);
-    assert_eq!(rt; tally.other, 0);
+    assert!(rt; found.as_str() == REFUSED, "{found}");
 }

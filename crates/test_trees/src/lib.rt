@@ -1,24 +1,37 @@
-//! Examples of trees and of digests: trees in memory, on disks in memory and in real folders that are changed step by step, trees
-//! of which a call is refused or that list something else than they have, and digests in pieces.
+//! Examples of trees, disks and digests: trees in memory, disks in memory and disks that a test makes up, real folders, and the
+//! trees over them, which are listed, read and changed step by step, or refuse a call; digests in pieces; and the program over disks
+//! in memory.
 #![tactic(auto)]
 
+mod same_disks;
+
+pub use same_disks::checked;
+
 #[cfg(test)]
-mod files;
+mod as_found;
 #[cfg(test)]
-mod in_folders;
+mod deep_folders;
 #[cfg(test)]
-mod in_memory;
+mod digests;
+#[cfg(test)]
+mod folders;
+#[cfg(test)]
+mod held;
+#[cfg(test)]
+mod listings;
+#[cfg(test)]
+mod made_up;
 #[cfg(test)]
 mod on_disks;
 #[cfg(test)]
-mod pieces;
+mod programs;
 #[cfg(test)]
-mod skewed;
+mod refusals;
+#[cfg(test)]
+mod refused_segments;
 #[cfg(test)]
 mod steps;
 #[cfg(test)]
 mod stores;
 #[cfg(test)]
 mod trials;
-#[cfg(test)]
-mod values;

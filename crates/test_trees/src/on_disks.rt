@@ -1,42 +1,62 @@
-//! Trees of disks in memory, of which a call is refused or none.
-use crate::steps::{Name, Step, holds, take, take_all};
-use crate::trials::{DISK_TRIALS, Held, Place, SAMPLE, SAMPLE_HELD, TRIALS, Trial};
-use bag_memory_disk::{Call, MemoryDisk, Node, RefusingDisk};
-use bag_store::{DiskFault, FileTree, TreeFault};
+//! Steps on trees in memory and on disks in memory, of which a call is refused or none.
+use crate::held::{Held, Place, contents, disk};
+use crate::steps::{Name, Step, Trial, follow, take};
+use crate::trials::{DISK_TRIALS, REFUSED_TRIALS, SAMPLE, SAMPLE_HELD, TRIALS};
+use bag_memory_disk::{Call, RefusingDisk};
+use bag_store::{DiskFault, FailTree, FileTree, MemoryTree, TreeFault};
+use bag_text::check_path;
 use std::alloc::Global;
-use std::collections::BTreeMap;
 use std::process::Abort;
+use std::str;
 
-fn node(stop: &impl Abort, alloc: Global, held: Held) -> Node {
+/// Puts what stands at a path into a tree. One folder of the tables is empty; the others come with their files.
+fn put(stop: &impl Abort, tree: &mut MemoryTree, (path, held): Place) {
+    let path = str::from_utf8(path).expect(stop, "succeeds");
     match held {
-        Held::File(text) => Node::File(text.as_bytes().to_vec(alloc).expect(stop, "succeeds")),
-        Held::Folder => Node::Folder,
-        Held::Link => Node::Other,
+        Held::File(text) => {
+            check_path(path).expect(stop, "succeeds");
+            tree.put_file(path, text.as_bytes())
+                .expect(stop, "succeeds");
+        }
+        Held::Folder => {
+            if path == "n" {
+                tree.put_folder("n").expect(stop, "succeeds");
+            }
+        }
+        Held::Other => {}
     }
 }
 
-/// The disk of a table.
-fn disk(stop: &impl Abort, alloc: Global, places: &[Place]) -> MemoryDisk {
-    let mut nodes = BTreeMap::new(alloc);
-    for (path, held) in places {
-        let key = path.as_bytes().to_vec(alloc).expect(stop, "succeeds");
-        let put: Result<_, _> = nodes.insert(key, node(stop, alloc, *held));
-        put.expect(stop, "succeeds");
+/// A trial is right on a tree in memory of which the call of a number is refused.
+fn try_in_memory(stop: &impl Abort, alloc: Global, refused: u64, trial: &Trial) {
+    let mut tree = MemoryTree::new(alloc);
+    for place in trial.before {
+        put(stop, &mut tree, *place);
     }
-    MemoryDisk::holding(alloc, nodes).expect(stop, "a disk")
+    follow(stop, alloc, &mut FailTree::new(tree, refused), trial);
 }
 
-/// Whether a trial is right on a disk in memory.
-fn is_right(stop: &impl Abort, alloc: Global, trial: &Trial) -> bool {
-    let mut tree = FileTree::over(alloc, disk(stop, alloc, trial.before));
-    take_all(&mut tree, trial.steps).is_none() && holds(alloc, &mut tree, trial.after)
+#[test]
+fn steps_change_a_tree_in_memory(rt: HostRuntime) {
+    for trial in TRIALS {
+        try_in_memory(&rt, rt.alloc(), 0, trial);
+    }
+    for (refused, trial) in REFUSED_TRIALS {
+        try_in_memory(&rt, rt.alloc(), *refused, trial);
+    }
+}
+
+/// A trial is right on a disk in memory.
+fn try_on_disk(stop: &impl Abort, alloc: Global, trial: &Trial) {
+    let disk = disk(stop, alloc, trial.before);
+    follow(stop, alloc, &mut FileTree::over(alloc, disk), trial);
 }
 
 #[test]
 fn steps_change_a_disk_in_memory(rt: HostRuntime) {
     for trials in [TRIALS, DISK_TRIALS] {
         for trial in trials {
-            assert!(rt; is_right(&rt, rt.alloc(), trial), "{}", trial.title);
+            try_on_disk(&rt, rt.alloc(), trial);
         }
     }
 }
@@ -69,23 +89,27 @@ const REFUSED: &[(Step, u64, &str)] = &[
     ),
 ];
 
-/// Whether a step on the sample is refused so where a call is refused by a fault, and this is held then.
-fn is_refused(
+/// A step on the sample is refused so where a call is refused by a fault, and this is held then.
+fn try_refused(
     stop: &impl Abort,
     alloc: Global,
-    (step, number, held): (Step, u64, &str),
-    (fault, expected): (DiskFault, TreeFault),
-) -> bool {
+    (step, number, after): (Step, u64, &str),
+    (fault, wanted): (DiskFault, TreeFault),
+) {
     let disk = RefusingDisk::over(disk(stop, alloc, SAMPLE), Call::Numbered(number), fault);
     let mut tree = FileTree::over(alloc, disk);
-    take(&mut tree, step) == Err(expected) && holds(alloc, &mut tree, held)
+    assert!(stop; take(&mut tree, step) == Err(wanted), "{after}");
+    assert!(stop;
+        contents(stop, alloc, &mut tree).as_str() == after,
+        "{after}"
+    );
 }
 
 #[test]
 fn a_refused_call_refuses_the_step(rt: HostRuntime) {
     for &row in REFUSED {
         for &fault in FAULTS {
-            assert!(rt; is_refused(&rt, rt.alloc(), row, fault), "{}", row.2);
+            try_refused(&rt, rt.alloc(), row, fault);
         }
     }
 }

@@ -1,10 +1,11 @@
-//! Steps on a tree, what they answer, and what the tree holds after them.
+//! Steps on a tree, and trials of them.
 ghost use Rattle.std.specs.Prelude.{IsTrue};
 ghost use Rattle.bag_text.specs.Path.{is_base_name};
 
-use bag_store::{FileEntry, Tree, TreeFault, WriteTree, read_whole};
+use crate::held::{Place, contents};
+use bag_store::{Tree, TreeFault, WriteTree};
 use std::alloc::Global;
-use std::str;
+use std::process::Abort;
 
 /// Names in the base folder.
 #[derive(Clone, Copy)]
@@ -76,68 +77,60 @@ pub(crate) enum Step {
 /// What a call answers: how many files are listed, how many bytes are read, or 0.
 pub(crate) type Answer = Result<usize, TreeFault>;
 
-/// The place of the first step that was answered otherwise than it says, and its answer.
-pub(crate) type Other = Option<(usize, Answer)>;
+/// Steps, each with its answer, what stands there before them, and what is held then.
+pub(crate) struct Trial {
+    pub(crate) title: &'static str,
+    pub(crate) before: &'static [Place],
+    pub(crate) steps: &'static [(Step, Answer)],
+    pub(crate) after: &'static str,
+}
+
+/// The answer of a call that answers nothing else.
+fn answer_of(done: Result<(), TreeFault>) -> Answer {
+    match done {
+        Ok(()) => Ok(0),
+        Err(fault) => Err(fault),
+    }
+}
+
+/// Moves something into a folder, which is another one.
+fn move_in<T: WriteTree>(tree: &mut T, top: &str, folder: &str) -> Result<(), TreeFault>
+    requires top { IsTrue (is_base_name top.now) }
+    requires folder { IsTrue (is_base_name folder.now) }
+{
+    if top == folder {
+        return Err(TreeFault::Exists);
+    }
+    tree.move_in(top, folder)
+}
+
+/// How many files are listed.
+pub(crate) fn count_listed<T: Tree>(tree: &mut T) -> Answer {
+    match tree.list() {
+        Ok(listing) => Ok(listing.files.len()),
+        Err(fault) => Err(fault),
+    }
+}
 
 /// Takes a step.
 pub(crate) fn take<T: WriteTree>(tree: &mut T, step: Step) -> Answer {
     match step {
-        Step::MakeFolder(name) => tree.make_folder(name.text())?,
-        Step::MoveIn(top, folder) => {
-            let (top, folder) = (top.text(), folder.text());
-            if top == folder {
-                return Err(TreeFault::Exists);
-            }
-            tree.move_in(top, folder)?;
-        }
-        Step::RenameFolder(from, to) => tree.rename_folder(from.text(), to.text())?,
-        Step::Create(name, text) => tree.create(name.text(), text.as_bytes())?,
-        Step::List => return Ok(tree.list()?.files.len()),
-        Step::Open(path) => tree.open_file(path)?,
-        Step::Read => return tree.read(&mut [0; 4]),
+        Step::MakeFolder(name) => answer_of(tree.make_folder(name.text())),
+        Step::MoveIn(top, folder) => answer_of(move_in(tree, top.text(), folder.text())),
+        Step::RenameFolder(from, to) => answer_of(tree.rename_folder(from.text(), to.text())),
+        Step::Create(name, text) => answer_of(tree.create(name.text(), text.as_bytes())),
+        Step::List => count_listed(tree),
+        Step::Open(path) => answer_of(tree.open_file(path)),
+        Step::Read => tree.read(&mut [0; 4]),
     }
-    Ok(0)
 }
 
-/// Takes steps, each with its answer, up to the first that is answered otherwise.
-pub(crate) fn take_all<T: WriteTree>(tree: &mut T, steps: &[(Step, Answer)]) -> Other {
-    for (place, (step, answer)) in steps.iter().enumerate() {
+/// The steps of a trial are answered so on a tree that holds what stands there before, and it holds what it is to hold then.
+pub(crate) fn follow<T: WriteTree>(stop: &impl Abort, alloc: Global, tree: &mut T, trial: &Trial) {
+    for (step, answer) in trial.steps {
         let found = take(tree, *step);
-        if found != *answer {
-            return Some((place, found));
-        }
+        assert!(stop; found == *answer, "{}: {found:?}", trial.title);
     }
-    None
-}
-
-/// Shows a listed file as its path and its text.
-fn show_file<T: Tree>(
-    alloc: Global,
-    tree: &mut T,
-    entry: &FileEntry,
-    shown: &mut String,
-) -> Result<(), TreeFault> {
-    let bytes = read_whole(alloc, tree, entry)?;
-    let path = entry.path.as_str();
-    let text = str::from_utf8(bytes.as_slice()).unwrap_or("not UTF-8");
-    write!(shown, ", {path}={text}")?;
-    Ok(())
-}
-
-/// What a tree holds: whether it has a payload folder, and its files with their texts.
-fn shown<T: Tree>(alloc: Global, tree: &mut T) -> Result<String, TreeFault> {
-    let listing = tree.list()?;
-    let mut shown = format!(in alloc; "{}", listing.has_data)?;
-    for entry in listing.files.as_slice() {
-        show_file(alloc, tree, entry, &mut shown)?;
-    }
-    Ok(shown)
-}
-
-/// Whether a tree holds this, or this is the word of its refusal.
-pub(crate) fn holds<T: Tree>(alloc: Global, tree: &mut T, held: &str) -> bool {
-    match shown(alloc, tree) {
-        Ok(shown) => shown.as_str() == held,
-        Err(fault) => fault.word() == held,
-    }
+    let found = contents(stop, alloc, tree);
+    assert!(stop; found.as_str() == trial.after, "{}: {found}", trial.title);
 }

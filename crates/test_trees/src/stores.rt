@@ -1,6 +1,6 @@
 //! What no contract says of trees in memory and of writers: that the calls succeed while there is memory and room.
-use crate::files::bytes_of;
-use bag_store::{FileEntry, MemoryTree, Out, Refused, Tree, TreeFault, WriterOut, read_whole};
+use crate::digests::bytes_of;
+use bag_store::{MemoryTree, Out, Refused, Tree, WriterOut, read_whole};
 use bag_text::check_path;
 use std::alloc::Global;
 use std::io::{self, Write};
@@ -13,40 +13,21 @@ fn put(stop: &impl Abort, alloc: Global, tree: &mut MemoryTree, index: usize, by
     tree.put_file(path.as_str(), bytes).expect(stop, "succeeds")
 }
 
-/// Whether each of these files is read as these bytes.
-fn are_read(
-    alloc: Global,
-    tree: &mut MemoryTree,
-    files: &[FileEntry],
-    bytes: &[u8],
-) -> Result<bool, TreeFault> {
-    for entry in files {
-        if read_whole(alloc, tree, entry)?.as_slice() != bytes {
-            return Ok(false);
-        }
-    }
-    Ok(true)
-}
-
-/// Whether a tree lists so many files of this size, and reads each, after they were put into it. It is empty at first.
-fn lists_and_reads(
-    stop: &impl Abort,
-    alloc: Global,
-    tree: &mut MemoryTree,
-    count: usize,
-    size: u32,
-) -> bool {
+/// A tree lists so many files of this size, and reads each, after they were put into it.
+fn try_files(stop: &impl Abort, alloc: Global, count: usize, size: u32) {
     let bytes = bytes_of(stop, alloc, size);
+    let mut tree = MemoryTree::new(alloc);
     tree.put_folder("data").expect(stop, "succeeds");
     for index in 0..count {
-        put(stop, alloc, tree, index, &bytes);
+        put(stop, alloc, &mut tree, index, &bytes);
     }
     let listing = tree.list().expect(stop, "succeeds");
-    let files = listing.files.as_slice();
-    listing.has_data
-        && files.len() == count
-        && are_read(alloc, tree, files, &bytes).expect(stop, "succeeds")
-        && tree.openings().len() == count
+    assert!(stop; listing.has_data && listing.files.len() == count, "{count}");
+    for entry in listing.files.as_slice() {
+        let found = read_whole(alloc, &mut tree, entry).expect(stop, "succeeds");
+        assert!(stop; found.as_slice() == bytes.as_slice(), "{count}");
+    }
+    assert!(stop; tree.openings().len() == count, "{count}");
 }
 
 /// Counts of files, and their sizes.
@@ -63,11 +44,7 @@ const SIZES: &[(usize, u32)] = &[
 #[test]
 fn files_in_memory_are_listed_and_read(rt: HostRuntime) {
     for &(count, size) in SIZES {
-        let mut tree = MemoryTree::new(rt.alloc());
-        assert!(rt;
-            lists_and_reads(&rt, rt.alloc(), &mut tree, count, size),
-            "{count}"
-        );
+        try_files(&rt, rt.alloc(), count, size);
     }
 }
 

@@ -1,29 +1,13 @@
-//! What is tried on trees of each kind: what stands there, steps with their answers, and what stands there then.
-use crate::steps::{Answer, Name, Step};
+//! What is tried on trees of each kind.
+use crate::held::Held::{File, Folder, Other};
+use crate::held::Place;
+use crate::steps::Name::{
+    Blanks, D, Data, Declaration, Ends, L, Letter, Line, LineFeed, M, N, New, Nothing, Percent,
+    Return, X, Y,
+};
+use crate::steps::Step::{Create, List, MakeFolder, MoveIn, Open, Read, RenameFolder};
+use crate::steps::{Answer, Trial};
 use bag_store::TreeFault;
-
-/// What stands at a path.
-#[derive(Clone, Copy)]
-pub(crate) enum Held {
-    /// A file with this text.
-    File(&'static str),
-    Folder,
-    /// A link to a folder that isn't below the base folder.
-    Link,
-}
-
-/// A path, and what stands there. In a table a folder stands before what is in it.
-pub(crate) type Place = (&'static str, Held);
-
-/// Steps, each with its answer.
-pub(crate) type Steps = &'static [(Step, Answer)];
-
-pub(crate) struct Trial {
-    pub(crate) title: &'static str,
-    pub(crate) before: &'static [Place],
-    pub(crate) steps: Steps,
-    pub(crate) after: &'static str,
-}
 
 const DONE: Answer = Ok(0);
 
@@ -31,32 +15,24 @@ const EXISTS: Answer = Err(TreeFault::Exists);
 
 const NOT_FOUND: Answer = Err(TreeFault::NotFound);
 
+const DEVICE: Answer = Err(TreeFault::Device);
+
+const NONE_OPEN: Answer = Err(TreeFault::NoneOpen);
+
 const SPECIAL: Answer = Err(TreeFault::Special);
 
 /// A folder that isn't a bag yet: two files beside a folder with two, and an empty folder.
 pub(crate) const SAMPLE: &[Place] = &[
-    ("d", Held::Folder),
-    ("d-", Held::File("")),
-    ("d/e", Held::Folder),
-    ("d/e/f", Held::File("ef")),
-    ("d/x", Held::File("x")),
-    ("n", Held::Folder),
-    ("x", Held::File("abc")),
+    (b"d", Folder),
+    (b"d-", File("")),
+    (b"d/e", Folder),
+    (b"d/e/f", File("ef")),
+    (b"d/x", File("x")),
+    (b"n", Folder),
+    (b"x", File("abc")),
 ];
 
 pub(crate) const SAMPLE_HELD: &str = "false, d-=, d/e/f=ef, d/x=x, x=abc";
-
-/// Moves all but one file of the sample into a payload folder, and makes a file beside it.
-pub(crate) const BAG_STEPS: Steps = &[
-    (Step::MakeFolder(Name::New), DONE),
-    (Step::MoveIn(Name::D, Name::New), DONE),
-    (Step::MoveIn(Name::N, Name::New), DONE),
-    (Step::MoveIn(Name::X, Name::New), DONE),
-    (Step::RenameFolder(Name::New, Name::Data), DONE),
-    (Step::Create(Name::Declaration, "ab"), DONE),
-];
-
-pub(crate) const BAG_HELD: &str = "true, bagit.txt=ab, d-=, data/d/e/f=ef, data/d/x=x, data/x=abc";
 
 /// What is tried on trees of every kind.
 pub(crate) const TRIALS: &[Trial] = &[
@@ -64,54 +40,54 @@ pub(crate) const TRIALS: &[Trial] = &[
         title: "nothing is replaced, and nothing is moved that isn't there",
         before: SAMPLE,
         steps: &[
-            (Step::MakeFolder(Name::X), EXISTS),
-            (Step::MakeFolder(Name::D), EXISTS),
-            (Step::MakeFolder(Name::N), EXISTS),
-            (Step::Create(Name::X, "again"), EXISTS),
-            (Step::Create(Name::N, ""), EXISTS),
-            (Step::MoveIn(Name::X, Name::D), EXISTS),
-            (Step::MoveIn(Name::Nothing, Name::N), NOT_FOUND),
-            (Step::MoveIn(Name::X, Name::Nothing), NOT_FOUND),
-            (Step::MoveIn(Name::D, Name::X), NOT_FOUND),
-            (Step::RenameFolder(Name::Nothing, Name::M), NOT_FOUND),
-            (Step::RenameFolder(Name::X, Name::Data), NOT_FOUND),
-            (Step::RenameFolder(Name::D, Name::X), EXISTS),
-            (Step::RenameFolder(Name::D, Name::N), EXISTS),
-            (Step::RenameFolder(Name::D, Name::D), EXISTS),
+            (MakeFolder(X), EXISTS),
+            (MakeFolder(D), EXISTS),
+            (MakeFolder(N), EXISTS),
+            (Create(X, "again"), EXISTS),
+            (Create(N, ""), EXISTS),
+            (MoveIn(X, D), EXISTS),
+            (MoveIn(Nothing, N), NOT_FOUND),
+            (MoveIn(X, Nothing), NOT_FOUND),
+            (MoveIn(D, X), NOT_FOUND),
+            (RenameFolder(Nothing, M), NOT_FOUND),
+            (RenameFolder(X, Data), NOT_FOUND),
+            (RenameFolder(D, X), EXISTS),
+            (RenameFolder(D, N), EXISTS),
+            (RenameFolder(D, D), EXISTS),
         ],
         after: SAMPLE_HELD,
     },
     Trial {
         title: "a folder is made",
         before: SAMPLE,
-        steps: &[(Step::MakeFolder(Name::Data), DONE)],
+        steps: &[(MakeFolder(Data), DONE)],
         after: "true, d-=, d/e/f=ef, d/x=x, x=abc",
     },
     Trial {
         title: "a file is moved into a folder",
         before: SAMPLE,
-        steps: &[(Step::MoveIn(Name::X, Name::N), DONE)],
+        steps: &[(MoveIn(X, N), DONE)],
         after: "false, d-=, d/e/f=ef, d/x=x, n/x=abc",
     },
     // not into one that has a folder of its name; then the first name is free
     Trial {
         title: "a folder is moved into a folder",
         before: &[
-            ("d", Held::Folder),
-            ("d-", Held::File("")),
-            ("d/e", Held::Folder),
-            ("d/e/f", Held::File("ef")),
-            ("d/x", Held::File("x")),
-            ("n", Held::Folder),
-            ("n/d", Held::Folder),
-            ("n/d/y", Held::File("y")),
-            ("x", Held::File("abc")),
+            (b"d", Folder),
+            (b"d-", File("")),
+            (b"d/e", Folder),
+            (b"d/e/f", File("ef")),
+            (b"d/x", File("x")),
+            (b"n", Folder),
+            (b"n/d", Folder),
+            (b"n/d/y", File("y")),
+            (b"x", File("abc")),
         ],
         steps: &[
-            (Step::MoveIn(Name::D, Name::N), EXISTS),
-            (Step::MakeFolder(Name::M), DONE),
-            (Step::MoveIn(Name::D, Name::M), DONE),
-            (Step::MakeFolder(Name::D), DONE),
+            (MoveIn(D, N), EXISTS),
+            (MakeFolder(M), DONE),
+            (MoveIn(D, M), DONE),
+            (MakeFolder(D), DONE),
         ],
         after: "false, d-=, m/d/e/f=ef, m/d/x=x, n/d/y=y, x=abc",
     },
@@ -119,16 +95,13 @@ pub(crate) const TRIALS: &[Trial] = &[
     Trial {
         title: "a folder has another name",
         before: SAMPLE,
-        steps: &[
-            (Step::RenameFolder(Name::D, Name::Data), DONE),
-            (Step::MakeFolder(Name::D), DONE),
-        ],
+        steps: &[(RenameFolder(D, Data), DONE), (MakeFolder(D), DONE)],
         after: "true, d-=, data/e/f=ef, data/x=x, x=abc",
     },
     Trial {
         title: "a file is made",
         before: SAMPLE,
-        steps: &[(Step::Create(Name::Declaration, "ab"), DONE)],
+        steps: &[(Create(Declaration, "ab"), DONE)],
         after: "false, bagit.txt=ab, d-=, d/e/f=ef, d/x=x, x=abc",
     },
     // one that is refused leaves it
@@ -136,41 +109,48 @@ pub(crate) const TRIALS: &[Trial] = &[
         title: "a change closes the open file",
         before: SAMPLE,
         steps: &[
-            (Step::Open("x"), DONE),
-            (Step::Create(Name::X, ""), EXISTS),
-            (Step::Read, Ok(3)),
-            (Step::Create(Name::Y, ""), DONE),
-            (Step::Read, Err(TreeFault::NoneOpen)),
+            (Open("x"), DONE),
+            (Create(X, ""), EXISTS),
+            (Read, Ok(3)),
+            (Create(Y, ""), DONE),
+            (Read, NONE_OPEN),
         ],
         after: "false, d-=, d/e/f=ef, d/x=x, x=abc, y=",
     },
     Trial {
         title: "a folder becomes a bag",
         before: SAMPLE,
-        steps: BAG_STEPS,
-        after: BAG_HELD,
+        steps: &[
+            (MakeFolder(New), DONE),
+            (MoveIn(D, New), DONE),
+            (MoveIn(N, New), DONE),
+            (MoveIn(X, New), DONE),
+            (RenameFolder(New, Data), DONE),
+            (Create(Declaration, "ab"), DONE),
+        ],
+        after: "true, bagit.txt=ab, d-=, data/d/e/f=ef, data/d/x=x, data/x=abc",
     },
     // line ends, percent signs, blanks and other letters
     Trial {
         title: "odd names are kept",
         before: &[
-            (" b ", Held::File("b")),
-            ("%41", Held::Folder),
-            ("%41/%", Held::File("%")),
-            ("a\nb", Held::File("a")),
-            ("c\r", Held::Folder),
-            ("c\r/..c", Held::File("c")),
-            ("\u{e9}", Held::File("e")),
+            (b" b ", File("b")),
+            (b"%41", Folder),
+            (b"%41/%", File("%")),
+            (b"a\nb", File("a")),
+            (b"c\r", Folder),
+            (b"c\r/..c", File("c")),
+            (b"\xc3\xa9", File("e")),
         ],
         steps: &[
-            (Step::MakeFolder(Name::Line), DONE),
-            (Step::MoveIn(Name::Blanks, Name::Line), DONE),
-            (Step::MoveIn(Name::Percent, Name::Line), DONE),
-            (Step::MoveIn(Name::LineFeed, Name::Line), DONE),
-            (Step::MoveIn(Name::Return, Name::Line), DONE),
-            (Step::MoveIn(Name::Letter, Name::Line), DONE),
-            (Step::RenameFolder(Name::Line, Name::Data), DONE),
-            (Step::Create(Name::Ends, "z"), DONE),
+            (MakeFolder(Line), DONE),
+            (MoveIn(Blanks, Line), DONE),
+            (MoveIn(Percent, Line), DONE),
+            (MoveIn(LineFeed, Line), DONE),
+            (MoveIn(Return, Line), DONE),
+            (MoveIn(Letter, Line), DONE),
+            (RenameFolder(Line, Data), DONE),
+            (Create(Ends, "z"), DONE),
         ],
         after: "true, %0A \r\n=z, data/ b =b, data/%41/%=%, data/a\nb=a, data/c\r/..c=c, data/\u{e9}=e",
     },
@@ -182,41 +162,114 @@ pub(crate) const DISK_TRIALS: &[Trial] = &[
     Trial {
         title: "a folder in the folder is not replaced",
         before: &[
-            ("d", Held::Folder),
-            ("d/x", Held::File("x")),
-            ("m", Held::Folder),
-            ("m/d", Held::Folder),
-            ("m/d/e", Held::Folder),
-            ("m/d/e/f", Held::File("")),
-            ("n", Held::Folder),
-            ("n/d", Held::Folder),
-            ("n/d/e", Held::Folder),
+            (b"d", Folder),
+            (b"d/x", File("x")),
+            (b"m", Folder),
+            (b"m/d", Folder),
+            (b"m/d/e", Folder),
+            (b"m/d/e/f", File("")),
+            (b"n", Folder),
+            (b"n/d", Folder),
+            (b"n/d/e", Folder),
         ],
-        steps: &[
-            (Step::MoveIn(Name::D, Name::M), EXISTS),
-            (Step::MoveIn(Name::D, Name::N), Err(TreeFault::Device)),
-        ],
+        steps: &[(MoveIn(D, M), EXISTS), (MoveIn(D, N), DEVICE)],
         after: "false, d/x=x, m/d/e/f=",
+    },
+    Trial {
+        title: "files are listed by the bytes of their paths",
+        before: &[
+            (b".a", Folder),
+            (b"a", Folder),
+            (b"data", Folder),
+            (b"data/sub", Folder),
+            (b"empty", Folder),
+            (b"empty/empty", Folder),
+            (b"\xc3\xa9", File("1")),
+            (b"a/b", File("2")),
+            (b"a.b", File("3")),
+            (b"a-b", File("4")),
+            (b"data/sub/x", File("5")),
+            (b".b", File("6")),
+            (b".a/.c", File("7")),
+        ],
+        steps: &[],
+        after: "true, .a/.c=7, .b=6, a-b=4, a.b=3, a/b=2, data/sub/x=5, \u{e9}=1",
     },
     Trial {
         title: "no link is followed, moved or replaced",
         before: &[
-            ("d", Held::Folder),
-            ("d/x", Held::Link),
-            ("l", Held::Link),
-            ("n", Held::Folder),
-            ("x", Held::File("abc")),
+            (b"d", Folder),
+            (b"d/x", Other),
+            (b"l", Other),
+            (b"n", Folder),
+            (b"x", File("abc")),
         ],
         steps: &[
-            (Step::MakeFolder(Name::L), SPECIAL),
-            (Step::Create(Name::L, "z"), SPECIAL),
-            (Step::RenameFolder(Name::L, Name::M), SPECIAL),
-            (Step::RenameFolder(Name::D, Name::L), SPECIAL),
-            (Step::MoveIn(Name::L, Name::N), SPECIAL),
-            (Step::MoveIn(Name::X, Name::L), SPECIAL),
-            (Step::MoveIn(Name::X, Name::D), SPECIAL),
-            (Step::Open("x"), DONE),
+            (MakeFolder(L), SPECIAL),
+            (Create(L, "z"), SPECIAL),
+            (RenameFolder(L, M), SPECIAL),
+            (RenameFolder(D, L), SPECIAL),
+            (MoveIn(L, N), SPECIAL),
+            (MoveIn(X, L), SPECIAL),
+            (MoveIn(X, D), SPECIAL),
+            (Open("x"), DONE),
         ],
         after: "special",
     },
+];
+
+const ONE_FILE: &[Place] = &[(b"data/x", File("abc"))];
+
+const ONE_HELD: &str = "true, data/x=abc";
+
+/// What is tried on trees of which the call of a number is refused.
+pub(crate) const REFUSED_TRIALS: &[(u64, Trial)] = &[
+    (
+        1,
+        Trial {
+            title: "a list is refused once",
+            before: ONE_FILE,
+            steps: &[
+                (List, DEVICE),
+                (List, Ok(1)),
+                (Open("data/x"), DONE),
+                (Read, Ok(3)),
+            ],
+            after: ONE_HELD,
+        },
+    ),
+    (
+        3,
+        Trial {
+            title: "after a refused opening nothing is open",
+            before: ONE_FILE,
+            steps: &[
+                (List, Ok(1)),
+                (Open("data/x"), DONE),
+                (Open("data/x"), DEVICE),
+                (Read, NONE_OPEN),
+                (List, Ok(1)),
+                (Read, NONE_OPEN),
+                (Open("data/y"), NOT_FOUND),
+                (Read, NONE_OPEN),
+                (Open("data/x"), DONE),
+                (Read, Ok(3)),
+            ],
+            after: ONE_HELD,
+        },
+    ),
+    (
+        2,
+        Trial {
+            title: "after a refused read the file is open",
+            before: ONE_FILE,
+            steps: &[
+                (Open("data/x"), DONE),
+                (Read, DEVICE),
+                (Read, Ok(3)),
+                (Read, DONE),
+            ],
+            after: ONE_HELD,
+        },
+    ),
 ];

@@ -1,9 +1,8 @@
 //! A report that appears as its faults are found.
-use crate::folders::fresh_folder;
+use crate::folders::{fresh_folder, place, tree_of};
+use crate::held::text_of;
 use bag_facts::{Depth, Options};
-use bag_file_tree::FileTree;
-use bag_text::Text;
-use bag_tree::WriterOut;
+use bag_store::WriterOut;
 use bag_walk::{Request, run};
 use std::fs;
 use std::io::{self, Write};
@@ -44,11 +43,9 @@ const FILES: &[(&str, &str)] = &[
 ];
 
 fn make_bag(stop: &impl Abort, rt: &HostRuntime, base: &str) {
-    let data = format!(in rt.alloc(); "{base}/data").expect(stop, "succeeds");
-    fs::create_dir(rt, data).expect(stop, "succeeds");
+    fs::create_dir(rt, place(stop, rt, base, "data")).expect(stop, "succeeds");
     for (path, text) in FILES {
-        let place = format!(in rt.alloc(); "{base}/{path}").expect(stop, "succeeds");
-        fs::write(rt, place, *text).expect(stop, "succeeds");
+        fs::write(rt, place(stop, rt, base, *path), *text).expect(stop, "succeeds");
     }
 }
 
@@ -61,7 +58,7 @@ fn request(stop: &impl Abort, rt: &HostRuntime) -> Request {
         after: None,
         limit: None,
         quiet: false,
-        name: Text::from_str(rt.alloc(), "d").expect(stop, "succeeds"),
+        name: text_of(stop, rt.alloc(), "d"),
     }
 }
 
@@ -69,11 +66,10 @@ fn request(stop: &impl Abort, rt: &HostRuntime) -> Request {
 fn report(stop: &impl Abort, rt: &HostRuntime, base: &str) -> String {
     let mut out = WriterOut::new(Mending {
         rt: rt.clone().expect(stop, "succeeds"),
-        file: format!(in rt.alloc(); "{base}/data/b").expect(stop, "succeeds"),
+        file: place(stop, rt, base, "data/b"),
         taken: Vec::new(rt.alloc()),
     });
-    let system = rt.clone().expect(stop, "succeeds");
-    let tree = FileTree::at(system, rt.alloc(), base).expect(stop, "succeeds");
+    let tree = tree_of(stop, rt, base);
     let (_tree, _outcome) = run(rt.alloc(), tree, None, request(stop, rt), &mut out);
     String::from_utf8(out.into_inner().taken).expect(stop, "succeeds")
 }

@@ -3,10 +3,9 @@ ghost use Rattle.bag_disk.specs.SystemDisk.{system_state};
 ghost use Rattle.bag_disk.specs.Disk.{empty_disk};
 
 use crate::held::{ends, listed};
-use bag_disk::{Disk, DiskFault, Entry};
-use bag_file_tree::FileTree;
+use crate::steps::count_listed;
+use bag_store::{Disk, DiskFault, Entry, FileTree, TreeFault};
 use bag_text::{Items, Text};
-use bag_tree::{Tree, TreeFault};
 use std::alloc::Global;
 
 /// A disk that says of each path but one that an empty file stands there.
@@ -103,12 +102,9 @@ const ODD: &[(&[&str], &str)] = &[(&["a", "b", "a"], "b"), (&["a", ".", ".."], "
 #[test]
 fn lists_nothing_where_a_name_is_given_twice_or_is_no_path(rt: HostRuntime) {
     for &(names, folder) in ODD {
-        let found = listed(
-            &rt,
-            rt.alloc(),
-            &mut MadeUp::tree(rt.alloc(), names, folder, 0),
-        );
-        assert!(rt; found.as_str() == "device", "{found}");
+        let mut tree = MadeUp::tree(rt.alloc(), names, folder, 0);
+        let found = listed(&rt, rt.alloc(), &mut tree);
+        assert!(rt; found.as_str() == "device", "{folder}: {found}");
     }
 }
 
@@ -117,29 +113,22 @@ fn opens_nothing_beside_the_base_folder(rt: HostRuntime) {
     for path in ["../b", "", "b/"] {
         let mut tree = MadeUp::tree(rt.alloc(), &[], "b", 0);
         let wanted = Err(TreeFault::NotFound);
-        assert!(rt;
-            ends(&rt, rt.alloc(), &mut tree, (path, 0), wanted),
-            "{path}"
-        );
+        let is_refused = ends(&rt, rt.alloc(), &mut tree, (path, 0), wanted);
+        assert!(rt; is_refused, "{path}");
     }
 }
 
 /// How many files and folders a tree may have.
 const MOST_ENTRIES: usize = 16_777_216;
 
-/// How many files are listed where a folder has so many.
-fn count_listed(alloc: Global, count: usize) -> Result<usize, TreeFault> {
-    Ok(MadeUp::tree(alloc, &[], "", count).list()?.files.len())
-}
-
 #[test]
 fn one_more_is_too_many(rt: HostRuntime) {
-    let found = count_listed(rt.alloc(), MOST_ENTRIES + 1);
-    assert!(rt; found == Err(TreeFault::TooMany));
+    let mut tree = MadeUp::tree(rt.alloc(), &[], "", MOST_ENTRIES + 1);
+    assert!(rt; count_listed(&mut tree) == Err(TreeFault::TooMany));
 }
 
 #[test]
 fn that_many_are_listed(rt: HostRuntime) {
-    let found = count_listed(rt.alloc(), MOST_ENTRIES);
-    assert!(rt; found == Ok(MOST_ENTRIES));
+    let mut tree = MadeUp::tree(rt.alloc(), &[], "", MOST_ENTRIES);
+    assert!(rt; count_listed(&mut tree) == Ok(MOST_ENTRIES));
 }

@@ -1,10 +1,11 @@
-//! Disks in memory from tables, and what trees list and read.
+//! What stands at paths, disks in memory that hold it, and what trees list and read.
 use bag_memory_disk::{MemoryDisk, Node};
+use bag_store::{FileEntry, Listing, Tree, TreeFault, read_whole};
 use bag_text::Text;
-use bag_tree::{FileEntry, Listing, Tree, TreeFault, read_whole};
 use std::alloc::Global;
 use std::collections::BTreeMap;
 use std::process::Abort;
+use std::str;
 
 /// What stands at a path of a table.
 #[derive(Clone, Copy)]
@@ -12,11 +13,16 @@ pub(crate) enum Held {
     /// A file with this text.
     File(&'static str),
     Folder,
+    /// A link, or anything else that is neither a file nor a folder.
     Other,
 }
 
-/// A path, and what stands there.
+/// A path, and what stands there. In a table a folder stands before what is in it.
 pub(crate) type Place = (&'static [u8], Held);
+
+pub(crate) fn text_of(stop: &impl Abort, alloc: Global, text: &str) -> Text {
+    Text::from_str(alloc, text).expect(stop, "succeeds")
+}
 
 fn node(stop: &impl Abort, alloc: Global, held: Held) -> Node {
     match held {
@@ -42,22 +48,49 @@ pub(crate) fn disk(stop: &impl Abort, alloc: Global, places: &[Place]) -> Memory
     maybe_disk(stop, alloc, places).expect(stop, "a disk")
 }
 
-fn shown(stop: &impl Abort, alloc: Global, listing: &Listing) -> String {
-    let mut text = format!(in alloc; "{}", listing.has_data).expect(stop, "succeeds");
+fn write_sizes(stop: &impl Abort, listing: &Listing, text: &mut String) {
+    write!(text, "{}", listing.has_data).expect(stop, "succeeds");
     for file in listing.files.as_slice() {
         let path = file.path.as_str();
         let size = file.size;
         write!(text, ", {path} {size}").expect(stop, "succeeds");
     }
+}
+
+/// The listing of a tree as a text, each file with its size, or the word of its refusal.
+pub(crate) fn listed<T: Tree>(stop: &impl Abort, alloc: Global, tree: &mut T) -> String {
+    let mut text = String::new(alloc);
+    match tree.list() {
+        Ok(listing) => write_sizes(stop, &listing, &mut text),
+        Err(fault) => text.push_str(fault.word()).expect(stop, "succeeds"),
+    }
     text
 }
 
-/// The listing of a tree as a text, or the word of its refusal.
-pub(crate) fn listed<T: Tree>(stop: &impl Abort, alloc: Global, tree: &mut T) -> String {
-    match tree.list() {
-        Ok(listing) => shown(stop, alloc, &listing),
-        Err(fault) => String::from_str(alloc, fault.word()).expect(stop, "succeeds"),
+fn write_texts<T: Tree>(
+    stop: &impl Abort,
+    alloc: Global,
+    tree: &mut T,
+    listing: &Listing,
+    text: &mut String,
+) {
+    write!(text, "{}", listing.has_data).expect(stop, "succeeds");
+    for file in listing.files.as_slice() {
+        let bytes = read_whole(alloc, tree, file).expect(stop, "succeeds");
+        let path = file.path.as_str();
+        let held = str::from_utf8(bytes.as_slice()).unwrap_or("not UTF-8");
+        write!(text, ", {path}={held}").expect(stop, "succeeds");
     }
+}
+
+/// The listing of a tree as a text, each file with what it holds, or the word of its refusal.
+pub(crate) fn contents<T: Tree>(stop: &impl Abort, alloc: Global, tree: &mut T) -> String {
+    let mut text = String::new(alloc);
+    match tree.list() {
+        Ok(listing) => write_texts(stop, alloc, tree, &listing, &mut text),
+        Err(fault) => text.push_str(fault.word()).expect(stop, "succeeds"),
+    }
+    text
 }
 
 /// Whether opening and reading a whole file of a tree ends so, where it is listed with this size.
@@ -68,7 +101,7 @@ pub(crate) fn ends<T: Tree>(
     (path, size): (&str, u64),
     wanted: Result<&str, TreeFault>,
 ) -> bool {
-    let path = Text::from_str(alloc, path).expect(stop, "succeeds");
+    let path = text_of(stop, alloc, path);
     match (read_whole(alloc, tree, &FileEntry { path, size }), wanted) {
         (Ok(found), Ok(text)) => found.as_slice() == text.as_bytes(),
         (Err(found), Err(fault)) => found == fault,

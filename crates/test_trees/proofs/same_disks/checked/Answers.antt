@@ -6,8 +6,8 @@ use Rattle.bag_memory_disk.specs.MemoryDisk.{fresh, state_of}
 use Rattle.bag_arguments.specs.declared.plan.Action.{Action}
 use Rattle.bag_cli.specs.Checked.{AreChecksOf}
 use Rattle.bag_cli.specs.Performed.{IsChecked, IsDoneBy, IsPerformed}
-use Rattle.test_disks.specs.declared.same_disks.SameDisks.{SameDisks}
-use Rattle.test_disks.proofs.same_disks.checked.Goals as goal
+use Rattle.test_trees.specs.declared.same_disks.SameDisks.{SameDisks}
+use Rattle.test_trees.proofs.same_disks.checked.Goals as goal
 
 pub returns : goal.returns
 returns g c name one =
