@@ -4,7 +4,7 @@
 # must be the report's first lines, as many as the outcome says, and the outcome one that the limits can have where one of them is
 # lost; with a limit more than the report needs all of it is written, whichever growth was refused. It needs a C compiler.
 #
-# usage: bench/refused_segments.sh     after `rt run` in crates/bagit, which proves the libraries
+# usage: bench/refused_segments.sh    after `rt run` in crates/bagit, which proves the libraries
 set -euo pipefail
 source "$(dirname "$0")/growths.sh"
 
@@ -15,8 +15,8 @@ cd "$work"
 build_refuser
 
 mkdir -p room/crates/segments/src
-ln -s "$root"/crates/* room/crates/
-{ cat "$root/crates.txt"; echo 'segments: bag_text bag_store bag_report bag_walk'; } >room/crates.txt
+cp -a "$root"/crates/bag_* room/crates/
+{ grep '^bag_' "$root/crates.txt"; echo 'segments: bag_text bag_store bag_report bag_walk'; } >room/crates.txt
 cat >room/crates/segments/src/main.rt <<'END'
 //! Checks the folder `d`, in segments where a word says with which limits, and says on the error output how that ended.
 #![tactic(auto)]

@@ -65,7 +65,7 @@ fn are_whole(stop: &impl Abort, alloc: Global, refused: (u64, DiskFault), limits
 }
 
 /// More calls than seven segments make.
-const CALLS: u64 = 400;
+const CALLS: u64 = 200;
 
 #[test]
 fn one_segment_more_makes_up_for_a_refused_call(rt: HostRuntime) {
