@@ -20,18 +20,26 @@ use Rattle.bag_facts.proofs.ListedFiles.{file_listed}
 use Rattle.bag_facts.proofs.Mapped.{contains_mapped}
 
 -- the rules of a declaration that is there or isn't
-abbrev pub rules_by : Option (List ℕ) → Rules
+abbrev rules_by : Option (List ℕ) → Rules
 rules_by content = rules_of (option_and_then declared_version content)
 
+told_by : (content : Option (List ℕ)) (known : declared.Declaration) → IsReadOf IsDeclarationOf content (Some known) → rules_of known.version ≡ rules_by content
+told_by None known read = absurd read
+told_by (Some bytes) known read = ap rules_of read.version
+
+untold_by : (content : Option (List ℕ)) → IsReadOf IsDeclarationOf content None → rules_of None ≡ rules_by content
+untold_by None read = refl
+untold_by (Some bytes) read = absurd read
+
 -- what is known of the declaration tells the rules
-pub rules_told : (content : Option (List ℕ)) (known : declared.Declaration) → IsReadOf IsDeclarationOf content (Some known) → rules_of known.version ≡ rules_by content
-rules_told None known read = absurd read
-rules_told (Some bytes) known read = ap rules_of read.version
+pub rules_told : (bag : Bag) (known : declared.Declaration) → IsReadOf IsDeclarationOf (file bag (tag_path Declaration)) (Some known) → rules_of known.version ≡ rules_in bag
+unfolding rules_in
+rules_told bag known read = told_by (file bag (tag_path Declaration)) known read
 
 -- and where there is none, they are those of no version
-pub rules_untold : (content : Option (List ℕ)) → IsReadOf IsDeclarationOf content None → rules_of None ≡ rules_by content
-rules_untold None read = refl
-rules_untold (Some bytes) read = absurd read
+pub rules_untold : (bag : Bag) → IsReadOf IsDeclarationOf (file bag (tag_path Declaration)) None → rules_of None ≡ rules_in bag
+unfolding rules_in
+rules_untold bag read = untold_by (file bag (tag_path Declaration)) read
 
 module _ (bag : Bag) (options : Options) (files : List FileEntry) (read : List TagBytes) (listed : AreListed bag files) (wanted : AreWanted options files (map read_path read))
     (are : (one : TagBytes) → Contains read one → file bag (read_path one) ≡ Some one.bytes.items) where
@@ -44,6 +52,7 @@ module _ (bag : Bag) (options : Options) (files : List FileEntry) (read : List T
       absurd (none (at.1.0, at.0, at.1.1, at.1.2, paths_differ at.0.name Declaration at.2))
 
   pub rules_known : (rules : Rules) → AreRulesOf read rules → rules ≡ rules_in bag
+  unfolding rules_in
   rules_known rules told = elim told [
     | inl none ↦ none.1 ∙ sym (ap rules_by (unread (file bag (tag_path Declaration)) refl none.0))
     | inr one ↦ one.3 ∙ sym (ap rules_by (sym (ap (λ name. file bag (tag_path name)) one.2) ∙ are one.0 one.1))

@@ -18,7 +18,7 @@ use Rattle.bag_facts.specs.declared.tag_reader.TagBytes.{TagBytes}
 
 -- the rules by which a bag is judged: those of the version that its declaration declares, and those of 1.0 where it
 -- declares none
-abbrev pub rules_in : Bag → Rules
+unfoldable pub rules_in : Bag → Rules
 rules_in bag = rules_of (option_and_then declared_version (file bag (tag_path Declaration)))
 
 -- what is known of a tag file is what its bytes in the bag say, by the bag's rules
