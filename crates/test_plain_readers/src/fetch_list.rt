@@ -1,13 +1,13 @@
 //! A plain reader of `fetch.txt` that tries each prefix of a line, over some hundred texts, and one of thousands of lines.
 use crate::parts::combined;
 use bag_line::read_fetch;
-use bag_text::trim;
+use bag_text::{Rules, trim};
 use std::alloc::Global;
 use std::process::Abort;
 
 /// What `fetch.txt` says: each entry's line, URL, length and path, then each fault's code, line and detail.
 fn said(stop: &impl Abort, alloc: Global, bytes: &[u8]) -> String {
-    let parsed = read_fetch(alloc, bytes).expect(stop, "succeeds");
+    let parsed = read_fetch(alloc, Rules::V10, bytes).expect(stop, "succeeds");
     let mut text = String::new(alloc);
     for entry in parsed.items.as_slice() {
         let (line, url, length, path) = (entry.line, &entry.url, &entry.length, &entry.path);

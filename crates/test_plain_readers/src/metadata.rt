@@ -2,13 +2,13 @@
 //! that are put together from parts, and over thousands of lines.
 use crate::parts::combined;
 use bag_line::read_info;
-use bag_text::trim;
+use bag_text::{Rules, trim};
 use std::alloc::Global;
 use std::process::Abort;
 
 /// What metadata says: each element's line, label and value, then each fault's code, line and detail.
 fn said(stop: &impl Abort, alloc: Global, bytes: &[u8]) -> String {
-    let parsed = read_info(alloc, bytes).expect(stop, "succeeds");
+    let parsed = read_info(alloc, Rules::V10, bytes).expect(stop, "succeeds");
     let mut text = String::new(alloc);
     for element in parsed.items.as_slice() {
         let (line, label, value) = (element.line, &element.label, &element.value);
