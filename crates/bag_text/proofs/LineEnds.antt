@@ -1,11 +1,11 @@
 -- Spellings in which the ends of lines alone are escaped.
-use Rattle.std.proofs.Common.{◌≡◌, ◌≢◌, ◌↔◌, ◌<◌, ◌≤◌, ℕ, suc, List, [], ◌∷◌, ◌++◌, length, get_or, Option, Some, None, Bool, true, false, refl, sym, ap, subst, ◌∙◌, inl, inr, arith, unwrap_or, ◌==◌, append-nil, append_assoc, eqb, nat_lt, bytes_eq, ◌&&◌, lit<}
+use Rattle.std.proofs.Common.{◌≡◌, ◌≢◌, ◌<◌, ◌≤◌, ℕ, suc, List, [], ◌∷◌, ◌++◌, length, get_or, Option, Some, None, Bool, true, false, refl, sym, ap, subst, ◌∙◌, inl, inr, arith, unwrap_or, ◌==◌, append-nil, append_assoc, eqb, nat_lt, bytes_eq, ◌&&◌, lit<}
 use Rattle.std.specs.Char.{to_ascii_lowercase}
 use Rattle.std.specs.Str.{IsUtf8, IsCharBoundary}
 use Rattle.std.proofs.lemmas.Bool.Decides.{nat_tests}
 use Rattle.std.proofs.lemmas.Str.{IsCharBoundary-after_ascii}
 use Rattle.bag_text.proofs.SpellingLaws.{strict_spellings}
-use Rattle.bag_text.specs.Spelling.{percent, line_end, BeginsWith, BeginsWithNone, SpellsLineEnds, read_or, with_line_ends, UnescapedIsSpelled}
+use Rattle.bag_text.specs.Spelling.{percent, line_end, BeginsWithNone, SpellsLineEnds, with_line_ends, UnescapedIsSpelled}
 use Rattle.bag_text.specs.declared.rules.Rules.TheVariants.{V10, V097}
 
 is_percent : (c : ℕ) → (c == percent) ≡ true → c ≡ percent
