@@ -1,0 +1,5 @@
+use Rattle.std.proofs.Common.{inl, inr}
+use Rattle.bag_facts.proofs.facts.rules_read.Goals as goal
+
+pub returns-in-Some : goal.returns-in-Some
+returns-in-Some c = inr (c.in-Some.file.now, c.in-Some.ensures.0, c.in-Some.ensures.1, c.declared_rules.ensures)
