@@ -1,4 +1,5 @@
-use Rattle.std.proofs.Common.{◌≡◌, true, false, sym, ◌∙◌}
+use Rattle.std.proofs.Common.{◌≡◌, true, false, sym, ◌∙◌, get_or}
+use Rattle.bag_text.specs.Alg.{algs}
 use Rattle.bag_words.specs.declared.alg.Alg.TheVariants.{Md5}
 use Rattle.bag_tags.specs.declared.kind.Kind.TheVariants.{Payload}
 use Rattle.bag_stages.specs.TagFiles.{Names}
@@ -13,6 +14,10 @@ pub loop-alg-preserved : goal.loop-alg-preserved
 loop-alg-preserved c = λ bag facts deep.
     none_more (λ alg. Names bag Payload alg c.args.path.now) c.loop-alg.alg-index Md5 c.loop-alg-test.true (c.loop-alg.invariant bag facts deep)
     (λ named. let clash : false ≡ true = sym c.if-is_named_by.false ∙ (c.is_named_by.ensures bag facts deep).1 named in cc)
+
+pub returns-then-is_named_by-clause-named : goal.returns-then-is_named_by-clause-named
+returns-then-is_named_by-clause-named c = λ bag facts deep yes.
+    (get_or algs c.loop-alg.alg-index Md5, (c.is_named_by.ensures bag facts deep).0 c.if-is_named_by.true)
 
 pub returns-clause-unnamed : goal.returns-clause-unnamed
 returns-clause-unnamed c = λ bag facts deep some.
