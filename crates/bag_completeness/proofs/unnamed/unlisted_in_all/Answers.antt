@@ -16,5 +16,5 @@ returns-else-is_asked c = λ bag facts deep.
     rw c.new.ensures.items
     (unasked_of_all bag (λ by.
     let is : c.rules.result ≡ V097 = c.rules.ensures bag facts ∙ by in
-    let yes : c.eq.result ≡ true = search rules in
+    let yes : c.eq-is_asked.result ≡ true = search rules in
     let clash : true ≡ false = sym yes ∙ c.if-is_asked.false in cc))
