@@ -104,7 +104,7 @@ module _ (bag : Bag) (alg : Alg) where
   -- it is wrong about no file
   pub nothing_wrong : IsNamedExactly bag alg → (f : Fault) → ¬ (IsWrong bag alg f)
   nothing_wrong exact f (inl (is, (named, lacks))) = let clash : false ≡ true = sym lacks ∙ exact.listed f.path named in cc
-  nothing_wrong exact f (inr (by, (is, (here, supported, lacks)))) = lacks (exact.named f.path here)
+  nothing_wrong exact f (inr (by, (is, (here, (supported, lacks))))) = lacks (exact.named f.path here)
 
   pub told : (f : Fault) → IsWrong bag alg f → f.alg ≡ Some alg
   told f (inl h) = missing.told bag Payload alg f h

@@ -30,13 +30,13 @@ module _ (bag : Bag) (alg : Alg) where
       → (AreByPath m.entries → IsListOf fault_cmp (IsUnlistedAmong m.alg m.entries (paths_of files)) faults) → IsListOf fault_cmp (IsLeftByOne bag alg) faults
   read_unlisted m files faults read listed list =
       in_other_words PayloadFileNotListed (Some alg) _ (paths_of files) _ faults
-      (λ path c h. ((listed_file bag files path listed c, h.0), is_there bag Payload alg m read, (λ named. h.1 (names_entry bag Payload alg m read path named))))
-      (λ path h. (file_listed bag files path listed h.0.0, (h.0.1, (λ c. h.2 (entry_names bag Payload alg m read path c)))))
+      (λ path c h. ((listed_file bag files path listed c, h.0), (is_there bag Payload alg m read, (λ named. h.1 (names_entry bag Payload alg m read path named)))))
+      (λ path h. (file_listed bag files path listed h.0.0, (h.0.1, (λ c. h.1.1 (entry_names bag Payload alg m read path c)))))
       (subst (λ a. IsListOf fault_cmp (IsUnlistedAmong a m.entries (paths_of files)) faults) (of_alg bag Payload alg m read) (list (by_path bag Payload alg m read)))
 
   -- one that isn't there needs to name nothing
   pub no_unlisted : IsReadOf (IsManifestNamed (rules_in bag) Payload alg) (file bag (manifest_of Payload alg)) None → IsListOf fault_cmp (IsLeftByOne bag alg) []
-  no_unlisted read = nothing_listed fault_cmp (IsLeftByOne bag alg) (λ f h. is_absent bag Payload alg read h.1.1)
+  no_unlisted read = nothing_listed fault_cmp (IsLeftByOne bag alg) (λ f h. is_absent bag Payload alg read h.1.1.0)
 
   -- the rules of 1.0 ask for these faults, and those of 0.97 for none
   pub asked_of_one : (faults : List Fault) → rules_in bag ≡ V10 → IsListOf fault_cmp (IsLeftByOne bag alg) faults → IsListOf fault_cmp (IsUnlisted bag alg) faults

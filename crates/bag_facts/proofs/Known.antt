@@ -35,9 +35,11 @@ known bag facts read ordered listing judged wanted are =
           (same_members text_cmp (λ path. IsWanted facts.options path × Contains (paths_of files) path) _ (map read_path read)
           (λ path h. (h.0, listed_file bag files path listing.files h.1)) (λ path h. (h.0, file_listed bag files path listing.files h.1)) wanted);
       said = λ tag c.
-          let from = parsed_from rules read facts.tags tag parsed c in
-          (from.0.bytes.items, ap (λ name. file bag (tag_path name)) from.2.name ∙ are from.0 from.1,
-          subst (λ by. Says by from.0.bytes.items tag) (rules_known bag facts.options files read listing.files wanted are rules judged.1) from.2.says);
+          let from = parsed_from rules read facts.tags tag parsed c in (
+            from.0.bytes.items,
+            ap (λ name. file bag (tag_path name)) from.2.name ∙ are from.0 from.1,
+            subst (λ by. Says by from.0.bytes.items tag) (rules_known bag facts.options files read listing.files wanted are rules judged.1) from.2.says,
+          );
     }
 
 -- the same, where the facts were made of these options and this listing

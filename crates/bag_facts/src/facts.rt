@@ -225,8 +225,7 @@ fn find_declaration(read: &[TagBytes]) -> Option<&TagBytes>
     ensures { MatchOption (option_copied result) (¬ (Any (λ file. file.name ≡ file_of.Declaration) read.now))
         (λ file. Contains read.now file × (file.name ≡ file_of.Declaration)) }
 {
-    read.iter()
-        .find(|file| file.name == TagName::Declaration)
+    read.iter().find(|file| file.name == TagName::Declaration)
 }
 
 /// What the bytes of each tag file say by the rules, in their order.

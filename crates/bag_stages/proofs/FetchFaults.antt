@@ -160,13 +160,12 @@ module _ (bag : Bag) (alg : Alg) (bytes : List ℕ) (named : List ManifestEntry)
       e,
       record { path_is = ap (λ (x : Fault). x.path) is; alg_is = ap (λ (x : Fault). x.alg) is; line_is = ap (λ (x : Fault). x.line) is; detail_is = ap (λ (x : Fault). x.detail) is },
       (fetched.members e).0 c,
-      ap is_some there,
-      (λ names. lacks (names_entry bag Payload alg bytes named there list e.path names)),
+      (ap is_some there, (λ names. lacks (names_entry bag Payload alg bytes named there list e.path names))),
     ),
   )
 
   from_not_in : (f : Fault) → IsNotInManifest bag alg f → IsNotNamedAmong fetch_txt alg named entries f
-  from_not_in f (code, (e, at, has, has_manifest, lacks)) = (
+  from_not_in f (code, (e, at, has, (has_manifest, lacks))) = (
     e,
     (fetched.members e).1 has,
     (
@@ -206,7 +205,7 @@ module _ (bag : Bag) (alg : Alg) where
   pub no_manifest_listed : IsReadOf (IsManifestNamed (rules_in bag) Payload alg) (file bag (manifest_of Payload alg)) None → IsListOf fault_cmp (IsNotInManifest bag alg) []
   no_manifest_listed read =
       nothing_listed fault_cmp (IsNotInManifest bag alg)
-      (λ f h. let clash : false ≡ true = ap is_some (sym (not_there (IsManifestNamed (rules_in bag) Payload alg) (file bag (manifest_of Payload alg)) read)) ∙ h.1.3 in cc)
+      (λ f h. let clash : false ≡ true = ap is_some (sym (not_there (IsManifestNamed (rules_in bag) Payload alg) (file bag (manifest_of Payload alg)) read)) ∙ h.1.3.0 in cc)
 
 module _ (bag : Bag) where
   -- the manifests, one after another

@@ -54,14 +54,14 @@ module _ (bag : Bag) where
   lacks_or_not alg e = by_one_or_not bag e.path alg
 
   to_not_in : (alg : Alg) (f : Fault) → LacksSome alg f → IsNotInManifest bag alg f
-  to_not_in alg f (e, has, ((there, lacks), is)) =
-      subst (IsNotInManifest bag alg) (sym is) (refl, (e, record { path_is = refl; alg_is = refl; line_is = refl; detail_is = refl }, has, there, lacks))
+  to_not_in alg f (e, has, (out, is)) =
+      subst (IsNotInManifest bag alg) (sym is) (refl, (e, record { path_is = refl; alg_is = refl; line_is = refl; detail_is = refl }, has, out))
 
   from_not_in : (alg : Alg) (f : Fault) → IsNotInManifest bag alg f → LacksSome alg f
-  from_not_in alg f (code, (e, at, has, there, lacks)) = (
+  from_not_in alg f (code, (e, at, has, out)) = (
     e,
     has,
-    ((there, lacks), (λ i. record { code = code i; path = at.path_is i; alg = at.alg_is i; line = at.line_is i; detail = at.detail_is i })),
+    (out, (λ i. record { code = code i; path = at.path_is i; alg = at.alg_is i; line = at.line_is i; detail = at.detail_is i })),
   )
 
   of_alg : (alg : Alg) → HasList (IsNotInManifest bag alg)

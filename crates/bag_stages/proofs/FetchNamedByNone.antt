@@ -30,13 +30,12 @@ module _ (bag : Bag) where
         e,
         record { path_is = ap (λ (x : Fault). x.path) is; alg_is = ap (λ (x : Fault). x.alg) is; line_is = ap (λ (x : Fault). x.line) is; detail_is = ap (λ (x : Fault). x.detail) is },
         (fetched.members e).0 c,
-        (alg, there),
-        none,
+        ((alg, there), none),
       ),
     )
 
     from_not_in_any : (f : Fault) → IsNotInAny bag f → IsNamedByNoneAmong bag fetch_txt entries f
-    from_not_in_any f (code, (e, at, has, some, none)) = (
+    from_not_in_any f (code, (e, at, has, (some, none))) = (
       e,
       (fetched.members e).1 has,
       ((λ i. record { code = code i; path = at.path_is i; alg = at.alg_is i; line = at.line_is i; detail = at.detail_is i }), none),

@@ -31,7 +31,7 @@ module _ (bag : Bag) (path : List ℕ) where
   left_out_by V10 (Some alg) out = inl (refl, (alg, refl, out))
   left_out_by V10 None out = absurd out
   left_out_by V097 (Some alg) out = absurd out
-  left_out_by V097 None out = inr (refl, (refl, out))
+  left_out_by V097 None out = inr (refl, refl, out)
 
   pub by_one : (rules : Rules) (alg : Alg) → rules ≡ V10 → IsLeftOutByOne bag alg path → IsLeftOut rules bag (Some alg) path
   by_one V10 alg by out = out

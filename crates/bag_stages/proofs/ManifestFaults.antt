@@ -143,12 +143,14 @@ module _ (bag : Bag) (files : List FileEntry) (alg : Alg) (bytes : List ℕ) (al
   from_unlisted : (f : Fault) → IsUnlisted bag Tag alg f → IsUnnamedBy (rules_in bag) (manifest_of Tag alg) alg all (paths_of files) f
   from_unlisted f (by, code, (other, at, has, there_too, lacks)) = (
     by,
-    subst (Contains (paths_of files)) (sym at.detail_is) (file_listed bag files (manifest_name Payload other) listed there_too.1),
     (
-      (λ i. record { code = code i; path = at.path_is i; alg = at.alg_is i; line = at.line_is i; detail = f.detail }),
+      subst (Contains (paths_of files)) (sym at.detail_is) (file_listed bag files (manifest_name Payload other) listed there_too.1),
       (
-        (other, there_too.0, at.detail_is),
-        (λ c. lacks (entry_names bag Tag alg bytes all there entries (manifest_name Payload other) (subst (Contains (entry_paths all)) at.detail_is c))),
+        (λ i. record { code = code i; path = at.path_is i; alg = at.alg_is i; line = at.line_is i; detail = f.detail }),
+        (
+          (other, there_too.0, at.detail_is),
+          (λ c. lacks (entry_names bag Tag alg bytes all there entries (manifest_name Payload other) (subst (Contains (entry_paths all)) at.detail_is c))),
+        ),
       ),
     ),
   )

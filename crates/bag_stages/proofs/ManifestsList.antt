@@ -62,7 +62,7 @@ module _ (bag : Bag) where
 
   -- the tag manifest that is there doesn't name the payload manifest of this text
   abbrev Lacks : Alg → List ℕ → Type 0
-  Lacks alg other = (rules_in bag ≡ V10) × HasSupported bag Tag alg × ¬ (Names bag Tag alg (manifest_name Payload other))
+  Lacks alg other = (rules_in bag ≡ V10) × (HasSupported bag Tag alg × ¬ (Names bag Tag alg (manifest_name Payload other)))
 
   abbrev IsLacking : Alg → List ℕ → Fault → Type 0
   IsLacking alg other f = Lacks alg other × (f ≡ unnamed (manifest_of Tag alg) alg (manifest_name Payload other))
@@ -76,7 +76,7 @@ module _ (bag : Bag) where
       (both_decided _ _ (true_or_not (has_file bag (manifest_of Tag alg))) (missing_or_not (named_in bag Tag alg) (manifest_name Payload other)))
 
   to_unlisted : (alg : Alg) (f : Fault) → LacksSome alg f → IsUnlisted bag Tag alg f
-  to_unlisted alg f (other, has, ((by, there, lacks), is)) =
+  to_unlisted alg f (other, has, ((by, (there, lacks)), is)) =
       subst (IsUnlisted bag Tag alg) (sym is)
       (by, refl, (other, record { path_is = refl; alg_is = refl; line_is = refl; detail_is = refl }, there, has, lacks))
 
@@ -84,7 +84,7 @@ module _ (bag : Bag) where
   from_unlisted alg f (by, code, (other, at, there, has, lacks)) = (
     other,
     has,
-    ((by, there, lacks), (λ i. record { code = code i; path = at.path_is i; alg = at.alg_is i; line = at.line_is i; detail = at.detail_is i })),
+    ((by, (there, lacks)), (λ i. record { code = code i; path = at.path_is i; alg = at.alg_is i; line = at.line_is i; detail = at.detail_is i })),
   )
 
   unlisted : (kind : Kind) (alg : Alg) → HasList (IsUnlisted bag kind alg)

@@ -4,8 +4,8 @@ use bag_profile::matches;
 use bag_store::Digests;
 use bag_tags::{Oxum, oxum_of};
 use bag_text::{
-    Alg, AlgSet, Code, Rules, check_path, escape_path, is_blank_line, is_payload, lines, same_label,
-    split_at_blanks, text_of, trim, unescape_path,
+    Alg, AlgSet, Code, Rules, check_path, escape_path, is_blank_line, is_payload, lines,
+    same_label, split_at_blanks, text_of, trim, unescape_path,
 };
 use case_files::Mistake;
 use std::alloc::Global;
