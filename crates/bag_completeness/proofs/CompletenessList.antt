@@ -1,6 +1,7 @@
 -- Every bag has a list of the faults of its completeness and of its names.
-use Rattle.std.proofs.Common.{◌≡◌, ◌⊎◌, ℕ, List, true, refl, sym, subst}
+use Rattle.std.proofs.Common.{◌≡◌, ◌⊎◌, ℕ, List, Option, None, Some, true, refl, sym, subst}
 use Rattle.bag_text.specs.Path.{is_payload_path}
+use Rattle.bag_text.specs.declared.rules.Rules.TheVariants.{V10, V097}
 use Rattle.bag_words.specs.declared.alg.Alg.{Alg}
 use Rattle.bag_words.specs.declared.code.Code.{Code}
 use Rattle.bag_words.specs.declared.code.Code.TheVariants.{PayloadFileNotListed}
@@ -8,19 +9,22 @@ use Rattle.bag_tags.specs.declared.kind.Kind.{Kind}
 use Rattle.bag_tags.specs.declared.kind.Kind.TheVariants.{Payload, Tag}
 use Rattle.bag_tree.specs.Bag.{Bag, has_file, HasFile, LacksFile}
 use Rattle.bag_fault.specs.declared.fault.Fault.{Fault}
+use Rattle.bag_facts.specs.Facts.{rules_in}
 use Rattle.bag_stages.specs.HasList.{HasList}
-use Rattle.bag_stages.specs.TagFiles.{manifest_of, named_in, HasSupported, Names}
+use Rattle.bag_stages.specs.LeftOut.{IsLeftOutByAll, IsLeftOutByOne}
+use Rattle.bag_stages.specs.TagFiles.{named_in, Names}
 use Rattle.bag_stages.proofs.BagLists.{files_listed, over_algs}
-use Rattle.bag_stages.proofs.HasLists.{Decided, true_or_not, false_or_not, both_decided, one_where, same_set, either, for_each}
-use Rattle.bag_stages.proofs.ManifestsList.{missing_or_not}
+use Rattle.bag_stages.proofs.HasLists.{Decided, true_or_not, false_or_not, both_decided, one_where, same_set, either, for_each, where_so}
+use Rattle.bag_stages.proofs.LeftOut.{v097_or_not, v10_or_not}
+use Rattle.bag_stages.proofs.LeftOutDecided.{by_all_or_not, by_one_or_not}
 use Rattle.bag_completeness.specs.ClashStage.{IsClashFault}
-use Rattle.bag_completeness.specs.CompletenessFaults.{of_file, missing_code, IsIncomplete, IsMissing, IsMissingFromSome, IsOfPath, IsUnlisted, IsUnlistedInSome}
-use Rattle.bag_completeness.specs.CompletenessStage.{CompletenessFaultsAreListed, IsOfCompleteness}
+use Rattle.bag_completeness.specs.CompletenessFaults.{of_file, missing_code, IsIncomplete, IsLeftByAll, IsLeftByOne, IsMissing, IsMissingFromSome, IsNotListed, IsOfPath, IsUnlisted, IsUnlistedInAll, IsUnlistedInSome}
+use Rattle.bag_completeness.specs.CompletenessStage.{CompletenessFaultsAreListed, IsOfCompleteness, IsPayloadFile}
 use Rattle.bag_completeness.proofs.ClashList.{clash_faults_are_listed}
 use Rattle.bag_completeness.proofs.CompletenessFaults.{either_is, is_either}
 
 -- the faults of those of some paths of which this holds
-module _ (code : Code) (alg : Alg) (IsPath D IsWrong : List ℕ → Type 0) (to : (path : List ℕ) → IsPath path → D path → IsWrong path) (from : (path : List ℕ) → IsWrong path → IsPath path × D path) where
+module _ (code : Code) (alg : Option Alg) (IsPath D IsWrong : List ℕ → Type 0) (to : (path : List ℕ) → IsPath path → D path → IsWrong path) (from : (path : List ℕ) → IsWrong path → IsPath path × D path) where
   abbrev FoundAt : List ℕ → Fault → Type 0
   FoundAt path f = D path × (f ≡ of_file code alg path)
 
@@ -34,28 +38,26 @@ module _ (code : Code) (alg : Alg) (IsPath D IsWrong : List ℕ → Type 0) (to 
 module _ (bag : Bag) where
   missing : (kind : Kind) (alg : Alg) → HasList (IsMissing bag kind alg)
   missing kind alg =
-      of_paths (missing_code kind) alg (Names bag kind alg) (LacksFile bag) _ (λ path named lacks. (named, lacks)) (λ path h. h)
+      of_paths (missing_code kind) (Some alg) (Names bag kind alg) (LacksFile bag) _ (λ path named lacks. (named, lacks)) (λ path h. h)
       (named_in bag kind alg, λ path. (λ c. c, λ c. c)) (λ path. false_or_not (has_file bag path))
 
-  -- the payload manifest that is there doesn't name this payload file
-  abbrev Lacks : Alg → List ℕ → Type 0
-  Lacks alg path = (is_payload_path path ≡ true) × (HasSupported bag Payload alg × ¬ (Names bag Payload alg path))
-
-  lacks_or_not : (alg : Alg) (path : List ℕ) → Decided (Lacks alg path)
-  lacks_or_not alg path =
-      both_decided _ _ (true_or_not (is_payload_path path))
-      (both_decided _ _ (true_or_not (has_file bag (manifest_of Payload alg))) (missing_or_not (named_in bag Payload alg) path))
+  -- payload files that are left out
+  left_out : (told : Option Alg) (IsOut : List ℕ → Type 0) → ((path : List ℕ) → Decided (IsOut path)) → HasList (IsOfPath PayloadFileNotListed told (λ path. IsPayloadFile bag path × IsOut path))
+  left_out told IsOut decided =
+      of_paths PayloadFileNotListed told (HasFile bag) (λ path. (is_payload_path path ≡ true) × IsOut path) _ (λ path has out. ((has, out.0), out.1)) (λ path h. (h.0.0, (h.0.1, h.1)))
+      (files_listed bag) (λ path. both_decided _ _ (true_or_not (is_payload_path path)) (decided path))
 
   unlisted : (alg : Alg) → HasList (IsUnlisted bag alg)
-  unlisted alg =
-      of_paths PayloadFileNotListed alg (HasFile bag) (Lacks alg) _ (λ path has lacks. ((has, lacks.0), lacks.1.0, lacks.1.1)) (λ path h. (h.0.0, (h.0.1, (h.1, h.2))))
-      (files_listed bag) (lacks_or_not alg)
+  unlisted alg = where_so (rules_in bag ≡ V10) (IsLeftByOne bag alg) (v10_or_not (rules_in bag)) (left_out (Some alg) (IsLeftOutByOne bag alg) (λ path. by_one_or_not bag path alg))
+
+  in_all : HasList (IsUnlistedInAll bag)
+  in_all = where_so (rules_in bag ≡ V097) (IsLeftByAll bag) (v097_or_not (rules_in bag)) (left_out None (IsLeftOutByAll bag) (by_all_or_not bag))
 
   incomplete : HasList (IsIncomplete bag)
   incomplete =
-      either (λ f. IsMissingFromSome bag Payload f ⊎ IsMissingFromSome bag Tag f) (IsUnlistedInSome bag)
+      either (λ f. IsMissingFromSome bag Payload f ⊎ IsMissingFromSome bag Tag f) (IsNotListed bag)
       (either (IsMissingFromSome bag Payload) (IsMissingFromSome bag Tag) (over_algs (IsMissing bag Payload) (missing Payload)) (over_algs (IsMissing bag Tag) (missing Tag)))
-      (over_algs (IsUnlisted bag) unlisted)
+      (either (IsUnlistedInSome bag) (IsUnlistedInAll bag) (over_algs (IsUnlisted bag) unlisted) in_all)
 
 pub completeness_faults_are_listed : CompletenessFaultsAreListed
 completeness_faults_are_listed bag =

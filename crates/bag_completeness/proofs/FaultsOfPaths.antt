@@ -1,5 +1,5 @@
--- The faults of paths, by the manifest of one algorithm.
-use Rattle.std.proofs.Common.{◌≡◌, ◌<◌, ◌≤◌, ◌+◌, ◌++◌, ◌∷◌, ℕ, List, [], length, take, get_or, map, refl, sym, ap, ◌∙◌, subst, Contains, append-nil}
+-- The faults of paths, by the manifest of one algorithm, or by all.
+use Rattle.std.proofs.Common.{◌≡◌, ◌<◌, ◌≤◌, ◌+◌, ◌++◌, ◌∷◌, ℕ, List, [], length, take, get_or, map, Option, refl, sym, ap, ◌∙◌, subst, Contains, append-nil}
 use Rattle.std.specs.List.Sorted.{IsStrictlySortedBy}
 use Rattle.std.specs.declared.cmp.Ordering.TheVariants.{Less}
 use Rattle.bag_text.specs.Code.{stage}
@@ -14,7 +14,7 @@ use Rattle.bag_stages.proofs.ByPath.{one_item_more, take_whole}
 use Rattle.bag_stages.proofs.InFile.{less_by_path}
 use Rattle.bag_completeness.specs.CompletenessFaults.{of_file, IsOfPath, IsOfPathAmong}
 
-module _ (code : Code) (alg : Alg) (IsWrong : List ℕ → Type 0) where
+module _ (code : Code) (alg : Option Alg) (IsWrong : List ℕ → Type 0) where
   abbrev Found : Fault → Type 0
   Found = IsOfPath code alg IsWrong
 

@@ -11,3 +11,4 @@ pub mod PayloadNamed
 pub mod PayloadNames
 pub mod Sought
 pub mod UnlistedFaults
+pub mod UnnamedFiles

@@ -8,6 +8,7 @@ use Rattle.bag_tags.specs.declared.kind.Kind.TheVariants.{Payload}
 use Rattle.bag_tree.specs.Bag.{Bag, file}
 use Rattle.bag_tree.specs.declared.listing.FileEntry.{FileEntry}
 use Rattle.bag_fault.specs.declared.fault.Fault.{Fault}
+use Rattle.bag_facts.specs.Facts.{rules_in}
 use Rattle.bag_facts.specs.TagFacts.{entry_paths, IsManifestNamed, IsReadOf}
 use Rattle.bag_facts.specs.TagReader.{AreListed}
 use Rattle.bag_facts.specs.Wanted.{paths_of}
@@ -93,7 +94,7 @@ all_named names files rest none before = subst (λ xs. AreNamed xs files) (sym (
 
 module _ (bag : Bag) (alg : Alg) where
   -- the payload manifest that was read
-  pub read_exactly : (m : Manifest) (files : List FileEntry) → IsReadOf (IsManifestNamed Payload alg) (file bag (manifest_of Payload alg)) (Some m) → AreListed bag files
+  pub read_exactly : (m : Manifest) (files : List FileEntry) → IsReadOf (IsManifestNamed (rules_in bag) Payload alg) (file bag (manifest_of Payload alg)) (Some m) → AreListed bag files
       → AreNamed (entry_paths m.entries) (paths_of files) → IsNamedExactly bag alg
   read_exactly m files read listed are = record {
     listed = λ path named. listed_file bag files path listed (are.listed path (names_entry bag Payload alg m read path named));
@@ -103,11 +104,11 @@ module _ (bag : Bag) (alg : Alg) where
   -- it is wrong about no file
   pub nothing_wrong : IsNamedExactly bag alg → (f : Fault) → ¬ (IsWrong bag alg f)
   nothing_wrong exact f (inl (is, (named, lacks))) = let clash : false ≡ true = sym lacks ∙ exact.listed f.path named in cc
-  nothing_wrong exact f (inr (is, (here, supported, lacks))) = lacks (exact.named f.path here)
+  nothing_wrong exact f (inr (by, (is, (here, (supported, lacks))))) = lacks (exact.named f.path here)
 
   pub told : (f : Fault) → IsWrong bag alg f → f.alg ≡ Some alg
   told f (inl h) = missing.told bag Payload alg f h
   told f (inr h) = unlisted.told bag alg f h
 
   pub apart : (f : Fault) → IsMissing bag Payload alg f → IsUnlisted bag alg f → ⊥
-  apart f h k = let clash : PayloadFileMissing ≡ PayloadFileNotListed = sym (ap (λ (x : Fault). x.code) h.0) ∙ ap (λ (x : Fault). x.code) k.0 in cc
+  apart f h k = let clash : PayloadFileMissing ≡ PayloadFileNotListed = sym (ap (λ (x : Fault). x.code) h.0) ∙ ap (λ (x : Fault). x.code) k.1.0 in cc

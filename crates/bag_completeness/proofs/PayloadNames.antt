@@ -22,6 +22,7 @@ use Rattle.bag_text.proofs.ListOf.{contains_back, contains_either, contains_firs
 use Rattle.bag_tags.specs.declared.kind.Kind.TheVariants.{Payload}
 use Rattle.bag_tree.specs.Bag.{Bag, file}
 use Rattle.bag_tree.specs.declared.listing.FileEntry.{FileEntry}
+use Rattle.bag_facts.specs.Facts.{rules_in}
 use Rattle.bag_facts.specs.TagFacts.{entry_paths, IsManifestNamed, IsReadOf}
 use Rattle.bag_facts.specs.TagReader.{AreListed}
 use Rattle.bag_facts.specs.Wanted.{paths_of}
@@ -78,7 +79,7 @@ module _ (names sorted : List Lent) (perm : IsPermutation names sorted) where
 -- the manifest of an algorithm, as it was read
 module _ (bag : Bag) (alg : Alg) where
   -- the names that were there, and those of a manifest
-  pub read_added : (m : Manifest) (old new : List (List ℕ)) → IsReadOf (IsManifestNamed Payload alg) (file bag (manifest_of Payload alg)) (Some m) → new ≡ old ++ entry_paths m.entries
+  pub read_added : (m : Manifest) (old new : List (List ℕ)) → IsReadOf (IsManifestNamed (rules_in bag) Payload alg) (file bag (manifest_of Payload alg)) (Some m) → new ≡ old ++ entry_paths m.entries
       → (path : List ℕ) → Contains new path ↔ (Contains old path ⊎ Names bag Payload alg path)
   read_added m old new read made path =
       rw made (
@@ -89,7 +90,7 @@ module _ (bag : Bag) (alg : Alg) where
         ]),
       )
 
-  pub nothing_added : (old : List (List ℕ)) → IsReadOf (IsManifestNamed Payload alg) (file bag (manifest_of Payload alg)) None
+  pub nothing_added : (old : List (List ℕ)) → IsReadOf (IsManifestNamed (rules_in bag) Payload alg) (file bag (manifest_of Payload alg)) None
       → (path : List ℕ) → Contains old path ↔ (Contains old path ⊎ Names bag Payload alg path)
   nothing_added old read path = (λ c. inl c, λ h. elim h [ inl a ↦ a | inr b ↦ absurd (names_nothing bag Payload alg read path b) ])
 

@@ -9,9 +9,11 @@ use Rattle.bag_tags.specs.declared.kind.Kind.{Kind}
 use Rattle.bag_tags.specs.declared.kind.Kind.TheVariants.{Payload, Tag}
 use Rattle.bag_tree.specs.Bag.{Bag, HasFile, LacksFile}
 use Rattle.bag_fault.specs.declared.fault.Fault.{Fault}
+use Rattle.bag_facts.specs.Facts.{rules_in}
 use Rattle.bag_stages.specs.FaultFields.{At}
 use Rattle.bag_stages.specs.HasList.{HasList}
-use Rattle.bag_stages.specs.TagFiles.{HasSupported, Names}
+use Rattle.bag_stages.specs.LeftOut.{IsLeftOut}
+use Rattle.bag_stages.specs.TagFiles.{Names}
 use Rattle.bag_completeness.specs.Clashes.{Clashes}
 
 -- a file of the payload
@@ -32,10 +34,9 @@ module _ (bag : Bag) (f : Fault) where
   -- every file that a manifest names is there
   CompletenessHolds PayloadFileMissing = Missing Payload
   CompletenessHolds TagFileMissing = Missing Tag
-  -- every payload manifest names every payload file
+  -- payload manifests leave out no payload file
   CompletenessHolds PayloadFileNotListed =
-      (alg : Alg) × At f f.path (Some alg) 0 []
-      × IsPayloadFile bag f.path × HasSupported bag Payload alg × ¬ (Names bag Payload alg f.path)
+      At f f.path f.alg 0 [] × IsPayloadFile bag f.path × IsLeftOut (rules_in bag) bag f.alg f.path
   -- a name that isn't the least of those with its NFC form
   CompletenessHolds NameClash =
       (least : List ℕ) × At f f.path None 0 least × Clashes (IsPayloadName bag) f.path least

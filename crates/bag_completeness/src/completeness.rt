@@ -12,6 +12,7 @@ ghost use Rattle.bag_completeness.specs.CompletenessStage.{IsSoughtInStageSix};
 use crate::clashes::clash_faults;
 use crate::missing::missing_tag_files;
 use crate::payload::payload_faults;
+use crate::unnamed::unlisted_in_all;
 use bag_facts::Facts;
 use bag_fault::Fault;
 use std::alloc::{AllocError, Global};
@@ -29,7 +30,7 @@ pub fn completeness_faults(alloc: Global, facts: &Facts) -> Result<Vec<Fault>, A
     Ok(faults)
 }
 
-/// The faults that files are missing or aren't listed, one manifest after another.
+/// The faults that files are missing or aren't listed, one manifest after another, and last those of all payload manifests.
 fn faults_of_files(alloc: Global, facts: &Facts) -> Result<Vec<Fault>, AllocError>
     ensures { IfOk result (λ faults. (bag : Bag) → IsFactsOf bag facts.now → facts.now.options.depth ≢ Declaration
         → HasEachOnce (IsIncomplete bag) faults.items) }
@@ -37,6 +38,8 @@ fn faults_of_files(alloc: Global, facts: &Facts) -> Result<Vec<Fault>, AllocErro
     let mut faults = payload_faults(alloc, facts)?;
     let mut of_tags = missing_tag_files(alloc, facts)?;
     faults.append(&mut of_tags)?;
+    let mut of_all = unlisted_in_all(alloc, facts)?;
+    faults.append(&mut of_all)?;
     Ok(faults)
 }
 

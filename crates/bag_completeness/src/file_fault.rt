@@ -1,4 +1,4 @@
-//! Faults of one file and one manifest.
+//! Faults of one file.
 ghost use Rattle.std.specs.Prelude.{◌≡◌, IfOk};
 ghost use Rattle.bag_completeness.specs.CompletenessFaults.{of_file};
 
@@ -6,11 +6,11 @@ use bag_fault::Fault;
 use bag_text::{Alg, Code, Text};
 use std::alloc::{AllocError, Global};
 
-/// The fault of a file that the manifest of an algorithm is right or wrong about.
+/// The fault of a file that the manifest of an algorithm is wrong about, or all where no algorithm is told.
 pub(crate) fn file_fault(
     alloc: Global,
     code: Code,
-    alg: Alg,
+    alg: Option<Alg>,
     path: &Text,
 ) -> Result<Fault, AllocError>
     ensures { IfOk result (λ fault. fault ≡ of_file code alg path.now) }
@@ -18,7 +18,7 @@ pub(crate) fn file_fault(
     Ok(Fault {
         code,
         path: path.copy(alloc)?,
-        alg: Some(alg),
+        alg,
         line: 0,
         detail: Text::empty(alloc),
     })

@@ -1,5 +1,5 @@
 //! The faults of a complete bag (RFC 8493, 3), of what was read of it: files that manifests name and that aren't there,
-//! payload files that payload manifests don't name, and names that differ by normal form alone.
+//! payload files that payload manifests leave out, and names that differ by normal form alone.
 //!
 //! ```
 //! let facts = Facts::read(alloc, &mut tree, options)?;
@@ -20,8 +20,10 @@ mod names;
 mod payload;
 mod seek;
 mod unlisted;
+mod unnamed;
 
 pub use completeness::{clashes_asked, completeness_faults};
 pub use missing::missing_of;
 pub use payload::is_exact;
 pub use unlisted::unlisted_of;
+pub use unnamed::unlisted_in_all;

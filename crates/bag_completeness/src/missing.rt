@@ -1,5 +1,5 @@
 //! Files that manifests name and that aren't there.
-ghost use Rattle.std.specs.Prelude.{◌≡◌, ◌≢◌, IfOk, Contains};
+ghost use Rattle.std.specs.Prelude.{◌≡◌, ◌≢◌, IfOk, Contains, Some};
 ghost use Rattle.std.specs.List.Sorted.{IsStrictlySortedBy};
 ghost use Rattle.bag_text.specs.Order.{IsListOf};
 ghost use Rattle.bag_text.specs.Text.{text_cmp};
@@ -62,7 +62,7 @@ fn missing_in(
     files: &[FileEntry],
 ) -> Result<Vec<Fault>, AllocError>
     ensures { IfOk result (λ faults. AreByPath entries.now → IsStrictlySortedBy text_cmp (paths_of files.now)
-        → IsListOf fault_cmp (IsOfPathAmong code alg (λ path. ¬ (Contains (paths_of files.now) path)) (entry_paths entries.now)) faults.items) }
+        → IsListOf fault_cmp (IsOfPathAmong code (Some alg) (λ path. ¬ (Contains (paths_of files.now) path)) (entry_paths entries.now)) faults.items) }
 {
     let mut faults = Vec::new(alloc);
     let mut rest = files;
@@ -70,7 +70,7 @@ fn missing_in(
         let (after, is_listed) = seek(rest, &entry.path);
         rest = after;
         if !is_listed {
-            faults.push(file_fault(alloc, code, alg, &entry.path)?)?;
+            faults.push(file_fault(alloc, code, Some(alg), &entry.path)?)?;
         }
     }
     Ok(faults)

@@ -10,22 +10,36 @@ ghost use Rattle.bag_facts.specs.Facts.{IsFactsOf};
 ghost use Rattle.bag_facts.specs.TagFacts.{AreByPath};
 ghost use Rattle.bag_facts.specs.Wanted.{paths_of};
 ghost use Rattle.bag_facts.specs.declared.options.Depth.TheVariants.{Declaration};
-ghost use Rattle.bag_completeness.specs.CompletenessFaults.{IsUnlisted, IsUnlistedAmong};
+ghost use Rattle.bag_completeness.specs.CompletenessFaults.{IsLeftByOne, IsUnlisted, IsUnlistedAmong};
 
 use crate::file_fault::file_fault;
 use crate::seek::seek;
 use bag_facts::{Facts, Manifest};
 use bag_fault::Fault;
 use bag_tags::Kind;
-use bag_text::{Alg, Code, Text, is_payload};
+use bag_text::{Alg, Code, Rules, Text, is_payload};
 use bag_tree::FileEntry;
 use std::alloc::{AllocError, Global};
 
 /// The faults that the payload manifest of an algorithm doesn't name payload files, where it is there, in the order of their
-/// paths. The facts are read for more than the declaration. Fails only where memory runs out.
+/// paths; none by the rules of 0.97, which don't ask each manifest for each file. The facts are read for more than the
+/// declaration. Fails only where memory runs out.
 pub fn unlisted_of(alloc: Global, facts: &Facts, alg: Alg) -> Result<Vec<Fault>, AllocError>
     ensures { IfOk result (λ faults. (bag : Bag) → IsFactsOf bag facts.now → facts.now.options.depth ≢ Declaration
         → IsListOf fault_cmp (IsUnlisted bag alg) faults.items) }
+{
+    let is_asked = facts.rules() == Rules::V10;
+    if is_asked {
+        left_by_one(alloc, facts, alg)
+    } else {
+        Ok(Vec::new(alloc))
+    }
+}
+
+/// The faults that the payload manifest of an algorithm doesn't name payload files, where it is there.
+fn left_by_one(alloc: Global, facts: &Facts, alg: Alg) -> Result<Vec<Fault>, AllocError>
+    ensures { IfOk result (λ faults. (bag : Bag) → IsFactsOf bag facts.now → facts.now.options.depth ≢ Declaration
+        → IsListOf fault_cmp (IsLeftByOne bag alg) faults.items) }
 {
     let files = facts.listing.files.as_slice();
     match facts.manifest(Kind::Payload, alg) {
@@ -50,7 +64,7 @@ fn unlisted_in(
         rest = after;
         if is_unlisted(&entry.path, is_named) {
             let code = Code::PayloadFileNotListed;
-            faults.push(file_fault(alloc, code, manifest.alg, &entry.path)?)?;
+            faults.push(file_fault(alloc, code, Some(manifest.alg), &entry.path)?)?;
         }
     }
     Ok(faults)

@@ -17,6 +17,7 @@ use Rattle.bag_profile.specs.declared.label.LabelRule.{LabelRule}
 use Rattle.bag_profile.specs.declared.rule.ListRule.TheVariants.{TagFilesRequired, TagFilesAllowed, AcceptBagItVersion}
 use Rattle.bag_profile.specs.declared.terms.Serialization.TheVariants.{Required}
 use Rattle.bag_stages.specs.FaultFields.{At}
+use Rattle.bag_facts.specs.Facts.{rules_in}
 use Rattle.bag_stages.specs.HasList.{HasList}
 use Rattle.bag_stages.specs.Metadata.{bag_info_txt, HasElement, HasLater, IsElementOf}
 use Rattle.bag_stages.specs.MetadataStage.{pair}
@@ -35,8 +36,8 @@ module _ (bag : Bag) where
   of_label : (label : List ℕ) → HasList (HasElement bag label)
   of_label label =
       let all = lines_in bag bag_info_txt in
-      picked (IsElement all) (λ e. same_label e.label label ≡ true) (λ e. true_or_not (same_label e.label label))
-      (reading.elements (enumerate_from 1 all), (elements_of all).members)
+      picked (IsElement (rules_in bag) all) (λ e. same_label e.label label ≡ true) (λ e. true_or_not (same_label e.label label))
+      (reading.elements (rules_in bag) (enumerate_from 1 all), (elements_of (rules_in bag) all).members)
 
   none_or_one : (label : List ℕ) → Decided ((e : Element) → ¬ (HasElement bag label e))
   none_or_one label = none_decided (HasElement bag label) (of_label label)
@@ -45,7 +46,7 @@ module _ (bag : Bag) where
   IsBefore label line d = HasElement bag label d × (d.line < line)
 
   abbrev HasBefore : List ℕ → ℕ → Type 0
-  HasBefore label line = (d : Element) × IsElementOf label (lines_in bag bag_info_txt) d × (d.line < line)
+  HasBefore label line = (d : Element) × IsElementOf (rules_in bag) label (lines_in bag bag_info_txt) d × (d.line < line)
 
   before_or_not : (label : List ℕ) (line : ℕ) → Decided (HasBefore label line)
   before_or_not label line =

@@ -13,6 +13,7 @@ use Rattle.bag_line.proofs.InfoElements.{elements_of}
 use Rattle.bag_line.proofs.PickedOut.{any_from, from_any}
 use Rattle.bag_tree.specs.Bag.{Bag, file}
 use Rattle.bag_fault.specs.declared.fault.Fault.{Fault}
+use Rattle.bag_facts.specs.Facts.{rules_in}
 use Rattle.bag_facts.specs.TagFacts.{IsReadOf, IsMetadataOf}
 use Rattle.bag_facts.specs.declared.metadata.Metadata.{Metadata}
 use Rattle.bag_facts.proofs.Mapped.{kept, passed}
@@ -48,24 +49,24 @@ lent_any p [] = refl
 lent_any p (x ∷ xs) = ap (λ b. p x.now || b) (lent_any p xs)
 
 module _ (bag : Bag) where
-  no_elements_by : (content : Option (List ℕ)) → file bag bag_info_txt ≡ content → IsReadOf IsMetadataOf content None → IsListOf by_line (IsElement (lines_in bag bag_info_txt)) []
-  no_elements_by None none read = subst (λ all. IsListOf by_line (IsElement all) []) (sym (ap lines_or_none none)) (elements_of [])
+  no_elements_by : (content : Option (List ℕ)) → file bag bag_info_txt ≡ content → IsReadOf (IsMetadataOf (rules_in bag)) content None → IsListOf by_line (IsElement (rules_in bag) (lines_in bag bag_info_txt)) []
+  no_elements_by None none read = subst (λ all. IsListOf by_line (IsElement (rules_in bag) all) []) (sym (ap lines_or_none none)) (elements_of (rules_in bag) [])
   no_elements_by (Some bytes) there read = absurd read
 
   -- there are none where the file isn't there
-  pub no_elements : IsReadOf IsMetadataOf (file bag bag_info_txt) None → IsListOf by_line (IsElement (lines_in bag bag_info_txt)) []
+  pub no_elements : IsReadOf (IsMetadataOf (rules_in bag)) (file bag bag_info_txt) None → IsListOf by_line (IsElement (rules_in bag) (lines_in bag bag_info_txt)) []
   no_elements read = no_elements_by (file bag bag_info_txt) refl read
 
-  some_elements_by : (content : Option (List ℕ)) (metadata : Metadata) → file bag bag_info_txt ≡ content → IsReadOf IsMetadataOf content (Some metadata)
-      → IsListOf by_line (IsElement (lines_in bag bag_info_txt)) metadata.elements
+  some_elements_by : (content : Option (List ℕ)) (metadata : Metadata) → file bag bag_info_txt ≡ content → IsReadOf (IsMetadataOf (rules_in bag)) content (Some metadata)
+      → IsListOf by_line (IsElement (rules_in bag) (lines_in bag bag_info_txt)) metadata.elements
   some_elements_by None metadata none read = absurd read
-  some_elements_by (Some bytes) metadata there read = subst (λ all. IsListOf by_line (IsElement all) metadata.elements) (sym (ap lines_or_none there)) read.elements
+  some_elements_by (Some bytes) metadata there read = subst (λ all. IsListOf by_line (IsElement (rules_in bag) all) metadata.elements) (sym (ap lines_or_none there)) read.elements
 
-  pub some_elements : (metadata : Metadata) → IsReadOf IsMetadataOf (file bag bag_info_txt) (Some metadata) → IsListOf by_line (IsElement (lines_in bag bag_info_txt)) metadata.elements
+  pub some_elements : (metadata : Metadata) → IsReadOf (IsMetadataOf (rules_in bag)) (file bag bag_info_txt) (Some metadata) → IsListOf by_line (IsElement (rules_in bag) (lines_in bag bag_info_txt)) metadata.elements
   some_elements metadata read = some_elements_by (file bag bag_info_txt) metadata refl read
 
   -- the elements of a label among all
-  pub labelled_are : (elements : List Element) → IsListOf by_line (IsElement (lines_in bag bag_info_txt)) elements → (label : List ℕ) → AreOf bag label (labelled label elements)
+  pub labelled_are : (elements : List Element) → IsListOf by_line (IsElement (rules_in bag) (lines_in bag bag_info_txt)) elements → (label : List ℕ) → AreOf bag label (labelled label elements)
   labelled_are elements list label = record {
     ascending = IsStrictlySortedBy-filter by_line (λ e. same_label e.label label) elements list.ascending;
     members = λ e. (

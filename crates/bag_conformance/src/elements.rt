@@ -5,7 +5,7 @@ ghost use Rattle.std.specs.Ordering.{nat_cmp, on};
 ghost use Rattle.bag_text.specs.Order.{IsListOf};
 ghost use Rattle.bag_line.specs.Info.{IsElement};
 ghost use Rattle.bag_tree.specs.Bag.{Bag};
-ghost use Rattle.bag_facts.specs.Facts.{IsFactsOf};
+ghost use Rattle.bag_facts.specs.Facts.{rules_in, IsFactsOf};
 ghost use Rattle.bag_facts.specs.declared.options.Depth.TheVariants.{Declaration};
 ghost use Rattle.bag_profile.specs.TextSet.{IsAscending};
 ghost use Rattle.bag_stages.specs.Metadata.{bag_info_txt};
@@ -47,7 +47,7 @@ pub(crate) fn element_faults(
 /// The elements in line order; none where the file isn't there.
 fn elements_of(facts: &Facts) -> &[Element]
     ensures { (bag : Bag) → IsFactsOf bag facts.now → facts.now.options.depth ≢ Declaration
-        → IsListOf (on (λ e. e.line) nat_cmp) (IsElement (lines_in bag bag_info_txt)) result.now }
+        → IsListOf (on (λ e. e.line) nat_cmp) (IsElement (rules_in bag) (lines_in bag bag_info_txt)) result.now }
 {
     match facts.metadata() {
         Some(metadata) => metadata.elements.as_slice(),

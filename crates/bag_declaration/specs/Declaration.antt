@@ -1,5 +1,5 @@
 -- The declaration, bagit.txt (RFC 8493, 2.1.1).
-use Rattle.std.specs.Prelude.{ℕ, ◌≡◌, ◌≢◌, ◌⊎◌, ◌==◌, ◌&&◌, Bool, true, false, not, List, [], length, Option, Some, None, bytes_eq, codes, decimal, if◌then◌else◌, option_and_then, slice_get}
+use Rattle.std.specs.Prelude.{ℕ, ◌≡◌, ◌≢◌, ◌⊎◌, ◌==◌, ◌&&◌, ◌||◌, Bool, true, false, not, List, [], length, Option, Some, None, bytes_eq, codes, decimal, if◌then◌else◌, option_and_then, slice_get}
 use Rattle.std.specs.Str.{byte}
 use Rattle.std.specs.List.{before_first, after_first, list_all}
 use Rattle.bag_text.specs.Text.{IsText, IsNoText, after_prefix, has_mark, is_blank, same_label}
@@ -38,7 +38,7 @@ abbrev pub declared_encoding : List ℕ → Option (List ℕ)
 declared_encoding bytes = option_and_then encoding_of (slice_get (lines_of_file bytes) 1)
 
 abbrev pub is_supported_version : List ℕ → Bool
-is_supported_version version = bytes_eq version (codes "1.0")
+is_supported_version version = bytes_eq version (codes "1.0") || bytes_eq version (codes "0.97")
 
 -- line k is there and doesn't read
 abbrev pub IsUnread : (List ℕ → Option (List ℕ)) → List ℕ → ℕ → Type 0

@@ -2,6 +2,7 @@
 ghost use Rattle.std.specs.Prelude.{◌≡◌, ◌∷◌, [], IfOk, length, slice_get, option_and_then};
 ghost use Rattle.std.specs.Option.{option_copied};
 ghost use Rattle.bag_text.specs.Lines as cut;
+ghost use Rattle.bag_text.specs.Rules.{rules_of};
 ghost use Rattle.bag_declaration.specs.Declaration as spec;
 ghost use Rattle.bag_declaration.specs.DeclarationFaults.{utf8_fault, text_faults};
 ghost use Rattle.bag_line.specs.LineFault.{AreFaults};
@@ -9,7 +10,7 @@ ghost use Rattle.bag_line.specs.LineFault.{AreFaults};
 use crate::declaration_faults::{text_faults, utf8_faults};
 use crate::declaration_line::{encoding_of, version_of};
 use bag_line::LineFault;
-use bag_text::{Items, Text, lines, text_of};
+use bag_text::{Items, Rules, Text, lines, text_of};
 use std::alloc::{AllocError, Global};
 
 /// What `bagit.txt` declares (RFC 8493, 2.1.1), and what is wrong with it, in line order.
@@ -34,6 +35,24 @@ pub fn read_declaration(alloc: Global, bytes: &[u8]) -> Result<Declaration, Allo
         Ok(text) => read_text(alloc, bytes, text),
         Err(_) => unread(alloc),
     }
+}
+
+/// The rules by which a bag is judged whose `bagit.txt` has these bytes. Takes no memory.
+pub fn declared_rules(bytes: &[u8]) -> Rules
+    ensures { result ≡ rules_of (spec.declared_version bytes.now) }
+{
+    match text_of(bytes) {
+        Ok(text) => rules_of_text(text),
+        Err(_) => Rules::V10,
+    }
+}
+
+/// The rules that a text declares.
+fn rules_of_text(text: &str) -> Rules
+    ensures { result ≡ rules_of (option_and_then spec.version_of (slice_get (cut.lines text.now) 0)) }
+{
+    let (first, _, _) = first_lines(text);
+    Rules::of_version(declared_version(first))
 }
 
 /// Nothing is read in bytes that aren't UTF-8.

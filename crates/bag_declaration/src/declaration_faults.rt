@@ -99,7 +99,7 @@ fn push_version_fault(
     let Some(version) = version else {
         return push(alloc, faults, 1, Code::DeclarationLine, "");
     };
-    if version == "1.0" {
+    if version == "1.0" || version == "0.97" {
         Ok(())
     } else {
         push(alloc, faults, 1, Code::VersionUnsupported, version)

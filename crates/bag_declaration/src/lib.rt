@@ -15,4 +15,4 @@ mod declaration_faults;
 mod declaration_line;
 pub mod laws;
 
-pub use declaration::{Declaration, read_declaration};
+pub use declaration::{Declaration, declared_rules, read_declaration};

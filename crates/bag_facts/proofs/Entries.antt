@@ -11,6 +11,7 @@ use Rattle.std.specs.declared.cmp.Ordering.TheVariants.{Less, Equal}
 use Rattle.bag_text.specs.Text.{text_cmp}
 use Rattle.bag_text.specs.Lines.{lines_of_file}
 use Rattle.bag_text.specs.Order.{IsListOf}
+use Rattle.bag_text.specs.declared.rules.Rules.{Rules}
 use Rattle.bag_words.specs.declared.alg.Alg.{Alg}
 use Rattle.bag_tags.specs.declared.kind.Kind.{Kind}
 use Rattle.bag_line.specs.declared.fault.LineFault.{LineFault}
@@ -29,12 +30,12 @@ never_less : (n : ℕ) → nat_cmp n n ≢ Less
 never_less n less = let clash : Less ≡ Equal = sym less ∙ tied_itself nat_cmp_total n in cc
 
 -- what was parsed and sorted is what the bytes say
-pub parsed_is : (kind : Kind) (alg : Alg) (bytes : List ℕ) (is_text : Bool) (items entries : List ManifestEntry) (faults : List LineFault) → is_text ≡ is_utf8 bytes
-    → IsListOf (on (λ e. e.line) nat_cmp) (IsEntry kind alg (lines_of_file bytes)) items → IsPermutation items entries → IsSortedByKey (λ e. e.path) text_cmp entries
-    → AreFaults (IsManifestFault kind alg bytes) faults → IsManifestOf bytes (record { kind = kind; alg = alg; is_text = is_text; entries = entries; faults = faults })
-parsed_is kind alg bytes is_text items entries faults text list perm sorted wrong = record {
+pub parsed_is : (rules : Rules) (kind : Kind) (alg : Alg) (bytes : List ℕ) (is_text : Bool) (items entries : List ManifestEntry) (faults : List LineFault) → is_text ≡ is_utf8 bytes
+    → IsListOf (on (λ e. e.line) nat_cmp) (IsEntry rules kind alg (lines_of_file bytes)) items → IsPermutation items entries → IsSortedByKey (λ e. e.path) text_cmp entries
+    → AreFaults (IsManifestFault rules kind alg bytes) faults → IsManifestOf rules bytes (record { kind = kind; alg = alg; is_text = is_text; entries = entries; faults = faults })
+parsed_is rules kind alg bytes is_text items entries faults text list perm sorted wrong = record {
   text = text;
-  entries = sorted_once (λ e. e.path) (on (λ e. e.line) nat_cmp) (IsEntry kind alg (lines_of_file bytes)) (λ e. never_less e.line) (entry_of_path_once kind alg (lines_of_file bytes)) items entries some_entry list perm sorted;
+  entries = sorted_once (λ e. e.path) (on (λ e. e.line) nat_cmp) (IsEntry rules kind alg (lines_of_file bytes)) (λ e. never_less e.line) (entry_of_path_once rules kind alg (lines_of_file bytes)) items entries some_entry list perm sorted;
   faults = wrong;
 }
 

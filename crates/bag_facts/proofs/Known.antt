@@ -10,7 +10,8 @@ use Rattle.bag_tree.specs.Listing.{IsOrdered, HasItsFolder, IsListingOf, size_at
 use Rattle.bag_tree.specs.Tree.{TreeState, Keeps}
 use Rattle.bag_tree.specs.declared.listing.FileEntry.{FileEntry}
 use Rattle.bag_tree.specs.declared.listing.Listing.{Listing}
-use Rattle.bag_facts.specs.Facts.{AreParsed, IsFactsOf}
+use Rattle.bag_facts.specs.Facts.{AreJudged, IsFactsOf}
+use Rattle.bag_facts.specs.TagFacts.{Says}
 use Rattle.bag_facts.specs.TagReader.{AreTexts, IsWhole, read_path}
 use Rattle.bag_facts.specs.Wanted.{IsWanted, AreWanted, paths_of}
 use Rattle.bag_facts.specs.declared.facts.Facts.{Facts}
@@ -18,29 +19,35 @@ use Rattle.bag_facts.specs.declared.options.Options.{Options}
 use Rattle.bag_facts.specs.declared.tag_reader.TagBytes.{TagBytes}
 use Rattle.bag_facts.proofs.ListedFiles.{file_listed, listed_file}
 use Rattle.bag_facts.proofs.Parsed.{same_paths, parsed_from}
+use Rattle.bag_facts.proofs.RulesRead.{rules_known}
 use Rattle.bag_facts.proofs.Seen.{seen_bag, listing_seen, read_seen}
 use Rattle.bag_facts.proofs.SeenBag.{seen_is_bag}
 
-pub known : (bag : Bag) (facts : Facts) (read : List TagBytes) → IsOrdered facts.listing.files → IsListingOf bag facts.listing → AreParsed read facts.tags
+pub known : (bag : Bag) (facts : Facts) (read : List TagBytes) → IsOrdered facts.listing.files → IsListingOf bag facts.listing → AreJudged read facts.tags
     → AreWanted facts.options facts.listing.files (map read_path read) → ((one : TagBytes) → Contains read one → file bag (read_path one) ≡ Some one.bytes.items) → IsFactsOf bag facts
-known bag facts read ordered listing parsed wanted are =
-    let files = facts.listing.files in record {
+known bag facts read ordered listing judged wanted are =
+    let files = facts.listing.files in
+    let rules = judged.0 in
+    let parsed = judged.2 in record {
       ordered = ordered;
       listing = listing;
-      tags = subst (IsListOf text_cmp (λ path. IsWanted facts.options path × HasFile bag path)) (sym (same_paths read facts.tags parsed))
+      tags = subst (IsListOf text_cmp (λ path. IsWanted facts.options path × HasFile bag path)) (sym (same_paths rules read facts.tags parsed))
           (same_members text_cmp (λ path. IsWanted facts.options path × Contains (paths_of files) path) _ (map read_path read)
           (λ path h. (h.0, listed_file bag files path listing.files h.1)) (λ path h. (h.0, file_listed bag files path listing.files h.1)) wanted);
       said = λ tag c.
-          let from = parsed_from read facts.tags tag parsed c in
-          (from.0.bytes.items, ap (λ name. file bag (tag_path name)) from.2.name ∙ are from.0 from.1, from.2.says);
+          let from = parsed_from rules read facts.tags tag parsed c in (
+            from.0.bytes.items,
+            ap (λ name. file bag (tag_path name)) from.2.name ∙ are from.0 from.1,
+            subst (λ by. Says by from.0.bytes.items tag) (rules_known bag facts.options files read listing.files wanted are rules judged.1) from.2.says,
+          );
     }
 
 -- the same, where the facts were made of these options and this listing
 module _ (facts : Facts) (options : Options) (listing : Listing) (files : List FileEntry) (read : List TagBytes) (options_are : facts.options ≡ options) (listing_is : facts.listing ≡ listing)
-    (files_are : files ≡ listing.files) (ordered : IsOrdered listing.files) (parsed : AreParsed read facts.tags) (wanted : AreWanted options files (map read_path read)) where
+    (files_are : files ≡ listing.files) (ordered : IsOrdered listing.files) (judged : AreJudged read facts.tags) (wanted : AreWanted options files (map read_path read)) where
   pub known_of : (bag : Bag) → IsListingOf bag listing → ((one : TagBytes) → Contains read one → file bag (read_path one) ≡ Some one.bytes.items) → IsFactsOf bag facts
   known_of bag listed are =
-      known bag facts read (subst (λ (l : Listing). IsOrdered l.files) (sym listing_is) ordered) (subst (IsListingOf bag) (sym listing_is) listed) parsed
+      known bag facts read (subst (λ (l : Listing). IsOrdered l.files) (sym listing_is) ordered) (subst (IsListingOf bag) (sym listing_is) listed) judged
       (subst (λ chosen. AreWanted chosen facts.listing.files (map read_path read)) (sym options_are)
       (subst (λ some. AreWanted options some (map read_path read)) (files_are ∙ sym (ap (λ (l : Listing). l.files) listing_is)) wanted))
       are

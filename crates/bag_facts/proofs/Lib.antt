@@ -10,6 +10,7 @@ pub mod Opens
 pub mod Parsed
 pub mod PassedOn
 pub mod Reading
+pub mod RulesRead
 pub mod Seen
 pub mod SeenBag
 pub mod SeenFolders

@@ -1,7 +1,13 @@
 -- What is read of a bag.
-use Rattle.std.specs.Prelude.{◌≡◌, ℕ, List, [], ◌∷◌, Some, Contains, map}
+use Rattle.std.specs.Prelude.{◌≡◌, ◌⊎◌, ℕ, List, [], ◌∷◌, Some, Any, Contains, map, option_and_then}
 use Rattle.bag_text.specs.Text.{text_cmp}
 use Rattle.bag_text.specs.Order.{IsListOf}
+use Rattle.bag_text.specs.Rules.{rules_of}
+use Rattle.bag_text.specs.declared.rules.Rules.{Rules}
+use Rattle.bag_text.specs.declared.rules.Rules.TheVariants.{V10}
+use Rattle.bag_declaration.specs.Declaration.{declared_version}
+use Rattle.bag_tags.specs.TagName.{tag_path}
+use Rattle.bag_tags.specs.declared.tag_name.TagName.TheVariants.{Declaration}
 use Rattle.bag_tree.specs.Bag.{Bag, file, HasFile}
 use Rattle.bag_tree.specs.Listing.{IsOrdered, IsListingOf}
 use Rattle.bag_facts.specs.TagFacts.{path_of, Says, IsParsed}
@@ -10,9 +16,14 @@ use Rattle.bag_facts.specs.declared.facts.Facts.{Facts}
 use Rattle.bag_facts.specs.declared.tag_facts.TagFacts.{TagFacts}
 use Rattle.bag_facts.specs.declared.tag_reader.TagBytes.{TagBytes}
 
--- what is known of a tag file is what its bytes in the bag say
+-- the rules by which a bag is judged: those of the version that its declaration declares, and those of 1.0 where it
+-- declares none
+unfoldable pub rules_in : Bag → Rules
+rules_in bag = rules_of (option_and_then declared_version (file bag (tag_path Declaration)))
+
+-- what is known of a tag file is what its bytes in the bag say, by the bag's rules
 abbrev pub IsSaid : Bag → TagFacts → Type 0
-IsSaid bag tag = (bytes : List ℕ) × (file bag (path_of tag) ≡ Some bytes) × Says bytes tag
+IsSaid bag tag = (bytes : List ℕ) × (file bag (path_of tag) ≡ Some bytes) × Says (rules_in bag) bytes tag
 
 -- The facts are those of the bag: the listing is its files, and the tags are exactly the wanted tag files that are there,
 -- in path order, each with what its bytes say.
@@ -22,9 +33,19 @@ pub record IsFactsOf (bag : Bag) (facts : Facts) : Type 0 where
   pub tags : IsListOf text_cmp (λ path. IsWanted facts.options path × HasFile bag path) (map path_of facts.tags)
   pub said : (tag : TagFacts) → Contains facts.tags tag → IsSaid bag tag
 
--- what is known of tag files, one for each that was read, is what their bytes say
-abbrev pub AreParsed : List TagBytes → List TagFacts → Type 0
-AreParsed [] [] = Unit {0}
-AreParsed (file ∷ read) (tag ∷ tags) = IsParsed file tag × AreParsed read tags
-AreParsed [] (tag ∷ tags) = ⊥
-AreParsed (file ∷ read) [] = ⊥
+-- the rules that the declaration among files that were read tells, and those of 1.0 where it isn't among them
+abbrev pub AreRulesOf : List TagBytes → Rules → Type 0
+AreRulesOf read rules =
+    ((¬ (Any (λ file. file.name ≡ Declaration) read)) × (rules ≡ V10))
+    ⊎ ((file : TagBytes) × Contains read file × (file.name ≡ Declaration) × (rules ≡ rules_of (declared_version file.bytes.items)))
+
+-- what is known of tag files, one for each that was read, is what their bytes say by the rules
+abbrev pub AreParsed : Rules → List TagBytes → List TagFacts → Type 0
+AreParsed rules [] [] = Unit {0}
+AreParsed rules (file ∷ read) (tag ∷ tags) = IsParsed rules file tag × AreParsed rules read tags
+AreParsed rules [] (tag ∷ tags) = ⊥
+AreParsed rules (file ∷ read) [] = ⊥
+
+-- so it is by the rules that they tell themselves
+abbrev pub AreJudged : List TagBytes → List TagFacts → Type 0
+AreJudged read tags = (rules : Rules) × AreRulesOf read rules × AreParsed rules read tags

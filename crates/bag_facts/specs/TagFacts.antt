@@ -6,6 +6,7 @@ use Rattle.std.specs.Str.{is_utf8}
 use Rattle.bag_text.specs.Text.{text_cmp}
 use Rattle.bag_text.specs.Lines.{lines_of_file}
 use Rattle.bag_text.specs.Order.{IsListOf}
+use Rattle.bag_text.specs.declared.rules.Rules.{Rules}
 use Rattle.bag_words.specs.declared.alg.Alg.{Alg}
 use Rattle.bag_declaration.specs.Declaration.{declared_version, declared_encoding, IsDeclarationFault}
 use Rattle.bag_line.specs.Fetch.{IsFetch, IsFetchFault}
@@ -31,23 +32,23 @@ pub record IsDeclarationOf (bytes : List ℕ) (declaration : Declaration) : Type
   pub encoding : declaration.encoding ≡ declared_encoding bytes
   pub faults : AreFaults (IsDeclarationFault bytes) declaration.faults
 
--- what is known of the metadata is what these bytes say
-pub record IsMetadataOf (bytes : List ℕ) (metadata : Metadata) : Type 0 where
+-- what is known of the metadata is what these bytes say by the rules
+pub record IsMetadataOf (rules : Rules) (bytes : List ℕ) (metadata : Metadata) : Type 0 where
   pub text : metadata.is_text ≡ is_utf8 bytes
-  pub elements : IsListOf (on (λ e. e.line) nat_cmp) (IsElement (lines_of_file bytes)) metadata.elements
-  pub faults : AreFaults (IsInfoFault bytes) metadata.faults
+  pub elements : IsListOf (on (λ e. e.line) nat_cmp) (IsElement rules (lines_of_file bytes)) metadata.elements
+  pub faults : AreFaults (IsInfoFault rules bytes) metadata.faults
 
--- what is known of the list of files to fetch is what these bytes say
-pub record IsFetchListOf (bytes : List ℕ) (list : FetchList) : Type 0 where
+-- what is known of the list of files to fetch is what these bytes say by the rules
+pub record IsFetchListOf (rules : Rules) (bytes : List ℕ) (list : FetchList) : Type 0 where
   pub text : list.is_text ≡ is_utf8 bytes
-  pub entries : IsListOf (on (λ e. e.line) nat_cmp) (IsFetch (lines_of_file bytes)) list.entries
-  pub faults : AreFaults (IsFetchFault bytes) list.faults
+  pub entries : IsListOf (on (λ e. e.line) nat_cmp) (IsFetch rules (lines_of_file bytes)) list.entries
+  pub faults : AreFaults (IsFetchFault rules bytes) list.faults
 
--- what is known of a manifest is what its bytes say
-pub record IsManifestOf (bytes : List ℕ) (manifest : Manifest) : Type 0 where
+-- what is known of a manifest is what its bytes say by the rules
+pub record IsManifestOf (rules : Rules) (bytes : List ℕ) (manifest : Manifest) : Type 0 where
   pub text : manifest.is_text ≡ is_utf8 bytes
-  pub entries : IsListOf (on (λ e. e.path) text_cmp) (IsEntry manifest.kind manifest.alg (lines_of_file bytes)) manifest.entries
-  pub faults : AreFaults (IsManifestFault manifest.kind manifest.alg bytes) manifest.faults
+  pub entries : IsListOf (on (λ e. e.path) text_cmp) (IsEntry rules manifest.kind manifest.alg (lines_of_file bytes)) manifest.entries
+  pub faults : AreFaults (IsManifestFault rules manifest.kind manifest.alg bytes) manifest.faults
 
 -- the tag file that it is
 abbrev pub name_of : TagFacts → TagName
@@ -60,17 +61,17 @@ name_of (facts.Manifest manifest) = name.Manifest manifest.kind manifest.alg
 abbrev pub path_of : TagFacts → List ℕ
 path_of tag = tag_path (name_of tag)
 
--- the bytes say what is known
-abbrev pub Says : List ℕ → TagFacts → Type 0
-Says bytes (facts.Declaration declaration) = IsDeclarationOf bytes declaration
-Says bytes (facts.Info metadata) = IsMetadataOf bytes metadata
-Says bytes (facts.Fetch list) = IsFetchListOf bytes list
-Says bytes (facts.Manifest manifest) = IsManifestOf bytes manifest
+-- the bytes say what is known, by the rules; the declaration is read alike by all rules
+abbrev pub Says : Rules → List ℕ → TagFacts → Type 0
+Says rules bytes (facts.Declaration declaration) = IsDeclarationOf bytes declaration
+Says rules bytes (facts.Info metadata) = IsMetadataOf rules bytes metadata
+Says rules bytes (facts.Fetch list) = IsFetchListOf rules bytes list
+Says rules bytes (facts.Manifest manifest) = IsManifestOf rules bytes manifest
 
 -- what is known of a tag file that was read is what its bytes say
-pub record IsParsed (file : TagBytes) (tag : TagFacts) : Type 0 where
+pub record IsParsed (rules : Rules) (file : TagBytes) (tag : TagFacts) : Type 0 where
   pub name : name_of tag ≡ file.name
-  pub says : Says file.bytes.items tag
+  pub says : Says rules file.bytes.items tag
 
 -- whether it is UTF-8, but for the declaration, of which its faults tell
 abbrev pub text_test : TagFacts → Option Bool
@@ -87,12 +88,12 @@ IsReadOf IsOf None (Some x) = ⊥
 IsReadOf IsOf (Some bytes) None = ⊥
 
 -- what is known of this tag file is what its bytes say
-abbrev pub IsNamed : TagName → List ℕ → TagFacts → Type 0
-IsNamed name bytes tag = Says bytes tag × (name_of tag ≡ name)
+abbrev pub IsNamed : Rules → TagName → List ℕ → TagFacts → Type 0
+IsNamed rules name bytes tag = Says rules bytes tag × (name_of tag ≡ name)
 
 -- the manifest of this kind and algorithm, and what is known of it is what its bytes say
-abbrev pub IsManifestNamed : Kind → Alg → List ℕ → Manifest → Type 0
-IsManifestNamed kind alg bytes manifest = IsManifestOf bytes manifest × (manifest.kind ≡ kind) × (manifest.alg ≡ alg)
+abbrev pub IsManifestNamed : Rules → Kind → Alg → List ℕ → Manifest → Type 0
+IsManifestNamed rules kind alg bytes manifest = IsManifestOf rules bytes manifest × (manifest.kind ≡ kind) × (manifest.alg ≡ alg)
 
 -- the paths of entries
 abbrev pub entry_paths : List ManifestEntry → List (List ℕ)
@@ -103,7 +104,7 @@ abbrev pub AreByPath : List ManifestEntry → Type 0
 AreByPath entries = IsStrictlySortedBy (on (λ entry. entry.path) text_cmp) entries
 
 -- these are the entries of a manifest with these bytes, in the order of their paths; none where it isn't there
-abbrev pub AreEntriesOf : Kind → Alg → Option (List ℕ) → List ManifestEntry → Type 0
-AreEntriesOf kind alg None entries = entries ≡ []
-AreEntriesOf kind alg (Some bytes) entries =
-    IsListOf (on (λ entry. entry.path) text_cmp) (IsEntry kind alg (lines_of_file bytes)) entries
+abbrev pub AreEntriesOf : Rules → Kind → Alg → Option (List ℕ) → List ManifestEntry → Type 0
+AreEntriesOf rules kind alg None entries = entries ≡ []
+AreEntriesOf rules kind alg (Some bytes) entries =
+    IsListOf (on (λ entry. entry.path) text_cmp) (IsEntry rules kind alg (lines_of_file bytes)) entries

@@ -2,11 +2,12 @@
 ghost use Rattle.std.specs.Prelude.{◌≡◌, ◌≢◌, ◌⊎◌, ◌↔◌, [], IsTrue, IfOk, IfErr, OnOk, OnErr, MatchOption, Any, Contains, codes};
 ghost use Rattle.std.specs.Option.{option_copied};
 ghost use Rattle.bag_words.specs.declared.alg.Alg.{Alg as Named};
+ghost use Rattle.bag_text.specs.Rules.{rules_of};
 ghost use Rattle.bag_tags.specs.TagName.{tag_path};
 ghost use Rattle.bag_tags.specs.declared.tag_name.TagName.TheVariants as file_of;
 ghost use Rattle.bag_tree.specs.Bag.{Bag, IsBag, HasFile, file};
 ghost use Rattle.bag_tree.specs.Tree.{Keeps};
-ghost use Rattle.bag_facts.specs.Facts.{AreParsed};
+ghost use Rattle.bag_facts.specs.Facts.{rules_in, AreJudged, AreParsed, AreRulesOf};
 ghost use Rattle.bag_facts.specs.TagFacts.{name_of, AreEntriesOf, IsReadOf, IsDeclarationOf, IsMetadataOf, IsFetchListOf, IsManifestNamed, IsNamed};
 ghost use Rattle.bag_facts.specs.Wanted.{ForListing, OpensAll, OpensFirst, OpensUpTo, OpensWanted, Wants};
 ghost use Rattle.bag_facts.specs.declared.options.Depth.TheVariants as depth_of;
@@ -15,8 +16,8 @@ ghost use Rattle.bag_facts.specs.Stops.{MayStopReading};
 use crate::listed_manifest::has_manifest;
 use crate::tag_reader::{TagBytes, read_tag_files};
 use crate::{Depth, FetchList, Manifest, Metadata, Options, TagFacts};
-use bag_tags::{Declaration, Kind, ManifestEntry, TagName};
-use bag_text::{Alg, AlgSet, Items};
+use bag_tags::{Declaration, Kind, ManifestEntry, TagName, declared_rules};
+use bag_text::{Alg, AlgSet, Items, Rules};
 use bag_tree::{FileEntry, Listing, Stop, Tree, TreeFault};
 use std::alloc::{AllocError, Global};
 
@@ -66,7 +67,7 @@ impl Facts {
         }
     }
 
-    /// What the bytes that were read say.
+    /// What the bytes that were read say, by the rules that the declaration among them tells.
     fn of(
         alloc: Global,
         options: Options,
@@ -75,12 +76,13 @@ impl Facts {
     ) -> Result<Facts, AllocError>
         ensures options { IfOk result (λ facts. facts.options ≡ options) }
         ensures listing { IfOk result (λ facts. facts.listing ≡ listing) }
-        ensures tags { IfOk result (λ facts. AreParsed read.items facts.tags) }
+        ensures tags { IfOk result (λ facts. AreJudged read.items facts.tags) }
     {
+        let rules = rules_read(read.as_slice());
         Ok(Facts {
             options,
             listing,
-            tags: parse_all(alloc, read)?,
+            tags: parse_all(alloc, rules, read)?,
         })
     }
 
@@ -94,10 +96,20 @@ impl Facts {
         Some(declaration)
     }
 
+    /// The rules by which the bag is judged: those of 0.97 where that is the declared version, and else those of 1.0.
+    pub fn rules(&self) -> Rules
+        ensures { (bag : Bag) → IsFactsOf bag self.now → result ≡ rules_in bag }
+    {
+        match self.declaration() {
+            Some(declaration) => rules_declared(declaration),
+            None => Rules::V10,
+        }
+    }
+
     /// What is known of `bag-info.txt`, where it is there and the facts were read for more than the declaration.
     pub fn metadata(&self) -> Option<&Metadata>
         ensures { (bag : Bag) → IsFactsOf bag self.now → self.now.options.depth ≢ depth_of.Declaration
-            → IsReadOf IsMetadataOf (file bag (tag_path file_of.Info)) (option_copied result) }
+            → IsReadOf (IsMetadataOf (rules_in bag)) (file bag (tag_path file_of.Info)) (option_copied result) }
     {
         let Some(TagFacts::Info(metadata)) = self.tag(TagName::Info) else {
             return None;
@@ -108,7 +120,7 @@ impl Facts {
     /// What is known of `fetch.txt`, where it is there and the facts were read for more than the declaration.
     pub fn fetch_list(&self) -> Option<&FetchList>
         ensures { (bag : Bag) → IsFactsOf bag self.now → self.now.options.depth ≢ depth_of.Declaration
-            → IsReadOf IsFetchListOf (file bag (tag_path file_of.Fetch)) (option_copied result) }
+            → IsReadOf (IsFetchListOf (rules_in bag)) (file bag (tag_path file_of.Fetch)) (option_copied result) }
     {
         let Some(TagFacts::Fetch(list)) = self.tag(TagName::Fetch) else {
             return None;
@@ -119,7 +131,7 @@ impl Facts {
     /// What is known of a manifest, where it is there and the facts were read for more than the declaration.
     pub fn manifest(&self, kind: Kind, alg: Alg) -> Option<&Manifest>
         ensures { (bag : Bag) → IsFactsOf bag self.now → self.now.options.depth ≢ depth_of.Declaration
-            → IsReadOf (IsManifestNamed kind alg) (file bag (tag_path (file_of.Manifest kind alg))) (option_copied result) }
+            → IsReadOf (IsManifestNamed (rules_in bag) kind alg) (file bag (tag_path (file_of.Manifest kind alg))) (option_copied result) }
     {
         let Some(TagFacts::Manifest(manifest)) = self.tag(TagName::Manifest(kind, alg)) else {
             return None;
@@ -161,7 +173,7 @@ impl Facts {
     /// for the declaration alone.
     pub fn entries(&self, kind: Kind, alg: Alg) -> &[ManifestEntry]
         ensures entries { (bag : Bag) → IsFactsOf bag self.now → self.now.options.depth ≢ depth_of.Declaration
-            → AreEntriesOf kind alg (file bag (tag_path (file_of.Manifest kind alg))) result.now }
+            → AreEntriesOf (rules_in bag) kind alg (file bag (tag_path (file_of.Manifest kind alg))) result.now }
         ensures none { (bag : Bag) → IsFactsOf bag self.now → self.now.options.depth ≡ depth_of.Declaration → result.now ≡ [] }
     {
         if self.options.depth == Depth::Declaration {
@@ -175,7 +187,7 @@ impl Facts {
 
     /// What is known of a tag file, where it is there and wanted.
     fn tag(&self, name: TagName) -> Option<&TagFacts>
-        ensures { (bag : Bag) → IsFactsOf bag self.now → Wants self.now.options name → IsReadOf (IsNamed name) (file bag (tag_path name)) (option_copied result) }
+        ensures { (bag : Bag) → IsFactsOf bag self.now → Wants self.now.options name → IsReadOf (IsNamed (rules_in bag) name) (file bag (tag_path name)) (option_copied result) }
     {
         find_tag(self.tags.as_slice(), name)
     }
@@ -188,13 +200,45 @@ fn find_tag(tags: &[TagFacts], name: TagName) -> Option<&TagFacts>
     tags.iter().find(|tag| tag.name() == name)
 }
 
-/// What the bytes of each tag file say, in their order.
-fn parse_all(alloc: Global, read: Vec<TagBytes>) -> Result<Items<TagFacts>, AllocError>
-    ensures { IfOk result (AreParsed read.items) }
+/// The rules of what is declared.
+fn rules_declared(declaration: &Declaration) -> Rules
+    ensures { result ≡ rules_of declaration.now.version }
+{
+    match &declaration.version {
+        Some(version) => Rules::of_version(Some(version.as_str())),
+        None => Rules::V10,
+    }
+}
+
+/// The rules that the declaration among files that were read tells, and those of 1.0 where it isn't among them.
+fn rules_read(read: &[TagBytes]) -> Rules
+    ensures { AreRulesOf read.now result }
+{
+    match find_declaration(read) {
+        Some(file) => declared_rules(file.bytes.as_slice()),
+        None => Rules::V10,
+    }
+}
+
+/// The declaration among files that were read.
+fn find_declaration(read: &[TagBytes]) -> Option<&TagBytes>
+    ensures { MatchOption (option_copied result) (¬ (Any (λ file. file.name ≡ file_of.Declaration) read.now))
+        (λ file. Contains read.now file × (file.name ≡ file_of.Declaration)) }
+{
+    read.iter().find(|file| file.name == TagName::Declaration)
+}
+
+/// What the bytes of each tag file say by the rules, in their order.
+fn parse_all(
+    alloc: Global,
+    rules: Rules,
+    read: Vec<TagBytes>,
+) -> Result<Items<TagFacts>, AllocError>
+    ensures { IfOk result (AreParsed rules read.items) }
 {
     let mut tags = Items::new(alloc);
     for file in read {
-        tags.push(TagFacts::parse(alloc, &file)?)?;
+        tags.push(TagFacts::parse(alloc, rules, &file)?)?;
     }
     Ok(tags)
 }

@@ -4,7 +4,7 @@ ghost use Rattle.bag_facts.specs.TagFacts.{IsFetchListOf};
 
 use crate::utf8::is_text;
 use bag_tags::{FetchEntry, LineFault, Parsed, read_fetch};
-use bag_text::Items;
+use bag_text::{Items, Rules};
 use std::alloc::{AllocError, Global};
 
 /// What is known of `fetch.txt` (RFC 8493, 2.2.3).
@@ -19,11 +19,11 @@ pub struct FetchList {
 }
 
 impl FetchList {
-    /// What the bytes of `fetch.txt` say.
-    pub(crate) fn parse(alloc: Global, bytes: &[u8]) -> Result<FetchList, AllocError>
-        ensures { IfOk result (IsFetchListOf bytes.now) }
+    /// What the bytes of `fetch.txt` say by the rules.
+    pub(crate) fn parse(alloc: Global, rules: Rules, bytes: &[u8]) -> Result<FetchList, AllocError>
+        ensures { IfOk result (IsFetchListOf rules bytes.now) }
     {
-        let Parsed { items, faults } = read_fetch(alloc, bytes)?;
+        let Parsed { items, faults } = read_fetch(alloc, rules, bytes)?;
         Ok(FetchList {
             is_text: is_text(faults.as_slice()),
             entries: items,

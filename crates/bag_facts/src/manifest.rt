@@ -8,7 +8,7 @@ ghost use Rattle.bag_facts.specs.TagFacts.{entry_paths, AreByPath, IsManifestOf}
 use crate::arrangement::arrange;
 use crate::utf8::is_text;
 use bag_tags::{Kind, LineFault, ManifestEntry, Parsed, read_manifest};
-use bag_text::{Alg, Items, Text};
+use bag_text::{Alg, Items, Rules, Text};
 use std::alloc::{AllocError, Global};
 
 /// What is known of one manifest.
@@ -25,18 +25,19 @@ pub struct Manifest {
 }
 
 impl Manifest {
-    /// What the bytes of a manifest say.
+    /// What the bytes of a manifest say by the rules.
     pub(crate) fn parse(
         alloc: Global,
+        rules: Rules,
         kind: Kind,
         alg: Alg,
         bytes: &[u8],
     ) -> Result<Manifest, AllocError>
         ensures kind { IfOk result (λ manifest. manifest.kind ≡ kind) }
         ensures alg { IfOk result (λ manifest. manifest.alg ≡ alg) }
-        ensures says { IfOk result (IsManifestOf bytes.now) }
+        ensures says { IfOk result (IsManifestOf rules bytes.now) }
     {
-        let Parsed { items, faults } = read_manifest(alloc, kind, alg, bytes)?;
+        let Parsed { items, faults } = read_manifest(alloc, rules, kind, alg, bytes)?;
         Ok(Manifest {
             kind,
             alg,

@@ -4,7 +4,7 @@ ghost use Rattle.bag_facts.specs.TagFacts.{IsMetadataOf};
 
 use crate::utf8::is_text;
 use bag_tags::{Element, LineFault, Parsed, read_info};
-use bag_text::Items;
+use bag_text::{Items, Rules};
 use std::alloc::{AllocError, Global};
 
 /// What is known of `bag-info.txt` (RFC 8493, 2.2.2).
@@ -19,11 +19,11 @@ pub struct Metadata {
 }
 
 impl Metadata {
-    /// What the bytes of `bag-info.txt` say.
-    pub(crate) fn parse(alloc: Global, bytes: &[u8]) -> Result<Metadata, AllocError>
-        ensures { IfOk result (IsMetadataOf bytes.now) }
+    /// What the bytes of `bag-info.txt` say by the rules.
+    pub(crate) fn parse(alloc: Global, rules: Rules, bytes: &[u8]) -> Result<Metadata, AllocError>
+        ensures { IfOk result (IsMetadataOf rules bytes.now) }
     {
-        let Parsed { items, faults } = read_info(alloc, bytes)?;
+        let Parsed { items, faults } = read_info(alloc, rules, bytes)?;
         Ok(Metadata {
             is_text: is_text(faults.as_slice()),
             elements: items,

@@ -5,6 +5,7 @@ ghost use Rattle.bag_facts.specs.TagFacts.{name_of, text_test, IsParsed};
 use crate::tag_reader::TagBytes;
 use crate::{FetchList, Manifest, Metadata};
 use bag_tags::{Declaration, TagName, read_declaration};
+use bag_text::Rules;
 use std::alloc::{AllocError, Global};
 
 /// What is known of a tag file that was read.
@@ -21,17 +22,21 @@ pub enum TagFacts {
 }
 
 impl TagFacts {
-    /// What the bytes of a tag file say.
-    pub(crate) fn parse(alloc: Global, file: &TagBytes) -> Result<TagFacts, AllocError>
-        ensures { IfOk result (IsParsed file.now) }
+    /// What the bytes of a tag file say by the rules.
+    pub(crate) fn parse(
+        alloc: Global,
+        rules: Rules,
+        file: &TagBytes,
+    ) -> Result<TagFacts, AllocError>
+        ensures { IfOk result (IsParsed rules file.now) }
     {
         let bytes = file.bytes.as_slice();
         match file.name {
             TagName::Declaration => Ok(TagFacts::Declaration(read_declaration(alloc, bytes)?)),
-            TagName::Info => Ok(TagFacts::Info(Metadata::parse(alloc, bytes)?)),
-            TagName::Fetch => Ok(TagFacts::Fetch(FetchList::parse(alloc, bytes)?)),
+            TagName::Info => Ok(TagFacts::Info(Metadata::parse(alloc, rules, bytes)?)),
+            TagName::Fetch => Ok(TagFacts::Fetch(FetchList::parse(alloc, rules, bytes)?)),
             TagName::Manifest(kind, alg) => {
-                Ok(TagFacts::Manifest(Manifest::parse(alloc, kind, alg, bytes)?))
+                Ok(TagFacts::Manifest(Manifest::parse(alloc, rules, kind, alg, bytes)?))
             }
         }
     }

@@ -9,6 +9,7 @@ use Rattle.std.specs.Ordering.{nat_cmp, on}
 use Rattle.bag_text.specs.Lines.{IsLine, lines_of_file}
 use Rattle.bag_text.specs.Text.{IsText, IsNoText, is_blank_line}
 use Rattle.bag_text.specs.Order.{IsListOf}
+use Rattle.bag_text.specs.declared.rules.Rules.{Rules}
 use Rattle.bag_words.specs.declared.code.Code.{Code}
 use Rattle.bag_words.specs.declared.code.Code.TheVariants.{NotUtf8}
 use Rattle.bag_text.proofs.ListOf.{nothing_listed, one_listed, contains_cases, contains_nothing, each_from_members}
@@ -44,110 +45,111 @@ numbers_ascend n (line ∷ more) = (
   numbers_ascend (n + 1) more,
 )
 
-pub entries_picked : (xs : List (ℕ × List ℕ)) → entries xs ≡ filter_map entry_of xs
-entries_picked [] = refl
-entries_picked (x ∷ xs) = picked_first (entry_of x) (entries xs) (filter_map entry_of xs) (entries_picked xs)
+module _ (rules : Rules) where
+  pub entries_picked : (xs : List (ℕ × List ℕ)) → entries rules xs ≡ filter_map (entry_of rules) xs
+  entries_picked [] = refl
+  entries_picked (x ∷ xs) = picked_first (entry_of rules x) (entries rules xs) (filter_map (entry_of rules) xs) (entries_picked xs)
 
-pub faults_picked : (xs : List (ℕ × List ℕ)) → faults xs ≡ filter_map fault_of xs
-faults_picked [] = refl
-faults_picked (x ∷ xs) = picked_first (fault_of x) (faults xs) (filter_map fault_of xs) (faults_picked xs)
+  pub faults_picked : (xs : List (ℕ × List ℕ)) → faults rules xs ≡ filter_map (fault_of rules) xs
+  faults_picked [] = refl
+  faults_picked (x ∷ xs) = picked_first (fault_of rules x) (faults rules xs) (filter_map (fault_of rules) xs) (faults_picked xs)
 
--- what the entry of a line is, and its fault
-abbrev IsEntryOf : ℕ × List ℕ → FetchEntry → Type 0
-IsEntryOf x e = (e.line ≡ x.0) × Reads x.1 e.url e.length e.path
+  -- what the entry of a line is, and its fault
+  abbrev IsEntryOf : ℕ × List ℕ → FetchEntry → Type 0
+  IsEntryOf x e = (e.line ≡ x.0) × Reads rules x.1 e.url e.length e.path
 
-entry_by : (x : ℕ × List ℕ) (e : FetchEntry) (b : Bool) (r : Result (List ℕ) Reason) → is_blank_line x.1 ≡ b → fetch_line x.1 ≡ r → cond b None (entry_in x.0 (verdict_of (url_of x.1) (length_of x.1) r)) ≡ Some e → IsEntryOf x e
-entry_by x e true r blank is h = cc
-entry_by x e false (Err reason) blank is h = cc
-entry_by x e false (Ok path) blank is h =
-    let same : record { line = x.0; url = url_of x.1; length = length_of x.1; path = path } ≡ e = cc in
-    subst (IsEntryOf x) same (refl, (blank, refl, refl, is))
+  entry_by : (x : ℕ × List ℕ) (e : FetchEntry) (b : Bool) (r : Result (List ℕ) Reason) → is_blank_line x.1 ≡ b → fetch_line rules x.1 ≡ r → cond b None (entry_in x.0 (verdict_of (url_of x.1) (length_of x.1) r)) ≡ Some e → IsEntryOf x e
+  entry_by x e true r blank is h = cc
+  entry_by x e false (Err reason) blank is h = cc
+  entry_by x e false (Ok path) blank is h =
+      let same : record { line = x.0; url = url_of x.1; length = length_of x.1; path = path } ≡ e = cc in
+      subst (IsEntryOf x) same (refl, (blank, refl, refl, is))
 
-entry_is : (x : ℕ × List ℕ) (e : FetchEntry) → entry_of x ≡ Some e → IsEntryOf x e
-entry_is x e h = entry_by x e (is_blank_line x.1) (fetch_line x.1) refl refl h
+  entry_is : (x : ℕ × List ℕ) (e : FetchEntry) → entry_of rules x ≡ Some e → IsEntryOf x e
+  entry_is x e h = entry_by x e (is_blank_line x.1) (fetch_line rules x.1) refl refl h
 
-is_entry : (e : FetchEntry) (line : List ℕ) → Reads line e.url e.length e.path → entry_of (e.line, line) ≡ Some e
-is_entry e line (some, url, size, is) =
-    rw (some, is) (ap {B = Option FetchEntry} Some (λ i. record { line = e.line; url = sym url i; length = sym size i; path = e.path }))
+  is_entry : (e : FetchEntry) (line : List ℕ) → Reads rules line e.url e.length e.path → entry_of rules (e.line, line) ≡ Some e
+  is_entry e line (some, url, size, is) =
+      rw (some, is) (ap {B = Option FetchEntry} Some (λ i. record { line = e.line; url = sym url i; length = sym size i; path = e.path }))
 
-abbrev IsFaultOf : ℕ × List ℕ → LineFault → Type 0
-IsFaultOf x f = (f.line ≡ x.0) × HasReason x.1 (f.code, f.detail)
+  abbrev IsFaultOf : ℕ × List ℕ → LineFault → Type 0
+  IsFaultOf x f = (f.line ≡ x.0) × HasReason rules x.1 (f.code, f.detail)
 
-fault_by : (x : ℕ × List ℕ) (f : LineFault) (b : Bool) (r : Result (List ℕ) Reason) → is_blank_line x.1 ≡ b → fetch_line x.1 ≡ r → cond b None (fault_in x.0 (verdict_of (url_of x.1) (length_of x.1) r)) ≡ Some f → IsFaultOf x f
-fault_by x f true r blank is h = cc
-fault_by x f false (Ok path) blank is h = cc
-fault_by x f false (Err reason) blank is h =
-    let same : line_fault x.0 reason.0 reason.1 ≡ f = cc in
-    subst (IsFaultOf x) same (refl, (blank, is))
+  fault_by : (x : ℕ × List ℕ) (f : LineFault) (b : Bool) (r : Result (List ℕ) Reason) → is_blank_line x.1 ≡ b → fetch_line rules x.1 ≡ r → cond b None (fault_in x.0 (verdict_of (url_of x.1) (length_of x.1) r)) ≡ Some f → IsFaultOf x f
+  fault_by x f true r blank is h = cc
+  fault_by x f false (Ok path) blank is h = cc
+  fault_by x f false (Err reason) blank is h =
+      let same : line_fault x.0 reason.0 reason.1 ≡ f = cc in
+      subst (IsFaultOf x) same (refl, (blank, is))
 
-fault_is : (x : ℕ × List ℕ) (f : LineFault) → fault_of x ≡ Some f → IsFaultOf x f
-fault_is x f h = fault_by x f (is_blank_line x.1) (fetch_line x.1) refl refl h
+  fault_is : (x : ℕ × List ℕ) (f : LineFault) → fault_of rules x ≡ Some f → IsFaultOf x f
+  fault_is x f h = fault_by x f (is_blank_line x.1) (fetch_line rules x.1) refl refl h
 
-is_fault_of : (f : LineFault) (line : List ℕ) → HasReason line (f.code, f.detail) → fault_of (f.line, line) ≡ Some f
-is_fault_of f line (some, is) = rw (some, is) refl
+  is_fault_of : (f : LineFault) (line : List ℕ) → HasReason rules line (f.code, f.detail) → fault_of rules (f.line, line) ≡ Some f
+  is_fault_of f line (some, is) = rw (some, is) refl
 
-entries_rise : (x y : ℕ × List ℕ) (u v : FetchEntry) → entry_of x ≡ Some u → entry_of y ≡ Some v → number_cmp x y ≡ Less → nat_cmp u.line v.line ≡ Less
-entries_rise x y u v e f h = rw ((entry_is x u e).0, (entry_is y v f).0) h
+  entries_rise : (x y : ℕ × List ℕ) (u v : FetchEntry) → entry_of rules x ≡ Some u → entry_of rules y ≡ Some v → number_cmp x y ≡ Less → nat_cmp u.line v.line ≡ Less
+  entries_rise x y u v e f h = rw ((entry_is x u e).0, (entry_is y v f).0) h
 
-faults_rise : (x y : ℕ × List ℕ) (u v : LineFault) → fault_of x ≡ Some u → fault_of y ≡ Some v → number_cmp x y ≡ Less → line_fault_cmp u v ≡ Less
-faults_rise x y u v e f h =
-    let low : nat_cmp u.line v.line ≡ Less = rw ((fault_is x u e).0, (fault_is y v f).0) h in
-    rw low refl
+  faults_rise : (x y : ℕ × List ℕ) (u v : LineFault) → fault_of rules x ≡ Some u → fault_of rules y ≡ Some v → number_cmp x y ≡ Less → line_fault_cmp u v ≡ Less
+  faults_rise x y u v e f h =
+      let low : nat_cmp u.line v.line ≡ Less = rw ((fault_is x u e).0, (fault_is y v f).0) h in
+      rw low refl
 
-module _ (all : List (List ℕ)) where
-  abbrev numbered : List (ℕ × List ℕ)
-  numbered = enumerate_from 1 all
+  module _ (all : List (List ℕ)) where
+    abbrev numbered : List (ℕ × List ℕ)
+    numbered = enumerate_from 1 all
 
-  entry_read : (e : FetchEntry) → Contains (filter_map entry_of numbered) e → IsFetch all e
-  entry_read e c =
-      let p = picked entry_of numbered e c in
-      let is = entry_is p.0 e p.2 in
-      (p.0.1, subst (λ k. IsLine all k p.0.1) (sym is.0) (numbered_is_line all p.0.0 p.0.1 p.1), is.1)
+    entry_read : (e : FetchEntry) → Contains (filter_map (entry_of rules) numbered) e → IsFetch rules all e
+    entry_read e c =
+        let p = picked (entry_of rules) numbered e c in
+        let is = entry_is p.0 e p.2 in
+        (p.0.1, subst (λ k. IsLine all k p.0.1) (sym is.0) (numbered_is_line all p.0.0 p.0.1 p.1), is.1)
 
-  -- the entries of a file's lines
-  pub entries_of_lines : IsListOf (on (λ e. e.line) nat_cmp) (IsFetch all) (entries numbered)
-  entries_of_lines = subst (IsListOf (on (λ e. e.line) nat_cmp) (IsFetch all)) (sym (entries_picked numbered)) (record {
-    ascending = ascending_picked entry_of number_cmp (on (λ e. e.line) nat_cmp) entries_rise numbered (numbers_ascend 1 all);
-    members = λ e. (entry_read e, λ h. is_picked entry_of numbered (e.line, h.0) e (line_is_numbered all e.line h.0 h.1) (is_entry e h.0 h.2));
-  })
+    -- the entries of a file's lines
+    pub entries_of_lines : IsListOf (on (λ e. e.line) nat_cmp) (IsFetch rules all) (entries rules numbered)
+    entries_of_lines = subst (IsListOf (on (λ e. e.line) nat_cmp) (IsFetch rules all)) (sym (entries_picked numbered)) (record {
+      ascending = ascending_picked (entry_of rules) number_cmp (on (λ e. e.line) nat_cmp) entries_rise numbered (numbers_ascend 1 all);
+      members = λ e. (entry_read e, λ h. is_picked (entry_of rules) numbered (e.line, h.0) e (line_is_numbered all e.line h.0 h.1) (is_entry e h.0 h.2));
+    })
 
-module _ (bytes : List ℕ) (is_utf8 : IsText bytes) where
-  abbrev lines : List (ℕ × List ℕ)
-  lines = numbered (lines_of_file bytes)
+  module _ (bytes : List ℕ) (is_utf8 : IsText bytes) where
+    abbrev lines : List (ℕ × List ℕ)
+    lines = numbered (lines_of_file bytes)
 
-  row : (code : Code) (f : LineFault) → IsReasonCode code → (line : List ℕ) × IsLine (lines_of_file bytes) f.line line × HasReason line (code, f.detail) → FetchFault code bytes f
-  row NotUtf8 f r h = absurd r
-  row other f r h = h
+    row : (code : Code) (f : LineFault) → IsReasonCode rules code → (line : List ℕ) × IsLine (lines_of_file bytes) f.line line × HasReason rules line (code, f.detail) → FetchFault rules code bytes f
+    row NotUtf8 f r h = absurd r
+    row other f r h = h
 
-  fault_read : (f : LineFault) → Contains (filter_map fault_of lines) f → IsFetchFault bytes f
-  fault_read f c =
-      let p = picked fault_of lines f c in
-      let is = fault_is p.0 f p.2 in
-      let at = subst (λ k. IsLine (lines_of_file bytes) k p.0.1) (sym is.0) (numbered_is_line (lines_of_file bytes) p.0.0 p.0.1 p.1) in
-      row f.code f (reason_code p.0.1 (f.code, f.detail) is.1.1) (p.0.1, at, is.1)
+    fault_read : (f : LineFault) → Contains (filter_map (fault_of rules) lines) f → IsFetchFault rules bytes f
+    fault_read f c =
+        let p = picked (fault_of rules) lines f c in
+        let is = fault_is p.0 f p.2 in
+        let at = subst (λ k. IsLine (lines_of_file bytes) k p.0.1) (sym is.0) (numbered_is_line (lines_of_file bytes) p.0.0 p.0.1 p.1) in
+        row f.code f (reason_code rules p.0.1 (f.code, f.detail) is.1.1) (p.0.1, at, is.1)
 
-  fault_listed : (f : LineFault) (line : List ℕ) → IsLine (lines_of_file bytes) f.line line → HasReason line (f.code, f.detail) → Contains (filter_map fault_of lines) f
-  fault_listed f line at reason = is_picked fault_of lines (f.line, line) f (line_is_numbered (lines_of_file bytes) f.line line at) (is_fault_of f line reason)
+    fault_listed : (f : LineFault) (line : List ℕ) → IsLine (lines_of_file bytes) f.line line → HasReason rules line (f.code, f.detail) → Contains (filter_map (fault_of rules) lines) f
+    fault_listed f line at reason = is_picked (fault_of rules) lines (f.line, line) f (line_is_numbered (lines_of_file bytes) f.line line at) (is_fault_of f line reason)
 
-  from_code : (code : Code) (f : LineFault) → f.code ≡ code → FetchFault code bytes f → Contains (filter_map fault_of lines) f
-  from_code NotUtf8 f e h = let clash : true ≡ false = sym is_utf8 ∙ h.2 in cc
-  from_code code f e h = fault_listed f h.0 h.1 (subst (λ k. HasReason h.0 (k, f.detail)) (sym e) h.2)
+    from_code : (code : Code) (f : LineFault) → f.code ≡ code → FetchFault rules code bytes f → Contains (filter_map (fault_of rules) lines) f
+    from_code NotUtf8 f e h = let clash : true ≡ false = sym is_utf8 ∙ h.2 in cc
+    from_code code f e h = fault_listed f h.0 h.1 (subst (λ k. HasReason rules h.0 (k, f.detail)) (sym e) h.2)
 
-  -- the faults of a file that is UTF-8
-  pub faults_of_text : AreFaults (IsFetchFault bytes) (faults lines)
-  faults_of_text = subst (AreFaults (IsFetchFault bytes)) (sym (faults_picked lines)) (record {
-    ascending = ascending_picked fault_of number_cmp line_fault_cmp faults_rise lines (numbers_ascend 1 (lines_of_file bytes));
-    members = λ f. (fault_read f, λ h. from_code f.code f refl h);
-  })
+    -- the faults of a file that is UTF-8
+    pub faults_of_text : AreFaults (IsFetchFault rules bytes) (faults rules lines)
+    faults_of_text = subst (AreFaults (IsFetchFault rules bytes)) (sym (faults_picked lines)) (record {
+      ascending = ascending_picked (fault_of rules) number_cmp line_fault_cmp faults_rise lines (numbers_ascend 1 (lines_of_file bytes));
+      members = λ f. (fault_read f, λ h. from_code f.code f refl h);
+    })
 
-module _ (bytes : List ℕ) (other : IsNoText bytes) where
-  -- a file that isn't UTF-8 has no entry and one fault
-  pub entries_of_no_text : IsListOf (on (λ e. e.line) nat_cmp) (IsFetch (lines_of_file bytes)) []
-  entries_of_no_text = nothing_listed (on (λ e. e.line) nat_cmp) (IsFetch (lines_of_file bytes)) (λ e h. no_line bytes other e.line h.0 h.1)
+  module _ (bytes : List ℕ) (other : IsNoText bytes) where
+    -- a file that isn't UTF-8 has no entry and one fault
+    pub entries_of_no_text : IsListOf (on (λ e. e.line) nat_cmp) (IsFetch rules (lines_of_file bytes)) []
+    entries_of_no_text = nothing_listed (on (λ e. e.line) nat_cmp) (IsFetch rules (lines_of_file bytes)) (λ e h. no_line bytes other e.line h.0 h.1)
 
-  only_code : (code : Code) (f : LineFault) → f.code ≡ code → FetchFault code bytes f → f ≡ not_utf8
-  only_code NotUtf8 f e h = is_fault f 0 NotUtf8 [] h.0 e h.1
-  only_code code f e h = absurd (no_line bytes other f.line h.0 h.1)
+    only_code : (code : Code) (f : LineFault) → f.code ≡ code → FetchFault rules code bytes f → f ≡ not_utf8
+    only_code NotUtf8 f e h = is_fault f 0 NotUtf8 [] h.0 e h.1
+    only_code code f e h = absurd (no_line bytes other f.line h.0 h.1)
 
-  pub faults_of_no_text : AreFaults (IsFetchFault bytes) (not_utf8 ∷ [])
-  faults_of_no_text = one_listed line_fault_cmp (IsFetchFault bytes) not_utf8 (refl, refl, other) (λ f h. only_code f.code f refl h)
+    pub faults_of_no_text : AreFaults (IsFetchFault rules bytes) (not_utf8 ∷ [])
+    faults_of_no_text = one_listed line_fault_cmp (IsFetchFault rules bytes) not_utf8 (refl, refl, other) (λ f h. only_code f.code f refl h)

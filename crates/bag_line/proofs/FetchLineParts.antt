@@ -6,8 +6,9 @@ use Rattle.bag_text.specs.Number.{is_digits}
 use Rattle.bag_text.specs.Path.{is_path, is_payload_path, first_component, components}
 use Rattle.bag_text.specs.Spelling.{unescaped}
 use Rattle.bag_text.specs.Text.{is_blank_line, before_blank, after_blanks, without_prefix}
+use Rattle.bag_text.specs.declared.rules.Rules.{Rules}
 use Rattle.bag_words.specs.declared.code.Code.TheVariants.{FetchLine, FetchOutsidePayload, FetchUnsafePath}
-use Rattle.bag_text.proofs.SpellingLaws.{spellings}
+use Rattle.bag_text.proofs.LineEnds.{spellings}
 use Rattle.bag_line.specs.Reason.{Reason, ◌>>=◌}
 use Rattle.bag_line.specs.LineParts.{IsWithout}
 use Rattle.bag_line.specs.Fetch.{url_of, length_of, written_of, is_length, lacks_part, spelling_of, decoded_or, fetched_path, fetch_line}
@@ -78,80 +79,81 @@ payload_fetched path e =
     ap (λ b. cond {A = Result (List ℕ) Reason} b (cond (is_payload_path path) (Ok path) (Err (FetchOutsidePayload, path))) (Err (FetchUnsafePath, path))) (payload_is_path path e)
     ∙ ap (λ b. cond {A = Result (List ℕ) Reason} b (Ok path) (Err (FetchOutsidePayload, path))) e
 
--- a line that reads, and its parts
-line_parts : (line path : List ℕ) → fetch_line line ≡ Ok path → ReadsAs line (url_of line) (length_of line) path
-unfolding fetch_line
-line_parts line path e =
-    let first = bind_ok (spelling_of line) _ path e in
-    let second = bind_ok (decoded_or (unescaped first.0) first.0) _ path first.2 in
-    let whole = spelling_by (written_of line) first.0 (lacks_part (url_of line) (length_of line) (written_of line)) first.1 in
-    let has = has_parts (url_of line) (length_of line) (written_of line) whole.0 in
-    let fetched = fetched_by second.0 path (is_path second.0) (is_payload_path second.0) refl refl second.2 in
-    record {
-      behind = after_blanks line;
-      written = written_of line;
-      spelling = first.0;
-      url_first = is_cut line has.0 (length_some (after_blanks line) has.1);
-      length_next = is_cut (after_blanks line) (part_some (length_of line) has.1) has.2;
-      length_told = length_told (length_of line) has.1;
-      dot_slash = subst (IsWithout (codes "./") (written_of line)) whole.1 (is_without (codes "./") (written_of line));
-      spelled = (spellings first.0 path).1 (decoded_ok (unescaped first.0) first.0 second.0 second.1 ∙ ap Some fetched.1);
-      in_payload = subst (λ p. IsTrue (is_payload_path p)) fetched.1 fetched.0;
-    }
+module _ (rules : Rules) where
+  -- a line that reads, and its parts
+  line_parts : (line path : List ℕ) → fetch_line rules line ≡ Ok path → ReadsAs rules line (url_of line) (length_of line) path
+  unfolding fetch_line
+  line_parts line path e =
+      let first = bind_ok (spelling_of line) _ path e in
+      let second = bind_ok (decoded_or (unescaped rules first.0) first.0) _ path first.2 in
+      let whole = spelling_by (written_of line) first.0 (lacks_part (url_of line) (length_of line) (written_of line)) first.1 in
+      let has = has_parts (url_of line) (length_of line) (written_of line) whole.0 in
+      let fetched = fetched_by second.0 path (is_path second.0) (is_payload_path second.0) refl refl second.2 in
+      record {
+        behind = after_blanks line;
+        written = written_of line;
+        spelling = first.0;
+        url_first = is_cut line has.0 (length_some (after_blanks line) has.1);
+        length_next = is_cut (after_blanks line) (part_some (length_of line) has.1) has.2;
+        length_told = length_told (length_of line) has.1;
+        dot_slash = subst (IsWithout (codes "./") (written_of line)) whole.1 (is_without (codes "./") (written_of line));
+        spelled = (spellings rules first.0 path).1 (decoded_ok (unescaped rules first.0) first.0 second.0 second.1 ∙ ap Some fetched.1);
+        in_payload = subst (λ p. IsTrue (is_payload_path p)) fetched.1 fetched.0;
+      }
 
-module _ (line url size path : List ℕ) (r : ReadsAs line url size path) where
-  pub url_is : url_of line ≡ url
-  url_is = cut_part line url r.behind r.url_first
+  module _ (line url size path : List ℕ) (r : ReadsAs rules line url size path) where
+    pub url_is : url_of line ≡ url
+    url_is = cut_part line url r.behind r.url_first
 
-  behind_is : after_blanks line ≡ r.behind
-  behind_is = cut_rest line url r.behind r.url_first
+    behind_is : after_blanks line ≡ r.behind
+    behind_is = cut_rest line url r.behind r.url_first
 
-  pub size_is : length_of line ≡ size
-  size_is = ap before_blank behind_is ∙ cut_part r.behind size r.written r.length_next
+    pub size_is : length_of line ≡ size
+    size_is = ap before_blank behind_is ∙ cut_part r.behind size r.written r.length_next
 
-  written_is : written_of line ≡ r.written
-  written_is = ap after_blanks behind_is ∙ cut_rest r.behind size r.written r.length_next
+    written_is : written_of line ≡ r.written
+    written_is = ap after_blanks behind_is ∙ cut_rest r.behind size r.written r.length_next
 
-  has_all : HasParts (url_of line) (length_of line) (written_of line)
-  has_all = (
-    subst (λ t. t ≢ []) (sym url_is) r.url_first.some_part,
-    ap is_length size_is ∙ told_length size r.length_told,
-    subst (λ t. t ≢ []) (sym written_is) (begins_some r.written r.length_next.begins),
+    has_all : HasParts (url_of line) (length_of line) (written_of line)
+    has_all = (
+      subst (λ t. t ≢ []) (sym url_is) r.url_first.some_part,
+      ap is_length size_is ∙ told_length size r.length_told,
+      subst (λ t. t ≢ []) (sym written_is) (begins_some r.written r.length_next.begins),
+    )
+
+    spelling_is : spelling_of line ≡ Ok r.spelling
+    spelling_is =
+        ap (λ b. cond {A = Result (List ℕ) Reason} b (Err (FetchLine, [])) (Ok (without_prefix (codes "./") (written_of line)))) (lacks_none (url_of line) (length_of line) (written_of line) has_all)
+        ∙ ap {B = Result (List ℕ) Reason} Ok (ap (without_prefix (codes "./")) written_is ∙ without_alone (codes "./") r.written r.spelling r.dot_slash)
+
+    pub path_is : fetch_line rules line ≡ Ok path
+    unfolding fetch_line
+    path_is =
+        ap (λ s. s >>= λ spelling. decoded_or (unescaped rules spelling) spelling >>= λ path. fetched_path path) spelling_is
+        ∙ ap (λ o. decoded_or o r.spelling >>= λ path. fetched_path path) ((spellings rules r.spelling path).0 r.spelled)
+        ∙ payload_fetched path r.in_payload
+
+  result_by : (line : List ℕ) (r : Result (List ℕ) Reason) → is_blank_line line ≡ false → fetch_line rules line ≡ r → OnlyReads rules line ⊎ HasOnlyReason rules line
+  result_by line (Ok x) some e = inl (
+    url_of line,
+    length_of line,
+    x,
+    line_parts line x e,
+    λ u s p r. (sym (url_is line u s p r), sym (size_is line u s p r), (let same : Ok x ≡ Ok p = sym e ∙ path_is line u s p r in let one : x ≡ p = cc in sym one)),
+    λ reason h. (let clash : Ok x ≡ Err reason = sym e ∙ h.1 in cc),
+  )
+  result_by line (Err reason) some e = inr (
+    reason,
+    (some, e),
+    λ other h. (let same : Err reason ≡ Err other = sym e ∙ h.1 in let one : reason ≡ other = cc in sym one),
+    λ u s p r. (let clash : Err reason ≡ Ok p = sym e ∙ path_is line u s p r in cc),
   )
 
-  spelling_is : spelling_of line ≡ Ok r.spelling
-  spelling_is =
-      ap (λ b. cond {A = Result (List ℕ) Reason} b (Err (FetchLine, [])) (Ok (without_prefix (codes "./") (written_of line)))) (lacks_none (url_of line) (length_of line) (written_of line) has_all)
-      ∙ ap {B = Result (List ℕ) Reason} Ok (ap (without_prefix (codes "./")) written_is ∙ without_alone (codes "./") r.written r.spelling r.dot_slash)
-
-  pub path_is : fetch_line line ≡ Ok path
-  unfolding fetch_line
-  path_is =
-      ap (λ s. s >>= λ spelling. decoded_or (unescaped spelling) spelling >>= λ path. fetched_path path) spelling_is
-      ∙ ap (λ o. decoded_or o r.spelling >>= λ path. fetched_path path) ((spellings r.spelling path).0 r.spelled)
-      ∙ payload_fetched path r.in_payload
-
 pub lines_read : FetchLinesReadAsTheirParts
-lines_read line url size path = (
-  λ (some, u, s, is). subst (λ t. ReadsAs line t size path) (sym u) (subst (λ t. ReadsAs line (url_of line) t path) (sym s) (line_parts line path is)),
-  λ r. (not_blank line url r.behind r.url_first, sym (url_is line url size path r), sym (size_is line url size path r), path_is line url size path r),
-)
-
-result_by : (line : List ℕ) (r : Result (List ℕ) Reason) → is_blank_line line ≡ false → fetch_line line ≡ r → OnlyReads line ⊎ HasOnlyReason line
-result_by line (Ok x) some e = inl (
-  url_of line,
-  length_of line,
-  x,
-  line_parts line x e,
-  λ u s p r. (sym (url_is line u s p r), sym (size_is line u s p r), (let same : Ok x ≡ Ok p = sym e ∙ path_is line u s p r in let one : x ≡ p = cc in sym one)),
-  λ reason h. (let clash : Ok x ≡ Err reason = sym e ∙ h.1 in cc),
-)
-result_by line (Err reason) some e = inr (
-  reason,
-  (some, e),
-  λ other h. (let same : Err reason ≡ Err other = sym e ∙ h.1 in let one : reason ≡ other = cc in sym one),
-  λ u s p r. (let clash : Err reason ≡ Ok p = sym e ∙ path_is line u s p r in cc),
+lines_read rules line url size path = (
+  λ (some, u, s, is). subst (λ t. ReadsAs rules line t size path) (sym u) (subst (λ t. ReadsAs rules line (url_of line) t path) (sym s) (line_parts rules line path is)),
+  λ r. (not_blank line url r.behind r.url_first, sym (url_is rules line url size path r), sym (size_is rules line url size path r), path_is rules line url size path r),
 )
 
 pub read_or_reason : FetchLinesReadOrHaveOneReason
-read_or_reason line some = result_by line (fetch_line line) some refl
+read_or_reason rules line some = result_by rules line (fetch_line rules line) some refl

@@ -2,11 +2,12 @@
 use Rattle.std.proofs.Common.{◌≡◌, ℕ, zero, suc, ◌-◌, ◌<◌, ◌⊎◌, inl, inr, Bool, true, false, ◌&&◌, ◌||◌, not, List, [], ◌∷◌, take, refl, ap, sym, ◌∙◌, subst, arith, Option, Some, None}
 use Rattle.std.specs.List.{slice_get, list_any}
 use Rattle.std.proofs.lemmas.Bool.{cases_lt}
-use Rattle.bag_text.specs.Text.{is_blank_line}
+use Rattle.bag_text.specs.Text.{is_blank_line, begins_with_blank}
 use Rattle.bag_text.specs.Lines.{lines_of_file, IsLine}
 use Rattle.bag_words.specs.declared.code.Code.{Code}
 use Rattle.bag_words.specs.declared.code.Code.TheVariants.{NotUtf8, InfoLine}
-use Rattle.bag_line.specs.Info.{begins_with_blank, is_continuation, begins_element, split, continuations, value_of_parts, DoesNotSplit, IsOrphan, IsElement, InfoFault}
+use Rattle.bag_text.specs.declared.rules.Rules.{Rules}
+use Rattle.bag_line.specs.Info.{is_continuation, begins_element, split, continuations, value_of_parts, DoesNotSplit, IsOrphan, IsElement, InfoFault}
 use Rattle.bag_line.specs.InfoPlaces.{IsAbove, GoesOn, IsFirstOf, IsPartOf, IsFaultOf, IsPassedOver, EachLineHasOnePlace, EachLineIsOfOneElement}
 use Rattle.bag_line.specs.InfoReader.{wrong}
 use Rattle.bag_line.specs.declared.fault.LineFault.{LineFault}
@@ -67,7 +68,7 @@ abbrev begins_there : Option (List ℕ) → Bool
 begins_there None = false
 begins_there (Some line) = begins_element line
 
-module _ (all : List (List ℕ)) where
+module _ (rules : Rules) (all : List (List ℕ)) where
   -- the last of the first m lines that begins an element, where there is one
   abbrev Nearest : ℕ → Type 0
   Nearest m =
@@ -128,17 +129,17 @@ module _ (all : List (List ℕ)) where
         ]
       ]
 
-  same_element : (d e : Element) → IsElement all d → IsElement all e → d.line ≡ e.line → d ≡ e
+  same_element : (d e : Element) → IsElement rules all d → IsElement rules all e → d.line ≡ e.line → d ≡ e
   same_element d e (a, p, at, begins, splits, value) (b, q, there, starts, parts, whole) n =
       let text : a ≡ b = same_line all e.line a b (subst (λ k. IsLine all k a) n at) there in
-      let both : ◌≡◌ {A = Option (List ℕ × List ℕ)} (Some (d.label, p)) (Some (e.label, q)) = sym splits ∙ ap split text ∙ parts in
+      let both : ◌≡◌ {A = Option (List ℕ × List ℕ)} (Some (d.label, p)) (Some (e.label, q)) = sym splits ∙ ap (split rules) text ∙ parts in
       let pair = in_some (d.label, p) (e.label, q) both in
       let label : d.label ≡ e.label = ap (λ (x : List ℕ × List ℕ). x.0) pair in
       let part : p ≡ q = ap (λ (x : List ℕ × List ℕ). x.1) pair in
       let same : d.value ≡ e.value = value ∙ (λ i. value_of_parts (part i ∷ continuations all (n i))) ∙ sym whole in
       λ i. record { line = n i; label = label i; value = same i }
 
-  one_element : (k : ℕ) (d e : Element) → IsFirstOf all k d ⊎ IsPartOf all k d → IsFirstOf all k e ⊎ IsPartOf all k e → d ≡ e
+  one_element : (k : ℕ) (d e : Element) → IsFirstOf rules all k d ⊎ IsPartOf rules all k d → IsFirstOf rules all k e ⊎ IsPartOf rules all k e → d ≡ e
   one_element k d e (inl (is, at)) (inl (other, there)) = same_element d e is other (at ∙ sym there)
   one_element k d e (inl (is, at)) (inr (other, ((line, here, continues), above))) =
       absurd (one_kind all k is.0 line (subst (λ n. IsLine all n is.0) at is.2) is.3 here continues)
@@ -147,63 +148,63 @@ module _ (all : List (List ℕ)) where
   one_element k d e (inr (is, (goes, above))) (inr (other, (continues, over))) = same_element d e is other (one_above k d.line e.line above over)
 
 pub of_one_element : EachLineIsOfOneElement
-of_one_element all k d e x y = one_element all k d e x y
+of_one_element rules all k d e x y = one_element rules all k d e x y
 
-module _ (bytes : List ℕ) where
+module _ (rules : Rules) (bytes : List ℕ) where
   abbrev lines : List (List ℕ)
   lines = lines_of_file bytes
 
   -- what is wrong with a line
   abbrev Wrong : ℕ → Type 0
-  Wrong k = (line : List ℕ) × IsLine lines k line × (DoesNotSplit line ⊎ IsOrphan lines k line)
+  Wrong k = (line : List ℕ) × IsLine lines k line × (DoesNotSplit rules line ⊎ IsOrphan lines k line)
 
-  wrong_by : (code : Code) (f : LineFault) → InfoFault code bytes f → 0 < f.line → Wrong f.line
+  wrong_by : (code : Code) (f : LineFault) → InfoFault rules code bytes f → 0 < f.line → Wrong f.line
   wrong_by NotUtf8 f h some = absurd (omega (arith, h.0, some))
   wrong_by InfoLine f h some = (h.0, h.2, h.3)
   wrong_by code f h some = absurd h
 
-  wrong_line : (k : ℕ) (f : LineFault) → IsFaultOf bytes k f → 0 < k → Wrong k
+  wrong_line : (k : ℕ) (f : LineFault) → IsFaultOf rules bytes k f → 0 < k → Wrong k
   wrong_line k f (is, at) some = subst Wrong at (wrong_by f.code f is (omega (arith, at, some)))
 
-  fault_at : (k : ℕ) → Wrong k → (f : LineFault) × IsFaultOf bytes k f
+  fault_at : (k : ℕ) → Wrong k → (f : LineFault) × IsFaultOf rules bytes k f
   fault_at k (line, at, why) = (wrong k, ((line, refl, at, why), refl))
 
   -- an element's first line is not wrong
-  split_or_wrong : (k : ℕ) (e : Element) → IsElement lines e → e.line ≡ k → 0 < k → Wrong k → ⊥
+  split_or_wrong : (k : ℕ) (e : Element) → IsElement rules lines e → e.line ≡ k → 0 < k → Wrong k → ⊥
   split_or_wrong k e is n some (line, at, inl (begins, splits)) =
       let text : is.0 ≡ line = same_line lines k is.0 line (subst (λ m. IsLine lines m is.0) n is.2) at in
-      let both : ◌≡◌ {A = Option (List ℕ × List ℕ)} (Some (e.label, is.1)) None = sym is.4 ∙ ap split text ∙ splits in
+      let both : ◌≡◌ {A = Option (List ℕ × List ℕ)} (Some (e.label, is.1)) None = sym is.4 ∙ ap (split rules) text ∙ splits in
       cc
   split_or_wrong k e is n some (line, at, inr (continues, lacks)) = one_kind lines k is.0 line (subst (λ m. IsLine lines m is.0) n is.2) is.3 at continues
 
   -- nor is a continuation below a line
   below_or_wrong : (k j : ℕ) → GoesOn lines k j → Wrong k → ⊥
   below_or_wrong k j ((text, here, continues), above) (line, at, inl (begins, splits)) = one_kind lines k line text at begins here continues
-  below_or_wrong k j ((text, here, continues), above) (line, at, inr orphan) = never_orphan lines k j line above orphan
+  below_or_wrong k j ((text, here, continues), above) (line, at, inr orphan) = never_orphan rules lines k j line above orphan
 
-  first_or_below : (k j : ℕ) (e : Element) → IsFirstOf lines k e → GoesOn lines k j → ⊥
+  first_or_below : (k j : ℕ) (e : Element) → IsFirstOf rules lines k e → GoesOn lines k j → ⊥
   first_or_below k j e (is, n) ((text, here, continues), above) = one_kind lines k is.0 text (subst (λ m. IsLine lines m is.0) n is.2) is.3 here continues
 
-  part_or_passed : (k : ℕ) (e : Element) (f : LineFault) → IsPartOf lines k e → IsPassedOver bytes k f → ⊥
+  part_or_passed : (k : ℕ) (e : Element) (f : LineFault) → IsPartOf rules lines k e → IsPassedOver rules bytes k f → ⊥
   part_or_passed k e f (is, (goes, above)) (other, (continues, over)) =
-      let same : e.line ≡ f.line = one_above lines k e.line f.line above over in
+      let same : e.line ≡ f.line = one_above rules lines k e.line f.line above over in
       let some : 0 < f.line = omega (arith, same, is.2.0) in
       split_or_wrong f.line e is same some (wrong_line f.line f (other, refl) some)
 
   abbrev SomePlace : ℕ → Type 0
   SomePlace k =
-      ((e : Element) × IsFirstOf lines k e)
-      ⊎ (((e : Element) × IsPartOf lines k e) ⊎ (((f : LineFault) × IsFaultOf bytes k f) ⊎ ((f : LineFault) × IsPassedOver bytes k f)))
+      ((e : Element) × IsFirstOf rules lines k e)
+      ⊎ (((e : Element) × IsPartOf rules lines k e) ⊎ (((f : LineFault) × IsFaultOf rules bytes k f) ⊎ ((f : LineFault) × IsPassedOver rules bytes k f)))
 
-  element_at : (k : ℕ) (line : List ℕ) (x : List ℕ × List ℕ) → IsLine lines k line → begins_element line ≡ true → split line ≡ Some x → (e : Element) × IsFirstOf lines k e
+  element_at : (k : ℕ) (line : List ℕ) (x : List ℕ × List ℕ) → IsLine lines k line → begins_element line ≡ true → split rules line ≡ Some x → (e : Element) × IsFirstOf rules lines k e
   element_at k line x at begins splits =
       (record { line = k; label = x.0; value = value_of_parts (x.1 ∷ continuations lines k) }, ((line, x.1, at, begins, splits, refl), refl))
 
-  beginning : (k : ℕ) (line : List ℕ) (s : Option (List ℕ × List ℕ)) → IsLine lines k line → begins_element line ≡ true → split line ≡ s → SomePlace k
+  beginning : (k : ℕ) (line : List ℕ) (s : Option (List ℕ × List ℕ)) → IsLine lines k line → begins_element line ≡ true → split rules line ≡ s → SomePlace k
   beginning k line None at begins splits = inr (inr (inl (fault_at k (line, at, inl (begins, splits)))))
   beginning k line (Some x) at begins splits = inl (element_at k line x at begins splits)
 
-  below : (k j : ℕ) (line : List ℕ) (s : Option (List ℕ × List ℕ)) → GoesOn lines k j → IsLine lines j line → begins_element line ≡ true → split line ≡ s → SomePlace k
+  below : (k j : ℕ) (line : List ℕ) (s : Option (List ℕ × List ℕ)) → GoesOn lines k j → IsLine lines j line → begins_element line ≡ true → split rules line ≡ s → SomePlace k
   unfolding fault_at element_at
   below k j line None goes at begins splits =
       let f = fault_at j (line, at, inl (begins, splits)) in
@@ -215,20 +216,20 @@ module _ (bytes : List ℕ) where
   some_place : (k : ℕ) (line : List ℕ) → IsLine lines k line → is_blank_line line ≡ false → SomePlace k
   some_place k line at text =
       elim (kind line text) [
-        | inl begins ↦ beginning k line (split line) at begins refl
-        | inr continues ↦ elim (above_or_none lines k at.0) [
-          | inl (j, above) ↦ below k j above.1.0 (split above.1.0) ((line, at, continues), above) above.1.1 above.1.2 refl
+        | inl begins ↦ beginning k line (split rules line) at begins refl
+        | inr continues ↦ elim (above_or_none rules lines k at.0) [
+          | inl (j, above) ↦ below k j above.1.0 (split rules above.1.0) ((line, at, continues), above) above.1.1 above.1.2 refl
           | inr none ↦ inr (inr (inl (fault_at k (line, at, inr (continues, none)))))
         ]
       ]
 
 pub one_place : EachLineHasOnePlace
-one_place bytes k line at text = (
-  some_place bytes k line at text,
-  λ (e, is) (d, part). first_or_below bytes k d.line e is part.1,
-  λ (e, is) (f, fault). split_or_wrong bytes k e is.0 is.1 at.0 (wrong_line bytes k f fault at.0),
-  λ (e, is) (f, over). first_or_below bytes k f.line e is over.1,
-  λ (e, part) (f, fault). below_or_wrong bytes k e.line part.1 (wrong_line bytes k f fault at.0),
-  λ (e, part) (f, over). part_or_passed bytes k e f part over,
-  λ (g, fault) (f, over). below_or_wrong bytes k f.line over.1 (wrong_line bytes k g fault at.0),
+one_place rules bytes k line at text = (
+  some_place rules bytes k line at text,
+  λ (e, is) (d, part). first_or_below rules bytes k d.line e is part.1,
+  λ (e, is) (f, fault). split_or_wrong rules bytes k e is.0 is.1 at.0 (wrong_line rules bytes k f fault at.0),
+  λ (e, is) (f, over). first_or_below rules bytes k f.line e is over.1,
+  λ (e, part) (f, fault). below_or_wrong rules bytes k e.line part.1 (wrong_line rules bytes k f fault at.0),
+  λ (e, part) (f, over). part_or_passed rules bytes k e f part over,
+  λ (g, fault) (f, over). below_or_wrong rules bytes k f.line over.1 (wrong_line rules bytes k g fault at.0),
 )

@@ -5,6 +5,7 @@ use Rattle.bag_text.specs.Lines.{lines_of_file, IsLine}
 use Rattle.bag_text.specs.Number.{is_digits}
 use Rattle.bag_text.specs.Path.{is_path, is_payload_path}
 use Rattle.bag_text.specs.Spelling.{unescaped}
+use Rattle.bag_text.specs.declared.rules.Rules.{Rules}
 use Rattle.bag_words.specs.declared.code.Code.{Code}
 use Rattle.bag_words.specs.declared.code.Code.TheVariants.{NotUtf8, FetchLine, FetchEscape, FetchUnsafePath, FetchOutsidePayload}
 use Rattle.bag_line.specs.Reason.{Reason, ◌>>=◌}
@@ -46,29 +47,29 @@ fetched_path path =
     else Err (FetchUnsafePath, path)
 
 -- the path of a line that isn't blank, or the first reason why it doesn't read
-unfoldable pub fetch_line : List ℕ → Result (List ℕ) Reason
-fetch_line line = do
+unfoldable pub fetch_line : Rules → List ℕ → Result (List ℕ) Reason
+fetch_line rules line = do
   spelling ← spelling_of line
-  path ← decoded_or (unescaped spelling) spelling
+  path ← decoded_or (unescaped rules spelling) spelling
   fetched_path path
 
-abbrev pub Reads : List ℕ → List ℕ → List ℕ → List ℕ → Type 0
-Reads line url size path =
-    (is_blank_line line ≡ false) × (url ≡ url_of line) × (size ≡ length_of line) × (fetch_line line ≡ Ok path)
+abbrev pub Reads : Rules → List ℕ → List ℕ → List ℕ → List ℕ → Type 0
+Reads rules line url size path =
+    (is_blank_line line ≡ false) × (url ≡ url_of line) × (size ≡ length_of line) × (fetch_line rules line ≡ Ok path)
 
-abbrev pub HasReason : List ℕ → Reason → Type 0
-HasReason line reason = (is_blank_line line ≡ false) × (fetch_line line ≡ Err reason)
+abbrev pub HasReason : Rules → List ℕ → Reason → Type 0
+HasReason rules line reason = (is_blank_line line ≡ false) × (fetch_line rules line ≡ Err reason)
 
 -- a line that reads
-abbrev pub IsFetch : List (List ℕ) → FetchEntry → Type 0
-IsFetch all e = (line : List ℕ) × IsLine all e.line line × Reads line e.url e.length e.path
+abbrev pub IsFetch : Rules → List (List ℕ) → FetchEntry → Type 0
+IsFetch rules all e = (line : List ℕ) × IsLine all e.line line × Reads rules line e.url e.length e.path
 
 -- what is wrong with the file: by cases on the fault's code
-abbrev pub FetchFault : Code → List ℕ → LineFault → Type 0
-FetchFault NotUtf8 bytes f = (f.line ≡ 0) × (f.detail ≡ []) × IsNoText bytes
+abbrev pub FetchFault : Rules → Code → List ℕ → LineFault → Type 0
+FetchFault rules NotUtf8 bytes f = (f.line ≡ 0) × (f.detail ≡ []) × IsNoText bytes
 -- the reasons why a line doesn't read
-FetchFault reason bytes f =
-    (line : List ℕ) × IsLine (lines_of_file bytes) f.line line × HasReason line (reason, f.detail)
+FetchFault rules reason bytes f =
+    (line : List ℕ) × IsLine (lines_of_file bytes) f.line line × HasReason rules line (reason, f.detail)
 
-abbrev pub IsFetchFault : List ℕ → LineFault → Type 0
-IsFetchFault bytes f = FetchFault f.code bytes f
+abbrev pub IsFetchFault : Rules → List ℕ → LineFault → Type 0
+IsFetchFault rules bytes f = FetchFault rules f.code bytes f

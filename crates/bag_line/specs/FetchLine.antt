@@ -3,6 +3,7 @@ use Rattle.std.specs.Prelude.{ℕ, ◌≡◌, ◌⊎◌, ◌↔◌, false, List,
 use Rattle.bag_text.specs.Path.{is_payload_path}
 use Rattle.bag_text.specs.Spelling.{Spells}
 use Rattle.bag_text.specs.Text.{is_blank_line}
+use Rattle.bag_text.specs.declared.rules.Rules.{Rules}
 use Rattle.bag_line.specs.LineParts.{AreDigits, IsCut, IsWithout}
 use Rattle.bag_line.specs.Reason.{Reason}
 use Rattle.bag_line.specs.Fetch.{Reads, HasReason}
@@ -12,7 +13,7 @@ abbrev pub IsLength : List ℕ → Type 0
 IsLength t = (t ≡ codes "-") ⊎ AreDigits t
 
 -- the line is a URL, blanks, a length, blanks, and a spelling of the path of a payload file
-pub record ReadsAs (line url size path : List ℕ) : Type 0 where
+pub record ReadsAs (rules : Rules) (line url size path : List ℕ) : Type 0 where
   pub behind : List ℕ
   pub written : List ℕ
   pub spelling : List ℕ
@@ -20,25 +21,25 @@ pub record ReadsAs (line url size path : List ℕ) : Type 0 where
   pub length_next : IsCut behind size written
   pub length_told : IsLength size
   pub dot_slash : IsWithout (codes "./") written spelling
-  pub spelled : Spells spelling path
+  pub spelled : Spells rules spelling path
   pub in_payload : IsTrue (is_payload_path path)
 
 -- the law: a line reads just as it is made of these
 abbrev pub FetchLinesReadAsTheirParts : Type 0
-FetchLinesReadAsTheirParts = (line url size path : List ℕ) → Reads line url size path ↔ ReadsAs line url size path
+FetchLinesReadAsTheirParts = (rules : Rules) (line url size path : List ℕ) → Reads rules line url size path ↔ ReadsAs rules line url size path
 
-abbrev pub OnlyReads : List ℕ → Type 0
-OnlyReads line =
-    (url size path : List ℕ) × ReadsAs line url size path
-    × ((u s p : List ℕ) → ReadsAs line u s p → (u ≡ url) × (s ≡ size) × (p ≡ path))
-    × ((reason : Reason) → ¬ (HasReason line reason))
+abbrev pub OnlyReads : Rules → List ℕ → Type 0
+OnlyReads rules line =
+    (url size path : List ℕ) × ReadsAs rules line url size path
+    × ((u s p : List ℕ) → ReadsAs rules line u s p → (u ≡ url) × (s ≡ size) × (p ≡ path))
+    × ((reason : Reason) → ¬ (HasReason rules line reason))
 
-abbrev pub HasOnlyReason : List ℕ → Type 0
-HasOnlyReason line =
-    (reason : Reason) × HasReason line reason
-    × ((other : Reason) → HasReason line other → other ≡ reason)
-    × ((url size path : List ℕ) → ¬ (ReadsAs line url size path))
+abbrev pub HasOnlyReason : Rules → List ℕ → Type 0
+HasOnlyReason rules line =
+    (reason : Reason) × HasReason rules line reason
+    × ((other : Reason) → HasReason rules line other → other ≡ reason)
+    × ((url size path : List ℕ) → ¬ (ReadsAs rules line url size path))
 
 -- the law: a line that isn't blank reads in one way, or has one reason why it doesn't
 abbrev pub FetchLinesReadOrHaveOneReason : Type 0
-FetchLinesReadOrHaveOneReason = (line : List ℕ) → is_blank_line line ≡ false → OnlyReads line ⊎ HasOnlyReason line
+FetchLinesReadOrHaveOneReason = (rules : Rules) (line : List ℕ) → is_blank_line line ≡ false → OnlyReads rules line ⊎ HasOnlyReason rules line

@@ -3,6 +3,7 @@ use Rattle.std.specs.Prelude.{ℕ, ◌++◌, List, [], ◌∷◌, Option, Some, 
 use Rattle.std.specs.Option.{option_to_list}
 use Rattle.bag_text.specs.Spelling.{unescaped}
 use Rattle.bag_text.specs.Text.{is_blank_line}
+use Rattle.bag_text.specs.declared.rules.Rules.{Rules}
 use Rattle.bag_line.specs.Reason.{Reason, ◌>>=◌}
 use Rattle.bag_line.specs.Fetch.{url_of, length_of, decoded_or, fetched_path, fetch_line}
 use Rattle.bag_line.specs.declared.fault.LineFault.{LineFault}
@@ -15,12 +16,12 @@ verdict_of url size (Ok path) = Entry url size path
 verdict_of url size (Err reason) = Fault reason.0 reason.1
 
 -- of a line that isn't blank
-abbrev pub verdict : List ℕ → Verdict
-verdict line = verdict_of (url_of line) (length_of line) (fetch_line line)
+abbrev pub verdict : Rules → List ℕ → Verdict
+verdict rules line = verdict_of (url_of line) (length_of line) (fetch_line rules line)
 
 -- of a line of which the URL and the length are read, by how the path is written
-abbrev pub verdict_by_spelling : List ℕ → List ℕ → List ℕ → Verdict
-verdict_by_spelling url size spelling = verdict_of url size (decoded_or (unescaped spelling) spelling >>= fetched_path)
+abbrev pub verdict_by_spelling : Rules → List ℕ → List ℕ → List ℕ → Verdict
+verdict_by_spelling rules url size spelling = verdict_of url size (decoded_or (unescaped rules spelling) spelling >>= fetched_path)
 
 abbrev pub entry_in : ℕ → Verdict → Option FetchEntry
 entry_in n (Entry url size path) = Some (record { line = n; url = url; length = size; path = path })
@@ -31,16 +32,16 @@ fault_in n (Entry url size path) = None
 fault_in n (Fault code detail) = Some (record { line = n; code = code; detail = detail })
 
 -- the entry or the fault of a line with its number
-abbrev pub entry_of : ℕ × List ℕ → Option FetchEntry
-entry_of x = if is_blank_line x.1 then None else entry_in x.0 (verdict x.1)
+abbrev pub entry_of : Rules → ℕ × List ℕ → Option FetchEntry
+entry_of rules x = if is_blank_line x.1 then None else entry_in x.0 (verdict rules x.1)
 
-abbrev pub fault_of : ℕ × List ℕ → Option LineFault
-fault_of x = if is_blank_line x.1 then None else fault_in x.0 (verdict x.1)
+abbrev pub fault_of : Rules → ℕ × List ℕ → Option LineFault
+fault_of rules x = if is_blank_line x.1 then None else fault_in x.0 (verdict rules x.1)
 
-abbrev pub entries : List (ℕ × List ℕ) → List FetchEntry
-entries [] = []
-entries (x ∷ xs) = option_to_list (entry_of x) ++ entries xs
+abbrev pub entries : Rules → List (ℕ × List ℕ) → List FetchEntry
+entries rules [] = []
+entries rules (x ∷ xs) = option_to_list (entry_of rules x) ++ entries rules xs
 
-abbrev pub faults : List (ℕ × List ℕ) → List LineFault
-faults [] = []
-faults (x ∷ xs) = option_to_list (fault_of x) ++ faults xs
+abbrev pub faults : Rules → List (ℕ × List ℕ) → List LineFault
+faults rules [] = []
+faults rules (x ∷ xs) = option_to_list (fault_of rules x) ++ faults rules xs

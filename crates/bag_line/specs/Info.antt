@@ -1,23 +1,15 @@
 -- The metadata of a bag, bag-info.txt (RFC 8493, 2.2.2).
-use Rattle.std.specs.Prelude.{ℕ, ◌-◌, ◌≡◌, ◌⊎◌, ◌==◌, ◌&&◌, ◌||◌, Bool, true, false, not, List, [], ◌∷◌, Option, Some, None, bytes_eq, if◌then◌else◌, map, filter, take, drop, take_while, length, slice_get}
+use Rattle.std.specs.Prelude.{ℕ, ◌-◌, ◌≡◌, ◌⊎◌, ◌==◌, ◌&&◌, Bool, true, false, not, List, [], ◌∷◌, Option, Some, None, bytes_eq, if◌then◌else◌, map, filter, take, drop, take_while}
 use Rattle.std.specs.Str.{byte}
 use Rattle.std.specs.List.{before_first, after_first, list_any, join_with_byte}
-use Rattle.bag_text.specs.Text.{IsNoText, trim, is_blank, is_blank_line}
+use Rattle.bag_text.specs.Rules.{label_of, may_follow_colon}
+use Rattle.bag_text.specs.Text.{IsNoText, trim, begins_with_blank, ends_with_blank, is_blank_line}
 use Rattle.bag_text.specs.Lines.{lines_of_file, IsLine, line_feed}
 use Rattle.bag_words.specs.declared.code.Code.{Code}
 use Rattle.bag_words.specs.declared.code.Code.TheVariants.{NotUtf8, InfoLine}
+use Rattle.bag_text.specs.declared.rules.Rules.{Rules}
 use Rattle.bag_line.specs.declared.fault.LineFault.{LineFault}
 use Rattle.bag_line.specs.declared.info.Element.{Element}
-
-abbrev pub is_some_blank : Option ℕ → Bool
-is_some_blank None = false
-is_some_blank (Some c) = is_blank c
-
-abbrev pub begins_with_blank : List ℕ → Bool
-begins_with_blank t = is_some_blank (slice_get t 0)
-
-abbrev pub ends_with_blank : List ℕ → Bool
-ends_with_blank t = is_some_blank (slice_get t (length t - 1))
 
 -- a line that isn't blank and begins with a blank
 abbrev pub is_continuation : List ℕ → Bool
@@ -34,16 +26,12 @@ is_colon c = c == byte ":"
 abbrev pub is_label : List ℕ → Bool
 is_label t = not (bytes_eq t []) && not (ends_with_blank t)
 
--- after the colon stands nothing, or a blank
-abbrev pub is_after_colon : List ℕ → Bool
-is_after_colon t = bytes_eq t [] || begins_with_blank t
-
 -- the label and what follows the first colon, where the line splits there
-abbrev pub split : List ℕ → Option (List ℕ × List ℕ)
-split line =
-    let label = before_first is_colon line in
+abbrev pub split : Rules → List ℕ → Option (List ℕ × List ℕ)
+split rules line =
+    let label = label_of rules (before_first is_colon line) in
     let rest = after_first is_colon line in
-    if list_any is_colon line && is_label label && is_after_colon rest then Some (label, rest) else None
+    if list_any is_colon line && is_label label && may_follow_colon rules rest then Some (label, rest) else None
 
 -- the continuations up to the next line that is neither blank nor a continuation
 abbrev pub leading_continuations : List (List ℕ) → List (List ℕ)
@@ -58,29 +46,29 @@ abbrev pub value_of_parts : List (List ℕ) → List ℕ
 value_of_parts parts = join_with_byte line_feed (map trim parts)
 
 -- an element: its line splits, and its value goes on over the continuations
-abbrev pub IsElement : List (List ℕ) → Element → Type 0
-IsElement all e =
+abbrev pub IsElement : Rules → List (List ℕ) → Element → Type 0
+IsElement rules all e =
     (line part : List ℕ)
     × IsLine all e.line line
     × (begins_element line ≡ true)
-    × (split line ≡ Some (e.label, part))
+    × (split rules line ≡ Some (e.label, part))
     × (e.value ≡ value_of_parts (part ∷ continuations all e.line))
 
 -- a line that should begin an element and doesn't split
-abbrev pub DoesNotSplit : List ℕ → Type 0
-DoesNotSplit line = (begins_element line ≡ true) × (split line ≡ None)
+abbrev pub DoesNotSplit : Rules → List ℕ → Type 0
+DoesNotSplit rules line = (begins_element line ≡ true) × (split rules line ≡ None)
 
 -- a continuation before which no line begins an element
 abbrev pub IsOrphan : List (List ℕ) → ℕ → List ℕ → Type 0
 IsOrphan all k line = (is_continuation line ≡ true) × (list_any begins_element (take (k - 1) all) ≡ false)
 
 -- what is wrong with the file: by cases on the fault's code
-abbrev pub InfoFault : Code → List ℕ → LineFault → Type 0
-InfoFault NotUtf8 bytes f = (f.line ≡ 0) × (f.detail ≡ []) × IsNoText bytes
-InfoFault InfoLine bytes f =
+abbrev pub InfoFault : Rules → Code → List ℕ → LineFault → Type 0
+InfoFault rules NotUtf8 bytes f = (f.line ≡ 0) × (f.detail ≡ []) × IsNoText bytes
+InfoFault rules InfoLine bytes f =
     let all = lines_of_file bytes in
-    (line : List ℕ) × (f.detail ≡ []) × IsLine all f.line line × (DoesNotSplit line ⊎ IsOrphan all f.line line)
-InfoFault other bytes f = ⊥
+    (line : List ℕ) × (f.detail ≡ []) × IsLine all f.line line × (DoesNotSplit rules line ⊎ IsOrphan all f.line line)
+InfoFault rules other bytes f = ⊥
 
-abbrev pub IsInfoFault : List ℕ → LineFault → Type 0
-IsInfoFault bytes f = InfoFault f.code bytes f
+abbrev pub IsInfoFault : Rules → List ℕ → LineFault → Type 0
+IsInfoFault rules bytes f = InfoFault rules f.code bytes f

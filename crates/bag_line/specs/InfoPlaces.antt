@@ -4,6 +4,7 @@ use Rattle.std.specs.Ordering.{nat_cmp}
 use Rattle.bag_text.specs.Text.{is_blank_line}
 use Rattle.bag_text.specs.Lines.{lines_of_file, IsLine}
 use Rattle.bag_text.specs.Order.{IsListOf}
+use Rattle.bag_text.specs.declared.rules.Rules.{Rules}
 use Rattle.bag_line.specs.Info.{is_continuation, begins_element, continuations, IsElement, IsInfoFault}
 use Rattle.bag_line.specs.declared.fault.LineFault.{LineFault}
 use Rattle.bag_line.specs.declared.info.Element.{Element}
@@ -20,20 +21,20 @@ abbrev pub GoesOn : List (List ℕ) → ℕ → ℕ → Type 0
 GoesOn all k j = ((line : List ℕ) × IsLine all k line × (is_continuation line ≡ true)) × IsAbove all k j
 
 -- line k is the first line of an element
-abbrev pub IsFirstOf : List (List ℕ) → ℕ → Element → Type 0
-IsFirstOf all k e = IsElement all e × (e.line ≡ k)
+abbrev pub IsFirstOf : Rules → List (List ℕ) → ℕ → Element → Type 0
+IsFirstOf rules all k e = IsElement rules all e × (e.line ≡ k)
 
 -- line k goes on with an element
-abbrev pub IsPartOf : List (List ℕ) → ℕ → Element → Type 0
-IsPartOf all k e = IsElement all e × GoesOn all k e.line
+abbrev pub IsPartOf : Rules → List (List ℕ) → ℕ → Element → Type 0
+IsPartOf rules all k e = IsElement rules all e × GoesOn all k e.line
 
 -- line k is wrong
-abbrev pub IsFaultOf : List ℕ → ℕ → LineFault → Type 0
-IsFaultOf bytes k f = IsInfoFault bytes f × (f.line ≡ k)
+abbrev pub IsFaultOf : Rules → List ℕ → ℕ → LineFault → Type 0
+IsFaultOf rules bytes k f = IsInfoFault rules bytes f × (f.line ≡ k)
 
 -- line k is a continuation below a line that is wrong
-abbrev pub IsPassedOver : List ℕ → ℕ → LineFault → Type 0
-IsPassedOver bytes k f = IsInfoFault bytes f × GoesOn (lines_of_file bytes) k f.line
+abbrev pub IsPassedOver : Rules → List ℕ → ℕ → LineFault → Type 0
+IsPassedOver rules bytes k f = IsInfoFault rules bytes f × GoesOn (lines_of_file bytes) k f.line
 
 -- just one of four
 abbrev pub IsJustOne : Type 0 → Type 0 → Type 0 → Type 0 → Type 0
@@ -49,17 +50,17 @@ IsJustOne a b c d =
 -- the law: a line that isn't blank is the first of an element, goes on with one, is wrong, or is passed over
 abbrev pub EachLineHasOnePlace : Type 0
 EachLineHasOnePlace =
-    (bytes : List ℕ) (k : ℕ) (line : List ℕ) → IsLine (lines_of_file bytes) k line → is_blank_line line ≡ false
+    (rules : Rules) (bytes : List ℕ) (k : ℕ) (line : List ℕ) → IsLine (lines_of_file bytes) k line → is_blank_line line ≡ false
     → IsJustOne
-    ((e : Element) × IsFirstOf (lines_of_file bytes) k e)
-    ((e : Element) × IsPartOf (lines_of_file bytes) k e)
-    ((f : LineFault) × IsFaultOf bytes k f)
-    ((f : LineFault) × IsPassedOver bytes k f)
+    ((e : Element) × IsFirstOf rules (lines_of_file bytes) k e)
+    ((e : Element) × IsPartOf rules (lines_of_file bytes) k e)
+    ((f : LineFault) × IsFaultOf rules bytes k f)
+    ((f : LineFault) × IsPassedOver rules bytes k f)
 
 -- the law: a line is of one element at most
 abbrev pub EachLineIsOfOneElement : Type 0
 EachLineIsOfOneElement =
-    (all : List (List ℕ)) (k : ℕ) (d e : Element) → IsFirstOf all k d ⊎ IsPartOf all k d → IsFirstOf all k e ⊎ IsPartOf all k e → d ≡ e
+    (rules : Rules) (all : List (List ℕ)) (k : ℕ) (d e : Element) → IsFirstOf rules all k d ⊎ IsPartOf rules all k d → IsFirstOf rules all k e ⊎ IsPartOf rules all k e → d ≡ e
 
 -- the law: of a line that begins an element, the lines that go on below it are its continuations, in their order
 abbrev pub ContinuationsAreBelow : Type 0

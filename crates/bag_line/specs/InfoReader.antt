@@ -1,10 +1,11 @@
 -- The elements and the faults of numbered lines, and how a reader comes to them line by line (RFC 8493, 2.2.2).
 use Rattle.std.specs.Prelude.{ℕ, ◌++◌, ◌||◌, Bool, true, false, List, [], ◌∷◌, Option, Some, None, if◌then◌else◌}
 use Rattle.std.specs.Option.{option_to_list}
-use Rattle.bag_text.specs.Text.{trim, is_blank_line}
+use Rattle.bag_text.specs.Text.{trim, is_blank_line, begins_with_blank}
 use Rattle.bag_text.specs.Lines.{line_feed}
 use Rattle.bag_words.specs.declared.code.Code.TheVariants.{InfoLine}
-use Rattle.bag_line.specs.Info.{begins_with_blank, begins_element, split}
+use Rattle.bag_text.specs.declared.rules.Rules.{Rules}
+use Rattle.bag_line.specs.Info.{begins_element, split}
 use Rattle.bag_line.specs.LineFault.{line_fault}
 use Rattle.bag_line.specs.declared.fault.LineFault.{LineFault}
 use Rattle.bag_line.specs.declared.info.Element.{Element}
@@ -32,12 +33,12 @@ abbrev pub element_if : ℕ → Option (List ℕ × List ℕ) → Numbered → O
 element_if n None more = None
 element_if n (Some x) more = Some (record { line = n; label = x.0; value = value_on (trim x.1) more })
 
-abbrev pub element_at : ℕ → List ℕ → Numbered → Option Element
-element_at n line more = if begins_element line then element_if n (split line) more else None
+abbrev pub element_at : Rules → ℕ → List ℕ → Numbered → Option Element
+element_at rules n line more = if begins_element line then element_if n (split rules line) more else None
 
-abbrev pub elements : Numbered → List Element
-elements [] = []
-elements (x ∷ xs) = option_to_list (element_at x.0 x.1 xs) ++ elements xs
+abbrev pub elements : Rules → Numbered → List Element
+elements rules [] = []
+elements rules (x ∷ xs) = option_to_list (element_at rules x.0 x.1 xs) ++ elements rules xs
 
 abbrev pub wrong : ℕ → LineFault
 wrong n = line_fault n InfoLine []
@@ -47,15 +48,15 @@ fault_unless n None = Some (wrong n)
 fault_unless n (Some x) = None
 
 -- what is wrong with a line, by whether an earlier line should have begun an element
-abbrev pub fault_at : Bool → ℕ → List ℕ → Option LineFault
-fault_at begun n line =
+abbrev pub fault_at : Rules → Bool → ℕ → List ℕ → Option LineFault
+fault_at rules begun n line =
     if is_blank_line line then None
     else if begins_with_blank line then (if begun then None else Some (wrong n))
-    else fault_unless n (split line)
+    else fault_unless n (split rules line)
 
-abbrev pub faults : Bool → Numbered → List LineFault
-faults begun [] = []
-faults begun (x ∷ xs) = option_to_list (fault_at begun x.0 x.1) ++ faults (begun || begins_element x.1) xs
+abbrev pub faults : Rules → Bool → Numbered → List LineFault
+faults rules begun [] = []
+faults rules begun (x ∷ xs) = option_to_list (fault_at rules begun x.0 x.1) ++ faults rules (begun || begins_element x.1) xs
 
 -- the element that is open, as it stands
 abbrev pub closed : Above → List Element
@@ -75,11 +76,11 @@ has_begun Refused = true
 has_begun (Begun e) = true
 
 -- all that the reader gives, with the lines that follow
-abbrev pub all_elements : Reader → Numbered → List Element
-all_elements r xs = r.items ++ (closed_after r.above xs ++ elements xs)
+abbrev pub all_elements : Rules → Reader → Numbered → List Element
+all_elements rules r xs = r.items ++ (closed_after r.above xs ++ elements rules xs)
 
-abbrev pub all_faults : Reader → Numbered → List LineFault
-all_faults r xs = r.faults ++ faults (has_begun r.above) xs
+abbrev pub all_faults : Rules → Reader → Numbered → List LineFault
+all_faults rules r xs = r.faults ++ faults rules (has_begun r.above) xs
 
 -- the reader after a line that should begin an element
 abbrev pub begun : Reader → ℕ → Option (List ℕ × List ℕ) → Reader
@@ -96,8 +97,8 @@ abbrev pub continued : Reader → ℕ → List ℕ → Reader
 continued r n line = continued_from r n line r.above
 
 -- the reader after a line
-abbrev pub after_line : Reader → ℕ → List ℕ → Reader
-after_line r n line =
+abbrev pub after_line : Rules → Reader → ℕ → List ℕ → Reader
+after_line rules r n line =
     if is_blank_line line then r
     else if begins_with_blank line then continued r n line
-    else begun r n (split line)
+    else begun r n (split rules line)

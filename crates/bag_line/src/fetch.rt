@@ -11,7 +11,7 @@ ghost use Rattle.bag_line.specs.Fetch.{IsFetch, IsFetchFault};
 
 use crate::fault::{LineFault, Parsed, unread};
 use crate::fetch_line::{Verdict, judge};
-use bag_text::{Items, Text, is_blank_line, lines, text_of};
+use bag_text::{Items, Rules, Text, is_blank_line, lines, text_of};
 use std::alloc::{AllocError, Global};
 
 /// A line of `fetch.txt` that reads: where a payload file is, its length in bytes or `-`, each as it is written, and
@@ -31,26 +31,30 @@ pub struct FetchEntry {
 /// Reads the bytes of `fetch.txt` (RFC 8493, 2.2.3). Each line that isn't blank is an entry or has one fault; a path may
 /// stand in more than one line, and the syntax of a URL isn't looked at. Bytes that aren't UTF-8 have no entry and the
 /// one fault `NotUtf8`. One pass. An error only for want of memory.
-pub fn read_fetch(alloc: Global, bytes: &[u8]) -> Result<Parsed<FetchEntry>, AllocError>
-    ensures items { IfOk result (λ parsed. IsListOf (on (λ e. e.line) nat_cmp) (IsFetch (cut.lines_of_file bytes.now)) parsed.items) }
-    ensures faults { IfOk result (λ parsed. AreFaults (IsFetchFault bytes.now) parsed.faults) }
+pub fn read_fetch(
+    alloc: Global,
+    rules: Rules,
+    bytes: &[u8],
+) -> Result<Parsed<FetchEntry>, AllocError>
+    ensures items { IfOk result (λ parsed. IsListOf (on (λ e. e.line) nat_cmp) (IsFetch rules (cut.lines_of_file bytes.now)) parsed.items) }
+    ensures faults { IfOk result (λ parsed. AreFaults (IsFetchFault rules bytes.now) parsed.faults) }
 {
     match text_of(bytes) {
-        Ok(text) => read_text(alloc, text),
+        Ok(text) => read_text(alloc, rules, text),
         Err(_) => unread(alloc),
     }
 }
 
 /// Judges each line that isn't blank, and puts it where it belongs.
-fn read_text(alloc: Global, text: &str) -> Result<Parsed<FetchEntry>, AllocError>
-    ensures items { IfOk result (λ parsed. parsed.items ≡ judged.entries (enumerate_from 1 (cut.lines text.now))) }
-    ensures faults { IfOk result (λ parsed. parsed.faults ≡ judged.faults (enumerate_from 1 (cut.lines text.now))) }
+fn read_text(alloc: Global, rules: Rules, text: &str) -> Result<Parsed<FetchEntry>, AllocError>
+    ensures items { IfOk result (λ parsed. parsed.items ≡ judged.entries rules (enumerate_from 1 (cut.lines text.now))) }
+    ensures faults { IfOk result (λ parsed. parsed.faults ≡ judged.faults rules (enumerate_from 1 (cut.lines text.now))) }
 {
     let mut items = Items::new(alloc);
     let mut faults = Items::new(alloc);
     for (number, line) in lines(text) {
         if !is_blank_line(line) {
-            let verdict = judge(alloc, line)?;
+            let verdict = judge(alloc, rules, line)?;
             put(number, verdict, &mut items, &mut faults)?;
         }
     }

@@ -7,7 +7,9 @@ ghost use Rattle.bag_line.specs.declared.fetch_line.Verdict.TheVariants as verdi
 
 use crate::digits::is_digits;
 use crate::prefix::without_prefix;
-use bag_text::{Code, PathFault, Text, check_path, is_payload, split_at_blanks, unescape_path};
+use bag_text::{
+    Code, PathFault, Rules, Text, check_path, is_payload, split_at_blanks, unescape_path,
+};
 use std::alloc::{AllocError, Global};
 
 /// What stands for a length that isn't told.
@@ -23,15 +25,15 @@ pub(crate) enum Verdict {
 }
 
 /// Judges a line that isn't blank: its URL, its length and its path, or the first reason why it doesn't read.
-pub(crate) fn judge(alloc: Global, line: &str) -> Result<Verdict, AllocError>
-    ensures { IfOk result (λ v. v ≡ judged.verdict line.now) }
+pub(crate) fn judge(alloc: Global, rules: Rules, line: &str) -> Result<Verdict, AllocError>
+    ensures { IfOk result (λ v. v ≡ judged.verdict rules line.now) }
 {
     let (url, behind) = split_at_blanks(line);
     let (length, written) = split_at_blanks(behind);
     if lacks_part(url, length, written) {
         return fault(alloc, Code::FetchLine, "");
     }
-    judge_spelling(alloc, url, length, spelling_in(written))
+    judge_spelling(alloc, rules, url, length, spelling_in(written))
 }
 
 /// Whether a part is missing, or the length isn't one. A line that begins with a blank lacks its URL.
@@ -58,13 +60,14 @@ fn spelling_in(written: &str) -> &str
 /// Judges a line of which the URL and the length are good by how the path is written in it.
 fn judge_spelling(
     alloc: Global,
+    rules: Rules,
     url: &str,
     length: &str,
     spelling: &str,
 ) -> Result<Verdict, AllocError>
-    ensures { IfOk result (λ v. v ≡ judged.verdict_by_spelling url.now length.now spelling.now) }
+    ensures { IfOk result (λ v. v ≡ judged.verdict_by_spelling rules url.now length.now spelling.now) }
 {
-    match unescape_path(alloc, spelling) {
+    match unescape_path(alloc, rules, spelling) {
         Ok(path) => judge_path(alloc, url, length, Text::from_string(path)),
         Err(PathFault::BadEscape) => fault(alloc, Code::FetchEscape, spelling),
         Err(PathFault::Memory) => Err(AllocError),

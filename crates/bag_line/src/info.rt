@@ -10,7 +10,7 @@ ghost use Rattle.bag_line.specs.LineFault.{AreFaults};
 
 use crate::fault::{Parsed, unread};
 use crate::info_reader::Reader;
-use bag_text::{Text, lines, text_of};
+use bag_text::{Rules, Text, lines, text_of};
 use std::alloc::{AllocError, Global};
 
 /// An element of the metadata: the number of its first line, its label as it is written, and its value, of which the
@@ -29,23 +29,23 @@ pub struct Element {
 /// with the value of the element above it; after a line that is wrong it is passed over. Each other line that isn't
 /// blank is an element or the fault `InfoLine`. Bytes that aren't UTF-8 have no element and the one fault `NotUtf8`.
 /// Reads in one pass. An error only for want of memory.
-pub fn read_info(alloc: Global, bytes: &[u8]) -> Result<Parsed<Element>, AllocError>
-    ensures items { IfOk result (λ parsed. IsListOf (on (λ e. e.line) nat_cmp) (IsElement (cut.lines_of_file bytes.now)) parsed.items) }
-    ensures faults { IfOk result (λ parsed. AreFaults (IsInfoFault bytes.now) parsed.faults) }
+pub fn read_info(alloc: Global, rules: Rules, bytes: &[u8]) -> Result<Parsed<Element>, AllocError>
+    ensures items { IfOk result (λ parsed. IsListOf (on (λ e. e.line) nat_cmp) (IsElement rules (cut.lines_of_file bytes.now)) parsed.items) }
+    ensures faults { IfOk result (λ parsed. AreFaults (IsInfoFault rules bytes.now) parsed.faults) }
 {
     match text_of(bytes) {
-        Ok(text) => read_text(alloc, text),
+        Ok(text) => read_text(alloc, rules, text),
         Err(_) => unread(alloc),
     }
 }
 
-fn read_text(alloc: Global, text: &str) -> Result<Parsed<Element>, AllocError>
-    ensures items { IfOk result (λ parsed. parsed.items ≡ reading.elements (enumerate_from 1 (cut.lines text.now))) }
-    ensures faults { IfOk result (λ parsed. parsed.faults ≡ reading.faults false (enumerate_from 1 (cut.lines text.now))) }
+fn read_text(alloc: Global, rules: Rules, text: &str) -> Result<Parsed<Element>, AllocError>
+    ensures items { IfOk result (λ parsed. parsed.items ≡ reading.elements rules (enumerate_from 1 (cut.lines text.now))) }
+    ensures faults { IfOk result (λ parsed. parsed.faults ≡ reading.faults rules false (enumerate_from 1 (cut.lines text.now))) }
 {
     let mut reader = Reader::new(alloc);
     for (number, line) in lines(text) {
-        reader.read_line(alloc, number, line)?;
+        reader.read_line(alloc, rules, number, line)?;
     }
     reader.finish(alloc)
 }

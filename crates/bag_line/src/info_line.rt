@@ -3,7 +3,7 @@ ghost use Rattle.std.specs.Prelude.{◌≡◌, MatchOption, Some, None};
 ghost use Rattle.bag_line.specs.Info as spec;
 ghost use Rattle.bag_line.specs.InfoLine.{HasKind};
 
-use bag_text::{is_blank, is_blank_line};
+use bag_text::{Rules, begins_with_blank, ends_with_blank, is_blank_line};
 
 /// What a line is, taken by itself.
 #[derive(Clone, Copy, Debug)]
@@ -19,8 +19,8 @@ pub(crate) enum LineKind<'a> {
 }
 
 /// What a line is.
-pub(crate) fn kind_of(line: &str) -> LineKind<'_>
-    ensures { HasKind line.now result }
+pub(crate) fn kind_of(rules: Rules, line: &str) -> LineKind<'_>
+    ensures { HasKind rules line.now result }
 {
     if is_blank_line(line) {
         return LineKind::Blank;
@@ -28,7 +28,7 @@ pub(crate) fn kind_of(line: &str) -> LineKind<'_>
     if begins_with_blank(line) {
         return LineKind::Continuation;
     }
-    match split(line) {
+    match split(rules, line) {
         Some((label, part)) => LineKind::First { label, part },
         None => LineKind::Faulty,
     }
@@ -36,13 +36,14 @@ pub(crate) fn kind_of(line: &str) -> LineKind<'_>
 
 /// The label and what follows the first colon, where the line splits there.
 #[tactic(auto, using(crate::proofs::InfoLine::lacks, crate::proofs::InfoLine::has))]
-fn split(line: &str) -> Option<(&str, &str)>
-    ensures { MatchOption result (spec.split line.now ≡ None) (λ x. spec.split line.now ≡ Some (x.0.now, x.1.now)) }
+fn split(rules: Rules, line: &str) -> Option<(&str, &str)>
+    ensures { MatchOption result (spec.split rules line.now ≡ None) (λ x. spec.split rules line.now ≡ Some (x.0.now, x.1.now)) }
 {
-    let Some((label, part)) = line.split_once(':') else {
+    let Some((before, part)) = line.split_once(':') else {
         return None;
     };
-    if is_label(label) && is_after_colon(part) {
+    let label = rules.label_of(before);
+    if is_label(label) && rules.may_follow_colon(part) {
         Some((label, part))
     } else {
         None
@@ -54,29 +55,4 @@ fn is_label(text: &str) -> bool
     ensures { result ≡ spec.is_label text.now }
 {
     !text.is_empty() && !ends_with_blank(text)
-}
-
-/// After the colon stands nothing, or a blank.
-fn is_after_colon(text: &str) -> bool
-    ensures { result ≡ spec.is_after_colon text.now }
-{
-    text.is_empty() || begins_with_blank(text)
-}
-
-fn begins_with_blank(text: &str) -> bool
-    ensures { result ≡ spec.begins_with_blank text.now }
-{
-    match text.as_bytes().first() {
-        Some(byte) => is_blank(*byte),
-        None => false,
-    }
-}
-
-fn ends_with_blank(text: &str) -> bool
-    ensures { result ≡ spec.ends_with_blank text.now }
-{
-    match text.as_bytes().last() {
-        Some(byte) => is_blank(*byte),
-        None => false,
-    }
 }

@@ -6,7 +6,7 @@ ghost use Rattle.bag_line.specs.declared.info_reader.Above.TheVariants.{Nothing}
 use crate::fault::{LineFault, Parsed};
 use crate::info::Element;
 use crate::info_line::{LineKind, kind_of};
-use bag_text::{Code, Items, Text, trim};
+use bag_text::{Code, Items, Rules, Text, trim};
 use std::alloc::{AllocError, Global};
 use std::mem;
 
@@ -48,12 +48,13 @@ impl Reader {
     pub(crate) fn read_line(
         &mut self,
         alloc: Global,
+        rules: Rules,
         number: u64,
         line: &str,
     ) -> Result<(), AllocError>
-        ensures { OnOk result (self.new ≡ reading.after_line self.old number line.now) }
+        ensures { OnOk result (self.new ≡ reading.after_line rules self.old number line.now) }
     {
-        match kind_of(line) {
+        match kind_of(rules, line) {
             LineKind::Blank => Ok(()),
             LineKind::Continuation => self.continue_with(alloc, number, line),
             LineKind::First { label, part } => self.begin(alloc, number, label, part),

@@ -1,7 +1,7 @@
 //! Tag files that are read line by line: what they say, and what is wrong with them.
 //!
 //! ```
-//! let fetch = read_fetch(alloc, &bytes)?;
+//! let fetch = read_fetch(alloc, Rules::V10, &bytes)?;
 //! for entry in fetch.items.as_slice() {
 //!     let (line, path) = (entry.line, entry.path.as_str());
 //! }

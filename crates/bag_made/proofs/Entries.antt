@@ -5,6 +5,7 @@ use Rattle.std.specs.List.{slice_get}
 use Rattle.std.proofs.lemmas.Option.{slice_get_within, get_or_from_slice_get}
 use Rattle.bag_text.specs.Lines.{lines_of_file}
 use Rattle.bag_text.specs.Text.{IsText}
+use Rattle.bag_text.specs.declared.rules.Rules.TheVariants.{V10}
 use Rattle.bag_words.specs.declared.alg.Alg.{Alg}
 use Rattle.bag_text.proofs.ListOf.{contains_cases, contains_nothing}
 use Rattle.bag_tags.specs.Manifest.{IsEntry, named}
@@ -15,6 +16,7 @@ use Rattle.bag_tags.specs.declared.tag_name.TagName.TheVariants.{Manifest}
 use Rattle.bag_tags.proofs.ManifestEntries.{entry_named, named_has_entry}
 use Rattle.bag_tree.specs.Bag.{Bag, file, files_of}
 use Rattle.bag_digest.specs.Digest.{digest}
+use Rattle.bag_facts.specs.Facts.{rules_in}
 use Rattle.bag_stages.specs.TagFiles.{lines_or_none, manifest_of, Names, HasSupported}
 use Rattle.bag_validity.specs.ValidityStage.{IsEntryIn}
 use Rattle.bag_write.specs.Element.{NewElement}
@@ -25,6 +27,7 @@ use Rattle.bag_made.specs.Contents.{IsNewText}
 use Rattle.bag_facts.proofs.Mapped.{contains_mapped, mapped_contains}
 use Rattle.bag_made.proofs.FetchIsNotThere.{no_line}
 use Rattle.bag_made.proofs.Held.{tag_held, content_of}
+use Rattle.bag_made.proofs.MadeRules.{made_rules}
 
 -- the place of a member
 pub place_of : {A : Type 0} (xs : List A) (x : A) → Contains xs x → (k : ℕ) × (slice_get xs k ≡ Some x)
@@ -58,7 +61,7 @@ module _ (bag : Bag) (algs : List Alg) (info : List NewElement) where
   IsListed kind alg digest_text path = Contains algs alg × ((c : List ℕ) × Contains (listed kind) (path, c) × (digest_text ≡ digest alg c))
 
   module _ (read : ManifestIsReadAgain) (writable : AreWritable) where
-    abbrev reads : (kind : Kind) (alg : Alg) (e : ManifestEntry) → IsEntry kind alg (lines_of_file (manifest alg (listed kind))) e → Contains (entries_of alg (listed kind)) (e.digest, e.path)
+    abbrev reads : (kind : Kind) (alg : Alg) (e : ManifestEntry) → IsEntry V10 kind alg (lines_of_file (manifest alg (listed kind))) e → Contains (entries_of alg (listed kind)) (e.digest, e.path)
     reads kind alg e is =
         let two = writable kind alg in
         let stands = ((read kind alg (entries_of alg (listed kind)) two.0 two.1).0 e).0 is in
@@ -69,11 +72,11 @@ module _ (bag : Bag) (algs : List Alg) (info : List NewElement) where
         let m = contains_mapped {B = NewEntry} (λ (e : File). (digest alg e.1, e.0)) (listed kind) (d, path) h in
         (m.0.1, subst (λ p. Contains (listed kind) (p, m.0.1)) (ap (λ (y : NewEntry). y.1) m.2) m.1, sym (ap (λ (y : NewEntry). y.0) m.2))
 
-    entry_by : (kind : Kind) (alg : Alg) (e : ManifestEntry) (o : Option (List ℕ)) → file (made bag algs info) (manifest_of kind alg) ≡ o → IsEntry kind alg (lines_or_none o) e → IsListed kind alg e.digest e.path
+    entry_by : (kind : Kind) (alg : Alg) (e : ManifestEntry) (o : Option (List ℕ)) → file (made bag algs info) (manifest_of kind alg) ≡ o → IsEntry (rules_in (made bag algs info)) kind alg (lines_or_none o) e → IsListed kind alg e.digest e.path
     entry_by kind alg e None at is = absurd (no_line (e.line - 1) is.0 is.1.1)
     entry_by kind alg e (Some c) at is =
         let two = holds_manifest kind alg c (tag_held bag algs info (Manifest kind alg) c at) in
-        (two.0, member kind alg e.digest e.path (reads kind alg e (subst (λ b. IsEntry kind alg (lines_of_file b) e) two.1 is)))
+        (two.0, member kind alg e.digest e.path (reads kind alg e (subst (λ b. IsEntry V10 kind alg (lines_of_file b) e) two.1 (subst (λ rules. IsEntry rules kind alg (lines_of_file c) e) (made_rules bag algs info) is))))
 
     -- each entry of a manifest is one that it is to have
     pub entry_listed : (kind : Kind) (alg : Alg) (e : ManifestEntry) → IsEntryIn (made bag algs info) kind alg e → IsListed kind alg e.digest e.path
@@ -81,7 +84,7 @@ module _ (bag : Bag) (algs : List Alg) (info : List NewElement) where
 
     pub named_listed : (kind : Kind) (alg : Alg) (path : List ℕ) → Names (made bag algs info) kind alg path → (c : List ℕ) × Contains (listed kind) (path, c)
     named_listed kind alg path h =
-        let n = named_has_entry kind alg (lines_or_none (file (made bag algs info) (manifest_of kind alg))) path h in
+        let n = named_has_entry (rules_in (made bag algs info)) kind alg (lines_or_none (file (made bag algs info) (manifest_of kind alg))) path h in
         let l = (entry_listed kind alg n.0 n.1).1 in
         (l.0, subst (λ p. Contains (listed kind) (p, l.0)) n.2 l.1)
 
@@ -94,5 +97,7 @@ module _ (bag : Bag) (algs : List Alg) (info : List NewElement) where
         let written = writable kind alg in
         let place = place_of (entries_of alg (listed kind)) (digest alg c, path) (mapped_contains {B = NewEntry} (λ (e : File). (digest alg e.1, e.0)) (listed kind) (path, c) there) in
         let e : ManifestEntry = record { line = place.0 + 1; digest = digest alg c; path = path } in
-        let is : IsEntry kind alg (lines_of_file (manifest alg (listed kind))) e = ((read kind alg (entries_of alg (listed kind)) written.0 written.1).0 e).1 (place.0, refl, place.1) in
-        subst (λ o. Contains (named kind alg (lines_or_none o)) path) (sym text) (entry_named kind alg (lines_of_file (manifest alg (listed kind))) e is)
+        let is : IsEntry V10 kind alg (lines_of_file (manifest alg (listed kind))) e = ((read kind alg (entries_of alg (listed kind)) written.0 written.1).0 e).1 (place.0, refl, place.1) in
+        subst (λ o. Contains (named (rules_in (made bag algs info)) kind alg (lines_or_none o)) path) (sym text)
+        (subst (λ rules. Contains (named rules kind alg (lines_of_file (manifest alg (listed kind)))) path) (sym (made_rules bag algs info))
+        (entry_named V10 kind alg (lines_of_file (manifest alg (listed kind))) e is))

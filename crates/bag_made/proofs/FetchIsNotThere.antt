@@ -9,6 +9,7 @@ use Rattle.bag_line.specs.declared.fetch.FetchEntry.{FetchEntry}
 use Rattle.bag_tags.specs.declared.tag_name.TagName.TheVariants.{Fetch}
 use Rattle.bag_tree.specs.Bag.{Bag}
 use Rattle.bag_fault.specs.declared.fault.Fault.{Fault}
+use Rattle.bag_facts.specs.Facts.{rules_in}
 use Rattle.bag_stages.specs.FetchStage.{InFetch, HasFetch, FetchHolds, IsOfFetch}
 use Rattle.bag_stages.specs.TagFiles.{lines_or_none}
 use Rattle.bag_write.specs.Element.{NewElement}
@@ -24,7 +25,7 @@ module _ (bag : Bag) (algs : List Alg) (info : List NewElement) (f : Fault) wher
 
   nothing_fetched : (e : FetchEntry) → HasFetch (made bag algs info) e → ⊥
   nothing_fetched e h =
-      let none = subst (λ o. IsFetch (lines_or_none o) e) (no_fetch bag algs info) h in
+      let none = subst (λ o. IsFetch (rules_in (made bag algs info)) (lines_or_none o) e) (no_fetch bag algs info) h in
       no_line (e.line - 1) none.0 none.1.1
 
   by_code : (code : Code) → FetchHolds (made bag algs info) f code → ⊥
@@ -33,7 +34,7 @@ module _ (bag : Bag) (algs : List Alg) (info : List NewElement) (f : Fault) wher
   by_code FetchEscape h = not_there h
   by_code FetchUnsafePath h = not_there h
   by_code FetchOutsidePayload h = not_there h
-  by_code FetchNotInManifest h = nothing_fetched h.0 h.3
+  by_code FetchNotInManifest h = nothing_fetched h.0 h.2
   by_code _ h = h
 
   pub no_fetch_fault : IsOfFetch (made bag algs info) f → ⊥

@@ -14,6 +14,8 @@ use Rattle.bag_tags.specs.declared.tag_name.TagName.TheVariants.{Declaration, In
 use Rattle.bag_tags.proofs.TagPaths.{in_base}
 use Rattle.bag_tree.specs.Bag.{Bag, HasFile, file, files_of}
 use Rattle.bag_fault.specs.declared.fault.Fault.{Fault}
+use Rattle.bag_facts.specs.Facts.{rules_in}
+use Rattle.bag_stages.proofs.LeftOut.{left_out_by, not_both}
 use Rattle.bag_completeness.specs.CompletenessStage.{Missing, CompletenessHolds, IsOfCompleteness}
 use Rattle.bag_report.specs.Report.{asks}
 use Rattle.bag_write.specs.Element.{NewElement}
@@ -23,6 +25,7 @@ use Rattle.bag_made.specs.Valid.{full}
 use Rattle.bag_made.proofs.Entries.{AreWritable, listed, listed_named, named_listed}
 use Rattle.bag_made.specs.Contents.{IsNew, IsNewText}
 use Rattle.bag_facts.proofs.Mapped.{mapped_contains}
+use Rattle.bag_made.proofs.MadeRules.{made_rules}
 use Rattle.bag_made.proofs.Held.{held_is, content_of, payload_member, payload_manifest_member, has_payload, has_declaration, has_info, has_manifest}
 
 -- a tag file stands in the base folder
@@ -84,9 +87,12 @@ module _ (bag : Bag) (algs : List Alg) (info : List NewElement) where
     unfolding CompletenessHolds asks
     by_code PayloadFileMissing h asked = none_missing Payload h
     by_code TagFileMissing h asked = none_missing Tag h
-    by_code PayloadFileNotListed (alg, at, (there, is), has, unnamed) asked =
+    by_code PayloadFileNotListed (at, (there, is), out) asked =
         let l = payload_listed f.path there is in
-        unnamed (listed_named bag algs info read writable Payload alg f.path l.0 has l.1)
+        elim (left_out_by (made bag algs info) f.path (rules_in (made bag algs info)) f.alg out) [
+          | inl one ↦ one.1.2.1 (listed_named bag algs info read writable Payload one.1.0 f.path l.0 one.1.2.0 l.1)
+          | inr all ↦ not_both (rules_in (made bag algs info)) (made_rules bag algs info) all.0
+        ]
     by_code NameClash h asked = cc
     by_code _ h asked = h
 

@@ -6,6 +6,7 @@ mod Examples
 pub mod FetchIsNotThere
 pub mod FilesAreNamed
 pub mod Held
+pub mod MadeRules
 pub mod ManifestsRead
 pub mod MetadataReads
 pub mod NoFault

@@ -1,5 +1,6 @@
 -- Stage 5: each line of the manifests of a made bag reads, none names a path twice, and tag manifests name the payload manifests.
 use Rattle.std.proofs.Common.{List, ◌∷◌, sym, subst, Contains}
+use Rattle.bag_text.specs.declared.rules.Rules.TheVariants.{V10}
 use Rattle.bag_words.specs.declared.alg.Alg.{Alg}
 use Rattle.bag_words.specs.declared.code.Code.{Code}
 use Rattle.bag_words.specs.declared.code.Code.TheVariants.{ManifestLine, DigestLength, ManifestEscape, ManifestUnsafePath, ManifestOutsidePayload, TagmanifestNamesPayload, TagmanifestNamesTagmanifest, NamedAgain, PayloadManifestNotListed}
@@ -20,6 +21,7 @@ use Rattle.bag_made.specs.Made.{File, new_payload, entries_of, manifest, named_t
 use Rattle.bag_made.proofs.Entries.{AreWritable, holds_manifest, listed, listed_named}
 use Rattle.bag_facts.proofs.Mapped.{mapped_contains}
 use Rattle.bag_made.proofs.Held.{tag_held, manifest_is}
+use Rattle.bag_made.proofs.MadeRules.{made_rules}
 
 module _ (bag : Bag) (algs : List Alg) (info : List NewElement) where
   -- a payload manifest is one of the tag files that tag manifests name
@@ -38,7 +40,7 @@ module _ (bag : Bag) (algs : List Alg) (info : List NewElement) where
         let two = holds_manifest bag algs info kind alg bytes (tag_held bag algs info (Manifest kind alg) bytes held) in
         let written = writable kind alg in
         (read kind alg (entries_of alg (listed bag algs info kind)) written.0 written.1).1 (in_line f)
-        (subst (λ b. IsManifestFault kind alg b (in_line f)) two.1 wrong)
+        (subst (λ b. IsManifestFault V10 kind alg b (in_line f)) two.1 (subst (λ rules. IsManifestFault rules kind alg bytes (in_line f)) (made_rules bag algs info) wrong))
 
     by_code : (code : Code) → ManifestHolds (made bag algs info) f code → ⊥
     unfolding ManifestHolds
@@ -50,7 +52,7 @@ module _ (bag : Bag) (algs : List Alg) (info : List NewElement) where
     by_code TagmanifestNamesPayload h = reads_well h
     by_code TagmanifestNamesTagmanifest h = reads_well h
     by_code NamedAgain h = reads_well h
-    by_code PayloadManifestNotListed (alg, other, at, has, there, unnamed) =
+    by_code PayloadManifestNotListed (ruled, alg, other, at, has, there, unnamed) =
         let m = manifest_is bag algs info Payload other there.1 in
         let c = manifest m.0 (new_payload (files_of bag)) in
         unnamed (subst (λ text. Names (made bag algs info) Tag alg (manifest_name Payload text)) (sym m.1)

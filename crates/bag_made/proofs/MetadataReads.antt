@@ -8,6 +8,7 @@ use Rattle.std.proofs.lemmas.Bool.{or_from, or_parts}
 use Rattle.std.proofs.lemmas.List.Elements.{All-push}
 use Rattle.std.proofs.lemmas.List.Folds.{list_any-append}
 use Rattle.bag_text.specs.Text.{IsText, same_label}
+use Rattle.bag_text.specs.declared.rules.Rules.TheVariants.{V10}
 use Rattle.bag_words.specs.declared.alg.Alg.{Alg}
 use Rattle.bag_words.specs.declared.code.Code.{Code}
 use Rattle.bag_words.specs.declared.code.Code.TheVariants.{InfoLine, OxumMalformed, OxumAgain, OxumDiffers, NoOxum}
@@ -22,12 +23,13 @@ use Rattle.bag_stages.specs.FaultFields.{in_line}
 use Rattle.bag_stages.specs.Metadata.{bag_info_txt, HasElement}
 use Rattle.bag_stages.specs.MetadataStage.{oxum_label, MetadataHolds, IsOfMetadata}
 use Rattle.bag_stages.specs.Payload.{oxum_of_files, oxum_text}
-use Rattle.bag_stages.specs.TagFiles.{lines_or_none}
+use Rattle.bag_stages.specs.TagFiles.{lines_in, lines_or_none}
 use Rattle.bag_write.specs.Element.{NewElement, info_text, is_bad_element, is_bad_label, is_bad_value}
 use Rattle.bag_write.specs.ReadAgain.{InfoIsReadAgain}
 use Rattle.bag_made.specs.Made.{new_payload, new_elements, made}
 use Rattle.bag_made.specs.Valid.{CanMake, is_refused}
 use Rattle.bag_made.proofs.Held.{tag_held, has_info, content_of}
+use Rattle.bag_made.proofs.MadeRules.{made_rules}
 use Rattle.bag_made.proofs.OxumReads.{oxum_reads, oxum_is_text, oxum_is_good}
 use Rattle.bag_made.proofs.PayloadIsTheFolder.{payload_size, oxum_is}
 
@@ -90,7 +92,7 @@ module _ (bag : Bag) (algs : List Alg) (info : List NewElement) (can : CanMake b
 
     stands : (e : Element) → HasElement (made bag algs info) oxum_label e → (e.line ≡ length info + 1) × (e.value ≡ oxum_text sums)
     stands e (is, same) =
-        let place = ((read elements elements_text elements_good).0 e).0 (subst (λ o. IsElement (lines_or_none o) e) in_text is) in
+        let place = ((read elements elements_text elements_good).0 e).0 (subst (λ o. IsElement V10 (lines_or_none o) e) in_text (subst (λ rules. IsElement rules (lines_in (made bag algs info) bag_info_txt) e) (made_rules bag algs info) is)) in
         let only = only_last info last (e.label, e.value) place.0 can.good place.2 same in
         (place.1 ∙ ap (λ k. k + 1) only.0, ap (λ (x : NewElement). x.1) only.1)
 
@@ -99,14 +101,14 @@ module _ (bag : Bag) (algs : List Alg) (info : List NewElement) (can : CanMake b
     has_oxum =
         let e : Element = record { line = length info + 1; label = oxum_label; value = oxum_text sums } in
         let is = ((read elements elements_text elements_good).0 e).1 (length info, refl, last_place info last) in
-        (e, (subst (λ o. IsElement (lines_or_none o) e) (sym in_text) is, refl))
+        (e, (subst (λ rules. IsElement rules (lines_in (made bag algs info) bag_info_txt) e) (sym (made_rules bag algs info)) (subst (λ o. IsElement V10 (lines_or_none o) e) (sym in_text) is), refl))
 
     module _ (f : Fault) where
       by_code : (code : Code) → MetadataHolds (made bag algs info) f code → ⊥
       unfolding MetadataHolds
       by_code InfoLine (at, alg, (bytes, held, wrong)) =
           (read elements elements_text elements_good).1 (in_line f)
-          (subst (λ b. IsInfoFault b (in_line f)) (tag_held bag algs info Info bytes held) wrong)
+          (subst (λ b. IsInfoFault V10 b (in_line f)) (tag_held bag algs info Info bytes held) (subst (λ rules. IsInfoFault rules bytes (in_line f)) (made_rules bag algs info) wrong))
       by_code OxumMalformed (e, at, first, none) =
           let read_as : oxum_of e.value ≡ Some sums = ap oxum_of (stands e first.0).1 ∙ oxum_reads sums octets streams in
           (let clash : None ≡ Some sums = sym none ∙ read_as in cc)

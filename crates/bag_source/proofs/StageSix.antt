@@ -19,7 +19,7 @@ use Rattle.bag_facts.specs.declared.options.Options.{Options}
 use Rattle.bag_stages.proofs.ByItem.{OfSome, of_last_or_before, of_one_more}
 use Rattle.bag_stages.proofs.ByPath.{take_whole}
 use Rattle.bag_completeness.specs.ClashStage.{IsSoughtClash}
-use Rattle.bag_completeness.specs.CompletenessFaults.{IsIncomplete, IsWrong}
+use Rattle.bag_completeness.specs.CompletenessFaults.{IsIncomplete, IsUnlistedInAll, IsWrong}
 use Rattle.bag_completeness.specs.CompletenessStage.{IsSoughtInStageSix}
 use Rattle.bag_completeness.specs.PayloadNamed.{IsNamedExactly}
 use Rattle.bag_completeness.proofs.CompletenessFaults.{completeness_of_stage_six, is_sought, sought_is}
@@ -28,7 +28,7 @@ use Rattle.bag_report.specs.Report.{Check, asks, is_above, IsReported}
 use Rattle.bag_report.proofs.Asked.{not_reached}
 use Rattle.bag_report.proofs.Filtered.{filtered_list}
 use Rattle.bag_report.proofs.Found.{is_of_completeness, of_completeness}
-use Rattle.bag_source.specs.Completeness.{IsAbove, IsOfAlg, IsSoughtAbove, IsStageAbove}
+use Rattle.bag_source.specs.Completeness.{IsAbove, IsOfAlg, IsOfSomeAlg, IsSoughtAbove, IsStageAbove}
 use Rattle.bag_source.specs.Merge.{union}
 use Rattle.bag_source.proofs.UnitedLists.{united}
 
@@ -59,21 +59,30 @@ module _ (after : Option Fault) (bag : Bag) where
       (same_above after (λ f. OfAlgs before f ⊎ IsOfAlg bag alg f) (OfAlgs (before ++ alg ∷ [])) (union faults of_alg) (of_one_more (IsOfAlg bag) before alg) (of_last_or_before (IsOfAlg bag) before alg)
       (united after (OfAlgs before) (IsOfAlg bag alg) faults of_alg first next))
 
-  to_incomplete : (f : Fault) → OfAlgs algs f → IsIncomplete bag f
-  to_incomplete f (alg, listed, inl (inl h)) = inl (inl (alg, h))
-  to_incomplete f (alg, listed, inl (inr h)) = inr (alg, h)
-  to_incomplete f (alg, listed, inr h) = inl (inr (alg, h))
-
-  from_incomplete : (f : Fault) → IsIncomplete bag f → OfAlgs algs f
-  from_incomplete f (inl (inl (alg, h))) = (alg, each_is_listed alg, inl (inl h))
-  from_incomplete f (inl (inr (alg, h))) = (alg, each_is_listed alg, inr h)
-  from_incomplete f (inr (alg, h)) = (alg, each_is_listed alg, inl (inr h))
-
   pub all_algs : (i : ℕ) (faults : List Fault) → length algs ≤ i → IsListOf fault_cmp (IsAbove after (OfAlgs (take i algs))) faults
-      → IsListOf fault_cmp (IsAbove after (IsIncomplete bag)) faults
+      → IsListOf fault_cmp (IsAbove after (IsOfSomeAlg bag)) faults
   all_algs i faults le list =
-      same_above after (OfAlgs algs) (IsIncomplete bag) faults to_incomplete from_incomplete
+      same_above after (OfAlgs algs) (IsOfSomeAlg bag) faults (λ f h. (h.0, h.2)) (λ f h. (h.0, each_is_listed h.0, h.1))
       (subst (λ some. IsListOf fault_cmp (IsAbove after (OfAlgs some)) faults) (take_whole algs i le) list)
+
+  to_incomplete : (f : Fault) → IsOfSomeAlg bag f ⊎ IsUnlistedInAll bag f → IsIncomplete bag f
+  to_incomplete f (inl (alg, inl (inl h))) = inl (inl (alg, h))
+  to_incomplete f (inl (alg, inl (inr h))) = inr (inl (alg, h))
+  to_incomplete f (inl (alg, inr h)) = inl (inr (alg, h))
+  to_incomplete f (inr h) = inr (inr h)
+
+  from_incomplete : (f : Fault) → IsIncomplete bag f → IsOfSomeAlg bag f ⊎ IsUnlistedInAll bag f
+  from_incomplete f (inl (inl (alg, h))) = inl (alg, inl (inl h))
+  from_incomplete f (inl (inr (alg, h))) = inl (alg, inr h)
+  from_incomplete f (inr (inl (alg, h))) = inl (alg, inl (inr h))
+  from_incomplete f (inr (inr h)) = inr h
+
+  -- and those of all payload manifests at once
+  pub algs_and_all : (of_algs of_all : List Fault) → IsListOf fault_cmp (IsAbove after (IsOfSomeAlg bag)) of_algs → IsListOf fault_cmp (IsAbove after (IsUnlistedInAll bag)) of_all
+      → IsListOf fault_cmp (IsAbove after (IsIncomplete bag)) (union of_algs of_all)
+  algs_and_all of_algs of_all p q =
+      same_above after (λ f. IsOfSomeAlg bag f ⊎ IsUnlistedInAll bag f) (IsIncomplete bag) (union of_algs of_all) to_incomplete from_incomplete
+      (united after (IsOfSomeAlg bag) (IsUnlistedInAll bag) of_algs of_all p q)
 
   -- and the clashes of names
   pub all_sought : (clashes : Bool) (files names : List Fault) → IsListOf fault_cmp (IsAbove after (IsIncomplete bag)) files

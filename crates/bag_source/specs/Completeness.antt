@@ -22,6 +22,10 @@ IsAbove after IsOne f = IsOne f × (is_above after f ≡ true)
 abbrev pub IsOfAlg : Bag → Alg → Fault → Type 0
 IsOfAlg bag alg f = IsWrong bag alg f ⊎ IsMissing bag Tag alg f
 
+-- a manifest of some algorithm is
+abbrev pub IsOfSomeAlg : Bag → Fault → Type 0
+IsOfSomeAlg bag f = (alg : Alg) × IsOfAlg bag alg f
+
 -- a fault of completeness or of names that is looked for, above a cursor
 abbrev pub IsSoughtAbove : Bool → Bag → Option Fault → Fault → Type 0
 IsSoughtAbove clashes bag after f = IsSoughtInStageSix clashes bag f × (is_above after f ≡ true)

@@ -10,12 +10,12 @@ ghost use Rattle.bag_facts.specs.Options.{reaches};
 ghost use Rattle.bag_facts.specs.declared.options.Depth.TheVariants.{Declaration};
 ghost use Rattle.bag_completeness.specs.CompletenessFaults.{IsIncomplete, IsWrong};
 ghost use Rattle.bag_profile.specs.Profile.{Profile};
-ghost use Rattle.bag_source.specs.Completeness.{IsAbove, IsOfAlg, IsSoughtAbove, IsStageAbove};
+ghost use Rattle.bag_source.specs.Completeness.{IsAbove, IsOfAlg, IsOfSomeAlg, IsSoughtAbove, IsStageAbove};
 ghost use Rattle.bag_source.specs.Source.{first_of};
 
 use crate::ascending::{above, merged};
 use crate::{Fixed, InOrder, Quiet, Source};
-use bag_completeness::{clashes_asked, is_exact, missing_of, unlisted_of};
+use bag_completeness::{clashes_asked, is_exact, missing_of, unlisted_in_all, unlisted_of};
 use bag_facts::Facts;
 use bag_fault::Fault;
 use bag_tags::Kind;
@@ -75,10 +75,21 @@ fn sought(alloc: Global, facts: &Facts, after: Option<&Fault>) -> Result<Vec<Fau
     merged(alloc, of_files, of_names)
 }
 
-/// The faults above a cursor that files are missing or aren't listed.
+/// The faults above a cursor that files are missing or aren't listed: those of each manifest, and those of all payload
+/// manifests at once, which a bag has by the rules of 0.97.
 fn of_files(alloc: Global, facts: &Facts, after: Option<&Fault>) -> Result<Vec<Fault>, AllocError>
     ensures { IfOk result (λ faults. (bag : Bag) → IsFactsOf bag facts.now → facts.now.options.depth ≢ Declaration
         → IsListOf fault_cmp (IsAbove (option_copied after.entry) (IsIncomplete bag)) faults.items) }
+{
+    let of_algs = of_algs(alloc, facts, after)?;
+    let of_all = above(unlisted_in_all(alloc, facts)?, after);
+    merged(alloc, of_algs, of_all)
+}
+
+/// Those of the manifests of each algorithm.
+fn of_algs(alloc: Global, facts: &Facts, after: Option<&Fault>) -> Result<Vec<Fault>, AllocError>
+    ensures { IfOk result (λ faults. (bag : Bag) → IsFactsOf bag facts.now → facts.now.options.depth ≢ Declaration
+        → IsListOf fault_cmp (IsAbove (option_copied after.entry) (IsOfSomeAlg bag)) faults.items) }
 {
     let mut faults = Vec::new(alloc);
     for alg in Alg::ALL {

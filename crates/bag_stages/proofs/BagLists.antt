@@ -20,7 +20,7 @@ use Rattle.bag_tree.specs.Bag.{Bag, HasFile}
 use Rattle.bag_tree.proofs.SameText.{one_text}
 use Rattle.bag_stages.specs.HasList.{HasList}
 use Rattle.bag_stages.specs.TagFiles.{HasManifest}
-use Rattle.bag_stages.proofs.HasLists.{nothing, only, same_set, either, for_each, for_all}
+use Rattle.bag_stages.proofs.HasLists.{Decided, nothing, one_where, only, same_set, some_decided, either, for_each, for_all}
 use Rattle.bag_stages.proofs.PartFaults.{one_alg}
 
 -- the algorithm's text in the name of a manifest
@@ -90,3 +90,12 @@ module _ {A : Type 0} where
         let manifests = over_kinds OfManifest (λ kind. over_algs (λ alg. P (Manifest kind alg)) (λ alg. each (Manifest kind alg))) in
         same_set OfEither (λ x. (name : TagName) × P name x) to_name (λ x h. from_name x h.0 h.1)
         (either (P Declaration) _ (each Declaration) (either (P Info) _ (each Info) (either (P Fetch) _ (each Fetch) manifests)))
+
+-- whether something holds of some algorithm
+pub some_alg : (D : Alg → Type 0) → ((alg : Alg) → Decided (D alg)) → Decided ((alg : Alg) × D alg)
+some_alg D each =
+    let all = over_algs (λ (alg : Alg) (x : Alg). D alg × (x ≡ alg)) (λ alg. one_where alg (D alg) (each alg)) in
+    elim (some_decided _ all) [
+      | inl h ↦ inl (h.1.0, h.1.1.0)
+      | inr none ↦ inr (λ h. none (h.0, (h.0, (h.1, refl))))
+    ]

@@ -1,20 +1,22 @@
 -- The faults of the list of files to fetch.
-use Rattle.std.proofs.Common.{◌≡◌, ◌<◌, ◌⊎◌, inl, inr, ◌+◌, ◌++◌, ℕ, length, take, get_or, List, [], ◌∷◌, Option, None, Some, true, false, map, refl, sym, ap, ◌∙◌, subst, arith, is_some, Contains}
+use Rattle.std.proofs.Common.{◌≡◌, ◌<◌, ◌⊎◌, inl, inr, ◌+◌, ◌++◌, ℕ, length, take, get_or, List, [], ◌∷◌, Option, None, Some, true, false, map, refl, sym, ap, ◌∙◌, subst, arith, is_lt, is_some, Contains}
+use Rattle.std.specs.List.Sorted.{IsPermutation, IsSortedBy}
 use Rattle.std.specs.Ordering.{nat_cmp, on}
 use Rattle.std.specs.Str.{is_utf8}
 use Rattle.std.specs.declared.cmp.Ordering.TheVariants.{Less}
 use Rattle.std.proofs.lemmas.List.{get_or_default}
-use Rattle.bag_text.specs.Alg.{algs, rank, rank_cmp}
+use Rattle.bag_text.specs.Alg.{algs, rank_cmp}
 use Rattle.bag_text.specs.Code.{stage}
 use Rattle.bag_text.specs.Lines.{lines_of_file}
 use Rattle.bag_text.specs.Order.{IsListOf}
 use Rattle.bag_text.specs.Text.{text_cmp, IsNoText}
+use Rattle.bag_text.specs.declared.rules.Rules.{Rules}
+use Rattle.bag_text.specs.declared.rules.Rules.TheVariants.{V10, V097}
 use Rattle.bag_words.specs.declared.alg.Alg.{Alg}
-use Rattle.bag_words.specs.declared.alg.Alg.TheVariants.{Md5}
 use Rattle.bag_words.specs.declared.code.Code.{Code}
 use Rattle.bag_words.specs.declared.code.Code.TheVariants.{NotUtf8, FetchLine, FetchEscape, FetchUnsafePath, FetchOutsidePayload, FetchNotInManifest}
 use Rattle.bag_words.proofs.AlgSets.{each_is_listed, list_ascends}
-use Rattle.bag_text.proofs.ListOf.{contains_cases, contains_nothing, joined, nothing_listed, one_listed, same_members}
+use Rattle.bag_text.proofs.ListOf.{contains_cases, contains_nothing, nothing_listed, one_listed, same_members}
 use Rattle.bag_line.specs.Fetch.{IsFetch, FetchFault, IsFetchFault}
 use Rattle.bag_line.specs.LineFault.{AreFaults, not_utf8}
 use Rattle.bag_line.specs.declared.fault.LineFault.{LineFault}
@@ -27,36 +29,41 @@ use Rattle.bag_tags.specs.declared.manifest.ManifestEntry.{ManifestEntry}
 use Rattle.bag_tree.specs.Bag.{Bag, file}
 use Rattle.bag_fault.specs.declared.fault.Fault.{Fault}
 use Rattle.bag_fault.specs.FaultOrder.{fault_cmp}
+use Rattle.bag_fault.proofs.Ordered.{fault_cmp_total, fault_cmp_same}
+use Rattle.bag_facts.specs.Facts.{rules_in}
 use Rattle.bag_facts.specs.TagFacts.{entry_paths, AreByPath, IsFetchListOf, IsManifestNamed, IsReadOf}
 use Rattle.bag_facts.specs.declared.fetch_list.FetchList.{FetchList}
 use Rattle.bag_facts.specs.declared.manifest.Manifest.{Manifest}
-use Rattle.bag_stages.specs.FaultFields.{in_file, in_line}
-use Rattle.bag_stages.specs.FetchFaults.{AreByLine, AreFetched, IsNotNamed, IsNotNamedAmong, IsNotInManifest, IsNotInSome, not_in_manifest}
-use Rattle.bag_stages.specs.FetchStage.{fetch_txt, FetchFaultsAreOfStageFour, FetchHolds, InFetch, IsOfFetch}
+use Rattle.bag_stages.specs.FaultFields.{in_file, in_line, of_whole, At}
+use Rattle.bag_stages.specs.FetchFaults.{AreByLine, AreFetched, IsNotNamed, IsNotNamedAmong, IsNotInAny, IsNotInManifest, IsNotInSome, IsNotListed, not_in_manifest}
+use Rattle.bag_stages.specs.FetchStage.{fetch_txt, FetchFaultsAreOfStageFour, FetchHolds, HasFetch, InFetch, IsOfFetch}
+use Rattle.bag_stages.specs.LeftOut.{IsLeftOut}
 use Rattle.bag_stages.specs.TagFiles.{lines_or_none, manifest_of}
 use Rattle.bag_stages.proofs.ByItem.{OfSome, one_item_more}
 use Rattle.bag_stages.proofs.InFile.{less_by_alg, less_of_file, listed_in_file}
+use Rattle.bag_stages.proofs.LeftOut.{by_all, by_one, left_out_by, not_both}
 use Rattle.bag_stages.proofs.ManifestFaults.{names_entry, entry_names}
+use Rattle.bag_stages.proofs.Sorted.{sorted_together}
 
-reason_stage : (c : Code) → IsReasonCode c → stage c ≡ 4
-reason_stage FetchLine is = refl
-reason_stage FetchEscape is = refl
-reason_stage FetchUnsafePath is = refl
-reason_stage FetchOutsidePayload is = refl
-reason_stage other is = absurd is
+reason_stage : (rules : Rules) (c : Code) → IsReasonCode rules c → stage c ≡ 4
+reason_stage rules FetchLine is = refl
+reason_stage rules FetchEscape is = refl
+reason_stage rules FetchUnsafePath is = refl
+reason_stage rules FetchOutsidePayload is = refl
+reason_stage rules other is = absurd is
 
 -- what is wrong with a text is found at the fourth stage
-text_stage : (c : Code) (bytes : List ℕ) (x : LineFault) → is_utf8 bytes ≡ true → FetchFault c bytes x → stage c ≡ 4
-text_stage NotUtf8 bytes x text h = let clash : true ≡ false = sym text ∙ h.2 in cc
-text_stage c bytes x text h = reason_stage c (reason_code h.0 (c, x.detail) h.2.1)
+text_stage : (rules : Rules) (c : Code) (bytes : List ℕ) (x : LineFault) → is_utf8 bytes ≡ true → FetchFault rules c bytes x → stage c ≡ 4
+text_stage rules NotUtf8 bytes x text h = let clash : true ≡ false = sym text ∙ h.2 in cc
+text_stage rules c bytes x text h = reason_stage rules c (reason_code rules h.0 (c, x.detail) h.2.1)
 
 -- bytes that aren't UTF-8 are of the second stage
 other_stage : stage NotUtf8 ≡ 4 → ⊥
 other_stage e = omega (arith, e)
 
-line_code : (c : Code) (bytes : List ℕ) (x : LineFault) → stage c ≡ 4 → FetchFault c bytes x → IsReasonCode c
-line_code NotUtf8 bytes x s h = absurd (other_stage s)
-line_code c bytes x s h = reason_code h.0 (c, x.detail) h.2.1
+line_code : (rules : Rules) (c : Code) (bytes : List ℕ) (x : LineFault) → stage c ≡ 4 → FetchFault rules c bytes x → IsReasonCode rules c
+line_code rules NotUtf8 bytes x s h = absurd (other_stage s)
+line_code rules c bytes x s h = reason_code rules h.0 (c, x.detail) h.2.1
 
 -- what the codes of the stage say
 module _ (bag : Bag) (f : Fault) where
@@ -73,7 +80,7 @@ module _ (bag : Bag) (f : Fault) where
   holds_stage FetchNotInManifest h = refl
   holds_stage other h = absurd h
 
-  line_row : (c : Code) → IsReasonCode c → InFetch bag f → FetchHolds bag f c
+  line_row : (c : Code) → IsReasonCode (rules_in bag) c → InFetch bag f → FetchHolds bag f c
   unfolding FetchHolds
   line_row FetchLine is h = h
   line_row FetchEscape is h = h
@@ -81,35 +88,58 @@ module _ (bag : Bag) (f : Fault) where
   line_row FetchOutsidePayload is h = h
   line_row other is h = absurd is
 
-  some_of_holds : (c : Code) → f.code ≡ c → FetchHolds bag f c → IsOfLine ⊎ IsNotInSome bag f
+  -- payload manifests leave a file out: one does, or all do
+  not_listed : f.code ≡ FetchNotInManifest → (e : FetchEntry) → At f fetch_txt f.alg e.line e.path → HasFetch bag e → IsLeftOut (rules_in bag) bag f.alg e.path → IsNotListed bag f
+  not_listed code e at has out =
+      let told : (alg : Option Alg) → f.alg ≡ alg → At f fetch_txt alg e.line e.path = λ alg is. subst (λ a. At f fetch_txt a e.line e.path) is at in
+      elim (left_out_by bag e.path (rules_in bag) f.alg out) [
+        | inl one ↦ inl (one.0, (one.1.0, (code, (e, told (Some one.1.0) one.1.1, has, one.1.2))))
+        | inr all ↦ inr (all.0, (code, (e, told None all.1, has, all.2)))
+      ]
+
+  untold : (e : FetchEntry) (alg : Option Alg) → At f fetch_txt alg e.line e.path → At f fetch_txt f.alg e.line e.path
+  untold e alg at = subst (λ a. At f fetch_txt a e.line e.path) (sym at.alg_is) at
+
+  listed_holds : IsNotListed bag f → FetchHolds bag f FetchNotInManifest
+  unfolding FetchHolds
+  listed_holds (inl (by, (alg, (code, (e, at, has, out))))) =
+      (e, untold e (Some alg) at, has, subst (λ a. IsLeftOut (rules_in bag) bag a e.path) (sym at.alg_is) (by_one bag e.path (rules_in bag) alg by out))
+  listed_holds (inr (by, (code, (e, at, has, out)))) =
+      (e, untold e None at, has, subst (λ a. IsLeftOut (rules_in bag) bag a e.path) (sym at.alg_is) (by_all bag e.path (rules_in bag) by out))
+
+  pub listed_code : IsNotListed bag f → f.code ≡ FetchNotInManifest
+  listed_code (inl (by, (alg, (code, more)))) = code
+  listed_code (inr (by, (code, more))) = code
+
+  some_of_holds : (c : Code) → f.code ≡ c → FetchHolds bag f c → IsOfLine ⊎ IsNotListed bag f
   unfolding FetchHolds
   some_of_holds FetchLine e h = inl (h, ap stage e)
   some_of_holds FetchEscape e h = inl (h, ap stage e)
   some_of_holds FetchUnsafePath e h = inl (h, ap stage e)
   some_of_holds FetchOutsidePayload e h = inl (h, ap stage e)
-  some_of_holds FetchNotInManifest e (entry, alg, at, has, there, lacks) = inr (alg, (e, (entry, at, has, there, lacks)))
+  some_of_holds FetchNotInManifest e (entry, at, has, out) = inr (not_listed e entry at has out)
   some_of_holds other e h = absurd h
 
-  pub of_some : IsOfFetch bag f → IsOfLine ⊎ IsNotInSome bag f
+  pub of_some : IsOfFetch bag f → IsOfLine ⊎ IsNotListed bag f
   unfolding IsOfFetch
   of_some h = some_of_holds f.code refl h
 
-  pub some_is : IsOfLine ⊎ IsNotInSome bag f → IsOfFetch bag f
+  pub some_is : IsOfLine ⊎ IsNotListed bag f → IsOfFetch bag f
   unfolding IsOfFetch FetchHolds
-  some_is (inl h) = line_row f.code (line_code f.code h.0.2.0 (in_line f) h.1 h.0.2.2) h.0
-  some_is (inr (alg, (code, (entry, at, has, there, lacks)))) = subst (FetchHolds bag f) (sym code) (entry, alg, at, has, there, lacks)
+  some_is (inl h) = line_row f.code (line_code (rules_in bag) f.code h.0.2.0 (in_line f) h.1 h.0.2.2) h.0
+  some_is (inr h) = subst (FetchHolds bag f) (sym (listed_code h)) (listed_holds h)
 
 pub fetch_of_stage_four : FetchFaultsAreOfStageFour
 unfolding IsOfFetch
 fetch_of_stage_four bag f h = holds_stage bag f f.code h
 
 -- the same fault of two files is ordered as their lines
-pub less_by_line : (path : List ℕ) (alg : Alg) (named : List ManifestEntry) (e g : FetchEntry) (x y : Fault) → IsNotNamed path alg named e x → IsNotNamed path alg named g y
+pub less_by_line : (path : List ℕ) (alg : Option Alg) (e g : FetchEntry) (x y : Fault) → x ≡ not_in_manifest path alg e → y ≡ not_in_manifest path alg g
     → on (λ e. e.line) nat_cmp e g ≡ Less → fault_cmp x y ≡ Less
-less_by_line path alg named e g x y a b less =
+less_by_line path alg e g x y a b less =
     let first : Fault = not_in_manifest path alg e in
     let second : Fault = not_in_manifest path alg g in
-    subst (λ f. fault_cmp f y ≡ Less) (sym a.0) (subst (λ f. fault_cmp first f ≡ Less) (sym b.0) (less_of_file path (Some alg) first second refl refl refl refl refl (rw less refl)))
+    subst (λ f. fault_cmp f y ≡ Less) (sym a) (subst (λ f. fault_cmp first f ≡ Less) (sym b) (less_of_file path alg first second refl refl refl refl refl (rw less refl)))
 
 -- one file, of which the manifest has an entry or has none
 pub named_listed : (path : List ℕ) (alg : Alg) (named : List ManifestEntry) (e : FetchEntry) → Contains (entry_paths named) e.path
@@ -117,17 +147,12 @@ pub named_listed : (path : List ℕ) (alg : Alg) (named : List ManifestEntry) (e
 named_listed path alg named e has = nothing_listed fault_cmp (IsNotNamed path alg named e) (λ f h. h.1 has)
 
 pub unnamed_listed : (path : List ℕ) (alg : Alg) (named : List ManifestEntry) (e : FetchEntry) → ¬ (Contains (entry_paths named) e.path)
-    → IsListOf fault_cmp (IsNotNamed path alg named e) (not_in_manifest path alg e ∷ [])
-unnamed_listed path alg named e lacks = one_listed fault_cmp (IsNotNamed path alg named e) (not_in_manifest path alg e) (refl, lacks) (λ f h. h.0)
-
--- no algorithm comes first
-none_first : (alg : Alg) → nat_cmp 0 (rank alg) ≡ Less
-none_first Md5 = refl
-none_first other = refl
+    → IsListOf fault_cmp (IsNotNamed path alg named e) (not_in_manifest path (Some alg) e ∷ [])
+unnamed_listed path alg named e lacks = one_listed fault_cmp (IsNotNamed path alg named e) (not_in_manifest path (Some alg) e) (refl, lacks) (λ f h. h.0)
 
 -- a payload manifest that is there
 module _ (bag : Bag) (alg : Alg) (bytes : List ℕ) (named : List ManifestEntry) (entries : List FetchEntry) (there : file bag (manifest_of Payload alg) ≡ Some bytes)
-    (list : IsListOf (on (λ e. e.path) text_cmp) (IsEntry Payload alg (lines_of_file bytes)) named) (fetched : AreFetched bag entries) where
+    (list : IsListOf (on (λ e. e.path) text_cmp) (IsEntry (rules_in bag) Payload alg (lines_of_file bytes)) named) (fetched : AreFetched bag entries) where
   to_not_in : (f : Fault) → IsNotNamedAmong fetch_txt alg named entries f → IsNotInManifest bag alg f
   to_not_in f (e, c, (is, lacks)) = (
     ap (λ (x : Fault). x.code) is,
@@ -135,13 +160,12 @@ module _ (bag : Bag) (alg : Alg) (bytes : List ℕ) (named : List ManifestEntry)
       e,
       record { path_is = ap (λ (x : Fault). x.path) is; alg_is = ap (λ (x : Fault). x.alg) is; line_is = ap (λ (x : Fault). x.line) is; detail_is = ap (λ (x : Fault). x.detail) is },
       (fetched.members e).0 c,
-      ap is_some there,
-      (λ names. lacks (names_entry bag Payload alg bytes named there list e.path names)),
+      (ap is_some there, (λ names. lacks (names_entry bag Payload alg bytes named there list e.path names))),
     ),
   )
 
   from_not_in : (f : Fault) → IsNotInManifest bag alg f → IsNotNamedAmong fetch_txt alg named entries f
-  from_not_in f (code, (e, at, has, has_manifest, lacks)) = (
+  from_not_in f (code, (e, at, has, (has_manifest, lacks))) = (
     e,
     (fetched.members e).1 has,
     (
@@ -164,24 +188,24 @@ not_there IsOf (Some bytes) read = absurd read
 
 -- the manifest of an algorithm, as it was read
 module _ (bag : Bag) (alg : Alg) where
-  pub read_manifest_listed : (m : Manifest) (path : List ℕ) (entries : List FetchEntry) (faults : List Fault) → IsReadOf (IsManifestNamed Payload alg) (file bag (manifest_of Payload alg)) (Some m)
+  pub read_manifest_listed : (m : Manifest) (path : List ℕ) (entries : List FetchEntry) (faults : List Fault) → IsReadOf (IsManifestNamed (rules_in bag) Payload alg) (file bag (manifest_of Payload alg)) (Some m)
       → path ≡ fetch_txt → AreFetched bag entries → (AreByPath m.entries → AreByLine entries → IsListOf fault_cmp (IsNotNamedAmong path m.alg m.entries entries) faults)
       → IsListOf fault_cmp (IsNotInManifest bag alg) faults
   read_manifest_listed m path entries faults read at fetched list =
-      let said = read_bytes (IsManifestNamed Payload alg) (file bag (manifest_of Payload alg)) m read in
+      let said = read_bytes (IsManifestNamed (rules_in bag) Payload alg) (file bag (manifest_of Payload alg)) m read in
       let bytes : List ℕ = said.0 in
-      let named : IsListOf (on (λ e. e.path) text_cmp) (IsEntry Payload alg (lines_of_file bytes)) m.entries =
-      subst (λ a. IsListOf (on (λ e. e.path) text_cmp) (IsEntry Payload a (lines_of_file bytes)) m.entries) said.2.2
-      (subst (λ k. IsListOf (on (λ e. e.path) text_cmp) (IsEntry k m.alg (lines_of_file bytes)) m.entries) said.2.1 said.2.0.entries) in
+      let named : IsListOf (on (λ e. e.path) text_cmp) (IsEntry (rules_in bag) Payload alg (lines_of_file bytes)) m.entries =
+      subst (λ a. IsListOf (on (λ e. e.path) text_cmp) (IsEntry (rules_in bag) Payload a (lines_of_file bytes)) m.entries) said.2.2
+      (subst (λ k. IsListOf (on (λ e. e.path) text_cmp) (IsEntry (rules_in bag) k m.alg (lines_of_file bytes)) m.entries) said.2.1 said.2.0.entries) in
       not_in_listed bag alg bytes m.entries entries said.1 named fetched faults
       (subst (λ p. IsListOf fault_cmp (IsNotNamedAmong p alg m.entries entries) faults) at
       (subst (λ a. IsListOf fault_cmp (IsNotNamedAmong path a m.entries entries) faults) said.2.2 (list named.ascending fetched.ascending)))
 
   -- one that isn't there lacks nothing
-  pub no_manifest_listed : IsReadOf (IsManifestNamed Payload alg) (file bag (manifest_of Payload alg)) None → IsListOf fault_cmp (IsNotInManifest bag alg) []
+  pub no_manifest_listed : IsReadOf (IsManifestNamed (rules_in bag) Payload alg) (file bag (manifest_of Payload alg)) None → IsListOf fault_cmp (IsNotInManifest bag alg) []
   no_manifest_listed read =
       nothing_listed fault_cmp (IsNotInManifest bag alg)
-      (λ f h. let clash : false ≡ true = ap is_some (sym (not_there (IsManifestNamed Payload alg) (file bag (manifest_of Payload alg)) read)) ∙ h.1.3 in cc)
+      (λ f h. let clash : false ≡ true = ap is_some (sym (not_there (IsManifestNamed (rules_in bag) Payload alg) (file bag (manifest_of Payload alg)) read)) ∙ h.1.3.0 in cc)
 
 module _ (bag : Bag) where
   -- the manifests, one after another
@@ -200,64 +224,77 @@ module _ (bag : Bag) where
   all_algs_listed faults list = same_members fault_cmp _ _ faults (λ f h. (h.0, h.2)) (λ f h. (h.0, each_is_listed h.0, h.1)) list
 
   -- the faults of the lines of a text
-  pub lines_listed : (bytes : List ℕ) (lines : List LineFault) → file bag fetch_txt ≡ Some bytes → is_utf8 bytes ≡ true → AreFaults (IsFetchFault bytes) lines
+  pub lines_listed : (bytes : List ℕ) (lines : List LineFault) → file bag fetch_txt ≡ Some bytes → is_utf8 bytes ≡ true → AreFaults (IsFetchFault (rules_in bag) bytes) lines
       → IsListOf fault_cmp (IsOfLine bag) (map (in_file fetch_txt None) lines)
   lines_listed bytes lines there text list =
-      let stages : (x : LineFault) → IsFetchFault bytes x → stage x.code ≡ 4 = λ x h. text_stage x.code bytes x text h in
+      let stages : (x : LineFault) → IsFetchFault (rules_in bag) bytes x → stage x.code ≡ 4 = λ x h. text_stage (rules_in bag) x.code bytes x text h in
       same_members fault_cmp _ _ (map (in_file fetch_txt None) lines)
       (λ f h. ((h.0, h.1, (bytes, there, h.2)), stages (in_line f) h.2))
       (λ f h.
       let same : h.0.2.0 ≡ bytes = (let e : Some h.0.2.0 ≡ Some bytes = sym h.0.2.1 ∙ there in cc) in
-      (h.0.0, h.0.1, subst (λ b. IsFetchFault b (in_line f)) same h.0.2.2))
-      (listed_in_file fetch_txt None 4 (IsFetchFault bytes) lines stages list)
+      (h.0.0, h.0.1, subst (λ b. IsFetchFault (rules_in bag) b (in_line f)) same h.0.2.2))
+      (listed_in_file fetch_txt None 4 (IsFetchFault (rules_in bag) bytes) lines stages list)
 
-  lines_first : (x y : Fault) → IsOfLine bag x → IsNotInSome bag y → fault_cmp x y ≡ Less
-  lines_first x y h k =
-      let at = k.1.1.1 in less_by_alg x y (h.1 ∙ sym (ap stage k.1.0)) (h.0.0 ∙ sym at.path_is) (rw (h.0.1, at.alg_is) (none_first k.0))
+  -- by the rules of the bag one manifest's faults are asked for, or those of all
+  pub listed_by_one : (faults : List Fault) → rules_in bag ≡ V10 → IsListOf fault_cmp (IsNotInSome bag) faults → IsListOf fault_cmp (IsNotListed bag) faults
+  listed_by_one faults by list =
+      same_members fault_cmp _ _ faults (λ f h. inl (by, h)) (λ f h. elim h [ inl one ↦ one.1 | inr all ↦ absurd (not_both (rules_in bag) by all.0) ]) list
 
-  -- the faults of the lines, and then those of the manifests
-  pub fetch_listed : (of_lines of_manifests : List Fault) → IsListOf fault_cmp (IsOfLine bag) of_lines → IsListOf fault_cmp (IsNotInSome bag) of_manifests
-      → IsListOf fault_cmp (IsOfFetch bag) (of_lines ++ of_manifests)
-  fetch_listed of_lines of_manifests lines manifests =
-      same_members fault_cmp _ _ (of_lines ++ of_manifests) (some_is bag) (of_some bag) (joined fault_cmp (IsOfLine bag) (IsNotInSome bag) of_lines of_manifests lines manifests lines_first)
+  pub listed_by_all : (faults : List Fault) → rules_in bag ≡ V097 → IsListOf fault_cmp (IsNotInAny bag) faults → IsListOf fault_cmp (IsNotListed bag) faults
+  listed_by_all faults by list =
+      same_members fault_cmp _ _ faults (λ f h. inr (by, h)) (λ f h. elim h [ inl one ↦ absurd (not_both (rules_in bag) one.0 by) | inr all ↦ all.1 ]) list
+
+  lines_apart : (f : Fault) → IsOfLine bag f → IsNotListed bag f → ⊥
+  lines_apart f h k = subst (IsReasonCode (rules_in bag)) (listed_code bag f k) (line_code (rules_in bag) f.code h.0.2.0 (in_line f) h.1 h.0.2.2)
+
+  -- the faults of the lines and those of the manifests, sorted
+  pub fetch_listed : (of_lines of_manifests all : List Fault) → IsListOf fault_cmp (IsOfLine bag) of_lines → IsListOf fault_cmp (IsNotListed bag) of_manifests
+      → IsPermutation (of_lines ++ of_manifests) all → IsSortedBy (λ x y. is_lt (fault_cmp x y)) all → IsListOf fault_cmp (IsOfFetch bag) all
+  fetch_listed of_lines of_manifests all lines manifests perm sorted =
+      same_members fault_cmp _ _ all (some_is bag) (of_some bag)
+      (sorted_together fault_cmp_total fault_cmp_same (IsOfLine bag) (IsNotListed bag) of_lines of_manifests all (of_whole NotUtf8 [] []) lines_apart lines manifests perm sorted)
 
   -- bytes that aren't UTF-8 have none
   pub no_line_fault : (f : Fault) → ((bytes : List ℕ) → file bag fetch_txt ≡ Some bytes → IsNoText bytes) → ¬ (IsOfLine bag f)
   no_line_fault f lacks h =
-      elim (contains_cases not_utf8 [] (in_line f) (((faults_of_no_text h.0.2.0 (lacks h.0.2.0 h.0.2.1)).members (in_line f)).1 h.0.2.2)) [
+      elim (contains_cases not_utf8 [] (in_line f) (((faults_of_no_text (rules_in bag) h.0.2.0 (lacks h.0.2.0 h.0.2.1)).members (in_line f)).1 h.0.2.2)) [
         | inl is ↦ other_stage (ap (λ (x : LineFault). stage x.code) is ∙ h.1)
         | inr none ↦ absurd (contains_nothing (in_line f) none)
       ]
 
-  no_entry : (content : Option (List ℕ)) (e : FetchEntry) → ((bytes : List ℕ) → content ≡ Some bytes → IsNoText bytes) → ¬ (IsFetch (lines_or_none content) e)
+  no_entry : (content : Option (List ℕ)) (e : FetchEntry) → ((bytes : List ℕ) → content ≡ Some bytes → IsNoText bytes) → ¬ (IsFetch (rules_in bag) (lines_or_none content) e)
   no_entry None e lacks h = let clash : None ≡ Some h.0 = h.1.1 in cc
-  no_entry (Some bytes) e lacks h = contains_nothing e (((entries_of_no_text bytes (lacks bytes refl)).members e).1 h)
+  no_entry (Some bytes) e lacks h = contains_nothing e (((entries_of_no_text (rules_in bag) bytes (lacks bytes refl)).members e).1 h)
+
+  listed_entry : (f : Fault) → IsNotListed bag f → (e : FetchEntry) × HasFetch bag e
+  listed_entry f (inl (by, (alg, (code, (e, at, has, out))))) = (e, has)
+  listed_entry f (inr (by, (code, (e, at, has, out)))) = (e, has)
 
   pub no_fetch_listed : ((bytes : List ℕ) → file bag fetch_txt ≡ Some bytes → IsNoText bytes) → IsListOf fault_cmp (IsOfFetch bag) []
   no_fetch_listed lacks =
       nothing_listed fault_cmp (IsOfFetch bag)
       (λ f h. elim (of_some bag f h) [
         | inl line ↦ no_line_fault f lacks line
-        | inr h ↦ no_entry (file bag fetch_txt) h.1.1.0 lacks h.1.1.2
+        | inr out ↦ let entry = listed_entry f out in no_entry (file bag fetch_txt) entry.0 lacks entry.1
       ])
 
   -- what was read of the list tells its faults
-  pub fetch_list_listed : (list : FetchList) (of_lines of_manifests : List Fault) → IsReadOf IsFetchListOf (file bag fetch_txt) (Some list) → list.is_text ≡ true
-      → of_lines ≡ map (in_file fetch_txt None) list.faults → (AreFetched bag list.entries → IsListOf fault_cmp (IsNotInSome bag) of_manifests)
-      → IsListOf fault_cmp (IsOfFetch bag) (of_lines ++ of_manifests)
-  fetch_list_listed list of_lines of_manifests read text is manifests =
-      let said = read_bytes IsFetchListOf (file bag fetch_txt) list read in
+  pub fetch_list_listed : (list : FetchList) (of_lines of_manifests all : List Fault) → IsReadOf (IsFetchListOf (rules_in bag)) (file bag fetch_txt) (Some list) → list.is_text ≡ true
+      → of_lines ≡ map (in_file fetch_txt None) list.faults → (AreFetched bag list.entries → IsListOf fault_cmp (IsNotListed bag) of_manifests)
+      → IsPermutation (of_lines ++ of_manifests) all → IsSortedBy (λ x y. is_lt (fault_cmp x y)) all → IsListOf fault_cmp (IsOfFetch bag) all
+  fetch_list_listed list of_lines of_manifests all read text is manifests perm sorted =
+      let said = read_bytes (IsFetchListOf (rules_in bag)) (file bag fetch_txt) list read in
       let lines = lines_listed said.0 list.faults said.1 (sym said.2.text ∙ text) said.2.faults in
       let fetched : AreFetched bag list.entries =
-      subst (λ content. IsListOf (on (λ e. e.line) nat_cmp) (IsFetch (lines_or_none content)) list.entries) (sym said.1) said.2.entries in
-      fetch_listed of_lines of_manifests (rw is lines) (manifests fetched)
+      subst (λ content. IsListOf (on (λ e. e.line) nat_cmp) (IsFetch (rules_in bag) (lines_or_none content)) list.entries) (sym said.1) said.2.entries in
+      fetch_listed of_lines of_manifests all (rw is lines) (manifests fetched) perm sorted
 
-  pub textless_list_listed : (list : FetchList) → IsReadOf IsFetchListOf (file bag fetch_txt) (Some list) → list.is_text ≡ false → IsListOf fault_cmp (IsOfFetch bag) []
+  pub textless_list_listed : (list : FetchList) → IsReadOf (IsFetchListOf (rules_in bag)) (file bag fetch_txt) (Some list) → list.is_text ≡ false → IsListOf fault_cmp (IsOfFetch bag) []
   textless_list_listed list read text =
-      let said = read_bytes IsFetchListOf (file bag fetch_txt) list read in
+      let said = read_bytes (IsFetchListOf (rules_in bag)) (file bag fetch_txt) list read in
       no_fetch_listed (λ bytes there.
       let same : said.0 ≡ bytes = (let both : Some said.0 ≡ Some bytes = sym said.1 ∙ there in cc) in subst (λ b. is_utf8 b ≡ false) same (sym said.2.text ∙ text))
 
-  pub no_list_listed : IsReadOf IsFetchListOf (file bag fetch_txt) None → IsListOf fault_cmp (IsOfFetch bag) []
+  pub no_list_listed : IsReadOf (IsFetchListOf (rules_in bag)) (file bag fetch_txt) None → IsListOf fault_cmp (IsOfFetch bag) []
   no_list_listed read =
-      no_fetch_listed (λ bytes there. let clash : None ≡ Some bytes = sym (not_there IsFetchListOf (file bag fetch_txt) read) ∙ there in cc)
+      no_fetch_listed (λ bytes there. let clash : None ≡ Some bytes = sym (not_there (IsFetchListOf (rules_in bag)) (file bag fetch_txt) read) ∙ there in cc)

@@ -3,29 +3,32 @@ use Rattle.std.proofs.Common.{◌≡◌, ◌⊎◌, ℕ, List, Bool, true, false
 use Rattle.std.specs.List.{enumerate_from}
 use Rattle.std.specs.Str.{is_utf8}
 use Rattle.bag_text.specs.Lines.{lines_of_file}
+use Rattle.bag_text.specs.declared.rules.Rules.TheVariants.{V10, V097}
 use Rattle.bag_words.specs.declared.alg.Alg.{Alg}
 use Rattle.bag_line.specs.FetchVerdict.{entries, faults}
 use Rattle.bag_line.specs.declared.fault.LineFault.{LineFault}
 use Rattle.bag_line.specs.declared.fetch.FetchEntry.{FetchEntry}
 use Rattle.bag_line.proofs.FetchFaults.{entries_of_lines, faults_of_text}
-use Rattle.bag_tags.specs.declared.kind.Kind.TheVariants.{Payload}
-use Rattle.bag_tree.specs.Bag.{Bag, file, has_file}
+use Rattle.bag_tree.specs.Bag.{Bag, file}
 use Rattle.bag_fault.specs.declared.fault.Fault.{Fault}
+use Rattle.bag_facts.specs.Facts.{rules_in}
 use Rattle.bag_stages.specs.FaultFields.{in_file}
-use Rattle.bag_stages.specs.FetchFaults.{IsNotInManifest, IsNotInSome, not_in_manifest}
+use Rattle.bag_stages.specs.FetchFaults.{IsNotInAny, IsNotInManifest, IsNotInSome, IsNotListed, not_in_manifest}
 use Rattle.bag_stages.specs.FetchStage.{fetch_txt, FetchFaultsAreListed, HasFetch, IsOfFetch}
 use Rattle.bag_stages.specs.HasList.{HasList}
-use Rattle.bag_stages.specs.TagFiles.{manifest_of, lines_in, named_in, HasSupported, Names}
+use Rattle.bag_stages.specs.LeftOut.{IsLeftOutByAll, IsLeftOutByOne}
+use Rattle.bag_stages.specs.TagFiles.{lines_in}
 use Rattle.bag_stages.proofs.BagLists.{over_algs}
 use Rattle.bag_stages.proofs.FetchFaults.{IsOfLine, lines_listed, no_line_fault, of_some, some_is}
-use Rattle.bag_stages.proofs.HasLists.{Decided, true_or_not, both_decided, nothing, one_where, same_set, either, for_each}
-use Rattle.bag_stages.proofs.ManifestsList.{missing_or_not}
+use Rattle.bag_stages.proofs.HasLists.{Decided, nothing, one_where, same_set, either, for_each, where_so}
+use Rattle.bag_stages.proofs.LeftOut.{v097_or_not, v10_or_not}
+use Rattle.bag_stages.proofs.LeftOutDecided.{by_all_or_not, by_one_or_not}
 
 module _ (bag : Bag) where
   of_bytes : (bytes : List ℕ) (b : Bool) → file bag fetch_txt ≡ Some bytes → is_utf8 bytes ≡ b → HasList (IsOfLine bag)
   of_bytes bytes true e text =
-      let lines : List LineFault = faults (enumerate_from 1 (lines_of_file bytes)) in
-      (map (in_file fetch_txt None) lines, (lines_listed bag bytes lines e text (faults_of_text bytes text)).members)
+      let lines : List LineFault = faults (rules_in bag) (enumerate_from 1 (lines_of_file bytes)) in
+      (map (in_file fetch_txt None) lines, (lines_listed bag bytes lines e text (faults_of_text (rules_in bag) bytes text)).members)
   of_bytes bytes false e lacks =
       nothing (IsOfLine bag) (λ f. no_line_fault bag f (λ other there.
       let same : bytes ≡ other = (let both : Some bytes ≡ Some other = sym e ∙ there in cc) in subst (λ b. is_utf8 b ≡ false) same lacks))
@@ -35,38 +38,63 @@ module _ (bag : Bag) where
   of_lines (Some bytes) e = of_bytes bytes (is_utf8 bytes) e refl
 
   fetched : HasList (HasFetch bag)
-  fetched = (entries (enumerate_from 1 (lines_in bag fetch_txt)), (entries_of_lines (lines_in bag fetch_txt)).members)
+  fetched = (entries (rules_in bag) (enumerate_from 1 (lines_in bag fetch_txt)), (entries_of_lines (rules_in bag) (lines_in bag fetch_txt)).members)
 
   -- the payload manifest that is there doesn't name this file
   abbrev Lacks : Alg → FetchEntry → Type 0
-  Lacks alg e = HasSupported bag Payload alg × ¬ (Names bag Payload alg e.path)
+  Lacks alg e = IsLeftOutByOne bag alg e.path
 
   abbrev IsLacking : Alg → FetchEntry → Fault → Type 0
-  IsLacking alg e f = Lacks alg e × (f ≡ not_in_manifest fetch_txt alg e)
+  IsLacking alg e f = Lacks alg e × (f ≡ not_in_manifest fetch_txt (Some alg) e)
 
   abbrev LacksSome : Alg → Fault → Type 0
   LacksSome alg f = (e : FetchEntry) × HasFetch bag e × IsLacking alg e f
 
   lacks_or_not : (alg : Alg) (e : FetchEntry) → Decided (Lacks alg e)
-  lacks_or_not alg e = both_decided _ _ (true_or_not (has_file bag (manifest_of Payload alg))) (missing_or_not (named_in bag Payload alg) e.path)
+  lacks_or_not alg e = by_one_or_not bag e.path alg
 
   to_not_in : (alg : Alg) (f : Fault) → LacksSome alg f → IsNotInManifest bag alg f
-  to_not_in alg f (e, has, ((there, lacks), is)) =
-      subst (IsNotInManifest bag alg) (sym is) (refl, (e, record { path_is = refl; alg_is = refl; line_is = refl; detail_is = refl }, has, there, lacks))
+  to_not_in alg f (e, has, (out, is)) =
+      subst (IsNotInManifest bag alg) (sym is) (refl, (e, record { path_is = refl; alg_is = refl; line_is = refl; detail_is = refl }, has, out))
 
   from_not_in : (alg : Alg) (f : Fault) → IsNotInManifest bag alg f → LacksSome alg f
-  from_not_in alg f (code, (e, at, has, there, lacks)) = (
+  from_not_in alg f (code, (e, at, has, out)) = (
     e,
     has,
-    ((there, lacks), (λ i. record { code = code i; path = at.path_is i; alg = at.alg_is i; line = at.line_is i; detail = at.detail_is i })),
+    (out, (λ i. record { code = code i; path = at.path_is i; alg = at.alg_is i; line = at.line_is i; detail = at.detail_is i })),
   )
 
   of_alg : (alg : Alg) → HasList (IsNotInManifest bag alg)
   of_alg alg =
       same_set (LacksSome alg) (IsNotInManifest bag alg) (to_not_in alg) (from_not_in alg)
-      (for_each (IsLacking alg) (λ e. one_where (not_in_manifest fetch_txt alg e) (Lacks alg e) (lacks_or_not alg e)) (HasFetch bag) fetched)
+      (for_each (IsLacking alg) (λ e. one_where (not_in_manifest fetch_txt (Some alg) e) (Lacks alg e) (lacks_or_not alg e)) (HasFetch bag) fetched)
+
+  -- no payload manifest names the file, where there is one
+  abbrev IsLackingInAll : FetchEntry → Fault → Type 0
+  IsLackingInAll e f = IsLeftOutByAll bag e.path × (f ≡ not_in_manifest fetch_txt None e)
+
+  to_not_in_any : (f : Fault) → (e : FetchEntry) × HasFetch bag e × IsLackingInAll e f → IsNotInAny bag f
+  to_not_in_any f (e, has, (out, is)) =
+      subst (IsNotInAny bag) (sym is) (refl, (e, record { path_is = refl; alg_is = refl; line_is = refl; detail_is = refl }, has, out))
+
+  from_not_in_any : (f : Fault) → IsNotInAny bag f → (e : FetchEntry) × HasFetch bag e × IsLackingInAll e f
+  from_not_in_any f (code, (e, at, has, out)) = (
+    e,
+    has,
+    (out, (λ i. record { code = code i; path = at.path_is i; alg = at.alg_is i; line = at.line_is i; detail = at.detail_is i })),
+  )
+
+  in_any : HasList (IsNotInAny bag)
+  in_any =
+      same_set _ (IsNotInAny bag) to_not_in_any from_not_in_any
+      (for_each IsLackingInAll (λ e. one_where (not_in_manifest fetch_txt None e) (IsLeftOutByAll bag e.path) (by_all_or_not bag e.path)) (HasFetch bag) fetched)
+
+  not_listed : HasList (IsNotListed bag)
+  not_listed =
+      either _ _ (where_so (rules_in bag ≡ V10) (IsNotInSome bag) (v10_or_not (rules_in bag)) (over_algs (IsNotInManifest bag) of_alg))
+      (where_so (rules_in bag ≡ V097) (IsNotInAny bag) (v097_or_not (rules_in bag)) in_any)
 
 pub fetch_faults_are_listed : FetchFaultsAreListed
 fetch_faults_are_listed bag =
-    same_set (λ f. IsOfLine bag f ⊎ IsNotInSome bag f) (IsOfFetch bag) (some_is bag) (of_some bag)
-    (either (IsOfLine bag) (IsNotInSome bag) (of_lines bag (file bag fetch_txt) refl) (over_algs (IsNotInManifest bag) (of_alg bag)))
+    same_set (λ f. IsOfLine bag f ⊎ IsNotListed bag f) (IsOfFetch bag) (some_is bag) (of_some bag)
+    (either (IsOfLine bag) (IsNotListed bag) (of_lines bag (file bag fetch_txt) refl) (not_listed bag))

@@ -71,7 +71,15 @@ both_decided D E (inl d) (inl e) = inl (d, e)
 both_decided D E (inl d) (inr not) = inr (λ h. not h.1)
 both_decided D E (inr not) e = inr (λ h. not h.0)
 
+pub not_decided : (D : Type 0) → Decided D → Decided (¬ D)
+not_decided D (inl d) = inr (λ not. not d)
+not_decided D (inr not) = inl not
+
 -- a set that a list has has a member or none
+pub some_decided : {A : Type 0} (P : A → Type 0) → HasList P → Decided ((x : A) × P x)
+some_decided P ([], are) = inr (λ h. contains_nothing h.0 ((are h.0).1 h.1))
+some_decided P (x ∷ xs, are) = inl (x, (are x).0 (contains_first x xs))
+
 pub none_decided : {A : Type 0} (P : A → Type 0) → HasList P → Decided ((x : A) → ¬ (P x))
 none_decided P ([], are) = inl (λ x h. contains_nothing x ((are x).1 h))
 none_decided P (x ∷ xs, are) = inr (λ none. none x ((are x).0 (contains_first x xs)))

@@ -5,13 +5,17 @@ pub mod DeclarationFaults
 pub mod DeclarationList
 pub mod FetchFaults
 pub mod FetchFaultsList
+pub mod FetchNamedByNone
 pub mod FirstPassing
 pub mod HasLists
 pub mod InFile
+pub mod LeftOut
+pub mod LeftOutDecided
 pub mod ManifestFaults
 pub mod ManifestsList
 pub mod MetadataFaults
 pub mod MetadataList
+pub mod NamedBy
 pub mod OxumFaults
 pub mod PartFaults
 pub mod PartsList

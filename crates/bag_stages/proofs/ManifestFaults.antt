@@ -9,6 +9,8 @@ use Rattle.bag_text.specs.Text.{text_cmp, IsNoText}
 use Rattle.bag_text.specs.Code.{stage}
 use Rattle.bag_text.specs.Lines.{IsLine, lines_of_file}
 use Rattle.bag_text.specs.Order.{IsListOf}
+use Rattle.bag_text.specs.declared.rules.Rules.{Rules}
+use Rattle.bag_text.specs.declared.rules.Rules.TheVariants.{V10, V097}
 use Rattle.bag_words.specs.declared.alg.Alg.{Alg}
 use Rattle.bag_words.specs.declared.code.Code.{Code}
 use Rattle.bag_words.specs.declared.code.Code.TheVariants.{NotUtf8, ManifestLine, DigestLength, ManifestEscape, ManifestUnsafePath, ManifestOutsidePayload, TagmanifestNamesPayload, TagmanifestNamesTagmanifest, NamedAgain, PayloadManifestNotListed}
@@ -31,7 +33,7 @@ use Rattle.bag_tags.proofs.ManifestEntries.{entry_named, named_has_entry}
 use Rattle.bag_tags.proofs.TagPaths.{paths_differ}
 use Rattle.bag_fault.specs.declared.fault.Fault.{Fault}
 use Rattle.bag_fault.specs.FaultOrder.{fault_cmp}
-use Rattle.bag_facts.specs.Facts.{IsFactsOf, IsSaid}
+use Rattle.bag_facts.specs.Facts.{rules_in, IsFactsOf, IsSaid}
 use Rattle.bag_facts.specs.TagFacts.{name_of, path_of, entry_paths, AreByPath}
 use Rattle.bag_facts.specs.TagReader.{AreListed}
 use Rattle.bag_facts.specs.Wanted.{paths_of}
@@ -42,12 +44,20 @@ use Rattle.bag_facts.specs.declared.tag_facts.TagFacts.{TagFacts}
 use Rattle.bag_facts.specs.declared.tag_facts.TagFacts.TheVariants as facts
 use Rattle.bag_facts.proofs.ListedFiles.{file_listed, listed_file}
 use Rattle.bag_facts.proofs.Mapped.{mapped_contains, contains_mapped}
-use Rattle.bag_stages.specs.ManifestFaults.{unnamed, IsUnnamedFault, IsUnnamedAmong, IsUnlisted, IsLineFault, IsOfManifest}
+use Rattle.bag_stages.specs.ManifestFaults.{unnamed, IsUnnamedFault, IsUnnamedAmong, IsUnnamedBy, IsUnlisted, IsLineFault, IsOfManifest}
 use Rattle.bag_stages.specs.ManifestsStage.{ManifestHolds, IsOfManifests, InManifest, ManifestFaultsAreOfStageFive}
 use Rattle.bag_stages.specs.FaultFields.{in_file, in_line}
 use Rattle.bag_stages.specs.TagFiles.{manifest_of, Names}
 use Rattle.bag_stages.proofs.ByPath.{one_item_more, take_whole}
 use Rattle.bag_stages.proofs.InFile.{less_by_path, less_of_file, listed_in_file}
+
+-- the rules of 1.0 ask for these faults, and those of 0.97 for none
+pub asked_unnamed : (rules : Rules) (path : List ℕ) (alg : Alg) (entries : List ManifestEntry) (files : List (List ℕ)) (faults : List Fault) → rules ≡ V10
+    → IsListOf fault_cmp (IsUnnamedAmong path alg entries files) faults → IsListOf fault_cmp (IsUnnamedBy rules path alg entries files) faults
+asked_unnamed rules path alg entries files faults by list = same_members fault_cmp _ _ faults (λ f h. (by, h)) (λ f h. h.1) list
+
+pub unasked_unnamed : (rules : Rules) (path : List ℕ) (alg : Alg) (entries : List ManifestEntry) (files : List (List ℕ)) → rules ≡ V097 → IsListOf fault_cmp (IsUnnamedBy rules path alg entries files) []
+unasked_unnamed rules path alg entries files by = nothing_listed fault_cmp _ (λ f h. let clash : V097 ≡ V10 = sym by ∙ h.0 in cc)
 
 -- the same fault of two files is ordered as these
 pub less_unnamed : (path : List ℕ) (alg : Alg) (entries : List ManifestEntry) (x y : Fault) → IsUnnamedFault path alg entries x → IsUnnamedFault path alg entries y
@@ -59,16 +69,16 @@ less_unnamed path alg entries x y a b less =
 
 -- a manifest names the paths of its entries
 module _ (bag : Bag) (kind : Kind) (alg : Alg) (bytes : List ℕ) (entries : List ManifestEntry) (there : file bag (manifest_of kind alg) ≡ Some bytes)
-    (list : IsListOf (on (λ e. e.path) text_cmp) (IsEntry kind alg (lines_of_file bytes)) entries) where
+    (list : IsListOf (on (λ e. e.path) text_cmp) (IsEntry (rules_in bag) kind alg (lines_of_file bytes)) entries) where
   pub names_entry : (path : List ℕ) → Names bag kind alg path → Contains (entry_paths entries) path
   names_entry path named =
-      let some = named_has_entry kind alg (lines_of_file bytes) path (rw there at named) in
+      let some = named_has_entry (rules_in bag) kind alg (lines_of_file bytes) path (rw there at named) in
       subst (Contains (entry_paths entries)) some.2 (mapped_contains (λ (e : ManifestEntry). e.path) entries some.0 ((list.members some.0).1 some.1))
 
   pub entry_names : (path : List ℕ) → Contains (entry_paths entries) path → Names bag kind alg path
   entry_names path c =
       let some = contains_mapped (λ (e : ManifestEntry). e.path) entries path c in
-      rw (there, sym some.2) (entry_named kind alg (lines_of_file bytes) some.0 ((list.members some.0).0 some.1))
+      rw (there, sym some.2) (entry_named (rules_in bag) kind alg (lines_of_file bytes) some.0 ((list.members some.0).0 some.1))
 
 fifth : (c : Code) → stage c ≡ 5 → c ≢ NotUtf8
 fifth c s e = let two : stage c ≡ 2 = ap stage e in absurd (omega arith)
@@ -78,26 +88,26 @@ module _ (bag : Bag) (kind : Kind) (alg : Alg) where
   no_lines : (bytes : List ℕ) (line : List ℕ) (k : ℕ) → is_utf8 bytes ≡ false → IsLine (lines_of_file bytes) k line → ⊥
   no_lines bytes line k e h = let none : IsLine [] k line = rw e at h in let clash : None ≡ Some line = none.1 in cc
 
-  of_line : (bytes : List ℕ) (c : Code) (x : LineFault) → ManifestFault c kind alg bytes x → c ≢ NotUtf8 → (line : List ℕ) × IsLine (lines_of_file bytes) x.line line
+  of_line : (bytes : List ℕ) (c : Code) (x : LineFault) → ManifestFault c (rules_in bag) kind alg bytes x → c ≢ NotUtf8 → (line : List ℕ) × IsLine (lines_of_file bytes) x.line line
   of_line bytes NotUtf8 x h other = absurd (other refl)
   of_line bytes NamedAgain x h other = (h.0, h.2)
   of_line bytes c x h other = (h.0, h.1)
 
-  no_text : (bytes : List ℕ) (x : LineFault) → IsManifestFault kind alg bytes x → x.code ≡ NotUtf8 → IsNoText bytes
-  no_text bytes x h e = let whole : ManifestFault NotUtf8 kind alg bytes x = subst (λ c. ManifestFault c kind alg bytes x) e h in whole.2
+  no_text : (bytes : List ℕ) (x : LineFault) → IsManifestFault (rules_in bag) kind alg bytes x → x.code ≡ NotUtf8 → IsNoText bytes
+  no_text bytes x h e = let whole : ManifestFault NotUtf8 (rules_in bag) kind alg bytes x = subst (λ c. ManifestFault c (rules_in bag) kind alg bytes x) e h in whole.2
 
   -- those of a text
-  text_lines_listed : (bytes : List ℕ) (lines : List LineFault) → file bag (manifest_of kind alg) ≡ Some bytes → is_utf8 bytes ≡ true → AreFaults (IsManifestFault kind alg bytes) lines
+  text_lines_listed : (bytes : List ℕ) (lines : List LineFault) → file bag (manifest_of kind alg) ≡ Some bytes → is_utf8 bytes ≡ true → AreFaults (IsManifestFault (rules_in bag) kind alg bytes) lines
       → IsListOf fault_cmp (IsLineFault bag kind alg) (map (in_file (manifest_of kind alg) (Some alg)) lines)
   text_lines_listed bytes lines there text list =
-      let stages : (x : LineFault) → IsManifestFault kind alg bytes x → stage x.code ≡ 5 =
-      λ x h. manifest_fault_stage kind alg bytes x h (λ e. let clash : true ≡ false = sym text ∙ no_text bytes x h e in cc) in
+      let stages : (x : LineFault) → IsManifestFault (rules_in bag) kind alg bytes x → stage x.code ≡ 5 =
+      λ x h. manifest_fault_stage (rules_in bag) kind alg bytes x h (λ e. let clash : true ≡ false = sym text ∙ no_text bytes x h e in cc) in
       same_members fault_cmp _ _ (map (in_file (manifest_of kind alg) (Some alg)) lines)
       (λ f h. ((h.0, h.1, (bytes, there, h.2)), stages (in_line f) h.2))
       (λ f h.
       let same : h.0.2.0 ≡ bytes = (let e : Some h.0.2.0 ≡ Some bytes = sym h.0.2.1 ∙ there in cc) in
-      (h.0.0, h.0.1, subst (λ b. IsManifestFault kind alg b (in_line f)) same h.0.2.2))
-      (listed_in_file (manifest_of kind alg) (Some alg) 5 (IsManifestFault kind alg bytes) lines stages list)
+      (h.0.0, h.0.1, subst (λ b. IsManifestFault (rules_in bag) kind alg b (in_line f)) same h.0.2.2))
+      (listed_in_file (manifest_of kind alg) (Some alg) 5 (IsManifestFault (rules_in bag) kind alg bytes) lines stages list)
 
   -- there are none where the bytes are no text
   no_lines_listed : (bytes : List ℕ) → file bag (manifest_of kind alg) ≡ Some bytes → is_utf8 bytes ≡ false → IsListOf fault_cmp (IsLineFault bag kind alg) []
@@ -105,20 +115,21 @@ module _ (bag : Bag) (kind : Kind) (alg : Alg) where
       nothing_listed fault_cmp _
       (λ f h.
       let same : h.0.2.0 ≡ bytes = (let e : Some h.0.2.0 ≡ Some bytes = sym h.0.2.1 ∙ there in cc) in
-      let line = of_line bytes f.code (in_line f) (subst (λ b. IsManifestFault kind alg b (in_line f)) same h.0.2.2) (fifth f.code h.1) in
+      let line = of_line bytes f.code (in_line f) (subst (λ b. IsManifestFault (rules_in bag) kind alg b (in_line f)) same h.0.2.2) (fifth f.code h.1) in
       no_lines bytes line.0 f.line lacks line.1)
 
   pub lines_listed : (bytes path : List ℕ) (is_text : Bool) (lines : List LineFault) (faults : List Fault) → file bag (manifest_of kind alg) ≡ Some bytes → is_text ≡ is_utf8 bytes
-      → AreFaults (IsManifestFault kind alg bytes) lines → path ≡ manifest_of kind alg → faults ≡ (if is_text then map (in_file path (Some alg)) lines else [])
+      → AreFaults (IsManifestFault (rules_in bag) kind alg bytes) lines → path ≡ manifest_of kind alg → faults ≡ (if is_text then map (in_file path (Some alg)) lines else [])
       → IsListOf fault_cmp (IsLineFault bag kind alg) faults
   lines_listed bytes path true lines faults there text list at is = rw (is, at) (text_lines_listed bytes lines there (sym text) list)
   lines_listed bytes path false lines faults there text list at is = rw is (no_lines_listed bytes there (sym text))
 
 -- a tag manifest that is there: what it doesn't name, and then the faults of its lines
 module _ (bag : Bag) (files : List FileEntry) (alg : Alg) (bytes : List ℕ) (all : List ManifestEntry) (listed : AreListed bag files) (there : file bag (manifest_of Tag alg) ≡ Some bytes)
-    (entries : IsListOf (on (λ e. e.path) text_cmp) (IsEntry Tag alg (lines_of_file bytes)) all) where
-  unlisted_from : (f : Fault) → IsUnnamedAmong (manifest_of Tag alg) alg all (paths_of files) f → IsUnlisted bag Tag alg f
-  unlisted_from f (c, (is, ((other, text, at), lacks))) = (
+    (entries : IsListOf (on (λ e. e.path) text_cmp) (IsEntry (rules_in bag) Tag alg (lines_of_file bytes)) all) where
+  unlisted_from : (f : Fault) → IsUnnamedBy (rules_in bag) (manifest_of Tag alg) alg all (paths_of files) f → IsUnlisted bag Tag alg f
+  unlisted_from f (by, (c, (is, ((other, text, at), lacks)))) = (
+    by,
     ap (λ (x : Fault). x.code) is,
     (
       other,
@@ -129,34 +140,37 @@ module _ (bag : Bag) (files : List FileEntry) (alg : Alg) (bytes : List ℕ) (al
     ),
   )
 
-  from_unlisted : (f : Fault) → IsUnlisted bag Tag alg f → IsUnnamedAmong (manifest_of Tag alg) alg all (paths_of files) f
-  from_unlisted f (code, (other, at, has, there_too, lacks)) = (
-    subst (Contains (paths_of files)) (sym at.detail_is) (file_listed bag files (manifest_name Payload other) listed there_too.1),
+  from_unlisted : (f : Fault) → IsUnlisted bag Tag alg f → IsUnnamedBy (rules_in bag) (manifest_of Tag alg) alg all (paths_of files) f
+  from_unlisted f (by, code, (other, at, has, there_too, lacks)) = (
+    by,
     (
-      (λ i. record { code = code i; path = at.path_is i; alg = at.alg_is i; line = at.line_is i; detail = f.detail }),
+      subst (Contains (paths_of files)) (sym at.detail_is) (file_listed bag files (manifest_name Payload other) listed there_too.1),
       (
-        (other, there_too.0, at.detail_is),
-        (λ c. lacks (entry_names bag Tag alg bytes all there entries (manifest_name Payload other) (subst (Contains (entry_paths all)) at.detail_is c))),
+        (λ i. record { code = code i; path = at.path_is i; alg = at.alg_is i; line = at.line_is i; detail = f.detail }),
+        (
+          (other, there_too.0, at.detail_is),
+          (λ c. lacks (entry_names bag Tag alg bytes all there entries (manifest_name Payload other) (subst (Contains (entry_paths all)) at.detail_is c))),
+        ),
       ),
     ),
   )
 
   before_lines : (x y : Fault) → IsUnlisted bag Tag alg x → IsLineFault bag Tag alg y → fault_cmp x y ≡ Less
   before_lines x y a b =
-      let line : 0 < y.line = manifest_fault_line Tag alg b.0.2.0 (in_line y) b.0.2.2 (fifth y.code b.1) in
-      let at = a.1.1 in
-      less_of_file (manifest_of Tag alg) (Some alg) x y at.path_is at.alg_is b.0.0 b.0.1 (ap stage a.0 ∙ sym b.1)
+      let line : 0 < y.line = manifest_fault_line (rules_in bag) Tag alg b.0.2.0 (in_line y) b.0.2.2 (fifth y.code b.1) in
+      let at = a.2.1 in
+      less_of_file (manifest_of Tag alg) (Some alg) x y at.path_is at.alg_is b.0.0 b.0.1 (ap stage a.1 ∙ sym b.1)
       (line_below (in_line x) (in_line y) (subst (λ n. n < y.line) (sym at.line_is) line))
 
-  tag_manifest_listed : (of_names of_lines : List Fault) → IsListOf fault_cmp (IsUnnamedAmong (manifest_of Tag alg) alg all (paths_of files)) of_names
+  tag_manifest_listed : (of_names of_lines : List Fault) → IsListOf fault_cmp (IsUnnamedBy (rules_in bag) (manifest_of Tag alg) alg all (paths_of files)) of_names
       → IsListOf fault_cmp (IsLineFault bag Tag alg) of_lines → IsListOf fault_cmp (IsOfManifest bag Tag alg) (of_names ++ of_lines)
   tag_manifest_listed of_names of_lines names lines =
       joined fault_cmp (IsUnlisted bag Tag alg) (IsLineFault bag Tag alg) of_names of_lines (same_members fault_cmp _ _ of_names unlisted_from from_unlisted names) lines before_lines
 
 -- the faults of a tag manifest: what it doesn't name, and then those of its lines
 pub read_tag_manifest : (bag : Bag) (files : List FileEntry) (kind : Kind) (alg : Alg) (bytes path : List ℕ) (all : List ManifestEntry) (of_names of_lines faults : List Fault) → kind ≡ Tag
-    → AreListed bag files → file bag (manifest_of kind alg) ≡ Some bytes → IsListOf (on (λ e. e.path) text_cmp) (IsEntry kind alg (lines_of_file bytes)) all → path ≡ manifest_of kind alg
-    → (AreByPath all → IsListOf fault_cmp (IsUnnamedAmong path alg all (paths_of files)) of_names) → IsListOf fault_cmp (IsLineFault bag kind alg) of_lines
+    → AreListed bag files → file bag (manifest_of kind alg) ≡ Some bytes → IsListOf (on (λ e. e.path) text_cmp) (IsEntry (rules_in bag) kind alg (lines_of_file bytes)) all → path ≡ manifest_of kind alg
+    → (AreByPath all → IsListOf fault_cmp (IsUnnamedBy (rules_in bag) path alg all (paths_of files)) of_names) → IsListOf fault_cmp (IsLineFault bag kind alg) of_lines
     → faults ≡ of_names ++ of_lines → IsListOf fault_cmp (IsOfManifest bag kind alg) faults
 read_tag_manifest bag files Payload alg bytes path all of_names of_lines faults is listed there entries at names lines made = cc
 read_tag_manifest bag files Tag alg bytes path all of_names of_lines faults is listed there entries at names lines made =
@@ -197,7 +211,7 @@ module _ (bag : Bag) (f : Fault) where
   line_row other is h = absurd is
 
   line_code : (kind : Kind) (alg : Alg) → IsLineFault bag kind alg f → IsManifestCode f.code
-  line_code kind alg h = elim (manifest_fault_code kind alg h.0.2.0 (in_line f) h.0.2.2) [
+  line_code kind alg h = elim (manifest_fault_code (rules_in bag) kind alg h.0.2.0 (in_line f) h.0.2.2) [
     | inl whole ↦ (let two : stage f.code ≡ 2 = ap stage whole.0 in absurd (omega (arith, h.1)))
     | inr line ↦ line.0
   ]
@@ -205,7 +219,7 @@ module _ (bag : Bag) (f : Fault) where
   of_manifest_is : (kind : Kind) (alg : Alg) → IsOfManifest bag kind alg f → IsOfManifests bag f
   unfolding IsOfManifests ManifestHolds
   of_manifest_is Payload alg (inl h) = absurd h
-  of_manifest_is Tag alg (inl (code, (other, at, has, there, lacks))) = subst (ManifestHolds bag f) (sym code) (alg, other, at, has, there, lacks)
+  of_manifest_is Tag alg (inl (by, code, (other, at, has, there, lacks))) = subst (ManifestHolds bag f) (sym code) (by, alg, other, at, has, there, lacks)
   of_manifest_is kind alg (inr h) = line_row f.code (line_code kind alg h) (kind, alg, h.0)
 
   -- a fault of the tag file of a name: of a manifest
@@ -229,7 +243,7 @@ module _ (bag : Bag) (f : Fault) where
   some_of_holds TagmanifestNamesPayload e h = in_manifest h (ap stage e)
   some_of_holds TagmanifestNamesTagmanifest e h = in_manifest h (ap stage e)
   some_of_holds NamedAgain e h = in_manifest h (ap stage e)
-  some_of_holds PayloadManifestNotListed e (alg, other, at, has, there, lacks) = (tag_name.Manifest Tag alg, inl (e, (other, at, has, there, lacks)))
+  some_of_holds PayloadManifestNotListed e (by, alg, other, at, has, there, lacks) = (tag_name.Manifest Tag alg, inl (by, e, (other, at, has, there, lacks)))
   some_of_holds other e h = absurd h
 
   pub of_some : IsOfManifests bag f → IsOfSome
@@ -239,7 +253,7 @@ module _ (bag : Bag) (f : Fault) where
   -- it is of a file that is there
   of_manifest_at : (kind : Kind) (alg : Alg) → IsOfManifest bag kind alg f → (f.path ≡ manifest_of kind alg) × HasFile bag (manifest_of kind alg)
   of_manifest_at Payload alg (inl h) = absurd h
-  of_manifest_at Tag alg (inl h) = (h.1.1.path_is, h.1.2)
+  of_manifest_at Tag alg (inl h) = (h.2.1.path_is, h.2.2)
   of_manifest_at kind alg (inr h) = (h.0.0, ap is_some h.0.2.1)
 
   of_tag_at : (tag : TagName) → IsOfTag tag → (f.path ≡ tag_path tag) × HasFile bag (tag_path tag)

@@ -9,6 +9,8 @@ use Rattle.std.specs.Str.{is_utf8}
 use Rattle.std.proofs.lemmas.Map.Views.{Contains-from_any, list_any-from_Contains}
 use Rattle.bag_text.specs.Lines.{lines_of_file}
 use Rattle.bag_text.specs.Text.{text_cmp}
+use Rattle.bag_text.specs.declared.rules.Rules.{Rules}
+use Rattle.bag_text.specs.declared.rules.Rules.TheVariants.{V10}
 use Rattle.bag_words.specs.declared.alg.Alg.{Alg}
 use Rattle.bag_tags.specs.Judged.{judged_and_marked, fault_of}
 use Rattle.bag_line.specs.LineFault.{AreFaults, not_utf8}
@@ -23,39 +25,44 @@ use Rattle.bag_tags.proofs.ManifestFaults.{faults_of_text, faults_of_no_text}
 use Rattle.bag_tree.specs.Bag.{Bag, file, has_file}
 use Rattle.bag_tree.proofs.SameText.{one_text}
 use Rattle.bag_fault.specs.declared.fault.Fault.{Fault}
+use Rattle.bag_facts.specs.Facts.{rules_in}
 use Rattle.bag_stages.specs.FaultFields.{in_file}
 use Rattle.bag_stages.specs.HasList.{HasList}
 use Rattle.bag_stages.specs.ManifestFaults.{unnamed, IsUnlisted, IsLineFault}
 use Rattle.bag_stages.specs.ManifestsStage.{IsOfManifests, ManifestFaultsAreListed}
 use Rattle.bag_stages.specs.TagFiles.{manifest_of, named_in, HasManifest, HasSupported, Names}
 use Rattle.bag_stages.proofs.BagLists.{manifests_listed, over_names}
-use Rattle.bag_stages.proofs.HasLists.{Decided, true_or_not, both_decided, nothing, one_where, same_set, either, for_each}
+use Rattle.bag_stages.proofs.HasLists.{Decided, true_or_not, both_decided, not_decided, nothing, one_where, same_set, either, for_each}
+use Rattle.bag_stages.proofs.LeftOut.{v10_or_not}
 use Rattle.bag_stages.proofs.ManifestFaults.{lines_listed, IsOfTag, of_some, of_tag_is}
 
-missing_by : (paths : List (List ℕ)) (path : List ℕ) (b : Bool) → list_any (eq_by_cmp text_cmp path) paths ≡ b → Decided (¬ (Contains paths path))
-missing_by paths path true e = inr (λ no. no (Contains-from_any one_text path paths e))
-missing_by paths path false e = inl (λ c. let clash : false ≡ true = sym e ∙ list_any-from_Contains (eq_by_cmp_equiv nat_list_cmp_total) path paths c in cc)
+there_by : (paths : List (List ℕ)) (path : List ℕ) (b : Bool) → list_any (eq_by_cmp text_cmp path) paths ≡ b → Decided (Contains paths path)
+there_by paths path true e = inl (Contains-from_any one_text path paths e)
+there_by paths path false e = inr (λ c. let clash : false ≡ true = sym e ∙ list_any-from_Contains (eq_by_cmp_equiv nat_list_cmp_total) path paths c in cc)
+
+pub there_or_not : (paths : List (List ℕ)) (path : List ℕ) → Decided (Contains paths path)
+there_or_not paths path = there_by paths path (list_any (eq_by_cmp text_cmp path) paths) refl
 
 pub missing_or_not : (paths : List (List ℕ)) (path : List ℕ) → Decided (¬ (Contains paths path))
-missing_or_not paths path = missing_by paths path (list_any (eq_by_cmp text_cmp path) paths) refl
+missing_or_not paths path = not_decided (Contains paths path) (there_or_not paths path)
 
 -- the faults of the lines of any bytes
-line_faults : (kind : Kind) (alg : Alg) (bytes : List ℕ) (b : Bool) → is_utf8 bytes ≡ b → (faults : List LineFault) × AreFaults (IsManifestFault kind alg bytes) faults
-line_faults kind alg bytes true e = (filter_map fault_of (judged_and_marked kind alg (lines_of_file bytes)), faults_of_text kind alg bytes e)
-line_faults kind alg bytes false e = (not_utf8 ∷ [], faults_of_no_text kind alg bytes e)
+line_faults : (rules : Rules) (kind : Kind) (alg : Alg) (bytes : List ℕ) (b : Bool) → is_utf8 bytes ≡ b → (faults : List LineFault) × AreFaults (IsManifestFault rules kind alg bytes) faults
+line_faults rules kind alg bytes true e = (filter_map fault_of (judged_and_marked rules kind alg (lines_of_file bytes)), faults_of_text rules kind alg bytes e)
+line_faults rules kind alg bytes false e = (not_utf8 ∷ [], faults_of_no_text rules kind alg bytes e)
 
 module _ (bag : Bag) where
   lines_of : (kind : Kind) (alg : Alg) (content : Option (List ℕ)) → file bag (manifest_of kind alg) ≡ content → HasList (IsLineFault bag kind alg)
   lines_of kind alg None e = nothing (IsLineFault bag kind alg) (λ f h. let clash : None ≡ Some h.0.2.0 = sym e ∙ h.0.2.1 in cc)
   lines_of kind alg (Some bytes) e =
-      let lines = line_faults kind alg bytes (is_utf8 bytes) refl in
+      let lines = line_faults (rules_in bag) kind alg bytes (is_utf8 bytes) refl in
       let path = manifest_of kind alg in
       let faults : List Fault = if is_utf8 bytes then map (in_file path (Some alg)) lines.0 else [] in
       (faults, (lines_listed bag kind alg bytes path (is_utf8 bytes) lines.0 faults e refl lines.1 refl refl).members)
 
   -- the tag manifest that is there doesn't name the payload manifest of this text
   abbrev Lacks : Alg → List ℕ → Type 0
-  Lacks alg other = HasSupported bag Tag alg × ¬ (Names bag Tag alg (manifest_name Payload other))
+  Lacks alg other = (rules_in bag ≡ V10) × (HasSupported bag Tag alg × ¬ (Names bag Tag alg (manifest_name Payload other)))
 
   abbrev IsLacking : Alg → List ℕ → Fault → Type 0
   IsLacking alg other f = Lacks alg other × (f ≡ unnamed (manifest_of Tag alg) alg (manifest_name Payload other))
@@ -65,18 +72,19 @@ module _ (bag : Bag) where
 
   lacks_or_not : (alg : Alg) (other : List ℕ) → Decided (Lacks alg other)
   lacks_or_not alg other =
-      both_decided _ _ (true_or_not (has_file bag (manifest_of Tag alg))) (missing_or_not (named_in bag Tag alg) (manifest_name Payload other))
+      both_decided _ _ (v10_or_not (rules_in bag))
+      (both_decided _ _ (true_or_not (has_file bag (manifest_of Tag alg))) (missing_or_not (named_in bag Tag alg) (manifest_name Payload other)))
 
   to_unlisted : (alg : Alg) (f : Fault) → LacksSome alg f → IsUnlisted bag Tag alg f
-  to_unlisted alg f (other, has, ((there, lacks), is)) =
+  to_unlisted alg f (other, has, ((by, (there, lacks)), is)) =
       subst (IsUnlisted bag Tag alg) (sym is)
-      (refl, (other, record { path_is = refl; alg_is = refl; line_is = refl; detail_is = refl }, there, has, lacks))
+      (by, refl, (other, record { path_is = refl; alg_is = refl; line_is = refl; detail_is = refl }, there, has, lacks))
 
   from_unlisted : (alg : Alg) (f : Fault) → IsUnlisted bag Tag alg f → LacksSome alg f
-  from_unlisted alg f (code, (other, at, there, has, lacks)) = (
+  from_unlisted alg f (by, code, (other, at, there, has, lacks)) = (
     other,
     has,
-    ((there, lacks), (λ i. record { code = code i; path = at.path_is i; alg = at.alg_is i; line = at.line_is i; detail = at.detail_is i })),
+    ((by, (there, lacks)), (λ i. record { code = code i; path = at.path_is i; alg = at.alg_is i; line = at.line_is i; detail = at.detail_is i })),
   )
 
   unlisted : (kind : Kind) (alg : Alg) → HasList (IsUnlisted bag kind alg)

@@ -6,6 +6,7 @@ use Rattle.std.specs.Str.{is_utf8}
 use Rattle.bag_text.specs.Code.{stage}
 use Rattle.bag_text.specs.Lines.{IsLine, lines_of_file}
 use Rattle.bag_text.specs.Order.{IsListOf}
+use Rattle.bag_text.specs.declared.rules.Rules.{Rules}
 use Rattle.bag_words.specs.declared.code.Code.{Code}
 use Rattle.bag_words.specs.declared.code.Code.TheVariants.{NotUtf8, InfoLine, OxumMalformed, OxumAgain, OxumDiffers, NoOxum}
 use Rattle.bag_text.proofs.ListOf.{nothing_listed, same_members}
@@ -18,6 +19,7 @@ use Rattle.bag_tree.specs.Bag.{Bag, file}
 use Rattle.bag_fault.specs.declared.fault.Fault.{Fault}
 use Rattle.bag_fault.specs.FaultOrder.{fault_cmp}
 use Rattle.bag_fault.proofs.Ordered.{fault_cmp_total, fault_cmp_same}
+use Rattle.bag_facts.specs.Facts.{rules_in}
 use Rattle.bag_facts.specs.TagFacts.{IsReadOf, IsMetadataOf}
 use Rattle.bag_facts.specs.declared.metadata.Metadata.{Metadata}
 use Rattle.bag_stages.specs.FaultFields.{in_file, in_line, InFile}
@@ -31,17 +33,17 @@ use Rattle.bag_stages.proofs.OxumFaults.{by_line, IsOfOxum, oxum_listed}
 use Rattle.bag_stages.proofs.Sorted.{sorted_together}
 
 -- what is wrong with a line of a text
-line_code : (c : Code) (bytes : List ℕ) (x : LineFault) → is_utf8 bytes ≡ true → InfoFault c bytes x → c ≡ InfoLine
-line_code NotUtf8 bytes x text h = let clash : true ≡ false = sym text ∙ h.2 in cc
-line_code InfoLine bytes x text h = refl
-line_code c bytes x text h = absurd h
+line_code : (rules : Rules) (c : Code) (bytes : List ℕ) (x : LineFault) → is_utf8 bytes ≡ true → InfoFault rules c bytes x → c ≡ InfoLine
+line_code rules NotUtf8 bytes x text h = let clash : true ≡ false = sym text ∙ h.2 in cc
+line_code rules InfoLine bytes x text h = refl
+line_code rules c bytes x text h = absurd h
 
 no_lines : (bytes line : List ℕ) (k : ℕ) → is_utf8 bytes ≡ false → IsLine (lines_of_file bytes) k line → ⊥
 no_lines bytes line k e h = let none : IsLine [] k line = rw e at h in let clash : None ≡ Some line = none.1 in cc
 
-no_line_fault : (c : Code) (bytes : List ℕ) (x : LineFault) → is_utf8 bytes ≡ false → c ≡ InfoLine → InfoFault c bytes x → ⊥
-no_line_fault InfoLine bytes x lacks e h = no_lines bytes h.0 x.line lacks h.2
-no_line_fault c bytes x lacks e h = no_lines bytes (subst (λ d. InfoFault d bytes x) e h).0 x.line lacks (subst (λ d. InfoFault d bytes x) e h).2
+no_line_fault : (rules : Rules) (c : Code) (bytes : List ℕ) (x : LineFault) → is_utf8 bytes ≡ false → c ≡ InfoLine → InfoFault rules c bytes x → ⊥
+no_line_fault rules InfoLine bytes x lacks e h = no_lines bytes h.0 x.line lacks h.2
+no_line_fault rules c bytes x lacks e h = no_lines bytes (subst (λ d. InfoFault rules d bytes x) e h).0 x.line lacks (subst (λ d. InfoFault rules d bytes x) e h).2
 
 line_or_other : (c : Code) → (c ≡ InfoLine) ⊎ (c ≢ InfoLine)
 line_or_other InfoLine = inl refl
@@ -52,34 +54,34 @@ module _ (bag : Bag) where
   abbrev pub IsOfLine : Fault → Type 0
   IsOfLine f = IsOfMetadata bag f × (f.code ≡ InfoLine)
 
-  in_info : (f : Fault) → IsOfLine f → InFile bag f bag_info_txt None IsInfoFault
+  in_info : (f : Fault) → IsOfLine f → InFile bag f bag_info_txt None (IsInfoFault (rules_in bag))
   unfolding IsOfMetadata MetadataHolds
   in_info f h = subst (MetadataHolds bag f) h.1 h.0
 
-  of_info : (f : Fault) → f.code ≡ InfoLine → InFile bag f bag_info_txt None IsInfoFault → IsOfLine f
+  of_info : (f : Fault) → f.code ≡ InfoLine → InFile bag f bag_info_txt None (IsInfoFault (rules_in bag)) → IsOfLine f
   unfolding IsOfMetadata MetadataHolds
   of_info f e h = (subst (MetadataHolds bag f) (sym e) h, e)
 
   -- what is wrong with the lines of the bytes that are there
-  wrong_line : (bytes : List ℕ) (f : Fault) → file bag bag_info_txt ≡ Some bytes → InFile bag f bag_info_txt None IsInfoFault → IsInfoFault bytes (in_line f)
+  wrong_line : (bytes : List ℕ) (f : Fault) → file bag bag_info_txt ≡ Some bytes → InFile bag f bag_info_txt None (IsInfoFault (rules_in bag)) → IsInfoFault (rules_in bag) bytes (in_line f)
   wrong_line bytes f there i =
       let same : i.2.0 ≡ bytes = (let e : Some i.2.0 ≡ Some bytes = sym i.2.1 ∙ there in cc) in
-      subst (λ b. IsInfoFault b (in_line f)) same i.2.2
+      subst (λ b. IsInfoFault (rules_in bag) b (in_line f)) same i.2.2
 
-  text_lines_listed : (bytes : List ℕ) (lines : List LineFault) → file bag bag_info_txt ≡ Some bytes → is_utf8 bytes ≡ true → AreFaults (IsInfoFault bytes) lines
+  text_lines_listed : (bytes : List ℕ) (lines : List LineFault) → file bag bag_info_txt ≡ Some bytes → is_utf8 bytes ≡ true → AreFaults (IsInfoFault (rules_in bag) bytes) lines
       → IsListOf fault_cmp IsOfLine (map (in_file bag_info_txt None) lines)
   text_lines_listed bytes lines there text list =
       same_members fault_cmp _ _ (map (in_file bag_info_txt None) lines)
-      (λ f h. of_info f (line_code f.code bytes (in_line f) text h.2) (h.0, h.1, (bytes, there, h.2)))
+      (λ f h. of_info f (line_code (rules_in bag) f.code bytes (in_line f) text h.2) (h.0, h.1, (bytes, there, h.2)))
       (λ f h. let i = in_info f h in (i.0, i.1, wrong_line bytes f there i))
-      (listed_in_file bag_info_txt None 3 (IsInfoFault bytes) lines (λ x h. ap stage (line_code x.code bytes x text h)) list)
+      (listed_in_file bag_info_txt None 3 (IsInfoFault (rules_in bag) bytes) lines (λ x h. ap stage (line_code (rules_in bag) x.code bytes x text h)) list)
 
   no_lines_listed : (bytes : List ℕ) → file bag bag_info_txt ≡ Some bytes → is_utf8 bytes ≡ false → IsListOf fault_cmp IsOfLine []
   no_lines_listed bytes there lacks =
-      nothing_listed fault_cmp _ (λ f h. no_line_fault f.code bytes (in_line f) lacks h.1 (wrong_line bytes f there (in_info f h)))
+      nothing_listed fault_cmp _ (λ f h. no_line_fault (rules_in bag) f.code bytes (in_line f) lacks h.1 (wrong_line bytes f there (in_info f h)))
 
   -- the faults of the lines, where the file is there
-  pub lines_listed : (bytes : List ℕ) (is_text : Bool) (lines : List LineFault) → file bag bag_info_txt ≡ Some bytes → is_text ≡ is_utf8 bytes → AreFaults (IsInfoFault bytes) lines
+  pub lines_listed : (bytes : List ℕ) (is_text : Bool) (lines : List LineFault) → file bag bag_info_txt ≡ Some bytes → is_text ≡ is_utf8 bytes → AreFaults (IsInfoFault (rules_in bag) bytes) lines
       → IsListOf fault_cmp IsOfLine (if is_text then map (in_file bag_info_txt None) lines else [])
   lines_listed bytes true lines there text list = text_lines_listed bytes lines there (sym text) list
   lines_listed bytes false lines there text list = no_lines_listed bytes there (sym text)
@@ -101,16 +103,16 @@ module _ (bag : Bag) where
   is_either f h = either_by f (line_or_other f.code) h
 
   -- what was read of the file tells the faults
-  read_listed : (bytes : List ℕ) (metadata : Metadata) (faults : List Fault) → file bag bag_info_txt ≡ Some bytes → IsMetadataOf bytes metadata
+  read_listed : (bytes : List ℕ) (metadata : Metadata) (faults : List Fault) → file bag bag_info_txt ≡ Some bytes → IsMetadataOf (rules_in bag) bytes metadata
       → IsPermutation (oxum_faults bag_info_txt (oxum bag) (oxums metadata.elements) ++ (if metadata.is_text then map (in_file bag_info_txt None) metadata.faults else [])) faults
       → IsSortedBy (λ x y. is_lt (fault_cmp x y)) faults → IsListOf fault_cmp (IsOfMetadata bag) faults
   read_listed bytes metadata faults there says perm sorted =
-      let lines = subst (λ all. IsListOf by_line (IsElement all) metadata.elements) (sym (ap lines_or_none there)) says.elements in
+      let lines = subst (λ all. IsListOf by_line (IsElement (rules_in bag) all) metadata.elements) (sym (ap lines_or_none there)) says.elements in
       same_members fault_cmp _ _ faults either_is is_either
       (sorted_together fault_cmp_total fault_cmp_same (IsOfOxum bag) IsOfLine _ _ faults (no_oxum bag_info_txt) (λ f a b. a.1 b.1)
       (oxum_listed bag metadata.elements lines) (lines_listed bytes metadata.is_text metadata.faults there says.text says.faults) perm sorted)
 
-  pub read_metadata_listed : (bytes path : List ℕ) (metadata : Metadata) (found : Oxum) (of_oxums of_lines faults : List Fault) → file bag bag_info_txt ≡ Some bytes → IsMetadataOf bytes metadata
+  pub read_metadata_listed : (bytes path : List ℕ) (metadata : Metadata) (found : Oxum) (of_oxums of_lines faults : List Fault) → file bag bag_info_txt ≡ Some bytes → IsMetadataOf (rules_in bag) bytes metadata
       → path ≡ bag_info_txt → found ≡ oxum bag → of_oxums ≡ oxum_faults path found (oxums metadata.elements)
       → of_lines ≡ (if metadata.is_text then map (in_file path None) metadata.faults else []) → IsPermutation (of_oxums ++ of_lines) faults
       → IsSortedBy (λ x y. is_lt (fault_cmp x y)) faults → IsListOf fault_cmp (IsOfMetadata bag) faults
@@ -125,26 +127,26 @@ module _ (bag : Bag) where
   -- a bag without the file has the one fault that no element tells the size
   missing_listed : file bag bag_info_txt ≡ None → IsListOf fault_cmp (IsOfMetadata bag) (no_oxum bag_info_txt ∷ [])
   missing_listed none =
-      let lines = subst (λ all. IsListOf by_line (IsElement all) []) (sym (ap lines_or_none none)) (elements_of []) in
+      let lines = subst (λ all. IsListOf by_line (IsElement (rules_in bag) all) []) (sym (ap lines_or_none none)) (elements_of (rules_in bag) []) in
       same_members fault_cmp _ _ (no_oxum bag_info_txt ∷ []) (λ f h. h.0)
       (λ f h. elim (is_either f h) [ inl a ↦ a | inr b ↦ absurd (unread_lines none f b) ])
       (oxum_listed bag [] lines)
 
-  unread_by : (content : Option (List ℕ)) → file bag bag_info_txt ≡ content → IsReadOf IsMetadataOf content None → IsListOf fault_cmp (IsOfMetadata bag) (no_oxum bag_info_txt ∷ [])
+  unread_by : (content : Option (List ℕ)) → file bag bag_info_txt ≡ content → IsReadOf (IsMetadataOf (rules_in bag)) content None → IsListOf fault_cmp (IsOfMetadata bag) (no_oxum bag_info_txt ∷ [])
   unread_by None none read = missing_listed none
   unread_by (Some bytes) there read = absurd read
 
-  pub unread_metadata_listed : (path : List ℕ) (faults : List Fault) → IsReadOf IsMetadataOf (file bag bag_info_txt) None → path ≡ bag_info_txt → faults ≡ no_oxum path ∷ []
+  pub unread_metadata_listed : (path : List ℕ) (faults : List Fault) → IsReadOf (IsMetadataOf (rules_in bag)) (file bag bag_info_txt) None → path ≡ bag_info_txt → faults ≡ no_oxum path ∷ []
       → IsListOf fault_cmp (IsOfMetadata bag) faults
   unread_metadata_listed path faults read at is = rw (is, at) (unread_by (file bag bag_info_txt) refl read)
 
   -- the bytes of which something was read
-  bytes_by : (content : Option (List ℕ)) (metadata : Metadata) → file bag bag_info_txt ≡ content → IsReadOf IsMetadataOf content (Some metadata)
-      → (bytes : List ℕ) × (file bag bag_info_txt ≡ Some bytes) × IsMetadataOf bytes metadata
+  bytes_by : (content : Option (List ℕ)) (metadata : Metadata) → file bag bag_info_txt ≡ content → IsReadOf (IsMetadataOf (rules_in bag)) content (Some metadata)
+      → (bytes : List ℕ) × (file bag bag_info_txt ≡ Some bytes) × IsMetadataOf (rules_in bag) bytes metadata
   bytes_by None metadata there read = absurd read
   bytes_by (Some bytes) metadata there read = (bytes, there, read)
 
-  pub bytes_read : (metadata : Metadata) → IsReadOf IsMetadataOf (file bag bag_info_txt) (Some metadata) → (bytes : List ℕ) × (file bag bag_info_txt ≡ Some bytes) × IsMetadataOf bytes metadata
+  pub bytes_read : (metadata : Metadata) → IsReadOf (IsMetadataOf (rules_in bag)) (file bag bag_info_txt) (Some metadata) → (bytes : List ℕ) × (file bag bag_info_txt ≡ Some bytes) × IsMetadataOf (rules_in bag) bytes metadata
   bytes_read metadata read = bytes_by (file bag bag_info_txt) metadata refl read
 
   -- the faults are of the third stage

@@ -4,6 +4,7 @@ use Rattle.std.specs.List.{enumerate_from}
 use Rattle.std.specs.Prelude.{if◌then◌else◌}
 use Rattle.std.specs.Str.{is_utf8}
 use Rattle.bag_text.specs.Lines.{lines_of_file}
+use Rattle.bag_text.specs.declared.rules.Rules.{Rules}
 use Rattle.bag_line.specs.Info.{IsInfoFault}
 use Rattle.bag_line.specs.InfoReader as reading
 use Rattle.bag_line.specs.LineFault.{AreFaults, not_utf8}
@@ -13,6 +14,7 @@ use Rattle.bag_line.proofs.InfoElements.{elements_of}
 use Rattle.bag_line.proofs.InfoFaults.{faults_of_text, faults_of_no_text}
 use Rattle.bag_tree.specs.Bag.{Bag, file}
 use Rattle.bag_fault.specs.declared.fault.Fault.{Fault}
+use Rattle.bag_facts.specs.Facts.{rules_in}
 use Rattle.bag_stages.specs.FaultFields.{in_file}
 use Rattle.bag_stages.specs.HasList.{HasList}
 use Rattle.bag_stages.specs.Metadata.{bag_info_txt}
@@ -25,23 +27,23 @@ use Rattle.bag_stages.proofs.MetadataFaults.{IsOfLine, lines_listed, unread_line
 use Rattle.bag_stages.proofs.OxumFaults.{IsOfOxum, oxum_listed}
 
 -- the faults of the lines of any bytes
-line_faults : (bytes : List ℕ) (b : Bool) → is_utf8 bytes ≡ b → (faults : List LineFault) × AreFaults (IsInfoFault bytes) faults
-line_faults bytes true e = (reading.faults false (enumerate_from 1 (lines_of_file bytes)), faults_of_text bytes e)
-line_faults bytes false e = (not_utf8 ∷ [], faults_of_no_text bytes e)
+line_faults : (rules : Rules) (bytes : List ℕ) (b : Bool) → is_utf8 bytes ≡ b → (faults : List LineFault) × AreFaults (IsInfoFault rules bytes) faults
+line_faults rules bytes true e = (reading.faults rules false (enumerate_from 1 (lines_of_file bytes)), faults_of_text rules bytes e)
+line_faults rules bytes false e = (not_utf8 ∷ [], faults_of_no_text rules bytes e)
 
 module _ (bag : Bag) where
   of_lines : (content : Option (List ℕ)) → file bag bag_info_txt ≡ content → HasList (IsOfLine bag)
   of_lines None none = nothing (IsOfLine bag) (unread_lines bag none)
   of_lines (Some bytes) there =
-      let lines = line_faults bytes (is_utf8 bytes) refl in
+      let lines = line_faults (rules_in bag) bytes (is_utf8 bytes) refl in
       let faults : List Fault = if is_utf8 bytes then map (in_file bag_info_txt None) lines.0 else [] in
       (faults, (lines_listed bag bytes (is_utf8 bytes) lines.0 there refl lines.1).members)
 
   of_oxums : HasList (IsOfOxum bag)
   of_oxums =
       let all = lines_in bag bag_info_txt in
-      let elements : List Element = reading.elements (enumerate_from 1 all) in
-      (oxum_faults bag_info_txt (oxum bag) (oxums elements), (oxum_listed bag elements (elements_of all)).members)
+      let elements : List Element = reading.elements (rules_in bag) (enumerate_from 1 all) in
+      (oxum_faults bag_info_txt (oxum bag) (oxums elements), (oxum_listed bag elements (elements_of (rules_in bag) all)).members)
 
 pub metadata_faults_are_listed : MetadataFaultsAreListed
 metadata_faults_are_listed bag =

@@ -21,6 +21,7 @@ use Rattle.bag_line.proofs.FaultOrder.{lower}
 use Rattle.bag_tree.specs.Bag.{Bag}
 use Rattle.bag_fault.specs.declared.fault.Fault.{Fault}
 use Rattle.bag_fault.specs.FaultOrder.{fault_cmp}
+use Rattle.bag_facts.specs.Facts.{rules_in}
 use Rattle.bag_facts.proofs.Mapped.{mapped_contains, contains_mapped, kept, passed}
 use Rattle.bag_stages.specs.FaultFields.{At, in_file}
 use Rattle.bag_stages.specs.Metadata.{bag_info_txt, HasElement, HasFirst, HasLater}
@@ -253,7 +254,7 @@ module _ (bag : Bag) where
   oxum_members (first ∷ later) list f = (some_is first later list f, λ h. some_by first later list f f.code refl h.1 h.0)
 
   -- the elements that have the label
-  oxums_listed : (elements : List Element) → IsListOf by_line (IsElement (lines_in bag bag_info_txt)) elements → IsListOf by_line (HasElement bag oxum_label) (oxums elements)
+  oxums_listed : (elements : List Element) → IsListOf by_line (IsElement (rules_in bag) (lines_in bag bag_info_txt)) elements → IsListOf by_line (HasElement bag oxum_label) (oxums elements)
   oxums_listed elements list = record {
     ascending = IsStrictlySortedBy-filter by_line is_oxum elements list.ascending;
     members = λ e. (
@@ -263,7 +264,7 @@ module _ (bag : Bag) where
   }
 
   -- the faults of the elements
-  pub oxum_listed : (elements : List Element) → IsListOf by_line (IsElement (lines_in bag bag_info_txt)) elements → IsListOf fault_cmp IsOfOxum (oxum_faults bag_info_txt (oxum bag) (oxums elements))
+  pub oxum_listed : (elements : List Element) → IsListOf by_line (IsElement (rules_in bag) (lines_in bag bag_info_txt)) elements → IsListOf fault_cmp IsOfOxum (oxum_faults bag_info_txt (oxum bag) (oxums elements))
   oxum_listed elements list =
       let of = oxums_listed elements list in
       record { ascending = all_ascend (oxum bag) (oxums elements) of.ascending; members = oxum_members (oxums elements) of }

@@ -27,7 +27,7 @@ use Rattle.bag_tags.proofs.ManifestName.{same_alg}
 use Rattle.bag_tags.proofs.TagPaths.{name_named, paths_differ}
 use Rattle.bag_fault.specs.declared.fault.Fault.{Fault}
 use Rattle.bag_fault.specs.FaultOrder.{fault_cmp}
-use Rattle.bag_facts.specs.Facts.{IsFactsOf, IsSaid}
+use Rattle.bag_facts.specs.Facts.{rules_in, IsFactsOf, IsSaid}
 use Rattle.bag_facts.specs.TagFacts.{name_of, path_of, text_test, Says}
 use Rattle.bag_facts.specs.TagReader.{AreListed}
 use Rattle.bag_facts.specs.Wanted.{paths_of}
@@ -272,13 +272,13 @@ tags_known bag all h deep = record {
 }
 
 -- what is known of the tag files tells which of them isn't UTF-8
-textless : (bag : Bag) (tag : TagFacts) (bytes : List ℕ) → Says bytes tag → text_test tag ≡ Some false → (name_of tag ≢ tag_name.Declaration) × (is_utf8 bytes ≡ false)
+textless : (bag : Bag) (tag : TagFacts) (bytes : List ℕ) → Says (rules_in bag) bytes tag → text_test tag ≡ Some false → (name_of tag ≢ tag_name.Declaration) × (is_utf8 bytes ≡ false)
 textless bag (facts.Declaration d) bytes says e = cc
 textless bag (facts.Info metadata) bytes says e = ((λ same. cc), (let no : metadata.is_text ≡ false = cc in sym says.text ∙ no))
 textless bag (facts.Fetch list) bytes says e = ((λ same. cc), (let no : list.is_text ≡ false = cc in sym says.text ∙ no))
 textless bag (facts.Manifest m) bytes says e = ((λ same. cc), (let no : m.is_text ≡ false = cc in sym says.text ∙ no))
 
-tells_textless : (bag : Bag) (tag : TagFacts) (bytes : List ℕ) → Says bytes tag → name_of tag ≢ tag_name.Declaration → is_utf8 bytes ≡ false → text_test tag ≡ Some false
+tells_textless : (bag : Bag) (tag : TagFacts) (bytes : List ℕ) → Says (rules_in bag) bytes tag → name_of tag ≢ tag_name.Declaration → is_utf8 bytes ≡ false → text_test tag ≡ Some false
 tells_textless bag (facts.Declaration d) bytes says other e = absurd (other refl)
 tells_textless bag (facts.Info metadata) bytes says other e = ap Some (says.text ∙ e)
 tells_textless bag (facts.Fetch list) bytes says other e = ap Some (says.text ∙ e)

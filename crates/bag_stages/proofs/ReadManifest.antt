@@ -9,6 +9,7 @@ use Rattle.bag_text.proofs.ListOf.{contains_nothing}
 use Rattle.bag_tags.specs.Manifest.{IsEntry}
 use Rattle.bag_tags.specs.declared.kind.Kind.{Kind}
 use Rattle.bag_tree.specs.Bag.{Bag, file}
+use Rattle.bag_facts.specs.Facts.{rules_in}
 use Rattle.bag_facts.specs.TagFacts.{entry_paths, AreByPath, IsManifestNamed, IsReadOf}
 use Rattle.bag_facts.specs.declared.manifest.Manifest.{Manifest}
 use Rattle.bag_stages.specs.TagFiles.{manifest_of, HasSupported, Names}
@@ -17,17 +18,17 @@ use Rattle.bag_stages.proofs.ManifestFaults as of_bytes
 
 module _ (bag : Bag) (kind : Kind) (alg : Alg) where
   -- one that is there
-  module _ (m : Manifest) (read : IsReadOf (IsManifestNamed kind alg) (file bag (manifest_of kind alg)) (Some m)) where
+  module _ (m : Manifest) (read : IsReadOf (IsManifestNamed (rules_in bag) kind alg) (file bag (manifest_of kind alg)) (Some m)) where
     abbrev IsSaid : Type 0
-    IsSaid = (bytes : List ℕ) × (file bag (manifest_of kind alg) ≡ Some bytes) × IsManifestNamed kind alg bytes m
+    IsSaid = (bytes : List ℕ) × (file bag (manifest_of kind alg) ≡ Some bytes) × IsManifestNamed (rules_in bag) kind alg bytes m
 
     said : IsSaid
-    said = fetch.read_bytes (IsManifestNamed kind alg) (file bag (manifest_of kind alg)) m read
+    said = fetch.read_bytes (IsManifestNamed (rules_in bag) kind alg) (file bag (manifest_of kind alg)) m read
 
-    listed : IsListOf (on (λ e. e.path) text_cmp) (IsEntry kind alg (lines_of_file said.0)) m.entries
+    listed : IsListOf (on (λ e. e.path) text_cmp) (IsEntry (rules_in bag) kind alg (lines_of_file said.0)) m.entries
     listed =
-        subst (λ a. IsListOf (on (λ e. e.path) text_cmp) (IsEntry kind a (lines_of_file said.0)) m.entries) said.2.2
-        (subst (λ k. IsListOf (on (λ e. e.path) text_cmp) (IsEntry k m.alg (lines_of_file said.0)) m.entries) said.2.1 said.2.0.entries)
+        subst (λ a. IsListOf (on (λ e. e.path) text_cmp) (IsEntry (rules_in bag) kind a (lines_of_file said.0)) m.entries) said.2.2
+        (subst (λ k. IsListOf (on (λ e. e.path) text_cmp) (IsEntry (rules_in bag) k m.alg (lines_of_file said.0)) m.entries) said.2.1 said.2.0.entries)
 
     pub of_alg : m.alg ≡ alg
     of_alg = said.2.2
@@ -46,9 +47,9 @@ module _ (bag : Bag) (kind : Kind) (alg : Alg) where
     entry_names path c = of_bytes.entry_names bag kind alg said.0 m.entries said.1 listed path c
 
   -- one that isn't there names nothing
-  module _ (read : IsReadOf (IsManifestNamed kind alg) (file bag (manifest_of kind alg)) None) where
+  module _ (read : IsReadOf (IsManifestNamed (rules_in bag) kind alg) (file bag (manifest_of kind alg)) None) where
     lacks : file bag (manifest_of kind alg) ≡ None
-    lacks = fetch.not_there (IsManifestNamed kind alg) (file bag (manifest_of kind alg)) read
+    lacks = fetch.not_there (IsManifestNamed (rules_in bag) kind alg) (file bag (manifest_of kind alg)) read
 
     pub is_absent : HasSupported bag kind alg → ⊥
     is_absent has = let clash : false ≡ true = ap is_some (sym lacks) ∙ has in cc

@@ -1,32 +1,32 @@
 -- Stage 4: what is a fault of the list of files to fetch (RFC 8493, 2.2.3).
-use Rattle.std.specs.Prelude.{ℕ, ◌≡◌, List, None, Some}
+use Rattle.std.specs.Prelude.{ℕ, ◌≡◌, List, None}
 use Rattle.bag_text.specs.Code.{stage}
-use Rattle.bag_words.specs.declared.alg.Alg.{Alg}
 use Rattle.bag_words.specs.declared.code.Code.{Code}
 use Rattle.bag_words.specs.declared.code.Code.TheVariants.{FetchLine, FetchEscape, FetchUnsafePath, FetchOutsidePayload, FetchNotInManifest}
 use Rattle.bag_line.specs.Fetch.{IsFetch, IsFetchFault}
 use Rattle.bag_line.specs.declared.fetch.FetchEntry.{FetchEntry}
 use Rattle.bag_tags.specs.TagName.{tag_path}
-use Rattle.bag_tags.specs.declared.kind.Kind.TheVariants.{Payload}
 use Rattle.bag_tags.specs.declared.tag_name.TagName.TheVariants.{Fetch}
 use Rattle.bag_tree.specs.Bag.{Bag}
 use Rattle.bag_fault.specs.declared.fault.Fault.{Fault}
+use Rattle.bag_facts.specs.Facts.{rules_in}
 use Rattle.bag_stages.specs.FaultFields.{At, InFile}
 use Rattle.bag_stages.specs.HasList.{HasList}
-use Rattle.bag_stages.specs.TagFiles.{lines_in, HasSupported, Names}
+use Rattle.bag_stages.specs.LeftOut.{IsLeftOut}
+use Rattle.bag_stages.specs.TagFiles.{lines_in}
 
 abbrev pub fetch_txt : List ℕ
 fetch_txt = tag_path Fetch
 
 -- a line of fetch.txt that reads
 abbrev pub HasFetch : Bag → FetchEntry → Type 0
-HasFetch bag e = IsFetch (lines_in bag fetch_txt) e
+HasFetch bag e = IsFetch (rules_in bag) (lines_in bag fetch_txt) e
 
 -- what a code says of a bag and the other fields of the fault
 module _ (bag : Bag) (f : Fault) where
   -- this is wrong with a line of the list
   abbrev pub InFetch : Type 0
-  InFetch = InFile bag f fetch_txt None IsFetchFault
+  InFetch = InFile bag f fetch_txt None (IsFetchFault (rules_in bag))
 
   unfoldable pub FetchHolds : Code → Type 0
   -- the form of a line, and the path in it
@@ -34,10 +34,9 @@ module _ (bag : Bag) (f : Fault) where
   FetchHolds FetchEscape = InFetch
   FetchHolds FetchUnsafePath = InFetch
   FetchHolds FetchOutsidePayload = InFetch
-  -- a payload manifest doesn't name the file that is to be fetched
+  -- payload manifests leave out the file that is to be fetched
   FetchHolds FetchNotInManifest =
-      (e : FetchEntry) × (alg : Alg) × At f fetch_txt (Some alg) e.line e.path
-      × HasFetch bag e × HasSupported bag Payload alg × ¬ (Names bag Payload alg e.path)
+      (e : FetchEntry) × At f fetch_txt f.alg e.line e.path × HasFetch bag e × IsLeftOut (rules_in bag) bag f.alg e.path
   -- codes of other stages
   FetchHolds other = ⊥
 

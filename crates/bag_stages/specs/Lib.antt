@@ -2,6 +2,7 @@ pub mod DeclarationStage
 pub mod FetchFaults
 pub mod FetchStage
 pub mod FileFaults
+pub mod LeftOut
 pub mod ManifestFaults
 pub mod ManifestsStage
 pub mod Metadata

@@ -1,6 +1,8 @@
 -- The faults of manifests, one manifest at a time.
 use Rattle.std.specs.Prelude.{ℕ, ◌≡◌, ◌⊎◌, true, List, Some, Contains}
 use Rattle.bag_text.specs.Code.{stage}
+use Rattle.bag_text.specs.declared.rules.Rules.{Rules}
+use Rattle.bag_text.specs.declared.rules.Rules.TheVariants.{V10}
 use Rattle.bag_words.specs.declared.alg.Alg.{Alg}
 use Rattle.bag_words.specs.declared.code.Code.TheVariants.{PayloadManifestNotListed}
 use Rattle.bag_tags.specs.Manifest.{IsManifestFault}
@@ -10,6 +12,7 @@ use Rattle.bag_tags.specs.declared.kind.Kind.TheVariants.{Payload, Tag}
 use Rattle.bag_tags.specs.declared.manifest.ManifestEntry.{ManifestEntry}
 use Rattle.bag_tree.specs.Bag.{Bag}
 use Rattle.bag_fault.specs.declared.fault.Fault.{Fault}
+use Rattle.bag_facts.specs.Facts.{rules_in}
 use Rattle.bag_facts.specs.TagFacts.{entry_paths}
 use Rattle.bag_stages.specs.FaultFields.{At, InFile}
 use Rattle.bag_stages.specs.TagFiles.{manifest_of, HasManifest, HasSupported, Names}
@@ -31,17 +34,22 @@ IsUnnamedFault path alg entries f = (f ≡ unnamed path alg f.detail) × IsUnnam
 abbrev pub IsUnnamedAmong : List ℕ → Alg → List ManifestEntry → List (List ℕ) → Fault → Type 0
 IsUnnamedAmong path alg entries files f = Contains files f.detail × IsUnnamedFault path alg entries f
 
--- a tag manifest names the payload manifests that are there, and a payload manifest needs to name none
+-- those faults by the rules: those of 0.97 ask for no name
+abbrev pub IsUnnamedBy : Rules → List ℕ → Alg → List ManifestEntry → List (List ℕ) → Fault → Type 0
+IsUnnamedBy rules path alg entries files f = (rules ≡ V10) × IsUnnamedAmong path alg entries files f
+
+-- a tag manifest names the payload manifests that are there, by the rules of 1.0 alone, and a payload manifest needs to name
+-- none
 abbrev pub IsUnlisted : Bag → Kind → Alg → Fault → Type 0
 IsUnlisted bag Payload alg f = ⊥
 IsUnlisted bag Tag alg f =
-    (f.code ≡ PayloadManifestNotListed)
+    (rules_in bag ≡ V10) × (f.code ≡ PayloadManifestNotListed)
     × ((other : List ℕ) × At f (manifest_of Tag alg) (Some alg) 0 (manifest_name Payload other)
     × HasSupported bag Tag alg × HasManifest bag Payload other × ¬ (Names bag Tag alg (manifest_name Payload other)))
 
 -- a fault of a line of a manifest
 abbrev pub IsLineFault : Bag → Kind → Alg → Fault → Type 0
-IsLineFault bag kind alg f = InFile bag f (manifest_of kind alg) (Some alg) (IsManifestFault kind alg) × (stage f.code ≡ 5)
+IsLineFault bag kind alg f = InFile bag f (manifest_of kind alg) (Some alg) (IsManifestFault (rules_in bag) kind alg) × (stage f.code ≡ 5)
 
 -- a fault of one manifest
 abbrev pub IsOfManifest : Bag → Kind → Alg → Fault → Type 0

@@ -9,6 +9,7 @@ use Rattle.bag_line.specs.declared.info.Element.{Element}
 use Rattle.bag_line.specs.declared.oxum.Oxum.{Oxum}
 use Rattle.bag_tree.specs.Bag.{Bag}
 use Rattle.bag_fault.specs.declared.fault.Fault.{Fault}
+use Rattle.bag_facts.specs.Facts.{rules_in}
 use Rattle.bag_stages.specs.FaultFields.{At, InFile}
 use Rattle.bag_stages.specs.HasList.{HasList}
 use Rattle.bag_stages.specs.Metadata.{bag_info_txt, HasElement, HasFirst, HasLater}
@@ -26,7 +27,7 @@ pair a b = a ++ codes ":" ++ b
 module _ (bag : Bag) (f : Fault) where
   unfoldable pub MetadataHolds : Code → Type 0
   -- a line that should begin an element and doesn't, or goes on with none
-  MetadataHolds InfoLine = InFile bag f bag_info_txt None IsInfoFault
+  MetadataHolds InfoLine = InFile bag f bag_info_txt None (IsInfoFault (rules_in bag))
   -- the first Payload-Oxum doesn't read
   MetadataHolds OxumMalformed =
       (e : Element) × At f bag_info_txt None e.line e.value × HasFirst bag oxum_label e × (oxum_of e.value ≡ None)

@@ -10,6 +10,7 @@ use Rattle.bag_tags.specs.declared.kind.Kind.{Kind}
 use Rattle.bag_tags.specs.declared.tag_name.TagName.{TagName}
 use Rattle.bag_tags.specs.declared.tag_name.TagName.TheVariants.{Declaration, Manifest}
 use Rattle.bag_tree.specs.Bag.{Bag, file, HasFile}
+use Rattle.bag_facts.specs.Facts.{rules_in}
 
 abbrev pub bagit_txt : List ℕ
 bagit_txt = tag_path Declaration
@@ -34,9 +35,9 @@ HasManifest bag kind alg = (is_alg_text alg ≡ true) × HasFile bag (manifest_n
 abbrev pub HasSupported : Bag → Kind → Alg → Type 0
 HasSupported bag kind alg = HasFile bag (manifest_of kind alg)
 
--- the paths that the manifest's lines name, in their order
+-- the paths that the manifest's lines name by the bag's rules, in their order
 abbrev pub named_in : Bag → Kind → Alg → List (List ℕ)
-named_in bag kind alg = named kind alg (lines_in bag (manifest_of kind alg))
+named_in bag kind alg = named (rules_in bag) kind alg (lines_in bag (manifest_of kind alg))
 
 -- that manifest names the path
 abbrev pub Names : Bag → Kind → Alg → List ℕ → Type 0

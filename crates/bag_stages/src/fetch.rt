@@ -6,19 +6,19 @@ ghost use Rattle.bag_fault.specs.FaultOrder.{fault_cmp};
 ghost use Rattle.bag_facts.specs.Facts.{IsFactsOf};
 ghost use Rattle.bag_facts.specs.TagFacts.{AreByPath};
 ghost use Rattle.bag_facts.specs.declared.options.Depth.TheVariants.{Declaration};
-ghost use Rattle.bag_stages.specs.FetchFaults.{not_in_manifest, AreByLine, AreFetched, IsNotInManifest, IsNotInSome, IsNotNamedAmong};
+ghost use Rattle.bag_stages.specs.FetchFaults.{not_in_manifest, AreByLine, AreFetched, IsNamedByNoneAmong, IsNotInAny, IsNotInManifest, IsNotInSome, IsNotListed, IsNotNamedAmong};
 ghost use Rattle.bag_stages.specs.FetchStage.{fetch_txt, IsOfFetch};
 
+use crate::named::is_named;
 use crate::tag_file::faults_in_file;
 use bag_facts::{Facts, Manifest};
 use bag_fault::Fault;
 use bag_tags::{FetchEntry, Kind, TagName};
-use bag_text::{Alg, Code, Text};
+use bag_text::{Alg, Code, Rules, Text};
 use std::alloc::{AllocError, Global};
 
-/// The faults of `fetch.txt` (RFC 8493, 2.2.3), of facts read for more than the declaration: those of its lines, and then,
-/// for each payload manifest, the files that it doesn't name. Bytes that aren't UTF-8 have none. Fails only where memory
-/// runs out.
+/// The faults of `fetch.txt` (RFC 8493, 2.2.3), of facts read for more than the declaration: those of its lines, and the files
+/// that payload manifests leave out. Bytes that aren't UTF-8 have none. Fails only where memory runs out.
 pub fn fetch_faults(alloc: Global, facts: &Facts) -> Result<Vec<Fault>, AllocError>
     ensures { IfOk result (λ faults. (bag : Bag) → IsFactsOf bag facts.now → facts.now.options.depth ≢ Declaration
         → IsListOf fault_cmp (IsOfFetch bag) faults.items) }
@@ -31,9 +31,26 @@ pub fn fetch_faults(alloc: Global, facts: &Facts) -> Result<Vec<Fault>, AllocErr
     }
     let path = TagName::Fetch.path(alloc)?;
     let mut faults = faults_in_file(alloc, &path, None, list.faults.as_slice())?;
-    let mut of_manifests = unnamed_in_all(alloc, facts, &path, list.entries.as_slice())?;
+    let mut of_manifests = left_out_faults(alloc, facts, &path, list.entries.as_slice())?;
     faults.append(&mut of_manifests)?;
+    faults.sort_unstable();
     Ok(faults)
+}
+
+/// The faults that payload manifests leave files to fetch out, by the rules of the bag's version.
+fn left_out_faults(
+    alloc: Global,
+    facts: &Facts,
+    path: &Text,
+    entries: &[FetchEntry],
+) -> Result<Vec<Fault>, AllocError>
+    ensures { IfOk result (λ faults. (bag : Bag) → IsFactsOf bag facts.now → facts.now.options.depth ≢ Declaration
+        → path.now ≡ fetch_txt → AreFetched bag entries.now → IsListOf fault_cmp (IsNotListed bag) faults.items) }
+{
+    match facts.rules() {
+        Rules::V10 => unnamed_in_all(alloc, facts, path, entries),
+        Rules::V097 => unnamed_by_all(alloc, facts, path, entries),
+    }
 }
 
 /// The faults that payload manifests don't name files to fetch, one manifest after another.
@@ -84,17 +101,52 @@ fn unnamed_faults(
     let mut faults = Vec::new(alloc);
     for entry in entries {
         if !manifest.names(&entry.path) {
-            faults.push(unnamed_fault(alloc, path, manifest.alg, entry)?)?;
+            faults.push(unnamed_fault(alloc, path, Some(manifest.alg), entry)?)?;
         }
     }
     Ok(faults)
 }
 
-/// The fault that a payload manifest doesn't name a file to fetch.
+/// The faults that all payload manifests, of which there is one, leave files to fetch out: what the rules of 0.97 ask.
+fn unnamed_by_all(
+    alloc: Global,
+    facts: &Facts,
+    path: &Text,
+    entries: &[FetchEntry],
+) -> Result<Vec<Fault>, AllocError>
+    ensures { IfOk result (λ faults. (bag : Bag) → IsFactsOf bag facts.now → facts.now.options.depth ≢ Declaration
+        → path.now ≡ fetch_txt → AreFetched bag entries.now → IsListOf fault_cmp (IsNotInAny bag) faults.items) }
+{
+    if facts.algs(Kind::Payload).is_empty() {
+        return Ok(Vec::new(alloc));
+    }
+    named_by_none(alloc, facts, path, entries)
+}
+
+/// The faults of the files to fetch that no payload manifest names, in the order of their lines.
+fn named_by_none(
+    alloc: Global,
+    facts: &Facts,
+    path: &Text,
+    entries: &[FetchEntry],
+) -> Result<Vec<Fault>, AllocError>
+    ensures { IfOk result (λ faults. (bag : Bag) → IsFactsOf bag facts.now → facts.now.options.depth ≢ Declaration
+        → AreByLine entries.now → IsListOf fault_cmp (IsNamedByNoneAmong bag path.now entries.now) faults.items) }
+{
+    let mut faults = Vec::new(alloc);
+    for entry in entries {
+        if !is_named(facts, &entry.path) {
+            faults.push(unnamed_fault(alloc, path, None, entry)?)?;
+        }
+    }
+    Ok(faults)
+}
+
+/// The fault that payload manifests leave a file to fetch out; with an algorithm, its manifest does.
 fn unnamed_fault(
     alloc: Global,
     path: &Text,
-    alg: Alg,
+    alg: Option<Alg>,
     entry: &FetchEntry,
 ) -> Result<Fault, AllocError>
     ensures { IfOk result (λ fault. fault ≡ not_in_manifest path.now alg entry.now) }
@@ -102,7 +154,7 @@ fn unnamed_fault(
     Ok(Fault {
         code: Code::FetchNotInManifest,
         path: path.copy(alloc)?,
-        alg: Some(alg),
+        alg,
         line: entry.line,
         detail: entry.path.copy(alloc)?,
     })

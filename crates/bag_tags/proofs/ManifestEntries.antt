@@ -8,6 +8,7 @@ use Rattle.std.proofs.lemmas.Option.{slice_get_within, get_or_from_slice_get}
 use Rattle.std.proofs.lemmas.Slice.Eq.{bytes_eq-Decides}
 use Rattle.bag_text.specs.Lines.{IsLine}
 use Rattle.bag_text.specs.Text.{is_blank_line}
+use Rattle.bag_text.specs.declared.rules.Rules.{Rules}
 use Rattle.bag_words.specs.declared.alg.Alg.{Alg}
 use Rattle.bag_text.proofs.ListOf.{contains_cases, contains_nothing}
 use Rattle.bag_tags.specs.declared.kind.Kind.{Kind}
@@ -52,41 +53,41 @@ module _ {A : Type 0} (f : A → Option (List ℕ)) where
   first_picked [] y c = absurd (contains_nothing y c)
   first_picked (x ∷ xs) y c = first_cons x xs y (f x) (gives (f x) y) refl refl c (first_picked xs y)
 
-module _ (kind : Kind) (alg : Alg) (all : List (List ℕ)) where
+module _ (rules : Rules) (kind : Kind) (alg : Alg) (all : List (List ℕ)) where
   -- the path of an entry is named
-  pub entry_named : (e : ManifestEntry) → IsEntry kind alg all e → Contains (named kind alg all) e.path
+  pub entry_named : (e : ManifestEntry) → IsEntry rules kind alg all e → Contains (named rules kind alg all) e.path
   entry_named e (line, (some, at), reads, first) =
       let there : Contains all line = (e.line - 1, slice_get_within all (e.line - 1) line at, get_or_from_slice_get all (e.line - 1) line line at) in
-      is_picked (path_of kind alg) all line e.path there (path_of_reads kind alg line e.digest e.path reads)
+      is_picked (path_of rules kind alg) all line e.path there (path_of_reads rules kind alg line e.digest e.path reads)
 
   -- and a path that is named has an entry, of the first line that names it
-  pub named_has_entry : (path : List ℕ) → Contains (named kind alg all) path → (e : ManifestEntry) × IsEntry kind alg all e × (e.path ≡ path)
+  pub named_has_entry : (path : List ℕ) → Contains (named rules kind alg all) path → (e : ManifestEntry) × IsEntry rules kind alg all e × (e.path ≡ path)
   named_has_entry path c =
-      let p = first_picked (path_of kind alg) all path c in
+      let p = first_picked (path_of rules kind alg) all path c in
       let k = p.0 in
-      let r = reads_path kind alg p.1 path (is_blank_line p.1) (manifest_line kind alg p.1) refl refl p.3 in
+      let r = reads_path rules kind alg p.1 path (is_blank_line p.1) (manifest_line rules kind alg p.1) refl refl p.3 in
       let step : k ≡ k + 1 - 1 = omega arith in
       let at : IsLine all (k + 1) p.1 = (omega arith, ap (slice_get all) (sym step) ∙ p.2) in
-      let first : ¬ (Contains (named_before kind alg all (k + 1)) path) = subst (λ n. ¬ (Contains (named kind alg (take n all)) path)) step p.4 in
+      let first : ¬ (Contains (named_before rules kind alg all (k + 1)) path) = subst (λ n. ¬ (Contains (named rules kind alg (take n all)) path)) step p.4 in
       (record { line = k + 1; digest = r.0; path = path }, (p.1, at, r.1, first), refl)
 
   abbrev digest_read : Result (List ℕ × List ℕ) Reason → List ℕ
   digest_read (Ok x) = x.0
   digest_read (Err reason) = []
 
-  not_later : (e g : ManifestEntry) → IsEntry kind alg all e → IsEntry kind alg all g → e.path ≡ g.path → e.line < g.line → ⊥
+  not_later : (e g : ManifestEntry) → IsEntry rules kind alg all e → IsEntry rules kind alg all g → e.path ≡ g.path → e.line < g.line → ⊥
   not_later e g (line, at, reads, _) (_, _, _, first) same low =
-      first (earlier_named kind alg all g.line g.path (e.line, line, e.digest, low, at, subst (Reads kind alg line e.digest) same reads))
+      first (earlier_named rules kind alg all g.line g.path (e.line, line, e.digest, low, at, subst (Reads rules kind alg line e.digest) same reads))
 
-  same_line : (e g : ManifestEntry) → IsEntry kind alg all e → IsEntry kind alg all g → e.path ≡ g.path → e.line ≡ g.line → e ≡ g
+  same_line : (e g : ManifestEntry) → IsEntry rules kind alg all e → IsEntry rules kind alg all g → e.path ≡ g.path → e.line ≡ g.line → e ≡ g
   same_line e g (l, at, reads, _) (m, there, again, _) same n =
       let lines_same : Some l ≡ Some m = sym at.1 ∙ ap (λ k. slice_get all (k - 1)) n ∙ there.1 in
       let one : l ≡ m = cc in
-      let digest : e.digest ≡ g.digest = ap digest_read (sym reads.1 ∙ ap (manifest_line kind alg) one ∙ again.1) in
+      let digest : e.digest ≡ g.digest = ap digest_read (sym reads.1 ∙ ap (manifest_line rules kind alg) one ∙ again.1) in
       λ i. record { line = n i; digest = digest i; path = same i }
 
   -- two entries of one path are one
-  pub entry_of_path_once : (e g : ManifestEntry) → IsEntry kind alg all e → IsEntry kind alg all g → e.path ≡ g.path → e ≡ g
+  pub entry_of_path_once : (e g : ManifestEntry) → IsEntry rules kind alg all e → IsEntry rules kind alg all g → e.path ≡ g.path → e ≡ g
   entry_of_path_once e g h k same =
       elim (cases_lt e.line g.line) [
         | inl low ↦ absurd (not_later e g h k same low)

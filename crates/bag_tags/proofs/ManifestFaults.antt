@@ -7,6 +7,7 @@ use Rattle.std.specs.Ordering.{nat_cmp, on}
 use Rattle.bag_text.specs.Lines.{IsLine, lines_of_file}
 use Rattle.bag_text.specs.Text.{IsText, IsNoText}
 use Rattle.bag_text.specs.Order.{IsListOf}
+use Rattle.bag_text.specs.declared.rules.Rules.{Rules}
 use Rattle.bag_words.specs.declared.alg.Alg.{Alg}
 use Rattle.bag_words.specs.declared.code.Code.{Code}
 use Rattle.bag_words.specs.declared.code.Code.TheVariants.{NotUtf8, NamedAgain}
@@ -106,86 +107,86 @@ module _ (lines : List Judged) where
       let low = lower x.line y.line h in
       line_below u v (omega arith)
 
-module _ (kind : Kind) (alg : Alg) (bytes : List ℕ) (is_utf8 : IsText bytes) where
+module _ (rules : Rules) (kind : Kind) (alg : Alg) (bytes : List ℕ) (is_utf8 : IsText bytes) where
   abbrev all : List (List ℕ)
   all = lines_of_file bytes
 
   abbrev lines : List Judged
-  lines = js kind alg all
+  lines = js rules kind alg all
 
-  none_before : (j : Judged) → ¬ (Contains (named_before kind alg all j.line) (text j)) → (b : Bool) → list_any (names_before j) lines ≡ b → b ≡ false
-  none_before j first true e = absurd (first (repeat_named kind alg all j e))
+  none_before : (j : Judged) → ¬ (Contains (named_before rules kind alg all j.line) (text j)) → (b : Bool) → list_any (names_before j) lines ≡ b → b ≡ false
+  none_before j first true e = absurd (first (repeat_named rules kind alg all j e))
   none_before j first false e = refl
 
-  is_entry : (e : ManifestEntry) → IsEntry kind alg all e → Contains (filter_map (entry_at lines) lines) e
+  is_entry : (e : ManifestEntry) → IsEntry rules kind alg all e → Contains (filter_map (entry_at lines) lines) e
   is_entry e (line, at, reads, first) =
       let j : Judged = record { line = e.line; verdict = Entry e.digest e.path } in
-      let c = is_judged kind alg all j line at (reads_judged kind alg e.line line e.digest e.path reads) in
+      let c = is_judged rules kind alg all j line at (reads_judged rules kind alg e.line line e.digest e.path reads) in
       let made : entry_at lines j ≡ Some e = rw (none_before j first (list_any (names_before j) lines) refl) refl in
       is_picked (entry_at lines) lines j e c made
 
-  entry_read : (e : ManifestEntry) → Contains (filter_map (entry_at lines) lines) e → IsEntry kind alg all e
+  entry_read : (e : ManifestEntry) → Contains (filter_map (entry_at lines) lines) e → IsEntry rules kind alg all e
   entry_read e c =
       let p = picked (entry_at lines) lines e c in
       let j = p.0 in
       let is = entry_is lines j e p.2 in
-      let at = judged_is kind alg all j p.1 in
-      let first : ¬ (Contains (named_before kind alg all j.line) (text j)) = λ d. (let clash : false ≡ true = sym is.1 ∙ named_repeat kind alg all j d in cc) in
-      subst (IsEntry kind alg all) (sym is.2) (at.0, at.1, judged_reads kind alg j.line at.0 j at.2 is.0, first)
+      let at = judged_is rules kind alg all j p.1 in
+      let first : ¬ (Contains (named_before rules kind alg all j.line) (text j)) = λ d. (let clash : false ≡ true = sym is.1 ∙ named_repeat rules kind alg all j d in cc) in
+      subst (IsEntry rules kind alg all) (sym is.2) (at.0, at.1, judged_reads rules kind alg j.line at.0 j at.2 is.0, first)
 
   -- the entries of a file that is UTF-8
-  pub entries_of_text : IsListOf (on (λ e. e.line) nat_cmp) (IsEntry kind alg all) (filter_map entry_of (judged_and_marked kind alg all))
-  entries_of_text = subst (IsListOf (on (λ e. e.line) nat_cmp) (IsEntry kind alg all)) (sym (picked_map entry_of (marked_if_repeat lines) lines)) (record {
-    ascending = ascending_picked (entry_at lines) line_cmp (on (λ e. e.line) nat_cmp) (entries_rise lines) lines (judged_ascend kind alg all);
+  pub entries_of_text : IsListOf (on (λ e. e.line) nat_cmp) (IsEntry rules kind alg all) (filter_map entry_of (judged_and_marked rules kind alg all))
+  entries_of_text = subst (IsListOf (on (λ e. e.line) nat_cmp) (IsEntry rules kind alg all)) (sym (picked_map entry_of (marked_if_repeat lines) lines)) (record {
+    ascending = ascending_picked (entry_at lines) line_cmp (on (λ e. e.line) nat_cmp) (entries_rise lines) lines (judged_ascend rules kind alg all);
     members = λ e. (entry_read e, is_entry e);
   })
 
-  row : (code : Code) (f : LineFault) → IsReasonCode code → (line : List ℕ) × IsLine all f.line line × HasReason kind alg line (code, f.detail) → ManifestFault code kind alg bytes f
+  row : (code : Code) (f : LineFault) → IsReasonCode code → (line : List ℕ) × IsLine all f.line line × HasReason rules kind alg line (code, f.detail) → ManifestFault code rules kind alg bytes f
   row NotUtf8 f r h = absurd r
   row NamedAgain f r h = absurd r
   row other f r h = h
 
-  fault_read : (f : LineFault) → Contains (filter_map (fault_at lines) lines) f → IsManifestFault kind alg bytes f
+  fault_read : (f : LineFault) → Contains (filter_map (fault_at lines) lines) f → IsManifestFault rules kind alg bytes f
   fault_read f c =
       let p = picked (fault_at lines) lines f c in
       let j = p.0 in
-      let at = judged_is kind alg all j p.1 in
+      let at = judged_is rules kind alg all j p.1 in
       elim (fault_is lines j f p.2) [
-        | inl x ↦ subst (IsManifestFault kind alg bytes) (sym x.2) (at.0, digest_in j.verdict, at.1, judged_reads kind alg j.line at.0 j at.2 x.0, repeat_named kind alg all j x.1)
+        | inl x ↦ subst (IsManifestFault rules kind alg bytes) (sym x.2) (at.0, digest_in j.verdict, at.1, judged_reads rules kind alg j.line at.0 j at.2 x.0, repeat_named rules kind alg all j x.1)
         | inr x ↦ (
-            let reason = judged_reason kind alg j.line at.0 (x.0, x.1) j at.2 x.2 in
-            subst (IsManifestFault kind alg bytes) (sym x.3) (row x.0 (line_fault j.line x.0 x.1) (reason_code kind alg at.0 (x.0, x.1) reason.1) (at.0, at.1, reason)))
+            let reason = judged_reason rules kind alg j.line at.0 (x.0, x.1) j at.2 x.2 in
+            subst (IsManifestFault rules kind alg bytes) (sym x.3) (row x.0 (line_fault j.line x.0 x.1) (reason_code rules kind alg at.0 (x.0, x.1) reason.1) (at.0, at.1, reason)))
       ]
 
-  from_code : (code : Code) (f : LineFault) → f.code ≡ code → ManifestFault code kind alg bytes f → Contains (filter_map (fault_at lines) lines) f
+  from_code : (code : Code) (f : LineFault) → f.code ≡ code → ManifestFault code rules kind alg bytes f → Contains (filter_map (fault_at lines) lines) f
   from_code NotUtf8 f e h = let clash : true ≡ false = sym is_utf8 ∙ h.2 in cc
   from_code NamedAgain f e h =
       let j : Judged = record { line = f.line; verdict = Entry h.1 f.detail } in
-      let c = is_judged kind alg all j h.0 h.2 (reads_judged kind alg f.line h.0 h.1 f.detail h.3) in
-      let made : fault_at lines j ≡ Some f = rw (named_repeat kind alg all j h.4) (ap Some (sym (is_fault f f.line NamedAgain f.detail refl e refl))) in
+      let c = is_judged rules kind alg all j h.0 h.2 (reads_judged rules kind alg f.line h.0 h.1 f.detail h.3) in
+      let made : fault_at lines j ≡ Some f = rw (named_repeat rules kind alg all j h.4) (ap Some (sym (is_fault f f.line NamedAgain f.detail refl e refl))) in
       is_picked (fault_at lines) lines j f c made
   from_code code f e h =
       let j : Judged = record { line = f.line; verdict = Fault code f.detail } in
-      let c = is_judged kind alg all j h.0 h.1 (reason_judged kind alg f.line h.0 (code, f.detail) h.2) in
+      let c = is_judged rules kind alg all j h.0 h.1 (reason_judged rules kind alg f.line h.0 (code, f.detail) h.2) in
       let made : fault_at lines j ≡ Some f = ap Some (sym (is_fault f f.line code f.detail refl e refl)) in
       is_picked (fault_at lines) lines j f c made
 
   -- the faults of a file that is UTF-8
-  pub faults_of_text : AreFaults (IsManifestFault kind alg bytes) (filter_map fault_of (judged_and_marked kind alg all))
-  faults_of_text = subst (AreFaults (IsManifestFault kind alg bytes)) (sym (picked_map fault_of (marked_if_repeat lines) lines)) (record {
-    ascending = ascending_picked (fault_at lines) line_cmp line_fault_cmp (faults_rise lines) lines (judged_ascend kind alg all);
+  pub faults_of_text : AreFaults (IsManifestFault rules kind alg bytes) (filter_map fault_of (judged_and_marked rules kind alg all))
+  faults_of_text = subst (AreFaults (IsManifestFault rules kind alg bytes)) (sym (picked_map fault_of (marked_if_repeat lines) lines)) (record {
+    ascending = ascending_picked (fault_at lines) line_cmp line_fault_cmp (faults_rise lines) lines (judged_ascend rules kind alg all);
     members = λ f. (fault_read f, λ h. from_code f.code f refl h);
   })
 
-module _ (kind : Kind) (alg : Alg) (bytes : List ℕ) (other : IsNoText bytes) where
+module _ (rules : Rules) (kind : Kind) (alg : Alg) (bytes : List ℕ) (other : IsNoText bytes) where
   -- a file that isn't UTF-8 has no entry and one fault
-  pub entries_of_no_text : IsListOf (on (λ e. e.line) nat_cmp) (IsEntry kind alg (lines_of_file bytes)) []
-  entries_of_no_text = nothing_listed (on (λ e. e.line) nat_cmp) (IsEntry kind alg (lines_of_file bytes)) (λ e h. no_line bytes other e.line h.0 h.1)
+  pub entries_of_no_text : IsListOf (on (λ e. e.line) nat_cmp) (IsEntry rules kind alg (lines_of_file bytes)) []
+  entries_of_no_text = nothing_listed (on (λ e. e.line) nat_cmp) (IsEntry rules kind alg (lines_of_file bytes)) (λ e h. no_line bytes other e.line h.0 h.1)
 
-  only_code : (code : Code) (f : LineFault) → f.code ≡ code → ManifestFault code kind alg bytes f → f ≡ not_utf8
+  only_code : (code : Code) (f : LineFault) → f.code ≡ code → ManifestFault code rules kind alg bytes f → f ≡ not_utf8
   only_code NotUtf8 f e h = is_fault f 0 NotUtf8 [] h.0 e h.1
   only_code NamedAgain f e h = absurd (no_line bytes other f.line h.0 h.2)
   only_code code f e h = absurd (no_line bytes other f.line h.0 h.1)
 
-  pub faults_of_no_text : AreFaults (IsManifestFault kind alg bytes) (not_utf8 ∷ [])
-  faults_of_no_text = one_listed line_fault_cmp (IsManifestFault kind alg bytes) not_utf8 (refl, refl, other) (λ f h. only_code f.code f refl h)
+  pub faults_of_no_text : AreFaults (IsManifestFault rules kind alg bytes) (not_utf8 ∷ [])
+  faults_of_no_text = one_listed line_fault_cmp (IsManifestFault rules kind alg bytes) not_utf8 (refl, refl, other) (λ f h. only_code f.code f refl h)

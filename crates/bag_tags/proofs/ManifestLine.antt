@@ -7,6 +7,7 @@ use Rattle.std.specs.Str.{str_to_ascii_lowercase}
 use Rattle.bag_text.specs.Alg.{hex_len}
 use Rattle.bag_text.specs.Spelling.{unescaped}
 use Rattle.bag_text.specs.Path.{is_payload_path, is_path}
+use Rattle.bag_text.specs.declared.rules.Rules.{Rules}
 use Rattle.bag_words.specs.declared.alg.Alg.{Alg}
 use Rattle.bag_words.specs.declared.code.Code.{Code}
 use Rattle.bag_words.specs.declared.code.Code.TheVariants.{ManifestLine, DigestLength, ManifestEscape, ManifestOutsidePayload, ManifestUnsafePath, TagmanifestNamesPayload, TagmanifestNamesTagmanifest}
@@ -18,13 +19,13 @@ use Rattle.bag_line.specs.Reason.{Reason}
 use Rattle.bag_line.proofs.Reason.{IsReasonOf, then_reason, chosen}
 use Rattle.bag_tags.specs.Manifest.{digest_of, decoded_or, spelled_path, placed, named_path, checked_digest, without_marks, manifest_line}
 
-pub line_of_bad_digest : (kind : Kind) (alg : Alg) (line : List ℕ) (reason : Reason) → checked_digest alg (before_blank line) (after_blanks line) ≡ Err reason → manifest_line kind alg line ≡ Err reason
+pub line_of_bad_digest : (rules : Rules) (kind : Kind) (alg : Alg) (line : List ℕ) (reason : Reason) → checked_digest alg (before_blank line) (after_blanks line) ≡ Err reason → manifest_line rules kind alg line ≡ Err reason
 unfolding manifest_line
-line_of_bad_digest kind alg line reason e = rw e refl
+line_of_bad_digest rules kind alg line reason e = rw e refl
 
-pub line_of_good_digest : (kind : Kind) (alg : Alg) (line digest : List ℕ) → checked_digest alg (before_blank line) (after_blanks line) ≡ Ok digest → verdict_by_spelling kind digest (without_marks (after_blanks line)) ≡ verdict_of (manifest_line kind alg line)
+pub line_of_good_digest : (rules : Rules) (kind : Kind) (alg : Alg) (line digest : List ℕ) → checked_digest alg (before_blank line) (after_blanks line) ≡ Ok digest → verdict_by_spelling rules kind digest (without_marks (after_blanks line)) ≡ verdict_of (manifest_line rules kind alg line)
 unfolding manifest_line
-line_of_good_digest kind alg line digest e = rw e refl
+line_of_good_digest rules kind alg line digest e = rw e refl
 
 -- the codes of the reasons why a line doesn't read
 abbrev pub IsReasonCode : Code → Type 0
@@ -52,13 +53,13 @@ digest_reason alg digest rest =
     chosen IsReasonCode (bytes_eq digest [] || not (list_all is_ascii_hexdigit digest) || bytes_eq rest []) (Err (ManifestLine, [])) _ tt
     (chosen IsReasonCode (not (length digest == hex_len alg)) (Err (DigestLength, digest)) (Ok (str_to_ascii_lowercase digest)) tt tt)
 
-line_reason : (kind : Kind) (alg : Alg) (line : List ℕ) → IsReasonOf IsReasonCode (manifest_line kind alg line)
+line_reason : (rules : Rules) (kind : Kind) (alg : Alg) (line : List ℕ) → IsReasonOf IsReasonCode (manifest_line rules kind alg line)
 unfolding manifest_line
-line_reason kind alg line =
+line_reason rules kind alg line =
     then_reason IsReasonCode (digest_of alg line) _ (digest_reason alg (before_blank line) (after_blanks line))
-    (λ digest. then_reason IsReasonCode (decoded_or (unescaped (spelled_path line)) (spelled_path line)) _ (decoded_reason (unescaped (spelled_path line)) (spelled_path line))
+    (λ digest. then_reason IsReasonCode (decoded_or (unescaped rules (spelled_path line)) (spelled_path line)) _ (decoded_reason (unescaped rules (spelled_path line)) (spelled_path line))
     (λ path. then_reason IsReasonCode (named_path kind path) _ (chosen IsReasonCode (is_path path) (placed kind path) (Err (ManifestUnsafePath, path)) (placed_reason kind path) tt)
     (λ named. tt)))
 
-pub reason_code : (kind : Kind) (alg : Alg) (line : List ℕ) (reason : Reason) → manifest_line kind alg line ≡ Err reason → IsReasonCode reason.0
-reason_code kind alg line reason e = subst (IsReasonOf IsReasonCode) e (line_reason kind alg line)
+pub reason_code : (rules : Rules) (kind : Kind) (alg : Alg) (line : List ℕ) (reason : Reason) → manifest_line rules kind alg line ≡ Err reason → IsReasonCode reason.0
+reason_code rules kind alg line reason e = subst (IsReasonOf IsReasonCode) e (line_reason rules kind alg line)

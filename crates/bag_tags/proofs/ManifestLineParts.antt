@@ -9,9 +9,10 @@ use Rattle.bag_text.specs.Alg.{hex_len}
 use Rattle.bag_text.specs.Path.{is_path, is_payload_path}
 use Rattle.bag_text.specs.Spelling.{unescaped}
 use Rattle.bag_text.specs.Text.{is_blank_line, before_blank, after_blanks, without_prefix}
+use Rattle.bag_text.specs.declared.rules.Rules.{Rules}
 use Rattle.bag_words.specs.declared.alg.Alg.{Alg}
 use Rattle.bag_words.specs.declared.code.Code.TheVariants.{ManifestLine, DigestLength, ManifestOutsidePayload, ManifestUnsafePath, TagmanifestNamesPayload, TagmanifestNamesTagmanifest}
-use Rattle.bag_text.proofs.SpellingLaws.{spellings}
+use Rattle.bag_text.proofs.LineEnds.{spellings}
 use Rattle.bag_tags.specs.declared.kind.Kind.{Kind}
 use Rattle.bag_tags.specs.declared.kind.Kind.TheVariants.{Payload, Tag}
 use Rattle.bag_tags.specs.Manifest.{checked_digest, digest_of, decoded_or, spelled_path, placed, named_path, without_marks, manifest_line}
@@ -89,15 +90,15 @@ ok_same x y e = cc
 safe_named : (kind : Kind) (path : List ℕ) → IsTrue (is_path path) → MayName kind path → named_path kind path ≡ Ok path
 safe_named kind path safe may = ap (λ b. cond {A = Result (List ℕ) Reason} b (placed kind path) (Err (ManifestUnsafePath, path))) safe ∙ may_placed kind path may
 
-module _ (kind : Kind) (alg : Alg) (line digest path : List ℕ) where
+module _ (rules : Rules) (kind : Kind) (alg : Alg) (line digest path : List ℕ) where
   abbrev IsRead : Type 0
-  IsRead = manifest_line kind alg line ≡ Ok (digest, path)
+  IsRead = manifest_line rules kind alg line ≡ Ok (digest, path)
 
-  line_parts : IsRead → ReadsAs kind alg line digest path
+  line_parts : IsRead → ReadsAs rules kind alg line digest path
   unfolding manifest_line
   line_parts e =
       let first = bind_ok (digest_of alg line) _ (digest, path) e in
-      let second = bind_ok (decoded_or (unescaped (spelled_path line)) (spelled_path line)) _ (digest, path) first.2 in
+      let second = bind_ok (decoded_or (unescaped rules (spelled_path line)) (spelled_path line)) _ (digest, path) first.2 in
       let third = bind_ok (named_path kind second.0) _ (digest, path) second.2 in
       let good = good_digest alg (before_blank line) (after_blanks line) first.0 first.1 in
       let pair = ok_same (first.0, third.0) (digest, path) third.2 in
@@ -114,45 +115,45 @@ module _ (kind : Kind) (alg : Alg) (line digest path : List ℕ) where
         hex_length = good.3;
         in_lower_case = sym digest_same ∙ good.4;
         written = written_is (after_blanks line);
-        spelled = (spellings (spelled_path line) path).1 (decoded_ok (unescaped (spelled_path line)) (spelled_path line) second.0 second.1 ∙ ap Some whole);
+        spelled = (spellings rules (spelled_path line) path).1 (decoded_ok (unescaped rules (spelled_path line)) (spelled_path line) second.0 second.1 ∙ ap Some whole);
         is_safe = subst (λ p. IsTrue (is_path p)) whole named.0;
         may_name = subst (MayName kind) whole named.1;
       }
 
-  parts_line : ReadsAs kind alg line digest path → IsRead
+  parts_line : ReadsAs rules kind alg line digest path → IsRead
   unfolding manifest_line
   parts_line r =
       let front = cut_part line r.hex r.rest r.parts in
       let back = cut_rest line r.hex r.rest r.parts in
       let good = digest_good alg r.hex r.rest r.parts.some_part r.only_digits (begins_some r.rest r.parts.begins) r.hex_length in
-      let spelled = (spellings r.spelling path).0 r.spelled in
+      let spelled = (spellings rules r.spelling path).0 r.spelled in
       let first : digest_of alg line ≡ Ok digest = ap (λ h. checked_digest alg h (after_blanks line)) front ∙ ap (checked_digest alg r.hex) back ∙ good ∙ ap {B = Result (List ℕ) Reason} Ok (sym r.in_lower_case) in
       let second : spelled_path line ≡ r.spelling = ap without_marks back ∙ written_alone r.rest r.spelling r.written in
-      let third : decoded_or (unescaped (spelled_path line)) (spelled_path line) ≡ Ok path = ap (λ t. decoded_or (unescaped t) t) second ∙ ap (λ o. decoded_or o r.spelling) spelled in
-      ap (λ d. d >>= λ digest. decoded_or (unescaped (spelled_path line)) (spelled_path line) >>= λ path. named_path kind path >>= λ named. Ok (digest, named)) first
+      let third : decoded_or (unescaped rules (spelled_path line)) (spelled_path line) ≡ Ok path = ap (λ t. decoded_or (unescaped rules t) t) second ∙ ap (λ o. decoded_or o r.spelling) spelled in
+      ap (λ d. d >>= λ digest. decoded_or (unescaped rules (spelled_path line)) (spelled_path line) >>= λ path. named_path kind path >>= λ named. Ok (digest, named)) first
       ∙ ap (λ p. p >>= λ path. named_path kind path >>= λ named. Ok (digest, named)) third
       ∙ ap (λ n. n >>= λ named. Ok (digest, named)) (safe_named kind path r.is_safe r.may_name)
 
 pub lines_read : LinesReadAsTheirParts
-lines_read kind alg line digest path = (
-  λ reads. line_parts kind alg line digest path reads.1,
-  λ r. (not_blank line r.hex r.rest r.parts, parts_line kind alg line digest path r),
+lines_read rules kind alg line digest path = (
+  λ reads. line_parts rules kind alg line digest path reads.1,
+  λ r. (not_blank line r.hex r.rest r.parts, parts_line rules kind alg line digest path r),
 )
 
-result_by : (kind : Kind) (alg : Alg) (line : List ℕ) (r : Result (List ℕ × List ℕ) Reason) → is_blank_line line ≡ false → manifest_line kind alg line ≡ r → OnlyReads kind alg line ⊎ HasOnlyReason kind alg line
-result_by kind alg line (Ok x) some e = inl (
+result_by : (rules : Rules) (kind : Kind) (alg : Alg) (line : List ℕ) (r : Result (List ℕ × List ℕ) Reason) → is_blank_line line ≡ false → manifest_line rules kind alg line ≡ r → OnlyReads rules kind alg line ⊎ HasOnlyReason rules kind alg line
+result_by rules kind alg line (Ok x) some e = inl (
   x.0,
   x.1,
-  line_parts kind alg line x.0 x.1 e,
-  λ d p r. (let same : Ok x ≡ Ok (d, p) = sym e ∙ parts_line kind alg line d p r in let pair : ◌≡◌ {A = List ℕ × List ℕ} x (d, p) = cc in (sym (ap (λ (y : List ℕ × List ℕ). y.0) pair), sym (ap (λ (y : List ℕ × List ℕ). y.1) pair))),
+  line_parts rules kind alg line x.0 x.1 e,
+  λ d p r. (let same : Ok x ≡ Ok (d, p) = sym e ∙ parts_line rules kind alg line d p r in let pair : ◌≡◌ {A = List ℕ × List ℕ} x (d, p) = cc in (sym (ap (λ (y : List ℕ × List ℕ). y.0) pair), sym (ap (λ (y : List ℕ × List ℕ). y.1) pair))),
   λ reason h. (let clash : Ok x ≡ Err reason = sym e ∙ h.1 in cc),
 )
-result_by kind alg line (Err reason) some e = inr (
+result_by rules kind alg line (Err reason) some e = inr (
   reason,
   (some, e),
   λ other h. (let same : Err reason ≡ Err other = sym e ∙ h.1 in let one : reason ≡ other = cc in sym one),
-  λ d p r. (let clash : Err reason ≡ Ok (d, p) = sym e ∙ parts_line kind alg line d p r in cc),
+  λ d p r. (let clash : Err reason ≡ Ok (d, p) = sym e ∙ parts_line rules kind alg line d p r in cc),
 )
 
 pub read_or_reason : LinesReadOrHaveOneReason
-read_or_reason kind alg line some = result_by kind alg line (manifest_line kind alg line) some refl
+read_or_reason rules kind alg line some = result_by rules kind alg line (manifest_line rules kind alg line) some refl

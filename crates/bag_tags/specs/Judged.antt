@@ -4,6 +4,7 @@ use Rattle.std.specs.List.{list_any, enumerate_from}
 use Rattle.std.specs.Option.{option_to_list}
 use Rattle.bag_text.specs.Spelling.{unescaped}
 use Rattle.bag_text.specs.Text.{is_blank_line}
+use Rattle.bag_text.specs.declared.rules.Rules.{Rules}
 use Rattle.bag_words.specs.declared.alg.Alg.{Alg}
 use Rattle.bag_words.specs.declared.code.Code.TheVariants.{NamedAgain}
 use Rattle.bag_line.specs.Reason.{Reason, ◌>>=◌}
@@ -24,21 +25,21 @@ abbrev pub verdict_by_path : Kind → List ℕ → List ℕ → Verdict
 verdict_by_path kind digest path = verdict_of (named_path kind path >>= λ named. Ok (digest, named))
 
 -- of a line of which the digest is read, by how the path is written
-abbrev pub verdict_by_spelling : Kind → List ℕ → List ℕ → Verdict
-verdict_by_spelling kind digest spelling =
-    verdict_of (decoded_or (unescaped spelling) spelling >>= λ path. named_path kind path >>= λ named. Ok (digest, named))
+abbrev pub verdict_by_spelling : Rules → Kind → List ℕ → List ℕ → Verdict
+verdict_by_spelling rules kind digest spelling =
+    verdict_of (decoded_or (unescaped rules spelling) spelling >>= λ path. named_path kind path >>= λ named. Ok (digest, named))
 
 abbrev pub judged_as : ℕ → Result (List ℕ × List ℕ) Reason → Judged
 judged_as n r = record { line = n; verdict = verdict_of r }
 
 -- a line that isn't blank
-abbrev pub judged : Kind → Alg → ℕ → List ℕ → Option Judged
-judged kind alg n line = if is_blank_line line then None else Some (judged_as n (manifest_line kind alg line))
+abbrev pub judged : Rules → Kind → Alg → ℕ → List ℕ → Option Judged
+judged rules kind alg n line = if is_blank_line line then None else Some (judged_as n (manifest_line rules kind alg line))
 
 -- the lines that aren't blank, in their order
-abbrev pub judged_all : Kind → Alg → List (ℕ × List ℕ) → List Judged
-judged_all kind alg [] = []
-judged_all kind alg (x ∷ xs) = option_to_list (judged kind alg x.0 x.1) ++ judged_all kind alg xs
+abbrev pub judged_all : Rules → Kind → Alg → List (ℕ × List ℕ) → List Judged
+judged_all rules kind alg [] = []
+judged_all rules kind alg (x ∷ xs) = option_to_list (judged rules kind alg x.0 x.1) ++ judged_all rules kind alg xs
 
 abbrev pub is_entry_verdict : Verdict → Bool
 is_entry_verdict (Entry digest path) = true
@@ -88,7 +89,7 @@ abbrev pub fault_of : Judged → Option LineFault
 fault_of j = fault_in j.line j.verdict
 
 -- the lines of a text, the repeats marked
-abbrev pub judged_and_marked : Kind → Alg → List (List ℕ) → List Judged
-judged_and_marked kind alg all =
-    let js = judged_all kind alg (enumerate_from 1 all) in
+abbrev pub judged_and_marked : Rules → Kind → Alg → List (List ℕ) → List Judged
+judged_and_marked rules kind alg all =
+    let js = judged_all rules kind alg (enumerate_from 1 all) in
     map (marked_if_repeat js) js

@@ -8,6 +8,7 @@ use Rattle.bag_text.specs.Lines.{lines_of_file, IsLine}
 use Rattle.bag_text.specs.Path.{is_path, is_payload_path}
 use Rattle.bag_text.specs.Spelling.{unescaped}
 use Rattle.bag_text.specs.Alg.{hex_len}
+use Rattle.bag_text.specs.declared.rules.Rules.{Rules}
 use Rattle.bag_words.specs.declared.alg.Alg.{Alg}
 use Rattle.bag_words.specs.declared.code.Code.{Code}
 use Rattle.bag_words.specs.declared.code.Code.TheVariants.{NotUtf8, ManifestLine, DigestLength, ManifestEscape, ManifestUnsafePath, ManifestOutsidePayload, TagmanifestNamesPayload, TagmanifestNamesTagmanifest, NamedAgain}
@@ -53,18 +54,18 @@ abbrev pub named_path : Kind → List ℕ → Result (List ℕ) Reason
 named_path kind path = if is_path path then placed kind path else Err (ManifestUnsafePath, path)
 
 -- the digest and the path of a line that isn't blank, or the first reason why it doesn't read
-unfoldable pub manifest_line : Kind → Alg → List ℕ → Result (List ℕ × List ℕ) Reason
-manifest_line kind alg line = do
+unfoldable pub manifest_line : Rules → Kind → Alg → List ℕ → Result (List ℕ × List ℕ) Reason
+manifest_line rules kind alg line = do
   digest ← digest_of alg line
-  path ← decoded_or (unescaped (spelled_path line)) (spelled_path line)
+  path ← decoded_or (unescaped rules (spelled_path line)) (spelled_path line)
   named ← named_path kind path
   Ok (digest, named)
 
-abbrev pub Reads : Kind → Alg → List ℕ → List ℕ → List ℕ → Type 0
-Reads kind alg line digest path = (is_blank_line line ≡ false) × (manifest_line kind alg line ≡ Ok (digest, path))
+abbrev pub Reads : Rules → Kind → Alg → List ℕ → List ℕ → List ℕ → Type 0
+Reads rules kind alg line digest path = (is_blank_line line ≡ false) × (manifest_line rules kind alg line ≡ Ok (digest, path))
 
-abbrev pub HasReason : Kind → Alg → List ℕ → Reason → Type 0
-HasReason kind alg line reason = (is_blank_line line ≡ false) × (manifest_line kind alg line ≡ Err reason)
+abbrev pub HasReason : Rules → Kind → Alg → List ℕ → Reason → Type 0
+HasReason rules kind alg line reason = (is_blank_line line ≡ false) × (manifest_line rules kind alg line ≡ Err reason)
 
 -- the path that a line names, where it reads
 abbrev pub path_read : Result (List ℕ × List ℕ) Reason → Option (List ℕ)
@@ -72,29 +73,29 @@ path_read (Ok x) = Some x.1
 path_read (Err reason) = None
 
 -- the paths that lines name, in their order
-abbrev pub named : Kind → Alg → List (List ℕ) → List (List ℕ)
-named kind alg all = filter_map (λ line. if is_blank_line line then None else path_read (manifest_line kind alg line)) all
+abbrev pub named : Rules → Kind → Alg → List (List ℕ) → List (List ℕ)
+named rules kind alg all = filter_map (λ line. if is_blank_line line then None else path_read (manifest_line rules kind alg line)) all
 
 -- the paths that the lines before line k name
-abbrev pub named_before : Kind → Alg → List (List ℕ) → ℕ → List (List ℕ)
-named_before kind alg all k = named kind alg (take (k - 1) all)
+abbrev pub named_before : Rules → Kind → Alg → List (List ℕ) → ℕ → List (List ℕ)
+named_before rules kind alg all k = named rules kind alg (take (k - 1) all)
 
 -- an entry: a line that reads, the first that names its path
-abbrev pub IsEntry : Kind → Alg → List (List ℕ) → ManifestEntry → Type 0
-IsEntry kind alg all e =
-    (line : List ℕ) × IsLine all e.line line × Reads kind alg line e.digest e.path
-    × ¬ (Contains (named_before kind alg all e.line) e.path)
+abbrev pub IsEntry : Rules → Kind → Alg → List (List ℕ) → ManifestEntry → Type 0
+IsEntry rules kind alg all e =
+    (line : List ℕ) × IsLine all e.line line × Reads rules kind alg line e.digest e.path
+    × ¬ (Contains (named_before rules kind alg all e.line) e.path)
 
 -- what is wrong with the file: by cases on the fault's code
-abbrev pub ManifestFault : Code → Kind → Alg → List ℕ → LineFault → Type 0
-ManifestFault NotUtf8 kind alg bytes f = (f.line ≡ 0) × (f.detail ≡ []) × IsNoText bytes
-ManifestFault NamedAgain kind alg bytes f =
+abbrev pub ManifestFault : Code → Rules → Kind → Alg → List ℕ → LineFault → Type 0
+ManifestFault NotUtf8 rules kind alg bytes f = (f.line ≡ 0) × (f.detail ≡ []) × IsNoText bytes
+ManifestFault NamedAgain rules kind alg bytes f =
     let all = lines_of_file bytes in
-    (line : List ℕ) × (digest : List ℕ) × IsLine all f.line line × Reads kind alg line digest f.detail
-    × Contains (named_before kind alg all f.line) f.detail
+    (line : List ℕ) × (digest : List ℕ) × IsLine all f.line line × Reads rules kind alg line digest f.detail
+    × Contains (named_before rules kind alg all f.line) f.detail
 -- the reasons why a line doesn't read
-ManifestFault reason kind alg bytes f =
-    (line : List ℕ) × IsLine (lines_of_file bytes) f.line line × HasReason kind alg line (reason, f.detail)
+ManifestFault reason rules kind alg bytes f =
+    (line : List ℕ) × IsLine (lines_of_file bytes) f.line line × HasReason rules kind alg line (reason, f.detail)
 
-abbrev pub IsManifestFault : Kind → Alg → List ℕ → LineFault → Type 0
-IsManifestFault kind alg bytes f = ManifestFault f.code kind alg bytes f
+abbrev pub IsManifestFault : Rules → Kind → Alg → List ℕ → LineFault → Type 0
+IsManifestFault rules kind alg bytes f = ManifestFault f.code rules kind alg bytes f

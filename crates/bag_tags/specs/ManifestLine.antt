@@ -7,6 +7,7 @@ use Rattle.bag_text.specs.Alg.{hex_len}
 use Rattle.bag_text.specs.Path.{is_path, is_payload_path}
 use Rattle.bag_text.specs.Spelling.{Spells}
 use Rattle.bag_text.specs.Text.{is_blank_line}
+use Rattle.bag_text.specs.declared.rules.Rules.{Rules}
 use Rattle.bag_words.specs.declared.alg.Alg.{Alg}
 use Rattle.bag_line.specs.LineParts.{IsCut, IsWithout}
 use Rattle.bag_line.specs.Reason.{Reason}
@@ -25,7 +26,7 @@ MayName Payload path = IsTrue (is_payload_path path)
 MayName Tag path = (is_payload_path path ≡ false) × ((alg : List ℕ) → IsTrue (is_alg_text alg) → path ≢ manifest_name Tag alg)
 
 -- the line is a digest of the algorithm, blanks, and a spelling of a path that a manifest of this kind may name
-pub record ReadsAs (kind : Kind) (alg : Alg) (line digest path : List ℕ) : Type 0 where
+pub record ReadsAs (rules : Rules) (kind : Kind) (alg : Alg) (line digest path : List ℕ) : Type 0 where
   pub hex : List ℕ
   pub rest : List ℕ
   pub spelling : List ℕ
@@ -34,26 +35,26 @@ pub record ReadsAs (kind : Kind) (alg : Alg) (line digest path : List ℕ) : Typ
   pub hex_length : length hex ≡ hex_len alg
   pub in_lower_case : digest ≡ str_to_ascii_lowercase hex
   pub written : IsSpelling rest spelling
-  pub spelled : Spells spelling path
+  pub spelled : Spells rules spelling path
   pub is_safe : IsTrue (is_path path)
   pub may_name : MayName kind path
 
 -- the law: a line reads just as it is made of these
 abbrev pub LinesReadAsTheirParts : Type 0
-LinesReadAsTheirParts = (kind : Kind) (alg : Alg) (line digest path : List ℕ) → Reads kind alg line digest path ↔ ReadsAs kind alg line digest path
+LinesReadAsTheirParts = (rules : Rules) (kind : Kind) (alg : Alg) (line digest path : List ℕ) → Reads rules kind alg line digest path ↔ ReadsAs rules kind alg line digest path
 
-abbrev pub OnlyReads : Kind → Alg → List ℕ → Type 0
-OnlyReads kind alg line =
-    (digest path : List ℕ) × ReadsAs kind alg line digest path
-    × ((d p : List ℕ) → ReadsAs kind alg line d p → (d ≡ digest) × (p ≡ path))
-    × ((reason : Reason) → ¬ (HasReason kind alg line reason))
+abbrev pub OnlyReads : Rules → Kind → Alg → List ℕ → Type 0
+OnlyReads rules kind alg line =
+    (digest path : List ℕ) × ReadsAs rules kind alg line digest path
+    × ((d p : List ℕ) → ReadsAs rules kind alg line d p → (d ≡ digest) × (p ≡ path))
+    × ((reason : Reason) → ¬ (HasReason rules kind alg line reason))
 
-abbrev pub HasOnlyReason : Kind → Alg → List ℕ → Type 0
-HasOnlyReason kind alg line =
-    (reason : Reason) × HasReason kind alg line reason
-    × ((other : Reason) → HasReason kind alg line other → other ≡ reason)
-    × ((digest path : List ℕ) → ¬ (ReadsAs kind alg line digest path))
+abbrev pub HasOnlyReason : Rules → Kind → Alg → List ℕ → Type 0
+HasOnlyReason rules kind alg line =
+    (reason : Reason) × HasReason rules kind alg line reason
+    × ((other : Reason) → HasReason rules kind alg line other → other ≡ reason)
+    × ((digest path : List ℕ) → ¬ (ReadsAs rules kind alg line digest path))
 
 -- the law: a line that isn't blank reads in one way, or has one reason why it doesn't
 abbrev pub LinesReadOrHaveOneReason : Type 0
-LinesReadOrHaveOneReason = (kind : Kind) (alg : Alg) (line : List ℕ) → is_blank_line line ≡ false → OnlyReads kind alg line ⊎ HasOnlyReason kind alg line
+LinesReadOrHaveOneReason = (rules : Rules) (kind : Kind) (alg : Alg) (line : List ℕ) → is_blank_line line ≡ false → OnlyReads rules kind alg line ⊎ HasOnlyReason rules kind alg line

@@ -1,7 +1,7 @@
 //! Reads the tag files of a bag: what they say, and what is wrong with them, line by line.
 //!
 //! ```
-//! let manifest = read_manifest(alloc, Kind::Payload, Alg::Sha256, &bytes)?;
+//! let manifest = read_manifest(alloc, Rules::V10, Kind::Payload, Alg::Sha256, &bytes)?;
 //! for entry in manifest.items.as_slice() {
 //!     let (path, digest) = (entry.path.as_str(), entry.digest.bytes());
 //! }
@@ -21,7 +21,7 @@ mod named_once;
 mod repeats;
 mod tag_name;
 
-pub use bag_declaration::{Declaration, read_declaration};
+pub use bag_declaration::{Declaration, declared_rules, read_declaration};
 pub use bag_line::{Element, FetchEntry, LineFault, Oxum, Parsed, oxum_of, read_fetch, read_info};
 pub use digest::Digest;
 pub use kind::Kind;

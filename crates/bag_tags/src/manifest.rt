@@ -14,7 +14,7 @@ use crate::named_once::are_different;
 use crate::repeats::mark_repeats;
 use crate::{Digest, Kind, LineFault, Parsed};
 use bag_line::unread;
-use bag_text::{Alg, Items, Text, is_blank_line, lines, text_of};
+use bag_text::{Alg, Items, Rules, Text, is_blank_line, lines, text_of};
 use std::alloc::{AllocError, Global};
 
 /// The least bytes of a line that reads beside its digest: a blank, a path, and the line's end.
@@ -36,15 +36,16 @@ pub struct ManifestEntry {
 /// only for want of memory.
 pub fn read_manifest(
     alloc: Global,
+    rules: Rules,
     kind: Kind,
     alg: Alg,
     bytes: &[u8],
 ) -> Result<Parsed<ManifestEntry>, AllocError>
-    ensures items { IfOk result (λ parsed. IsListOf (on (λ e. e.line) nat_cmp) (IsEntry kind alg (cut.lines_of_file bytes.now)) parsed.items) }
-    ensures faults { IfOk result (λ parsed. AreFaults (IsManifestFault kind alg bytes.now) parsed.faults) }
+    ensures items { IfOk result (λ parsed. IsListOf (on (λ e. e.line) nat_cmp) (IsEntry rules kind alg (cut.lines_of_file bytes.now)) parsed.items) }
+    ensures faults { IfOk result (λ parsed. AreFaults (IsManifestFault rules kind alg bytes.now) parsed.faults) }
 {
     match text_of(bytes) {
-        Ok(text) => read_text(alloc, kind, alg, text),
+        Ok(text) => read_text(alloc, rules, kind, alg, text),
         Err(_) => unread(alloc),
     }
 }
@@ -52,36 +53,38 @@ pub fn read_manifest(
 /// Reads a text. Where a path may be named again, it is read once more, line by line.
 fn read_text(
     alloc: Global,
+    rules: Rules,
     kind: Kind,
     alg: Alg,
     text: &str,
 ) -> Result<Parsed<ManifestEntry>, AllocError>
-    ensures items { IfOk result (λ parsed. parsed.items ≡ filter_map entry_of (judged_and_marked kind alg (cut.lines text.now))) }
-    ensures faults { IfOk result (λ parsed. parsed.faults ≡ filter_map fault_of (judged_and_marked kind alg (cut.lines text.now))) }
+    ensures items { IfOk result (λ parsed. parsed.items ≡ filter_map entry_of (judged_and_marked rules kind alg (cut.lines text.now))) }
+    ensures faults { IfOk result (λ parsed. parsed.faults ≡ filter_map fault_of (judged_and_marked rules kind alg (cut.lines text.now))) }
 {
-    let parsed = read_lines(alloc, kind, alg, text)?;
+    let parsed = read_lines(alloc, rules, kind, alg, text)?;
     if are_different(alloc, parsed.items.as_slice())? {
         return Ok(parsed);
     }
-    read_repeats(alloc, kind, alg, text)
+    read_repeats(alloc, rules, kind, alg, text)
 }
 
 /// Reads the lines of a text, each as if it were alone.
 fn read_lines(
     alloc: Global,
+    rules: Rules,
     kind: Kind,
     alg: Alg,
     text: &str,
 ) -> Result<Parsed<ManifestEntry>, AllocError>
-    ensures items { IfOk result (λ parsed. parsed.items ≡ filter_map entry_of (judged_all kind alg (enumerate_from 1 (cut.lines text.now)))) }
-    ensures faults { IfOk result (λ parsed. parsed.faults ≡ filter_map fault_of (judged_all kind alg (enumerate_from 1 (cut.lines text.now)))) }
+    ensures items { IfOk result (λ parsed. parsed.items ≡ filter_map entry_of (judged_all rules kind alg (enumerate_from 1 (cut.lines text.now)))) }
+    ensures faults { IfOk result (λ parsed. parsed.faults ≡ filter_map fault_of (judged_all rules kind alg (enumerate_from 1 (cut.lines text.now)))) }
 {
     let most = text.len() / (alg.hex_len() + SHORTEST_REST);
     let mut items = Items::from_vec(Vec::with_capacity(alloc, most)?);
     let mut faults = Items::new(alloc);
     for (line, content) in lines(text) {
         if !is_blank_line(content) {
-            let verdict = judge(alloc, kind, alg, content)?;
+            let verdict = judge(alloc, rules, kind, alg, content)?;
             put(Judged { line, verdict }, &mut items, &mut faults)?;
         }
     }
@@ -91,26 +94,33 @@ fn read_lines(
 /// Reads a text in which paths may be named again.
 fn read_repeats(
     alloc: Global,
+    rules: Rules,
     kind: Kind,
     alg: Alg,
     text: &str,
 ) -> Result<Parsed<ManifestEntry>, AllocError>
-    ensures items { IfOk result (λ parsed. parsed.items ≡ filter_map entry_of (judged_and_marked kind alg (cut.lines text.now))) }
-    ensures faults { IfOk result (λ parsed. parsed.faults ≡ filter_map fault_of (judged_and_marked kind alg (cut.lines text.now))) }
+    ensures items { IfOk result (λ parsed. parsed.items ≡ filter_map entry_of (judged_and_marked rules kind alg (cut.lines text.now))) }
+    ensures faults { IfOk result (λ parsed. parsed.faults ≡ filter_map fault_of (judged_and_marked rules kind alg (cut.lines text.now))) }
 {
-    let mut all = judge_all(alloc, kind, alg, text)?;
+    let mut all = judge_all(alloc, rules, kind, alg, text)?;
     mark_repeats(alloc, &mut all)?;
     part(alloc, all)
 }
 
 /// Judges each line that isn't blank.
-fn judge_all(alloc: Global, kind: Kind, alg: Alg, text: &str) -> Result<Vec<Judged>, AllocError>
-    ensures { IfOk result (λ all. all.items ≡ judged_all kind alg (enumerate_from 1 (cut.lines text.now))) }
+fn judge_all(
+    alloc: Global,
+    rules: Rules,
+    kind: Kind,
+    alg: Alg,
+    text: &str,
+) -> Result<Vec<Judged>, AllocError>
+    ensures { IfOk result (λ all. all.items ≡ judged_all rules kind alg (enumerate_from 1 (cut.lines text.now))) }
 {
     let mut all = Vec::with_capacity(alloc, text.len() / (alg.hex_len() + SHORTEST_REST))?;
     for (number, line) in lines(text) {
         if !is_blank_line(line) {
-            let verdict = judge(alloc, kind, alg, line)?;
+            let verdict = judge(alloc, rules, kind, alg, line)?;
             all.push(Judged {
                 line: number,
                 verdict,

@@ -9,7 +9,7 @@ use crate::manifest_name::is_manifest_name;
 use crate::{Digest, Kind};
 use bag_line::without_prefix;
 use bag_text::{
-    Alg, Code, PathFault, Text, check_path, is_payload, split_at_blanks, unescape_path,
+    Alg, Code, PathFault, Rules, Text, check_path, is_payload, split_at_blanks, unescape_path,
 };
 use std::alloc::{AllocError, Global};
 use std::mem;
@@ -56,12 +56,18 @@ impl Judged {
 }
 
 /// Judges a line that isn't blank: its digest and its path, or the first reason why it doesn't read.
-pub(crate) fn judge(alloc: Global, kind: Kind, alg: Alg, line: &str) -> Result<Verdict, AllocError>
-    ensures { IfOk result (λ v. v ≡ judged.verdict_of (spec.manifest_line kind alg line.now)) }
+pub(crate) fn judge(
+    alloc: Global,
+    rules: Rules,
+    kind: Kind,
+    alg: Alg,
+    line: &str,
+) -> Result<Verdict, AllocError>
+    ensures { IfOk result (λ v. v ≡ judged.verdict_of (spec.manifest_line rules kind alg line.now)) }
 {
     let (digest, rest) = split_at_blanks(line);
     match check_digest(alg, digest, rest) {
-        Ok(read) => judge_spelling(alloc, kind, read, without_marks(rest)),
+        Ok(read) => judge_spelling(alloc, rules, kind, read, without_marks(rest)),
         Err((code, detail)) => fault(alloc, code, detail),
     }
 }
@@ -69,13 +75,14 @@ pub(crate) fn judge(alloc: Global, kind: Kind, alg: Alg, line: &str) -> Result<V
 /// Judges a line of which the digest is good by how the path is written in it.
 fn judge_spelling(
     alloc: Global,
+    rules: Rules,
     kind: Kind,
     digest: Digest,
     spelling: &str,
 ) -> Result<Verdict, AllocError>
-    ensures { IfOk result (λ v. v ≡ judged.verdict_by_spelling kind digest spelling.now) }
+    ensures { IfOk result (λ v. v ≡ judged.verdict_by_spelling rules kind digest spelling.now) }
 {
-    match unescape_path(alloc, spelling) {
+    match unescape_path(alloc, rules, spelling) {
         Ok(path) => Ok(judge_path(kind, digest, Text::from_string(path))),
         Err(PathFault::BadEscape) => fault(alloc, Code::ManifestEscape, spelling),
         Err(PathFault::Memory) => Err(AllocError),

@@ -1,6 +1,7 @@
 pub mod Blanks
 pub mod FirstByte
 pub mod FirstLine
+pub mod LineEnds
 pub mod LineLaws
 pub mod ListOf
 pub mod Numbered

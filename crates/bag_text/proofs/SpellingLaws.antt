@@ -1,8 +1,8 @@
 -- Spellings of paths.
-use Rattle.std.proofs.Common.{◌≡◌, ◌≢◌, ℕ, List, [], ◌∷◌, ◌++◌, Option, Some, None, Bool, true, false, refl, sym, ap, subst, ◌∙◌, inl, inr, arith, unwrap_or, is_some, ◌==◌}
+use Rattle.std.proofs.Common.{◌≡◌, ◌≢◌, ◌↔◌, ℕ, List, [], ◌∷◌, ◌++◌, Option, Some, None, Bool, true, false, refl, sym, ap, subst, ◌∙◌, inl, inr, arith, unwrap_or, is_some, ◌==◌}
 use Rattle.std.proofs.lemmas.Bool.Decides.{nat_tests}
 use Rattle.bag_text.specs.Lines.{line_feed, carriage_return}
-use Rattle.bag_text.specs.Spelling.{percent, escaped, Spells, both, itself, unescaped, escape_one, escape, UnescapedIsSpelled, EscapedIsReadAgain}
+use Rattle.bag_text.specs.Spelling.{percent, escaped, SpellsStrictly, both, itself, unescaped_strictly, escape_one, escape, EscapedIsReadAgain}
 
 some_is_not_none : {A : Type 0} (x : A) → Some x ≡ None → ⊥
 some_is_not_none x e = let h : true ≡ false = ap is_some e in cc
@@ -15,19 +15,19 @@ itself_plain : (c : ℕ) → c ≢ percent → itself c ≡ Some c
 itself_plain c h = grind (arith, h)
 
 -- reading goes on behind a character that isn't %
-pub unescaped_plain : (c : ℕ) (s : List ℕ) → c ≢ percent → unescaped (c ∷ s) ≡ both (Some c) (unescaped s)
+pub unescaped_plain : (c : ℕ) (s : List ℕ) → c ≢ percent → unescaped_strictly (c ∷ s) ≡ both (Some c) (unescaped_strictly s)
 unescaped_plain c [] h = ap (λ o. both o (Some [])) (itself_plain c h)
 unescaped_plain c (d ∷ []) h = ap (λ o. both o (both (itself d) (Some []))) (itself_plain c h)
 unescaped_plain c (d ∷ e ∷ s) h = grind (arith, h)
 
-spelled_is_unescaped : (path s : List ℕ) → Spells s path → unescaped s ≡ Some path
-spelled_is_unescaped [] s w = ap unescaped w
+spelled_is_unescaped : (path s : List ℕ) → SpellsStrictly s path → unescaped_strictly s ≡ Some path
+spelled_is_unescaped [] s w = ap unescaped_strictly w
 spelled_is_unescaped (c ∷ path) s (front, rest, parts, inl (other, alone), more) =
     let text : s ≡ c ∷ rest = parts ∙ ap (λ f. f ++ rest) alone in
-    ap unescaped text ∙ unescaped_plain c rest other ∙ ap (both (Some c)) (spelled_is_unescaped path rest more)
+    ap unescaped_strictly text ∙ unescaped_plain c rest other ∙ ap (both (Some c)) (spelled_is_unescaped path rest more)
 spelled_is_unescaped (c ∷ path) s (front, rest, parts, inr (high, low, escape, stands), more) =
     let text : s ≡ percent ∷ high ∷ low ∷ rest = parts ∙ ap (λ f. f ++ rest) escape in
-    ap unescaped text ∙ ap (λ o. both o (unescaped rest)) stands ∙ ap (both (Some c)) (spelled_is_unescaped path rest more)
+    ap unescaped_strictly text ∙ ap (λ o. both o (unescaped_strictly rest)) stands ∙ ap (both (Some c)) (spelled_is_unescaped path rest more)
 
 -- where both are there, so is each
 both_there : (o : Option ℕ) (os : Option (List ℕ)) (path : List ℕ) → both o os ≡ Some path
@@ -43,19 +43,19 @@ is_other : (c : ℕ) → (c == percent) ≡ false → c ≢ percent
 is_other c h e = grind (arith, h, e)
 
 abbrev Backs : List ℕ → Type 0
-Backs s = (path : List ℕ) → unescaped s ≡ Some path → Spells s path
+Backs s = (path : List ℕ) → unescaped_strictly s ≡ Some path → SpellsStrictly s path
 
 -- a plain character in front
 backs_plain : (c : ℕ) (s : List ℕ) → c ≢ percent → Backs s → Backs (c ∷ s)
 backs_plain c s other backs path e =
-    let (d, rest, is, more, cut) = both_there (Some c) (unescaped s) path (sym (unescaped_plain c s other) ∙ e) in
-    subst (Spells (c ∷ s)) (sym (cut ∙ ap (λ x. x ∷ rest) (sym (same_some _ _ is)))) (c ∷ [], s, refl, inl (other, refl), backs rest more)
+    let (d, rest, is, more, cut) = both_there (Some c) (unescaped_strictly s) path (sym (unescaped_plain c s other) ∙ e) in
+    subst (SpellsStrictly (c ∷ s)) (sym (cut ∙ ap (λ x. x ∷ rest) (sym (same_some _ _ is)))) (c ∷ [], s, refl, inl (other, refl), backs rest more)
 
 -- an escape in front
-backs_escape : (c d e : ℕ) (s : List ℕ) → c ≡ percent → Backs s → both (escaped d e) (unescaped s) ≡ unescaped (c ∷ d ∷ e ∷ s) → Backs (c ∷ d ∷ e ∷ s)
+backs_escape : (c d e : ℕ) (s : List ℕ) → c ≡ percent → Backs s → both (escaped d e) (unescaped_strictly s) ≡ unescaped_strictly (c ∷ d ∷ e ∷ s) → Backs (c ∷ d ∷ e ∷ s)
 backs_escape c d e s same backs read path is =
-    let (x, rest, stands, more, cut) = both_there (escaped d e) (unescaped s) path (read ∙ is) in
-    subst (Spells (c ∷ d ∷ e ∷ s)) (sym cut) (c ∷ d ∷ e ∷ [], s, refl, inr (d, e, ap (λ p. p ∷ d ∷ e ∷ []) same, stands), backs rest more)
+    let (x, rest, stands, more, cut) = both_there (escaped d e) (unescaped_strictly s) path (read ∙ is) in
+    subst (SpellsStrictly (c ∷ d ∷ e ∷ s)) (sym cut) (c ∷ d ∷ e ∷ [], s, refl, inr (d, e, ap (λ p. p ∷ d ∷ e ∷ []) same, stands), backs rest more)
 
 alone_is_none : (c : ℕ) (os : Option (List ℕ)) → c ≡ percent → both (itself c) os ≡ None
 alone_is_none c os same = rw same refl
@@ -65,22 +65,22 @@ backs_three c d e s true h short long = backs_escape c d e s (is_percent c h) sh
 backs_three c d e s false h short long = backs_plain c (d ∷ e ∷ s) (is_other c h) long
 
 -- a % with fewer than two characters behind it is read as nothing
-backs_one : (c : ℕ) (s : List ℕ) (b : Bool) → (c == percent) ≡ b → (c ≡ percent → unescaped (c ∷ s) ≡ None) → Backs s → Backs (c ∷ s)
+backs_one : (c : ℕ) (s : List ℕ) (b : Bool) → (c == percent) ≡ b → (c ≡ percent → unescaped_strictly (c ∷ s) ≡ None) → Backs s → Backs (c ∷ s)
 backs_one c s true h bad backs path e = absurd (some_is_not_none path (sym e ∙ bad (is_percent c h)))
 backs_one c s false h bad backs path e = backs_plain c s (is_other c h) backs path e
 
 unescaped_is_spelled : (s : List ℕ) → Backs s
-unescaped_is_spelled [] = λ path e. subst (Spells []) (same_some _ _ e) refl
-unescaped_is_spelled (c ∷ []) = backs_one c [] _ refl (alone_is_none c _) (λ path e. subst (Spells []) (same_some _ _ e) refl)
+unescaped_is_spelled [] = λ path e. subst (SpellsStrictly []) (same_some _ _ e) refl
+unescaped_is_spelled (c ∷ []) = backs_one c [] _ refl (alone_is_none c _) (λ path e. subst (SpellsStrictly []) (same_some _ _ e) refl)
 unescaped_is_spelled (c ∷ d ∷ []) = backs_one c (d ∷ []) _ refl (alone_is_none c _) (unescaped_is_spelled (d ∷ []))
 unescaped_is_spelled (c ∷ d ∷ e ∷ s) = backs_three c d e s _ refl (unescaped_is_spelled s) (unescaped_is_spelled (d ∷ e ∷ s))
 
 -- each spelling spells one path, and what has a bad escape spells none
-pub spellings : UnescapedIsSpelled
-spellings s path = (spelled_is_unescaped path s, unescaped_is_spelled s path)
+pub strict_spellings : (s path : List ℕ) → SpellsStrictly s path ↔ (unescaped_strictly s ≡ Some path)
+strict_spellings s path = (spelled_is_unescaped path s, unescaped_is_spelled s path)
 
 unescape_one : (c : ℕ) (s : List ℕ) (feed back mark : Bool) → (c == line_feed) ≡ feed → (c == carriage_return) ≡ back → (c == percent) ≡ mark
-    → unescaped (escape_one c ++ s) ≡ both (Some c) (unescaped s)
+    → unescaped_strictly (escape_one c ++ s) ≡ both (Some c) (unescaped_strictly s)
 unescape_one c s true back mark f b m = let same : c ≡ line_feed = grind (arith, nat_tests) in rw same refl
 unescape_one c s false true mark f b m = let same : c ≡ carriage_return = grind (arith, nat_tests) in rw same refl
 unescape_one c s false false true f b m = let same : c ≡ percent = grind (arith, nat_tests) in rw same refl

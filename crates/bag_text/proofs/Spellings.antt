@@ -8,7 +8,7 @@ use Rattle.std.proofs.lemmas.Bool.Decides.{nat_tests}
 use Rattle.std.proofs.lemmas.List.Concat.{flat_map-append}
 use Rattle.std.proofs.lemmas.List.Folds.{list_all_at}
 use Rattle.std.proofs.lemmas.Str.{NoCharPasses-byte, encodes-append, IsCharBoundary-after_ascii}
-use Rattle.bag_text.specs.Spelling.{percent, escaped, both, unescaped, escape_one, escape}
+use Rattle.bag_text.specs.Spelling.{percent, escaped, both, unescaped_strictly, escape_one, escape}
 use Rattle.bag_text.proofs.SpellingLaws.{unescaped_plain}
 
 -- a character that is escaped
@@ -51,18 +51,18 @@ map_nothing None = refl
 map_nothing (Some more) = refl
 
 -- what stands before the first % is read as itself
-pub unescaped_front : (front rest : List ℕ) → ((i : ℕ) → i < length front → get_or front i 0 ≢ percent) → unescaped (front ++ rest) ≡ option_map (λ more. front ++ more) (unescaped rest)
-unescaped_front [] rest h = map_nothing (unescaped rest)
+pub unescaped_front : (front rest : List ℕ) → ((i : ℕ) → i < length front → get_or front i 0 ≢ percent) → unescaped_strictly (front ++ rest) ≡ option_map (λ more. front ++ more) (unescaped_strictly rest)
+unescaped_front [] rest h = map_nothing (unescaped_strictly rest)
 unescaped_front (c ∷ front) rest h =
     unescaped_plain c (front ++ rest) (h 0 (omega arith))
     ∙ ap (both (Some c)) (unescaped_front front rest (λ i l. h (suc i) (omega arith)))
-    ∙ both_front c front (unescaped rest)
+    ∙ both_front c front (unescaped_strictly rest)
 
-pub unescaped_whole : (t : List ℕ) → ((i : ℕ) → i < length t → get_or t i 0 ≢ percent) → unescaped t ≡ Some t
-unescaped_whole t h = ap unescaped (sym (append-nil t)) ∙ unescaped_front t [] h ∙ ap {B = Option (List ℕ)} Some (append-nil t)
+pub unescaped_whole : (t : List ℕ) → ((i : ℕ) → i < length t → get_or t i 0 ≢ percent) → unescaped_strictly t ≡ Some t
+unescaped_whole t h = ap unescaped_strictly (sym (append-nil t)) ∙ unescaped_front t [] h ∙ ap {B = Option (List ℕ)} Some (append-nil t)
 
 -- a text without a % is read as itself
-pub unescaped_without : (t : List ℕ) → list_all (λ c. not (eqb c percent)) t ≡ true → unescaped t ≡ Some t
+pub unescaped_without : (t : List ℕ) → list_all (λ c. not (eqb c percent)) t ≡ true → unescaped_strictly t ≡ Some t
 unescaped_without t none =
     unescaped_whole t
     (λ i l same. (let clash : true ≡ false = sym none ∙ list_all_at (λ c. not (eqb c percent)) t i 0 l (ap (λ c. not (eqb c percent)) same) in cc))
@@ -93,16 +93,16 @@ second d e s u h true b = absurd (h (IsCharBoundary-after_ascii (d ∷ e ∷ s) 
 second d e s u h false b = escaped_large d e (grind (arith, nat_tests))
 
 -- where the two characters after a % can't be cut off, they are no escape
-pub cut_escape : (after : List ℕ) → IsUtf8 after → ¬ (IsCharBoundary after 2) → unescaped (percent ∷ after) ≡ None
+pub cut_escape : (after : List ℕ) → IsUtf8 after → ¬ (IsCharBoundary after 2) → unescaped_strictly (percent ∷ after) ≡ None
 cut_escape [] u h = refl
 cut_escape (d ∷ []) u h = refl
-cut_escape (d ∷ e ∷ s) u h = ap (λ o. both o (unescaped s)) (second d e s u h _ refl)
+cut_escape (d ∷ e ∷ s) u h = ap (λ o. both o (unescaped_strictly s)) (second d e s u h _ refl)
 
 -- a bad escape behind what is read
-pub read_none : (t path rest plain after : List ℕ) → unescaped t ≡ option_map (λ more. path ++ more) (unescaped rest) → rest ≡ plain ++ percent ∷ after
-    → ((i : ℕ) → i < length plain → get_or plain i 0 ≢ percent) → unescaped (percent ∷ after) ≡ None → unescaped t ≡ None
+pub read_none : (t path rest plain after : List ℕ) → unescaped_strictly t ≡ option_map (λ more. path ++ more) (unescaped_strictly rest) → rest ≡ plain ++ percent ∷ after
+    → ((i : ℕ) → i < length plain → get_or plain i 0 ≢ percent) → unescaped_strictly (percent ∷ after) ≡ None → unescaped_strictly t ≡ None
 read_none t path rest plain after read is none bad =
-    read ∙ ap (option_map (λ more. path ++ more)) (ap unescaped is ∙ unescaped_front plain (percent ∷ after) none ∙ ap (option_map (λ more. plain ++ more)) bad)
+    read ∙ ap (option_map (λ more. path ++ more)) (ap unescaped_strictly is ∙ unescaped_front plain (percent ∷ after) none ∙ ap (option_map (λ more. plain ++ more)) bad)
 
 -- text in front, or one character, makes no difference to whether there is a bad escape
 nothing_put : (front : List ℕ) (o : Option (List ℕ)) → (option_map (λ more. front ++ more) o ≡ None) ↔ (o ≡ None)
@@ -115,35 +115,35 @@ nothing_behind c (Some more) = (λ e. cc, λ e. cc)
 
 -- a bad escape behind what has none
 pub none_before : (rest plain after : List ℕ) → rest ≡ plain ++ percent ∷ after → ((i : ℕ) → i < length plain → get_or plain i 0 ≢ percent)
-    → unescaped (percent ∷ after) ≡ None → unescaped rest ≡ None
-none_before rest plain after is none bad = ap unescaped is ∙ unescaped_front plain (percent ∷ after) none ∙ (nothing_put plain _).1 bad
+    → unescaped_strictly (percent ∷ after) ≡ None → unescaped_strictly rest ≡ None
+none_before rest plain after is none bad = ap unescaped_strictly is ∙ unescaped_front plain (percent ∷ after) none ∙ (nothing_put plain _).1 bad
 
 -- an escape changes nothing
-pub none_behind : (t rest plain after more : List ℕ) (c : ℕ) → (unescaped t ≡ None) ↔ (unescaped rest ≡ None) → rest ≡ plain ++ percent ∷ after
-    → ((i : ℕ) → i < length plain → get_or plain i 0 ≢ percent) → unescaped (percent ∷ after) ≡ both (Some c) (unescaped more)
-    → (unescaped t ≡ None) ↔ (unescaped more ≡ None)
+pub none_behind : (t rest plain after more : List ℕ) (c : ℕ) → (unescaped_strictly t ≡ None) ↔ (unescaped_strictly rest ≡ None) → rest ≡ plain ++ percent ∷ after
+    → ((i : ℕ) → i < length plain → get_or plain i 0 ≢ percent) → unescaped_strictly (percent ∷ after) ≡ both (Some c) (unescaped_strictly more)
+    → (unescaped_strictly t ≡ None) ↔ (unescaped_strictly more ≡ None)
 none_behind t rest plain after more c alike is none here =
-    let read = ap unescaped is ∙ unescaped_front plain (percent ∷ after) none ∙ ap (option_map (λ x. plain ++ x)) here in (
+    let read = ap unescaped_strictly is ∙ unescaped_front plain (percent ∷ after) none ∙ ap (option_map (λ x. plain ++ x)) here in (
       (λ e. (nothing_behind c _).0 ((nothing_put plain _).0 (sym read ∙ alike.0 e))),
       (λ e. alike.1 (read ∙ (nothing_put plain _).1 ((nothing_behind c _).1 e))),
     )
 
 -- where no % is left, none is bad
-pub none_whole : (t rest : List ℕ) → (unescaped t ≡ None) ↔ (unescaped rest ≡ None) → ((i : ℕ) → i < length rest → get_or rest i 0 ≢ percent)
-    → IsTrue false ↔ (unescaped t ≡ None)
+pub none_whole : (t rest : List ℕ) → (unescaped_strictly t ≡ None) ↔ (unescaped_strictly rest ≡ None) → ((i : ℕ) → i < length rest → get_or rest i 0 ≢ percent)
+    → IsTrue false ↔ (unescaped_strictly t ≡ None)
 none_whole t rest alike none =
     let whole = unescaped_whole rest none in
     (λ e. cc, λ e. let clash : Some rest ≡ None = sym whole ∙ alike.0 e in cc)
 
 -- an escape behind what is read
-pub read_escape : (t path rest plain after more new : List ℕ) (c : ℕ) → unescaped t ≡ option_map (λ more. path ++ more) (unescaped rest) → rest ≡ plain ++ percent ∷ after
-    → ((i : ℕ) → i < length plain → get_or plain i 0 ≢ percent) → unescaped (percent ∷ after) ≡ both (Some c) (unescaped more) → new ≡ (path ++ plain) ++ c ∷ []
-    → unescaped t ≡ option_map (λ more. new ++ more) (unescaped more)
+pub read_escape : (t path rest plain after more new : List ℕ) (c : ℕ) → unescaped_strictly t ≡ option_map (λ more. path ++ more) (unescaped_strictly rest) → rest ≡ plain ++ percent ∷ after
+    → ((i : ℕ) → i < length plain → get_or plain i 0 ≢ percent) → unescaped_strictly (percent ∷ after) ≡ both (Some c) (unescaped_strictly more) → new ≡ (path ++ plain) ++ c ∷ []
+    → unescaped_strictly t ≡ option_map (λ more. new ++ more) (unescaped_strictly more)
 read_escape t path rest plain after more new c read is none here now =
-    read ∙ ap (option_map (λ more. path ++ more)) (ap unescaped is ∙ unescaped_front plain (percent ∷ after) none ∙ ap (option_map (λ more. plain ++ more)) here)
-    ∙ read_more path plain c (unescaped more) ∙ ap (λ n. option_map (λ more. n ++ more) (unescaped more)) (sym now)
+    read ∙ ap (option_map (λ more. path ++ more)) (ap unescaped_strictly is ∙ unescaped_front plain (percent ∷ after) none ∙ ap (option_map (λ more. plain ++ more)) here)
+    ∙ read_more path plain c (unescaped_strictly more) ∙ ap (λ n. option_map (λ more. n ++ more) (unescaped_strictly more)) (sym now)
 
 -- no escape behind what is read
-pub read_all : (t path rest new : List ℕ) → unescaped t ≡ option_map (λ more. path ++ more) (unescaped rest) → ((i : ℕ) → i < length rest → get_or rest i 0 ≢ percent)
-    → new ≡ path ++ rest → unescaped t ≡ Some new
+pub read_all : (t path rest new : List ℕ) → unescaped_strictly t ≡ option_map (λ more. path ++ more) (unescaped_strictly rest) → ((i : ℕ) → i < length rest → get_or rest i 0 ≢ percent)
+    → new ≡ path ++ rest → unescaped_strictly t ≡ Some new
 read_all t path rest new read none now = read ∙ ap (option_map (λ more. path ++ more)) (unescaped_whole rest none) ∙ ap {B = Option (List ℕ)} Some (sym now)

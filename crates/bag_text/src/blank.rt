@@ -49,6 +49,26 @@ fn without_trailing_blanks(text: &str) -> &str
     &text[..end]
 }
 
+/// Whether a text begins with a space or a tab.
+pub fn begins_with_blank(text: &str) -> bool
+    ensures { result ≡ spec.begins_with_blank text.now }
+{
+    match text.as_bytes().first() {
+        Some(byte) => is_blank(*byte),
+        None => false,
+    }
+}
+
+/// Whether a text ends with a space or a tab.
+pub fn ends_with_blank(text: &str) -> bool
+    ensures { result ≡ spec.ends_with_blank text.now }
+{
+    match text.as_bytes().last() {
+        Some(byte) => is_blank(*byte),
+        None => false,
+    }
+}
+
 /// How many blanks the bytes begin with.
 fn leading_blanks(bytes: &[u8]) -> usize
     ensures count { result ≡ prefix_len spec.is_blank bytes.now }

@@ -3,7 +3,7 @@
 //! ```
 //! for (number, line) in lines(text_of(&bytes)?) {
 //!     let (digest, spelling) = split_at_blanks(line);
-//!     let path = unescape_path(alloc, spelling)?;
+//!     let path = unescape_path(alloc, Rules::V10, spelling)?;
 //! }
 //! ```
 //!
@@ -18,15 +18,19 @@ pub mod laws;
 mod line_cut;
 mod path;
 mod read_text;
+mod rules;
 mod sort_key;
 mod spelling;
 
 pub use bag_owned::{Items, Text};
 pub use bag_words::{Alg, AlgSet, Code};
-pub use blank::{is_blank, is_blank_line, split_at_blanks, trim};
+pub use blank::{
+    begins_with_blank, ends_with_blank, is_blank, is_blank_line, split_at_blanks, trim,
+};
 pub use label::same_label;
 pub use line_cut::Lines;
 pub use path::{Unsafe, check_path, is_payload};
 pub use read_text::{BYTE_ORDER_MARK, NotUtf8, lines, text_of};
+pub use rules::Rules;
 pub use sort_key::{common_front, key_behind};
 pub use spelling::{PathFault, escape_path, unescape_path};

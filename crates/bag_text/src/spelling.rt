@@ -1,8 +1,9 @@
 //! How paths are written in manifests and `fetch.txt`.
-ghost use Rattle.std.specs.Prelude.{◌≡◌, ◌≢◌, ◌==◌, ◌↔◌, ◌<◌, ◌∷◌, length, not, IfOk, IfSome, IsErrOf, IsTrue, MatchOption, string_bytes, encode_utf8};
+ghost use Rattle.std.specs.Prelude.{◌≡◌, ◌≢◌, ◌==◌, ◌↔◌, ◌<◌, ◌≤◌, ◌∷◌, length, not, IfOk, IfSome, IsErrOf, IsTrue, MatchOption, string_bytes, encode_utf8};
 ghost use Rattle.std.specs.List.{list_all};
 ghost use Rattle.bag_text.specs.Spelling as spec;
 
+use crate::Rules;
 use std::alloc::{AllocError, Global};
 use thiserror::Error;
 
@@ -43,11 +44,23 @@ pub fn escape_path(alloc: Global, path: &str) -> Result<String, AllocError>
     Ok(text)
 }
 
-/// The path that is written so. Hex digits of either case are read, and no other escapes than those of LF, CR and `%`
-/// (RFC 8493, 2.1.3). Judges the escapes before it takes memory, which it does once.
-pub fn unescape_path(alloc: Global, text: &str) -> Result<String, PathFault>
-    ensures ok { IfOk result (λ path. spec.unescaped text.now ≡ Some (string_bytes path)) }
-    ensures bad_escape { IsErrOf result PathFault.BadEscape ↔ (spec.unescaped text.now ≡ None) }
+/// The path that is written so, by the rules of a version. By those of 1.0 hex digits of either case are read, and no other
+/// escapes than those of LF, CR and `%` (RFC 8493, 2.1.3); by those of 0.97 no other than those of LF and CR, and each other
+/// `%` is itself.
+pub fn unescape_path(alloc: Global, rules: Rules, text: &str) -> Result<String, PathFault>
+    ensures ok { IfOk result (λ path. spec.unescaped rules text.now ≡ Some (string_bytes path)) }
+    ensures bad_escape { IsErrOf result PathFault.BadEscape ↔ (spec.unescaped rules text.now ≡ None) }
+{
+    match rules {
+        Rules::V10 => unescape_strictly(alloc, text),
+        Rules::V097 => Ok(decode_line_ends(alloc, text)?),
+    }
+}
+
+/// The path that is written so by the rules of 1.0. Judges the escapes before it takes memory, which it does once.
+fn unescape_strictly(alloc: Global, text: &str) -> Result<String, PathFault>
+    ensures ok { IfOk result (λ path. spec.unescaped_strictly text.now ≡ Some (string_bytes path)) }
+    ensures bad_escape { IsErrOf result PathFault.BadEscape ↔ (spec.unescaped_strictly text.now ≡ None) }
 {
     if has_no_percent(text.as_bytes()) {
         return Ok(String::from_str(alloc, text)?);
@@ -71,7 +84,7 @@ fn has_no_percent(bytes: &[u8]) -> bool
 
 /// Whether a `%` begins no escape.
 fn has_bad_escape(text: &str) -> bool
-    ensures { IsTrue result ↔ (spec.unescaped text.now ≡ None) }
+    ensures { IsTrue result ↔ (spec.unescaped_strictly text.now ≡ None) }
 {
     let mut rest = text;
     while let Some((_, after)) = rest.split_once('%') {
@@ -85,8 +98,8 @@ fn has_bad_escape(text: &str) -> bool
 
 /// The path of a text in which each `%` begins an escape.
 fn decode(alloc: Global, text: &str) -> Result<String, AllocError>
-    requires { spec.unescaped text.now ≢ None }
-    ensures { IfOk result (λ path. spec.unescaped text.now ≡ Some (string_bytes path)) }
+    requires { spec.unescaped_strictly text.now ≢ None }
+    ensures { IfOk result (λ path. spec.unescaped_strictly text.now ≡ Some (string_bytes path)) }
 {
     let mut path = String::with_capacity(alloc, text.len())?;
     let mut rest = text;
@@ -116,7 +129,7 @@ fn escape_of(c: char) -> Option<&'static str>
 
 /// The character that the two digits after a `%` stand for, and what follows them.
 fn escaped_char(after: &str) -> Option<(char, &str)>
-    ensures value { MatchOption result (spec.unescaped (spec.percent ∷ after.now) ≡ None) (λ read. spec.unescaped (spec.percent ∷ after.now) ≡ spec.both (Some read.0) (spec.unescaped read.1.now)) }
+    ensures value { MatchOption result (spec.unescaped_strictly (spec.percent ∷ after.now) ≡ None) (λ read. spec.unescaped_strictly (spec.percent ∷ after.now) ≡ spec.both (Some read.0) (spec.unescaped_strictly read.1.now)) }
     ensures ascii { IfSome result (λ read. read.0 < 128) }
     ensures shorter { IfSome result (λ read. length read.1.now < length after.now) }
 {
@@ -131,5 +144,39 @@ fn escaped_char(after: &str) -> Option<(char, &str)>
         Some(('%', rest))
     } else {
         None
+    }
+}
+
+/// The path of a text in which the ends of lines alone are escaped.
+fn decode_line_ends(alloc: Global, text: &str) -> Result<String, AllocError>
+    ensures { IfOk result (λ path. string_bytes path ≡ spec.with_line_ends text.now) }
+{
+    let mut path = String::with_capacity(alloc, text.len())?;
+    let mut rest = text;
+    while let Some((plain, after)) = rest.split_once('%') {
+        path.push_str(plain)?;
+        let (c, more) = behind_percent(after);
+        path.push(c)?;
+        rest = more;
+    }
+    path.push_str(rest)?;
+    Ok(path)
+}
+
+/// The character that a `%` with this text behind it stands for, and what follows: the end of a line, or itself.
+fn behind_percent(after: &str) -> (char, &str)
+    ensures value { spec.with_line_ends (spec.percent ∷ after.now) ≡ result.0 ∷ spec.with_line_ends result.1.now }
+    ensures ascii { result.0 < 128 }
+    ensures shorter { length result.1.now ≤ length after.now }
+{
+    let Some((digits, more)) = after.split_at_checked(2) else {
+        return ('%', after);
+    };
+    if digits.eq_ignore_ascii_case("0a") {
+        ('\n', more)
+    } else if digits.eq_ignore_ascii_case("0d") {
+        ('\r', more)
+    } else {
+        ('%', after)
     }
 }

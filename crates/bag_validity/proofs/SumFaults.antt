@@ -10,6 +10,7 @@ use Rattle.bag_text.specs.Alg.{algs, rank_cmp}
 use Rattle.bag_text.specs.Code.{stage}
 use Rattle.bag_text.specs.Order.{IsListOf, IsOnly}
 use Rattle.bag_text.specs.Text.{text_cmp}
+use Rattle.bag_text.specs.declared.rules.Rules.{Rules}
 use Rattle.bag_words.specs.declared.alg.Alg.{Alg}
 use Rattle.bag_words.proofs.AlgSets.{each_is_listed, list_ascends}
 use Rattle.bag_text.proofs.ListOf.{nothing_listed, only_listed, same_members}
@@ -21,6 +22,7 @@ use Rattle.bag_tree.specs.Bag.{Bag, file}
 use Rattle.bag_digest.specs.Digest.{digest}
 use Rattle.bag_fault.specs.FaultOrder.{fault_cmp}
 use Rattle.bag_fault.specs.declared.fault.Fault.{Fault}
+use Rattle.bag_facts.specs.Facts.{rules_in}
 use Rattle.bag_facts.specs.TagFacts.{entry_paths, AreEntriesOf}
 use Rattle.bag_facts.proofs.Mapped.{mapped_contains}
 use Rattle.bag_stages.specs.TagFiles.{lines_in, lines_or_none, manifest_of, Names}
@@ -40,33 +42,33 @@ IsOfAlg bag path kind alg f =
     (entry : ManifestEntry) × (content : List ℕ) × IsEntryIn bag kind alg entry × (entry.path ≡ path) × (file bag path ≡ Some content)
     × (entry.digest ≢ digest alg content) × (f ≡ fault_of_sum kind alg entry (digest alg content))
 
-entries_by : (kind : Kind) (alg : Alg) (content : Option (List ℕ)) (entries : List ManifestEntry) → AreEntriesOf kind alg content entries
-    → IsListOf (on (λ e. e.path) text_cmp) (IsEntry kind alg (lines_or_none content)) entries
-entries_by kind alg None entries none =
-    subst (IsListOf (on (λ e. e.path) text_cmp) (IsEntry kind alg (lines_or_none None))) (sym none)
-    (nothing_listed _ (IsEntry kind alg (lines_or_none None)) (λ e h. let clash : None ≡ Some h.0 = h.1.1 in cc))
-entries_by kind alg (Some bytes) entries list = list
+entries_by : (rules : Rules) (kind : Kind) (alg : Alg) (content : Option (List ℕ)) (entries : List ManifestEntry) → AreEntriesOf rules kind alg content entries
+    → IsListOf (on (λ e. e.path) text_cmp) (IsEntry rules kind alg (lines_or_none content)) entries
+entries_by rules kind alg None entries none =
+    subst (IsListOf (on (λ e. e.path) text_cmp) (IsEntry rules kind alg (lines_or_none None))) (sym none)
+    (nothing_listed _ (IsEntry rules kind alg (lines_or_none None)) (λ e h. let clash : None ≡ Some h.0 = h.1.1 in cc))
+entries_by rules kind alg (Some bytes) entries list = list
 
 -- one manifest
 module _ (bag : Bag) (path : List ℕ) (kind : Kind) (alg : Alg) where
-  module _ (entries : List ManifestEntry) (are : AreEntriesOf kind alg (file bag (manifest_of kind alg)) entries) where
+  module _ (entries : List ManifestEntry) (are : AreEntriesOf (rules_in bag) kind alg (file bag (manifest_of kind alg)) entries) where
     pub listed : IsListOf (on (λ e. e.path) text_cmp) (IsEntryIn bag kind alg) entries
-    listed = entries_by kind alg (file bag (manifest_of kind alg)) entries are
+    listed = entries_by (rules_in bag) kind alg (file bag (manifest_of kind alg)) entries are
 
     -- it doesn't name a path that no entry has
     pub not_named : ¬ (Contains (entry_paths entries) path) → ¬ (Names bag kind alg path)
     not_named lacks named =
-        let e = named_has_entry kind alg (lines_in bag (manifest_of kind alg)) path named in
+        let e = named_has_entry (rules_in bag) kind alg (lines_in bag (manifest_of kind alg)) path named in
         lacks (subst (Contains (entry_paths entries)) e.2 (mapped_contains (λ e. e.path) entries e.0 ((listed.members e.0).1 e.1)))
 
   -- one that doesn't name the file has no fault of it
   pub none_by_alg : ¬ (Names bag kind alg path) → IsOnly (IsOfAlg bag path kind alg) None
-  none_by_alg lacks f h = lacks (subst (Names bag kind alg) h.3 (entry_named kind alg (lines_in bag (manifest_of kind alg)) h.0 h.2))
+  none_by_alg lacks f h = lacks (subst (Names bag kind alg) h.3 (entry_named (rules_in bag) kind alg (lines_in bag (manifest_of kind alg)) h.0 h.2))
 
 -- a manifest that gives a digest for a path names it
 pub spelled_is_named : (bag : Bag) (path : List ℕ) (kind : Kind) (one : Expected) → IsSpelledBy bag path kind one → Names bag kind one.alg path
 spelled_is_named bag path kind one given =
-    subst (Names bag kind one.alg) given.path_is (entry_named kind one.alg (lines_in bag (manifest_of kind one.alg)) given.entry given.listed)
+    subst (Names bag kind one.alg) given.path_is (entry_named (rules_in bag) kind one.alg (lines_in bag (manifest_of kind one.alg)) given.entry given.listed)
 
 -- its fault of a file that is there
 module _ (bag : Bag) (path content : List ℕ) (there : file bag path ≡ Some content) (kind : Kind) (right : kind ≡ kind_of path) (one : Expected) (given : IsSpelledBy bag path kind one) where
@@ -138,7 +140,7 @@ module _ (bag : Bag) (path : List ℕ) (kind : Kind) where
       let alg : Alg = some.1.0 in
       let entry : ManifestEntry = some.1.1.0 in
       let at : entry.path ≡ path = sym (ap (λ (f : Fault). f.path) some.1.1.2.3) ∙ of_path in
-      let named : Names bag some.0 alg path = subst (Names bag some.0 alg) at (entry_named some.0 alg (lines_in bag (manifest_of some.0 alg)) entry some.1.1.1) in
+      let named : Names bag some.0 alg path = subst (Names bag some.0 alg) at (entry_named (rules_in bag) some.0 alg (lines_in bag (manifest_of some.0 alg)) entry some.1.1.1) in
       let same : some.0 ≡ kind = names_by_kind bag some.0 alg path named ∙ sym right in (
         alg,
         each_is_listed alg,

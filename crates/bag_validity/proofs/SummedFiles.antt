@@ -5,6 +5,7 @@ use Rattle.bag_text.proofs.ListOf.{contains_first, contains_nothing}
 use Rattle.bag_tags.proofs.ManifestEntries.{entry_named}
 use Rattle.bag_tree.specs.Bag.{Bag}
 use Rattle.bag_fault.specs.declared.fault.Fault.{Fault}
+use Rattle.bag_facts.specs.Facts.{rules_in}
 use Rattle.bag_stages.specs.TagFiles.{lines_in, manifest_of, Names}
 use Rattle.bag_validity.specs.Given.{AreNaming}
 use Rattle.bag_validity.specs.SummedFiles.{kind_of, IsNamed, IsSummed}
@@ -28,7 +29,7 @@ module _ (bag : Bag) (f : Fault) where
   entry_is_summed : IsOfSomeEntry bag f → IsSummed bag f.path
   entry_is_summed (kind, (alg, (entry, listed, (content, there, differ, is)))) =
       let at : f.path ≡ entry.path = ap (λ (x : Fault). x.path) is in
-      subst (IsSummed bag) (sym at) (ap is_some there, (kind, alg, entry_named kind alg (lines_in bag (manifest_of kind alg)) entry listed))
+      subst (IsSummed bag) (sym at) (ap is_some there, (kind, alg, entry_named (rules_in bag) kind alg (lines_in bag (manifest_of kind alg)) entry listed))
 
   pub faulty_is_summed : IsOfValidity bag f → IsSummed bag f.path
   faulty_is_summed h = entry_is_summed (validity_of_entry bag f h)

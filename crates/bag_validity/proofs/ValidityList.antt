@@ -3,6 +3,7 @@ use Rattle.std.proofs.Common.{◌≡◌, ◌≢◌, inl, inr, ℕ, List, [], Boo
 use Rattle.std.specs.Str.{is_utf8}
 use Rattle.std.proofs.lemmas.Slice.Eq.{bytes_eq-Decides}
 use Rattle.bag_text.specs.Lines.{lines_of_file}
+use Rattle.bag_text.specs.declared.rules.Rules.{Rules}
 use Rattle.bag_words.specs.declared.alg.Alg.{Alg}
 use Rattle.bag_tags.specs.Judged.{entry_of, judged_and_marked}
 use Rattle.bag_tags.specs.Manifest.{IsEntry}
@@ -11,6 +12,7 @@ use Rattle.bag_tags.specs.declared.manifest.ManifestEntry.{ManifestEntry}
 use Rattle.bag_tags.proofs.ManifestFaults.{entries_of_text, entries_of_no_text}
 use Rattle.bag_tree.specs.Bag.{Bag, file}
 use Rattle.bag_digest.specs.Digest.{digest}
+use Rattle.bag_facts.specs.Facts.{rules_in}
 use Rattle.bag_stages.specs.HasList.{HasList}
 use Rattle.bag_stages.specs.TagFiles.{lines_or_none, manifest_of}
 use Rattle.bag_stages.proofs.BagLists.{over_algs, over_kinds}
@@ -25,18 +27,18 @@ differ_by a b false e = inl (λ is. let clash : false ≡ true = sym e ∙ (byte
 differ_or_not : (a b : List ℕ) → Decided (a ≢ b)
 differ_or_not a b = differ_by a b (bytes_eq a b) refl
 
-entries_by : (kind : Kind) (alg : Alg) (bytes : List ℕ) (b : Bool) → is_utf8 bytes ≡ b → HasList (IsEntry kind alg (lines_of_file bytes))
-entries_by kind alg bytes true e = (filter_map entry_of (judged_and_marked kind alg (lines_of_file bytes)), (entries_of_text kind alg bytes e).members)
-entries_by kind alg bytes false e = ([], (entries_of_no_text kind alg bytes e).members)
+entries_by : (rules : Rules) (kind : Kind) (alg : Alg) (bytes : List ℕ) (b : Bool) → is_utf8 bytes ≡ b → HasList (IsEntry rules kind alg (lines_of_file bytes))
+entries_by rules kind alg bytes true e = (filter_map entry_of (judged_and_marked rules kind alg (lines_of_file bytes)), (entries_of_text rules kind alg bytes e).members)
+entries_by rules kind alg bytes false e = ([], (entries_of_no_text rules kind alg bytes e).members)
 
 -- the entries of what is at the place of a manifest
-entries_or_none : (kind : Kind) (alg : Alg) (content : Option (List ℕ)) → HasList (IsEntry kind alg (lines_or_none content))
-entries_or_none kind alg None = nothing _ (λ e h. let clash : None ≡ Some h.0 = h.1.1 in cc)
-entries_or_none kind alg (Some bytes) = entries_by kind alg bytes (is_utf8 bytes) refl
+entries_or_none : (rules : Rules) (kind : Kind) (alg : Alg) (content : Option (List ℕ)) → HasList (IsEntry rules kind alg (lines_or_none content))
+entries_or_none rules kind alg None = nothing _ (λ e h. let clash : None ≡ Some h.0 = h.1.1 in cc)
+entries_or_none rules kind alg (Some bytes) = entries_by rules kind alg bytes (is_utf8 bytes) refl
 
 module _ (bag : Bag) where
   pub entries_listed : (kind : Kind) (alg : Alg) → HasList (IsEntryIn bag kind alg)
-  entries_listed kind alg = entries_or_none kind alg (file bag (manifest_of kind alg))
+  entries_listed kind alg = entries_or_none (rules_in bag) kind alg (file bag (manifest_of kind alg))
 
   -- the fault of an entry's file, where it is there and has another digest
   of_file : (kind : Kind) (alg : Alg) (entry : ManifestEntry) (content : Option (List ℕ)) → file bag entry.path ≡ content → HasList (IsOfEntry bag kind alg entry)

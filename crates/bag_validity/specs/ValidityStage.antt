@@ -11,13 +11,14 @@ use Rattle.bag_tags.specs.declared.manifest.ManifestEntry.{ManifestEntry}
 use Rattle.bag_tree.specs.Bag.{Bag, file}
 use Rattle.bag_digest.specs.Digest.{digest}
 use Rattle.bag_fault.specs.declared.fault.Fault.{Fault}
+use Rattle.bag_facts.specs.Facts.{rules_in}
 use Rattle.bag_stages.specs.FaultFields.{At}
 use Rattle.bag_stages.specs.HasList.{HasList}
 use Rattle.bag_stages.specs.TagFiles.{lines_in, manifest_of}
 
--- the entry is one of the bag's manifest of this kind and algorithm
+-- the entry is one of the bag's manifest of this kind and algorithm, by the bag's rules
 abbrev pub IsEntryIn : Bag → Kind → Alg → ManifestEntry → Type 0
-IsEntryIn bag kind alg entry = IsEntry kind alg (lines_in bag (manifest_of kind alg)) entry
+IsEntryIn bag kind alg entry = IsEntry (rules_in bag) kind alg (lines_in bag (manifest_of kind alg)) entry
 
 -- the digest that was expected, a colon, and the digest that was found
 abbrev pub expected_and_found : List ℕ → List ℕ → List ℕ

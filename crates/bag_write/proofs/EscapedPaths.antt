@@ -9,7 +9,7 @@ use Rattle.std.proofs.lemmas.List.Folds.{list_any-append}
 use Rattle.std.proofs.lemmas.Str.{IsUtf8-append, IsUtf8-nil, IsUtf8-encode, IsUtf8-from_is_utf8}
 use Rattle.bag_text.specs.LineEnd.{is_line_end}
 use Rattle.bag_text.specs.Path.{is_path}
-use Rattle.bag_text.specs.Spelling.{percent, unescaped, both, escape_one, escape}
+use Rattle.bag_text.specs.Spelling.{percent, unescaped_strictly, both, escape_one, escape}
 use Rattle.bag_text.specs.Text.{is_blank}
 use Rattle.bag_text.proofs.SpellingLaws.{unescaped_plain, read_again}
 use Rattle.bag_text.proofs.Spellings.{escape-encode}
@@ -67,8 +67,8 @@ plain_by h path None e = cc
 plain_by h path (Some rest) e = (rest, let same : h ∷ rest ≡ path = cc in sym same, refl)
 
 -- a character at the front of a spelling that begins no escape is the first of the path
-plain_first : (h : ℕ) (more path : List ℕ) → h ≢ percent → unescaped (h ∷ more) ≡ Some path → (rest : List ℕ) × (path ≡ h ∷ rest) × (unescaped more ≡ Some rest)
-plain_first h more path other e = plain_by h path (unescaped more) (sym (unescaped_plain h more other) ∙ e)
+plain_first : (h : ℕ) (more path : List ℕ) → h ≢ percent → unescaped_strictly (h ∷ more) ≡ Some path → (rest : List ℕ) × (path ≡ h ∷ rest) × (unescaped_strictly more ≡ Some rest)
+plain_first h more path other e = plain_by h path (unescaped_strictly more) (sym (unescaped_plain h more other) ∙ e)
 
 star_no_percent : 42 ≢ percent
 star_no_percent same = omega (arith, same)
@@ -86,8 +86,8 @@ blank_no_percent : (c : ℕ) → is_blank c ≡ true → c ≢ percent
 blank_no_percent c e same = grind (arith, nat_tests)
 
 module _ (path : List ℕ) where
-  spelled : (s : List ℕ) → escape path ≡ s → unescaped s ≡ Some path
-  spelled s e = sym (ap unescaped e) ∙ read_again path
+  spelled : (s : List ℕ) → escape path ≡ s → unescaped_strictly s ≡ Some path
+  spelled s e = sym (ap unescaped_strictly e) ∙ read_again path
 
   module _ (unmarked : begins_with_mark path ≡ false) where
     -- it begins with no *

@@ -7,8 +7,10 @@ use Rattle.std.proofs.lemmas.Bool.Decides.{nat_tests}
 use Rattle.std.proofs.lemmas.List.Folds.{list_any-append}
 use Rattle.std.proofs.lemmas.Str.{IsUtf8-append, IsUtf8-from_is_utf8}
 use Rattle.bag_text.specs.LineEnd.{is_line_end}
-use Rattle.bag_text.specs.Text.{is_blank, has_mark, trim, IsText}
-use Rattle.bag_line.specs.Info.{is_colon, is_label, is_after_colon, split, begins_element, ends_with_blank, leading_continuations, value_of_parts}
+use Rattle.bag_text.specs.Rules.{is_after_colon}
+use Rattle.bag_text.specs.Text.{is_blank, ends_with_blank, has_mark, trim, IsText}
+use Rattle.bag_text.specs.declared.rules.Rules.TheVariants.{V10}
+use Rattle.bag_line.specs.Info.{is_colon, is_label, split, begins_element, leading_continuations, value_of_parts}
 use Rattle.bag_line.proofs.Fronts.{front_len, take_front}
 use Rattle.bag_line.proofs.LineParts.{or_false, empty_test, not_empty}
 use Rattle.bag_write.specs.Element.{NewElement, info_line, has_outer_blank, is_bad_label, is_bad_value, is_bad_element}
@@ -61,7 +63,7 @@ mark_in_label (c ∷ []) more some e = and_false _
 mark_in_label (c ∷ d ∷ []) more some e = ap (λ b. (0xef == c) && b) (and_false (0xbb == d)) ∙ and_false (0xef == c)
 mark_in_label (c ∷ d ∷ f ∷ label) more some e = e
 
-split_by : (line label rest : List ℕ) → before_first is_colon line ≡ label → after_first is_colon line ≡ rest → list_any is_colon line ≡ true → is_label label ≡ true → is_after_colon rest ≡ true → split line ≡ Some (label, rest)
+split_by : (line label rest : List ℕ) → before_first is_colon line ≡ label → after_first is_colon line ≡ rest → list_any is_colon line ≡ true → is_label label ≡ true → is_after_colon rest ≡ true → split V10 line ≡ Some (label, rest)
 split_by line label rest before after colon good follows = rw (before, after, colon, good, follows) refl
 
 separator_utf8 : IsUtf8 (codes ": ")
@@ -108,8 +110,8 @@ module _ (label value : List ℕ) where
     label_stands : is_label label ≡ true
     label_stands = rw (empty_test label good.some, ends_some label good.some good.is_trimmed) refl
 
-    line_splits : split (info_line element) ≡ Some (label, behind_label)
-    line_splits = ap split line_is ∙ split_by (label ++ 58 ∷ behind_label) label behind_label before after (has_colon good.no_colon) label_stands refl
+    line_splits : split V10 (info_line element) ≡ Some (label, behind_label)
+    line_splits = ap (split V10) line_is ∙ split_by (label ++ 58 ∷ behind_label) label behind_label before after (has_colon good.no_colon) label_stands refl
 
     line_begins : begins_element (info_line element) ≡ true
     line_begins = ap begins_element line_is ∙ begins_some label good.some good.is_trimmed
@@ -140,7 +142,7 @@ module _ (e : NewElement) (good : IsGood e) where
   value_good : (list_any is_line_end e.1 ≡ false) × (has_outer_blank e.1 ≡ false)
   value_good = or_false (list_any is_line_end e.1) (has_outer_blank e.1) parts.1
 
-  pub splits : split (info_line e) ≡ Some (e.0, 32 ∷ e.1)
+  pub splits : split V10 (info_line e) ≡ Some (e.0, 32 ∷ e.1)
   splits = line_splits e.0 e.1 label_good
 
   pub begins : begins_element (info_line e) ≡ true

@@ -3,10 +3,11 @@ use Rattle.std.proofs.Common.{◌≡◌, ℕ, inl, inr, Bool, true, false, not, 
 use Rattle.std.specs.List.{AllByRecursion, list_any}
 use Rattle.std.proofs.lemmas.List.Elements.{recursion_from_All}
 use Rattle.bag_text.specs.Lines.{lines_of_file, IsLine}
-use Rattle.bag_text.specs.Text.{IsText, is_blank_line}
+use Rattle.bag_text.specs.Text.{IsText, is_blank_line, begins_with_blank}
+use Rattle.bag_text.specs.declared.rules.Rules.TheVariants.{V10}
 use Rattle.bag_words.specs.declared.code.Code.{Code}
 use Rattle.bag_words.specs.declared.code.Code.TheVariants.{NotUtf8, InfoLine}
-use Rattle.bag_line.specs.Info.{begins_element, begins_with_blank, continuations, split, value_of_parts, InfoFault, IsElement}
+use Rattle.bag_line.specs.Info.{begins_element, continuations, split, value_of_parts, InfoFault, IsElement}
 use Rattle.bag_line.specs.declared.fault.LineFault.{LineFault}
 use Rattle.bag_line.specs.declared.info.Element.{Element}
 use Rattle.bag_line.proofs.LineParts.{or_false}
@@ -43,25 +44,25 @@ module _ (elements : List NewElement) (all : AllByRecursion IsGood elements) whe
   value_at n x stands =
       ap (λ more. value_of_parts ((32 ∷ x.1) ∷ more)) (no_continuation elements n all) ∙ part_is_value x (good_at n x stands)
 
-  to : (e : Element) → IsElement here e → StandsOn elements e.line (e.label, e.value)
+  to : (e : Element) → IsElement V10 here e → StandsOn elements e.line (e.label, e.value)
   to e (line, part, is, first, cut, whole) =
       let (x, stands, same) = line_of_item info_line elements e.line line is in
-      let (label, behind) = same_split (e.label, part) (x.0, 32 ∷ x.1) (sym cut ∙ ap split same ∙ splits x (good_at e.line x stands)) in
+      let (label, behind) = same_split (e.label, part) (x.0, 32 ∷ x.1) (sym cut ∙ ap (split V10) same ∙ splits x (good_at e.line x stands)) in
       let value : e.value ≡ x.1 = whole ∙ ap (λ p. value_of_parts (p ∷ continuations here e.line)) behind ∙ value_at e.line x stands in
       let pair : ◌≡◌ {A = NewElement} x (e.label, e.value) = λ i. (sym label i, sym value i) in
       subst (StandsOn elements e.line) pair stands
 
-  from : (e : Element) → StandsOn elements e.line (e.label, e.value) → IsElement here e
+  from : (e : Element) → StandsOn elements e.line (e.label, e.value) → IsElement V10 here e
   from e stands =
       let x : NewElement = (e.label, e.value) in
       let good = good_at e.line x stands in
       (info_line x, 32 ∷ e.value, item_on_line info_line elements e.line x stands, begins x good, splits x good, sym (value_at e.line x stands))
 
-  no_fault_at : (n : ℕ) (line : List ℕ) → IsLine here n line → (begins_element line ≡ true) × (split line ≡ None → ⊥)
+  no_fault_at : (n : ℕ) (line : List ℕ) → IsLine here n line → (begins_element line ≡ true) × (split V10 line ≡ None → ⊥)
   no_fault_at n line is =
       let (x, stands, same) = line_of_item info_line elements n line is in
       let good = good_at n x stands in
-      (ap begins_element same ∙ begins x good, λ none. (let clash : Some (x.0, 32 ∷ x.1) ≡ None = sym (splits x good) ∙ sym (ap split same) ∙ none in cc))
+      (ap begins_element same ∙ begins x good, λ none. (let clash : Some (x.0, 32 ∷ x.1) ≡ None = sym (splits x good) ∙ sym (ap (split V10) same) ∙ none in cc))
 
   abbrev bytes : List ℕ
   bytes = info_text elements
@@ -69,7 +70,7 @@ module _ (elements : List NewElement) (all : AllByRecursion IsGood elements) whe
   lines_are : lines_of_file bytes ≡ here
   lines_are = file_lines info_line elements (written_each elements all)
 
-  no_fault : (code : Code) (f : LineFault) → InfoFault code bytes f → ⊥
+  no_fault : (code : Code) (f : LineFault) → InfoFault V10 code bytes f → ⊥
   no_fault NotUtf8 f w = let clash : true ≡ false = sym (is_text info_line elements (written_each elements all)) ∙ w.2 in cc
   no_fault InfoLine f (line, detail, is, inl cut) = (no_fault_at f.line line (subst (λ ls. IsLine ls f.line line) lines_are is)).1 cut.1
   no_fault InfoLine f (line, detail, is, inr orphan) =
@@ -80,6 +81,6 @@ pub info_again : InfoIsReadAgain
 info_again elements texts fine =
     let all = good_each elements (recursion_from_All _ elements texts) fine in
     let same = lines_are elements all in (
-      λ e. (λ is. to elements all e (subst (λ ls. IsElement ls e) same is), λ stands. subst (λ ls. IsElement ls e) (sym same) (from elements all e stands)),
+      λ e. (λ is. to elements all e (subst (λ ls. IsElement V10 ls e) same is), λ stands. subst (λ ls. IsElement V10 ls e) (sym same) (from elements all e stands)),
       λ f w. no_fault elements all f.code f w,
     )

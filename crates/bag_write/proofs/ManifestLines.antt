@@ -9,8 +9,9 @@ use Rattle.bag_text.specs.LineEnd.{is_line_end}
 use Rattle.bag_text.specs.Path.{is_path, is_payload_path, first_component, components}
 use Rattle.bag_text.specs.Spelling.{escape}
 use Rattle.bag_text.specs.Text.{IsText, has_mark}
+use Rattle.bag_text.specs.declared.rules.Rules.TheVariants.{V10}
 use Rattle.bag_words.specs.declared.alg.Alg.{Alg}
-use Rattle.bag_text.proofs.SpellingLaws.{spellings, read_again}
+use Rattle.bag_text.proofs.SpellingLaws.{strict_spellings, read_again}
 use Rattle.bag_line.specs.LineParts.{IsCut}
 use Rattle.bag_line.proofs.LineParts.{or_false, not_false, not_true}
 use Rattle.bag_line.proofs.PickedOut.{both_true}
@@ -96,7 +97,7 @@ module _ (kind : Kind) (alg : Alg) (entry : NewEntry) (good : is_bad_entry kind 
   spelling : IsSpelling (escape path) (escape path)
   spelling = (escape path, inr (refl, no_star path path_parts.1), inr (refl, no_dot_slash path is_safe_path))
 
-  reads_as : ReadsAs kind alg (entry_line entry) digest path
+  reads_as : ReadsAs V10 kind alg (entry_line entry) digest path
   reads_as = record {
     hex = digest;
     rest = escape path;
@@ -106,14 +107,14 @@ module _ (kind : Kind) (alg : Alg) (entry : NewEntry) (good : is_bad_entry kind 
     hex_length = digest_length alg digest parts.0;
     in_lower_case = low_hex digest (digest_digits alg digest parts.0);
     written = spelling;
-    spelled = (spellings (escape path) path).1 (read_again path);
+    spelled = (strict_spellings (escape path) path).1 (read_again path);
     is_safe = is_safe_path;
     may_name = place kind path may;
   }
 
   -- the line reads as the entry
-  pub reads : Reads kind alg (entry_line entry) digest path
-  reads = (lines_read kind alg (entry_line entry) digest path).1 reads_as
+  pub reads : Reads V10 kind alg (entry_line entry) digest path
+  reads = (lines_read V10 kind alg (entry_line entry) digest path).1 reads_as
 
   no_line_end : list_any is_line_end (entry_line entry) ≡ false
   no_line_end =

@@ -8,6 +8,7 @@ use Rattle.std.proofs.lemmas.Option.{slice_get-map}
 use Rattle.std.proofs.lemmas.Slice.Eq.{bytes_eq-Decides}
 use Rattle.bag_text.specs.Lines.{lines_of_file, IsLine}
 use Rattle.bag_text.specs.Text.{IsText}
+use Rattle.bag_text.specs.declared.rules.Rules.TheVariants.{V10}
 use Rattle.bag_words.specs.declared.alg.Alg.{Alg}
 use Rattle.bag_words.specs.declared.code.Code.{Code}
 use Rattle.bag_words.specs.declared.code.Code.TheVariants.{NotUtf8, NamedAgain}
@@ -66,7 +67,7 @@ module _ (kind : Kind) (alg : Alg) where
   written_each [] all = tt
   written_each (x ∷ xs) all = (written kind alg x all.0.0 all.0.1, written_each xs all.1)
 
-  named_each : (entries : List NewEntry) → AllByRecursion IsGood entries → named kind alg (map entry_line entries) ≡ paths entries
+  named_each : (entries : List NewEntry) → AllByRecursion IsGood entries → named V10 kind alg (map entry_line entries) ≡ paths entries
   named_each [] all = refl
   named_each (x ∷ xs) all = let is = reads kind alg x all.0.0 in rw (is.0, is.1) (ap (λ more. x.1 ∷ more) (named_each xs all.1))
 
@@ -74,25 +75,25 @@ module _ (kind : Kind) (alg : Alg) where
     abbrev here : List (List ℕ)
     here = map entry_line entries
 
-    reads_at : (n : ℕ) (x : NewEntry) → StandsOn entries n x → Reads kind alg (entry_line x) x.0 x.1
+    reads_at : (n : ℕ) (x : NewEntry) → StandsOn entries n x → Reads V10 kind alg (entry_line x) x.0 x.1
     reads_at n x (k, at, is) = reads kind alg x (at_place IsGood entries k x all is).0
 
-    first_named : (n : ℕ) (x : NewEntry) → StandsOn entries n x → ¬ (Contains (named_before kind alg here n) x.1)
+    first_named : (n : ℕ) (x : NewEntry) → StandsOn entries n x → ¬ (Contains (named_before V10 kind alg here n) x.1)
     first_named n x (k, at, is) c =
         let before : n - 1 ≡ k = omega (arith, at) in
-        let names : named_before kind alg here n ≡ paths (take k entries) = ap (λ j. named kind alg (take j here)) before ∙ ap (named kind alg) (take_map k entries) ∙ named_each (take k entries) (taken IsGood k entries all) in
+        let names : named_before V10 kind alg here n ≡ paths (take k entries) = ap (λ j. named V10 kind alg (take j here)) before ∙ ap (named V10 kind alg) (take_map k entries) ∙ named_each (take k entries) (taken IsGood k entries all) in
         apart entries k x once is (subst (λ ps. Contains ps x.1) names c)
 
-    same_entry : (n : ℕ) (line digest path : List ℕ) → IsLine here n line → Reads kind alg line digest path → StandsOn entries n (digest, path)
+    same_entry : (n : ℕ) (line digest path : List ℕ) → IsLine here n line → Reads V10 kind alg line digest path → StandsOn entries n (digest, path)
     same_entry n line digest path is read =
         let (x, stands, same) = line_of_item entry_line entries n line is in
-        let pair : ◌≡◌ {A = NewEntry} x (digest, path) = same_reading x (digest, path) (sym (reads_at n x stands).1 ∙ sym (ap (manifest_line kind alg) same) ∙ read.1) in
+        let pair : ◌≡◌ {A = NewEntry} x (digest, path) = same_reading x (digest, path) (sym (reads_at n x stands).1 ∙ sym (ap (manifest_line V10 kind alg) same) ∙ read.1) in
         subst (StandsOn entries n) pair stands
 
-    to : (e : ManifestEntry) → IsEntry kind alg here e → StandsOn entries e.line (e.digest, e.path)
+    to : (e : ManifestEntry) → IsEntry V10 kind alg here e → StandsOn entries e.line (e.digest, e.path)
     to e (line, is, read, first) = same_entry e.line line e.digest e.path is read
 
-    from : (e : ManifestEntry) → StandsOn entries e.line (e.digest, e.path) → IsEntry kind alg here e
+    from : (e : ManifestEntry) → StandsOn entries e.line (e.digest, e.path) → IsEntry V10 kind alg here e
     from e stands =
         let x : NewEntry = (e.digest, e.path) in
         (entry_line x, item_on_line entry_line entries e.line x stands, reads_at e.line x stands, first_named e.line x stands)
@@ -103,19 +104,19 @@ module _ (kind : Kind) (alg : Alg) where
     lines_are : lines_of_file bytes ≡ here
     lines_are = file_lines entry_line entries (written_each entries all)
 
-    no_fault : (code : Code) (f : LineFault) → ManifestFault code kind alg bytes f → ⊥
+    no_fault : (code : Code) (f : LineFault) → ManifestFault code V10 kind alg bytes f → ⊥
     no_fault NotUtf8 f w = let clash : true ≡ false = sym (is_text entry_line entries (written_each entries all)) ∙ w.2 in cc
     no_fault NamedAgain f (line, digest, is, read, again) =
         let stands = same_entry f.line line digest f.detail (subst (λ ls. IsLine ls f.line line) lines_are is) read in
-        first_named f.line (digest, f.detail) stands (subst (λ ls. Contains (named_before kind alg ls f.line) f.detail) lines_are again)
+        first_named f.line (digest, f.detail) stands (subst (λ ls. Contains (named_before V10 kind alg ls f.line) f.detail) lines_are again)
     no_fault code f w =
         let (x, stands, same) = line_of_item entry_line entries f.line w.0 (subst (λ ls. IsLine ls f.line w.0) lines_are w.1) in
-        no_reason x (code, f.detail) (sym (reads_at f.line x stands).1 ∙ sym (ap (manifest_line kind alg) same) ∙ w.2.1)
+        no_reason x (code, f.detail) (sym (reads_at f.line x stands).1 ∙ sym (ap (manifest_line V10 kind alg) same) ∙ w.2.1)
 
 pub manifest_again : ManifestIsReadAgain
 manifest_again kind alg entries texts can =
     let all = good_each kind alg entries (recursion_from_All _ entries texts) can.0 in
     let same = lines_are kind alg entries all can.1 in (
-      λ e. (λ is. to kind alg entries all can.1 e (subst (λ ls. IsEntry kind alg ls e) same is), λ stands. subst (λ ls. IsEntry kind alg ls e) (sym same) (from kind alg entries all can.1 e stands)),
+      λ e. (λ is. to kind alg entries all can.1 e (subst (λ ls. IsEntry V10 kind alg ls e) same is), λ stands. subst (λ ls. IsEntry V10 kind alg ls e) (sym same) (from kind alg entries all can.1 e stands)),
       λ f w. no_fault kind alg entries all can.1 f.code f w,
     )

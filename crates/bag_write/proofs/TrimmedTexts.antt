@@ -5,8 +5,7 @@ use Rattle.std.proofs.lemmas.List.{get_or-reverse, length-reverse}
 use Rattle.std.proofs.lemmas.List.Sums.{prefix_len_stops, suffix_len-le-length}
 use Rattle.std.proofs.lemmas.Option.{slice_get-get_or}
 use Rattle.std.proofs.lemmas.Slice.Eq.{bytes_eq-Decides}
-use Rattle.bag_text.specs.Text.{is_blank, trim, without_trailing_blanks}
-use Rattle.bag_line.specs.Info.{is_some_blank, ends_with_blank}
+use Rattle.bag_text.specs.Text.{is_blank, trim, without_trailing_blanks, is_some_blank, ends_with_blank}
 use Rattle.bag_line.proofs.LineParts.{not_false}
 use Rattle.bag_write.specs.Element.{has_outer_blank}
 

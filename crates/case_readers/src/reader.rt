@@ -1,7 +1,7 @@
 //! What a row is read by.
 use crate::{plans, profiles, tag_files, texts, written};
 use bag_tags::Kind;
-use bag_text::Alg;
+use bag_text::{Alg, Rules};
 use case_files::Mistake;
 use std::alloc::Global;
 use std::str;
@@ -11,12 +11,12 @@ use std::str;
 pub enum Reader {
     /// What `bagit.txt` declares.
     Declaration,
-    /// What `bag-info.txt` says.
-    Info,
+    /// What `bag-info.txt` says by the rules of a version.
+    Info(Rules),
     /// What `fetch.txt` says.
-    Fetch,
+    Fetch(Rules),
     /// What a manifest of an algorithm says.
-    Manifest(Kind, Alg),
+    Manifest(Rules, Kind, Alg),
     Profile,
     /// The text that bytes are.
     Text,
@@ -29,7 +29,7 @@ pub enum Reader {
     Line,
     /// The spelling of a path in a manifest.
     Escape,
-    Unescape,
+    Unescape(Rules),
     Path,
     Trim,
     /// The numbered lines of a text.
@@ -52,15 +52,15 @@ pub enum Reader {
 /// The readers that have a name of one word.
 const ONE_WORD: [(&str, Reader); 19] = [
     ("declaration", Reader::Declaration),
-    ("info", Reader::Info),
-    ("fetch", Reader::Fetch),
+    ("info", Reader::Info(Rules::V10)),
+    ("fetch", Reader::Fetch(Rules::V10)),
     ("profile", Reader::Profile),
     ("text", Reader::Text),
     ("write-info", Reader::WriteInfo),
     ("oxum", Reader::Oxum),
     ("line", Reader::Line),
     ("escape", Reader::Escape),
-    ("unescape", Reader::Unescape),
+    ("unescape", Reader::Unescape(Rules::V10)),
     ("path", Reader::Path),
     ("trim", Reader::Trim),
     ("lines", Reader::Lines),
@@ -73,12 +73,14 @@ const ONE_WORD: [(&str, Reader); 19] = [
 ];
 
 impl Reader {
-    /// The reader that words ask for, as `manifest md5`.
+    /// The reader that words ask for, as `manifest md5`; with `0.97` behind them by the rules of that version.
     pub fn of(words: &[&str]) -> Result<Reader, Mistake> {
         match words {
             ["plan"] => Ok(Reader::Plan),
             [word] => Reader::of_word(*word),
+            [word, "0.97"] => Reader::of_older(*word),
             [word, alg] => Reader::of_alg(*word, *alg),
+            [word, alg, "0.97"] => Reader::of_older_alg(*word, *alg),
             _ => Err(Mistake::Command),
         }
     }
@@ -92,13 +94,33 @@ impl Reader {
         Err(Mistake::Command)
     }
 
+    fn of_older(word: &str) -> Result<Reader, Mistake> {
+        match word {
+            "info" => Ok(Reader::Info(Rules::V097)),
+            "fetch" => Ok(Reader::Fetch(Rules::V097)),
+            "unescape" => Ok(Reader::Unescape(Rules::V097)),
+            _ => Err(Mistake::Command),
+        }
+    }
+
+    fn of_older_alg(word: &str, alg: &str) -> Result<Reader, Mistake> {
+        let Some(alg) = Alg::from_name(alg) else {
+            return Err(Mistake::Command);
+        };
+        match word {
+            "manifest" => Ok(Reader::Manifest(Rules::V097, Kind::Payload, alg)),
+            "tagmanifest" => Ok(Reader::Manifest(Rules::V097, Kind::Tag, alg)),
+            _ => Err(Mistake::Command),
+        }
+    }
+
     fn of_alg(word: &str, alg: &str) -> Result<Reader, Mistake> {
         let Some(alg) = Alg::from_name(alg) else {
             return Err(Mistake::Command);
         };
         match word {
-            "manifest" => Ok(Reader::Manifest(Kind::Payload, alg)),
-            "tagmanifest" => Ok(Reader::Manifest(Kind::Tag, alg)),
+            "manifest" => Ok(Reader::Manifest(Rules::V10, Kind::Payload, alg)),
+            "tagmanifest" => Ok(Reader::Manifest(Rules::V10, Kind::Tag, alg)),
             "write-manifest" => Ok(Reader::WriteManifest(Kind::Payload, alg)),
             "write-tagmanifest" => Ok(Reader::WriteManifest(Kind::Tag, alg)),
             "digest" => Ok(Reader::Digest(alg)),
@@ -110,9 +132,11 @@ impl Reader {
     pub fn read(self, alloc: Global, bytes: &[u8], out: &mut Vec<u8>) -> Result<(), Mistake> {
         match self {
             Reader::Declaration => tag_files::declaration(alloc, bytes, out),
-            Reader::Info => tag_files::info(alloc, bytes, out),
-            Reader::Fetch => tag_files::fetch(alloc, bytes, out),
-            Reader::Manifest(kind, alg) => tag_files::manifest(alloc, kind, alg, bytes, out),
+            Reader::Info(rules) => tag_files::info(alloc, rules, bytes, out),
+            Reader::Fetch(rules) => tag_files::fetch(alloc, rules, bytes, out),
+            Reader::Manifest(rules, kind, alg) => {
+                tag_files::manifest(alloc, rules, kind, alg, bytes, out)
+            }
             Reader::Profile => profiles::profile(alloc, bytes, out),
             Reader::Text => texts::text(bytes, out),
             Reader::Digest(alg) => texts::digest(alloc, alg, bytes, out),
@@ -131,7 +155,7 @@ impl Reader {
             Reader::Oxum => texts::oxum(text, out),
             Reader::Line => texts::line(alloc, text, out),
             Reader::Escape => texts::escaped(alloc, text, out),
-            Reader::Unescape => texts::unescaped(alloc, text, out),
+            Reader::Unescape(rules) => texts::unescaped(alloc, rules, text, out),
             Reader::Lines => texts::numbered(text, out),
             Reader::Blanks => texts::parted(text, out),
             Reader::Algorithm => texts::algorithm(text, out),

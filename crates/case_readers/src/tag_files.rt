@@ -3,7 +3,7 @@ use bag_tags::{
     Kind, LineFault, ManifestEntry, TagName, manifest_alg, read_declaration, read_fetch, read_info,
     read_manifest,
 };
-use bag_text::{Alg, Text};
+use bag_text::{Alg, Rules, Text};
 use case_files::Mistake;
 use std::alloc::Global;
 use std::io::Write;
@@ -33,8 +33,13 @@ pub(crate) fn declaration(alloc: Global, bytes: &[u8], out: &mut Vec<u8>) -> Res
 }
 
 /// What metadata says: each element's line, label and value, and the faults.
-pub(crate) fn info(alloc: Global, bytes: &[u8], out: &mut Vec<u8>) -> Result<(), Mistake> {
-    let parsed = read_info(alloc, bytes)?;
+pub(crate) fn info(
+    alloc: Global,
+    rules: Rules,
+    bytes: &[u8],
+    out: &mut Vec<u8>,
+) -> Result<(), Mistake> {
+    let parsed = read_info(alloc, rules, bytes)?;
     for element in parsed.items.as_slice() {
         let line = element.line;
         write!(out, "{line}<{}><{}>|", element.label, element.value)?;
@@ -43,8 +48,13 @@ pub(crate) fn info(alloc: Global, bytes: &[u8], out: &mut Vec<u8>) -> Result<(),
 }
 
 /// What `fetch.txt` says: each entry's line, URL, length and path, and the faults.
-pub(crate) fn fetch(alloc: Global, bytes: &[u8], out: &mut Vec<u8>) -> Result<(), Mistake> {
-    let parsed = read_fetch(alloc, bytes)?;
+pub(crate) fn fetch(
+    alloc: Global,
+    rules: Rules,
+    bytes: &[u8],
+    out: &mut Vec<u8>,
+) -> Result<(), Mistake> {
+    let parsed = read_fetch(alloc, rules, bytes)?;
     for entry in parsed.items.as_slice() {
         let line = entry.line;
         write!(out, "{line} {} {} {}|", entry.url, entry.length, entry.path)?;
@@ -63,12 +73,13 @@ fn put_entry(alloc: Global, entry: &ManifestEntry, out: &mut Vec<u8>) -> Result<
 /// What a manifest says: each entry's line, digest and path, and the faults.
 pub(crate) fn manifest(
     alloc: Global,
+    rules: Rules,
     kind: Kind,
     alg: Alg,
     bytes: &[u8],
     out: &mut Vec<u8>,
 ) -> Result<(), Mistake> {
-    let parsed = read_manifest(alloc, kind, alg, bytes)?;
+    let parsed = read_manifest(alloc, rules, kind, alg, bytes)?;
     for entry in parsed.items.as_slice() {
         put_entry(alloc, entry, out)?;
     }

@@ -4,8 +4,8 @@ use bag_profile::matches;
 use bag_store::Digests;
 use bag_tags::{Oxum, oxum_of};
 use bag_text::{
-    Alg, AlgSet, Code, check_path, escape_path, is_blank_line, is_payload, lines, same_label,
-    split_at_blanks, text_of, trim, unescape_path,
+    Alg, AlgSet, Code, Rules, check_path, escape_path, is_blank_line, is_payload, lines,
+    same_label, split_at_blanks, text_of, trim, unescape_path,
 };
 use case_files::Mistake;
 use std::alloc::Global;
@@ -59,8 +59,13 @@ pub(crate) fn escaped(alloc: Global, path: &str, out: &mut Vec<u8>) -> Result<()
 }
 
 /// The path of a spelling.
-pub(crate) fn unescaped(alloc: Global, text: &str, out: &mut Vec<u8>) -> Result<(), Mistake> {
-    match unescape_path(alloc, text) {
+pub(crate) fn unescaped(
+    alloc: Global,
+    rules: Rules,
+    text: &str,
+    out: &mut Vec<u8>,
+) -> Result<(), Mistake> {
+    match unescape_path(alloc, rules, text) {
         Ok(path) => out.extend_from_slice(path.as_bytes())?,
         Err(refused) => write!(out, "{refused}")?,
     }

@@ -1,13 +1,14 @@
-//! A plain reader of `fetch.txt` that tries each prefix of a line, over some hundred texts, and one of thousands of lines.
+//! A plain reader of `fetch.txt` that tries each prefix of a line, by the rules of each version, over some hundred texts, and one of
+//! thousands of lines; and the paths that it reads in all short spellings.
 use crate::parts::combined;
 use bag_line::read_fetch;
-use bag_text::trim;
+use bag_text::{Rules, trim, unescape_path};
 use std::alloc::Global;
 use std::process::Abort;
 
 /// What `fetch.txt` says: each entry's line, URL, length and path, then each fault's code, line and detail.
-fn said(stop: &impl Abort, alloc: Global, bytes: &[u8]) -> String {
-    let parsed = read_fetch(alloc, bytes).expect(stop, "succeeds");
+fn said(stop: &impl Abort, alloc: Global, rules: Rules, bytes: &[u8]) -> String {
+    let parsed = read_fetch(alloc, rules, bytes).expect(stop, "succeeds");
     let mut text = String::new(alloc);
     for entry in parsed.items.as_slice() {
         let (line, url, length, path) = (entry.line, &entry.url, &entry.length, &entry.path);
@@ -69,27 +70,30 @@ fn parts_of(line: &str) -> Option<(&str, &str, &str)> {
 }
 
 /// The character that an escape stands for, by its digits.
-fn escaped(digits: &str) -> Option<&'static str> {
+fn escaped(rules: Rules, digits: &str) -> Option<&'static str> {
     match digits {
-        "25" => Some("%"),
+        "25" => (rules == Rules::V10).then_some("%"),
         "0A" | "0a" => Some("\n"),
         "0D" | "0d" => Some("\r"),
         _ => None,
     }
 }
 
-/// Writes the path of a spelling, if it is one: what stands behind each `%` begins with the two digits of an escape.
-fn write_path(stop: &impl Abort, spelling: &str, path: &mut String) -> bool {
+/// Writes the path of a spelling, if it is one: what stands behind each `%` begins with the two digits of an escape; by the rules of
+/// 0.97 it may be something else, and the `%` is then itself.
+fn write_path(stop: &impl Abort, rules: Rules, spelling: &str, path: &mut String) -> bool {
     let mut pieces = spelling.split('%');
     path.push_str(pieces.next().unwrap_or(""))
         .expect(stop, "succeeds");
     for piece in pieces {
-        let Some(character) = escaped(piece.get(..2).unwrap_or("")) else {
-            return false;
+        let (character, behind) = match escaped(rules, piece.get(..2).unwrap_or("")) {
+            Some(character) => (character, piece.get(2..).unwrap_or("")),
+            None => ("%", piece),
         };
-        path.push_str(character).expect(stop, "succeeds");
-        path.push_str(piece.get(2..).unwrap_or(""))
-            .expect(stop, "succeeds");
+        if rules == Rules::V10 && behind == piece {
+            return false;
+        }
+        write!(path, "{character}{behind}").expect(stop, "succeeds");
     }
     true
 }
@@ -108,13 +112,14 @@ fn refusal(path: &str) -> u16 {
 fn judge_path(
     stop: &impl Abort,
     alloc: Global,
+    rules: Rules,
     number: usize,
     (url, length, spelling): (&str, &str, &str),
     entries: &mut String,
     faults: &mut String,
 ) {
     let mut path = String::new(alloc);
-    if !write_path(stop, spelling, &mut path) {
+    if !write_path(stop, rules, spelling, &mut path) {
         write!(faults, "402 {number} {spelling}|").expect(stop, "succeeds");
         return;
     }
@@ -128,35 +133,72 @@ fn judge_path(
 fn judge(
     stop: &impl Abort,
     alloc: Global,
-    number: usize,
-    line: &str,
+    rules: Rules,
+    (number, line): (usize, &str),
     entries: &mut String,
     faults: &mut String,
 ) {
     match parts_of(line) {
-        Some(parts) => judge_path(stop, alloc, number, parts, entries, faults),
+        Some(parts) => judge_path(stop, alloc, rules, number, parts, entries, faults),
         None => write!(faults, "401 {number} |").expect(stop, "succeeds"),
     }
 }
 
 /// What the plain reader reads in the lines of a text.
-fn read_plainly(stop: &impl Abort, alloc: Global, text: &str) -> String {
+fn read_plainly(stop: &impl Abort, alloc: Global, rules: Rules, text: &str) -> String {
     let mut entries = String::new(alloc);
     let mut faults = String::new(alloc);
     for (place, line) in text.lines().enumerate() {
         let (_, behind) = longest(line, true);
         if !behind.is_empty() {
             let number = place.saturating_add(1);
-            judge(stop, alloc, number, line, &mut entries, &mut faults);
+            judge(
+                stop,
+                alloc,
+                rules,
+                (number, line),
+                &mut entries,
+                &mut faults,
+            );
         }
     }
     entries.push_str(faults.as_str()).expect(stop, "succeeds");
     entries
 }
 
-/// Whether the reader reads in a text what the plain reader reads.
+/// Whether the reader reads in a text what the plain reader reads, by the rules of each version.
 fn reads_alike(stop: &impl Abort, alloc: Global, text: &str) -> bool {
-    said(stop, alloc, text.as_bytes()) == read_plainly(stop, alloc, text)
+    for rules in [Rules::V10, Rules::V097] {
+        if said(stop, alloc, rules, text.as_bytes()) != read_plainly(stop, alloc, rules, text) {
+            return false;
+        }
+    }
+    true
+}
+
+/// Whether a spelling is read as the path that the plain reader reads in it, or as none.
+fn spells_alike(stop: &impl Abort, alloc: Global, rules: Rules, spelling: &str) -> bool {
+    let mut path = String::new(alloc);
+    let is_path = write_path(stop, rules, spelling, &mut path);
+    match unescape_path(alloc, rules, spelling) {
+        Ok(read) => is_path && read == path,
+        Err(_) => !is_path,
+    }
+}
+
+/// What spellings of up to five parts are put together from.
+const PIECES: &[&str] = &["%", "0", "a", "A", "d", "25", "é", ""];
+
+#[test]
+fn reads_all_short_spellings(rt: HostRuntime) {
+    for spelling in &combined(&rt, rt.alloc(), &[PIECES, PIECES, PIECES, PIECES, PIECES]) {
+        for rules in [Rules::V10, Rules::V097] {
+            assert!(rt;
+                spells_alike(&rt, rt.alloc(), rules, spelling.as_str()),
+                "{rules:?} {spelling}"
+            );
+        }
+    }
 }
 
 /// What may stand in a line before its path, part by part.

@@ -1,14 +1,14 @@
-//! A plain reader of `bag-info.txt` that looks back from each line, over all metadata of four lines of eight sorts, over lines
-//! that are put together from parts, and over thousands of lines.
+//! A plain reader of `bag-info.txt` that looks back from each line, by the rules of each version, over all metadata of four lines
+//! of eight sorts, over lines that are put together from parts, and over thousands of lines.
 use crate::parts::combined;
 use bag_line::read_info;
-use bag_text::trim;
+use bag_text::{Rules, trim};
 use std::alloc::Global;
 use std::process::Abort;
 
 /// What metadata says: each element's line, label and value, then each fault's code, line and detail.
-fn said(stop: &impl Abort, alloc: Global, bytes: &[u8]) -> String {
-    let parsed = read_info(alloc, bytes).expect(stop, "succeeds");
+fn said(stop: &impl Abort, alloc: Global, rules: Rules, bytes: &[u8]) -> String {
+    let parsed = read_info(alloc, rules, bytes).expect(stop, "succeeds");
     let mut text = String::new(alloc);
     for element in parsed.items.as_slice() {
         let (line, label, value) = (element.line, &element.label, &element.value);
@@ -25,11 +25,13 @@ fn is_first(line: &str) -> bool {
     !line.is_empty() && !line.starts_with(' ') && !line.starts_with('\t')
 }
 
-/// The label of a line that begins an element, and the part of the value that stands there.
-fn label_and_part(line: &str) -> Option<(&str, &str)> {
+/// The label of a line that begins an element, and the part of the value that stands there. By the rules of 0.97 blanks may
+/// stand before the colon, and none has to stand behind it.
+fn label_and_part(rules: Rules, line: &str) -> Option<(&str, &str)> {
     let (label, part) = line.split_once(":")?;
-    let has_label = is_first(label) && !label.ends_with(' ') && !label.ends_with('\t');
-    (has_label && !is_first(part)).then_some((label, trim(part)))
+    let is_tight = !label.ends_with(' ') && !label.ends_with('\t') && !is_first(part);
+    let splits = is_first(label) && (is_tight || rules == Rules::V097);
+    splits.then_some((trim(label), trim(part)))
 }
 
 fn has_first(lines: &[&str]) -> bool {
@@ -55,16 +57,22 @@ fn write_more(stop: &impl Abort, text: &mut String, lines: &[&str]) {
 }
 
 /// Whether a line is a fault: it begins no element, and should begin one, or goes on with none.
-fn is_fault(line: &str, above: &[&str]) -> bool {
-    label_and_part(line).is_none()
+fn is_fault(rules: Rules, line: &str, above: &[&str]) -> bool {
+    label_and_part(rules, line).is_none()
         && !trim(line).is_empty()
         && (is_first(line) || !has_first(above))
 }
 
 /// Writes the element that begins in the line of a place, where one does.
-fn write_element(stop: &impl Abort, text: &mut String, lines: &[&str], place: usize, line: &str) {
+fn write_element(
+    stop: &impl Abort,
+    text: &mut String,
+    rules: Rules,
+    lines: &[&str],
+    (place, line): (usize, &str),
+) {
     let number = place.saturating_add(1);
-    if let Some((label, part)) = label_and_part(line) {
+    if let Some((label, part)) = label_and_part(rules, line) {
         write!(text, "{number}<{label}><{part}").expect(stop, "succeeds");
         write_more(stop, text, lines.get(number..).unwrap_or(&[]));
         text.push_str(">|").expect(stop, "succeeds");
@@ -72,13 +80,13 @@ fn write_element(stop: &impl Abort, text: &mut String, lines: &[&str], place: us
 }
 
 /// What the plain reader reads in these lines.
-fn looked_back(stop: &impl Abort, alloc: Global, lines: &[&str]) -> String {
+fn looked_back(stop: &impl Abort, alloc: Global, rules: Rules, lines: &[&str]) -> String {
     let mut text = String::new(alloc);
     for (place, line) in lines.iter().enumerate() {
-        write_element(stop, &mut text, lines, place, line);
+        write_element(stop, &mut text, rules, lines, (place, line));
     }
     for (place, line) in lines.iter().enumerate() {
-        if is_fault(line, lines.get(..place).unwrap_or(&[])) {
+        if is_fault(rules, line, lines.get(..place).unwrap_or(&[])) {
             write!(text, "301 {} |", place.saturating_add(1)).expect(stop, "succeeds");
         }
     }
@@ -99,12 +107,17 @@ fn joined(stop: &impl Abort, alloc: Global, lines: &[&str], first_end: usize) ->
     text
 }
 
-/// The reader reads in these lines what the plain reader reads, whatever their ends.
+/// The reader reads in these lines what the plain reader reads, by the rules of each version and whatever their ends.
 fn reads_alike(rt: &impl Abort, alloc: Global, lines: &[&str]) {
-    let wanted = looked_back(rt, alloc, lines);
-    for first_end in 0..ENDS.len() {
-        let text = joined(rt, alloc, lines, first_end);
-        assert!(rt; said(rt, alloc, text.as_bytes()) == wanted, "{text:?}");
+    for rules in [Rules::V10, Rules::V097] {
+        let wanted = looked_back(rt, alloc, rules, lines);
+        for first_end in 0..ENDS.len() {
+            let text = joined(rt, alloc, lines, first_end);
+            assert!(rt;
+                said(rt, alloc, rules, text.as_bytes()) == wanted,
+                "{rules:?} {text:?}"
+            );
+        }
     }
 }
 

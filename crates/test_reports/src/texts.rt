@@ -1,5 +1,5 @@
 //! Texts that are kept, thousands of them, and a long one.
-use bag_text::{Items, Text, escape_path, unescape_path};
+use bag_text::{Items, Rules, Text, escape_path, unescape_path};
 use std::alloc::Global;
 use std::process::Abort;
 
@@ -43,7 +43,7 @@ fn keeps_items(rt: HostRuntime) {
 fn is_spelled_in(stop: &impl Abort, alloc: Global, path: &str, count: usize) -> bool {
     let text = escape_path(alloc, path).expect(stop, "succeeds");
     text.len() == count
-        && unescape_path(alloc, text.as_str())
+        && unescape_path(alloc, Rules::V10, text.as_str())
             .expect(stop, "succeeds")
             .as_str()
             == path

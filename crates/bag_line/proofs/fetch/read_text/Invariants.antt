@@ -7,5 +7,5 @@ use Rattle.bag_line.proofs.fetch.read_text.Given as goal
 
 abbrev pub invariant-loop-number : goal.invariant-loop-number
 invariant-loop-number l =
-    (l.items ++ entries (numbered_rest l.number-iterator) ≡ entries (enumerate_from 1 (cut.lines l.text)))
-    × (l.faults ++ faults (numbered_rest l.number-iterator) ≡ faults (enumerate_from 1 (cut.lines l.text)))
+    (l.items ++ entries l.fn.rules (numbered_rest l.number-iterator) ≡ entries l.fn.rules (enumerate_from 1 (cut.lines l.text)))
+    × (l.faults ++ faults l.fn.rules (numbered_rest l.number-iterator) ≡ faults l.fn.rules (enumerate_from 1 (cut.lines l.text)))

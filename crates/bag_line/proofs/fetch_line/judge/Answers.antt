@@ -11,7 +11,7 @@ returns-then-lacks_part c =
     let behind = c.split_at_blanks.ensures.back in
     let next = c.split_at_blanks-2.ensures.front ∙ ap before_blank behind in
     let last = c.split_at_blanks-2.ensures.back ∙ ap after_blanks behind in
-    IfOk-weaker c.fault.result _ _ (λ v e. e ∙ line_lacking c.args.line.now _ _ _ first next last (sym c.if-lacks_part.ensures)) c.fault.ensures
+    IfOk-weaker c.fault.result _ _ (λ v e. e ∙ line_lacking c.args.rules c.args.line.now _ _ _ first next last (sym c.if-lacks_part.ensures)) c.fault.ensures
 
 pub returns : goal.returns
 returns c =
@@ -19,5 +19,5 @@ returns c =
     let behind = c.split_at_blanks.ensures.back in
     let next = c.split_at_blanks-2.ensures.front ∙ ap before_blank behind in
     let last = c.split_at_blanks-2.ensures.back ∙ ap after_blanks behind in
-    let written = ap (verdict_by_spelling _ _) c.spelling_in.ensures in
-    IfOk-weaker c.judge_spelling.result _ _ (λ v e. e ∙ written ∙ line_with_parts c.args.line.now _ _ _ first next last (sym c.if-lacks_part.ensures)) c.judge_spelling.ensures
+    let written = ap (verdict_by_spelling c.args.rules _ _) c.spelling_in.ensures in
+    IfOk-weaker c.judge_spelling.result _ _ (λ v e. e ∙ written ∙ line_with_parts c.args.rules c.args.line.now _ _ _ first next last (sym c.if-lacks_part.ensures)) c.judge_spelling.ensures

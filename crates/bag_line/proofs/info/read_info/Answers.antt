@@ -15,26 +15,30 @@ use Rattle.bag_line.proofs.info.read_info.Goals as goal
 
 pub returns-in-Ok-clause-items : goal.returns-in-Ok-clause-items
 returns-in-Ok-clause-items c =
+    let rules = c.args.rules in
     let bytes = c.args.bytes.now in
     let text : text_of bytes ≡ Some c.in-Ok.text.now = c.in-Ok.ensures.text in
-    let these = subst (λ all. IsListOf (on (λ e. e.line) nat_cmp) (IsElement (lines_of_file bytes)) (elements (enumerate_from 1 all))) (ap lines_of_text text) (elements_of (lines_of_file bytes)) in
-    IfOk-weaker c.read_text.result _ _ (λ parsed e. subst (IsListOf (on (λ e. e.line) nat_cmp) (IsElement (lines_of_file bytes))) (sym e) these) c.read_text.ensures.items
+    let these = subst (λ all. IsListOf (on (λ e. e.line) nat_cmp) (IsElement rules (lines_of_file bytes)) (elements rules (enumerate_from 1 all))) (ap lines_of_text text) (elements_of rules (lines_of_file bytes)) in
+    IfOk-weaker c.read_text.result _ _ (λ parsed e. subst (IsListOf (on (λ e. e.line) nat_cmp) (IsElement rules (lines_of_file bytes))) (sym e) these) c.read_text.ensures.items
 
 pub returns-in-Ok-clause-faults : goal.returns-in-Ok-clause-faults
 returns-in-Ok-clause-faults c =
+    let rules = c.args.rules in
     let bytes = c.args.bytes.now in
     let text : text_of bytes ≡ Some c.in-Ok.text.now = c.in-Ok.ensures.text in
-    let these = subst (λ all. AreFaults (IsInfoFault bytes) (faults false (enumerate_from 1 all))) (ap lines_of_text text) (faults_of_text bytes (is_text bytes _ text)) in
-    IfOk-weaker c.read_text.result _ _ (λ parsed e. subst (AreFaults (IsInfoFault bytes)) (sym e) these) c.read_text.ensures.faults
+    let these = subst (λ all. AreFaults (IsInfoFault rules bytes) (faults rules false (enumerate_from 1 all))) (ap lines_of_text text) (faults_of_text rules bytes (is_text bytes _ text)) in
+    IfOk-weaker c.read_text.result _ _ (λ parsed e. subst (AreFaults (IsInfoFault rules bytes)) (sym e) these) c.read_text.ensures.faults
 
 pub returns-in-Err-clause-items : goal.returns-in-Err-clause-items
 returns-in-Err-clause-items c =
+    let rules = c.args.rules in
     let bytes = c.args.bytes.now in
-    let exact = elements_of_no_text bytes (is_no_text bytes c.in-Err.ensures.text) in
-    IfOk-weaker c.unread.result _ _ (λ parsed e. subst (IsListOf (on (λ e. e.line) nat_cmp) (IsElement (lines_of_file bytes))) (sym e) exact) c.unread.ensures.items
+    let exact = elements_of_no_text rules bytes (is_no_text bytes c.in-Err.ensures.text) in
+    IfOk-weaker c.unread.result _ _ (λ parsed e. subst (IsListOf (on (λ e. e.line) nat_cmp) (IsElement rules (lines_of_file bytes))) (sym e) exact) c.unread.ensures.items
 
 pub returns-in-Err-clause-faults : goal.returns-in-Err-clause-faults
 returns-in-Err-clause-faults c =
+    let rules = c.args.rules in
     let bytes = c.args.bytes.now in
-    let exact = faults_of_no_text bytes (is_no_text bytes c.in-Err.ensures.text) in
-    IfOk-weaker c.unread.result _ _ (λ parsed e. subst (AreFaults (IsInfoFault bytes)) (sym e) exact) c.unread.ensures.faults
+    let exact = faults_of_no_text rules bytes (is_no_text bytes c.in-Err.ensures.text) in
+    IfOk-weaker c.unread.result _ _ (λ parsed e. subst (AreFaults (IsInfoFault rules bytes)) (sym e) exact) c.unread.ensures.faults

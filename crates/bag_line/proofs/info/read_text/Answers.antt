@@ -10,6 +10,6 @@ loop-number-preserved c =
     let n = c.in-Some.number in
     let line = c.in-Some.line.now in
     let rest = numbered_rest c.next.new.self in (
-      ap (λ s. all_elements s rest) c.in_ok-read_line.ensures ∙ elements_kept r n line rest ∙ ap (all_elements r) (sym c.in-Some.ensures.steps) ∙ c.loop-number.invariant.0,
-      ap (λ s. all_faults s rest) c.in_ok-read_line.ensures ∙ faults_kept r n line rest ∙ ap (all_faults r) (sym c.in-Some.ensures.steps) ∙ c.loop-number.invariant.1,
+      ap (λ s. all_elements c.args.rules s rest) c.in_ok-read_line.ensures ∙ elements_kept c.args.rules r n line rest ∙ ap (all_elements c.args.rules r) (sym c.in-Some.ensures.steps) ∙ c.loop-number.invariant.0,
+      ap (λ s. all_faults c.args.rules s rest) c.in_ok-read_line.ensures ∙ faults_kept c.args.rules r n line rest ∙ ap (all_faults c.args.rules r) (sym c.in-Some.ensures.steps) ∙ c.loop-number.invariant.1,
     )

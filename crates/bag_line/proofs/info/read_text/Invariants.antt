@@ -7,5 +7,5 @@ use Rattle.bag_line.proofs.info.read_text.Given as goal
 
 abbrev pub invariant-loop-number : goal.invariant-loop-number
 invariant-loop-number l =
-    (all_elements l.reader (numbered_rest l.number-iterator) ≡ elements (enumerate_from 1 (cut.lines l.text)))
-    × (all_faults l.reader (numbered_rest l.number-iterator) ≡ faults false (enumerate_from 1 (cut.lines l.text)))
+    (all_elements l.fn.rules l.reader (numbered_rest l.number-iterator) ≡ elements l.fn.rules (enumerate_from 1 (cut.lines l.text)))
+    × (all_faults l.fn.rules l.reader (numbered_rest l.number-iterator) ≡ faults l.fn.rules false (enumerate_from 1 (cut.lines l.text)))

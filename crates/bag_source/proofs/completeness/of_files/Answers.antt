@@ -1,17 +1,20 @@
 use Rattle.std.specs.Option.{option_copied}
-use Rattle.bag_words.specs.declared.alg.Alg.TheVariants.{Md5}
-use Rattle.bag_source.proofs.StageSix.{all_algs, no_alg_yet, one_alg_more}
+use Rattle.std.proofs.lemmas.Result.{IfOk-weaker}
+use Rattle.bag_text.specs.Order.{IsListOf}
+use Rattle.bag_fault.specs.FaultOrder.{fault_cmp}
+use Rattle.bag_completeness.specs.CompletenessFaults.{IsUnlistedInAll}
+use Rattle.bag_source.specs.Completeness.{IsAbove}
+use Rattle.bag_source.proofs.StageSix.{algs_and_all}
+use Rattle.bag_source.proofs.UnitedLists.{cut_above}
 use Rattle.bag_source.proofs.completeness.of_files.Goals as goal
 
-pub loop-alg-init : goal.loop-alg-init
-loop-alg-init c = λ bag facts deep. rw c.new-faults.ensures.items (no_alg_yet (option_copied c.args.after) bag)
-
-pub loop-alg-preserved : goal.loop-alg-preserved
-loop-alg-preserved c = λ bag facts deep.
-    let so_far = c.loop-alg.invariant bag facts deep in
-    let next = c.in_ok-of_alg.ensures bag facts deep in
-    rw (c.in_ok-faults.ensures so_far.ascending next.ascending)
-    (one_alg_more (option_copied c.args.after) bag c.loop-alg.alg-index Md5 c.loop-alg.faults.items c.in_ok-of_alg.of_alg.items c.loop-alg-test.true so_far next)
-
 pub returns : goal.returns
-returns c = λ bag facts deep. all_algs (option_copied c.args.after) bag c.loop-alg.alg-index c.loop-alg.faults.items c.loop-alg-test.false (c.loop-alg.invariant bag facts deep)
+returns c = IfOk-weaker c.merged.result _ _
+    (λ faults is bag facts deep.
+    let after = option_copied c.args.after in
+    let algs = c.in_ok-of_algs.ensures bag facts deep in
+    let all : IsListOf fault_cmp (IsAbove after (IsUnlistedInAll bag)) c.above-of_all.result.items =
+    rw c.above-of_all.ensures (cut_above after (IsUnlistedInAll bag) c.in_ok-unlisted_in_all.field-0.items (c.in_ok-unlisted_in_all.ensures bag facts deep)) in
+    rw (is algs.ascending all.ascending)
+    (algs_and_all after bag c.in_ok-of_algs.of_algs.items c.above-of_all.result.items algs all))
+    c.merged.ensures

@@ -10,7 +10,7 @@ returns-then-not-list c = λ bag facts deep.
 
 pub returns : goal.returns
 returns c = λ bag facts deep.
-    rw c.in_ok-append.ensures.items
-    (fetch_list_listed bag c.in-Some.list.now c.in_ok-faults.faults.items c.in_ok-of_manifests.of_manifests.items (c.in-Some.ensures bag facts deep) c.if-not-list.false
+    fetch_list_listed bag c.in-Some.list.now c.in_ok-faults.faults.items c.in_ok-of_manifests.of_manifests.items c.sort_unstable.new.self.items (c.in-Some.ensures bag facts deep) c.if-not-list.false
     (rw (c.as_slice.ensures, c.in_ok-path.ensures) at c.in_ok-faults.ensures)
-    (λ fetched. c.in_ok-of_manifests.ensures bag facts deep c.in_ok-path.ensures (rw c.as_slice-2.ensures fetched)))
+    (λ fetched. c.in_ok-of_manifests.ensures bag facts deep c.in_ok-path.ensures (rw c.as_slice-2.ensures fetched))
+    (rw c.in_ok-append.ensures.items at c.sort_unstable.ensures.permutation) c.sort_unstable.ensures.sorted

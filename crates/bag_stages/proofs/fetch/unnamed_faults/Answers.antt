@@ -1,4 +1,4 @@
-use Rattle.std.proofs.Common.{◌≡◌, ◌∷◌, [], false, true, sym, ◌∙◌, subst, append-nil}
+use Rattle.std.proofs.Common.{◌≡◌, ◌∷◌, [], Some, false, true, sym, ◌∙◌, subst, append-nil}
 use Rattle.std.specs.Ordering.{nat_cmp, on}
 use Rattle.bag_text.specs.Order.{IsListOf}
 use Rattle.bag_fault.specs.FaultOrder.{fault_cmp}
@@ -20,10 +20,10 @@ loop-entry-preserved c = λ ordered sorted.
     let m = c.args.manifest.now in
     let entry = c.entry-item.result in
     let before = c.loop-entry.faults.items in
-    let more = one_item_more (on (λ e. e.line) nat_cmp) (IsNotNamed path m.alg m.entries) (less_by_line path m.alg m.entries) c.args.entries.now c.loop-entry.entry-index entry before in
+    let more = one_item_more (on (λ e. e.line) nat_cmp) (IsNotNamed path m.alg m.entries) (λ e g x y a b. less_by_line path (Some m.alg) e g x y a.0 b.0) c.args.entries.now c.loop-entry.entry-index entry before in
     elim c.if-not-names.branch [
       | then-not-names+in_ok-unnamed_fault+in_ok-push w ↦ rw (w.faults-is, w.in_ok-push.ensures.items, w.in_ok-unnamed_fault.ensures)
-          (more (not_in_manifest path m.alg entry ∷ []) sorted c.loop-entry-test.true c.entry-item.is (c.loop-entry.invariant ordered sorted)
+          (more (not_in_manifest path (Some m.alg) entry ∷ []) sorted c.loop-entry-test.true c.entry-item.is (c.loop-entry.invariant ordered sorted)
           (unnamed_listed path m.alg m.entries entry (λ has. let clash : false ≡ true = sym w.if-not-names.true ∙ (c.names.ensures ordered).1 has in cc)))
       | else-not-names w ↦ rw (w.faults-is, sym (append-nil before))
           (more [] sorted c.loop-entry-test.true c.entry-item.is (c.loop-entry.invariant ordered sorted)

@@ -22,7 +22,7 @@ loop-tag-preserved c = λ bag facts.
     let more = one_tag_more bag all tags c.loop-tag.tag-index tag before in
     elim c.match-tag.branch [
       | in-Manifest+in_ok-of_manifest+in_ok-append w ↦ rw (w.faults-is, w.in_ok-append.ensures.items) (more w.in_ok-of_manifest.of_manifest.items facts c.as_slice-tag-items.ensures c.loop-tag-test.true c.tag-item.is
-          (c.loop-tag.invariant bag facts) (of_manifest_listed bag tag w.in-Manifest.manifest w.in_ok-of_manifest.of_manifest.items w.in-Manifest.is said (λ of. w.in_ok-of_manifest.ensures bag files ordered.ascending of)))
+          (c.loop-tag.invariant bag facts) (of_manifest_listed bag tag w.in-Manifest.manifest w.in_ok-of_manifest.of_manifest.items w.in-Manifest.is said (λ of. w.in_ok-of_manifest.ensures bag (c.rules-rules.ensures bag facts) files ordered.ascending of)))
       | in_default w ↦ rw (w.faults-is, sym (append-nil before)) (more [] facts c.as_slice-tag-items.ensures c.loop-tag-test.true c.tag-item.is
           (c.loop-tag.invariant bag facts) (no_manifest_listed bag tag w.in_default.not-Manifest))
     ]

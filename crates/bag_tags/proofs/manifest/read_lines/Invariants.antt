@@ -8,6 +8,6 @@ use Rattle.bag_tags.proofs.manifest.read_lines.Given as goal
 
 abbrev pub invariant-loop-line : goal.invariant-loop-line
 invariant-loop-line l = record {
-  entries : l.items ++ filter_map entry_of (judged_all l.kind l.alg (numbered_rest l.line-iterator)) ≡ filter_map entry_of (judged_all l.kind l.alg (enumerate_from 1 (cut.lines l.text)));
-  wrong : l.faults ++ filter_map fault_of (judged_all l.kind l.alg (numbered_rest l.line-iterator)) ≡ filter_map fault_of (judged_all l.kind l.alg (enumerate_from 1 (cut.lines l.text)));
+  entries : l.items ++ filter_map entry_of (judged_all l.fn.rules l.kind l.alg (numbered_rest l.line-iterator)) ≡ filter_map entry_of (judged_all l.fn.rules l.kind l.alg (enumerate_from 1 (cut.lines l.text)));
+  wrong : l.faults ++ filter_map fault_of (judged_all l.fn.rules l.kind l.alg (numbered_rest l.line-iterator)) ≡ filter_map fault_of (judged_all l.fn.rules l.kind l.alg (enumerate_from 1 (cut.lines l.text)));
 }

@@ -1,4 +1,4 @@
-use Rattle.bag_text.proofs.SpellingLaws.{spellings}
+use Rattle.bag_text.proofs.LineEnds.{spellings}
 use Rattle.bag_text.proofs.laws.unescaped_is_spelled.Goals as goal
 
 pub returns : goal.returns

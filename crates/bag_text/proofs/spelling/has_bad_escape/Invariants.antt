@@ -7,7 +7,7 @@ use Rattle.bag_text.proofs.spelling.has_bad_escape.Given as goal
 abbrev pub invariant-loop-after : goal.invariant-loop-after
 invariant-loop-after l = record {
   utf8 : shadow (Utf8 l.rest);
-  alike : (spec.unescaped l.fn.text ≡ None) ↔ (spec.unescaped l.rest ≡ None);
+  alike : (spec.unescaped_strictly l.fn.text ≡ None) ↔ (spec.unescaped_strictly l.rest ≡ None);
 }
 
 abbrev pub decreases-loop-after : goal.decreases-loop-after

@@ -11,7 +11,7 @@ returns c =
     let wrong = c.in_ok-items.ensures.faults in
     let is = subst (λ some. IsTrue c.is_text.result ↔ ¬ (Any (λ fault. fault.code ≡ NotUtf8) some)) c.as_slice.ensures c.is_text.ensures in
     record {
-      text = text_told bytes (λ code. InfoFault code bytes) (λ none. (refl, refl, none)) (λ fault h. h.2) faults wrong c.is_text.result is;
+      text = text_told bytes (λ code. InfoFault c.args.rules code bytes) (λ none. (refl, refl, none)) (λ fault h. h.2) faults wrong c.is_text.result is;
       elements = c.in_ok-items.ensures.items;
       faults = wrong;
     }

@@ -7,7 +7,7 @@ use Rattle.bag_facts.specs.Facts.{IsFactsOf}
 use Rattle.bag_facts.specs.declared.options.Depth.TheVariants.{Declaration}
 use Rattle.bag_stages.proofs.ByItem.{OfSome}
 use Rattle.bag_source.specs.Completeness.{IsAbove, IsOfAlg}
-use Rattle.bag_source.proofs.completeness.of_files.Given as goal
+use Rattle.bag_source.proofs.completeness.of_algs.Given as goal
 
 abbrev pub invariant-loop-alg : goal.invariant-loop-alg
 invariant-loop-alg l =

@@ -1,0 +1,59 @@
+-- The rules of what was read are those of the bag.
+use Rattle.std.proofs.Common.{◌≡◌, inl, inr, ℕ, List, Option, None, Some, refl, sym, ap, ◌∙◌, is_some, map, Contains, Any}
+use Rattle.std.specs.Prelude.{option_and_then}
+use Rattle.bag_text.specs.Rules.{rules_of}
+use Rattle.bag_text.specs.declared.rules.Rules.{Rules}
+use Rattle.bag_declaration.specs.Declaration.{declared_version}
+use Rattle.bag_declaration.specs.declared.declaration.Declaration as declared
+use Rattle.bag_tags.specs.TagName.{tag_path}
+use Rattle.bag_tags.specs.declared.tag_name.TagName.TheVariants.{Declaration}
+use Rattle.bag_tags.proofs.TagPaths.{paths_differ}
+use Rattle.bag_tree.specs.Bag.{Bag, file}
+use Rattle.bag_tree.specs.declared.listing.FileEntry.{FileEntry}
+use Rattle.bag_facts.specs.Facts.{rules_in, AreRulesOf}
+use Rattle.bag_facts.specs.TagFacts.{IsReadOf, IsDeclarationOf}
+use Rattle.bag_facts.specs.TagReader.{AreListed, read_path}
+use Rattle.bag_facts.specs.Wanted.{AreWanted}
+use Rattle.bag_facts.specs.declared.options.Options.{Options}
+use Rattle.bag_facts.specs.declared.tag_reader.TagBytes.{TagBytes}
+use Rattle.bag_facts.proofs.ListedFiles.{file_listed}
+use Rattle.bag_facts.proofs.Mapped.{contains_mapped}
+
+-- the rules of a declaration that is there or isn't
+abbrev rules_by : Option (List ℕ) → Rules
+rules_by content = rules_of (option_and_then declared_version content)
+
+told_by : (content : Option (List ℕ)) (known : declared.Declaration) → IsReadOf IsDeclarationOf content (Some known) → rules_of known.version ≡ rules_by content
+told_by None known read = absurd read
+told_by (Some bytes) known read = ap rules_of read.version
+
+untold_by : (content : Option (List ℕ)) → IsReadOf IsDeclarationOf content None → rules_of None ≡ rules_by content
+untold_by None read = refl
+untold_by (Some bytes) read = absurd read
+
+-- what is known of the declaration tells the rules
+pub rules_told : (bag : Bag) (known : declared.Declaration) → IsReadOf IsDeclarationOf (file bag (tag_path Declaration)) (Some known) → rules_of known.version ≡ rules_in bag
+unfolding rules_in
+rules_told bag known read = told_by (file bag (tag_path Declaration)) known read
+
+-- and where there is none, they are those of no version
+pub rules_untold : (bag : Bag) → IsReadOf IsDeclarationOf (file bag (tag_path Declaration)) None → rules_of None ≡ rules_in bag
+unfolding rules_in
+rules_untold bag read = untold_by (file bag (tag_path Declaration)) read
+
+module _ (bag : Bag) (options : Options) (files : List FileEntry) (read : List TagBytes) (listed : AreListed bag files) (wanted : AreWanted options files (map read_path read))
+    (are : (one : TagBytes) → Contains read one → file bag (read_path one) ≡ Some one.bytes.items) where
+  -- the declaration is always wanted, so it isn't there where it isn't among what was read
+  unread : (content : Option (List ℕ)) → file bag (tag_path Declaration) ≡ content → ¬ (Any (λ one. one.name ≡ Declaration) read) → content ≡ None
+  unread None is none = refl
+  unread (Some bytes) is none =
+      let there = (wanted.members (tag_path Declaration)).1 ((Declaration, refl, inl refl), file_listed bag files (tag_path Declaration) listed (ap is_some is)) in
+      let at = contains_mapped read_path read (tag_path Declaration) there in
+      absurd (none (at.1.0, at.0, at.1.1, at.1.2, paths_differ at.0.name Declaration at.2))
+
+  pub rules_known : (rules : Rules) → AreRulesOf read rules → rules ≡ rules_in bag
+  unfolding rules_in
+  rules_known rules told = elim told [
+    | inl none ↦ none.1 ∙ sym (ap rules_by (unread (file bag (tag_path Declaration)) refl none.0))
+    | inr one ↦ one.3 ∙ sym (ap rules_by (sym (ap (λ name. file bag (tag_path name)) one.2) ∙ are one.0 one.1))
+  ]

@@ -1,0 +1,26 @@
+-- Whether payload manifests name a path, one after another.
+use Rattle.std.proofs.Common.{◌≡◌, ◌<◌, ◌≤◌, ◌+◌, ℕ, inl, inr, length, take, get_or, sym, subst, Contains}
+use Rattle.std.proofs.lemmas.List.{get_or_default}
+use Rattle.bag_text.specs.Alg.{algs}
+use Rattle.bag_words.specs.declared.alg.Alg.{Alg}
+use Rattle.bag_words.proofs.AlgSets.{each_is_listed}
+use Rattle.bag_facts.proofs.Mapped.{taken_cases}
+use Rattle.bag_stages.proofs.ByPath.{take_whole}
+
+module _ (Holds : Alg → Type 0) where
+  -- it holds of none of the first algorithms
+  abbrev pub NoneOfFirst : ℕ → Type 0
+  NoneOfFirst i = (alg : Alg) → Contains (take i algs) alg → ¬ (Holds alg)
+
+  -- and not of the next
+  pub none_more : (i : ℕ) (any : Alg) → i < length algs → NoneOfFirst i → ¬ (Holds (get_or algs i any)) → NoneOfFirst (i + 1)
+  none_more i any lt before not alg c =
+      let here : Alg = get_or algs i any in
+      elim (taken_cases algs i here alg lt (sym (get_or_default algs i here any lt)) c) [
+        | inl a ↦ before alg a
+        | inr e ↦ subst (λ x. ¬ (Holds x)) e not
+      ]
+
+  -- which are all
+  pub none_at_all : (i : ℕ) → length algs ≤ i → NoneOfFirst i → ¬ ((alg : Alg) × Holds alg)
+  none_at_all i le none h = none h.0 (subst (λ xs. Contains xs h.0) (sym (take_whole algs i le)) (each_is_listed h.0)) h.1

@@ -1,0 +1,15 @@
+use Rattle.std.proofs.lemmas.Result.{IfOk-weaker}
+use Rattle.bag_facts.specs.Wanted.{paths_of}
+use Rattle.bag_stages.proofs.ManifestFaults.{asked_unnamed, unasked_unnamed}
+use Rattle.bag_stages.proofs.manifests.asked_unnamed.Goals as goal
+
+pub returns-in-V10 : goal.returns-in-V10
+returns-in-V10 c = IfOk-weaker c.unnamed_faults.result _ _
+    (λ faults list ordered sorted. let m = c.args.manifest.now in
+    asked_unnamed c.args.rules c.args.path.now m.alg m.entries (paths_of c.args.files.now) faults.items c.in-V10.is (list ordered sorted))
+    c.unnamed_faults.ensures
+
+pub returns-in-V097 : goal.returns-in-V097
+returns-in-V097 c = λ ordered sorted.
+    let m = c.args.manifest.now in
+    rw c.new.ensures.items (unasked_unnamed c.args.rules c.args.path.now m.alg m.entries (paths_of c.args.files.now) c.in-V097.is)

@@ -1,0 +1,36 @@
+//! Whether payload manifests name a path.
+ghost use Rattle.std.specs.Prelude.{◌≢◌, ◌↔◌, IsTrue};
+ghost use Rattle.bag_tags.specs.declared.kind.Kind.TheVariants.{Payload};
+ghost use Rattle.bag_tree.specs.Bag.{Bag};
+ghost use Rattle.bag_facts.specs.Facts.{IsFactsOf};
+ghost use Rattle.bag_facts.specs.declared.options.Depth.TheVariants.{Declaration};
+ghost use Rattle.bag_stages.specs.LeftOut.{IsNamedBySome};
+ghost use Rattle.bag_stages.specs.TagFiles.{Names};
+
+use bag_facts::Facts;
+use bag_tags::Kind;
+use bag_text::{Alg, Text};
+
+/// Whether some payload manifest names a path, of facts read for more than the declaration. Takes no memory.
+pub fn is_named(facts: &Facts, path: &Text) -> bool
+    ensures named { (bag : Bag) → IsFactsOf bag facts.now → facts.now.options.depth ≢ Declaration → IsTrue result → IsNamedBySome bag path.now }
+    ensures unnamed { (bag : Bag) → IsFactsOf bag facts.now → facts.now.options.depth ≢ Declaration → IsNamedBySome bag path.now → IsTrue result }
+{
+    for alg in Alg::ALL {
+        if is_named_by(facts, alg, path) {
+            return true;
+        }
+    }
+    false
+}
+
+/// Whether the payload manifest of an algorithm names a path.
+fn is_named_by(facts: &Facts, alg: Alg, path: &Text) -> bool
+    ensures { (bag : Bag) → IsFactsOf bag facts.now → facts.now.options.depth ≢ Declaration
+        → IsTrue result ↔ Names bag Payload alg path.now }
+{
+    match facts.manifest(Kind::Payload, alg) {
+        Some(manifest) => manifest.names(path),
+        None => false,
+    }
+}

@@ -1,0 +1,136 @@
+-- Spellings in which the ends of lines alone are escaped.
+use Rattle.std.proofs.Common.{◌≡◌, ◌≢◌, ◌<◌, ◌≤◌, ℕ, suc, List, [], ◌∷◌, ◌++◌, length, get_or, Option, Some, None, Bool, true, false, refl, sym, ap, subst, ◌∙◌, inl, inr, arith, unwrap_or, ◌==◌, append-nil, append_assoc, eqb, nat_lt, bytes_eq, ◌&&◌, lit<}
+use Rattle.std.specs.Char.{to_ascii_lowercase}
+use Rattle.std.specs.Str.{IsUtf8, IsCharBoundary}
+use Rattle.std.proofs.lemmas.Bool.Decides.{nat_tests}
+use Rattle.std.proofs.lemmas.Str.{IsCharBoundary-after_ascii}
+use Rattle.bag_text.proofs.SpellingLaws.{strict_spellings}
+use Rattle.bag_text.specs.Spelling.{percent, line_end, BeginsWithNone, SpellsLineEnds, with_line_ends, UnescapedIsSpelled}
+use Rattle.bag_text.specs.declared.rules.Rules.TheVariants.{V10, V097}
+
+is_percent : (c : ℕ) → (c == percent) ≡ true → c ≡ percent
+is_percent c h = grind (arith, h)
+
+not_percent : (c : ℕ) → c ≢ percent → (c == percent) ≡ false
+not_percent c h = grind (arith, h)
+
+-- where a % begins no escape, it is itself, as every other character is
+by_percent : (c d e : ℕ) (s : List ℕ) (mark : Bool) (o : Option ℕ) → (c == percent) ≡ mark → line_end d e ≡ o → (mark ≡ true → o ≡ None)
+    → with_line_ends (c ∷ d ∷ e ∷ s) ≡ c ∷ with_line_ends (d ∷ e ∷ s)
+by_percent c d e s true None m is none = rw (m, is) (ap (λ x. x ∷ with_line_ends (d ∷ e ∷ s)) (sym (is_percent c m)))
+by_percent c d e s true (Some x) m is none = let clash : Some x ≡ None = none refl in cc
+by_percent c d e s false o m is none = rw m refl
+
+plain_by : (c d e : ℕ) (s : List ℕ) → BeginsWithNone (c ∷ d ∷ e ∷ s) → (o : Option ℕ) → line_end d e ≡ o → (c == percent) ≡ true → o ≡ None
+plain_by c d e s none None is mark = refl
+plain_by c d e s none (Some x) is mark = absurd (none x s (d, e, ap (λ p. p ∷ d ∷ e ∷ s) (is_percent c mark), is))
+
+pub plain_in_front : (c : ℕ) (s : List ℕ) → BeginsWithNone (c ∷ s) → with_line_ends (c ∷ s) ≡ c ∷ with_line_ends s
+plain_in_front c [] none = refl
+plain_in_front c (d ∷ []) none = refl
+plain_in_front c (d ∷ e ∷ s) none = by_percent c d e s (c == percent) (line_end d e) refl refl (plain_by c d e s none (line_end d e) refl)
+
+escape_in_front : (c d e : ℕ) (s : List ℕ) → line_end d e ≡ Some c → with_line_ends (percent ∷ d ∷ e ∷ s) ≡ c ∷ with_line_ends s
+escape_in_front c d e s is = rw is refl
+
+-- what isn't a % begins no escape
+other_begins_none : (c : ℕ) (s : List ℕ) → c ≢ percent → BeginsWithNone (c ∷ s)
+other_begins_none c s other x rest (high, low, is, stands) = let same : c ≡ percent = cc in other same
+
+pub other_in_front : (c : ℕ) (s : List ℕ) → c ≢ percent → with_line_ends (c ∷ s) ≡ c ∷ with_line_ends s
+other_in_front c s other = plain_in_front c s (other_begins_none c s other)
+
+spelled_is_read : (path s : List ℕ) → SpellsLineEnds s path → with_line_ends s ≡ path
+spelled_is_read [] s is = ap with_line_ends is
+spelled_is_read (c ∷ path) s (rest, more, inl (high, low, is, stands)) =
+    ap with_line_ends is ∙ escape_in_front c high low rest stands ∙ ap (λ x. c ∷ x) (spelled_is_read path rest more)
+spelled_is_read (c ∷ path) s (rest, more, inr (is, none)) =
+    ap with_line_ends is ∙ plain_in_front c rest (subst BeginsWithNone is none) ∙ ap (λ x. c ∷ x) (spelled_is_read path rest more)
+
+-- one or two characters begin no escape
+short_begins_none : (c : ℕ) → BeginsWithNone (c ∷ [])
+short_begins_none c x rest (high, low, is, stands) = cc
+
+two_begin_none : (c d : ℕ) → BeginsWithNone (c ∷ d ∷ [])
+two_begin_none c d x rest (high, low, is, stands) = cc
+
+plain_spells : (c : ℕ) (s : List ℕ) → BeginsWithNone (c ∷ s) → SpellsLineEnds s (with_line_ends s) → SpellsLineEnds (c ∷ s) (with_line_ends (c ∷ s))
+plain_spells c s none more = subst (SpellsLineEnds (c ∷ s)) (sym (plain_in_front c s none)) (s, more, inr (refl, none))
+
+other_digits : (c d e : ℕ) (s : List ℕ) → line_end d e ≡ None → BeginsWithNone (c ∷ d ∷ e ∷ s)
+other_digits c d e s nothing x rest (high, low, is, stands) =
+    let first : d ≡ high = cc in let second : e ≡ low = cc in
+    let clash : Some x ≡ None = sym stands ∙ sym (ap (λ z. line_end z low) first) ∙ sym (ap (line_end d) second) ∙ nothing in cc
+
+spells_three : (c d e : ℕ) (s : List ℕ) (mark : Bool) (o : Option ℕ) → (c == percent) ≡ mark → line_end d e ≡ o → SpellsLineEnds s (with_line_ends s)
+    → SpellsLineEnds (d ∷ e ∷ s) (with_line_ends (d ∷ e ∷ s)) → SpellsLineEnds (c ∷ d ∷ e ∷ s) (with_line_ends (c ∷ d ∷ e ∷ s))
+spells_three c d e s true (Some x) m is short long =
+    let same : c ∷ d ∷ e ∷ s ≡ percent ∷ d ∷ e ∷ s = ap (λ p. p ∷ d ∷ e ∷ s) (is_percent c m) in
+    subst (SpellsLineEnds (c ∷ d ∷ e ∷ s)) (sym (ap with_line_ends same ∙ escape_in_front x d e s is)) (s, short, inl (d, e, same, is))
+spells_three c d e s true None m is short long = plain_spells c (d ∷ e ∷ s) (other_digits c d e s is) long
+spells_three c d e s false o m is short long =
+    plain_spells c (d ∷ e ∷ s) (other_begins_none c (d ∷ e ∷ s) (λ same. let clash : true ≡ false = sym (ap (λ z. z == percent) same) ∙ m in cc)) long
+
+read_is_spelled : (s : List ℕ) → SpellsLineEnds s (with_line_ends s)
+read_is_spelled [] = refl
+read_is_spelled (c ∷ []) = plain_spells c [] (short_begins_none c) refl
+read_is_spelled (c ∷ d ∷ []) = plain_spells c (d ∷ []) (two_begin_none c d) (read_is_spelled (d ∷ []))
+read_is_spelled (c ∷ d ∷ e ∷ s) = spells_three c d e s (c == percent) (line_end d e) refl refl (read_is_spelled s) (read_is_spelled (d ∷ e ∷ s))
+
+pub spellings : UnescapedIsSpelled
+spellings V10 s path = strict_spellings s path
+spellings V097 s path = (
+  λ w. ap {B = Option (List ℕ)} Some (spelled_is_read path s w),
+  λ e. subst (SpellsLineEnds s) (ap (λ o. unwrap_or o []) e) (read_is_spelled s),
+)
+
+-- ---- reading piece by piece
+
+-- what stands before the first % is read as itself
+pub read_front : (front rest : List ℕ) → ((i : ℕ) → i < length front → get_or front i 0 ≢ percent) → with_line_ends (front ++ rest) ≡ front ++ with_line_ends rest
+read_front [] rest h = refl
+read_front (c ∷ front) rest h =
+    other_in_front c (front ++ rest) (h 0 (omega arith)) ∙ ap (λ x. c ∷ x) (read_front front rest (λ i l. h (suc i) (omega arith)))
+
+pub read_whole : (t : List ℕ) → ((i : ℕ) → i < length t → get_or t i 0 ≢ percent) → with_line_ends t ≡ t
+read_whole t h = ap with_line_ends (sym (append-nil t)) ∙ read_front t [] h ∙ append-nil t
+
+-- one piece and one character more
+pub read_more : (t path rest plain after more new : List ℕ) (c : ℕ) → with_line_ends t ≡ path ++ with_line_ends rest → rest ≡ plain ++ percent ∷ after
+    → ((i : ℕ) → i < length plain → get_or plain i 0 ≢ percent) → with_line_ends (percent ∷ after) ≡ c ∷ with_line_ends more → new ≡ (path ++ plain) ++ c ∷ []
+    → with_line_ends t ≡ new ++ with_line_ends more
+read_more t path rest plain after more new c read is none here now =
+    read ∙ ap (λ x. path ++ x) (ap with_line_ends is ∙ read_front plain (percent ∷ after) none ∙ ap (λ x. plain ++ x) here)
+    ∙ sym (append_assoc path plain (c ∷ with_line_ends more)) ∙ sym (append_assoc (path ++ plain) (c ∷ []) (with_line_ends more)) ∙ ap (λ x. x ++ with_line_ends more) (sym now)
+
+-- and the rest, in which there is no %
+pub read_all : (t path rest new : List ℕ) → with_line_ends t ≡ path ++ with_line_ends rest → ((i : ℕ) → i < length rest → get_or rest i 0 ≢ percent) → new ≡ path ++ rest
+    → new ≡ with_line_ends t
+read_all t path rest new read none now = now ∙ ap (λ x. path ++ x) (sym (read_whole rest none)) ∙ sym read
+
+-- ---- two characters that can't be cut off
+
+lower_large : (c : ℕ) → 128 ≤ c → to_ascii_lowercase c ≡ c
+lower_large c h = grind (arith, nat_tests)
+
+never : (b c : Bool) → c ≡ false → (b && (c && true)) ≡ false
+never true c e = ap (λ x. x && true) e
+never false c e = refl
+
+never_escaped : (d e k : ℕ) → 128 ≤ e → k < 128 → (c : ℕ) → bytes_eq (to_ascii_lowercase d ∷ to_ascii_lowercase e ∷ []) (c ∷ k ∷ []) ≡ false
+never_escaped d e k h l c =
+    let other : eqb e k ≡ false = grind (arith, nat_tests) in
+    rw (lower_large e h) (never (eqb (to_ascii_lowercase d) c) (eqb e k) other)
+
+line_end_large : (d e : ℕ) → 128 ≤ e → line_end d e ≡ None
+line_end_large d e h = rw (never_escaped d e 97 h (lit< tt) 48, never_escaped d e 100 h (lit< tt) 48) refl
+
+second : (d e : ℕ) (s : List ℕ) → IsUtf8 (d ∷ e ∷ s) → ¬ (IsCharBoundary (d ∷ e ∷ s) 2) → (small : Bool) → nat_lt e 128 ≡ small → line_end d e ≡ None
+second d e s u h true b = absurd (h (IsCharBoundary-after_ascii (d ∷ e ∷ s) 1 u (omega arith) (grind (arith, nat_tests))))
+second d e s u h false b = line_end_large d e (grind (arith, nat_tests))
+
+-- where the two characters after a % can't be cut off, it is itself
+pub cut_off : (after : List ℕ) → IsUtf8 after → ¬ (IsCharBoundary after 2) → with_line_ends (percent ∷ after) ≡ percent ∷ with_line_ends after
+cut_off [] u h = refl
+cut_off (d ∷ []) u h = refl
+cut_off (d ∷ e ∷ s) u h = plain_in_front percent (d ∷ e ∷ s) (other_digits percent d e s (second d e s u h _ refl))
