@@ -11,6 +11,7 @@ use Rattle.bag_tags.specs.declared.kind.Kind.{Kind}
 use Rattle.bag_tags.specs.declared.manifest.ManifestEntry.{ManifestEntry}
 use Rattle.bag_tags.proofs.ManifestLineParts.{lines_read}
 use Rattle.bag_tree.specs.Bag.{Bag}
+use Rattle.bag_facts.specs.Facts.{rules_in}
 use Rattle.bag_validity.specs.ValidityStage.{IsEntryIn}
 
 at_most : (alg : Alg) → hex_len alg ≤ 128
@@ -20,7 +21,7 @@ at_most _ = omega arith
 module _ (bag : Bag) (kind : Kind) (alg : Alg) (entry : ManifestEntry) (listed : IsEntryIn bag kind alg entry) where
   short_text : length entry.digest ≤ 128
   short_text =
-      let read = (lines_read kind alg listed.0 entry.digest entry.path).0 listed.2 in
+      let read = (lines_read (rules_in bag) kind alg listed.0 entry.digest entry.path).0 listed.2 in
       let len : length entry.digest ≡ hex_len alg = ap length read.in_lower_case ∙ length-map read.hex to_ascii_lowercase ∙ read.hex_length in
       omega (arith, len, at_most alg)
 

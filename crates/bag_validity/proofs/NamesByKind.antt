@@ -23,4 +23,4 @@ entry_kind rules kind alg all e (line, at, reads, first) = kind_of_named kind e.
 pub names_by_kind : NamesByKind
 names_by_kind bag kind alg path named =
     let e = named_has_entry (rules_in bag) kind alg (lines_in bag (manifest_of kind alg)) path named in
-    subst (λ p. kind ≡ kind_of p) e.2 (entry_kind kind alg (lines_in bag (manifest_of kind alg)) e.0 e.1)
+    subst (λ p. kind ≡ kind_of p) e.2 (entry_kind (rules_in bag) kind alg (lines_in bag (manifest_of kind alg)) e.0 e.1)

@@ -76,7 +76,7 @@ module _ (bag : Bag) (path content : List ℕ) (there : file bag path ≡ Some c
   found = digest one.alg content
 
   same_entry : (f : Fault) (h : IsOfAlg bag path kind one.alg f) → h.0 ≡ given.entry
-  same_entry f h = entry_of_path_once kind one.alg (lines_in bag (manifest_of kind one.alg)) h.0 given.entry h.2 given.listed (h.3 ∙ sym given.path_is)
+  same_entry f h = entry_of_path_once (rules_in bag) kind one.alg (lines_in bag (manifest_of kind one.alg)) h.0 given.entry h.2 given.listed (h.3 ∙ sym given.path_is)
 
   same_content : (f : Fault) (h : IsOfAlg bag path kind one.alg f) → h.1 ≡ content
   same_content f h = let both : Some h.1 ≡ Some content = sym h.4 ∙ there in cc
