@@ -1,6 +1,6 @@
-//! Generated bags, and what a plain check of their names and digests finds: for each path it looks through all names and all
-//! manifests, and it compares each pair of names.
-use crate::checks::{DECLARATION, lines_behind, lines_found, put};
+//! Generated bags of versions 1.0 and 0.97, and what a plain check of their names and digests finds: for each path it looks
+//! through all names and all manifests, and it compares each pair of names.
+use crate::checks::{DECLARATION, OLDER_DECLARATION, lines_behind, lines_found, put};
 use crate::drawn::mixed;
 use bag_report::{Depth, Options};
 use bag_store::MemoryTree;
@@ -133,14 +133,47 @@ fn given(bag: u64, manifest: &Manifest, path: &str) -> Option<usize> {
     }
 }
 
-/// Whether a path is one of the payload's names.
-fn is_name(bag: u64, path: &str) -> bool {
+/// Whether a payload manifest names a path.
+fn is_in_some(bag: u64, path: &str) -> bool {
     for manifest in MANIFESTS {
         if manifest.is_payload && given(bag, manifest, path).is_some() {
             return true;
         }
     }
+    false
+}
+
+/// Whether a path is that of a payload file.
+fn is_in_payload(bag: u64, path: &str) -> bool {
     path.starts_with("data/") && drawn(bag, "", path).is_some()
+}
+
+/// Whether a path is one of the payload's names.
+fn is_name(bag: u64, path: &str) -> bool {
+    is_in_some(bag, path) || is_in_payload(bag, path)
+}
+
+/// Whether a bag declares version 0.97: each second one does.
+fn is_older(bag: u64) -> bool {
+    bag % 2 == 1
+}
+
+/// Whether a bag has a payload manifest of a supported algorithm.
+fn has_payload_manifest(bag: u64) -> bool {
+    for manifest in MANIFESTS {
+        if manifest.is_payload && is_there(bag, manifest) {
+            return true;
+        }
+    }
+    false
+}
+
+/// Writes that no payload manifest of an older bag names a payload file, where there is a payload manifest.
+fn write_left(stop: &impl Abort, text: &mut String, bag: u64, name: &Name) {
+    let is_left = is_in_payload(bag, name.0) && !is_in_some(bag, name.0);
+    if is_older(bag) && has_payload_manifest(bag) && is_left {
+        write!(text, "603 payload-file-not-listed {} - - -\n", name.1).expect(stop, "succeeds");
+    }
 }
 
 /// Writes the clash of a name with the least of its class, where there is a lesser one.
@@ -161,8 +194,8 @@ fn complaint(bag: u64, manifest: &Manifest, path: &str) -> Option<&'static str> 
     let is_named = given(bag, manifest, path).is_some();
     let is_payload = path.starts_with("data/");
     if drawn(bag, "", path).is_some() {
-        let is_listed = is_named || !is_payload || !manifest.is_payload || !is_there(bag, manifest);
-        (!is_listed).then_some("603 payload-file-not-listed")
+        let is_asked = is_payload && manifest.is_payload && is_there(bag, manifest);
+        (is_asked && !is_older(bag) && !is_named).then_some("603 payload-file-not-listed")
     } else if is_payload {
         is_named.then_some("601 payload-file-missing")
     } else {
@@ -215,6 +248,7 @@ fn write_differing(stop: &impl Abort, text: &mut String, bag: u64, name: &Name) 
 fn plain_lines(stop: &impl Abort, alloc: Global, bag: u64, options: Options) -> String {
     let mut text = String::new(alloc);
     for name in NAMES {
+        write_left(stop, &mut text, bag, name);
         if options.clashes {
             write_clash(stop, &mut text, bag, name);
         }
@@ -257,7 +291,12 @@ fn put_manifest(
 /// The bag of a number.
 fn tree_of(stop: &impl Abort, alloc: Global, bag: u64) -> MemoryTree {
     let mut tree = MemoryTree::new(alloc);
-    put(stop, &mut tree, "bagit.txt", DECLARATION);
+    let declaration = if is_older(bag) {
+        OLDER_DECLARATION
+    } else {
+        DECLARATION
+    };
+    put(stop, &mut tree, "bagit.txt", declaration);
     for name in NAMES {
         if let Some(place) = drawn(bag, "", name.0) {
             put(stop, &mut tree, name.0, CONTENTS[place % 3]);

@@ -9,6 +9,10 @@ use std::process::Abort;
 /// A declaration that is right (RFC 8493, 2.1.1).
 pub(crate) const DECLARATION: &[u8] = b"BagIt-Version: 1.0\nTag-File-Character-Encoding: UTF-8\n";
 
+/// One of version 0.97.
+pub(crate) const OLDER_DECLARATION: &[u8] =
+    b"BagIt-Version: 0.97\nTag-File-Character-Encoding: UTF-8\n";
+
 /// Puts a file into a tree. A text that isn't a path is refused.
 pub(crate) fn put(stop: &impl Abort, tree: &mut MemoryTree, path: &str, bytes: &[u8]) {
     check_path(path).expect(stop, "succeeds");
