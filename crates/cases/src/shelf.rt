@@ -5,21 +5,30 @@ ghost use Rattle.bag_memory_disk.specs.MemoryDisk.{state_of};
 ghost use Rattle.cases.specs.Shelf.{IsUnopened};
 
 use crate::shelf_disk::ShelfDisk;
+use crate::world::{World, below};
 use bag_cli::Disks;
 use bag_disk::DiskFault;
 use bag_disks::ReadFault;
 use bag_memory_disk::{Call, MemoryDisk, Node};
 use bag_text::Text;
-use case_files::{Folder, Sort, Spot, folder_of};
 use std::alloc::{AllocError, Global};
 use std::collections::BTreeMap;
 
-/// A folder for each name, and files beside them. Of the disks one call is refused, where there is one.
+/// The folders of a case, and the files beside them. Of their disks one call is refused, where there is one.
 #[derive(Drop)]
 pub(crate) struct Shelf<'a> {
-    pub(crate) folders: &'a [Folder],
-    pub(crate) beside: &'a Folder,
+    pub(crate) world: &'a World,
     pub(crate) refused: Option<(u64, DiskFault)>,
+}
+
+impl<'a> Shelf<'a> {
+    /// Folders of whose disks no call is refused.
+    pub(crate) fn of(world: &'a World) -> Shelf<'a> {
+        Shelf {
+            world,
+            refused: None,
+        }
+    }
 }
 
 /// What stands on a disk at each path.
@@ -34,70 +43,59 @@ fn no_disk(alloc: Global) -> Result<MemoryDisk, AllocError>
     Ok(disk)
 }
 
-/// Puts something among the nodes, and the folders that its path leads through.
-fn put(alloc: Global, nodes: &mut Nodes, spot: &Spot) -> Result<(), AllocError> {
-    let path = spot.path.as_bytes();
-    for (at, byte) in path.iter().enumerate() {
-        if *byte == b'/' {
-            let parent = path.get(..at).unwrap_or(path);
-            let _ = nodes.insert(parent.to_vec(alloc)?, Node::Folder)?;
+/// What stands below a folder.
+fn nodes_below(alloc: Global, world: &World, folder: &str) -> Result<Nodes, AllocError> {
+    let mut nodes = BTreeMap::new(alloc);
+    for (path, node) in world.nodes.iter() {
+        if let Some(path) = below(path.as_str(), folder) {
+            let _ = nodes.insert(path.as_bytes().to_vec(alloc)?, node.clone()?)?;
         }
     }
-    let node = match spot.sort {
-        Sort::File => Node::File(spot.bytes.as_slice().to_vec(alloc)?),
-        Sort::Folder => Node::Folder,
-        Sort::Link => Node::Other,
-        Sort::Opened => return Ok(()),
-    };
-    let _ = nodes.insert(path.to_vec(alloc)?, node)?;
-    Ok(())
+    Ok(nodes)
 }
 
-/// The disk that holds what a folder does; one that can't be entered where that can't stand on a disk.
-fn holding(alloc: Global, folder: &Folder) -> Result<MemoryDisk, AllocError>
+/// The disk that holds what a folder does; one that can't be entered where there is no folder, or it can't stand on a disk.
+fn disk_of(alloc: Global, world: &World, base: &str) -> Result<MemoryDisk, AllocError>
     ensures { IfOk result (λ disk. IsUnopened (state_of disk)) }
 {
-    let mut nodes = BTreeMap::new(alloc);
-    for spot in &folder.spots {
-        put(alloc, &mut nodes, spot)?;
+    match world.nodes.get(base) {
+        Some(Node::Folder) => holding(alloc, nodes_below(alloc, world, base)?),
+        _ => no_disk(alloc),
     }
+}
+
+fn holding(alloc: Global, nodes: Nodes) -> Result<MemoryDisk, AllocError>
+    ensures { IfOk result (λ disk. IsUnopened (state_of disk)) }
+{
     match MemoryDisk::holding(alloc, nodes) {
         Some(disk) => Ok(disk),
         None => no_disk(alloc),
     }
 }
 
-/// The first file of a folder that holds something else when it is opened.
-fn opened_in(folder: &Folder) -> Option<&Spot> {
-    for spot in &folder.spots {
-        if spot.sort == Sort::Opened {
-            return Some(spot);
-        }
-    }
-    None
-}
-
-/// The disk, of which the file at a path holds something else when it is opened.
-fn swapped(disk: MemoryDisk, path: Text, bytes: Vec<u8>) -> MemoryDisk
+/// A disk of which the file at a path holds something else when it is opened.
+fn swapped(
+    alloc: Global,
+    disk: MemoryDisk,
+    path: &str,
+    bytes: &[u8],
+) -> Result<MemoryDisk, AllocError>
     requires { IsUnopened (state_of disk) }
-    ensures { IsUnopened (state_of result) }
-{
-    let mut disk = disk;
-    disk.swap(path, bytes);
-    disk
-}
-
-/// The disk of a folder, of which a file may hold something else when it is opened.
-fn disk_of(alloc: Global, folder: &Folder) -> Result<MemoryDisk, AllocError>
     ensures { IfOk result (λ disk. IsUnopened (state_of disk)) }
 {
-    match opened_in(folder) {
-        Some(spot) => {
-            let path = Text::from_str(alloc, spot.path.as_str())?;
-            let bytes = spot.bytes.as_slice().to_vec(alloc)?;
-            Ok(swapped(holding(alloc, folder)?, path, bytes))
-        }
-        None => holding(alloc, folder),
+    let mut disk = disk;
+    disk.swap(Text::from_str(alloc, path)?, bytes.to_vec(alloc)?);
+    Ok(disk)
+}
+
+/// The path and the bytes of the file below a folder that holds something else when it is opened.
+fn opened_below<'a>(world: &'a World, folder: &str) -> Option<(&'a str, &'a [u8])> {
+    match &world.opened {
+        Some((path, bytes)) => match below(path.as_str(), folder) {
+            Some(path) => Some((path, bytes.as_slice())),
+            None => None,
+        },
+        None => None,
     }
 }
 
@@ -109,9 +107,10 @@ impl<'a> Disks for Shelf<'a> {
     ghost file = { λ _ _ _. ⊤ };
 
     fn disk(&self, alloc: Global, base: &str) -> Result<ShelfDisk, AllocError> {
-        let disk = match folder_of(self.folders, base) {
-            Ok(folder) => disk_of(alloc, folder)?,
-            Err(_) => no_disk(alloc)?,
+        let disk = disk_of(alloc, self.world, base)?;
+        let disk = match opened_below(self.world, base) {
+            Some((path, bytes)) => swapped(alloc, disk, path, bytes)?,
+            None => disk,
         };
         let (call, fault) = match self.refused {
             Some((number, fault)) => (Call::Numbered(number), fault),
@@ -121,9 +120,9 @@ impl<'a> Disks for Shelf<'a> {
     }
 
     fn read_file(&self, alloc: Global, path: &str, most: u32) -> Result<Vec<u8>, ReadFault> {
-        match self.beside.file(path) {
-            Ok(bytes) if bytes.len() as u64 <= u64::from(most) => copy_of(alloc, bytes),
-            Ok(_) | Err(_) => Err(ReadFault::Unread),
+        match self.world.file(path) {
+            Some(bytes) if bytes.len() as u64 <= u64::from(most) => copy_of(alloc, bytes),
+            Some(_) | None => Err(ReadFault::Unread),
         }
     }
 }
