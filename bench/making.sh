@@ -1,6 +1,6 @@
 #!/usr/bin/env bash
 # How long making a bag of 100,000 files of 1 KiB takes, with manifests of SHA-256 and SHA-512, beside a whole check of the bag
-# that was made, by the same program; and that the programs of coreutils accept its manifests, and md5sum those of a bag with MD5,
+# that was made, by the same program; and that the programs of coreutils accept its manifests, and those of bags by each algorithm,
 # whose names have blanks and other characters that no manifest escapes. Counted is the processor time, the
 # program's own and the system's, and the least of several runs, in each of which a bag is made of a fresh folder and then
 # checked, with the files in the page cache.
@@ -47,15 +47,18 @@ sha256sum --check --quiet manifest-sha256.txt tagmanifest-sha256.txt
 sha512sum --check --quiet manifest-sha512.txt tagmanifest-sha512.txt
 echo "accepted by sha256sum and sha512sum: $(cat manifest-sha256.txt tagmanifest-sha256.txt | wc -l) and $(cat manifest-sha512.txt tagmanifest-sha512.txt | wc -l) lines"
 
-# A bag with MD5, and names that a shell or a manifest might take for something else, but none that a manifest escapes.
+# Bags by each algorithm, with names that a shell or a manifest might take for something else, but none that a manifest escapes.
 mkdir -p "$work/named/ with blanks "
 for name in 'a b' ' front' 'back ' '*star' 'back\slash' 'tab'$'\t''inside' '-' 'é' ' with blanks /.hidden' ' with blanks /\\'; do
     printf '%s' "$name" >"$work/named/$name"
 done
-diff <(make_bag named --md5) <(echo "$work/named made")
-cd "$work/named"
-md5sum --check --quiet manifest-md5.txt tagmanifest-md5.txt
-echo "accepted by md5sum: $(cat manifest-md5.txt tagmanifest-md5.txt | wc -l) lines"
+for alg in md5 sha1 sha224 sha256 sha384 sha512; do
+    cp -r "$work/named" "$work/named-$alg"
+    diff <(make_bag "named-$alg" "--$alg") <(echo "$work/named-$alg made")
+    cd "$work/named-$alg"
+    "${alg}sum" --check --quiet "manifest-$alg.txt" "tagmanifest-$alg.txt"
+    echo "accepted by ${alg}sum: $(cat "manifest-$alg.txt" "tagmanifest-$alg.txt" | wc -l) lines"
+done
 
 # One rename for each entry of the base folder, and one for the folder that holds them.
 if command -v strace >"$work/output"; then

@@ -243,4 +243,21 @@ wanted 0 --quiet d </dev/null
 test -f d/data/data/extra
 wanted 0 --validate d <<<'d is valid'
 
+# Bags by several algorithms, which their programs accept.
+rm -rf d; mkdir -p d/inner; put a abc; put 'inner/b c' ''
+wanted 0 --sha384 --sha224 --sha512 --sha256 d <<<'d made'
+for alg in sha224 sha256 sha384 sha512; do
+    (cd d; "${alg}sum" --check --quiet "manifest-$alg.txt" "tagmanifest-$alg.txt")
+done
+wanted 0 --validate d <<<'d is valid'
+: >d/manifest-sha224.txt
+: >d/manifest-sha384.txt
+wanted 1 --validate --completeness-only d <<'END'
+603 payload-file-not-listed data/a sha224 - -
+603 payload-file-not-listed data/a sha384 - -
+603 payload-file-not-listed data/inner/b%20c sha224 - -
+603 payload-file-not-listed data/inner/b%20c sha384 - -
+d has faults: 4
+END
+
 echo "$examples examples, each as it must be"

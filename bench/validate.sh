@@ -37,7 +37,7 @@ elapsed() {
 
 make_bag large
 head -c "${mebibytes}M" /dev/urandom >"$work/large/data/file"
-for alg in md5 sha1 sha256 sha512; do
+for alg in md5 sha1 sha224 sha256 sha384 sha512; do
     rm -f "$work/large"/manifest-*
     (cd "$work/large" && "${alg}sum" data/file >"manifest-$alg.txt")
     diff <(validate large) <(echo "$work/large is valid")

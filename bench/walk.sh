@@ -1,9 +1,10 @@
 #!/usr/bin/env bash
-# How long checks take, and how much memory, beside another build of the program, as one of an earlier commit: of 100,000 empty files
-# whether the bag is complete; of 100,000 files of 1 KiB with all digests; of 250,000 files to which four manifests give other digests,
-# so that there are 1,000,000 faults. Then, of this program alone: how long the first fault takes where the first of 100,000 files is
-# wrong, beside a check whether that bag is complete; and the memory that a bag takes in which each digest is wrong, beside the same
-# bag with none. Counted is processor time, the least of several runs of both in turn.
+# How long checks take, and how much memory, beside another build of the program, as one of an earlier commit: of 100,000 empty
+# files whether the bag is complete; of 100,000 files of 1 KiB with all digests; of one file of 200 MB by MD5, SHA-1, SHA-256 and
+# SHA-512; of 250,000 files to which four manifests give other digests, so that there are 1,000,000 faults. Then, of this program
+# alone: how long the first fault takes where the first of 100,000 files is wrong, beside a check whether that bag is complete; and
+# the memory that a bag takes in which each digest is wrong, beside the same bag with none. Counted is processor time, the least of
+# several runs of both in turn.
 #
 # usage: bench/walk.sh OTHER [PROGRAM] [RUNS]
 #
@@ -79,6 +80,12 @@ make_small_files
 cd "$work"
 beside_other "100,000 files of 1 KiB" 1.03 --validate "$work/bag"
 rm -r "$work/bag"
+
+declare_bag "$work/large"
+head -c 200M /dev/urandom >"$work/large/data/file"
+for alg in md5 sha1 sha256 sha512; do (cd "$work/large" && "${alg}sum" data/file >"manifest-$alg.txt"); done
+beside_other "one file of 200 MB by four algorithms" 1.02 --validate "$work/large"
+rm -r "$work/large"
 
 make_empty_files right 250000
 for alg in md5 sha1 sha256 sha512; do give right "$alg" "$(sum '' "$alg")"; done

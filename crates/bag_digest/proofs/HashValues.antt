@@ -1,14 +1,14 @@
 -- The value of each hash function has its length, and consists of bytes.
-use Rattle.std.proofs.Common.{◌≡◌, ℕ, zero, suc, ◌+◌, ◌*◌, ◌/◌, ◌<◌, List, [], ◌∷◌, ◌++◌, length, refl, arith, slice_index, length-append}
+use Rattle.std.proofs.Common.{◌≡◌, ℕ, zero, suc, ◌+◌, ◌*◌, ◌/◌, ◌<◌, ◌≤◌, List, [], ◌∷◌, ◌++◌, length, take, refl, arith, slice_index, length-append, length-take-le}
 use Rattle.std.specs.Prelude.{All}
 use Rattle.std.specs.Int.{w32, w64, byte_at, to_le_bytes, to_be_bytes, bytes_low_first, bytes_high_first}
-use Rattle.std.proofs.lemmas.List.Elements.{All-nil, All-cons, All-append}
+use Rattle.std.proofs.lemmas.List.Elements.{All-nil, All-cons, All-append, All-take}
 use Rattle.md5.specs.Md5 as by_md5
 use Rattle.sha1.specs.Sha1 as by_sha1
 use Rattle.sha2.specs.Sha256 as by_sha256
 use Rattle.sha2.specs.Sha512 as by_sha512
 use Rattle.bag_words.specs.declared.alg.Alg.{Alg}
-use Rattle.bag_words.specs.declared.alg.Alg.TheVariants.{Md5, Sha1, Sha256, Sha512}
+use Rattle.bag_words.specs.declared.alg.Alg.TheVariants.{Md5, Sha1, Sha224, Sha256, Sha384, Sha512}
 use Rattle.bag_digest.specs.Digest.{hash, hash_len}
 
 abbrev pub AreBytes : List ℕ → Type 0
@@ -53,10 +53,16 @@ unfolding by_sha512.digest_bytes
 sha512_words h zero = (omega arith, All-nil (λ b. b < 256))
 sha512_words h (suc n) = more (n * 8) 8 _ (by_sha512.digest_bytes h n) (to_be_bytes w64 (slice_index h n)) (sha512_words h n) refl (high_first_small 8 (slice_index h n)) (omega arith)
 
+-- the first bytes of a value
+first_bytes : (k n : ℕ) (bytes : List ℕ) → IsValue n bytes → k ≤ n → IsValue k (take k bytes)
+first_bytes k n bytes (long, small) fits = (length-take-le k bytes (omega (arith, long)), All-take (λ b. b < 256) k bytes small)
+
 -- the value of each algorithm
 pub value : (alg : Alg) (bytes : List ℕ) → IsValue (hash_len alg) (hash alg bytes)
-unfolding by_md5.md5 by_sha1.sha1 by_sha256.sha256 by_sha512.sha512
+unfolding by_md5.md5 by_sha1.sha1 by_sha256.sha224 by_sha256.sha256 by_sha512.sha384 by_sha512.sha512
 value Md5 bytes = md5_words (by_md5.hash_after (by_md5.padded_message bytes) (length (by_md5.padded_message bytes) / 64)) 4
 value Sha1 bytes = sha1_words (by_sha1.hash_after (by_sha1.padded_message bytes) (length (by_sha1.padded_message bytes) / 64)) 5
+value Sha224 bytes = first_bytes 28 32 _ (sha256_words (by_sha256.final_hash by_sha256.initial_hash_224 bytes) 8) (omega arith)
 value Sha256 bytes = sha256_words (by_sha256.final_hash by_sha256.initial_hash_256 bytes) 8
+value Sha384 bytes = first_bytes 48 64 _ (sha512_words (by_sha512.final_hash by_sha512.initial_hash_384 bytes) 8) (omega arith)
 value Sha512 bytes = sha512_words (by_sha512.final_hash by_sha512.initial_hash_512 bytes) 8

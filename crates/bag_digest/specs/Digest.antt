@@ -3,17 +3,19 @@ use Rattle.std.specs.Prelude.{ℕ, ◌≡◌, ◌/◌, ◌-◌, List, Option, So
 use Rattle.hex.specs.Hex.{encode_lower}
 use Rattle.md5.specs.Md5.{md5}
 use Rattle.sha1.specs.Sha1.{sha1}
-use Rattle.sha2.specs.Sha256.{sha256}
-use Rattle.sha2.specs.Sha512.{sha512}
+use Rattle.sha2.specs.Sha256.{sha224, sha256}
+use Rattle.sha2.specs.Sha512.{sha384, sha512}
 use Rattle.bag_text.specs.Alg.{hex_len, rank}
 use Rattle.bag_words.specs.declared.alg.Alg.{Alg}
-use Rattle.bag_words.specs.declared.alg.Alg.TheVariants.{Md5, Sha1, Sha256, Sha512}
+use Rattle.bag_words.specs.declared.alg.Alg.TheVariants.{Md5, Sha1, Sha224, Sha256, Sha384, Sha512}
 
 -- the standard's function of the whole message
 abbrev pub hash : Alg → List ℕ → List ℕ
 hash Md5 bytes = md5 bytes
 hash Sha1 bytes = sha1 bytes
+hash Sha224 bytes = sha224 bytes
 hash Sha256 bytes = sha256 bytes
+hash Sha384 bytes = sha384 bytes
 hash Sha512 bytes = sha512 bytes
 
 -- its value as manifests spell it

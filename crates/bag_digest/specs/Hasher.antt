@@ -2,9 +2,9 @@
 use Rattle.std.specs.Prelude.{ℕ, List}
 use Rattle.md5.specs.Md5.{Holds as HoldsMd5}
 use Rattle.sha1.specs.Sha1.{Holds as HoldsSha1}
-use Rattle.sha2.specs.Hashers.{Holds256, Holds512}
+use Rattle.sha2.specs.Hashers.{Holds224, Holds256, Holds384, Holds512}
 use Rattle.bag_words.specs.declared.alg.Alg.{Alg}
-use Rattle.bag_words.specs.declared.alg.Alg.TheVariants.{Md5, Sha1, Sha256, Sha512}
+use Rattle.bag_words.specs.declared.alg.Alg.TheVariants.{Md5, Sha1, Sha224, Sha256, Sha384, Sha512}
 use Rattle.bag_digest.specs.declared.hasher.Hasher.{Hasher}
 use Rattle.bag_digest.specs.declared.hasher.Hasher.TheVariants as by
 
@@ -12,6 +12,8 @@ use Rattle.bag_digest.specs.declared.hasher.Hasher.TheVariants as by
 abbrev pub Holds : Alg → Hasher → List ℕ → Type 0
 Holds Md5 (by.Md5 hasher) message = HoldsMd5 hasher message
 Holds Sha1 (by.Sha1 hasher) message = HoldsSha1 hasher message
+Holds Sha224 (by.Sha224 hasher) message = Holds224 hasher message
 Holds Sha256 (by.Sha256 hasher) message = Holds256 hasher message
+Holds Sha384 (by.Sha384 hasher) message = Holds384 hasher message
 Holds Sha512 (by.Sha512 hasher) message = Holds512 hasher message
 Holds alg hasher message = ⊥

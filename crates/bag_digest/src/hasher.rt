@@ -7,7 +7,7 @@ ghost use Rattle.bag_digest.specs.Hasher.{Holds};
 use bag_text::Alg;
 use md5::Md5;
 use sha1::Sha1;
-use sha2::{Sha256, Sha512};
+use sha2::{Sha224, Sha256, Sha384, Sha512};
 
 /// How many bytes the longest digest has.
 pub(crate) const MOST_BYTES: usize = 64;
@@ -17,7 +17,9 @@ pub(crate) const MOST_BYTES: usize = 64;
 pub(crate) enum Hasher {
     Md5(Md5),
     Sha1(Sha1),
+    Sha224(Sha224),
     Sha256(Sha256),
+    Sha384(Sha384),
     Sha512(Sha512),
 }
 
@@ -29,7 +31,9 @@ impl Hasher {
         match alg {
             Alg::Md5 => Hasher::Md5(md5::Digest::new()),
             Alg::Sha1 => Hasher::Sha1(Sha1::new()),
+            Alg::Sha224 => Hasher::Sha224(sha2::Digest::new()),
             Alg::Sha256 => Hasher::Sha256(sha2::Digest::new()),
+            Alg::Sha384 => Hasher::Sha384(sha2::Digest::new()),
             Alg::Sha512 => Hasher::Sha512(sha2::Digest::new()),
         }
     }
@@ -41,7 +45,9 @@ impl Hasher {
         match self {
             Hasher::Md5(hasher) => md5::Digest::update(hasher, bytes),
             Hasher::Sha1(hasher) => hasher.update(bytes),
+            Hasher::Sha224(hasher) => sha2::Digest::update(hasher, bytes),
             Hasher::Sha256(hasher) => sha2::Digest::update(hasher, bytes),
+            Hasher::Sha384(hasher) => sha2::Digest::update(hasher, bytes),
             Hasher::Sha512(hasher) => sha2::Digest::update(hasher, bytes),
         }
     }
@@ -53,7 +59,9 @@ impl Hasher {
         match self {
             Hasher::Md5(hasher) => padded(&md5::Digest::finalize(hasher)),
             Hasher::Sha1(hasher) => padded(&hasher.finalize()),
+            Hasher::Sha224(hasher) => padded(&sha2::Digest::finalize(hasher)),
             Hasher::Sha256(hasher) => padded(&sha2::Digest::finalize(hasher)),
+            Hasher::Sha384(hasher) => padded(&sha2::Digest::finalize(hasher)),
             Hasher::Sha512(hasher) => padded(&sha2::Digest::finalize(hasher)),
         }
     }

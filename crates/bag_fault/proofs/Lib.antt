@@ -3,6 +3,7 @@ pub mod Ascending
 pub mod Bytes
 pub mod Codes
 pub mod Cut
+pub mod Earlier
 pub mod Escapes
 pub mod FieldPieces
 pub mod Lines

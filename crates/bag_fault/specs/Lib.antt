@@ -1,3 +1,4 @@
+pub mod EarlierReports
 pub mod FaultLine
 pub mod FaultOrder
 pub mod LineFields

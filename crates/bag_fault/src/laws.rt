@@ -1,4 +1,5 @@
 //! Laws of the definitions, each the contract of a function that gives nothing.
+ghost use Rattle.bag_fault.specs.EarlierReports.{EarlierFaultsKeepTheirOrder, EarlierLinesKeepTheirFaults};
 ghost use Rattle.bag_fault.specs.FaultLine.{LinesTellFaultsApart};
 ghost use Rattle.bag_fault.specs.FaultOrder.{FaultsAreOrdered, OneOfThreeHolds, EqualFaultsAreOne, AscendingFaultsAreOne, IsFault};
 
@@ -27,6 +28,13 @@ pub fn ascending_faults_are_one()
 /// Different faults have different lines.
 pub fn lines_tell_faults_apart()
     ensures { LinesTellFaultsApart }
+{}
+
+/// In reports from before SHA-224 and SHA-384 were checked, faults stand in the order of today, and a line means the fault that it
+/// means today: so such a line is a good place to go on after.
+pub fn earlier_reports_hold()
+    ensures order { EarlierFaultsKeepTheirOrder }
+    ensures lines { EarlierLinesKeepTheirFaults }
 {}
 
 /// Every fault has UTF-8 texts, and a line number that fits 64 bits.

@@ -3,7 +3,8 @@ use Rattle.std.proofs.Common.{◌≡◌, inl, inr, ◌||◌, ℕ, Bool, true, fa
 use Rattle.std.specs.List.{list_any}
 use Rattle.std.specs.Ordering.{eq_by_cmp}
 use Rattle.std.proofs.lemmas.Bool.{false≢true}
-use Rattle.std.proofs.lemmas.List.Elements.{All-nil, All-cons}
+use Rattle.std.specs.Prelude.{IsTrue}
+use Rattle.std.proofs.lemmas.List.Elements.{All-nil, All-cons, All-append}
 use Rattle.bag_text.specs.Path.{is_base_name, is_path, first_component, under}
 use Rattle.bag_text.specs.Text.{text_cmp}
 use Rattle.bag_text.proofs.ListOf.{contains_cases, contains_first, contains_behind, contains_nothing, contains_either}
@@ -17,7 +18,14 @@ use Rattle.bag_tree.proofs.SameText.{text_itself}
 use Rattle.bag_facts.proofs.Mapped.{contains_mapped}
 use Rattle.bag_tree.specs.Moved.{is_within}
 use Rattle.bag_tree.proofs.Within.{itself_within, under_within}
-use Rattle.bag_made.specs.Made.{File, data_folder}
+use Rattle.bag_tags.specs.TagName.{tag_path}
+use Rattle.bag_tags.specs.declared.kind.Kind.{Kind}
+use Rattle.bag_tags.specs.declared.kind.Kind.TheVariants.{Payload, Tag}
+use Rattle.bag_tags.specs.declared.tag_name.TagName.TheVariants.{Declaration, Info, Manifest}
+use Rattle.bag_tags.proofs.TagPaths.{in_base}
+use Rattle.bag_words.specs.declared.alg.Alg.{Alg}
+use Rattle.bag_write.specs.Element.{NewElement}
+use Rattle.bag_made.specs.Made.{File, data_folder, manifest, named_tag_files, new_payload, new_tag_files, payload_manifests, tag_manifests, declaration_file, info_file}
 use Rattle.bag_make.specs.Plan.{is_in_the_way, in_order, tops, listed_tops, has_new, steps_for, new_file}
 use Rattle.bag_make.specs.Steps.{new_folder, IsStep}
 use Rattle.bag_make.specs.declared.step.Step.{Step}
@@ -88,6 +96,25 @@ top_is listing paths free t has =
 files_fit : (files : List File) → ((e : File) → Contains files e → is_base_name e.0 ≡ true) → All IsStep (map new_file files)
 files_fit [] names = All-nil IsStep
 files_fit (e ∷ files) names = All-cons IsStep (new_file e) (map new_file files) (names e (contains_first e files)) (files_fit files (λ x has. names x (contains_behind e files x has)))
+
+-- a tag file stands in the base folder
+abbrev IsInBase : File → Type 0
+IsInBase e = IsTrue (is_base_name e.0)
+
+manifests_in_base : (kind : Kind) (bytes : Alg → List ℕ) (algs : List Alg) → All IsInBase (map (λ alg. (tag_path (Manifest kind alg), bytes alg)) algs)
+manifests_in_base kind bytes [] = All-nil IsInBase
+manifests_in_base kind bytes (alg ∷ algs) =
+    All-cons IsInBase (tag_path (Manifest kind alg), bytes alg) (map (λ alg. (tag_path (Manifest kind alg), bytes alg)) algs) (in_base (Manifest kind alg)) (manifests_in_base kind bytes algs)
+
+pub tag_files_in_base : (files : List File) (algs : List Alg) (info : List NewElement) → All IsInBase (new_tag_files files algs info)
+tag_files_in_base files algs info =
+    let of_payload = payload_manifests files algs info in
+    let of_tags = tag_manifests files algs info in
+    All-cons IsInBase (declaration_file files algs info) (info_file files algs info ∷ of_payload ++ of_tags) (in_base Declaration)
+    (All-cons IsInBase (info_file files algs info) (of_payload ++ of_tags) (in_base Info)
+    (All-append IsInBase of_payload of_tags
+    (manifests_in_base Payload (λ alg. manifest alg (new_payload files)) algs)
+    (manifests_in_base Tag (λ alg. manifest alg (named_tag_files files algs info)) algs)))
 
 moves_fit : (tops : List (List ℕ)) (steps : List Step) → ((t : List ℕ) → Contains tops t → IsTop t) → All IsStep steps → All IsStep (map MoveIn tops ++ steps)
 moves_fit [] steps names more = more

@@ -3,7 +3,7 @@
 //! ```
 //! fill_line(&mut line, &fault)?;
 //! put_all(&mut out, line.as_bytes())?;
-//! let outcome = close(&request, end_of_report(&request, 1), &mut out);
+//! let outcome = close(&request, end_of_report(request.after.as_ref(), 1), &mut out);
 //! let exit = status(&outcome);
 //! ```
 //!

@@ -1,5 +1,6 @@
 //! The line of a fault, and how a report is closed.
 ghost use Rattle.std.specs.Prelude.{◌≡◌, OnOk, string_bytes};
+ghost use Rattle.std.specs.Option.{option_copied};
 ghost use Rattle.bag_output.specs.Ending.{ended, written_line};
 ghost use Rattle.bag_output.specs.Writer.{Closes};
 
@@ -19,11 +20,11 @@ pub fn fill_line(line: &mut String, fault: &Fault) -> Result<(), AllocError>
     line.push_str("\n")
 }
 
-/// How a run ends that has shown all faults.
-pub fn end_of_report(request: &Request, written: u64) -> Outcome
-    ensures { result ≡ ended request.now.after written }
+/// How a run ends that has shown all faults above a cursor, and has written so many.
+pub fn end_of_report(after: Option<&Fault>, written: u64) -> Outcome
+    ensures { result ≡ ended (option_copied after.entry) written }
 {
-    match (&request.after, written) {
+    match (after, written) {
         (Some(_), _) => Outcome::Rest(written),
         (None, 0) => Outcome::Clean,
         (None, _) => Outcome::Faults(written),

@@ -8,7 +8,7 @@ use Rattle.bag_tree.specs.declared.fault.Stop.{Stop}
 use Rattle.bag_fault.specs.declared.fault.Fault.{Fault}
 use Rattle.bag_report.specs.Report.{Check}
 use Rattle.bag_source.specs.Openings.{OpensAgain}
-use Rattle.bag_source.specs.Source.{MayStopFilling}
+use Rattle.bag_source.specs.Source.{MayStopAnyway, MayStopFilling}
 use Rattle.bag_source.specs.Steps.{went, Gives, IsNextOf, MayStopStep}
 
 -- the fault that is lent is the next
@@ -21,6 +21,7 @@ lends_next check position (Err stop) shown after Q given e = tt
 -- a step that was refused may stop so
 pub stops_there : (answer : Result (Option (Bor Fault)) Stop) (old new : TreeState) (before after : List (List ℕ)) (IsOf : Type 0) → Keeps old new
     → OnErr (went answer) (OpensAgain before after old new) → IfErr (went answer) (λ stop. IsOf → MayStopFilling after old new stop)
-    → IfErr answer (λ stop. IsOf → MayStopStep before old stop)
-stops_there (Ok f) old new before after IsOf keeps again stop = tt
-stops_there (Err stop) old new before after IsOf keeps again may = λ of. record { new = new; left = after; keeps = keeps; opened = again; refused = may of }
+    → IfErr (went answer) (MayStopAnyway after old new) → IfErr answer (MayStopStep before old IsOf)
+stops_there (Ok f) old new before after IsOf keeps again may anyway = tt
+stops_there (Err stop) old new before after IsOf keeps again may anyway =
+    record { new = new; left = after; keeps = keeps; opened = again; anyway = anyway; refused = may }

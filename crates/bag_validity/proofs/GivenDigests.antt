@@ -6,7 +6,7 @@ use Rattle.hex.specs.Hex.{encode_lower, lower_digits}
 use Rattle.hex.proofs.HexLemmas.{length-encode_with}
 use Rattle.bag_text.specs.Alg.{hex_len}
 use Rattle.bag_words.specs.declared.alg.Alg.{Alg}
-use Rattle.bag_words.specs.declared.alg.Alg.TheVariants.{Md5, Sha1, Sha256, Sha512}
+use Rattle.bag_words.specs.declared.alg.Alg.TheVariants.{Md5}
 use Rattle.bag_tags.specs.declared.kind.Kind.{Kind}
 use Rattle.bag_tags.specs.declared.manifest.ManifestEntry.{ManifestEntry}
 use Rattle.bag_tags.proofs.ManifestLineParts.{lines_read}
@@ -15,9 +15,7 @@ use Rattle.bag_validity.specs.ValidityStage.{IsEntryIn}
 
 at_most : (alg : Alg) → hex_len alg ≤ 128
 at_most Md5 = omega arith
-at_most Sha1 = omega arith
-at_most Sha256 = omega arith
-at_most Sha512 = omega arith
+at_most _ = omega arith
 
 module _ (bag : Bag) (kind : Kind) (alg : Alg) (entry : ManifestEntry) (listed : IsEntryIn bag kind alg entry) where
   short_text : length entry.digest ≤ 128

@@ -1,5 +1,5 @@
 //! What manifests give for a file.
-ghost use Rattle.std.specs.Prelude.{◌≡◌, ◌≢◌, ℕ, List, Some, IfOk, Contains, MatchOption, map};
+ghost use Rattle.std.specs.Prelude.{◌≡◌, ◌≢◌, ℕ, List, Some, IfOk, Contains, MatchOption, length, map};
 ghost use Rattle.std.specs.Option.{option_copied};
 ghost use Rattle.bag_text.specs.Order.{IsListOf};
 ghost use Rattle.bag_tree.specs.Bag.{Bag, file};
@@ -41,6 +41,7 @@ pub fn expected_of(
         → AreNaming bag path.now (map (λ one. one.alg) expected)) }
     ensures faults { IfOk result (λ expected. (bag : Bag) (content : List ℕ) → IsFactsOf bag facts.now → facts.now.options.depth ≢ Declaration
         → file bag path.now ≡ Some content → IsListOf fault_cmp (IsOfFile bag path.now) (faults_of_bytes path.now content expected)) }
+    ensures count { IfOk result (λ expected. places.new.count ≡ length expected) }
 {
     let kind = kind_of(path.as_str());
     let mut expected = Vec::with_capacity(alloc, places.count)?;

@@ -1,4 +1,6 @@
 //! Where entries of manifests are looked for.
+ghost use Rattle.std.specs.Prelude.{◌≡◌, All};
+
 use bag_text::Alg;
 
 /// Where to look first for what manifests give for a file: behind what they gave for the file before. In path order most files
@@ -12,7 +14,10 @@ pub struct Places {
 
 impl Places {
     /// At the front of all manifests.
-    pub fn new() -> Places {
+    pub fn new() -> Places
+        ensures next { All (λ place. place ≡ 0) result.next }
+        ensures count { result.count ≡ 0 }
+    {
         Places {
             next: [0; Alg::ALL.len()],
             count: 0,

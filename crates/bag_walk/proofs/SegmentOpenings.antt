@@ -18,7 +18,7 @@ use Rattle.bag_source.specs.Openings.{NoneBehind, OpensAgain, OpensNoneBehind}
 use Rattle.bag_source.specs.Start.{IsListedToOpen}
 use Rattle.bag_source.specs.Validity.{is_passed}
 use Rattle.bag_walk.specs.Segment.{EndsSegment, looked_past, still_to_come}
-use Rattle.bag_walk.specs.SegmentOpenings.{AreListed, IsListedFile, NoneBehindLast, OpensFew, OpensFirst, not_passed}
+use Rattle.bag_walk.specs.SegmentOpenings.{AreListed, IsListedFile, NoneBehindLast, OpensFew, OpensInSegment, not_passed}
 use Rattle.bag_walk.specs.Segments.{cursor_behind}
 use Rattle.bag_walk.specs.declared.segment.Segment.{Segment}
 use Rattle.bag_walk.specs.declared.segment.SegmentEnd.{SegmentEnd}
@@ -35,7 +35,7 @@ none_behind_nothing (Some f) paths none = λ path c. absurd (contains_nothing pa
 
 -- where tag files alone were read, no payload file was opened
 pub opens_no_payload : (options : Options) (listed : List (List ℕ)) (cursor last : Option Fault) (old new : TreeState) (end : SegmentEnd) → OpensWanted options old new
-    → OpensFirst listed cursor last old new end
+    → OpensInSegment listed cursor last old new end
 opens_no_payload options listed cursor last old new end read =
     let none : filter is_payload_path read.0 ≡ [] = no_payload options old new read read.0 read.1 in
     record {
@@ -95,7 +95,7 @@ module _ (old mid new : TreeState) (options : Options) (todo left : List (List �
         subst (λ c. NoneBehindLast c (filter is_payload_path opened)) (sym last) (λ path c. none_before (still_to_come segment (drop n report)) behind at.0 path waits c)
 
     pub opens_front : (listed : List (List ℕ)) (cursor : Option Fault) → filter is_payload_path todo ≡ not_passed cursor listed
-        → OpensFirst listed cursor (cursor_behind (n + segment.written) report) old new segment.end
+        → OpensInSegment listed cursor (cursor_behind (n + segment.written) report) old new segment.end
     opens_front listed cursor same = record {
       opened = opened;
       openings = openings_are;
@@ -128,7 +128,7 @@ pub few_of : (listed : List (List ℕ)) (i unread segments : ℕ) (cursor : Opti
 few_of listed i unread segments cursor old now so le = record { opened = so.opened; openings = so.openings; only_listed = so.only_listed; few = omega (arith, so.few, le) }
 
 module _ (listed : List (List ℕ)) (i unread : ℕ) (cursor last : Option Fault) (old now new : TreeState) (end : SegmentEnd)
-    (so : OpenedSoFar listed i unread cursor old now) (opens : OpensFirst listed cursor last now new end) where
+    (so : OpenedSoFar listed i unread cursor old now) (opens : OpensInSegment listed cursor last now new end) where
   abbrev both : List (List ℕ)
   both = so.opened ++ opens.opened
 

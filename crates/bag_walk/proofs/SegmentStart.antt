@@ -20,7 +20,7 @@ use Rattle.bag_source.specs.Start.{IsListedToOpen, IsStarted}
 use Rattle.bag_walk.specs.Lines.{IsLastLine, IsLastOf}
 use Rattle.bag_walk.specs.Run.{IsAsked}
 use Rattle.bag_walk.specs.Segment.{IfUnread, IsSegment, MayStopRun, still_to_come}
-use Rattle.bag_walk.specs.SegmentOpenings.{AreListed, OpensFirst, not_passed}
+use Rattle.bag_walk.specs.SegmentOpenings.{AreListed, OpensInSegment, not_passed}
 use Rattle.bag_walk.specs.Segments.{cursor_behind, GoesOn}
 use Rattle.bag_walk.specs.Stops.{MayStop}
 use Rattle.bag_walk.specs.declared.segment.Segment.{Segment}
@@ -76,7 +76,7 @@ module _ (old mid new : TreeState) (profile : Option Profile) (options : Options
         → ((bag : Bag) → IsOf bag → Sees mid todo bag → IsSegment (left bag) limit before then refused segment)
         → ((bag : Bag) → IsOf bag → Sees mid todo bag → OpensNoneBehind (still_to_come segment (left bag)) mid new)
         → (listed : List (List ℕ)) → AreListed options old.bag listed
-        → OpensFirst listed (cursor_behind n report) (cursor_behind (n + segment.written) report) old new segment.end
+        → OpensInSegment listed (cursor_behind n report) (cursor_behind (n + segment.written) report) old new segment.end
     opens_behind read others again limit some before then refused segment seen none listed are =
         let sees = sees_of old mid new profile (asking_of options after) IsOf left todo started k (inl honest) in
         let s = subst (λ faults. IsSegment faults limit before then refused segment) left_behind (seen started.seen started.of sees) in

@@ -22,7 +22,7 @@ use Rattle.bag_output.specs.declared.outcome.Outcome.TheVariants.{Stopped, Unwri
 use Rattle.bag_output.proofs.Writing.{Appends-append, Appends-nil}
 use Rattle.bag_walk.specs.Lines.{IsLastLine, IsLastOf}
 use Rattle.bag_walk.specs.Segment.{EndsSegment, IfUnread, WroteFirst}
-use Rattle.bag_walk.specs.SegmentOpenings.{AreListed, OpensFew, OpensFirst}
+use Rattle.bag_walk.specs.SegmentOpenings.{AreListed, OpensFew, OpensInSegment}
 use Rattle.bag_walk.specs.Segments.{cursor_behind, SegmentsJoin, cost, SegmentsFrom, AreSegments, WroteSegments, MayLose, IsStopped, RunsOfSegments, is_last, outcome_at}
 use Rattle.bag_walk.specs.Stops.{MayStop}
 use Rattle.bag_walk.specs.declared.segment.SegmentEnd.{SegmentEnd}
@@ -233,7 +233,7 @@ module _ (options : Options) (report : List Fault) (limits : List ℕ) (i : ℕ)
 
     -- what it opens of the payload
     abbrev OpensFront : SegmentEnd → Type 0
-    OpensFront end = (listed : List (List ℕ)) → AreListed options old.bag listed → OpensFirst listed (cursor_behind count report) (cursor_behind (count + k) report) now new end
+    OpensFront end = (listed : List (List ℕ)) → AreListed options old.bag listed → OpensInSegment listed (cursor_behind count report) (cursor_behind (count + k) report) now new end
 
     few_then : (end : SegmentEnd) → OpensFront end → (listed : List (List ℕ)) → AreListed options old.bag listed → OpensFew listed (length limits) so.unread old new
     few_then end front listed are =

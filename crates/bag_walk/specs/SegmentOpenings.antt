@@ -38,7 +38,7 @@ NoneBehindLast (Some f) paths = (path : List ℕ) → Contains paths path → ¬
 
 -- What a segment opens of the payload: the first of the listed files that its cursor hasn't passed, each once and in path
 -- order, and no other; and where it is full none behind the fault that was written last.
-pub record OpensFirst (listed : List (List ℕ)) (cursor last : Option Fault) (old new : TreeState) (end : SegmentEnd) : Type 0 where
+pub record OpensInSegment (listed : List (List ℕ)) (cursor last : Option Fault) (old new : TreeState) (end : SegmentEnd) : Type 0 where
   pub opened : List (List ℕ)
   pub openings : new.openings ≡ old.openings ++ opened
   pub rest : List (List ℕ)

@@ -1,5 +1,5 @@
 //! A whole run.
-ghost use Rattle.std.specs.Prelude.{◌≡◌, ℕ, List, Option, Some, IfOk, IsTrue, drop};
+ghost use Rattle.std.specs.Prelude.{◌≡◌, ℕ, List, Some, IsTrue, drop};
 ghost use Rattle.std.specs.Option.{option_copied};
 ghost use Rattle.bag_tree.specs.Bag.{Bag};
 ghost use Rattle.bag_tree.specs.Tree.{Keeps};
@@ -17,9 +17,9 @@ use crate::lines::Lines;
 use crate::segment::{close_segment, out_of_memory, write_faults};
 use bag_output::{Outcome, Request, close};
 use bag_report::{Fault, Profile};
-use bag_source::{InOrder, Steps, Walk};
+use bag_source::{InOrder, Steps, Walk, copy_of_cursor};
 use bag_tree::{Out, Tree};
-use std::alloc::{AllocError, Global};
+use std::alloc::Global;
 
 /// Writes the faults of a tree's bag that the request asks for, one line each, and a closing line. Without a profile the
 /// bag has to conform to none.
@@ -69,7 +69,7 @@ fn run_over<T: Tree, W: Out>(
     if limit_of(request) == 0 {
         return (tree, close(request, Outcome::Stopped(0), out));
     }
-    let Ok(after) = copy_of(alloc, request.after.as_ref()) else {
+    let Ok(after) = copy_of_cursor(alloc, request.after.as_ref()) else {
         return (
             tree,
             close(request, Outcome::Unread(0, out_of_memory(alloc)), out),
@@ -113,14 +113,4 @@ fn limit_of(request: &Request) -> u64
     ensures { result ≡ limit_of request.now }
 {
     request.limit.unwrap_or(u64::MAX)
-}
-
-/// An equal cursor.
-fn copy_of(alloc: Global, after: Option<&Fault>) -> Result<Option<Fault>, AllocError>
-    ensures { IfOk result (λ copy. copy ≡ option_copied after.entry) }
-{
-    match after {
-        None => Ok(None),
-        Some(cursor) => Ok(Some(cursor.copy(alloc)?)),
-    }
 }

@@ -112,7 +112,7 @@ pub(crate) fn close_segment<W: Out>(request: &Request, segment: Segment, out: &m
     let Segment { written, end } = segment;
     match end {
         SegmentEnd::Full => close(request, Outcome::Stopped(written), out),
-        SegmentEnd::AtEnd => close(request, end_of_report(request, written), out),
+        SegmentEnd::AtEnd => close(request, end_of_report(request.after.as_ref(), written), out),
         SegmentEnd::Unread(stop) => close(request, Outcome::Unread(written, stop), out),
         SegmentEnd::Unwritten => Outcome::Unwritten(written),
     }

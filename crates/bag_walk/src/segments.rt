@@ -5,19 +5,18 @@ ghost use Rattle.bag_tree.specs.Bag.{Bag};
 ghost use Rattle.bag_tree.specs.Tree.{Keeps};
 ghost use Rattle.bag_fault.specs.declared.fault.Fault.{Fault as Spoken};
 ghost use Rattle.bag_report.specs.Report.{IsReport};
-ghost use Rattle.bag_output.specs.Ending.{ended};
 ghost use Rattle.bag_source.specs.Openings.{OpensAgain, OpensNoneBehind};
 ghost use Rattle.bag_source.specs.Source.{Sees};
 ghost use Rattle.bag_source.specs.Steps.{shown_by, to_give};
 ghost use Rattle.bag_walk.specs.Lines.{IsLastLine, IsLastOf};
 ghost use Rattle.bag_walk.specs.Segment.{IfUnread, IsSegment, MayStopRun, still_to_come};
-ghost use Rattle.bag_walk.specs.SegmentOpenings.{AreListed, OpensFirst};
+ghost use Rattle.bag_walk.specs.SegmentOpenings.{AreListed, OpensInSegment};
 ghost use Rattle.bag_walk.specs.Stops.{MayStop};
 ghost use Rattle.bag_walk.specs.Segments as spec;
 
 use crate::lines::Lines;
 use crate::segment::{Segment, SegmentEnd, out_of_memory, write_faults};
-use bag_output::Outcome;
+use bag_output::{Outcome, end_of_report};
 use bag_report::{Options, Profile};
 use bag_source::{InOrder, Steps, Walk};
 use bag_tree::{Out, Tree};
@@ -40,20 +39,10 @@ impl SegmentEnd {
     {
         match self {
             SegmentEnd::Full => Outcome::Stopped(written),
-            SegmentEnd::AtEnd => end_of_report(written),
+            SegmentEnd::AtEnd => end_of_report(None, written),
             SegmentEnd::Unread(stop) => Outcome::Unread(written, stop),
             SegmentEnd::Unwritten => Outcome::Unwritten(written),
         }
-    }
-}
-
-/// The outcome at the end of the report.
-fn end_of_report(written: u64) -> Outcome
-    ensures { result ≡ ended None written }
-{
-    match written {
-        0 => Outcome::Clean,
-        _ => Outcome::Faults(written),
     }
 }
 
@@ -65,8 +54,8 @@ fn end_of_report(written: u64) -> Outcome
 /// looked at.
 ///
 /// Each segment goes on with the file of the last fault that was written, which it may open again, and with none before it. So
-/// the files that payload manifests name are opened once each, and for each segment but the first one of them once more. One
-/// whose reading is refused may open those again that it had found without a fault.
+/// each file that payload manifests name is opened once at most, and for each segment but the first at most one of them once
+/// more. A segment whose reading is refused may have opened files without writing a line; the next opens these again.
 pub fn run_segments<T: Tree, W: Out>(
     alloc: Global,
     tree: T,
@@ -120,7 +109,7 @@ fn write_segment<T: Tree, W: Out>(
         → IsReport (record { bag = (T.state tree).bag; profile = option_copied profile.entry; options = options }) report
         → (n : ℕ) → n ≤ length report → IsLastLine (spec.cursor_behind n report) (string_bytes lines.old.last)
         → (listed : List (List ℕ)) → AreListed options (T.state tree).bag listed
-        → OpensFirst listed (spec.cursor_behind n report) (spec.cursor_behind (n + result.1.written) report) (T.state tree) (T.state result.0) result.1.end }
+        → OpensInSegment listed (spec.cursor_behind n report) (spec.cursor_behind (n + result.1.written) report) (T.state tree) (T.state result.0) result.1.end }
 {
     if limit == 0 {
         return (

@@ -7,13 +7,22 @@ ghost use Rattle.bag_words.specs.Alg as spec;
 pub enum Alg {
     Md5,
     Sha1,
+    Sha224,
     Sha256,
+    Sha384,
     Sha512,
 }
 
 impl Alg {
     /// Every algorithm, in the order of the ranks.
-    pub const ALL: [Alg; 4] = [Alg::Md5, Alg::Sha1, Alg::Sha256, Alg::Sha512];
+    pub const ALL: [Alg; 6] = [
+        Alg::Md5,
+        Alg::Sha1,
+        Alg::Sha224,
+        Alg::Sha256,
+        Alg::Sha384,
+        Alg::Sha512,
+    ];
 
     /// The name in the names of manifests: ASCII, in lower case, without a hyphen.
     pub fn name(self) -> &'static str
@@ -22,7 +31,9 @@ impl Alg {
         match self {
             Alg::Md5 => "md5",
             Alg::Sha1 => "sha1",
+            Alg::Sha224 => "sha224",
             Alg::Sha256 => "sha256",
+            Alg::Sha384 => "sha384",
             Alg::Sha512 => "sha512",
         }
     }
@@ -34,7 +45,9 @@ impl Alg {
         match self {
             Alg::Md5 => "MD5",
             Alg::Sha1 => "SHA-1",
+            Alg::Sha224 => "SHA-224",
             Alg::Sha256 => "SHA-256",
+            Alg::Sha384 => "SHA-384",
             Alg::Sha512 => "SHA-512",
         }
     }
@@ -53,7 +66,9 @@ impl Alg {
         match self {
             Alg::Md5 => 32,
             Alg::Sha1 => 40,
+            Alg::Sha224 => 56,
             Alg::Sha256 => 64,
+            Alg::Sha384 => 96,
             Alg::Sha512 => 128,
         }
     }

@@ -7,7 +7,7 @@ returns-in-Full-clause-closes g c = λ faults began s. closes_full c.args.reques
 
 pub returns-in-AtEnd-clause-closes : goal.returns-in-AtEnd-clause-closes
 returns-in-AtEnd-clause-closes g c = λ faults began s.
-    closes_at_end c.args.request.now faults began _ _ c.args.segment _ _ _ c.in-AtEnd.is (rw c.end_of_report.ensures at c.close-in-AtEnd.ensures) s
+    closes_at_end c.args.request.now faults began _ _ c.args.segment _ _ _ c.in-AtEnd.is (rw (c.end_of_report.ensures, c.as_ref.ensures.value) at c.close-in-AtEnd.ensures) s
 
 pub returns-in-Unread-clause-closes : goal.returns-in-Unread-clause-closes
 returns-in-Unread-clause-closes g c = λ faults began s. closes_unread c.args.request.now faults began _ _ c.args.segment c.in-Unread.stop _ _ _ c.in-Unread.is c.close-in-Unread.ensures s
@@ -21,7 +21,7 @@ returns-in-Full-clause-stop g c = told_by (StopsAt c.args.segment) c.args.reques
 pub returns-in-AtEnd-clause-stop : goal.returns-in-AtEnd-clause-stop
 returns-in-AtEnd-clause-stop g c =
     told_by (StopsAt c.args.segment) c.args.request.now _ _ _ _ _ c.close-in-AtEnd.ensures
-    (rw c.end_of_report.ensures (end_has_no_stop (StopsAt c.args.segment) c.args.request.now.after c.args.segment.written))
+    (rw (c.end_of_report.ensures, c.as_ref.ensures.value) (end_has_no_stop (StopsAt c.args.segment) c.args.request.now.after c.args.segment.written))
 
 pub returns-in-Unread-clause-stop : goal.returns-in-Unread-clause-stop
 returns-in-Unread-clause-stop g c = told_by (StopsAt c.args.segment) c.args.request.now _ _ _ _ _ c.close-in-Unread.ensures c.in-Unread.is

@@ -200,6 +200,6 @@ next_spec 𝓤 𝓛 𝓜 𝓡 wired T S LT LS t t-d o o-d s s-d bt bo bs =
     use1 𝓛 (‵ (follows_so R' R' γ none (λ _ _. ⊤) (λ new. Now new x))) (told 𝓛 R' γ (λ new. Now new x) w (goes, lent)) $
     suffices ! _ (ends_at 𝓛 E St c y v₂ x (tt, tt) (tt, tt)) $
     move ! (1 ∷ []) $ nothing ! $ nothing ! $ fjoin ! $ join ! $ move ! (2 ∷ 0 ∷ []) $ join ! $ frame ! $ frame ! $
-    says ! (stops_there x (t.state r.now.tree) (t.state w.tree) (s.todo r.now.source) (s.todo w.source) _ goes.keeps goes.again goes.stop) $
+    says ! (stops_there x (t.state r.now.tree) (t.state w.tree) (s.todo r.now.source) (s.todo w.source) _ goes.keeps goes.again goes.stop goes.anyway) $
     nothing ! $ by ! (fact_i 𝓤 _ (emp 𝓤) (λ check position of sees stands.
     lends_next check position x (shown t.state s.is_of s.remaining s.todo s.found w) (left t.state s.is_of s.remaining s.todo s.found check.bag w) _ (goes.position check position (of, sees) stands) lent)))))))))))))))))))
