@@ -9,7 +9,6 @@ mod on_disk;
 mod running;
 mod session;
 mod shelf;
-mod shelf_disk;
 mod stages;
 mod trees;
 mod turns;

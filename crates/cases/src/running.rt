@@ -37,6 +37,9 @@ fn run_command(
     world: &mut World,
     report: &mut Report,
 ) {
+    if world.make_disks().is_err() {
+        report.text.fail(Mistake::MEMORY);
+    }
     match (command.verb, command.how) {
         (Verb::Stage, How::Room(_)) => stages::see_stage(sight, &command.words, world, report),
         (Verb::Run, How::RefusingTree) => turns::see_in_turn(sight, None, command, world, report),
@@ -51,6 +54,14 @@ fn run_command(
     }
 }
 
+/// The folders of whose disks no call is refused.
+fn shelf_of(world: &World) -> Shelf<'_> {
+    Shelf {
+        world,
+        refused: None,
+    }
+}
+
 /// Compares what stands in folders, in memory and on the disk.
 fn see_held(
     rt: &HostRuntime,
@@ -61,7 +72,7 @@ fn see_held(
 ) {
     let alloc = sight.texts.alloc;
     let wanted = sight.texts.wanted(sight.entry.below, 0);
-    let found = answer_over(alloc, &Shelf::of(world), command);
+    let found = answer_over(alloc, &shelf_of(world), command);
     report.compare(sight, "in memory", &wanted, &found);
     let found = answer_over(alloc, rt, command);
     report.compare(sight, "on the disk", &wanted, &found);
@@ -84,7 +95,7 @@ fn see_run(
         report.compare(sight, "on the disk", &wanted, &found);
     }
     if command.verb == Verb::Run {
-        let found = answer_over(alloc, &Shelf::of(world), command);
+        let found = answer_over(alloc, &shelf_of(world), command);
         report.compare(sight, "on a disk in memory", &wanted, &found);
         if room == usize::MAX {
             trees::see_in_trees(sight, &command.words, &wanted, world, report);

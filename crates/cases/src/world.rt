@@ -1,7 +1,7 @@
 //! What stands in the folder in which a case runs, in memory and on the disk.
 use crate::on_disk;
 use bag_disk::path_in;
-use bag_memory_disk::Node;
+use bag_memory_disk::{MemoryDisk, Node};
 use bag_store::{Listing, MemoryTree, Tree, read_whole};
 use bag_text::check_path;
 use case_files::{Mistake, Report, Word};
@@ -18,6 +18,8 @@ pub(crate) struct World {
     pub(crate) opened: Option<(String, Vec<u8>)>,
     /// Whether each of the folders can be a tree: it has no link, and an empty folder only right in it.
     has_trees: bool,
+    /// Disks in memory of the folders, as they were when the last command began.
+    pub(crate) disks: BTreeMap<String, MemoryDisk>,
 }
 
 /// What a path is below a folder, where it stands there.
@@ -43,6 +45,7 @@ impl World {
             nodes: BTreeMap::new(alloc),
             opened: None,
             has_trees: true,
+            disks: BTreeMap::new(alloc),
         }
     }
 
@@ -102,6 +105,17 @@ impl World {
         {
             report.text.fail(Mistake::MEMORY);
         }
+    }
+
+    /// Makes the disks of the folders.
+    pub(crate) fn make_disks(&mut self) -> Result<(), AllocError> {
+        self.disks.clear();
+        for (path, node) in self.nodes.iter() {
+            if matches!(node, Node::Folder) && !path.contains('/') {
+                put_disk(self.alloc, &self.nodes, path.as_str(), &mut self.disks)?;
+            }
+        }
+        Ok(())
     }
 
     /// The bytes of the file at a path.
@@ -175,6 +189,34 @@ impl World {
         self.opened = None;
         self.has_trees = true;
     }
+}
+
+/// What stands below a folder.
+fn nodes_below(
+    alloc: Global,
+    nodes: &BTreeMap<String, Node>,
+    folder: &str,
+) -> Result<BTreeMap<Vec<u8>, Node>, AllocError> {
+    let mut held = BTreeMap::new(alloc);
+    for (path, node) in nodes.iter() {
+        if let Some(path) = below(path.as_str(), folder) {
+            let _ = held.insert(path.as_bytes().to_vec(alloc)?, node.clone()?)?;
+        }
+    }
+    Ok(held)
+}
+
+/// Puts the disk of a folder among disks, where what the folder holds can stand on one.
+fn put_disk(
+    alloc: Global,
+    nodes: &BTreeMap<String, Node>,
+    folder: &str,
+    disks: &mut BTreeMap<String, MemoryDisk>,
+) -> Result<(), AllocError> {
+    if let Some(disk) = MemoryDisk::holding(alloc, nodes_below(alloc, nodes, folder)?) {
+        let _ = disks.insert(String::from_str(alloc, folder)?, disk)?;
+    }
+    Ok(())
 }
 
 /// Whether a folder can stand in a tree though no file stands in it.
