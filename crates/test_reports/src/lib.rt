@@ -16,8 +16,6 @@ mod makings;
 #[cfg(test)]
 mod openings;
 #[cfg(test)]
-mod outputs;
-#[cfg(test)]
 mod profiles;
 #[cfg(test)]
 mod refused_calls;

@@ -1,4 +1,4 @@
-//! The report of a whole check to outputs that run out of room, and a check by a profile of which each call of the tree is refused.
+//! Reports to outputs that take a byte at a time and run out of room, and a check by a profile of which each call of the tree is refused.
 use crate::checks::{Files, request_of, tree_of};
 use bag_profile::Profile;
 use bag_report::{Depth, Options};
@@ -7,11 +7,6 @@ use bag_walk::{Outcome, run};
 use std::alloc::Global;
 use std::io::{self, ErrorKind, Write};
 use std::process::Abort;
-
-const WHOLE: Options = Options {
-    depth: Depth::Full,
-    clashes: false,
-};
 
 /// Takes at most so many bytes a call, and so many in all, and then refuses.
 #[derive(Drop)]
@@ -37,56 +32,83 @@ impl Write for Narrow {
     }
 }
 
-/// A file that holds `a`, to which two manifests give the digests of `abc`.
-const WRONG_DIGESTS: Files = &[
-    ("data/x", b"a"),
+/// What a bag holds beside a declaration that is right, how deep it is checked, and the report of its two faults.
+const REPORTS: [(Files, Depth, &str); 2] = [
+    // a byte order mark, and another encoding than UTF-8
     (
-        "manifest-md5.txt",
-        b"900150983cd24fb0d6963f7d28e17f72  data/x\n",
+        &[(
+            "bagit.txt",
+            b"\xEF\xBB\xBFBagIt-Version: 1.0\nTag-File-Character-Encoding: ISO-8859-1\n",
+        )],
+        Depth::Declaration,
+        "102 declaration-not-utf8 bagit.txt - - bom
+106 encoding-unsupported bagit.txt - 2 ISO-8859-1
+d has faults: 2
+",
     ),
+    // a file that holds `a`, to which two manifests give the digests of `abc`
     (
-        "manifest-sha1.txt",
-        b"a9993e364706816aba3e25717850c26c9cd0d89d  data/x\n",
+        &[
+            ("data/x", b"a"),
+            (
+                "manifest-md5.txt",
+                b"900150983cd24fb0d6963f7d28e17f72  data/x\n",
+            ),
+            (
+                "manifest-sha1.txt",
+                b"a9993e364706816aba3e25717850c26c9cd0d89d  data/x\n",
+            ),
+        ],
+        Depth::Full,
+        "701 payload-sum-differs data/x md5 - 900150983cd24fb0d6963f7d28e17f72:0cc175b9c0f1b6a831c399e269772661
+701 payload-sum-differs data/x sha1 - a9993e364706816aba3e25717850c26c9cd0d89d:86f7e437faa5a7fce15d1ddcb9eaeaea377667b8
+d has faults: 2
+",
     ),
 ];
 
-/// What a check writes of it: lines of 103, 120 and 16 bytes.
-const REPORT: &str =
-    "701 payload-sum-differs data/x md5 - 900150983cd24fb0d6963f7d28e17f72:0cc175b9c0f1b6a831c399e269772661
-701 payload-sum-differs data/x sha1 - a9993e364706816aba3e25717850c26c9cd0d89d:86f7e437faa5a7fce15d1ddcb9eaeaea377667b8
-d has faults: 2
-";
-
-/// Whether an outcome is that of a report of which an output takes so many bytes.
-fn is_cut_at(room: usize, outcome: &Outcome) -> bool {
+/// Whether an outcome is that of a report of which an output took these bytes: their whole lines are counted, where they aren't all.
+fn is_outcome(outcome: &Outcome, taken: &[u8], report: &str) -> bool {
     match outcome {
-        Outcome::Unwritten(0) => room < 103,
-        Outcome::Unwritten(1) => 103 <= room && room < 223,
-        Outcome::Unwritten(2) => 223 <= room && room < 239,
-        Outcome::Faults(2) => room == 239,
+        Outcome::Unwritten(lines) => {
+            let ends = taken.iter().filter(|byte| **byte == b'\n').count();
+            taken.len() < report.len() && *lines == ends as u64
+        }
+        Outcome::Faults(2) => taken.len() == report.len(),
         _ => false,
     }
 }
 
 /// Whether an output with this much room takes so many bytes of the report, and that is told.
-fn is_cut(stop: &impl Abort, alloc: Global, most: usize, room: usize) -> bool {
-    let tree = tree_of(stop, alloc, WRONG_DIGESTS);
-    let request = request_of(stop, alloc, WHOLE, None, None);
+fn is_cut(
+    stop: &impl Abort,
+    alloc: Global,
+    (files, depth, report): (Files, Depth, &str),
+    most: usize,
+    room: usize,
+) -> bool {
+    let options = Options {
+        depth,
+        clashes: false,
+    };
+    let request = request_of(stop, alloc, options, None, None);
     let taken = Vec::new(alloc);
     let mut out = WriterOut::new(Narrow { taken, most, room });
-    let (_tree, outcome) = run(alloc, tree, None, request, &mut out);
+    let (_tree, outcome) = run(alloc, tree_of(stop, alloc, files), None, request, &mut out);
     let taken = out.into_inner().taken;
-    REPORT.as_bytes().get(..room) == Some(taken.as_slice()) && is_cut_at(room, &outcome)
+    report.as_bytes().get(..room) == Some(taken.as_slice()) && is_outcome(&outcome, &taken, report)
 }
 
 #[test]
 fn an_output_without_room_for_each_byte_of_a_report(rt: HostRuntime) {
-    for most in [1, usize::MAX] {
-        for room in 0..240 {
-            assert!(rt;
-                is_cut(&rt, rt.alloc(), most, room),
-                "{most} bytes, room {room}"
-            );
+    for row in REPORTS {
+        for most in [1, usize::MAX] {
+            for room in 0..=row.2.len() {
+                assert!(rt;
+                    is_cut(&rt, rt.alloc(), row, most, room),
+                    "{most} bytes, room {room}"
+                );
+            }
         }
     }
 }
@@ -123,7 +145,11 @@ d has faults: 5
 /// What a check by the profile writes over a tree of which the call of this number is refused.
 fn checked_by(stop: &impl Abort, alloc: Global, profile: &Profile, call: u64) -> Vec<u8> {
     let tree = FailTree::new(tree_of(stop, alloc, FETCHED), call);
-    let request = request_of(stop, alloc, WHOLE, None, None);
+    let options = Options {
+        depth: Depth::Full,
+        clashes: false,
+    };
+    let request = request_of(stop, alloc, options, None, None);
     let mut out = WriterOut::new(Vec::<u8>::new(alloc));
     let (_tree, _) = run(alloc, tree, Some(profile), request, &mut out);
     out.into_inner()
