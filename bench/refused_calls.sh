@@ -15,7 +15,6 @@
 #
 # PROGRAM is crates/bagit/out/bagit by default, which `rt run` leaves there.
 set -euo pipefail
-shopt -s extglob
 
 program=$(realpath "${1:-$(dirname "$0")/../crates/bagit/out/bagit}")
 command -v strace >/dev/null || { echo "strace is needed: apt-get install strace"; exit 1; }
@@ -26,14 +25,15 @@ cd "$work"
 
 errors=(EIO EACCES ENOSPC EINTR ENOMEM)
 seconds=20
-refused=0 killed=0 wrong=0 told=0
+refused=0 killed=0 wrong=0
 
 # Runs the program under strace with these words, and an injection, where there is one: output, failures and status say what came of it.
 run() {
     local injection=$1
     shift
     status=0
-    timeout "$seconds" strace -f -o calls ${injection:+-e inject="$injection"} "$program" "$@" >output 2>failures || status=$?
+    # (Where it was killed, the shell would say so.)
+    { timeout "$seconds" strace -f -o calls ${injection:+-e inject="$injection"} "$program" "$@" >output 2>failures || status=$?; } 2>&-
 }
 
 # The calls of the program, each as NAME NUMBER, counted for each name from 1, behind those of the loader. The call that ends the program
