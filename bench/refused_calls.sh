@@ -24,7 +24,7 @@ trap 'rm -rf "$work"' EXIT
 cd "$work"
 
 errors=(EIO EACCES ENOSPC EINTR ENOMEM)
-seconds=20
+seconds=60
 refused=0 killed=0 wrong=0
 
 # Runs the program under strace with these words, and an injection, where there is one: output, failures and status say what came of it.
