@@ -11,7 +11,7 @@ use crate::system_fault::answer_of;
 use bag_text::Text;
 use std::alloc::{AllocError, Global};
 use std::fs;
-use std::fs::{DirEntry, Metadata, OpenOptions, ReadDir};
+use std::fs::{DirEntry, Metadata, OpenFile, OpenOptions, ReadDir};
 use std::rt::Files;
 
 /// A base folder of the system. Each call takes a path below it, and is one call of the system's where that path stands.
@@ -62,7 +62,7 @@ impl BaseFolder {
         answer_of(fs::read_dir(rt, location.as_str()))
     }
 
-    /// Opens the file at a path.
+    /// Opens the file or the folder at a path for reading.
     pub(crate) fn open<R: Files>(&self, rt: &R, path: &str) -> Result<R::File, DiskFault> {
         let location = self.location(path)?;
         answer_of(fs::open(rt, location.as_str()))
@@ -90,6 +90,12 @@ impl BaseFolder {
                 .create_new(true)
                 .open(rt, location.as_str()),
         )
+    }
+
+    /// Has the device keep the names in a folder.
+    pub(crate) fn sync<R: Files>(&self, rt: &R, folder: &str) -> Result<(), DiskFault> {
+        let folder = self.open(rt, folder)?;
+        answer_of(folder.sync_all())
     }
 
     /// Where a path stands. Below an empty base folder nothing does.

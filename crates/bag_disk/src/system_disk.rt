@@ -23,6 +23,8 @@ pub struct SystemDisk<R: Files> {
     openings: Items<Text>,
     opened: Option<R::File>,
     written: Option<R::File>,
+    /// Whether the device was asked to keep the names in the base folder as they are.
+    is_kept: bool,
     entered: Option<ReadDir<R, Global>>,
     /// What was named last.
     named: Option<DirEntry<R, Global>>,
@@ -41,6 +43,7 @@ impl<R: Files> SystemDisk<R> {
         ensures openings { self.new.openings ≡ self.old.openings }
         ensures opened { self.new.opened ≡ None }
         ensures written { self.new.written ≡ None }
+        ensures names { self.new.is_kept ≡ self.old.is_kept }
     {
         self.opened = None;
         self.written = None;
@@ -115,20 +118,25 @@ impl<R: Files + AllocGlobal + Clone + Drop> Disk for SystemDisk<R> {
 impl<R: Files + AllocGlobal + Clone + Drop> WritableDisk for SystemDisk<R> {
     ghost written = { λ disk. written_state (is_some disk.written) };
 
+    ghost is_kept = { λ disk. disk.is_kept };
+
     fn make_folder(&mut self, path: &str) -> Result<(), DiskFault> {
         self.base.make_folder(&self.rt, path)?;
+        self.is_kept = false;
         self.close_all();
         Ok(())
     }
 
     fn rename(&mut self, from: &str, to: &str) -> Result<(), DiskFault> {
         self.base.rename(&self.rt, from, to)?;
+        self.is_kept = false;
         self.close_all();
         Ok(())
     }
 
     fn create(&mut self, path: &str) -> Result<(), DiskFault> {
         let file = self.base.create(&self.rt, path)?;
+        self.is_kept = false;
         self.opened = None;
         self.written = Some(file);
         Ok(())
@@ -151,6 +159,12 @@ impl<R: Files + AllocGlobal + Clone + Drop> WritableDisk for SystemDisk<R> {
         self.close_all();
         Ok(())
     }
+
+    fn sync_folder(&mut self, folder: &str) -> Result<(), DiskFault> {
+        self.base.sync(&self.rt, folder)?;
+        self.is_kept = folder.is_empty() || self.is_kept;
+        Ok(())
+    }
 }
 
 impl<R: Files + AllocGlobal + Clone + Drop> SystemDisk<R> {
@@ -166,6 +180,7 @@ impl<R: Files + AllocGlobal + Clone + Drop> SystemDisk<R> {
             openings: Items::new(alloc),
             opened: None,
             written: None,
+            is_kept: false,
             entered: None,
             named: None,
         })

@@ -1,7 +1,7 @@
 //! The calls of a disk that change what stands on it.
-ghost use Rattle.std.specs.Prelude.{◌≡◌, ◌≤◌, List, ℕ, IfOk, OnOk, OnErr, IsErrOf, IsTrue, Option, None, Some, is_some, length, take};
+ghost use Rattle.std.specs.Prelude.{◌≡◌, ◌≤◌, ◌==◌, ◌||◌, List, ℕ, Bool, false, IfOk, OnOk, OnErr, MatchResult, IsErrOf, IsTrue, Option, None, Some, is_some, length, take};
 ghost use Rattle.bag_text.specs.Path.{is_path};
-ghost use Rattle.bag_disk.specs.Disk.{Has, IsReached, OnlyLooks, node};
+ghost use Rattle.bag_disk.specs.Disk.{Has, IsFolder, IsReached, OnlyLooks, node};
 ghost use Rattle.bag_disk.specs.WritableDisk.{Appends, Closes, HasFile, MakesFile, MakesFolder, Moves};
 ghost use Rattle.bag_tree.specs.Moved.{KeepsOthers};
 ghost use Rattle.bag_disk.specs.declared.disk.DiskFault.TheVariants.{Exists, Name, NotFound};
@@ -12,10 +12,13 @@ use crate::disk::{Disk, DiskFault};
 ///
 /// An honest disk stays honest: what stands there is then what its own calls made of it. A call that is answered closes the
 /// file that is open for reading; one that is refused changes nothing. Of a path that leads through a link nothing is said.
-/// What a call made may be lost where the system stops; `sync` alone asks for more.
+/// What a call made may be lost where the system stops; `sync` and `sync_folder` alone ask for more.
 pub trait WritableDisk: Disk {
     /// The path of the file that is being written.
     ghost written: { Self → Option (List ℕ) };
+
+    /// Whether the device was asked to keep the names in the base folder as they are.
+    ghost is_kept: { Self → Bool };
 
     /// Makes an empty folder where nothing stands. Then no file is being written.
     fn make_folder(&mut self, path: &str) -> Result<(), DiskFault>
@@ -28,6 +31,7 @@ pub trait WritableDisk: Disk {
             → Has (Self.state self.old).nodes path.now }
         ensures absent { IsErrOf result NotFound → IsTrue (Self.state self.old).honest → IsReached (Self.state self.old).nodes path.now → ⊥ }
         ensures same { OnErr result (OnlyLooks (Self.state self.old) (Self.state self.new)) }
+        ensures unkept { MatchResult result (λ _. is_kept self.new ≡ false) (λ _. is_kept self.new ≡ is_kept self.old) }
         ensures same_file { OnErr result (written self.new ≡ written self.old) };
 
     /// Moves what stands at one path, with all that is below it, to another, without a copy. Then no file is being written.
@@ -50,6 +54,7 @@ pub trait WritableDisk: Disk {
             → IsReached (Self.state self.old).nodes from.now → IsReached (Self.state self.old).nodes to.now
             → node (Self.state self.old).nodes from.now ≡ None }
         ensures same { OnErr result (OnlyLooks (Self.state self.old) (Self.state self.new)) }
+        ensures unkept { MatchResult result (λ _. is_kept self.new ≡ false) (λ _. is_kept self.new ≡ is_kept self.old) }
         ensures same_file { OnErr result (written self.new ≡ written self.old) };
 
     /// Makes an empty file where nothing stands, which is then being written in place of any other.
@@ -64,6 +69,7 @@ pub trait WritableDisk: Disk {
             → Has (Self.state self.old).nodes path.now }
         ensures absent { IsErrOf result NotFound → IsTrue (Self.state self.old).honest → IsReached (Self.state self.old).nodes path.now → ⊥ }
         ensures same { OnErr result (OnlyLooks (Self.state self.old) (Self.state self.new)) }
+        ensures unkept { MatchResult result (λ _. is_kept self.new ≡ false) (λ _. is_kept self.new ≡ is_kept self.old) }
         ensures same_file { OnErr result (written self.new ≡ written self.old) };
 
     /// Puts some first bytes, as many as it answers, behind those of the file that is being written. An honest disk refuses
@@ -78,7 +84,8 @@ pub trait WritableDisk: Disk {
         ensures absent { IsErrOf result NotFound → IsTrue (Self.state self.old).honest → ⊥ }
         ensures unnamed { IsErrOf result Name → IsTrue (Self.state self.old).honest → ⊥ }
         ensures same { OnErr result (OnlyLooks (Self.state self.old) (Self.state self.new)) }
-        ensures same_file { written self.new ≡ written self.old };
+        ensures same_file { written self.new ≡ written self.old }
+        ensures same_names { is_kept self.new ≡ is_kept self.old };
 
     /// Has the device keep the file that was written, and ends its writing. What is kept is the system's word: no contract
     /// says what outlasts a stop of the system. An honest disk refuses it by `Memory` or `Device` alone.
@@ -91,5 +98,17 @@ pub trait WritableDisk: Disk {
         ensures absent { IsErrOf result NotFound → IsTrue (Self.state self.old).honest → ⊥ }
         ensures unnamed { IsErrOf result Name → IsTrue (Self.state self.old).honest → ⊥ }
         ensures same { OnErr result (OnlyLooks (Self.state self.old) (Self.state self.new)) }
-        ensures same_file { OnErr result (written self.new ≡ written self.old) };
+        ensures same_file { OnErr result (written self.new ≡ written self.old) }
+        ensures same_names { is_kept self.new ≡ is_kept self.old };
+
+    /// Has the device keep the names of what stands in a folder: without that what was made in it, moved into it or moved
+    /// away may be lost, or be where it was. The empty path is the base folder. What is kept is the system's word here too. An
+    /// honest disk refuses it, where the folder is there, by `Memory` or `Device` alone.
+    fn sync_folder(&mut self, folder: &str) -> Result<(), DiskFault>
+        ensures looks { OnlyLooks (Self.state self.old) (Self.state self.new) }
+        ensures same_file { written self.new ≡ written self.old }
+        ensures kept { MatchResult result (λ _. is_kept self.new ≡ (length folder.now == 0 || is_kept self.old)) (λ _. is_kept self.new ≡ is_kept self.old) }
+        ensures taken { IsErrOf result Exists → IsTrue (Self.state self.old).honest → ⊥ }
+        ensures absent { IsErrOf result NotFound → IsTrue (Self.state self.old).honest → IsFolder (Self.state self.old).nodes folder.now → ⊥ }
+        ensures unnamed { IsErrOf result Name → IsTrue (Self.state self.old).honest → ⊥ };
 }

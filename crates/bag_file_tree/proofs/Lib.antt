@@ -1,4 +1,5 @@
 pub mod BagSteps
 pub mod BaseNames
 pub mod ChangedTree
+pub mod Looked
 pub mod WrittenFiles

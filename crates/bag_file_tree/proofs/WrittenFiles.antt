@@ -115,6 +115,11 @@ written_same old mid new written bytes before looks = record {
   nodes = λ honest path is has. subst (λ m. Appends old.nodes m path bytes) (sym looks.nodes) (before.nodes honest path is has);
 }
 
+-- a file was written, then synced, and then a folder
+pub written_synced : (old mid synced new : DiskState) (written : Option (List ℕ)) (bytes : List ℕ) → HasWritten old mid written bytes → synced.nodes ≡ mid.nodes → Closes mid synced → OnlyLooks synced new
+    → HasWritten old new written bytes
+written_synced old mid synced new written bytes before same closes looks = written_same old synced new written bytes (written_kept old mid synced written bytes before same closes) looks
+
 -- all bytes are some first ones
 pub all_written : (old new : DiskState) (written : Option (List ℕ)) (bytes : List ℕ) → HasWritten old new written bytes → HasWrittenSome old new written bytes
 all_written old new written bytes before = record { count = length bytes; first = subst (HasWritten old new written) (sym (take-length bytes)) before }

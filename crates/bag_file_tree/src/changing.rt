@@ -7,13 +7,15 @@ ghost use Rattle.bag_disk.specs.WritableDisk.{Closes, MakesFolder, Moves};
 ghost use Rattle.bag_file_tree.specs.Changing.{HasTarget, IsRenamed, IsMovedIn, IsTaken, LacksFolder, LacksSource};
 ghost use Rattle.bag_disk_files.specs.Refusal.{HasOther, IsDueInStep};
 
+use crate::keeping::{BASE, keep_names, keep_with_base};
 use crate::standing::{Standing, check_free, check_taken, standing_at};
 use crate::target::folder_in_the_way;
 use bag_disk::{Disk, DiskFault, WritableDisk, path_in};
 use bag_disk_files::{Refusal, check_is_folder};
 use std::alloc::Global;
 
-/// Makes a folder in the base folder, where nothing has its name.
+/// Makes a folder in the base folder, where nothing has its name. First the device is asked to keep the names there, so that
+/// one that can't is known before anything is changed.
 pub(crate) fn make_folder<D: WritableDisk>(disk: &mut D, name: &str) -> Result<(), Refusal>
     requires { IsTrue (is_base_name name.now) }
     ensures made { OnOk result (IsTrue (D.state disk.old).honest
@@ -22,6 +24,10 @@ pub(crate) fn make_folder<D: WritableDisk>(disk: &mut D, name: &str) -> Result<(
     ensures same { OnErr result (OnlyLooks (D.state disk.old) (D.state disk.new)) }
     ensures refused { IfErr result (IsDueInStep (HasOther (D.state disk.old)) ⊥ (IsTaken (D.state disk.old) name.now)) }
 {
+    match keep_names(disk, BASE) {
+        Ok(()) => {}
+        Err(refusal) => return Err(refusal),
+    }
     match disk.make_folder(name) {
         Ok(()) => Ok(()),
         Err(DiskFault::Exists) => Err(in_the_way(disk, name)),
@@ -76,7 +82,8 @@ pub(crate) fn move_in<D: WritableDisk>(
     }
 }
 
-/// Gives a folder of the base folder another name, where nothing has it.
+/// Gives a folder of the base folder another name, where nothing has it. Before that the device is asked to keep the names in
+/// both folders, which may take a while: only then it is looked whether the name is free.
 pub(crate) fn rename_folder<D: WritableDisk>(
     disk: &mut D,
     from: &str,
@@ -91,6 +98,10 @@ pub(crate) fn rename_folder<D: WritableDisk>(
         (LacksFolder (D.state disk.old) from.now) (IsTaken (D.state disk.old) to.now)) }
 {
     match check_is_folder(disk, from) {
+        Ok(()) => {}
+        Err(refusal) => return Err(refusal),
+    }
+    match keep_with_base(disk, from) {
         Ok(()) => {}
         Err(refusal) => return Err(refusal),
     }

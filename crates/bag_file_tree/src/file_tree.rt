@@ -21,7 +21,9 @@ use std::rt::Files;
 /// open file might not be counted in 64 bits.
 ///
 /// A step that changes it is one call of the disk: a folder is made, or something is renamed, never copied. It looks
-/// first, and replaces nothing that stood there then. A folder without files at the path to which `move_in` would move is
+/// first, and replaces nothing that stood there then. Before `make_folder` and `rename_folder` make their change they have
+/// the device keep the names that are there, the latter also those in the folder that it renames: where the device refuses that,
+/// they are refused, and nothing is changed. A folder without files at the path to which `move_in` would move is
 /// `Device`, since it might be replaced. What a disk calls a wrong name, as one that is too long, is `Device` too. A
 /// refused `create` may leave a file of some first bytes, which stays open until the next step or until the tree is
 /// dropped.
@@ -130,7 +132,8 @@ impl<D: WritableDisk + Drop> WriteTree for FileTree<D> {
         }
     }
 
-    /// Makes a file in the base folder. After Ok no file is being written: the device was asked to keep all of it.
+    /// Makes a file in the base folder. After Ok no file is being written: the device was asked to keep all of it, and all
+    /// names in the base folder.
     fn create(&mut self, name: &str, bytes: &[u8]) -> Result<(), TreeFault>
         requires { IsTrue (is_base_name name.now) }
         ensures changed { OnOk result (HasChanged (step.create name.now bytes.now) 1
@@ -148,6 +151,7 @@ impl<D: WritableDisk + Drop> WriteTree for FileTree<D> {
             (step.is_taken (⟦<FileTree<D> as Tree>⟧.state self.old).bag name.now ≡ true)
             (⟦<FileTree<D> as Tree>⟧.state self.old) (⟦<FileTree<D> as Tree>⟧.state self.new)) }
         ensures kept { OnOk result (D.written (disk_of self.new) ≡ None) }
+        ensures names_kept { OnOk result (IsTrue (D.is_kept (disk_of self.new))) }
     {
         match writing::create(&mut self.disk, name, bytes) {
             Ok(()) => {

@@ -13,6 +13,7 @@
 mod answered;
 mod changing;
 mod file_tree;
+mod keeping;
 pub mod laws;
 mod standing;
 mod target;

@@ -7,14 +7,16 @@ ghost use Rattle.bag_disk_files.specs.Refusal.{HasOther, IsDueInStep};
 ghost use Rattle.bag_file_tree.specs.Writing.{Begins, HasWritten, HasWrittenSome, Makes};
 
 use crate::changing::in_the_way;
+use crate::keeping::{BASE, keep_names};
 use bag_disk::{Disk, DiskFault, WritableDisk};
 use bag_disk_files::Refusal;
 
-/// Makes a file in the base folder, where nothing has its name, and has the device keep it.
+/// Makes a file in the base folder, where nothing has its name, and has the device keep it and all names in the base folder.
 pub(crate) fn create<D: WritableDisk>(disk: &mut D, name: &str, bytes: &[u8]) -> Result<(), Refusal>
     requires { IsTrue (is_base_name name.now) }
     ensures made { OnOk result (Makes (D.state disk.old) (D.state disk.new) name.now bytes.now) }
     ensures kept { OnOk result (D.written disk.new ≡ None) }
+    ensures names_kept { OnOk result (IsTrue (D.is_kept disk.new)) }
     ensures begun { OnErr result (OnlyLooks (D.state disk.old) (D.state disk.new)
         ⊎ Begins (D.state disk.old) (D.state disk.new) name.now bytes.now) }
     ensures refused { IfErr result (IsDueInStep (HasOther (D.state disk.old)) ⊥ (IsTaken (D.state disk.old) name.now)) }
@@ -26,11 +28,12 @@ pub(crate) fn create<D: WritableDisk>(disk: &mut D, name: &str, bytes: &[u8]) ->
     }
 }
 
-/// Writes the bytes of the file that is being written, and has the device keep it.
+/// Writes the bytes of the file that is being written, and has the device keep it and all names in the base folder.
 fn fill<D: WritableDisk>(disk: &mut D, bytes: &[u8]) -> Result<(), Refusal>
     requires { IsTrue (is_some (D.written disk.old)) }
     ensures whole { OnOk result (HasWritten (D.state disk.old) (D.state disk.new) (D.written disk.old) bytes.now) }
     ensures kept { OnOk result (D.written disk.new ≡ None) }
+    ensures names_kept { OnOk result (IsTrue (D.is_kept disk.new)) }
     ensures part { OnErr result (HasWrittenSome (D.state disk.old) (D.state disk.new) (D.written disk.old) bytes.now) }
     ensures refused { IfErr result (IsDueInStep ⊥ ⊥ ⊥) }
 {
@@ -39,7 +42,7 @@ fn fill<D: WritableDisk>(disk: &mut D, bytes: &[u8]) -> Result<(), Refusal>
         Err(refusal) => return Err(refusal),
     }
     match disk.sync() {
-        Ok(()) => Ok(()),
+        Ok(()) => keep_names(disk, BASE),
         Err(fault) => Err(Refusal::at_known(fault)),
     }
 }

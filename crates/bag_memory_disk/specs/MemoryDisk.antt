@@ -37,6 +37,10 @@ state_of disk = record {
 abbrev pub written_of : MemoryDisk → Option (List ℕ)
 written_of disk = disk.written
 
+-- the device was asked to keep the names in the base folder as they are
+abbrev pub is_kept_of : MemoryDisk → Bool
+is_kept_of disk = disk.is_kept
+
 -- the folders that may not be read
 abbrev pub barred_of : MemoryDisk → List (List ℕ)
 barred_of disk = disk.barred

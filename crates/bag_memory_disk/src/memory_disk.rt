@@ -3,7 +3,7 @@ ghost use Rattle.bag_memory_disk.specs.Held.{nodes_of};
 ghost use Rattle.bag_memory_disk.specs.Placing.{PassesAsDisk};
 
 use crate::changing::{add_node, append, moved_to};
-use crate::held::{Node, names_in, node_at};
+use crate::held::{Node, is_folder, names_in, node_at};
 use crate::placing::are_placed;
 use crate::reading::read_at;
 use bag_disk::{Disk, DiskFault, Entry, WritableDisk};
@@ -48,6 +48,8 @@ pub struct MemoryDisk {
     names: Items<Items<u8>>,
     named: usize,
     written: Option<Text>,
+    /// Whether the device was asked to keep the names in the base folder as they are.
+    is_kept: bool,
     ghost passes: { PassesAsDisk (nodes_of nodes.entries) },
 }
 
@@ -92,6 +94,7 @@ impl MemoryDisk {
             names: Items::new(alloc),
             named: 0,
             written: None,
+            is_kept: false,
         }
     }
 
@@ -272,16 +275,18 @@ impl Disk for MemoryDisk {
 }
 
 impl WritableDisk for MemoryDisk {
-    ghost use Rattle.std.specs.Prelude.{◌≡◌, ◌≤◌, IfErr, IfOk, IsErrOf, IsOk, IsTrue, List, None, OnErr, OnOk, Some, is_some, length, take, ℕ};
+    ghost use Rattle.std.specs.Prelude.{◌≡◌, ◌≤◌, ◌==◌, ◌||◌, IfErr, IfOk, IsErrOf, IsOk, IsTrue, List, MatchResult, None, OnErr, OnOk, Some, false, is_some, length, take, ℕ};
     ghost use Rattle.bag_text.specs.Path.{is_path};
-    ghost use Rattle.bag_disk.specs.Disk.{Has, IsReached, OnlyLooks, node};
+    ghost use Rattle.bag_disk.specs.Disk.{Has, IsFolder, IsReached, OnlyLooks, node};
     ghost use Rattle.bag_disk.specs.WritableDisk.{Appends, Closes, HasFile, MakesFile, MakesFolder, Moves};
     ghost use Rattle.bag_tree.specs.Moved.{KeepsOthers};
     ghost use Rattle.bag_disk.specs.declared.disk.DiskFault.TheVariants.{Exists, Name, NotFound};
     ghost use Rattle.bag_memory_disk.specs.Changing.{MayRefuseAdding, MayRefuseMoving, MayRefuseWriting};
-    ghost use Rattle.bag_memory_disk.specs.MemoryDisk.{barred_of, state_of, written_of};
+    ghost use Rattle.bag_memory_disk.specs.MemoryDisk.{barred_of, is_kept_of, state_of, written_of};
 
     ghost written = { written_of };
+
+    ghost is_kept = { is_kept_of };
 
     fn make_folder(&mut self, path: &str) -> Result<(), DiskFault>
         requires { IsTrue (is_path path.now) }
@@ -294,6 +299,7 @@ impl WritableDisk for MemoryDisk {
         ensures absent { IsErrOf result NotFound → IsTrue (state_of self.old).honest → IsReached (state_of self.old).nodes path.now → ⊥ }
         ensures same { OnErr result (OnlyLooks (state_of self.old) (state_of self.new)) }
         ensures same_file { OnErr result (written_of self.new ≡ written_of self.old) }
+        ensures unkept { MatchResult result (λ _. is_kept_of self.new ≡ false) (λ _. is_kept_of self.new ≡ is_kept_of self.old) }
         ensures barred { barred_of self.new ≡ barred_of self.old }
         ensures refused { IfErr result (MayRefuseAdding (state_of self.old).nodes path.now) }
     {
@@ -301,6 +307,7 @@ impl WritableDisk for MemoryDisk {
             Ok(()) => {}
             Err(fault) => return Err(fault),
         }
+        self.is_kept = false;
         self.open = None;
         self.written = None;
         Ok(())
@@ -322,6 +329,7 @@ impl WritableDisk for MemoryDisk {
             → node (state_of self.old).nodes from.now ≡ None }
         ensures same { OnErr result (OnlyLooks (state_of self.old) (state_of self.new)) }
         ensures same_file { OnErr result (written_of self.new ≡ written_of self.old) }
+        ensures unkept { MatchResult result (λ _. is_kept_of self.new ≡ false) (λ _. is_kept_of self.new ≡ is_kept_of self.old) }
         ensures barred { barred_of self.new ≡ barred_of self.old }
         ensures refused { IfErr result (MayRefuseMoving (state_of self.old).nodes from.now to.now) }
     {
@@ -329,6 +337,7 @@ impl WritableDisk for MemoryDisk {
             Ok(moved) => self.nodes = moved,
             Err(fault) => return Err(fault),
         }
+        self.is_kept = false;
         self.open = None;
         self.written = None;
         Ok(())
@@ -346,6 +355,7 @@ impl WritableDisk for MemoryDisk {
         ensures absent { IsErrOf result NotFound → IsTrue (state_of self.old).honest → IsReached (state_of self.old).nodes path.now → ⊥ }
         ensures same { OnErr result (OnlyLooks (state_of self.old) (state_of self.new)) }
         ensures same_file { OnErr result (written_of self.new ≡ written_of self.old) }
+        ensures unkept { MatchResult result (λ _. is_kept_of self.new ≡ false) (λ _. is_kept_of self.new ≡ is_kept_of self.old) }
         ensures barred { barred_of self.new ≡ barred_of self.old }
         ensures refused { IfErr result (MayRefuseAdding (state_of self.old).nodes path.now) }
     {
@@ -355,6 +365,7 @@ impl WritableDisk for MemoryDisk {
             Ok(()) => {}
             Err(fault) => return Err(fault),
         }
+        self.is_kept = false;
         self.open = None;
         self.written = Some(written);
         Ok(())
@@ -370,6 +381,7 @@ impl WritableDisk for MemoryDisk {
         ensures unnamed { IsErrOf result Name → IsTrue (state_of self.old).honest → ⊥ }
         ensures same { OnErr result (OnlyLooks (state_of self.old) (state_of self.new)) }
         ensures same_file { written_of self.new ≡ written_of self.old }
+        ensures same_names { is_kept_of self.new ≡ is_kept_of self.old }
         ensures barred { barred_of self.new ≡ barred_of self.old }
         ensures all { IfOk result (λ n. n ≡ length bytes.now) }
         ensures refused { IfErr result (MayRefuseWriting (state_of self.old).nodes (written_of self.old)) }
@@ -394,11 +406,29 @@ impl WritableDisk for MemoryDisk {
         ensures unnamed { IsErrOf result Name → IsTrue (state_of self.old).honest → ⊥ }
         ensures same { OnErr result (OnlyLooks (state_of self.old) (state_of self.new)) }
         ensures same_file { OnErr result (written_of self.new ≡ written_of self.old) }
+        ensures same_names { is_kept_of self.new ≡ is_kept_of self.old }
         ensures barred { barred_of self.new ≡ barred_of self.old }
         ensures synced { IsOk result }
     {
         self.open = None;
         self.written = None;
+        Ok(())
+    }
+
+    fn sync_folder(&mut self, folder: &str) -> Result<(), DiskFault>
+        ensures looks { OnlyLooks (state_of self.old) (state_of self.new) }
+        ensures same_file { written_of self.new ≡ written_of self.old }
+        ensures kept { MatchResult result (λ _. is_kept_of self.new ≡ (length folder.now == 0 || is_kept_of self.old)) (λ _. is_kept_of self.new ≡ is_kept_of self.old) }
+        ensures taken { IsErrOf result Exists → IsTrue (state_of self.old).honest → ⊥ }
+        ensures absent { IsErrOf result NotFound → IsTrue (state_of self.old).honest → IsFolder (state_of self.old).nodes folder.now → ⊥ }
+        ensures unnamed { IsErrOf result Name → IsTrue (state_of self.old).honest → ⊥ }
+        ensures barred { barred_of self.new ≡ barred_of self.old }
+        ensures refused { IfErr result (λ fault. (fault ≡ NotFound) × (IsFolder (state_of self.old).nodes folder.now → ⊥)) }
+    {
+        if !folder.is_empty() && !is_folder(&self.nodes, folder.as_bytes()) {
+            return Err(DiskFault::NotFound);
+        }
+        self.is_kept = folder.is_empty() || self.is_kept;
         Ok(())
     }
 }

@@ -121,6 +121,8 @@ impl<D: Disk + Drop> Disk for RefusingDisk<D> {
 impl<D: WritableDisk + Drop> WritableDisk for RefusingDisk<D> {
     ghost written = { λ disk. D.written disk.disk };
 
+    ghost is_kept = { λ disk. D.is_kept disk.disk };
+
     fn make_folder(&mut self, path: &str) -> Result<(), DiskFault> {
         if self.call.is_due() {
             return Err(self.fault);
@@ -154,5 +156,12 @@ impl<D: WritableDisk + Drop> WritableDisk for RefusingDisk<D> {
             return Err(self.fault);
         }
         self.disk.sync()
+    }
+
+    fn sync_folder(&mut self, folder: &str) -> Result<(), DiskFault> {
+        if self.call.is_due() {
+            return Err(self.fault);
+        }
+        self.disk.sync_folder(folder)
     }
 }

@@ -173,7 +173,7 @@ fn make_file<D: WritableDisk>(
 }
 
 /// What changes of a disk in turn answer.
-fn changed<D: WritableDisk>(disk: &mut D, texts: (&str, &str)) -> [Result<(), DiskFault>; 7] {
+fn changed<D: WritableDisk>(disk: &mut D, texts: (&str, &str)) -> [Result<(), DiskFault>; 10] {
     [
         disk.make_folder("a"),
         make_file(disk, "a/b", texts),
@@ -182,16 +182,22 @@ fn changed<D: WritableDisk>(disk: &mut D, texts: (&str, &str)) -> [Result<(), Di
         make_file(disk, "data/b", texts),
         make_file(disk, "a/b", texts),
         disk.rename("a", "b"),
+        disk.sync_folder("data"),
+        disk.sync_folder(""),
+        disk.sync_folder("a"),
     ]
 }
 
-const ANSWERS: [Result<(), DiskFault>; 7] = [
+const ANSWERS: [Result<(), DiskFault>; 10] = [
     Ok(()),
     Ok(()),
     Ok(()),
     Err(DiskFault::Exists),
     Err(DiskFault::Exists),
     Err(DiskFault::NotFound),
+    Err(DiskFault::NotFound),
+    Ok(()),
+    Ok(()),
     Err(DiskFault::NotFound),
 ];
 

@@ -1,0 +1,192 @@
+#!/usr/bin/env bash
+# Makes folders bags and checks bags, and each time has the system refuse another of the program's calls: the first, the second, and so on,
+# each by EIO, EACCES, ENOSPC, EINTR and ENOMEM; and kills the program at each. Calls of the loader, before the program begins, are left
+# alone. Whatever is refused, no run hangs, statuses are 0, 1 and 3, and no file is lost:
+#
+# - of a making: the bytes of each file stand once, at the file's own path, in `.bagit-new` or in `data`; status 0 and `made` come only
+#   where a whole bag stands there, which the programs of coreutils accept;
+# - of a check: what is written is the whole report, or its first lines and a closing line that counts them and says that something
+#   couldn't be read; or why nothing could be begun; or a first part of all that, where the output itself was refused or the program was
+#   killed. The folder is as it was.
+#
+# It also counts which folders are synced by a making, and how often: at most ten times, the base folder last. It needs strace.
+#
+# usage: bench/refused_calls.sh [PROGRAM]
+#
+# PROGRAM is crates/bagit/out/bagit by default, which `rt run` leaves there.
+set -euo pipefail
+
+program=$(realpath "${1:-$(dirname "$0")/../crates/bagit/out/bagit}")
+command -v strace >/dev/null || { echo "strace is needed: apt-get install strace"; exit 1; }
+
+work=$(mktemp -d /tmp/bagit-calls.XXXXXX)
+trap 'rm -rf "$work"' EXIT
+cd "$work"
+
+errors=(EIO EACCES ENOSPC EINTR ENOMEM)
+seconds=60
+refused=0 killed=0 wrong=0
+
+# Runs the program under strace with these words, and an injection, where there is one: output, failures and status say what came of it.
+run() {
+    local injection=$1
+    shift
+    status=0
+    # (Where it was killed, the shell would say so.)
+    { timeout "$seconds" strace -f -o calls ${injection:+-e inject="$injection"} "$program" "$@" >output 2>failures || status=$?; } 2>&-
+}
+
+# The calls of the program, each as NAME NUMBER, counted for each name from 1, behind those of the loader. The call that ends the program
+# isn't one that can be refused.
+numbered_calls() {
+    awk '
+        { sub(/^[0-9]+ +/, "") }
+        !/^[a-z0-9_]+\(/ { next }
+        { name = $0; sub(/\(.*/, "", name); count[name]++; line[++lines] = name " " count[name] }
+        /ld\.so\.cache/ { cached = 1 }
+        cached && !begun && name == "munmap" { begun = lines }
+        END { for (i = begun + 1; i <= lines; i++) if (line[i] !~ /^(execve|exit|exit_group) /) print line[i] }
+    ' calls
+}
+
+# Says what is wrong, once, with the last run.
+is_wrong() {
+    echo "$what: $1; status $status, written: $(head -c 300 output), told: $(head -c 300 failures)"
+    wrong=$((wrong + 1))
+}
+
+# A folder to be made a bag.
+folder() {
+    rm -rf d
+    cp -r pristine d
+}
+
+# Whether the bytes of each file of the folder stand once, at a path where a step may have put them.
+keeps_all() {
+    local file at there
+    while IFS= read -r file; do
+        there=0
+        for at in "d/$file" "d/.bagit-new/$file" "d/data/$file"; do
+            if [[ -f $at ]] && cmp -s "pristine/$file" "$at"; then there=$((there + 1)); fi
+        done
+        [[ $there == 1 ]] || return 1
+    done <files
+}
+
+# Whether the folder is a whole bag of all files, as the programs of coreutils see it.
+is_whole_bag() {
+    cmp -s declaration d/bagit.txt && diff -rq pristine d/data >/dev/null &&
+        (cd d && sha256sum --check --strict --quiet manifest-sha256.txt tagmanifest-sha256.txt && md5sum --check --strict --quiet manifest-md5.txt tagmanifest-md5.txt) >/dev/null 2>&1 &&
+        [[ $(wc -l <d/manifest-sha256.txt) == $(wc -l <files) && $(wc -l <d/tagmanifest-md5.txt) == 4 ]]
+}
+
+made() {
+    keeps_all || is_wrong 'a file is lost, or stands twice'
+    if [[ $status == 0 ]] || grep -q ' made$' output; then
+        is_whole_bag || is_wrong 'made is told of what is no whole bag'
+    fi
+    [[ $status != 0 ]] || cmp -s whole output || is_wrong 'status 0 without the line'
+}
+
+# Whether an answer is one that a refused call may have.
+answers() {
+    if [[ $status == "$wanted" ]] && cmp -s whole output; then return; fi
+    [[ $status == 3 ]] || return 1
+    if [[ -s failures ]]; then
+        # The output was refused, or nothing could be begun.
+        grep -qE '^bagit: (out of memory|output refused|profile unread)' failures && cmp -s -n "$(stat -c %s output)" whole output
+        return
+    fi
+    head -n -1 output >front
+    cmp -s -n "$(stat -c %s front)" lines front &&
+        tail -n 1 output | grep -qE "^d unread .*, faults: $(wc -l <front)\$"
+}
+
+checked() {
+    if [[ $status == 137 ]]; then
+        cmp -s -n "$(stat -c %s output)" whole output || is_wrong 'what a killed check wrote is no first part of the report'
+    else
+        answers || is_wrong 'something else is written'
+    fi
+    diff -r pristine d >/dev/null || is_wrong 'the folder was changed'
+}
+
+# Refuses each call of the program in turn, and kills it at each. Its arguments are what looks at the result, the wanted status, and the
+# words; standard input is what is written where no call is refused.
+in_turn() {
+    local look=$1 name number error
+    wanted=$2
+    shift 2
+    cat >whole
+    head -n -1 whole >lines
+    what="$*"
+    folder
+    run '' "$@"
+    [[ $status == "$wanted" ]] && cmp whole output || { is_wrong 'without a refusal'; exit 1; }
+    numbered_calls >numbered
+    [[ -s numbered ]]
+    while read -r name number; do
+        for error in "${errors[@]}"; do
+            what="$* ($name $number: $error)"
+            folder
+            run "$name:error=$error:when=$number" "$@"
+            refused=$((refused + 1))
+            case $status in
+                0 | 1 | 3) "$look" ;;
+                124) is_wrong 'the run hangs' ;;
+                *) is_wrong 'another status' ;;
+            esac
+        done
+        what="$* ($name $number: killed)"
+        folder
+        run "$name:signal=KILL:when=$number" "$@"
+        killed=$((killed + 1))
+        case $status in
+            0 | 1 | 3 | 137) "$look" ;;
+            124) is_wrong 'the run hangs' ;;
+            *) is_wrong 'another status' ;;
+        esac
+    done <numbered
+}
+
+printf 'BagIt-Version: 1.0\nTag-File-Character-Encoding: UTF-8\n' >declaration
+
+# A folder to be made a bag, which has a `data` of its own, with files in folders, and no two files of the same bytes.
+mkdir -p pristine/data/inner pristine/letters
+printf 'one' >pristine/data/inner/x
+printf 'two' >pristine/data/y
+printf 'three' >pristine/letters/z
+head -c 200000 /dev/urandom >pristine/w
+(cd pristine && find . -type f -printf '%P\n' | LC_ALL=C sort) >files
+in_turn made 0 --md5 --sha256 --contact-name Ann d <<<'d made'
+
+# Which folders were synced, and how often.
+folder
+strace -f -y -e trace=fsync,fdatasync -o calls "$program" --md5 --sha256 d >output
+grep -oE '\((/|[0-9]+<)[^>)]*' calls | sed -E 's/^\([0-9]*<?//' | while IFS= read -r path; do
+    # (A folder that was renamed since has its old name.)
+    if [[ -f $path ]]; then echo file; else echo "${path#"$work/"}"; fi
+done >synced
+echo "synced: $(grep -c '^file$' synced) files, and folders $(grep -vc '^file$' synced) times ($(grep -v '^file$' synced | sort | uniq -c | awk '{ printf "%s%s %s times", comma, $2, $1; comma = ", " }'))"
+[[ $(grep -vc '^file$' synced) -le 10 && $(tail -n 1 synced) == d ]] || { echo 'the base folder is not synced last, or folders are too often'; wrong=$((wrong + 1)); }
+
+# A bag without a fault, and one with several, by a profile.
+"$program" --md5 --sha256 d >output
+rm -rf pristine
+cp -r d pristine
+in_turn checked 0 --validate d <<<'d is valid'
+
+printf 'x' >>pristine/data/y
+printf 'x' >pristine/data/extra
+rm pristine/data/letters/z
+cat >profile.json <<'END'
+{"BagIt-Profile-Info":{"BagIt-Profile-Identifier":"urn:p"},"Bag-Info":{"Source-Organization":{"required":true}}}
+END
+folder
+"$program" --validate --profile profile.json d >faults || true
+in_turn checked 1 --validate --profile profile.json d <faults
+in_turn checked 1 --validate --completeness-only d < <("$program" --validate --completeness-only d || true)
+
+echo "killed $killed times"
+echo "$refused calls refused, $wrong wrong"
+[[ $wrong == 0 ]]
