@@ -83,10 +83,7 @@ impl Word {
 
     /// Whether such a line is wanted of the entry above it.
     pub fn is_wanted(self) -> bool {
-        matches!(
-            self,
-            Word::Written | Word::Told | Word::Status | Word::Then
-        )
+        matches!(self, Word::Written | Word::Told | Word::Status | Word::Then)
     }
 }
 

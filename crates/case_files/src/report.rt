@@ -163,7 +163,9 @@ fn put_difference(text: &mut Bytes, word: &str, wanted: &[u8], found: &[u8]) {
 /// Adds the lines of bytes from a start to so many bytes before their end, with a mark and a word before each, and `\` behind the last
 /// where it has no end.
 fn put_lines(text: &mut Bytes, mark: &str, word: &str, bytes: &[u8], start: usize, end: usize) {
-    let bytes = bytes.get(start..bytes.len().saturating_sub(end)).unwrap_or(&[]);
+    let bytes = bytes
+        .get(start..bytes.len().saturating_sub(end))
+        .unwrap_or(&[]);
     let lines = str::from_utf8(bytes).unwrap_or("(bytes that are no text)\n");
     for line in lines.split_inclusive('\n') {
         text.put(mark);

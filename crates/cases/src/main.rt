@@ -16,9 +16,9 @@ mod world;
 
 use crate::files::{Place, run_files};
 use case_files::Report;
+use std::env;
 use std::io::{self, Write};
 use std::process::ExitCode;
-use std::env;
 
 /// Prints what differs, also on the error output, of which the gate shows the end; or why a file can't be followed.
 fn close(rt: &HostRuntime, report: &Report, at: Place<'_>) -> io::Result<ExitCode> {

@@ -116,7 +116,15 @@ impl Session {
         self.world.make_folder(rt, *name, report);
         for bag in bags {
             let folder = &self.folder.held;
-            put_bag(rt, &self.texts, folder, lines, *bag, &mut self.world, report);
+            put_bag(
+                rt,
+                &self.texts,
+                folder,
+                lines,
+                *bag,
+                &mut self.world,
+                report,
+            );
         }
     }
 
@@ -145,7 +153,13 @@ impl Session {
         match (self.reader, entry.line.rest.split_once("=>")) {
             (Some(reader), Some((left, right))) => {
                 let sight = sight_of(file, &self.texts, entry);
-                read(reader, left.trim_matches(' '), right.trim_matches(' '), &sight, report);
+                read(
+                    reader,
+                    left.trim_matches(' '),
+                    right.trim_matches(' '),
+                    &sight,
+                    report,
+                );
             }
             _ => report.text.fail(Mistake::ROW),
         }

@@ -144,7 +144,8 @@ impl World {
 
     /// Has a folder hold what a tree does.
     pub(crate) fn keep(&mut self, name: &str, tree: &mut MemoryTree, report: &mut Report) {
-        self.nodes.retain(|path, _| below(path.as_str(), name).is_none());
+        self.nodes
+            .retain(|path, _| below(path.as_str(), name).is_none());
         match tree.list() {
             Ok(listing) => self.hold_files(name, tree, &listing, report),
             Err(_) => report.text.fail(Mistake::MEMORY),
