@@ -1,7 +1,6 @@
 //! Texts as case files spell them, and those that have a name.
 use crate::answers::Answer;
-use crate::bytes::Bytes;
-use crate::lines::{Line, Word};
+use crate::lines::Line;
 use crate::mistake::Mistake;
 use std::alloc::Global;
 use std::collections::BTreeMap;
@@ -9,7 +8,6 @@ use std::collections::BTreeMap;
 /// The texts that have a name.
 #[derive(Drop)]
 pub struct Texts {
-    pub alloc: Global,
     named: BTreeMap<String, Vec<u8>>,
 }
 
@@ -17,149 +15,154 @@ impl Texts {
     /// No text has a name yet.
     pub fn new(alloc: Global) -> Texts {
         Texts {
-            alloc,
             named: BTreeMap::new(alloc),
         }
     }
 
     /// Gives a text a name, which it has from then on.
-    pub fn name(&mut self, name: &str, bytes: Vec<u8>) -> Result<(), Mistake> {
-        let Ok(name) = String::from_str(self.alloc, name) else {
-            return Err(Mistake::MEMORY);
-        };
-        match self.named.insert(name, bytes) {
-            Ok(_) => Ok(()),
-            Err(_) => Err(Mistake::MEMORY),
-        }
+    pub fn name(&mut self, name: String, bytes: Vec<u8>) -> Result<(), Mistake> {
+        let _ = self.named.insert(name, bytes)?;
+        Ok(())
     }
 
     /// Adds the text of a name, `NAME*3` three times.
-    fn add_named(&self, name: &str, bytes: &mut Bytes) {
+    fn add_named(&self, name: &str, bytes: &mut Vec<u8>) -> Result<(), Mistake> {
         let (name, times) = name.split_once('*').unwrap_or((name, "1"));
-        match (self.named.get(name), times.parse::<u32>()) {
-            (Some(named), Ok(times)) => {
-                for _ in 0..times {
-                    bytes.put_bytes(named);
-                }
-            }
-            (None, _) => bytes.fail(Mistake::NAME),
-            (Some(_), Err(_)) => bytes.fail(Mistake::NUMBER),
+        let Some(named) = self.named.get(name) else {
+            return Err(Mistake::Name);
+        };
+        let Ok(times) = times.parse::<usize>() else {
+            return Err(Mistake::Number);
+        };
+        for _ in 0..times {
+            bytes.extend_from_slice(named)?;
         }
+        Ok(())
     }
 
-    /// Adds what `$` begins, where `{NAME}` stands behind it a text with a name; gives the rest.
-    fn add_behind_dollar<'a>(&self, text: &'a str, bytes: &mut Bytes) -> &'a str {
-        let Some(name) = text.strip_prefix('{') else {
-            bytes.put("$");
-            return text;
-        };
-        let Some((name, rest)) = name.split_once('}') else {
-            bytes.fail(Mistake::ESCAPE);
-            return "";
-        };
-        self.add_named(name, bytes);
-        rest
+    /// Adds a text without escapes, in which `${NAME}` is a text with a name.
+    fn add_plain(&self, text: &str, bytes: &mut Vec<u8>) -> Result<(), Mistake> {
+        let (front, rest) = text.split_once("${").unwrap_or((text, ""));
+        bytes.extend_from_slice(front.as_bytes())?;
+        if rest.is_empty() {
+            return Ok(());
+        }
+        for piece in rest.split("${") {
+            let Some((name, plain)) = piece.split_once('}') else {
+                return Err(Mistake::Escape);
+            };
+            self.add_named(name, bytes)?;
+            bytes.extend_from_slice(plain.as_bytes())?;
+        }
+        Ok(())
     }
 
     /// Adds what a text spells; says whether it doesn't end in a `\`.
-    fn add(&self, text: &str, bytes: &mut Bytes) -> bool {
+    fn add(&self, text: &str, bytes: &mut Vec<u8>) -> Result<bool, Mistake> {
         let mut rest = text;
-        for _ in 0..text.len() {
-            let Some((plain, behind)) = rest.split_once(['\\', '$']) else {
-                break;
+        for _ in 0..=text.len() {
+            let Some((plain, escape)) = rest.split_once('\\') else {
+                self.add_plain(rest, bytes)?;
+                return Ok(true);
             };
-            bytes.put(plain);
-            if rest.as_bytes().get(plain.len()) == Some(&b'$') {
-                rest = self.add_behind_dollar(behind, bytes);
-            } else if behind.is_empty() {
-                return false;
-            } else {
-                rest = add_escaped(behind, bytes);
+            self.add_plain(plain, bytes)?;
+            if escape.is_empty() {
+                return Ok(false);
             }
+            rest = add_escaped(escape, bytes)?;
         }
-        bytes.put(rest);
-        true
-    }
-
-    /// Adds the bytes that a text spells.
-    pub fn add_text(&self, text: &str, bytes: &mut Bytes) {
-        let _ = self.add(text, bytes);
-    }
-
-    /// Adds the bytes of a line, with its end where it has no `\` there.
-    pub fn add_line(&self, line: &str, bytes: &mut Bytes) {
-        if self.add(line, bytes) {
-            bytes.put("\n");
-        }
+        Ok(true)
     }
 
     /// The bytes that a text spells.
-    pub fn bytes(&self, text: &str) -> Bytes {
-        let mut bytes = Bytes::new(self.alloc);
-        self.add_text(text, &mut bytes);
-        bytes
+    pub fn bytes(&self, alloc: Global, text: &str) -> Result<Vec<u8>, Mistake> {
+        let mut bytes = Vec::new(alloc);
+        self.add(text, &mut bytes)?;
+        Ok(bytes)
     }
 
-    /// The bytes of lines of an output, which no others may stand among.
-    pub fn lines(&self, lines: &[Line<'_>]) -> Bytes {
-        let mut bytes = Bytes::new(self.alloc);
+    /// The text that a text spells.
+    pub fn text(&self, alloc: Global, text: &str) -> Result<String, Mistake> {
+        match String::from_utf8(self.bytes(alloc, text)?) {
+            Ok(text) => Ok(text),
+            Err(_) => Err(Mistake::Text),
+        }
+    }
+
+    /// Adds the bytes of a line, with its end where it has no `\` there.
+    pub fn add_line(&self, line: &str, bytes: &mut Vec<u8>) -> Result<(), Mistake> {
+        if self.add(line, bytes)? {
+            bytes.push(b'\n')?;
+        }
+        Ok(())
+    }
+
+    /// The bytes of those lines that begin with a word.
+    pub fn joined(
+        &self,
+        alloc: Global,
+        lines: &[Line<'_>],
+        word: &str,
+    ) -> Result<Vec<u8>, Mistake> {
+        let mut bytes = Vec::new(alloc);
         for line in lines {
-            match line.word {
-                Word::Written => self.add_line(line.rest, &mut bytes),
-                _ => bytes.fail(Mistake::UNASKED),
+            if line.word == word {
+                self.add_line(line.rest, &mut bytes)?;
             }
         }
-        bytes
+        Ok(bytes)
     }
 
     /// The answer that lines want. Where they give no status it is this one.
-    pub fn wanted(&self, lines: &[Line<'_>], status: u8) -> Answer {
-        let mut answer = Answer::of(self.alloc, Bytes::new(self.alloc), status);
+    pub fn answer(&self, alloc: Global, lines: &[Line<'_>], status: u8) -> Result<Answer, Mistake> {
+        let mut status = status;
         for line in lines {
-            self.want(line, &mut answer);
+            if line.word == "?" {
+                status = number_of(line.rest)?;
+            }
         }
-        answer
+        Ok(Answer {
+            written: self.joined(alloc, lines, "|")?,
+            told: self.joined(alloc, lines, "!")?,
+            status,
+        })
     }
+}
 
-    /// Adds what a line wants.
-    fn want(&self, line: &Line<'_>, answer: &mut Answer) {
-        match line.word {
-            Word::Written => self.add_line(line.rest, &mut answer.written),
-            Word::Told => self.add_line(line.rest, &mut answer.told),
-            Word::Status => match line.rest.parse::<u8>() {
-                Ok(status) => answer.status = status,
-                Err(_) => answer.told.fail(Mistake::NUMBER),
-            },
-            _ => answer.told.fail(Mistake::UNASKED),
-        }
+fn number_of(text: &str) -> Result<u8, Mistake> {
+    match text.parse::<u8>() {
+        Ok(number) => Ok(number),
+        Err(_) => Err(Mistake::Number),
     }
 }
 
 /// Adds what is escaped at the front of a text, which stands behind a `\`; gives the rest.
-fn add_escaped<'a>(text: &'a str, bytes: &mut Bytes) -> &'a str {
-    let escaped = match text.as_bytes() {
-        [b'n', ..] => "\n",
-        [b'r', ..] => "\r",
-        [b't', ..] => "\t",
-        [b's', ..] => " ",
-        [b'\\', ..] => "\\",
-        [b'$', ..] => "$",
-        [b'x', ..] => return add_byte(text, bytes),
-        _ => {
-            bytes.fail(Mistake::ESCAPE);
-            ""
-        }
+fn add_escaped<'a>(text: &'a str, bytes: &mut Vec<u8>) -> Result<&'a str, Mistake> {
+    let mut characters = text.chars();
+    let byte = match characters.next() {
+        Some('n') => b'\n',
+        Some('r') => b'\r',
+        Some('t') => b'\t',
+        Some('s') => b' ',
+        Some('\\') => b'\\',
+        Some('$') => b'$',
+        Some('x') => byte_of(characters.next(), characters.next())?,
+        Some(_) | None => return Err(Mistake::Escape),
     };
-    bytes.put(escaped);
-    text.get(1..).unwrap_or("")
+    bytes.push(byte)?;
+    Ok(characters.as_str())
 }
 
-/// Adds the byte of the two hex digits behind an `x`; gives the rest.
-fn add_byte<'a>(text: &'a str, bytes: &mut Bytes) -> &'a str {
-    let digits = text.get(1..3).unwrap_or("");
-    match u8::from_str_radix(digits, 16) {
-        Ok(byte) if !digits.starts_with('+') => bytes.put_bytes(&[byte]),
-        Ok(_) | Err(_) => bytes.fail(Mistake::ESCAPE),
+/// The byte of two hex digits.
+fn byte_of(high: Option<char>, low: Option<char>) -> Result<u8, Mistake> {
+    match (digit(high), digit(low)) {
+        (Some(high), Some(low)) => Ok(high.wrapping_mul(16).wrapping_add(low)),
+        _ => Err(Mistake::Escape),
     }
-    text.get(3..).unwrap_or("")
+}
+
+/// The value of a hex digit.
+fn digit(character: Option<char>) -> Option<u8> {
+    let digit = character?.to_digit(16)?;
+    u8::try_from(digit).ok()
 }

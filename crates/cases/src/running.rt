@@ -1,104 +1,170 @@
 //! Commands, and what each side answers to them.
-use crate::answers::answer_over;
-use crate::commands::{Command, How, Verb};
+use crate::answers::answer_to;
+use crate::commands::Command;
 use crate::shelf::Shelf;
-use crate::world::World;
-use crate::{stages, trees, turns};
-use case_files::{Mistake, Report, Sight};
-use std::str;
+use crate::{on_disk, stages, trees, turns};
+use bag_cli::{Plan, Usage, plan_of};
+use case_files::{Answer, Folder, Mistake, Report, Sight, Sort, folder_of};
+use std::alloc::Global;
+use std::{fs, mem};
 
 /// Runs a command, and compares its answers.
-pub(crate) fn run(rt: &HostRuntime, sight: &Sight<'_>, world: &mut World, report: &mut Report) {
-    let text = sight.texts.bytes(sight.entry.line.rest);
-    report.note(&text);
-    match str::from_utf8(&text.held) {
-        Ok(text) => run_text(rt, sight, text, world, report),
-        Err(_) => report.text.fail(Mistake::TEXT),
-    }
-}
-
-fn run_text(
+pub(crate) fn run(
     rt: &HostRuntime,
-    sight: &Sight<'_>,
-    text: &str,
-    world: &mut World,
+    sight: Sight<'_>,
+    folders: &mut Vec<Folder>,
+    beside: &Folder,
     report: &mut Report,
-) {
-    match Command::of(sight.texts.alloc, text) {
-        Ok(command) => run_command(rt, sight, &command, world, report),
-        Err(mistake) => report.text.fail(mistake),
-    }
+) -> Result<(), Mistake> {
+    let text = sight.texts.text(sight.alloc, sight.line.rest)?;
+    let command = Command::of(sight.alloc, text.as_str())?;
+    run_command(rt, sight, &command, folders, beside, report)
 }
 
 fn run_command(
     rt: &HostRuntime,
-    sight: &Sight<'_>,
+    sight: Sight<'_>,
     command: &Command<'_>,
-    world: &mut World,
+    folders: &mut Vec<Folder>,
+    beside: &Folder,
     report: &mut Report,
-) {
-    if world.make_disks().is_err() {
-        report.text.fail(Mistake::MEMORY);
+) -> Result<(), Mistake> {
+    if let Some(refusing) = command.refusing {
+        return turns::see_in_turn(sight, refusing, command, folders, beside, report);
     }
-    match (command.verb, command.how) {
-        (Verb::Stage, How::Room(_)) => stages::see_stage(sight, &command.words, world, report),
-        (Verb::Run, How::RefusingTree) => turns::see_in_turn(sight, None, command, world, report),
-        (Verb::Run, How::RefusingDisk(fault)) => {
-            turns::see_in_turn(sight, Some(fault), command, world, report);
+    let words = command.words.as_slice();
+    match (command.name, words) {
+        ("bagit", _) => {
+            see_on_disk(rt, sight, command, folders, report)?;
+            see_on_shelf(sight, command, folders, beside, report)?;
+            see_in_trees(sight, command, folders, report)
         }
-        (Verb::List | Verb::Write, How::Room(_)) => see_held(rt, sight, command, world, report),
-        (Verb::Run | Verb::RunOnDisk, How::Room(room)) => {
-            see_run(rt, sight, command, room, world, report);
-        }
-        _ => report.text.fail(Mistake::COMMAND),
+        ("on-disk", _) => see_on_disk(rt, sight, command, folders, report),
+        ("ls", [name]) => list(rt, sight, *name, folders, report),
+        ("cat", [place]) => write_out(rt, sight, *place, folders, report),
+        ("stage", _) => stages::see_stage(sight, words, folders, beside, report),
+        _ => Err(Mistake::Command),
     }
 }
 
-/// The folders of whose disks no call is refused.
-fn shelf_of(world: &World) -> Shelf<'_> {
-    Shelf {
-        world,
+/// Runs the program over the folders on the disk, where no file holds something else than is listed.
+fn see_on_disk(
+    rt: &HostRuntime,
+    sight: Sight<'_>,
+    command: &Command<'_>,
+    folders: &[Folder],
+    report: &mut Report,
+) -> Result<(), Mistake> {
+    for folder in folders {
+        if folder.has(Sort::Opened) {
+            return Ok(());
+        }
+    }
+    let room = command.room.unwrap_or(usize::MAX);
+    let found = answer_to(sight.alloc, rt, &command.words, room);
+    report.see(sight, "on the disk", &found)
+}
+
+/// Runs the program over disks in memory.
+fn see_on_shelf(
+    sight: Sight<'_>,
+    command: &Command<'_>,
+    folders: &[Folder],
+    beside: &Folder,
+    report: &mut Report,
+) -> Result<(), Mistake> {
+    let shelf = Shelf {
+        folders,
+        beside,
         refused: None,
+    };
+    let room = command.room.unwrap_or(usize::MAX);
+    let found = answer_to(sight.alloc, &shelf, &command.words, room);
+    report.see(sight, "on a disk in memory", &found)
+}
+
+/// Does with each folder what the words say, as a tree in memory, where they can be one, and keeps what a making leaves.
+fn see_in_trees(
+    sight: Sight<'_>,
+    command: &Command<'_>,
+    folders: &mut Vec<Folder>,
+    report: &mut Report,
+) -> Result<(), Mistake> {
+    match plan_of(sight.alloc, &command.words) {
+        Ok(plan) => see_plan(sight, command.room, &plan, folders, report),
+        Err(Usage::Memory) => Err(Mistake::Memory),
+        Err(_) => Ok(()),
     }
 }
 
-/// Compares what stands in folders, in memory and on the disk.
-fn see_held(
-    rt: &HostRuntime,
-    sight: &Sight<'_>,
-    command: &Command<'_>,
-    world: &World,
+/// Does what a plan says.
+fn see_plan(
+    sight: Sight<'_>,
+    room: Option<usize>,
+    plan: &Plan,
+    folders: &mut [Folder],
     report: &mut Report,
-) {
-    let alloc = sight.texts.alloc;
-    let wanted = sight.texts.wanted(sight.entry.below, 0);
-    let found = answer_over(alloc, &shelf_of(world), command);
-    report.compare(sight, "in memory", &wanted, &found);
-    let found = answer_over(alloc, rt, command);
-    report.compare(sight, "on the disk", &wanted, &found);
+) -> Result<(), Mistake> {
+    if room.is_some() || !trees::are_trees(plan, folders) {
+        return Ok(());
+    }
+    let mut whole = Answer::of(sight.alloc, Vec::new(sight.alloc));
+    for directory in &plan.directories {
+        add_answer(sight.alloc, plan, folders, directory.as_str(), &mut whole)?;
+    }
+    report.see(sight, "in a tree in memory", &whole)
 }
 
-/// Runs the program over the folders on the disk, where no file holds something else than is listed; over disks in memory; and over
-/// trees in memory, where the folders can be trees.
-fn see_run(
-    rt: &HostRuntime,
-    sight: &Sight<'_>,
-    command: &Command<'_>,
-    room: usize,
-    world: &mut World,
-    report: &mut Report,
-) {
-    let alloc = sight.texts.alloc;
-    let wanted = sight.texts.wanted(sight.entry.below, 0);
-    if world.opened.is_none() {
-        let found = answer_over(alloc, rt, command);
-        report.compare(sight, "on the disk", &wanted, &found);
-    }
-    if command.verb == Verb::Run {
-        let found = answer_over(alloc, &shelf_of(world), command);
-        report.compare(sight, "on a disk in memory", &wanted, &found);
-        if room == usize::MAX {
-            trees::see_in_trees(sight, &command.words, &wanted, world, report);
+/// Does with one folder what a plan says, and adds what is answered.
+fn add_answer(
+    alloc: Global,
+    plan: &Plan,
+    folders: &mut [Folder],
+    name: &str,
+    whole: &mut Answer,
+) -> Result<(), Mistake> {
+    let (answer, left) = trees::answer_over_tree(alloc, plan, folder_of(folders, name)?, 0)?;
+    whole.written.extend_from_slice(&answer.written)?;
+    whole.status = whole.status.max(answer.status);
+    replace(folders, left);
+    Ok(())
+}
+
+/// Puts a folder in the place of the one that has its name.
+fn replace(folders: &mut [Folder], left: Folder) {
+    let mut left = left;
+    for folder in folders {
+        if folder.name.as_str() == left.name.as_str() {
+            mem::swap(folder, &mut left);
         }
     }
+}
+
+/// `ls FOLDER`: the paths of its files.
+fn list(
+    rt: &HostRuntime,
+    sight: Sight<'_>,
+    name: &str,
+    folders: &[Folder],
+    report: &mut Report,
+) -> Result<(), Mistake> {
+    let found = trees::listed(sight.alloc, folder_of(folders, name)?)?;
+    report.see_written(sight, "in memory", found)?;
+    report.see_written(sight, "on the disk", on_disk::listed(rt, name)?)
+}
+
+/// `cat FOLDER/PATH`: the bytes of a file.
+fn write_out(
+    rt: &HostRuntime,
+    sight: Sight<'_>,
+    place: &str,
+    folders: &[Folder],
+    report: &mut Report,
+) -> Result<(), Mistake> {
+    let Some((name, path)) = place.split_once('/') else {
+        return Err(Mistake::Command);
+    };
+    let found = folder_of(folders, name)?.file(path)?.to_vec(sight.alloc)?;
+    report.see_written(sight, "in memory", found)?;
+    report.see_written(sight, "on the disk", fs::read(rt, place)?)
 }

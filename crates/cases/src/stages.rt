@@ -1,124 +1,108 @@
 //! The faults of one stage.
-use crate::world::World;
+use crate::trees::tree_of;
 use bag_facts::{Depth, Facts, Options};
 use bag_profile::Profile;
 use bag_report::{Fault, stage_faults};
-use case_files::{Answer, Bytes, Mistake, Report, Sight};
-use std::alloc::{AllocError, Global};
-
-/// The depths by their names.
-const DEPTHS: &[(&str, Depth)] = &[
-    ("declaration", Depth::Declaration),
-    ("fast", Depth::Fast),
-    ("complete", Depth::Complete),
-    ("full", Depth::Full),
-];
+use case_files::{Answer, Folder, Mistake, Report, Sight, folder_of};
+use std::alloc::Global;
 
 /// What a word asks for, as `complete` or `complete+clashes`.
-fn options_of(word: &str) -> Option<Options> {
-    let (name, clashes) = match word.strip_suffix("+clashes") {
-        Some(name) => (name, true),
+fn options_of(word: &str) -> Result<Options, Mistake> {
+    let (depth, clashes) = match word.strip_suffix("+clashes") {
+        Some(depth) => (depth, true),
         None => (word, false),
     };
-    for (known, depth) in DEPTHS {
-        if *known == name {
-            let depth = *depth;
-            return Some(Options { depth, clashes });
-        }
-    }
-    None
+    let depth = match depth {
+        "declaration" => Depth::Declaration,
+        "fast" => Depth::Fast,
+        "complete" => Depth::Complete,
+        "full" => Depth::Full,
+        _ => return Err(Mistake::Command),
+    };
+    Ok(Options { depth, clashes })
 }
 
-/// One stage of the check of a folder, by a profile or without one.
-#[derive(Clone, Copy)]
-struct Stage<'a> {
+/// What the tag files of a folder say.
+fn facts_of(alloc: Global, folder: &Folder, options: Options) -> Result<Facts, Mistake> {
+    let mut tree = tree_of(alloc, folder)?;
+    match Facts::read(alloc, &mut tree, options) {
+        Ok(facts) => Ok(facts),
+        Err(_) => Err(Mistake::Memory),
+    }
+}
+
+/// The lines of faults.
+fn lines_of_faults(alloc: Global, faults: &[Fault]) -> Result<Answer, Mistake> {
+    let mut text = String::new(alloc);
+    for fault in faults {
+        fault.append_line(&mut text)?;
+        text.push('\n')?;
+    }
+    Ok(Answer::of(alloc, text.into_bytes()))
+}
+
+/// The lines of the faults of a stage, beside a profile where there is one.
+fn stage_answer(
     alloc: Global,
-    world: &'a World,
-    name: &'a str,
-    number: u8,
-    profile: Option<&'a Profile>,
+    facts: &Facts,
+    profile: Option<&Profile>,
+    stage: u8,
+) -> Result<Answer, Mistake> {
+    let faults = stage_faults(alloc, facts, profile, stage)?;
+    lines_of_faults(alloc, &faults)
 }
 
-impl Stage<'_> {
-    /// The faults of the stage, where that is asked for.
-    fn faults(&self, options: Options) -> Result<Vec<Fault>, AllocError> {
-        let mut tree = self.world.tree(self.name)?;
-        match Facts::read(self.alloc, &mut tree, options) {
-            Ok(facts) => stage_faults(self.alloc, &facts, self.profile, self.number),
-            Err(_) => Err(AllocError),
-        }
+/// Compares the faults of a stage at each depth.
+fn see_depths(
+    sight: Sight<'_>,
+    folder: &Folder,
+    profile: Option<&Profile>,
+    (number, depths): (&str, &str),
+    report: &mut Report,
+) -> Result<(), Mistake> {
+    let Ok(stage) = number.parse::<u8>() else {
+        return Err(Mistake::Number);
+    };
+    for depth in depths.split(',') {
+        let facts = facts_of(sight.alloc, folder, options_of(depth)?)?;
+        let found = stage_answer(sight.alloc, &facts, profile, stage)?;
+        report.see(sight, depth, &found)?;
     }
+    Ok(())
+}
 
-    /// The lines of these faults.
-    fn lines(&self, options: Options) -> Result<String, AllocError> {
-        let mut text = String::new(self.alloc);
-        for fault in &self.faults(options)? {
-            fault.append_line(&mut text)?;
-            text.push('\n')?;
-        }
-        Ok(text)
-    }
-
-    /// Compares the faults at each depth.
-    fn see(&self, sight: &Sight<'_>, depths: &str, report: &mut Report) {
-        let wanted = sight.texts.wanted(sight.entry.below, 0);
-        for depth in depths.split(',') {
-            let mut found = Bytes::new(self.alloc);
-            match options_of(depth) {
-                Some(options) => self.put(options, &mut found),
-                None => found.fail(Mistake::COMMAND),
-            }
-            report.compare(sight, depth, &wanted, &Answer::of(self.alloc, found, 0));
-        }
-    }
-
-    fn put(&self, options: Options, out: &mut Bytes) {
-        match self.lines(options) {
-            Ok(lines) => out.put(lines.as_str()),
-            Err(_) => out.fail(Mistake::MEMORY),
-        }
+/// The same, beside the profile in a file.
+fn see_with_profile(
+    sight: Sight<'_>,
+    folder: &Folder,
+    profile: &[u8],
+    asked: (&str, &str),
+    report: &mut Report,
+) -> Result<(), Mistake> {
+    match Profile::read(sight.alloc, profile) {
+        Ok(profile) => see_depths(sight, folder, Some(&profile), asked, report),
+        Err(_) => Err(Mistake::Name),
     }
 }
 
 /// `stage NUMBER DEPTH,.. FOLDER [PROFILE]`: the lines of the faults of one stage, the same at each depth.
-pub(crate) fn see_stage(sight: &Sight<'_>, words: &[&str], world: &World, report: &mut Report) {
+pub(crate) fn see_stage(
+    sight: Sight<'_>,
+    words: &[&str],
+    folders: &[Folder],
+    beside: &Folder,
+    report: &mut Report,
+) -> Result<(), Mistake> {
     match words {
         [number, depths, name] => {
-            see_by(sight, (*number, *depths, *name), None, world, report);
+            let folder = folder_of(folders, *name)?;
+            see_depths(sight, folder, None, (*number, *depths), report)
         }
-        [number, depths, name, file] => match world.file(*file) {
-            Some(bytes) => match Profile::read(sight.texts.alloc, bytes) {
-                Ok(profile) => {
-                    let asked = (*number, *depths, *name);
-                    see_by(sight, asked, Some(&profile), world, report);
-                }
-                Err(_) => report.text.fail(Mistake::NAME),
-            },
-            None => report.text.fail(Mistake::NAME),
-        },
-        _ => report.text.fail(Mistake::COMMAND),
-    }
-}
-
-fn see_by(
-    sight: &Sight<'_>,
-    (number, depths, name): (&str, &str, &str),
-    profile: Option<&Profile>,
-    world: &World,
-    report: &mut Report,
-) {
-    match number.parse::<u8>() {
-        Ok(number) if world.has_tree(name) => {
-            let stage = Stage {
-                alloc: sight.texts.alloc,
-                world,
-                name,
-                number,
-                profile,
-            };
-            stage.see(sight, depths, report);
+        [number, depths, name, file] => {
+            let folder = folder_of(folders, *name)?;
+            let profile = beside.file(*file)?;
+            see_with_profile(sight, folder, profile, (*number, *depths), report)
         }
-        Ok(_) => report.text.fail(Mistake::NAME),
-        Err(_) => report.text.fail(Mistake::NUMBER),
+        _ => Err(Mistake::Command),
     }
 }
