@@ -4,7 +4,7 @@
 # alone. Whatever is refused, no run hangs, statuses are 0, 1 and 3, and no file is lost:
 #
 # - of a making: the bytes of each file stand once, at the file's own path, in `.bagit-new` or in `data`; status 0 and `made` come only
-#   where a whole bag stands there, which the programs of coreutils accept;
+#   where a whole bag stands there, which the programs of coreutils accept; and moved back as README.md says it, the folder is as it was;
 # - of a check: what is written is the whole report, or its first lines and a closing line that counts them and says that something
 #   couldn't be read; or why nothing could be begun; or a first part of all that, where the output itself was refused or the program was
 #   killed. The folder is as it was.
@@ -23,7 +23,6 @@ work=$(mktemp -d /tmp/bagit-calls.XXXXXX)
 trap 'rm -rf "$work"' EXIT
 cd "$work"
 
-errors=(EIO EACCES ENOSPC EINTR ENOMEM)
 seconds=60
 refused=0 killed=0 wrong=0
 
@@ -49,7 +48,12 @@ numbered_calls() {
     ' calls
 }
 
-# Says what is wrong, once, with the last run.
+# How the system may refuse a call. (`brk` answers where memory ends, and no error; the C library asks `mmap` then.)
+refusals() {
+    if [[ $1 == brk ]]; then echo retval=0; else echo error={EIO,EACCES,ENOSPC,EINTR,ENOMEM}; fi
+}
+
+# Says what is wrong with the last run.
 is_wrong() {
     echo "$what: $1; status $status, written: $(head -c 300 output), told: $(head -c 300 failures)"
     wrong=$((wrong + 1))
@@ -80,12 +84,27 @@ is_whole_bag() {
         [[ $(wc -l <d/manifest-sha256.txt) == $(wc -l <files) && $(wc -l <d/tagmanifest-md5.txt) == 4 ]]
 }
 
+# Moves back what a making that didn't end has moved, as README.md says it.
+move_back() {
+    if [[ ! -e d/.bagit-new && -e d/w ]]; then return; fi
+    (
+        cd d
+        if [[ ! -e .bagit-new ]]; then
+            mv data .bagit-new
+            rm -f bagit.txt bag-info.txt manifest-*.txt tagmanifest-*.txt
+        fi
+        find .bagit-new -mindepth 1 -maxdepth 1 -exec mv -n -t . {} +
+        rmdir .bagit-new
+    )
+}
+
 made() {
     keeps_all || is_wrong 'a file is lost, or stands twice'
     if [[ $status == 0 ]] || grep -q ' made$' output; then
         is_whole_bag || is_wrong 'made is told of what is no whole bag'
     fi
     [[ $status != 0 ]] || cmp -s whole output || is_wrong 'status 0 without the line'
+    move_back && diff -r pristine d >/dev/null || is_wrong 'moved back, the folder is another'
 }
 
 # Whether an answer is one that a refused call may have.
@@ -114,7 +133,7 @@ checked() {
 # Refuses each call of the program in turn, and kills it at each. Its arguments are what looks at the result, the wanted status, and the
 # words; standard input is what is written where no call is refused.
 in_turn() {
-    local look=$1 name number error
+    local look=$1 name number refusal
     wanted=$2
     shift 2
     cat >whole
@@ -126,10 +145,10 @@ in_turn() {
     numbered_calls >numbered
     [[ -s numbered ]]
     while read -r name number; do
-        for error in "${errors[@]}"; do
-            what="$* ($name $number: $error)"
+        for refusal in $(refusals "$name"); do
+            what="$* ($name $number: ${refusal#*=})"
             folder
-            run "$name:error=$error:when=$number" "$@"
+            run "$name:$refusal:when=$number" "$@"
             refused=$((refused + 1))
             case $status in
                 0 | 1 | 3) "$look" ;;
@@ -170,8 +189,7 @@ done >synced
 echo "synced: $(grep -c '^file$' synced) files, and folders $(grep -vc '^file$' synced) times ($(grep -v '^file$' synced | sort | uniq -c | awk '{ printf "%s%s %s times", comma, $2, $1; comma = ", " }'))"
 [[ $(grep -vc '^file$' synced) -le 10 && $(tail -n 1 synced) == d ]] || { echo 'the base folder is not synced last, or folders are too often'; wrong=$((wrong + 1)); }
 
-# A bag without a fault, and one with several, by a profile.
-"$program" --md5 --sha256 d >output
+# The bag that was made, without a fault, and one with several, by a profile.
 rm -rf pristine
 cp -r d pristine
 in_turn checked 0 --validate d <<<'d is valid'
