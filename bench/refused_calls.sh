@@ -80,7 +80,8 @@ keeps_all() {
 # Whether the folder is a whole bag of all files, as the programs of coreutils see it.
 is_whole_bag() {
     cmp -s declaration d/bagit.txt && diff -rq pristine d/data >/dev/null &&
-        (cd d && sha256sum --check --strict --quiet manifest-sha256.txt tagmanifest-sha256.txt && md5sum --check --strict --quiet manifest-md5.txt tagmanifest-md5.txt) >/dev/null 2>&1 &&
+        (cd d && sha256sum --check --strict manifest-sha256.txt tagmanifest-sha256.txt) >/dev/null 2>&1 &&
+        (cd d && md5sum --check --strict manifest-md5.txt tagmanifest-md5.txt) >/dev/null 2>&1 &&
         [[ $(wc -l <d/manifest-sha256.txt) == $(wc -l <files) && $(wc -l <d/tagmanifest-md5.txt) == 4 ]]
 }
 
@@ -104,6 +105,7 @@ made() {
         is_whole_bag || is_wrong 'made is told of what is no whole bag'
     fi
     [[ $status != 0 ]] || cmp -s whole output || is_wrong 'status 0 without the line'
+    [[ $status != 1 ]] || is_wrong 'status 1 of a making'
     move_back && diff -r pristine d >/dev/null || is_wrong 'moved back, the folder is another'
 }
 
@@ -186,15 +188,19 @@ grep -oE '\((/|[0-9]+<)[^>)]*' calls | sed -E 's/^\([0-9]*<?//' | while IFS= rea
     # (A folder that was renamed since has its old name.)
     if [[ -f $path ]]; then echo file; else echo "${path#"$work/"}"; fi
 done >synced
-echo "synced: $(grep -c '^file$' synced) files, and folders $(grep -vc '^file$' synced) times ($(grep -v '^file$' synced | sort | uniq -c | awk '{ printf "%s%s %s times", comma, $2, $1; comma = ", " }'))"
-[[ $(grep -vc '^file$' synced) -le 10 && $(tail -n 1 synced) == d ]] || { echo 'the base folder is not synced last, or folders are too often'; wrong=$((wrong + 1)); }
+folders=$(grep -vc '^file$' synced)
+echo "synced: $(grep -c '^file$' synced) files, and folders $folders times: d $(grep -c '^d$' synced), d/.bagit-new $(grep -c '^d/.bagit-new$' synced)"
+if [[ $folders -gt 10 || $(tail -n 1 synced) != d ]]; then
+    echo 'folders are synced too often, or the base folder not at last'
+    wrong=$((wrong + 1))
+fi
 
 # The bag that was made, without a fault, and one with several, by a profile.
 rm -rf pristine
 cp -r d pristine
 in_turn checked 0 --validate d <<<'d is valid'
 
-printf 'x' >>pristine/data/y
+printf 'x' >>pristine/data/w
 printf 'x' >pristine/data/extra
 rm pristine/data/letters/z
 cat >profile.json <<'END'
