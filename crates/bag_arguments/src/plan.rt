@@ -1,6 +1,5 @@
 //! What the words of a command line ask for.
-use bag_facts::Options;
-use bag_fault::Fault;
+use bag_facts::{Fault, Options};
 use bag_text::{AlgSet, Items, Text};
 
 /// What is to be done.

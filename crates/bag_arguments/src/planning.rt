@@ -9,8 +9,7 @@ ghost use Rattle.bag_arguments.specs.Words.{is_taken, matches as matches_of_word
 use crate::command::command;
 use crate::label::LABELS;
 use crate::{Action, Plan, Usage, given};
-use bag_facts::{Depth, Options};
-use bag_fault::{CursorFault, Fault};
+use bag_facts::{CursorFault, Depth, Fault, Options};
 use bag_text::{AlgSet, Items, Text};
 use clap::error::ErrorKind;
 use clap::{ArgMatches, Error};

@@ -3,14 +3,14 @@ use Rattle.std.proofs.Common.{◌≡◌, ◌≤◌, ◌⊎◌, inl, inr, [], ◌
 use Rattle.std.specs.declared.result.Result.{Result}
 use Rattle.std.specs.declared.result.Result.TheVariants.{Ok, Err}
 use Rattle.bag_disk.specs.Disk.{DiskState}
-use Rattle.bag_disks.specs.Visits.{Event, Read}
-use Rattle.bag_file_tree.specs.FileTree.{tree_state}
+use Rattle.bag_cli.specs.Visits.{Event, Read}
+use Rattle.bag_store.specs.FileTree.{tree_state}
 use Rattle.bag_profile.specs.Profile.{Profile}
 use Rattle.bag_profile.specs.declared.fault.ProfileFault.TheVariants.{NotJson, NoIdentifier, WrongShape, Memory}
-use Rattle.bag_profile_file.specs.Read.{IsRead}
-use Rattle.bag_profile_file.specs.Refusal.{refusal_status}
-use Rattle.bag_profile_file.specs.declared.refusal.ProfileRefusal.{ProfileRefusal}
-use Rattle.bag_profile_file.specs.declared.refusal.ProfileRefusal.TheVariants.{Unread, Refused}
+use Rattle.bag_cli.specs.ProfileFile.{IsRead}
+use Rattle.bag_cli.specs.ProfileRefusal.{refusal_status}
+use Rattle.bag_cli.specs.declared.profile_refusal.ProfileRefusal.{ProfileRefusal}
+use Rattle.bag_cli.specs.declared.profile_refusal.ProfileRefusal.TheVariants.{Unread, Refused}
 use Rattle.bag_arguments.specs.declared.plan.Action.{Action}
 use Rattle.bag_arguments.specs.Plan.{usage_status}
 use Rattle.bag_arguments.specs.declared.plan.Plan.{Plan}

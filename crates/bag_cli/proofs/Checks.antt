@@ -4,13 +4,13 @@ use Rattle.std.specs.Prelude.{IfSome, MatchOption, MatchResult}
 use Rattle.std.specs.declared.result.Result.{Result}
 use Rattle.std.specs.declared.result.Result.TheVariants.{Ok, Err}
 use Rattle.bag_tree.specs.Tree.{TreeState}
-use Rattle.bag_disks.specs.Visits.{Event, Entered, Left}
-use Rattle.bag_output.specs.Closing.{status}
-use Rattle.bag_output.specs.declared.outcome.Outcome.{Outcome}
-use Rattle.bag_output.specs.declared.outcome.Outcome.TheVariants.{Clean, Faults, Stopped, Rest, Unread, Unwritten}
+use Rattle.bag_cli.specs.Visits.{Event, Entered, Left}
+use Rattle.bag_walk.specs.Closing.{status}
+use Rattle.bag_walk.specs.declared.outcome.Outcome.{Outcome}
+use Rattle.bag_walk.specs.declared.outcome.Outcome.TheVariants.{Clean, Faults, Stopped, Rest, Unread, Unwritten}
 use Rattle.bag_profile.specs.Profile.{Profile}
 use Rattle.bag_arguments.specs.declared.plan.Plan.{Plan}
-use Rattle.bag_output.specs.declared.outcome.Request.{Request}
+use Rattle.bag_walk.specs.declared.outcome.Request.{Request}
 use Rattle.bag_cli.specs.Checked.{AreChecksOf, IsCheckOf, IsLastCheck, IsRunOver, IsVisitToCheck, IsWholeCheck, request_of, visit_of}
 use Rattle.bag_cli.specs.InTurn.{HasVisited, Last, Whole}
 use Rattle.bag_cli.specs.Status.{whole_status}

@@ -2,17 +2,17 @@
 use Rattle.std.proofs.Common.{◌≡◌, ◌≢◌, inl, inr, Bool, ℕ, List, Option, IsTrue, refl, sym, ap, ◌∙◌, subst, arith, min, length}
 use Rattle.std.specs.Io.KnownBytes.{Appends}
 use Rattle.std.specs.List.{concat}
-use Rattle.bag_tree.specs.declared.fault.Stop.{Stop}
+use Rattle.bag_tree.specs.declared.tree_fault.Stop.{Stop}
 use Rattle.bag_disk.specs.Disk.{DiskState}
-use Rattle.bag_disks.specs.Visits.{Event}
-use Rattle.bag_file_tree.specs.DiskBag.{bag_of}
-use Rattle.bag_file_tree.specs.FileTree.{tree_state}
-use Rattle.bag_fault.specs.declared.fault.Fault.{Fault}
-use Rattle.bag_output.specs.Closing.{status}
-use Rattle.bag_output.specs.Ending.{ideal, limit_of, lines_of_run}
-use Rattle.bag_output.specs.declared.outcome.Outcome.{Outcome}
-use Rattle.bag_output.specs.declared.outcome.Outcome.TheVariants.{Clean, Faults, Stopped, Rest, Unread, Unwritten}
-use Rattle.bag_output.specs.declared.outcome.Request.{Request}
+use Rattle.bag_cli.specs.Visits.{Event}
+use Rattle.bag_store.specs.DiskBag.{bag_of}
+use Rattle.bag_store.specs.FileTree.{tree_state}
+use Rattle.bag_facts.specs.declared.fault.Fault.{Fault}
+use Rattle.bag_walk.specs.Closing.{status}
+use Rattle.bag_walk.specs.Ending.{ideal, limit_of, lines_of_run}
+use Rattle.bag_walk.specs.declared.outcome.Outcome.{Outcome}
+use Rattle.bag_walk.specs.declared.outcome.Outcome.TheVariants.{Clean, Faults, Stopped, Rest, Unread, Unwritten}
+use Rattle.bag_walk.specs.declared.outcome.Request.{Request}
 use Rattle.bag_profile.specs.Profile.{Profile}
 use Rattle.bag_report.specs.Report.{above, first}
 use Rattle.bag_walk.specs.Stops.{MayStop}

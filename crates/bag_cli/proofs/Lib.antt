@@ -1,5 +1,8 @@
 pub mod Arms
 pub mod Checks
+mod Honest
 pub mod HonestDisks
+mod Lines
 pub mod Makings
 pub mod Turns
+pub mod UncheckedLines

@@ -4,12 +4,12 @@ use Rattle.std.specs.declared.result.Result.{Result}
 use Rattle.std.specs.declared.result.Result.TheVariants.{Ok, Err}
 use Rattle.bag_tree.specs.Tree.{TreeState}
 use Rattle.bag_tree.specs.declared.out.Refused.{Refused}
-use Rattle.bag_write.specs.Element.{NewElement}
+use Rattle.bag_tags.specs.Element.{NewElement}
 use Rattle.bag_make.specs.declared.fault.MakeFault.{MakeFault}
-use Rattle.bag_making.specs.Making.{IsMaking}
-use Rattle.bag_making.specs.MakingLine.{status}
+use Rattle.bag_cli.specs.Making.{IsMaking}
+use Rattle.bag_cli.specs.MakingLine.{status}
 use Rattle.bag_arguments.specs.declared.plan.Plan.{Plan}
-use Rattle.bag_disks.specs.Visits.{Event, Entered, Left}
+use Rattle.bag_cli.specs.Visits.{Event, Entered, Left}
 use Rattle.bag_cli.specs.Checked.{visit_of}
 use Rattle.bag_cli.specs.InTurn.{HasVisited}
 use Rattle.bag_cli.specs.Makings.{AreMakingsOf, IsLastMaking, IsTold, IsWholeMaking, element_of}

@@ -2,7 +2,7 @@
 use Rattle.std.proofs.Common.{◌≡◌, inl, inr, ◌+◌, ◌∷◌, ◌++◌, ◌≤◌, ◌<◌, Bool, ℕ, List, [], Option, Some, None, refl, sym, ap, ◌∙◌, subst, arith, max, length, drop, get_or, append_assoc, append-nil}
 use Rattle.std.proofs.lemmas.List.{drop_more}
 use Rattle.std.specs.Prelude.{MatchOption, unwrap_or}
-use Rattle.bag_disks.specs.Visits.{Event}
+use Rattle.bag_cli.specs.Visits.{Event}
 use Rattle.bag_cli.specs.InTurn.{AreInTurn, GoesOn, HasVisited, Last, Whole}
 
 -- ---- visits

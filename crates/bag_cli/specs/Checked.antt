@@ -1,13 +1,13 @@
 -- What checks write, and the exit status after them.
 use Rattle.std.specs.Prelude.{ℕ, ◌≡◌, ◌⊎◌, Bool, true, false, List, [], ◌∷◌, Option, Some, None, codes, ⊤}
 use Rattle.bag_tree.specs.Tree.{Keeps, TreeState}
-use Rattle.bag_disks.specs.Visits.{Event, Entered, Left, Read}
-use Rattle.bag_output.specs.Closing.{status}
-use Rattle.bag_output.specs.declared.outcome.Outcome.{Outcome}
-use Rattle.bag_output.specs.declared.outcome.Outcome.TheVariants.{Clean, Faults, Stopped, Rest, Unread, Unwritten}
-use Rattle.bag_output.specs.declared.outcome.Request.{Request}
+use Rattle.bag_cli.specs.Visits.{Event, Entered, Left, Read}
+use Rattle.bag_walk.specs.Closing.{status}
+use Rattle.bag_walk.specs.declared.outcome.Outcome.{Outcome}
+use Rattle.bag_walk.specs.declared.outcome.Outcome.TheVariants.{Clean, Faults, Stopped, Rest, Unread, Unwritten}
+use Rattle.bag_walk.specs.declared.outcome.Request.{Request}
 use Rattle.bag_profile.specs.Profile.{Profile}
-use Rattle.bag_walk.specs.Openings.{LooksNoFurther, OpensInRun, OpensInTurn, OpensListed, OpensNonePassed, StopsInTurn}
+use Rattle.bag_walk.specs.RunOpenings.{LooksNoFurther, OpensInRun, OpensInTurn, OpensListed, OpensNonePassed, StopsInTurn}
 use Rattle.bag_walk.specs.Run.{IsRun, IsRunByReport}
 use Rattle.bag_arguments.specs.declared.plan.Plan.{Plan}
 use Rattle.bag_cli.specs.InTurn.{AreInTurn}

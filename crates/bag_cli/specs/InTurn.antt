@@ -1,6 +1,6 @@
 -- What is done for names one after another, and the exit status.
 use Rattle.std.specs.Prelude.{ℕ, ◌≡◌, ◌⊎◌, Bool, List, [], ◌∷◌, ◌++◌, Option, max}
-use Rattle.bag_disks.specs.Visits.{Event}
+use Rattle.bag_cli.specs.Visits.{Event}
 
 -- What was done for a name and is the last, and what was done for one with its status: each with what the output took before
 -- and after, and the visits to folders. The last tells whether the output has refused.

@@ -2,11 +2,11 @@
 use Rattle.std.specs.Prelude.{ℕ, ◌≡◌, ◌⊎◌, Bool, List, [], Option, Result, Ok, Err, map}
 use Rattle.bag_tree.specs.Tree.{TreeState}
 use Rattle.bag_tree.specs.declared.out.Refused.{Refused}
-use Rattle.bag_write.specs.Element.{NewElement}
-use Rattle.bag_making.specs.Making.{IsMaking}
+use Rattle.bag_tags.specs.Element.{NewElement}
+use Rattle.bag_cli.specs.Making.{IsMaking}
 use Rattle.bag_arguments.specs.declared.plan.InfoItem.{InfoItem}
 use Rattle.bag_arguments.specs.declared.plan.Plan.{Plan}
-use Rattle.bag_disks.specs.Visits.{Event}
+use Rattle.bag_cli.specs.Visits.{Event}
 use Rattle.bag_cli.specs.Checked.{visit_of}
 use Rattle.bag_cli.specs.InTurn.{AreInTurn}
 

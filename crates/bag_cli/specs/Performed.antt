@@ -2,14 +2,14 @@
 use Rattle.std.specs.Prelude.{ℕ, ◌≡◌, ◌⊎◌, Bool, true, List, [], ◌∷◌, Option, Some, None, Result, Ok, Err, if◌then◌else◌}
 use Rattle.std.specs.Io.KnownBytes.{Appends}
 use Rattle.bag_disk.specs.Disk.{DiskState}
-use Rattle.bag_disks.specs.Visits.{Event, Read}
-use Rattle.bag_file_tree.specs.FileTree.{tree_state}
-use Rattle.bag_output.specs.Write.{IsCut}
+use Rattle.bag_cli.specs.Visits.{Event, Read}
+use Rattle.bag_store.specs.FileTree.{tree_state}
+use Rattle.bag_walk.specs.Write.{IsCut}
 use Rattle.bag_profile.specs.Profile.{Profile}
-use Rattle.bag_profile_file.specs.Read.{IsRead}
-use Rattle.bag_profile_file.specs.Refusal.{refusal_status}
-use Rattle.bag_profile_file.specs.Unchecked.{unchecked_lines}
-use Rattle.bag_profile_file.specs.declared.refusal.ProfileRefusal.{ProfileRefusal}
+use Rattle.bag_cli.specs.ProfileFile.{IsRead}
+use Rattle.bag_cli.specs.ProfileRefusal.{refusal_status}
+use Rattle.bag_cli.specs.UncheckedKeys.{unchecked_lines}
+use Rattle.bag_cli.specs.declared.profile_refusal.ProfileRefusal.{ProfileRefusal}
 use Rattle.bag_arguments.specs.declared.plan.Action.{Action}
 use Rattle.bag_arguments.specs.declared.plan.Action.TheVariants.{Sample, Help, Check, Make}
 use Rattle.bag_arguments.specs.declared.plan.Plan.{Plan}

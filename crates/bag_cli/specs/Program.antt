@@ -1,7 +1,7 @@
 -- What the whole program does, and which folders it looks into meanwhile.
 use Rattle.std.specs.Prelude.{ℕ, ◌≡◌, ◌⊎◌, Bool, true, List, [], Option, Result, Ok, Err, drop}
 use Rattle.bag_disk.specs.Disk.{DiskState}
-use Rattle.bag_disks.specs.Visits.{Event}
+use Rattle.bag_cli.specs.Visits.{Event}
 use Rattle.bag_arguments.specs.Plan.{IsNotRefused, IsPlanned, usage_status}
 use Rattle.bag_arguments.specs.Words.{is_taken}
 use Rattle.bag_arguments.specs.declared.plan.Plan.{Plan}

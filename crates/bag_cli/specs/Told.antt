@@ -5,17 +5,17 @@ use Rattle.std.specs.List.{concat}
 use Rattle.bag_tree.specs.Bag.{Bag}
 use Rattle.bag_tree.specs.Tree.{TreeState}
 use Rattle.bag_disk.specs.Disk.{DiskState}
-use Rattle.bag_disks.specs.Visits.{Event}
-use Rattle.bag_file_tree.specs.DiskBag.{bag_of}
-use Rattle.bag_file_tree.specs.FileTree.{tree_state}
-use Rattle.bag_fault.specs.declared.fault.Fault.{Fault}
-use Rattle.bag_output.specs.Closing.{status}
-use Rattle.bag_output.specs.Ending.{ideal, limit_of, lines_of_run}
-use Rattle.bag_output.specs.declared.outcome.Request.{Request}
+use Rattle.bag_cli.specs.Visits.{Event}
+use Rattle.bag_store.specs.DiskBag.{bag_of}
+use Rattle.bag_store.specs.FileTree.{tree_state}
+use Rattle.bag_facts.specs.declared.fault.Fault.{Fault}
+use Rattle.bag_walk.specs.Closing.{status}
+use Rattle.bag_walk.specs.Ending.{ideal, limit_of, lines_of_run}
+use Rattle.bag_walk.specs.declared.outcome.Request.{Request}
 use Rattle.bag_profile.specs.Profile.{Profile}
 use Rattle.bag_report.specs.Report.{IsReport, above, first}
 use Rattle.bag_walk.specs.Run.{check_of}
-use Rattle.bag_making.specs.Honest.{IsToldMade}
+use Rattle.bag_cli.specs.Honest.{IsToldMade}
 use Rattle.bag_arguments.specs.declared.plan.Action.TheVariants.{Check}
 use Rattle.bag_arguments.specs.declared.plan.Plan.{Plan}
 use Rattle.bag_cli.specs.Checked.{AreChecksOf, request_of, visit_of}

@@ -1,16 +1,15 @@
 //! Bags that are made of folders, one after the other.
 ghost use Rattle.std.specs.Prelude.{◌≡◌, [], IfOk, MatchResult, map};
-ghost use Rattle.bag_disks.specs.Folders.{disks_of, visits_of};
-ghost use Rattle.bag_file_tree.specs.FileTree.{tree_state};
+ghost use Rattle.bag_cli.specs.Folders.{disks_of, visits_of};
+ghost use Rattle.bag_store.specs.FileTree.{tree_state};
 ghost use Rattle.bag_cli.specs.InTurn.{HasVisited};
 ghost use Rattle.bag_cli.specs.Makings.{IsTold, element_of};
 ghost use Rattle.bag_cli.specs.Performed.{AreMade};
 
 use crate::in_turn::{Task, do_in_turn};
 use crate::performing::{REFUSED, say_memory, say_refused};
+use crate::{Disks, Folders, Visits, make_and_tell};
 use bag_arguments::{InfoItem, Plan};
-use bag_disks::{Disks, Folders, Visits};
-use bag_making::make_and_tell;
 use bag_text::Text;
 use bag_tree::{Out, Refused};
 use std::alloc::{AllocError, Global};

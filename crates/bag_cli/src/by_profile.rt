@@ -1,16 +1,15 @@
 //! Checks by the profile of a plan.
 ghost use Rattle.bag_cli.specs.InTurn.{HasVisited};
 ghost use Rattle.bag_cli.specs.Performed.{AreCheckedBy, IsChecked, lines_before};
-ghost use Rattle.bag_disks.specs.Folders.{disks_of, visits_of};
-ghost use Rattle.bag_output.specs.Write.{Writes};
+ghost use Rattle.bag_cli.specs.Folders.{disks_of, visits_of};
+ghost use Rattle.bag_walk.specs.Write.{Writes};
 
 use crate::all_checks::Checks;
 use crate::in_turn::do_in_turn;
 use crate::performing::{REFUSED, say_refused};
+use crate::{Disks, Folders, Visits, read_profile, refuse_profile, write_unchecked};
 use bag_arguments::Plan;
-use bag_disks::{Disks, Folders, Visits};
 use bag_profile::Profile;
-use bag_profile_file::{read_profile, refuse_profile, write_unchecked};
 use bag_tree::{Out, Refused};
 use std::alloc::Global;
 use std::io::Write;

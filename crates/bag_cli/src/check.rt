@@ -1,15 +1,15 @@
 //! One check: the report of one bag.
 ghost use Rattle.std.specs.Prelude.{◌≡◌, [], IfOk, MatchResult};
 ghost use Rattle.std.specs.Option.{option_copied};
-ghost use Rattle.bag_disks.specs.Folders.{disks_of, visits_of};
-ghost use Rattle.bag_file_tree.specs.FileTree.{tree_state};
+ghost use Rattle.bag_cli.specs.Folders.{disks_of, visits_of};
+ghost use Rattle.bag_store.specs.FileTree.{tree_state};
 ghost use Rattle.bag_cli.specs.Checked.{IsCheckOfSample, IsVisitToCheck, request_of};
 ghost use Rattle.bag_cli.specs.InTurn.{HasVisited};
 
 use crate::sample::sample_tree;
+use crate::{Disks, Folders, Visits};
 use bag_arguments::Plan;
-use bag_disks::{Disks, Folders, Visits};
-use bag_fault::Fault;
+use bag_facts::Fault;
 use bag_profile::Profile;
 use bag_text::Text;
 use bag_tree::Out;

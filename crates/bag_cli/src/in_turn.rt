@@ -1,13 +1,13 @@
 //! What is done with folders, one after the other.
 ghost use Rattle.std.specs.Prelude.{◌≤◌, ℕ, Bool, List, Option, IfSome, MatchOption};
 ghost use Rattle.bag_tree.specs.Tree.{TreeState};
-ghost use Rattle.bag_disks.specs.Folders.{disks_of, visits_of};
-ghost use Rattle.bag_disks.specs.Visits.{Event};
-ghost use Rattle.bag_file_tree.specs.FileTree.{tree_state};
+ghost use Rattle.bag_cli.specs.Folders.{disks_of, visits_of};
+ghost use Rattle.bag_cli.specs.Visits.{Event};
+ghost use Rattle.bag_store.specs.FileTree.{tree_state};
 ghost use Rattle.bag_cli.specs.InTurn.{AreInTurn, HasVisited};
 
 use crate::performing::REFUSED;
-use bag_disks::{Disks, Folders, Visits};
+use crate::{Disks, Folders, Visits};
 use bag_text::Text;
 use bag_tree::Out;
 use std::alloc::Global;

@@ -1,7 +1,6 @@
 //! Laws of the definitions, each the contract of a function that gives nothing.
 ghost use Rattle.bag_cli.specs.Told.{HonestDisksAreTold, HonestFoldersAreMade};
-
-use bag_making::laws::honest_folders_are_told;
+ghost use Rattle.bag_cli.specs.Honest.{HonestFoldersAreTold};
 
 /// Over an honest disk the check of one directory, by a profile or without one, tells the report of the bag that stands there.
 pub fn honest_disks_are_told()
@@ -15,3 +14,8 @@ pub fn honest_folders_are_made()
 {
     honest_folders_are_told();
 }
+
+/// Of an honest folder either the bag was made, and that is told, or it wasn't, and that is told with its reason.
+pub fn honest_folders_are_told()
+    ensures { HonestFoldersAreTold }
+{}

@@ -5,22 +5,44 @@
 //! let mut out = WriterOut::new(io::writer(&rt));
 //! let status = run_program(&rt, &folders, &mut visits, &mut out, &mut rt.stderr());
 //! ```
+//!
+//! `Disks` gives the disks that the program looks at, and the bytes of files elsewhere, as profiles; it is implemented for
+//! every runtime of the system, of which nothing is promised.
 #![tactic(auto)]
 
 mod all_checks;
 mod all_makings;
 mod by_profile;
 mod check;
+mod disks;
+mod folders;
 mod in_turn;
 pub mod laws;
+mod making;
+mod making_line;
 mod performing;
+mod profile_file;
+mod profile_refusal;
+mod read_fault;
+mod record;
 mod sample;
+mod system_file;
+mod unchecked_keys;
+mod visits;
 mod whole_program;
 mod words;
 
 pub use bag_arguments::{Action, Plan, Usage, plan_of, refuse_words};
-pub use bag_disks::{Disks, Folders, Visits};
 pub use bag_tree::WriterOut;
+pub use disks::Disks;
+pub use folders::Folders;
+pub use making::make_and_tell;
+pub use making_line::put_making;
 pub use performing::perform;
+pub use profile_file::{MOST_BYTES, read_profile};
+pub use profile_refusal::{ProfileRefusal, refuse_profile};
+pub use read_fault::ReadFault;
+pub use unchecked_keys::write_unchecked;
+pub use visits::Visits;
 pub use whole_program::{program, run_program};
 pub use words::Words;

@@ -1,16 +1,16 @@
 //! Does what a plan says.
 ghost use Rattle.std.specs.Prelude.{◌≡◌, ◌≤◌, []};
-ghost use Rattle.bag_disks.specs.Folders.{disks_of, visits_of};
+ghost use Rattle.bag_cli.specs.Folders.{disks_of, visits_of};
 ghost use Rattle.bag_cli.specs.InTurn.{HasVisited};
 ghost use Rattle.bag_cli.specs.Performed.{IsPerformed, IsSaid};
 
 use crate::all_checks::report_sample;
 use crate::all_makings::make_all;
 use crate::by_profile::check_by_profile;
+use crate::{Disks, Folders, Visits};
 use bag_arguments::{Action, Plan};
-use bag_disks::{Disks, Folders, Visits};
-use bag_output::put_pieces;
 use bag_tree::{Out, Refused};
+use bag_walk::put_pieces;
 use std::alloc::Global;
 use std::io::Write;
 

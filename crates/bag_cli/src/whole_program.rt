@@ -1,14 +1,14 @@
 //! The whole program.
 ghost use Rattle.bag_arguments.specs.Words.{texts};
 ghost use Rattle.std.specs.Prelude.{map, string_bytes};
-ghost use Rattle.bag_disks.specs.Folders.{disks_of, visits_of};
+ghost use Rattle.bag_cli.specs.Folders.{disks_of, visits_of};
 ghost use Rattle.bag_cli.specs.InTurn.{HasVisited};
 ghost use Rattle.bag_cli.specs.Program.{IsProgram, IsProgramOrNone, IsStarted};
 
 use crate::performing::perform;
 use crate::words::{Words, asked_words, texts_of};
+use crate::{Disks, Folders, Visits};
 use bag_arguments::{Usage, plan_of, refuse_words};
-use bag_disks::{Disks, Folders, Visits};
 use bag_tree::Out;
 use std::alloc::Global;
 use std::io::Write;

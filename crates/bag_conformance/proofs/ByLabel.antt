@@ -14,7 +14,7 @@ use Rattle.std.proofs.lemmas.List.Elements.{filter_agree}
 use Rattle.std.proofs.lemmas.List.Sorted.{IsNonDecreasingBy-drop, searchable_from_sorted}
 use Rattle.std.proofs.lemmas.Slice.Eq.{bytes_eq-Decides}
 use Rattle.bag_text.specs.Text.{same_label, text_cmp}
-use Rattle.bag_line.specs.declared.info.Element.{Element}
+use Rattle.bag_read.specs.declared.info.Element.{Element}
 use Rattle.bag_facts.proofs.ByPath.{text_same}
 use Rattle.bag_conformance.specs.ElementFaults.{lent, labelled}
 use Rattle.bag_conformance.specs.LabelOrder.{label_cmp, folded_label, IsByLabel}

@@ -2,16 +2,16 @@
 use Rattle.std.proofs.Common.{◌≡◌, ◌≢◌, ◌<◌, ℕ, List, [], true, false, Option, None, Some, refl, sym, ap, ◌∙◌, subst, Contains}
 use Rattle.std.specs.List.{enumerate_from}
 use Rattle.bag_text.specs.Text.{same_label}
-use Rattle.bag_words.specs.declared.code.Code.TheVariants.{ProfileIdentifier, LabelRequired, LabelRepeated, ValueNotAllowed, TagFileRequired, TagFileNotAllowed, FetchNotAllowed, VersionNotAccepted, SerializationRequired}
-use Rattle.bag_line.specs.Info.{IsElement}
-use Rattle.bag_line.specs.InfoReader as reading
-use Rattle.bag_line.specs.declared.info.Element.{Element}
-use Rattle.bag_line.proofs.InfoElements.{elements_of}
-use Rattle.bag_tags.specs.Declaration.{declared_version}
-use Rattle.bag_tags.specs.ManifestName.{manifest_name}
-use Rattle.bag_tags.specs.declared.kind.Kind.{Kind}
+use Rattle.bag_text.specs.declared.code.Code.TheVariants.{ProfileIdentifier, LabelRequired, LabelRepeated, ValueNotAllowed, TagFileRequired, TagFileNotAllowed, FetchNotAllowed, VersionNotAccepted, SerializationRequired}
+use Rattle.bag_read.specs.Info.{IsElement}
+use Rattle.bag_read.specs.InfoReader as reading
+use Rattle.bag_read.specs.declared.info.Element.{Element}
+use Rattle.bag_read.proofs.InfoElements.{elements_of}
+use Rattle.bag_read.specs.Declaration.{declared_version}
+use Rattle.bag_read.specs.ManifestName.{manifest_name}
+use Rattle.bag_read.specs.declared.kind.Kind.{Kind}
 use Rattle.bag_tree.specs.Bag.{Bag, file, has_file, HasFile}
-use Rattle.bag_fault.specs.declared.fault.Fault.{Fault}
+use Rattle.bag_facts.specs.declared.fault.Fault.{Fault}
 use Rattle.bag_profile.specs.Profile.{Profile}
 use Rattle.bag_profile.specs.declared.label.LabelRule.{LabelRule}
 use Rattle.bag_profile.specs.declared.rule.ListRule.TheVariants.{TagFilesRequired, TagFilesAllowed, AcceptBagItVersion}

@@ -3,12 +3,12 @@ use Rattle.std.proofs.Common.{◌≡◌, ◌≢◌, ◌<◌, inl, inr, zero, suc
 use Rattle.std.proofs.lemmas.Slice.Eq.{bytes_eq-Decides}
 use Rattle.bag_text.specs.Path.{is_payload_path}
 use Rattle.bag_text.proofs.ListOf.{contains_nothing}
-use Rattle.bag_tags.specs.ManifestName.{manifest_name, is_alg_text, is_manifest_name}
-use Rattle.bag_tags.specs.TagName.{tag_path}
-use Rattle.bag_tags.specs.declared.kind.Kind.{Kind}
-use Rattle.bag_tags.specs.declared.kind.Kind.TheVariants.{Payload, Tag}
-use Rattle.bag_tags.specs.declared.tag_name.TagName.TheVariants.{Declaration, Info, Fetch}
-use Rattle.bag_tags.proofs.ManifestName.{named_is, named_test}
+use Rattle.bag_read.specs.ManifestName.{manifest_name, is_alg_text, is_manifest_name}
+use Rattle.bag_read.specs.TagName.{tag_path}
+use Rattle.bag_read.specs.declared.kind.Kind.{Kind}
+use Rattle.bag_read.specs.declared.kind.Kind.TheVariants.{Payload, Tag}
+use Rattle.bag_read.specs.declared.tag_name.TagName.TheVariants.{Declaration, Info, Fetch}
+use Rattle.bag_read.proofs.ManifestName.{named_is, named_test}
 use Rattle.bag_tree.specs.Bag.{Bag, has_file}
 use Rattle.bag_profile.specs.Pattern.{matches}
 use Rattle.bag_profile.specs.Profile.{Profile, names}

@@ -7,9 +7,9 @@ use Rattle.std.proofs.lemmas.Cmp.{eq_by_cmp_equiv}
 use Rattle.std.proofs.lemmas.List.Kept.{Contains-dedup, Contains-from_dedup, IsStrictlySortedBy-dedup}
 use Rattle.std.proofs.lemmas.List.Sorted.{IsPermutation-sym, Contains-permutation}
 use Rattle.bag_text.specs.Order.{IsListOf}
-use Rattle.bag_fault.specs.FaultOrder.{fault_cmp}
-use Rattle.bag_fault.specs.declared.fault.Fault.{Fault}
-use Rattle.bag_fault.proofs.Ordered.{fault_cmp_total, equal_faults_are_one}
+use Rattle.bag_facts.specs.FaultOrder.{fault_cmp}
+use Rattle.bag_facts.specs.declared.fault.Fault.{Fault}
+use Rattle.bag_facts.proofs.Ordered.{fault_cmp_total, equal_faults_are_one}
 use Rattle.bag_conformance.specs.ConformanceFaults.{AreAll}
 
 module _ (Member : Fault → Type 0) (faults sorted : List Fault) (all : AreAll Member faults) (perm : IsPermutation faults sorted) where

@@ -5,14 +5,14 @@ use Rattle.std.proofs.lemmas.List.Kept.{IsStrictlySortedBy-filter}
 use Rattle.std.proofs.lemmas.Slice.Eq.{bytes_eq-Decides}
 use Rattle.bag_text.specs.Order.{IsListOf}
 use Rattle.bag_text.specs.Text.{same_label}
-use Rattle.bag_words.specs.declared.code.Code.TheVariants.{ProfileIdentifier, LabelRequired, LabelRepeated, ValueNotAllowed}
+use Rattle.bag_text.specs.declared.code.Code.TheVariants.{ProfileIdentifier, LabelRequired, LabelRepeated, ValueNotAllowed}
 use Rattle.bag_text.proofs.ListOf.{contains_cases, contains_first, contains_behind, contains_nothing, contains_front, contains_back, contains_either}
-use Rattle.bag_line.specs.Info.{IsElement}
-use Rattle.bag_line.specs.declared.info.Element.{Element}
-use Rattle.bag_line.proofs.InfoElements.{elements_of}
-use Rattle.bag_line.proofs.PickedOut.{any_from, from_any}
+use Rattle.bag_read.specs.Info.{IsElement}
+use Rattle.bag_read.specs.declared.info.Element.{Element}
+use Rattle.bag_read.proofs.InfoElements.{elements_of}
+use Rattle.bag_read.proofs.PickedOut.{any_from, from_any}
 use Rattle.bag_tree.specs.Bag.{Bag, file}
-use Rattle.bag_fault.specs.declared.fault.Fault.{Fault}
+use Rattle.bag_facts.specs.declared.fault.Fault.{Fault}
 use Rattle.bag_facts.specs.Facts.{rules_in}
 use Rattle.bag_facts.specs.TagFacts.{IsReadOf, IsMetadataOf}
 use Rattle.bag_facts.specs.declared.metadata.Metadata.{Metadata}

@@ -2,9 +2,9 @@
 use Rattle.std.proofs.Common.{◌≡◌, ◌<◌, ◌≤◌, ◌⊎◌, inl, inr, ◌+◌, ◌++◌, ℕ, None, List, [], ◌∷◌, length, take, get_or, Contains, ap, sym, ◌∙◌, subst}
 use Rattle.std.specs.List.Sorted.{IsPermutation}
 use Rattle.std.proofs.lemmas.List.Sorted.{IsPermutation-sym, Contains-permutation}
-use Rattle.bag_words.specs.declared.code.Code.{Code}
+use Rattle.bag_text.specs.declared.code.Code.{Code}
 use Rattle.bag_text.proofs.ListOf.{contains_back, contains_cases, contains_either, contains_first, contains_front, contains_nothing}
-use Rattle.bag_fault.specs.declared.fault.Fault.{Fault}
+use Rattle.bag_facts.specs.declared.fault.Fault.{Fault}
 use Rattle.bag_facts.proofs.Mapped.{take_one_more, taken_cases}
 use Rattle.bag_stages.specs.FaultFields.{At, of_whole}
 use Rattle.bag_stages.proofs.ByPath.{take_whole}

@@ -1,9 +1,9 @@
 -- Faults that files are there: of listed files, they are those of the bag's files.
 use Rattle.std.proofs.Common.{◌≡◌, ℕ, List, [], sym, ap, ◌∙◌, subst}
-use Rattle.bag_words.specs.declared.code.Code.{Code}
+use Rattle.bag_text.specs.declared.code.Code.{Code}
 use Rattle.bag_tree.specs.Bag.{Bag, HasFile}
 use Rattle.bag_tree.specs.declared.listing.FileEntry.{FileEntry}
-use Rattle.bag_fault.specs.declared.fault.Fault.{Fault}
+use Rattle.bag_facts.specs.declared.fault.Fault.{Fault}
 use Rattle.bag_facts.specs.TagReader.{AreListed}
 use Rattle.bag_facts.proofs.ListedFiles.{file_listed, listed_file}
 use Rattle.bag_facts.proofs.Mapped.{contains_mapped, mapped_contains}

@@ -1,7 +1,7 @@
 -- The faults of one code, of those items of a set of which something holds.
 use Rattle.std.proofs.Common.{◌≡◌, ℕ, List, None, refl, sym, subst}
-use Rattle.bag_words.specs.declared.code.Code.{Code}
-use Rattle.bag_fault.specs.declared.fault.Fault.{Fault}
+use Rattle.bag_text.specs.declared.code.Code.{Code}
+use Rattle.bag_facts.specs.declared.fault.Fault.{Fault}
 use Rattle.bag_stages.specs.FaultFields.{At}
 use Rattle.bag_stages.specs.HasList.{HasList}
 use Rattle.bag_stages.proofs.HasLists.{Decided, only, one_where, same_set, for_each}

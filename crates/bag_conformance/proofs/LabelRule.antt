@@ -9,13 +9,13 @@ use Rattle.std.proofs.lemmas.Bool.Decides.{same_from_decides}
 use Rattle.std.proofs.lemmas.Map.Views.{Contains-from_any, list_any-from_Contains}
 use Rattle.std.proofs.lemmas.Slice.Eq.{bytes_eq-Decides}
 use Rattle.bag_text.specs.Order.{IsListOf}
-use Rattle.bag_words.specs.declared.code.Code.{Code}
-use Rattle.bag_words.specs.declared.code.Code.TheVariants.{LabelRequired, LabelRepeated, ValueNotAllowed}
+use Rattle.bag_text.specs.declared.code.Code.{Code}
+use Rattle.bag_text.specs.declared.code.Code.TheVariants.{LabelRequired, LabelRepeated, ValueNotAllowed}
 use Rattle.bag_text.proofs.ListOf.{contains_cases, contains_first, contains_behind, contains_nothing, contains_front, contains_back, contains_either, member_has}
-use Rattle.bag_line.specs.declared.info.Element.{Element}
-use Rattle.bag_line.proofs.FaultOrder.{lower}
+use Rattle.bag_read.specs.declared.info.Element.{Element}
+use Rattle.bag_read.proofs.FaultOrder.{lower}
 use Rattle.bag_tree.specs.Bag.{Bag}
-use Rattle.bag_fault.specs.declared.fault.Fault.{Fault}
+use Rattle.bag_facts.specs.declared.fault.Fault.{Fault}
 use Rattle.bag_facts.proofs.Mapped.{mapped_contains, contains_mapped, kept, passed}
 use Rattle.bag_profile.specs.declared.label.LabelRule.{LabelRule}
 use Rattle.bag_stages.specs.FaultFields.{At}

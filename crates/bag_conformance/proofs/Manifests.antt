@@ -3,11 +3,11 @@ use Rattle.std.proofs.Common.{◌≡◌, ◌↔◌, ℕ, Bool, true, Option, Non
 use Rattle.std.specs.Prelude.{◌≢◌}
 use Rattle.std.specs.Borrow.{Bor}
 use Rattle.std.specs.Option.{is_some}
-use Rattle.bag_tags.specs.ManifestName.{is_alg_text, manifest_name}
-use Rattle.bag_tags.specs.declared.kind.Kind.{Kind}
+use Rattle.bag_read.specs.ManifestName.{is_alg_text, manifest_name}
+use Rattle.bag_read.specs.declared.kind.Kind.{Kind}
 use Rattle.bag_tree.specs.Bag.{Bag, HasFile}
 use Rattle.bag_tree.specs.declared.listing.FileEntry.{FileEntry}
-use Rattle.bag_fault.specs.declared.fault.Fault.{Fault}
+use Rattle.bag_facts.specs.declared.fault.Fault.{Fault}
 use Rattle.bag_facts.specs.TagReader.{AreListed}
 use Rattle.bag_profile.specs.Profile.{Profile}
 use Rattle.bag_profile.specs.declared.rule.ListRule.{ListRule}

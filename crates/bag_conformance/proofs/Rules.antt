@@ -10,14 +10,14 @@ use Rattle.std.proofs.lemmas.List.{map-id}
 use Rattle.bag_text.specs.Path.{is_payload_path}
 use Rattle.bag_text.specs.Text.{text_cmp}
 use Rattle.bag_text.proofs.ListOf.{contains_nothing}
-use Rattle.bag_line.proofs.PickedOut.{any_from, from_any}
-use Rattle.bag_tags.specs.ManifestName.{is_alg_text, manifest_name}
-use Rattle.bag_tags.specs.TagName.{tag_path}
-use Rattle.bag_tags.specs.declared.kind.Kind.{Kind}
-use Rattle.bag_tags.specs.declared.kind.Kind.TheVariants.{Payload, Tag}
-use Rattle.bag_tags.specs.declared.tag_name.TagName.{TagName}
-use Rattle.bag_tags.specs.declared.tag_name.TagName.TheVariants as tag_name
-use Rattle.bag_tags.proofs.TagPaths.{name_is_text}
+use Rattle.bag_read.proofs.PickedOut.{any_from, from_any}
+use Rattle.bag_read.specs.ManifestName.{is_alg_text, manifest_name}
+use Rattle.bag_read.specs.TagName.{tag_path}
+use Rattle.bag_read.specs.declared.kind.Kind.{Kind}
+use Rattle.bag_read.specs.declared.kind.Kind.TheVariants.{Payload, Tag}
+use Rattle.bag_read.specs.declared.tag_name.TagName.{TagName}
+use Rattle.bag_read.specs.declared.tag_name.TagName.TheVariants as tag_name
+use Rattle.bag_read.proofs.TagPaths.{name_is_text}
 use Rattle.bag_text.specs.Alg.{name}
 use Rattle.bag_profile.specs.Pattern.{matches}
 use Rattle.bag_profile.specs.Profile.{Profile, names}

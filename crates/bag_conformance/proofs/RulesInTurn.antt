@@ -3,8 +3,8 @@ use Rattle.std.proofs.Common.{◌≡◌, ◌<◌, ◌+◌, ◌-◌, ◌++◌, �
 use Rattle.std.specs.Borrow.{Bor}
 use Rattle.std.specs.List.{flat_map, drop-map}
 use Rattle.std.proofs.lemmas.Grind.{flat_map-append}
-use Rattle.bag_line.specs.declared.info.Element.{Element}
-use Rattle.bag_fault.specs.declared.fault.Fault.{Fault}
+use Rattle.bag_read.specs.declared.info.Element.{Element}
+use Rattle.bag_facts.specs.declared.fault.Fault.{Fault}
 use Rattle.bag_facts.proofs.Mapped.{take_one_more}
 use Rattle.bag_stages.proofs.ByPath.{take_whole}
 use Rattle.bag_profile.specs.declared.label.LabelRule.{LabelRule}

@@ -1,10 +1,10 @@
 -- The faults of a bag as a whole.
 use Rattle.std.proofs.Common.{◌≡◌, ◌≢◌, inl, inr, ◌++◌, ℕ, List, [], ◌∷◌, Option, None, Some, refl, sym, ap, ◌∙◌, subst}
 use Rattle.std.specs.Option.{option_and_then}
-use Rattle.bag_words.specs.declared.code.Code.TheVariants.{VersionNotAccepted, SerializationRequired}
-use Rattle.bag_tags.specs.Declaration.{declared_version}
+use Rattle.bag_text.specs.declared.code.Code.TheVariants.{VersionNotAccepted, SerializationRequired}
+use Rattle.bag_read.specs.Declaration.{declared_version}
 use Rattle.bag_tree.specs.Bag.{Bag, file}
-use Rattle.bag_fault.specs.declared.fault.Fault.{Fault}
+use Rattle.bag_facts.specs.declared.fault.Fault.{Fault}
 use Rattle.bag_profile.specs.Profile.{Profile}
 use Rattle.bag_profile.specs.declared.rule.ListRule.TheVariants.{AcceptBagItVersion}
 use Rattle.bag_profile.specs.declared.terms.Serialization.TheVariants.{Required}

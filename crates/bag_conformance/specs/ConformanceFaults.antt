@@ -1,11 +1,11 @@
 -- The faults of a profile by what they are about. Each part is a set: the order of all is made at the end.
 use Rattle.std.specs.Prelude.{◌≡◌, ◌⊎◌, ◌↔◌, List, Contains}
-use Rattle.bag_words.specs.declared.code.Code.{Code}
-use Rattle.bag_words.specs.declared.code.Code.TheVariants.{ProfileIdentifier, LabelRequired, LabelRepeated, ValueNotAllowed, ManifestRequired, ManifestNotAllowed, TagmanifestRequired, TagmanifestNotAllowed, TagFileRequired, TagFileNotAllowed, FetchNotAllowed, VersionNotAccepted, SerializationRequired}
-use Rattle.bag_tags.specs.declared.kind.Kind.{Kind}
-use Rattle.bag_tags.specs.declared.kind.Kind.TheVariants.{Payload, Tag}
+use Rattle.bag_text.specs.declared.code.Code.{Code}
+use Rattle.bag_text.specs.declared.code.Code.TheVariants.{ProfileIdentifier, LabelRequired, LabelRepeated, ValueNotAllowed, ManifestRequired, ManifestNotAllowed, TagmanifestRequired, TagmanifestNotAllowed, TagFileRequired, TagFileNotAllowed, FetchNotAllowed, VersionNotAccepted, SerializationRequired}
+use Rattle.bag_read.specs.declared.kind.Kind.{Kind}
+use Rattle.bag_read.specs.declared.kind.Kind.TheVariants.{Payload, Tag}
 use Rattle.bag_tree.specs.Bag.{Bag}
-use Rattle.bag_fault.specs.declared.fault.Fault.{Fault}
+use Rattle.bag_facts.specs.declared.fault.Fault.{Fault}
 use Rattle.bag_profile.specs.Profile.{Profile}
 use Rattle.bag_conformance.specs.ConformanceStage.{LacksIdentifier, LacksLabel, RepeatsLabel, HasOtherValue, LacksManifest, HasOtherManifest, LacksTagFile, HasOtherTagFile, HasFetchFile, HasOtherVersion, IsToBeSerialized}
 

@@ -1,17 +1,17 @@
 -- Stage 8: where a bag doesn't conform to a profile (BagIt Profiles Specification, Implementation Details).
 use Rattle.std.specs.Prelude.{ℕ, ◌≡◌, ◌≢◌, true, false, List, [], Option, None, Some, Contains, codes}
 use Rattle.bag_text.specs.Code.{stage}
-use Rattle.bag_words.specs.declared.code.Code.{Code}
-use Rattle.bag_words.specs.declared.code.Code.TheVariants.{ProfileIdentifier, LabelRequired, LabelRepeated, ValueNotAllowed, ManifestRequired, ManifestNotAllowed, TagmanifestRequired, TagmanifestNotAllowed, TagFileRequired, TagFileNotAllowed, FetchNotAllowed, VersionNotAccepted, SerializationRequired}
-use Rattle.bag_line.specs.declared.info.Element.{Element}
-use Rattle.bag_tags.specs.Declaration.{declared_version}
-use Rattle.bag_tags.specs.ManifestName.{manifest_name}
-use Rattle.bag_tags.specs.TagName.{tag_path}
-use Rattle.bag_tags.specs.declared.kind.Kind.{Kind}
-use Rattle.bag_tags.specs.declared.kind.Kind.TheVariants.{Payload, Tag}
-use Rattle.bag_tags.specs.declared.tag_name.TagName.TheVariants.{Fetch}
+use Rattle.bag_text.specs.declared.code.Code.{Code}
+use Rattle.bag_text.specs.declared.code.Code.TheVariants.{ProfileIdentifier, LabelRequired, LabelRepeated, ValueNotAllowed, ManifestRequired, ManifestNotAllowed, TagmanifestRequired, TagmanifestNotAllowed, TagFileRequired, TagFileNotAllowed, FetchNotAllowed, VersionNotAccepted, SerializationRequired}
+use Rattle.bag_read.specs.declared.info.Element.{Element}
+use Rattle.bag_read.specs.Declaration.{declared_version}
+use Rattle.bag_read.specs.ManifestName.{manifest_name}
+use Rattle.bag_read.specs.TagName.{tag_path}
+use Rattle.bag_read.specs.declared.kind.Kind.{Kind}
+use Rattle.bag_read.specs.declared.kind.Kind.TheVariants.{Payload, Tag}
+use Rattle.bag_read.specs.declared.tag_name.TagName.TheVariants.{Fetch}
 use Rattle.bag_tree.specs.Bag.{Bag, file, HasFile}
-use Rattle.bag_fault.specs.declared.fault.Fault.{Fault}
+use Rattle.bag_facts.specs.declared.fault.Fault.{Fault}
 use Rattle.bag_profile.specs.Profile.{Profile}
 use Rattle.bag_profile.specs.declared.label.LabelRule.{LabelRule}
 use Rattle.bag_profile.specs.declared.rule.ListRule.{ListRule}

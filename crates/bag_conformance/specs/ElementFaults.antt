@@ -3,10 +3,10 @@ use Rattle.std.specs.Prelude.{ℕ, Bool, true, not, List, [], ◌∷◌, ◌++�
 use Rattle.std.specs.Borrow.{Bor}
 use Rattle.std.specs.List.{flat_map, list_any}
 use Rattle.bag_text.specs.Text.{same_label}
-use Rattle.bag_words.specs.declared.code.Code.{Code}
-use Rattle.bag_words.specs.declared.code.Code.TheVariants.{ProfileIdentifier, LabelRequired, LabelRepeated, ValueNotAllowed}
-use Rattle.bag_line.specs.declared.info.Element.{Element}
-use Rattle.bag_fault.specs.declared.fault.Fault.{Fault}
+use Rattle.bag_text.specs.declared.code.Code.{Code}
+use Rattle.bag_text.specs.declared.code.Code.TheVariants.{ProfileIdentifier, LabelRequired, LabelRepeated, ValueNotAllowed}
+use Rattle.bag_read.specs.declared.info.Element.{Element}
+use Rattle.bag_facts.specs.declared.fault.Fault.{Fault}
 use Rattle.bag_profile.specs.declared.label.LabelRule.{LabelRule}
 use Rattle.bag_stages.specs.Metadata.{bag_info_txt}
 use Rattle.bag_stages.specs.MetadataStage.{pair}

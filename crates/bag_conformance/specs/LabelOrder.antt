@@ -6,7 +6,7 @@ use Rattle.std.specs.Ordering.{on}
 use Rattle.std.specs.Str.{str_to_ascii_lowercase}
 use Rattle.std.specs.declared.cmp.Ordering.{Ordering}
 use Rattle.bag_text.specs.Text.{text_cmp}
-use Rattle.bag_line.specs.declared.info.Element.{Element}
+use Rattle.bag_read.specs.declared.info.Element.{Element}
 
 abbrev pub label_cmp : List ℕ → List ℕ → Ordering
 label_cmp = on str_to_ascii_lowercase text_cmp

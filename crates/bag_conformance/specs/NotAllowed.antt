@@ -1,9 +1,9 @@
 -- Names and versions that a profile doesn't allow.
 use Rattle.std.specs.Prelude.{ℕ, ◌≡◌, true, List, None}
-use Rattle.bag_words.specs.declared.code.Code.TheVariants.{VersionNotAccepted}
-use Rattle.bag_tags.specs.ManifestName.{manifest_name, is_alg_text}
-use Rattle.bag_tags.specs.declared.kind.Kind.{Kind}
-use Rattle.bag_fault.specs.declared.fault.Fault.{Fault}
+use Rattle.bag_text.specs.declared.code.Code.TheVariants.{VersionNotAccepted}
+use Rattle.bag_read.specs.ManifestName.{manifest_name, is_alg_text}
+use Rattle.bag_read.specs.declared.kind.Kind.{Kind}
+use Rattle.bag_facts.specs.declared.fault.Fault.{Fault}
 use Rattle.bag_profile.specs.Profile.{Profile}
 use Rattle.bag_profile.specs.declared.rule.ListRule.TheVariants.{TagFilesAllowed}
 use Rattle.bag_stages.specs.TagFiles.{bagit_txt}

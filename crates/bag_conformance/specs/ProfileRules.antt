@@ -1,10 +1,10 @@
 -- What a profile's lists say of a name, and which files its patterns are asked of (BagIt Profiles Specification).
 use Rattle.std.specs.Prelude.{ℕ, ◌≡◌, ◌≢◌, true, false, List, Some, Contains}
 use Rattle.bag_text.specs.Path.{is_payload_path}
-use Rattle.bag_tags.specs.ManifestName.{manifest_name, is_alg_text}
-use Rattle.bag_tags.specs.TagName.{tag_path}
-use Rattle.bag_tags.specs.declared.kind.Kind.{Kind}
-use Rattle.bag_tags.specs.declared.tag_name.TagName.TheVariants.{Declaration, Info, Fetch}
+use Rattle.bag_read.specs.ManifestName.{manifest_name, is_alg_text}
+use Rattle.bag_read.specs.TagName.{tag_path}
+use Rattle.bag_read.specs.declared.kind.Kind.{Kind}
+use Rattle.bag_read.specs.declared.tag_name.TagName.TheVariants.{Declaration, Info, Fetch}
 use Rattle.bag_profile.specs.Pattern.{matches}
 use Rattle.bag_profile.specs.Profile.{Profile, names}
 use Rattle.bag_profile.specs.declared.rule.ListRule.{ListRule}

@@ -3,7 +3,7 @@ ghost use Rattle.std.specs.Prelude.{◌≡◌, ℕ, List, IfOk};
 ghost use Rattle.bag_conformance.specs.ElementFaults as told;
 ghost use Rattle.bag_conformance.specs.LabelOrder as order;
 
-use bag_line::Element;
+use bag_read::Element;
 use bag_text::same_label;
 use std::alloc::{AllocError, Global};
 use std::cmp::Ordering;

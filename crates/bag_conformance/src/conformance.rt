@@ -1,9 +1,9 @@
 //! Stage 8: what a profile asks of a bag.
 ghost use Rattle.std.specs.Prelude.{◌≡◌, ◌≢◌, ◌⊎◌, IfOk};
 ghost use Rattle.bag_text.specs.Order.{IsListOf};
-ghost use Rattle.bag_tags.specs.declared.kind.Kind.TheVariants.{Payload, Tag};
+ghost use Rattle.bag_read.specs.declared.kind.Kind.TheVariants.{Payload, Tag};
 ghost use Rattle.bag_tree.specs.Bag.{Bag};
-ghost use Rattle.bag_fault.specs.FaultOrder.{fault_cmp};
+ghost use Rattle.bag_facts.specs.FaultOrder.{fault_cmp};
 ghost use Rattle.bag_facts.specs.Facts.{IsFactsOf};
 ghost use Rattle.bag_facts.specs.declared.options.Depth.TheVariants.{Declaration};
 ghost use Rattle.bag_conformance.specs.ConformanceFaults.{AreAll, IsOfKind};
@@ -14,10 +14,9 @@ use crate::joined::joined;
 use crate::manifest_names::manifest_faults;
 use crate::tag_files::tag_file_faults;
 use crate::whole_bag::whole_faults;
-use bag_facts::Facts;
-use bag_fault::Fault;
+use bag_facts::{Facts, Fault};
 use bag_profile::Profile;
-use bag_tags::Kind;
+use bag_read::Kind;
 use std::alloc::{AllocError, Global};
 
 /// Where a bag doesn't conform to a profile, of facts read for more than the declaration. Fails only where memory runs out.

@@ -2,7 +2,7 @@
 ghost use Rattle.std.specs.Prelude.{◌≡◌, [], IfOk};
 ghost use Rattle.bag_stages.specs.FaultFields.{of_whole};
 
-use bag_fault::Fault;
+use bag_facts::Fault;
 use bag_text::{Code, Text};
 use std::alloc::{AllocError, Global};
 

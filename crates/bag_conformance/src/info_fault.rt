@@ -2,8 +2,8 @@
 ghost use Rattle.std.specs.Prelude.{◌≡◌, IfOk};
 ghost use Rattle.bag_conformance.specs.ElementFaults as told;
 
-use bag_fault::Fault;
-use bag_tags::TagName;
+use bag_facts::Fault;
+use bag_read::TagName;
 use bag_text::{Code, Text};
 use std::alloc::{AllocError, Global};
 

@@ -1,7 +1,7 @@
 //! Lists of faults, one after the other.
 ghost use Rattle.std.specs.Prelude.{◌≡◌, ◌++◌, IfOk};
 
-use bag_fault::Fault;
+use bag_facts::Fault;
 use std::alloc::AllocError;
 
 /// The faults of two lists, one after the other.

@@ -6,9 +6,9 @@ ghost use Rattle.bag_conformance.specs.ElementFaults as told;
 
 use crate::info_fault::info_fault;
 use crate::joined::joined;
-use bag_fault::Fault;
-use bag_line::Element;
+use bag_facts::Fault;
 use bag_profile::LabelRule;
+use bag_read::Element;
 use bag_text::{Code, Text};
 use std::alloc::{AllocError, Global};
 

@@ -1,6 +1,6 @@
 //! What a profile asks of manifests, of any algorithm.
 ghost use Rattle.std.specs.Prelude.{◌≡◌, ◌≢◌, ◌↔◌, ℕ, List, IsTrue, IfOk};
-ghost use Rattle.bag_tags.specs.ManifestName.{manifest_name};
+ghost use Rattle.bag_read.specs.ManifestName.{manifest_name};
 ghost use Rattle.bag_tree.specs.Bag.{Bag};
 ghost use Rattle.bag_facts.specs.Facts.{IsFactsOf};
 ghost use Rattle.bag_facts.specs.declared.options.Depth.TheVariants.{Declaration};
@@ -14,10 +14,9 @@ use crate::file_fault::file_fault;
 use crate::has_file::has_file;
 use crate::joined::joined;
 use crate::profile_rules::{excludes, listed};
-use bag_facts::Facts;
-use bag_fault::Fault;
+use bag_facts::{Facts, Fault};
 use bag_profile::{ListRule, Profile};
-use bag_tags::{Kind, manifest_alg};
+use bag_read::{Kind, manifest_alg};
 use bag_text::{Code, Text};
 use std::alloc::{AllocError, Global};
 

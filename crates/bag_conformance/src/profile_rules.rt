@@ -6,7 +6,7 @@ ghost use Rattle.bag_profile.specs.TextSet.{IsAscending};
 ghost use Rattle.bag_conformance.specs.ProfileRules.{Lists, Excludes, MatchesNone, IsFreeTagFile};
 
 use bag_profile::{ListRule, Profile, matches};
-use bag_tags::{Kind, TagName, manifest_alg};
+use bag_read::{Kind, TagName, manifest_alg};
 use bag_text::{Text, is_payload};
 
 /// The names of a list, in the order of their bytes; none where the list is absent.

@@ -1,6 +1,6 @@
 //! What a profile asks of tag files that are no manifests.
 ghost use Rattle.std.specs.Prelude.{◌≡◌, ◌≢◌, ◌↔◌, IsTrue, IfOk};
-ghost use Rattle.bag_words.specs.declared.code.Code.TheVariants.{TagFileRequired, TagFileNotAllowed, FetchNotAllowed};
+ghost use Rattle.bag_text.specs.declared.code.Code.TheVariants.{TagFileRequired, TagFileNotAllowed, FetchNotAllowed};
 ghost use Rattle.bag_tree.specs.Bag.{Bag};
 ghost use Rattle.bag_facts.specs.Facts.{IsFactsOf};
 ghost use Rattle.bag_facts.specs.declared.options.Depth.TheVariants.{Declaration};
@@ -12,10 +12,9 @@ use crate::file_fault::file_fault;
 use crate::has_file::has_file;
 use crate::joined::joined;
 use crate::profile_rules::{is_free_tag_file, listed, matches_none};
-use bag_facts::Facts;
-use bag_fault::Fault;
+use bag_facts::{Facts, Fault};
 use bag_profile::{ListRule, Profile};
-use bag_tags::TagName;
+use bag_read::TagName;
 use bag_text::Code;
 use std::alloc::{AllocError, Global};
 

@@ -1,8 +1,8 @@
 //! What a profile asks of a bag as a whole.
 ghost use Rattle.std.specs.Prelude.{◌≡◌, ◌≢◌, IfOk, option_and_then};
 ghost use Rattle.std.specs.Option.{option_copied};
-ghost use Rattle.bag_words.specs.declared.code.Code.TheVariants.{VersionNotAccepted, SerializationRequired};
-ghost use Rattle.bag_tags.specs.Declaration as declared;
+ghost use Rattle.bag_text.specs.declared.code.Code.TheVariants.{VersionNotAccepted, SerializationRequired};
+ghost use Rattle.bag_read.specs.Declaration as declared;
 ghost use Rattle.bag_tree.specs.Bag.{Bag, file};
 ghost use Rattle.bag_facts.specs.Facts.{IsFactsOf};
 ghost use Rattle.bag_facts.specs.declared.options.Depth.TheVariants.{Declaration};
@@ -13,10 +13,9 @@ ghost use Rattle.bag_conformance.specs.ConformanceStage.{HasOtherVersion};
 ghost use Rattle.bag_conformance.specs.NotAllowed.{other_version};
 
 use crate::profile_rules::excludes;
-use bag_facts::Facts;
-use bag_fault::Fault;
+use bag_facts::{Facts, Fault};
 use bag_profile::{ListRule, Profile, Serialization};
-use bag_tags::TagName;
+use bag_read::TagName;
 use bag_text::{Code, Text};
 use std::alloc::{AllocError, Global};
 

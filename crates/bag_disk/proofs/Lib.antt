@@ -1,3 +1,10 @@
 pub mod Below
+pub mod DiskCount
 pub mod DiskPaths
+pub mod DiskSteps
+pub mod FoundPaths
 pub mod Moving
+pub mod PathOrder
+pub mod Plain
+pub mod Refusals
+pub mod WholeWalk

@@ -1,23 +1,37 @@
-//! Disks: what answers the system's calls below a base folder.
+//! Disks: what answers the system's calls below a base folder, and which files stand there.
 //!
 //! ```
 //! let mut disk = SystemDisk::new(rt, alloc, "deposit")?;
-//! disk.enter("data")?;
+//! let listing = list_below(&mut disk, alloc)?;
+//! for entry in listing.files.as_slice() {
+//!     open_at(&mut disk, entry.path.as_str())?;
+//! }
 //! ```
 //!
 //! A `Disk` says what stands at its paths, a `WritableDisk` has the calls that make a bag besides. What an honest disk answers
-//! is what stands there. `SystemDisk` hands each call to the system, of which nothing is promised.
+//! is what stands there. `SystemDisk` hands each call to the system, of which nothing is promised. Of RFC 8493 it keeps which
+//! files are in a bag, and by which paths (2, 2.1.2): regular files below the base folder, to which no link leads.
 #![tactic(auto)]
 
 mod base_folder;
 mod disk;
+mod folder_walk;
 pub mod laws;
+mod limit;
+mod listing;
 mod location;
+mod opening;
+mod path;
+mod path_order;
+mod refusal;
 mod system_disk;
 mod system_fault;
 mod writable_disk;
 
 pub use disk::{Disk, DiskFault, Entry};
+pub use listing::list_below;
 pub use location::path_in;
+pub use opening::{check_is_folder, open_at};
+pub use refusal::Refusal;
 pub use system_disk::SystemDisk;
 pub use writable_disk::WritableDisk;

@@ -2,8 +2,8 @@
 use Rattle.std.proofs.Common.{◌≡◌, ◌<◌, ◌≤◌, ◌↔◌, ◌⊎◌, inl, inr, ◌+◌, ◌++◌, ℕ, List, [], ◌∷◌, length, take, get_or, sym, subst, Contains}
 use Rattle.std.proofs.lemmas.List.{get_or_default, take_all}
 use Rattle.bag_text.specs.Alg.{algs}
-use Rattle.bag_words.specs.declared.alg.Alg.{Alg}
-use Rattle.bag_words.proofs.AlgSets.{each_is_listed}
+use Rattle.bag_text.specs.declared.alg.Alg.{Alg}
+use Rattle.bag_text.proofs.AlgSets.{each_is_listed}
 use Rattle.bag_text.proofs.ListOf.{contains_first, contains_front, contains_back, contains_nothing}
 use Rattle.bag_facts.proofs.Mapped.{take_one_more, taken_cases}
 

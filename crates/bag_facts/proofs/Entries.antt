@@ -12,13 +12,13 @@ use Rattle.bag_text.specs.Text.{text_cmp}
 use Rattle.bag_text.specs.Lines.{lines_of_file}
 use Rattle.bag_text.specs.Order.{IsListOf}
 use Rattle.bag_text.specs.declared.rules.Rules.{Rules}
-use Rattle.bag_words.specs.declared.alg.Alg.{Alg}
-use Rattle.bag_tags.specs.declared.kind.Kind.{Kind}
-use Rattle.bag_line.specs.declared.fault.LineFault.{LineFault}
-use Rattle.bag_tags.specs.declared.manifest.ManifestEntry.{ManifestEntry}
-use Rattle.bag_line.specs.LineFault.{AreFaults}
-use Rattle.bag_tags.specs.Manifest.{IsEntry, IsManifestFault}
-use Rattle.bag_tags.proofs.ManifestEntries.{entry_of_path_once}
+use Rattle.bag_text.specs.declared.alg.Alg.{Alg}
+use Rattle.bag_read.specs.declared.kind.Kind.{Kind}
+use Rattle.bag_read.specs.declared.line_fault.LineFault.{LineFault}
+use Rattle.bag_read.specs.declared.manifest.ManifestEntry.{ManifestEntry}
+use Rattle.bag_read.specs.LineFault.{AreFaults}
+use Rattle.bag_read.specs.Manifest.{IsEntry, IsManifestFault}
+use Rattle.bag_read.proofs.ManifestEntries.{entry_of_path_once}
 use Rattle.bag_facts.specs.TagFacts.{IsManifestOf, AreByPath, entry_paths}
 use Rattle.bag_facts.proofs.ByPath.{sorted_once, found, text_same}
 use Rattle.bag_facts.proofs.Mapped.{mapped_contains}

@@ -5,9 +5,9 @@ use Rattle.bag_text.specs.Lines.{lines_of_file}
 use Rattle.bag_text.specs.Order.{IsListOf}
 use Rattle.bag_text.specs.Text.{text_cmp}
 use Rattle.bag_text.specs.declared.rules.Rules.{Rules}
-use Rattle.bag_words.specs.declared.alg.Alg.{Alg}
-use Rattle.bag_tags.specs.Manifest.{IsEntry}
-use Rattle.bag_tags.specs.declared.kind.Kind.{Kind}
+use Rattle.bag_text.specs.declared.alg.Alg.{Alg}
+use Rattle.bag_read.specs.Manifest.{IsEntry}
+use Rattle.bag_read.specs.declared.kind.Kind.{Kind}
 use Rattle.bag_facts.specs.TagFacts.{AreEntriesOf, IsManifestNamed, IsReadOf}
 use Rattle.bag_facts.specs.declared.manifest.Manifest.{Manifest}
 

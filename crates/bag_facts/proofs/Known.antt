@@ -4,7 +4,7 @@ use Rattle.std.specs.Prelude.{IsTrue}
 use Rattle.bag_text.specs.Text.{text_cmp}
 use Rattle.bag_text.specs.Order.{IsListOf}
 use Rattle.bag_text.proofs.ListOf.{same_members}
-use Rattle.bag_tags.specs.TagName.{tag_path}
+use Rattle.bag_read.specs.TagName.{tag_path}
 use Rattle.bag_tree.specs.Bag.{Bag, IsBag, file, HasFile}
 use Rattle.bag_tree.specs.Listing.{IsOrdered, HasItsFolder, IsListingOf, size_at}
 use Rattle.bag_tree.specs.Tree.{TreeState, Keeps}

@@ -14,7 +14,7 @@ use Rattle.bag_facts.specs.declared.facts.Facts.{Facts}
 use Rattle.bag_facts.proofs.ByPath.{found, items_ascend}
 use Rattle.bag_facts.proofs.ListedFiles.{file_listed, listed_file}
 use Rattle.bag_facts.proofs.Mapped.{contains_mapped, mapped_contains}
-use Rattle.bag_line.proofs.PickedOut.{any_from, from_any}
+use Rattle.bag_read.proofs.PickedOut.{any_from, from_any}
 
 some_file : FileEntry
 some_file = record { path = []; size = 0 }

@@ -1,6 +1,6 @@
 -- What the bytes that were read say.
 use Rattle.std.proofs.Common.{◌≡◌, inl, inr, ◌++◌, ◌∷◌, List, [], map, refl, subst, Contains}
-use Rattle.bag_tags.specs.TagName.{tag_path}
+use Rattle.bag_read.specs.TagName.{tag_path}
 use Rattle.bag_text.proofs.ListOf.{contains_cases, contains_first, contains_behind, contains_nothing}
 use Rattle.bag_text.specs.declared.rules.Rules.{Rules}
 use Rattle.bag_facts.specs.Facts.{AreParsed}

@@ -12,9 +12,9 @@ use Rattle.bag_tree.specs.Tree.{TreeState, Keeps, OpensAtMost, IsEntryOf, FailsO
 use Rattle.bag_tree.specs.declared.answer.Answer.TheVariants.{Refused}
 use Rattle.bag_tree.specs.declared.listing.FileEntry.{FileEntry}
 use Rattle.bag_tree.specs.declared.listing.Listing.{Listing}
-use Rattle.bag_tree.specs.declared.fault.Stop.{Stop}
-use Rattle.bag_tree.specs.declared.fault.TreeFault.{TreeFault}
-use Rattle.bag_tree.specs.declared.fault.TreeFault.TheVariants.{Device, Special, Name, NotFound, TooMany, Changed, NoneOpen, Memory, Exists}
+use Rattle.bag_tree.specs.declared.tree_fault.Stop.{Stop}
+use Rattle.bag_tree.specs.declared.tree_fault.TreeFault.{TreeFault}
+use Rattle.bag_tree.specs.declared.tree_fault.TreeFault.TheVariants.{Device, Special, Name, NotFound, TooMany, Changed, NoneOpen, Memory, Exists}
 use Rattle.bag_facts.specs.Stops.{MayRefuseFacts, MayStopReading}
 use Rattle.bag_facts.specs.TagReader.{AreListed, AreTexts, IsWhole, ReadsWanted, StopsReading, read_path}
 use Rattle.bag_facts.specs.Wanted.{IsWanted, AreWanted, OpensFirst, OpensUpTo, paths_of}

@@ -3,11 +3,11 @@ use Rattle.std.proofs.Common.{◌≡◌, inl, inr, ℕ, List, Option, None, Some
 use Rattle.std.specs.Prelude.{option_and_then}
 use Rattle.bag_text.specs.Rules.{rules_of}
 use Rattle.bag_text.specs.declared.rules.Rules.{Rules}
-use Rattle.bag_declaration.specs.Declaration.{declared_version}
-use Rattle.bag_declaration.specs.declared.declaration.Declaration as declared
-use Rattle.bag_tags.specs.TagName.{tag_path}
-use Rattle.bag_tags.specs.declared.tag_name.TagName.TheVariants.{Declaration}
-use Rattle.bag_tags.proofs.TagPaths.{paths_differ}
+use Rattle.bag_read.specs.Declaration.{declared_version}
+use Rattle.bag_read.specs.declared.declaration.Declaration as declared
+use Rattle.bag_read.specs.TagName.{tag_path}
+use Rattle.bag_read.specs.declared.tag_name.TagName.TheVariants.{Declaration}
+use Rattle.bag_read.proofs.TagPaths.{paths_differ}
 use Rattle.bag_tree.specs.Bag.{Bag, file}
 use Rattle.bag_tree.specs.declared.listing.FileEntry.{FileEntry}
 use Rattle.bag_facts.specs.Facts.{rules_in, AreRulesOf}

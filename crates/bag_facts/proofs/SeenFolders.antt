@@ -11,7 +11,7 @@ use Rattle.std.proofs.lemmas.Str.Ascii.{IsAscii-from_all}
 use Rattle.bag_text.specs.Text.{text_cmp}
 use Rattle.bag_text.specs.Path.{is_path, is_base_name, is_payload_path, first_component, under}
 use Rattle.bag_text.proofs.ListOf.{contains_cases, contains_first, contains_behind}
-use Rattle.bag_line.proofs.PickedOut.{any_from, from_any}
+use Rattle.bag_read.proofs.PickedOut.{any_from, from_any}
 use Rattle.bag_tree.specs.Listing.{IsOrdered, HasItsFolder}
 use Rattle.bag_tree.specs.declared.listing.FileEntry.{FileEntry}
 use Rattle.bag_tree.specs.declared.listing.Listing.{Listing}

@@ -1,8 +1,8 @@
 -- What is known of one tag file, among what is known of all.
 use Rattle.std.proofs.Common.{◌≡◌, ℕ, List, Option, None, Some, refl, sym, ap, ◌∙◌, subst, is_some, Contains, Any, MatchOption}
-use Rattle.bag_tags.specs.TagName.{tag_path}
-use Rattle.bag_tags.specs.declared.tag_name.TagName.{TagName}
-use Rattle.bag_tags.proofs.TagPaths.{paths_differ}
+use Rattle.bag_read.specs.TagName.{tag_path}
+use Rattle.bag_read.specs.declared.tag_name.TagName.{TagName}
+use Rattle.bag_read.proofs.TagPaths.{paths_differ}
 use Rattle.bag_tree.specs.Bag.{Bag, file}
 use Rattle.bag_facts.specs.Facts.{rules_in, IsFactsOf}
 use Rattle.bag_facts.specs.TagFacts.{IsReadOf, IsNamed, name_of, path_of}

@@ -2,10 +2,10 @@
 use Rattle.std.proofs.Common.{◌≡◌, ◌↔◌, ℕ, List, [], Bool, true, false, refl, sym, ◌∙◌, subst, Any, IsTrue}
 use Rattle.std.specs.Str.{is_utf8}
 use Rattle.bag_text.specs.Text.{IsNoText}
-use Rattle.bag_words.specs.declared.code.Code.{Code}
-use Rattle.bag_words.specs.declared.code.Code.TheVariants.{NotUtf8}
-use Rattle.bag_line.specs.LineFault.{line_fault, AreFaults}
-use Rattle.bag_line.specs.declared.fault.LineFault.{LineFault}
+use Rattle.bag_text.specs.declared.code.Code.{Code}
+use Rattle.bag_text.specs.declared.code.Code.TheVariants.{NotUtf8}
+use Rattle.bag_read.specs.LineFault.{line_fault, AreFaults}
+use Rattle.bag_read.specs.declared.line_fault.LineFault.{LineFault}
 
 -- where the fault of bytes that aren't UTF-8 is this one
 module _ (bytes : List ℕ) (IsWrong : Code → LineFault → Type 0) (to : IsNoText bytes → IsWrong NotUtf8 (line_fault 0 NotUtf8 []))

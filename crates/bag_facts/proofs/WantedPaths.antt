@@ -9,13 +9,13 @@ use Rattle.std.proofs.lemmas.List.Kept.{IsStrictlySortedBy-filter}
 use Rattle.std.proofs.lemmas.Slice.Eq.{bytes_eq-Decides}
 use Rattle.bag_text.specs.Text.{text_cmp}
 use Rattle.bag_text.specs.Alg.{algs}
-use Rattle.bag_words.proofs.AlgSets.{each_is_listed}
+use Rattle.bag_text.proofs.AlgSets.{each_is_listed}
 use Rattle.bag_text.proofs.ListOf.{contains_behind, contains_front, contains_back}
-use Rattle.bag_tags.specs.TagName.{tag_path}
-use Rattle.bag_tags.specs.declared.kind.Kind.TheVariants.{Payload, Tag}
-use Rattle.bag_tags.specs.declared.tag_name.TagName.{TagName}
-use Rattle.bag_tags.specs.declared.tag_name.TagName.TheVariants.{Declaration, Info, Fetch, Manifest}
-use Rattle.bag_line.proofs.PickedOut.{any_from, from_any, both_true}
+use Rattle.bag_read.specs.TagName.{tag_path}
+use Rattle.bag_read.specs.declared.kind.Kind.TheVariants.{Payload, Tag}
+use Rattle.bag_read.specs.declared.tag_name.TagName.{TagName}
+use Rattle.bag_read.specs.declared.tag_name.TagName.TheVariants.{Declaration, Info, Fetch, Manifest}
+use Rattle.bag_read.proofs.PickedOut.{any_from, from_any, both_true}
 use Rattle.bag_tree.specs.declared.listing.FileEntry.{FileEntry}
 use Rattle.bag_facts.specs.Wanted.{Wants, IsWanted, AreWanted, paths_of}
 use Rattle.bag_facts.specs.declared.options.Depth.{Depth}

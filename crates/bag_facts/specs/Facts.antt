@@ -5,9 +5,9 @@ use Rattle.bag_text.specs.Order.{IsListOf}
 use Rattle.bag_text.specs.Rules.{rules_of}
 use Rattle.bag_text.specs.declared.rules.Rules.{Rules}
 use Rattle.bag_text.specs.declared.rules.Rules.TheVariants.{V10}
-use Rattle.bag_declaration.specs.Declaration.{declared_version}
-use Rattle.bag_tags.specs.TagName.{tag_path}
-use Rattle.bag_tags.specs.declared.tag_name.TagName.TheVariants.{Declaration}
+use Rattle.bag_read.specs.Declaration.{declared_version}
+use Rattle.bag_read.specs.TagName.{tag_path}
+use Rattle.bag_read.specs.declared.tag_name.TagName.TheVariants.{Declaration}
 use Rattle.bag_tree.specs.Bag.{Bag, file, HasFile}
 use Rattle.bag_tree.specs.Listing.{IsOrdered, IsListingOf}
 use Rattle.bag_facts.specs.TagFacts.{path_of, Says, IsParsed}

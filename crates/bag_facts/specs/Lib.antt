@@ -1,4 +1,8 @@
+pub mod EarlierReports
 pub mod Facts
+pub mod FaultLine
+pub mod FaultOrder
+pub mod LineFields
 pub mod Options
 pub mod Stops
 pub mod TagFacts

@@ -7,18 +7,18 @@ use Rattle.bag_text.specs.Text.{text_cmp}
 use Rattle.bag_text.specs.Lines.{lines_of_file}
 use Rattle.bag_text.specs.Order.{IsListOf}
 use Rattle.bag_text.specs.declared.rules.Rules.{Rules}
-use Rattle.bag_words.specs.declared.alg.Alg.{Alg}
-use Rattle.bag_declaration.specs.Declaration.{declared_version, declared_encoding, IsDeclarationFault}
-use Rattle.bag_line.specs.Fetch.{IsFetch, IsFetchFault}
-use Rattle.bag_line.specs.Info.{IsElement, IsInfoFault}
-use Rattle.bag_line.specs.LineFault.{AreFaults}
-use Rattle.bag_tags.specs.Manifest.{IsEntry, IsManifestFault}
-use Rattle.bag_tags.specs.TagName.{tag_path}
-use Rattle.bag_declaration.specs.declared.declaration.Declaration.{Declaration}
-use Rattle.bag_tags.specs.declared.kind.Kind.{Kind}
-use Rattle.bag_tags.specs.declared.manifest.ManifestEntry.{ManifestEntry}
-use Rattle.bag_tags.specs.declared.tag_name.TagName.{TagName}
-use Rattle.bag_tags.specs.declared.tag_name.TagName.TheVariants as name
+use Rattle.bag_text.specs.declared.alg.Alg.{Alg}
+use Rattle.bag_read.specs.Declaration.{declared_version, declared_encoding, IsDeclarationFault}
+use Rattle.bag_read.specs.Fetch.{IsFetch, IsFetchFault}
+use Rattle.bag_read.specs.Info.{IsElement, IsInfoFault}
+use Rattle.bag_read.specs.LineFault.{AreFaults}
+use Rattle.bag_read.specs.Manifest.{IsEntry, IsManifestFault}
+use Rattle.bag_read.specs.TagName.{tag_path}
+use Rattle.bag_read.specs.declared.declaration.Declaration.{Declaration}
+use Rattle.bag_read.specs.declared.kind.Kind.{Kind}
+use Rattle.bag_read.specs.declared.manifest.ManifestEntry.{ManifestEntry}
+use Rattle.bag_read.specs.declared.tag_name.TagName.{TagName}
+use Rattle.bag_read.specs.declared.tag_name.TagName.TheVariants as name
 use Rattle.bag_facts.specs.declared.fetch_list.FetchList.{FetchList}
 use Rattle.bag_facts.specs.declared.manifest.Manifest.{Manifest}
 use Rattle.bag_facts.specs.declared.metadata.Metadata.{Metadata}

@@ -1,13 +1,13 @@
 -- Reading the tag files of a listing.
 use Rattle.std.specs.Prelude.{◌≡◌, ◌⊎◌, ◌++◌, ◌∷◌, ◌<◌, ℕ, List, [], length, All, Contains, Option, None, Some, IsTrue, IsUtf8}
 use Rattle.std.specs.Option.{option_map}
-use Rattle.bag_tags.specs.TagName.{tag_path}
+use Rattle.bag_read.specs.TagName.{tag_path}
 use Rattle.bag_tree.specs.Bag as bag
 use Rattle.bag_tree.specs.Listing.{size_at}
 use Rattle.bag_tree.specs.Tree.{TreeState, CameFromTree}
 use Rattle.bag_tree.specs.declared.listing.FileEntry.{FileEntry}
-use Rattle.bag_tree.specs.declared.fault.Stop.{Stop}
-use Rattle.bag_tree.specs.declared.fault.TreeFault.TheVariants.{Memory}
+use Rattle.bag_tree.specs.declared.tree_fault.Stop.{Stop}
+use Rattle.bag_tree.specs.declared.tree_fault.TreeFault.TheVariants.{Memory}
 use Rattle.bag_facts.specs.Stops.{IsOutOfMemory, IsOfFile, MayRefuseFacts}
 use Rattle.bag_facts.specs.Wanted.{Wants, IsWanted}
 use Rattle.bag_facts.specs.declared.options.Options.{Options}

@@ -1,7 +1,7 @@
 //! Entries of a manifest put nearly in the order of their paths.
 ghost use Rattle.std.specs.List.Sorted.{IsPermutation};
 
-use bag_tags::ManifestEntry;
+use bag_read::ManifestEntry;
 use bag_text::{common_front, key_behind};
 use std::alloc::{AllocError, Global};
 

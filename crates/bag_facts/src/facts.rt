@@ -1,10 +1,10 @@
 //! What is read of a bag.
 ghost use Rattle.std.specs.Prelude.{◌≡◌, ◌≢◌, ◌⊎◌, ◌↔◌, [], IsTrue, IfOk, IfErr, OnOk, OnErr, MatchOption, Any, Contains, codes};
 ghost use Rattle.std.specs.Option.{option_copied};
-ghost use Rattle.bag_words.specs.declared.alg.Alg.{Alg as Named};
+ghost use Rattle.bag_text.specs.declared.alg.Alg.{Alg as Named};
 ghost use Rattle.bag_text.specs.Rules.{rules_of};
-ghost use Rattle.bag_tags.specs.TagName.{tag_path};
-ghost use Rattle.bag_tags.specs.declared.tag_name.TagName.TheVariants as file_of;
+ghost use Rattle.bag_read.specs.TagName.{tag_path};
+ghost use Rattle.bag_read.specs.declared.tag_name.TagName.TheVariants as file_of;
 ghost use Rattle.bag_tree.specs.Bag.{Bag, IsBag, HasFile, file};
 ghost use Rattle.bag_tree.specs.Tree.{Keeps};
 ghost use Rattle.bag_facts.specs.Facts.{rules_in, AreJudged, AreParsed, AreRulesOf};
@@ -16,7 +16,7 @@ ghost use Rattle.bag_facts.specs.Stops.{MayStopReading};
 use crate::listed_manifest::has_manifest;
 use crate::tag_reader::{TagBytes, read_tag_files};
 use crate::{Depth, FetchList, Manifest, Metadata, Options, TagFacts};
-use bag_tags::{Declaration, Kind, ManifestEntry, TagName, declared_rules};
+use bag_read::{Declaration, Kind, ManifestEntry, TagName, declared_rules};
 use bag_text::{Alg, AlgSet, Items, Rules};
 use bag_tree::{FileEntry, Listing, Stop, Tree, TreeFault};
 use std::alloc::{AllocError, Global};

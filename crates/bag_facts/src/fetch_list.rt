@@ -3,7 +3,7 @@ ghost use Rattle.std.specs.Prelude.{IfOk};
 ghost use Rattle.bag_facts.specs.TagFacts.{IsFetchListOf};
 
 use crate::utf8::is_text;
-use bag_tags::{FetchEntry, LineFault, Parsed, read_fetch};
+use bag_read::{FetchEntry, LineFault, Parsed, read_fetch};
 use bag_text::{Items, Rules};
 use std::alloc::{AllocError, Global};
 

@@ -1,4 +1,5 @@
-//! What is read of a bag: its files, and what its tag files say.
+//! What is read of a bag: its files, and what its tag files say; and the faults of a bag: what they say, their order, and
+//! their lines.
 //!
 //! ```
 //! let facts = Facts::read(alloc, &mut tree, options)?;
@@ -7,6 +8,7 @@
 //!         let entries = manifest.entries.as_slice();
 //!     }
 //! }
+//! let same = Fault::from_line(alloc, fault.to_line(alloc)?.as_str())?;
 //! ```
 //!
 //! Of RFC 8493 it keeps which files of a bag are tag files that are read (2.1, 2.2), and what each of them says.
@@ -14,7 +16,12 @@
 
 mod arrangement;
 mod facts;
+mod fault;
+mod fault_line;
 mod fetch_list;
+mod field;
+mod from_line;
+pub mod laws;
 mod listed_manifest;
 mod manifest;
 mod metadata;
@@ -24,7 +31,10 @@ mod tag_reader;
 mod utf8;
 
 pub use facts::Facts;
+pub use fault::Fault;
 pub use fetch_list::FetchList;
+pub use field::field_pieces;
+pub use from_line::CursorFault;
 pub use manifest::{Manifest, entry_at};
 pub use metadata::Metadata;
 pub use options::{Depth, Options};

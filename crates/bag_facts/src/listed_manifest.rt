@@ -1,10 +1,10 @@
 //! Whether manifests are listed.
 ghost use Rattle.std.specs.Prelude.{◌≡◌, bytes_eq};
 ghost use Rattle.std.specs.List.{list_any};
-ghost use Rattle.bag_tags.specs.TagName.{tag_path};
-ghost use Rattle.bag_tags.specs.declared.tag_name.TagName.TheVariants.{Manifest};
+ghost use Rattle.bag_read.specs.TagName.{tag_path};
+ghost use Rattle.bag_read.specs.declared.tag_name.TagName.TheVariants.{Manifest};
 
-use bag_tags::{Kind, TagName};
+use bag_read::{Kind, TagName};
 use bag_text::Alg;
 use bag_tree::FileEntry;
 

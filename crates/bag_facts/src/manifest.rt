@@ -7,7 +7,7 @@ ghost use Rattle.bag_facts.specs.TagFacts.{entry_paths, AreByPath, IsManifestOf}
 
 use crate::arrangement::arrange;
 use crate::utf8::is_text;
-use bag_tags::{Kind, LineFault, ManifestEntry, Parsed, read_manifest};
+use bag_read::{Kind, LineFault, ManifestEntry, Parsed, read_manifest};
 use bag_text::{Alg, Items, Rules, Text};
 use std::alloc::{AllocError, Global};
 

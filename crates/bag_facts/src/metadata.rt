@@ -3,7 +3,7 @@ ghost use Rattle.std.specs.Prelude.{IfOk};
 ghost use Rattle.bag_facts.specs.TagFacts.{IsMetadataOf};
 
 use crate::utf8::is_text;
-use bag_tags::{Element, LineFault, Parsed, read_info};
+use bag_read::{Element, LineFault, Parsed, read_info};
 use bag_text::{Items, Rules};
 use std::alloc::{AllocError, Global};
 

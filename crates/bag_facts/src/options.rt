@@ -3,7 +3,7 @@ ghost use Rattle.std.specs.Prelude.{◌≡◌, ◌↔◌, IsTrue};
 ghost use Rattle.bag_facts.specs.Options.{reaches};
 ghost use Rattle.bag_facts.specs.Wanted.{Wants};
 
-use bag_tags::TagName;
+use bag_read::TagName;
 
 /// How much of a bag is checked.
 #[derive(Clone, Copy, Debug, PartialEq, Eq)]

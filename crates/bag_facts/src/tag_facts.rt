@@ -4,7 +4,7 @@ ghost use Rattle.bag_facts.specs.TagFacts.{name_of, text_test, IsParsed};
 
 use crate::tag_reader::TagBytes;
 use crate::{FetchList, Manifest, Metadata};
-use bag_tags::{Declaration, TagName, read_declaration};
+use bag_read::{Declaration, TagName, read_declaration};
 use bag_text::Rules;
 use std::alloc::{AllocError, Global};
 

@@ -1,6 +1,6 @@
 //! Reads the tag files of a listing.
 ghost use Rattle.std.specs.Prelude.{◌≡◌, ◌≢◌, ◌++◌, [], IsTrue, IsUtf8, IfOk, IfErr, OnOk, OnErr, MatchOption, Contains, map};
-ghost use Rattle.bag_tags.specs.TagName.{tag_path};
+ghost use Rattle.bag_read.specs.TagName.{tag_path};
 ghost use Rattle.bag_tree.specs.Listing.{IsOrdered};
 ghost use Rattle.bag_tree.specs.Tree.{Keeps, IsEntryOf, OpensAtMost};
 ghost use Rattle.bag_facts.specs.Stops.{IsStopAt};
@@ -9,7 +9,7 @@ ghost use Rattle.bag_facts.specs.Wanted.{Wants, IsWanted, AreWanted, OpensFirst,
 ghost use Rattle.bag_facts.specs.declared.tag_reader.TagBytes.{TagBytes};
 
 use crate::Options;
-use bag_tags::TagName;
+use bag_read::TagName;
 use bag_text::Text;
 use bag_tree::{FileEntry, Stop, Tree, TreeFault, read_whole};
 use std::alloc::Global;

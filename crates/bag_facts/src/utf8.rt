@@ -1,8 +1,8 @@
 //! Whether a tag file that was read is UTF-8.
 ghost use Rattle.std.specs.Prelude.{◌≡◌, ◌↔◌, IsTrue, Any};
-ghost use Rattle.bag_words.specs.declared.code.Code.TheVariants.{NotUtf8};
+ghost use Rattle.bag_text.specs.declared.code.Code.TheVariants.{NotUtf8};
 
-use bag_tags::LineFault;
+use bag_read::LineFault;
 use bag_text::Code;
 
 /// Whether a tag file with these faults is UTF-8: one that isn't has a fault which says so.

@@ -4,20 +4,20 @@ use Rattle.std.specs.List.{swap}
 use Rattle.std.proofs.lemmas.List.{length-map}
 use Rattle.std.proofs.lemmas.List.Sums.{sum_by-cons}
 use Rattle.bag_text.specs.Path.{under}
-use Rattle.bag_words.specs.declared.alg.Alg.{Alg}
+use Rattle.bag_text.specs.declared.alg.Alg.{Alg}
 use Rattle.bag_text.proofs.ListOf.{contains_first, contains_behind}
-use Rattle.bag_line.specs.declared.oxum.Oxum.{Oxum}
-use Rattle.bag_tags.specs.TagName.{tag_path}
-use Rattle.bag_tags.specs.declared.kind.Kind.{Kind}
-use Rattle.bag_tags.specs.declared.kind.Kind.TheVariants.{Payload, Tag}
-use Rattle.bag_tags.specs.declared.tag_name.TagName.TheVariants.{Info, Manifest}
+use Rattle.bag_read.specs.declared.oxum.Oxum.{Oxum}
+use Rattle.bag_read.specs.TagName.{tag_path}
+use Rattle.bag_read.specs.declared.kind.Kind.{Kind}
+use Rattle.bag_read.specs.declared.kind.Kind.TheVariants.{Payload, Tag}
+use Rattle.bag_read.specs.declared.tag_name.TagName.TheVariants.{Info, Manifest}
 use Rattle.bag_tree.specs.declared.listing.FileEntry.{FileEntry}
-use Rattle.bag_digest.specs.Digest.{digest, sum_at}
+use Rattle.bag_tree.specs.Digest.{digest, sum_at}
 use Rattle.bag_stages.specs.MetadataStage.{oxum_label}
 use Rattle.bag_stages.specs.Payload.{oxum_of_files, oxum_text}
-use Rattle.bag_write.specs.Element.{NewElement, info_text}
-use Rattle.bag_write.specs.Entry.{manifest_text}
-use Rattle.bag_made.specs.Made.{File, data_folder, new_payload, entries_of, manifest, named_tag_files, new_tag_files, declaration_file, info_file}
+use Rattle.bag_tags.specs.Element.{NewElement, info_text}
+use Rattle.bag_tags.specs.Entry.{manifest_text}
+use Rattle.bag_make.specs.Made.{File, data_folder, new_payload, entries_of, manifest, named_tag_files, new_tag_files, declaration_file, info_file}
 use Rattle.bag_make.specs.Summed.{AreSummed, entry_of, summed_entry, text_or_none}
 use Rattle.bag_make.specs.Texts.{size_of, info_of, manifests_of, named_of}
 use Rattle.bag_make.specs.declared.summed.SummedFile.{SummedFile}

@@ -4,13 +4,13 @@ use Rattle.std.specs.List.{slice_get}
 use Rattle.std.specs.List.Sorted.{IsStrictlySortedBy}
 use Rattle.std.proofs.lemmas.Bool.{false_from_ne_true}
 use Rattle.bag_text.specs.Alg.{rank_cmp}
-use Rattle.bag_words.specs.declared.alg.Alg.{Alg}
+use Rattle.bag_text.specs.declared.alg.Alg.{Alg}
 use Rattle.bag_tree.specs.Bag.{IsBag, files_of, has_file, has_folder}
 use Rattle.bag_tree.specs.Tree.{TreeState, Keeps}
-use Rattle.bag_write.specs.Element.{NewElement}
-use Rattle.bag_write_tree.specs.Steps.{create}
-use Rattle.bag_made.specs.Made.{File}
-use Rattle.bag_made.specs.Valid.{MadeIsValid}
+use Rattle.bag_tags.specs.Element.{NewElement}
+use Rattle.bag_tree.specs.Steps.{create}
+use Rattle.bag_make.specs.Made.{File}
+use Rattle.bag_make.specs.Valid.{MadeIsValid}
 use Rattle.bag_make.specs.Make.{CanAsk, CanTell, HasMade, HasNoFault, Leaves, MayRefuseMaking}
 use Rattle.bag_make.specs.Plan.{after, is_in_the_way, steps}
 use Rattle.bag_make.specs.Request.{AreTexts}

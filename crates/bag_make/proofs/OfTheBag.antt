@@ -8,7 +8,7 @@ use Rattle.std.proofs.lemmas.List.Elements.{All-nil, All-cons, All-append}
 use Rattle.bag_text.specs.Path.{is_base_name, is_path, first_component, under}
 use Rattle.bag_text.specs.Text.{text_cmp}
 use Rattle.bag_text.proofs.ListOf.{contains_cases, contains_first, contains_behind, contains_nothing, contains_either}
-use Rattle.bag_line.proofs.PickedOut.{any_from}
+use Rattle.bag_read.proofs.PickedOut.{any_from}
 use Rattle.bag_tree.specs.Bag.{Bag, files_of, has_folder}
 use Rattle.bag_tree.specs.Listing.{IsListingOf, IsOrdered}
 use Rattle.bag_tree.specs.declared.listing.FileEntry.{FileEntry}
@@ -18,14 +18,14 @@ use Rattle.bag_tree.proofs.SameText.{text_itself}
 use Rattle.bag_facts.proofs.Mapped.{contains_mapped}
 use Rattle.bag_tree.specs.Moved.{is_within}
 use Rattle.bag_tree.proofs.Within.{itself_within, under_within}
-use Rattle.bag_tags.specs.TagName.{tag_path}
-use Rattle.bag_tags.specs.declared.kind.Kind.{Kind}
-use Rattle.bag_tags.specs.declared.kind.Kind.TheVariants.{Payload, Tag}
-use Rattle.bag_tags.specs.declared.tag_name.TagName.TheVariants.{Declaration, Info, Manifest}
-use Rattle.bag_tags.proofs.TagPaths.{in_base}
-use Rattle.bag_words.specs.declared.alg.Alg.{Alg}
-use Rattle.bag_write.specs.Element.{NewElement}
-use Rattle.bag_made.specs.Made.{File, data_folder, manifest, named_tag_files, new_payload, new_tag_files, payload_manifests, tag_manifests, declaration_file, info_file}
+use Rattle.bag_read.specs.TagName.{tag_path}
+use Rattle.bag_read.specs.declared.kind.Kind.{Kind}
+use Rattle.bag_read.specs.declared.kind.Kind.TheVariants.{Payload, Tag}
+use Rattle.bag_read.specs.declared.tag_name.TagName.TheVariants.{Declaration, Info, Manifest}
+use Rattle.bag_read.proofs.TagPaths.{in_base}
+use Rattle.bag_text.specs.declared.alg.Alg.{Alg}
+use Rattle.bag_tags.specs.Element.{NewElement}
+use Rattle.bag_make.specs.Made.{File, data_folder, manifest, named_tag_files, new_payload, new_tag_files, payload_manifests, tag_manifests, declaration_file, info_file}
 use Rattle.bag_make.specs.Plan.{is_in_the_way, in_order, tops, listed_tops, has_new, steps_for, new_file}
 use Rattle.bag_make.specs.Steps.{new_folder, IsStep}
 use Rattle.bag_make.specs.declared.step.Step.{Step}

@@ -9,14 +9,14 @@ use Rattle.std.proofs.lemmas.Slice.Eq.{bytes_eq-Decides}
 use Rattle.bag_text.specs.Path.{slash, is_base_name, first_component, under}
 use Rattle.bag_text.specs.Text.{text_cmp}
 use Rattle.bag_text.proofs.ListOf.{contains_cases, contains_nothing}
-use Rattle.bag_line.proofs.PickedOut.{any_from}
+use Rattle.bag_read.proofs.PickedOut.{any_from}
 use Rattle.bag_tree.specs.Bag.{Bag, HasFile, file, files_of}
 use Rattle.bag_tree.proofs.Parents.{first-under}
-use Rattle.bag_write_tree.specs.Steps.{Files, move_in}
+use Rattle.bag_tree.specs.Steps.{Files, move_in}
 use Rattle.bag_tree.specs.Moved.{is_within, renamed, moved}
 use Rattle.bag_tree.proofs.Within.{IsWithin, within_cases, itself_within, under_within, not_within, goes_itself, goes_under, stays}
-use Rattle.bag_made.specs.Made.{data_folder}
-use Rattle.bag_made.proofs.Held.{content_of, found, has_listed, one_file}
+use Rattle.bag_make.specs.Made.{data_folder}
+use Rattle.bag_make.proofs.Held.{content_of, found, has_listed, one_file}
 use Rattle.bag_make.specs.Plan.{is_in_the_way}
 use Rattle.bag_make.specs.Steps.{new_folder, after_steps}
 use Rattle.bag_make.specs.declared.step.Step.TheVariants.{MoveIn}

@@ -7,8 +7,8 @@ use Rattle.std.specs.Ordering.{eq_by_cmp}
 use Rattle.bag_text.specs.Text.{text_cmp}
 use Rattle.bag_text.proofs.ListOf.{contains_cases, contains_first, contains_behind, contains_nothing}
 use Rattle.bag_tree.proofs.SameText.{exact_texts, one_text, text_itself}
-use Rattle.bag_write_tree.specs.Steps.{Files}
-use Rattle.bag_made.specs.Made.{File}
+use Rattle.bag_tree.specs.Steps.{Files}
+use Rattle.bag_make.specs.Made.{File}
 
 -- each file is put at the path that it has then
 abbrev pub put_at : (List ℕ → List ℕ) → Files → List File → Files

@@ -4,22 +4,22 @@ use Rattle.std.specs.FinMap.{get-entries}
 use Rattle.std.specs.Option.{option_map}
 use Rattle.std.proofs.lemmas.List.Elements.{All-contains, All-from_recursion}
 use Rattle.bag_text.specs.Path.{is_path}
-use Rattle.bag_words.specs.declared.alg.Alg.{Alg}
+use Rattle.bag_text.specs.declared.alg.Alg.{Alg}
 use Rattle.bag_text.proofs.ListOf.{contains_first, contains_behind, each_from_members}
 use Rattle.bag_tree.specs.Bag.{Bag, file, files_of}
 use Rattle.bag_tree.specs.Listing.{IsListingOf, IsOrdered}
 use Rattle.bag_tree.specs.Tree.{TreeState, IsEntryOf, Keeps}
 use Rattle.bag_tree.specs.declared.listing.FileEntry.{FileEntry}
 use Rattle.bag_tree.specs.declared.listing.Listing.{Listing}
-use Rattle.bag_tree.specs.declared.fault.Stop.{Stop}
+use Rattle.bag_tree.specs.declared.tree_fault.Stop.{Stop}
 use Rattle.bag_tree.proofs.ListingLaw.{listings_are_of_the_bag}
 use Rattle.bag_facts.specs.Wanted.{paths_of}
 use Rattle.bag_facts.proofs.ListedFiles.{own_size}
 use Rattle.bag_facts.proofs.Mapped.{contains_mapped}
 use Rattle.bag_facts.proofs.Reading.{later_refusal}
-use Rattle.bag_made.specs.Made.{File, new_payload}
-use Rattle.bag_made.proofs.Entries.{at_place}
-use Rattle.bag_made.proofs.Held.{found, has_listed, one_file, content_of}
+use Rattle.bag_make.specs.Made.{File, new_payload}
+use Rattle.bag_make.proofs.Entries.{at_place}
+use Rattle.bag_make.proofs.Held.{found, has_listed, one_file, content_of}
 use Rattle.bag_make.specs.Plan.{is_in_the_way}
 use Rattle.bag_make.specs.Reading.{HasListed, HasRefusedNothing, IsStopped, MayRefuseReading, OpensFolder}
 use Rattle.bag_make.specs.Stops.{IsAtFile, IsCalm, MayStopMaking, StopsSumming}

@@ -10,19 +10,19 @@ use Rattle.std.proofs.lemmas.Bool.{and_parts, and_from, false_from_ne_true, fals
 use Rattle.std.proofs.lemmas.List.Sums.{fold-append}
 use Rattle.bag_text.specs.Path.{is_base_name, first_component, under}
 use Rattle.bag_text.specs.Text.{text_cmp}
-use Rattle.bag_words.specs.declared.alg.Alg.{Alg}
+use Rattle.bag_text.specs.declared.alg.Alg.{Alg}
 use Rattle.bag_text.proofs.ListOf.{contains_cases, contains_nothing, contains_either, contains_front, each_from_members}
-use Rattle.bag_line.proofs.PickedOut.{any_from, from_any}
+use Rattle.bag_read.proofs.PickedOut.{any_from, from_any}
 use Rattle.bag_tree.specs.Bag.{Bag, IsBag, HasFile, file, files_of, has_folder}
 use Rattle.bag_tree.proofs.SameText.{exact_texts, one_text, text_itself}
 use Rattle.bag_facts.proofs.Mapped.{contains_mapped, mapped_contains}
-use Rattle.bag_write.specs.Element.{NewElement}
-use Rattle.bag_write_tree.specs.Steps.{make_folder, move_in, rename_folder, create}
+use Rattle.bag_tags.specs.Element.{NewElement}
+use Rattle.bag_tree.specs.Steps.{make_folder, move_in, rename_folder, create}
 use Rattle.bag_tree.specs.Moved.{is_within}
 use Rattle.bag_tree.proofs.Within.{itself_within, under_within}
-use Rattle.bag_made.specs.Made.{File, data_folder, new_payload, new_tag_files, made}
-use Rattle.bag_made.proofs.ContentsOfMade.{these_files, these_folders}
-use Rattle.bag_made.proofs.Held.{content_of, found, has_listed, held, payload_member, tag_member}
+use Rattle.bag_make.specs.Made.{File, data_folder, new_payload, new_tag_files, made}
+use Rattle.bag_make.proofs.ContentsOfMade.{these_files, these_folders}
+use Rattle.bag_make.proofs.Held.{content_of, found, has_listed, held, payload_member, tag_member}
 use Rattle.bag_make.specs.Plan.{StepsMake, is_in_the_way, steps, tops}
 use Rattle.bag_make.specs.Steps.{new_folder, after_steps, change}
 use Rattle.bag_make.specs.declared.step.Step.TheVariants.{MoveIn, Rename, Create}

@@ -5,21 +5,21 @@ use Rattle.std.proofs.lemmas.List.{map-append, take_all, take-map}
 use Rattle.std.proofs.lemmas.List.Elements.{All-nil, All-cons, All-append, All-contains}
 use Rattle.std.proofs.lemmas.Option.{slice_get_read, slice_get-map, slice_get_within}
 use Rattle.bag_text.specs.Path.{under}
-use Rattle.bag_words.specs.declared.alg.Alg.{Alg}
+use Rattle.bag_text.specs.declared.alg.Alg.{Alg}
 use Rattle.bag_text.proofs.ListOf.{contains_first}
 use Rattle.bag_tree.specs.Bag.{file}
 use Rattle.bag_tree.specs.Tree.{TreeState, CameFromTree, IsEntryOf, Keeps, OpensAtMost}
 use Rattle.bag_tree.specs.Whole.{MayRefuseWhole}
 use Rattle.bag_tree.specs.declared.answer.Answer.TheVariants.{Refused}
 use Rattle.bag_tree.specs.declared.listing.FileEntry.{FileEntry}
-use Rattle.bag_tree.specs.declared.fault.Stop.{Stop}
-use Rattle.bag_tree.specs.declared.fault.TreeFault.{TreeFault}
-use Rattle.bag_tree.specs.declared.fault.TreeFault.TheVariants.{NotFound, Changed, NoneOpen, Memory}
+use Rattle.bag_tree.specs.declared.tree_fault.Stop.{Stop}
+use Rattle.bag_tree.specs.declared.tree_fault.TreeFault.{TreeFault}
+use Rattle.bag_tree.specs.declared.tree_fault.TreeFault.TheVariants.{NotFound, Changed, NoneOpen, Memory}
 use Rattle.bag_facts.specs.Stops.{IsOutOfMemory, MayRefuseFacts}
 use Rattle.bag_facts.specs.Wanted.{paths_of}
 use Rattle.bag_facts.proofs.Mapped.{take_one_more}
 use Rattle.bag_facts.proofs.Reading.{keeps_itself, keeps_on, later_refusal}
-use Rattle.bag_made.specs.Made.{File, data_folder, new_payload}
+use Rattle.bag_make.specs.Made.{File, data_folder, new_payload}
 use Rattle.bag_make.specs.Stops.{IsAtFile, IsCalm, IsRefusalOf, StopsSumming}
 use Rattle.bag_make.specs.Summed.{IsSummed, AreSummed, IsSummedEntry, AreSummedFiles, OpensFirstOf, entry_of}
 use Rattle.bag_make.specs.declared.summed.SummedFile.{SummedFile}

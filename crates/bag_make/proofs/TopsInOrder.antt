@@ -12,9 +12,9 @@ use Rattle.std.specs.declared.cmp.Ordering.TheVariants.{Less, Equal, Greater}
 use Rattle.std.proofs.lemmas.Bool.{and_parts}
 use Rattle.bag_text.specs.Order.{IsListOf}
 use Rattle.bag_text.specs.Text.{text_cmp}
-use Rattle.bag_line.proofs.PickedOut.{any_from, from_any}
+use Rattle.bag_read.proofs.PickedOut.{any_from, from_any}
 use Rattle.bag_tree.proofs.SameText.{one_text, text_itself}
-use Rattle.bag_made.proofs.Held.{true_from}
+use Rattle.bag_make.proofs.Held.{true_from}
 use Rattle.bag_make.specs.Plan.{in_order}
 
 abbrev Entry : Type 0

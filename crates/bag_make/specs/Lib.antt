@@ -1,3 +1,5 @@
+pub mod Contents
+pub mod Made
 pub mod Make
 pub mod Plan
 pub mod Reading
@@ -6,3 +8,4 @@ pub mod Steps
 pub mod Stops
 pub mod Summed
 pub mod Texts
+pub mod Valid

@@ -3,15 +3,15 @@ use Rattle.std.specs.Prelude.{ℕ, ◌≡◌, ◌≢◌, ◌⊎◌, ◌<◌, ◌
 use Rattle.std.specs.List.{list_any}
 use Rattle.std.specs.List.Sorted.{IsStrictlySortedBy}
 use Rattle.bag_text.specs.Alg.{rank_cmp}
-use Rattle.bag_words.specs.declared.alg.Alg.{Alg}
+use Rattle.bag_text.specs.declared.alg.Alg.{Alg}
 use Rattle.bag_tree.specs.Bag.{Bag, files_of, has_folder}
 use Rattle.bag_tree.specs.Tree.{TreeState, Keeps}
-use Rattle.bag_tree.specs.declared.fault.TreeFault.{TreeFault}
+use Rattle.bag_tree.specs.declared.tree_fault.TreeFault.{TreeFault}
 use Rattle.bag_report.specs.Report.{IsReport}
-use Rattle.bag_write.specs.Element.{NewElement}
-use Rattle.bag_write_tree.specs.Steps.{create}
-use Rattle.bag_made.specs.Made.{made}
-use Rattle.bag_made.specs.Valid.{full, is_refused}
+use Rattle.bag_tags.specs.Element.{NewElement}
+use Rattle.bag_tree.specs.Steps.{create}
+use Rattle.bag_make.specs.Made.{made}
+use Rattle.bag_make.specs.Valid.{full, is_refused}
 use Rattle.bag_make.specs.Plan.{after, is_in_the_way, steps}
 use Rattle.bag_make.specs.Reading.{HasListed, IsWantOfMemory}
 use Rattle.bag_make.specs.Request.{AreTexts, IsRequestFault}

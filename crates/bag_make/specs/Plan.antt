@@ -4,13 +4,13 @@ use Rattle.std.specs.FinMap as fin
 use Rattle.std.specs.List.{list_any}
 use Rattle.bag_text.specs.Path.{first_component}
 use Rattle.bag_text.specs.Text.{text_cmp}
-use Rattle.bag_words.specs.declared.alg.Alg.{Alg}
+use Rattle.bag_text.specs.declared.alg.Alg.{Alg}
 use Rattle.bag_tree.specs.Bag.{Bag, IsBag, files_of, has_folder}
 use Rattle.bag_tree.specs.declared.listing.Listing.{Listing}
-use Rattle.bag_write.specs.Element.{NewElement}
-use Rattle.bag_write_tree.specs.Steps.{has_within}
+use Rattle.bag_tags.specs.Element.{NewElement}
+use Rattle.bag_tree.specs.Steps.{has_within}
 use Rattle.bag_tree.specs.Moved.{is_within}
-use Rattle.bag_made.specs.Made.{File, data_folder, new_tag_files, made}
+use Rattle.bag_make.specs.Made.{File, data_folder, new_tag_files, made}
 use Rattle.bag_make.specs.Steps.{new_folder, after_steps}
 use Rattle.bag_make.specs.declared.step.Step.{Step}
 use Rattle.bag_make.specs.declared.step.Step.TheVariants.{MakeFolder, MoveIn, Rename, Create}

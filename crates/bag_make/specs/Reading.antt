@@ -3,8 +3,8 @@ use Rattle.std.specs.Prelude.{ℕ, ◌≡◌, ◌⊎◌, ◌++◌, true, IsTrue,
 use Rattle.bag_tree.specs.Bag.{files_of}
 use Rattle.bag_tree.specs.Tree.{TreeState, Keeps}
 use Rattle.bag_tree.specs.declared.answer.Answer.TheVariants.{Given, Refused}
-use Rattle.bag_tree.specs.declared.fault.Stop.{Stop}
-use Rattle.bag_tree.specs.declared.fault.TreeFault.TheVariants as cause_of
+use Rattle.bag_tree.specs.declared.tree_fault.Stop.{Stop}
+use Rattle.bag_tree.specs.declared.tree_fault.TreeFault.TheVariants as cause_of
 use Rattle.bag_make.specs.Plan.{is_in_the_way}
 use Rattle.bag_make.specs.Stops.{MayStopMaking}
 use Rattle.bag_make.specs.declared.fault.MakeFault.{MakeFault}

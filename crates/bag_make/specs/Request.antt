@@ -2,9 +2,9 @@
 use Rattle.std.specs.Prelude.{◌≡◌, ◌≢◌, true, List, []}
 use Rattle.std.specs.List.{list_any}
 use Rattle.bag_text.specs.Text.{IsText}
-use Rattle.bag_words.specs.declared.alg.Alg.{Alg}
-use Rattle.bag_write.specs.Element.{NewElement}
-use Rattle.bag_made.specs.Valid.{is_refused}
+use Rattle.bag_text.specs.declared.alg.Alg.{Alg}
+use Rattle.bag_tags.specs.Element.{NewElement}
+use Rattle.bag_make.specs.Valid.{is_refused}
 use Rattle.bag_make.specs.declared.fault.MakeFault.{MakeFault}
 use Rattle.bag_make.specs.declared.fault.MakeFault.TheVariants.{NoAlgorithm, BadValue}
 

@@ -4,10 +4,10 @@ use Rattle.bag_text.specs.Path.{is_base_name, under}
 use Rattle.bag_tree.specs.Bag.{Bag}
 use Rattle.bag_tree.specs.Tree.{TreeState}
 use Rattle.bag_tree.specs.declared.answer.Answer.TheVariants.{Refused}
-use Rattle.bag_tree.specs.declared.fault.TreeFault.{TreeFault}
-use Rattle.bag_write_tree.specs.Changes.{HasChanged, HasBegun, IsSame, MayRefuseChange}
-use Rattle.bag_write_tree.specs.Steps.{make_folder, move_in, rename_folder, create, is_taken, has_within, lacks_folder, lacks_source}
-use Rattle.bag_made.specs.Made.{data_folder}
+use Rattle.bag_tree.specs.declared.tree_fault.TreeFault.{TreeFault}
+use Rattle.bag_tree.specs.Changes.{HasChanged, HasBegun, IsSame, MayRefuseChange}
+use Rattle.bag_tree.specs.Steps.{make_folder, move_in, rename_folder, create, is_taken, has_within, lacks_folder, lacks_source}
+use Rattle.bag_make.specs.Made.{data_folder}
 use Rattle.bag_make.specs.declared.step.Step.{Step}
 use Rattle.bag_make.specs.declared.step.Step.TheVariants.{MakeFolder, MoveIn, Rename, Create}
 use Rattle.bag_make.specs.declared.step.Refusal.{Refusal}

@@ -1,13 +1,13 @@
 -- Files with their digests.
 use Rattle.std.specs.Prelude.{ℕ, ◌≡◌, ◌++◌, IsTrue, List, [], ◌∷◌, Option, Some, None, All, length, map, take}
 use Rattle.bag_text.specs.Path.{under}
-use Rattle.bag_words.specs.declared.alg.Alg.{Alg}
+use Rattle.bag_text.specs.declared.alg.Alg.{Alg}
 use Rattle.bag_tree.specs.Bag.{file}
 use Rattle.bag_tree.specs.Tree.{TreeState}
 use Rattle.bag_tree.specs.declared.listing.FileEntry.{FileEntry}
-use Rattle.bag_digest.specs.Digest.{AreSumsOf, sum_at}
-use Rattle.bag_write.specs.Entry.{NewEntry}
-use Rattle.bag_made.specs.Made.{File, data_folder, new_payload}
+use Rattle.bag_tree.specs.Digest.{AreSumsOf, sum_at}
+use Rattle.bag_tags.specs.Entry.{NewEntry}
+use Rattle.bag_make.specs.Made.{File, data_folder, new_payload}
 use Rattle.bag_make.specs.declared.summed.SummedFile.{SummedFile}
 
 -- the path of a file, and the digests of its bytes

@@ -1,18 +1,18 @@
 -- The tag files that are made of listed files, and of digests.
 use Rattle.std.specs.Prelude.{List, [], ◌∷◌, ◌++◌, length, map, sum_by}
-use Rattle.bag_words.specs.declared.alg.Alg.{Alg}
-use Rattle.bag_line.specs.declared.oxum.Oxum.{Oxum}
-use Rattle.bag_tags.specs.TagName.{tag_path}
-use Rattle.bag_tags.specs.declared.kind.Kind.{Kind}
-use Rattle.bag_tags.specs.declared.kind.Kind.TheVariants.{Payload}
-use Rattle.bag_tags.specs.declared.tag_name.TagName.TheVariants.{Declaration, Info, Manifest}
+use Rattle.bag_text.specs.declared.alg.Alg.{Alg}
+use Rattle.bag_read.specs.declared.oxum.Oxum.{Oxum}
+use Rattle.bag_read.specs.TagName.{tag_path}
+use Rattle.bag_read.specs.declared.kind.Kind.{Kind}
+use Rattle.bag_read.specs.declared.kind.Kind.TheVariants.{Payload}
+use Rattle.bag_read.specs.declared.tag_name.TagName.TheVariants.{Declaration, Info, Manifest}
 use Rattle.bag_tree.specs.declared.listing.FileEntry.{FileEntry}
 use Rattle.bag_stages.specs.MetadataStage.{oxum_label}
 use Rattle.bag_stages.specs.Payload.{oxum_text}
-use Rattle.bag_write.specs.Declaration.{declaration_text}
-use Rattle.bag_write.specs.Element.{NewElement, info_text}
-use Rattle.bag_write.specs.Entry.{manifest_text}
-use Rattle.bag_made.specs.Made.{File}
+use Rattle.bag_tags.specs.Declaration.{declaration_text}
+use Rattle.bag_tags.specs.Element.{NewElement, info_text}
+use Rattle.bag_tags.specs.Entry.{manifest_text}
+use Rattle.bag_make.specs.Made.{File}
 use Rattle.bag_make.specs.Summed.{summed_entry}
 use Rattle.bag_make.specs.declared.summed.SummedFile.{SummedFile}
 

@@ -6,8 +6,8 @@ ghost use Rattle.bag_text.specs.Alg.{rank_cmp};
 ghost use Rattle.bag_tree.specs.Bag.{Bag, files_of};
 ghost use Rattle.bag_tree.specs.Listing.{IsListingOf, IsOrdered};
 ghost use Rattle.bag_tree.specs.Tree.{Keeps};
-ghost use Rattle.bag_made.specs.Made.{File, new_payload};
-ghost use Rattle.bag_made.specs.Valid.{is_refused};
+ghost use Rattle.bag_make.specs.Made.{File, new_payload};
+ghost use Rattle.bag_make.specs.Valid.{is_refused};
 ghost use Rattle.bag_make.specs.Make.{CanTell, HasMade, HasNoFault, Leaves, MayRefuseMaking};
 ghost use Rattle.bag_make.specs.Plan as spec;
 ghost use Rattle.bag_make.specs.Plan.{has_new};
@@ -23,8 +23,7 @@ use crate::step::{Step, take_steps};
 use crate::summed::{SummedFile, sum_files};
 use crate::texts::tag_files;
 use bag_text::{AlgSet, Text};
-use bag_tree::{Listing, Stop, Tree, TreeFault};
-use bag_write_tree::WriteTree;
+use bag_tree::{Listing, Stop, Tree, TreeFault, WriteTree};
 use std::alloc::{AllocError, Global};
 
 /// Makes a bag of the files of a folder, in place (RFC 8493, 2): they go under `data/`, and the tag files are written beside

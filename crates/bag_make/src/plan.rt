@@ -1,12 +1,12 @@
 //! The steps that make a bag, in order.
 ghost use Rattle.std.specs.Prelude.{◌≡◌, ◌∷◌, ◌++◌, [], not, List, All, IsTrue, IfOk, OnOk, map};
 ghost use Rattle.bag_text.specs.Path.{is_base_name};
-ghost use Rattle.bag_words.specs.declared.alg.Alg.{Alg as Named};
+ghost use Rattle.bag_text.specs.declared.alg.Alg.{Alg as Named};
 ghost use Rattle.bag_tree.specs.Bag.{Bag, files_of};
 ghost use Rattle.bag_tree.specs.Listing.{IsListingOf, IsOrdered};
-ghost use Rattle.bag_write.specs.Distinct.{texts_of};
-ghost use Rattle.bag_write.specs.Element.{NewElement};
-ghost use Rattle.bag_made.specs.Made.{new_tag_files};
+ghost use Rattle.bag_tags.specs.Distinct.{texts_of};
+ghost use Rattle.bag_tags.specs.Element.{NewElement};
+ghost use Rattle.bag_make.specs.Made.{new_tag_files};
 ghost use Rattle.bag_make.specs.Plan as spec;
 ghost use Rattle.bag_make.specs.Plan.{has_new};
 ghost use Rattle.bag_make.specs.Steps.{IsStep};

@@ -3,11 +3,11 @@ ghost use Rattle.std.specs.Prelude.{◌≡◌, ◌≢◌, [], false, All, OnOk, 
 ghost use Rattle.std.specs.List.{list_any};
 ghost use Rattle.bag_text.specs.Text.{IsText};
 ghost use Rattle.bag_make.specs.Request.{AreTexts, IsRequestFault};
-ghost use Rattle.bag_made.specs.Valid.{is_refused as is_refused_by};
+ghost use Rattle.bag_make.specs.Valid.{is_refused as is_refused_by};
 
 use crate::MakeFault;
+use bag_tags::is_bad_element;
 use bag_text::{AlgSet, Text, same_label};
-use bag_write::is_bad_element;
 
 /// The label of the element that is computed (RFC 8493, 2.2.2).
 pub(crate) const OXUM_LABEL: &str = "Payload-Oxum";

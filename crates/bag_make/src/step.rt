@@ -4,8 +4,7 @@ ghost use Rattle.bag_tree.specs.declared.answer.Answer.TheVariants.{Refused};
 ghost use Rattle.bag_make.specs.Steps.{CanTake, IsStep, HasDone, HasLeft, MayRefuseStep, HasTaken, HasStopped};
 
 use bag_text::{Items, Text};
-use bag_tree::TreeFault;
-use bag_write_tree::WriteTree;
+use bag_tree::{TreeFault, WriteTree};
 
 /// The folder that holds the files while they are moved.
 pub const NEW_FOLDER: &str = ".bagit-new";

@@ -2,16 +2,15 @@
 ghost use Rattle.std.specs.Prelude.{◌≡◌, ◌<◌, ◌++◌, ◌∷◌, [], length, IfOk, IfErr, OnOk, OnErr};
 ghost use Rattle.bag_text.specs.Path.{under};
 ghost use Rattle.bag_tree.specs.Tree.{Keeps, OpensAtMost};
-ghost use Rattle.bag_digest.specs.Digest.{AreSumsOf};
+ghost use Rattle.bag_tree.specs.Digest.{AreSumsOf};
 ghost use Rattle.bag_facts.specs.Wanted.{paths_of};
-ghost use Rattle.bag_made.specs.Made.{data_folder};
+ghost use Rattle.bag_make.specs.Made.{data_folder};
 ghost use Rattle.bag_make.specs.Stops.{IsCalm, IsRefusalOf, StopsSumming};
 ghost use Rattle.bag_make.specs.Summed.{AreSummed, AreSummedFiles, IsSummedEntry, OpensFirstOf};
 ghost use Rattle.bag_make.specs.declared.summed.SummedFile.{SummedFile as Digested};
 
-use bag_digest::{Digests, Sums, digest_file};
 use bag_text::{AlgSet, Items, Text};
-use bag_tree::{FileEntry, Stop, Tree, TreeFault};
+use bag_tree::{Digests, FileEntry, Stop, Sums, Tree, TreeFault, digest_file};
 use std::alloc::{AllocError, Global};
 
 /// How many bytes are read at once.

@@ -3,21 +3,21 @@ ghost use Rattle.std.specs.Prelude.{◌≡◌, ◌∷◌, ◌++◌, [], List, If
 ghost use Rattle.std.specs.List.Sorted.{IsStrictlySortedBy};
 ghost use Rattle.bag_text.specs.Alg.{rank_cmp};
 ghost use Rattle.bag_text.specs.Lines.{line_feed};
-ghost use Rattle.bag_tags.specs.TagName.{tag_path};
+ghost use Rattle.bag_read.specs.TagName.{tag_path};
 ghost use Rattle.bag_stages.specs.Payload.{oxum_text};
-ghost use Rattle.bag_write.specs.Declaration.{declaration_text};
-ghost use Rattle.bag_write.specs.Entry as entry;
-ghost use Rattle.bag_made.specs.Made as bag;
-ghost use Rattle.bag_made.specs.Made.{File, new_payload};
+ghost use Rattle.bag_tags.specs.Declaration.{declaration_text};
+ghost use Rattle.bag_tags.specs.Entry as entry;
+ghost use Rattle.bag_make.specs.Made as bag;
+ghost use Rattle.bag_make.specs.Made.{File, new_payload};
 ghost use Rattle.bag_make.specs.Summed.{AreSummed, entry_of, summed_entry};
 ghost use Rattle.bag_make.specs.Texts.{info_of, manifests_of, named_of, size_of};
 
 use crate::request::OXUM_LABEL;
 use crate::summed::{SummedFile, sum_tag_files};
-use bag_tags::{Kind, TagName};
+use bag_read::{Kind, TagName};
+use bag_tags::{push_entry, write_declaration, write_info};
 use bag_text::{Alg, AlgSet, Items, Text};
 use bag_tree::FileEntry;
-use bag_write::{push_entry, write_declaration, write_info};
 use std::alloc::{AllocError, Global};
 
 /// The tag files of the bag whose payload these listed files are, with these digests, in the order in which they are written.

@@ -1,7 +1,7 @@
 //! What is moved.
 ghost use Rattle.std.specs.Prelude.{◌≡◌, IfOk, map};
 ghost use Rattle.bag_text.specs.Path as spec;
-ghost use Rattle.bag_write.specs.Distinct.{texts_of};
+ghost use Rattle.bag_tags.specs.Distinct.{texts_of};
 ghost use Rattle.bag_make.specs.Plan as plan;
 
 use crate::step::DATA_FOLDER;

@@ -10,8 +10,8 @@ use Rattle.bag_tree.specs.Bag.{Bag, has_file, has_folder}
 use Rattle.bag_tree.specs.declared.answer.Answer.{Answer}
 use Rattle.bag_tree.specs.declared.answer.Answer.TheVariants.{Given}
 use Rattle.bag_memory.specs.Memory.{folders_for, state_after}
-use Rattle.bag_write_tree.specs.Changes.{HasChanged}
-use Rattle.bag_write_tree.specs.Steps.{Files, make_folder, move_in, rename_folder, create, is_taken, lacks_folder, lacks_source}
+use Rattle.bag_tree.specs.Changes.{HasChanged}
+use Rattle.bag_tree.specs.Steps.{Files, make_folder, move_in, rename_folder, create, is_taken, lacks_folder, lacks_source}
 use Rattle.bag_tree.specs.Moved.{moved, renamed, with_renamed}
 use Rattle.bag_memory.proofs.InMemory.{folder_stays}
 

@@ -1,4 +1,5 @@
 pub mod Changed
+mod Counting
 pub mod Folders
 pub mod InMemory
 pub mod Listed
@@ -6,3 +7,4 @@ pub mod MemoryFiles
 pub mod MovedBag
 pub mod MovedFiles
 pub mod Parents
+pub mod Passing

@@ -18,7 +18,7 @@ use Rattle.bag_text.specs.Text.{text_cmp}
 use Rattle.bag_text.specs.Path.{slash, components, is_component, is_path, is_base_name, first_component, under}
 use Rattle.bag_tree.specs.Bag.{Bag, file, has_folder, files_of}
 use Rattle.bag_memory.specs.Memory.{PassesAsBag, is_text_path, is_text_name, are_bytes}
-use Rattle.bag_write_tree.specs.Steps.{Files, move_in, rename_folder}
+use Rattle.bag_tree.specs.Steps.{Files, move_in, rename_folder}
 use Rattle.bag_tree.specs.Moved.{is_within, renamed, with_renamed, moved}
 use Rattle.bag_tree.proofs.Within.{within_cases, under_within, goes_itself, goes_under, stays}
 use Rattle.bag_memory.proofs.MemoryFiles.{some_from}

@@ -1,6 +1,6 @@
 -- When a tree in memory refuses a change.
-use Rattle.bag_tree.specs.declared.fault.TreeFault.{TreeFault}
-use Rattle.bag_tree.specs.declared.fault.TreeFault.TheVariants.{NotFound, Memory, Exists}
+use Rattle.bag_tree.specs.declared.tree_fault.TreeFault.{TreeFault}
+use Rattle.bag_tree.specs.declared.tree_fault.TreeFault.TheVariants.{NotFound, Memory, Exists}
 
 -- A change is refused where its source is absent, where its target is there, or for want of memory.
 abbrev pub IsChangeFault : Type 0 → Type 0 → TreeFault → Type 0

@@ -1,4 +1,11 @@
 pub mod Changing
+pub mod FailTree
+pub mod KthCall
 pub mod Memory
 pub mod MemoryLaw
 pub mod MemoryView
+pub mod Refusals
+pub mod SkewTree
+pub mod Skewed
+pub mod TreeCalls
+pub mod TreeChanges

@@ -12,8 +12,8 @@ use Rattle.bag_tree.specs.Tree.{TreeState}
 use Rattle.bag_tree.specs.declared.answer.Answer.{Answer}
 use Rattle.bag_tree.specs.declared.answer.Answer.TheVariants.{Given}
 use Rattle.bag_tree.specs.declared.listing.FileEntry.{FileEntry}
-use Rattle.bag_tree.specs.declared.fault.TreeFault.{TreeFault}
-use Rattle.bag_tree.specs.declared.fault.TreeFault.TheVariants.{NotFound, Memory}
+use Rattle.bag_tree.specs.declared.tree_fault.TreeFault.{TreeFault}
+use Rattle.bag_tree.specs.declared.tree_fault.TreeFault.TheVariants.{NotFound, Memory}
 
 -- the bag with no files and no folders
 abbrev pub empty_bag : Bag

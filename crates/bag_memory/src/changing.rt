@@ -6,7 +6,7 @@ ghost use Rattle.bag_text.specs.Path.{under};
 ghost use Rattle.bag_memory.specs.Memory.{bag_of, file_map, folder_set};
 ghost use Rattle.bag_memory.specs.Changing.{IsChangeFault};
 ghost use Rattle.bag_tree.specs.Moved as moving;
-ghost use Rattle.bag_write_tree.specs.Steps as step;
+ghost use Rattle.bag_tree.specs.Steps as step;
 
 use crate::file_map::{copy_of, insert_file};
 use crate::folder_set::{insert_folder, take_back};

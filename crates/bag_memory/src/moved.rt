@@ -8,7 +8,7 @@ ghost use Rattle.bag_tree.specs.Moved as moving;
 
 use crate::file_map::{copy_of, insert_file};
 use bag_text::{Items, Text};
-use bag_write_tree::rest_within;
+use bag_tree::rest_within;
 use std::alloc::{AllocError, Global};
 use std::collections::BTreeMap;
 

@@ -2,12 +2,12 @@
 use Rattle.std.proofs.Common.{filter, Option}
 use Rattle.bag_text.proofs.ListOf.{same_members}
 use Rattle.bag_tree.specs.Bag.{Bag}
-use Rattle.bag_fault.specs.FaultOrder.{fault_cmp}
-use Rattle.bag_fault.specs.declared.fault.Fault.{Fault}
-use Rattle.bag_fault.proofs.Ordered.{fault_cmp_total, fault_cmp_same}
+use Rattle.bag_facts.specs.FaultOrder.{fault_cmp}
+use Rattle.bag_facts.specs.declared.fault.Fault.{Fault}
+use Rattle.bag_facts.proofs.Ordered.{fault_cmp_total, fault_cmp_same}
 use Rattle.bag_facts.proofs.Mapped.{kept, passed}
-use Rattle.bag_completeness.specs.CompletenessStage.{IsOfCompleteness}
-use Rattle.bag_completeness.proofs.CompletenessList.{completeness_faults_are_listed}
+use Rattle.bag_stages.specs.CompletenessStage.{IsOfCompleteness}
+use Rattle.bag_stages.proofs.CompletenessList.{completeness_faults_are_listed}
 use Rattle.bag_conformance.specs.ConformanceStage.{IsOfConformance}
 use Rattle.bag_conformance.proofs.ConformanceFaultsLaws.{conformance_faults_are_listed}
 use Rattle.bag_profile.specs.Profile.{Profile}
@@ -23,8 +23,8 @@ use Rattle.bag_stages.proofs.HasLists.{either}
 use Rattle.bag_stages.proofs.ManifestsList.{manifest_faults_are_listed}
 use Rattle.bag_stages.proofs.MetadataList.{metadata_faults_are_listed}
 use Rattle.bag_stages.proofs.PartsList.{part_faults_are_listed}
-use Rattle.bag_validity.specs.ValidityStage.{IsOfValidity}
-use Rattle.bag_validity.proofs.ValidityList.{validity_faults_are_listed}
+use Rattle.bag_stages.specs.ValidityStage.{IsOfValidity}
+use Rattle.bag_stages.proofs.ValidityList.{validity_faults_are_listed}
 use Rattle.bag_report.specs.Is.{Is}
 use Rattle.bag_report.specs.Report.{Check, asks, IsReported, EachBagHasAReport}
 use Rattle.bag_report.proofs.AscendingList.{ascending_list}

@@ -1,8 +1,8 @@
 -- What is a fault of a bag (RFC 8493, 3: complete and valid bags).
 use Rattle.std.specs.Prelude.{◌⊎◌, Option}
 use Rattle.bag_tree.specs.Bag.{Bag}
-use Rattle.bag_fault.specs.declared.fault.Fault.{Fault}
-use Rattle.bag_completeness.specs.CompletenessStage.{IsOfCompleteness}
+use Rattle.bag_facts.specs.declared.fault.Fault.{Fault}
+use Rattle.bag_stages.specs.CompletenessStage.{IsOfCompleteness}
 use Rattle.bag_conformance.specs.ConformanceStage.{IsOfConformance}
 use Rattle.bag_profile.specs.Profile.{Profile}
 use Rattle.bag_stages.specs.DeclarationStage.{IsOfDeclaration}
@@ -10,7 +10,7 @@ use Rattle.bag_stages.specs.FetchStage.{IsOfFetch}
 use Rattle.bag_stages.specs.ManifestsStage.{IsOfManifests}
 use Rattle.bag_stages.specs.MetadataStage.{IsOfMetadata}
 use Rattle.bag_stages.specs.PartsStage.{IsOfParts}
-use Rattle.bag_validity.specs.ValidityStage.{IsOfValidity}
+use Rattle.bag_stages.specs.ValidityStage.{IsOfValidity}
 
 -- The fault is one of the bag by a profile, or without one: what its code says holds, at the stage that looks for it.
 unfoldable pub Is : Bag → Option Profile → Fault → Type 0

@@ -1,6 +1,6 @@
-pub use Rattle.bag_completeness.specs.ClashStage
-pub use Rattle.bag_completeness.specs.Clashes
-pub use Rattle.bag_completeness.specs.CompletenessStage
+pub use Rattle.bag_stages.specs.ClashStage
+pub use Rattle.bag_stages.specs.Clashes
+pub use Rattle.bag_stages.specs.CompletenessStage
 pub use Rattle.bag_conformance.specs.ConformanceStage
 pub use Rattle.bag_conformance.specs.ProfileRules
 pub use Rattle.bag_facts.specs.Facts
@@ -8,8 +8,8 @@ pub use Rattle.bag_facts.specs.Options
 pub use Rattle.bag_facts.specs.Stops
 pub use Rattle.bag_facts.specs.TagFacts
 pub use Rattle.bag_facts.specs.Wanted
-pub use Rattle.bag_fault.specs.FaultLine
-pub use Rattle.bag_fault.specs.FaultOrder
+pub use Rattle.bag_facts.specs.FaultLine
+pub use Rattle.bag_facts.specs.FaultOrder
 pub use Rattle.bag_profile.specs.Pattern
 pub use Rattle.bag_profile.specs.Profile
 pub use Rattle.bag_stages.specs.DeclarationStage
@@ -21,8 +21,8 @@ pub use Rattle.bag_stages.specs.PartsStage
 pub use Rattle.bag_stages.specs.Payload
 pub use Rattle.bag_stages.specs.FaultFields
 pub use Rattle.bag_stages.specs.TagFiles
-pub use Rattle.bag_validity.specs.SummedFiles
-pub use Rattle.bag_validity.specs.ValidityStage
+pub use Rattle.bag_stages.specs.SummedFiles
+pub use Rattle.bag_stages.specs.ValidityStage
 pub mod Is
 pub mod Report
 pub mod Stages

@@ -1,10 +1,10 @@
 -- What a stage finds, and which of it is asked for.
 use Rattle.std.specs.Prelude.{ℕ, ◌≡◌, Bool, true, Option}
 use Rattle.bag_text.specs.Code.{stage}
-use Rattle.bag_words.specs.declared.code.Code.{Code}
-use Rattle.bag_words.specs.declared.code.Code.TheVariants.{NoOxum, NameClash}
+use Rattle.bag_text.specs.declared.code.Code.{Code}
+use Rattle.bag_text.specs.declared.code.Code.TheVariants.{NoOxum, NameClash}
 use Rattle.bag_tree.specs.Bag.{Bag}
-use Rattle.bag_fault.specs.declared.fault.Fault.{Fault}
+use Rattle.bag_facts.specs.declared.fault.Fault.{Fault}
 use Rattle.bag_facts.specs.declared.options.Depth.{Depth}
 use Rattle.bag_profile.specs.Profile.{Profile}
 use Rattle.bag_report.specs.Is.{Is}

@@ -16,7 +16,9 @@
 pub mod laws;
 mod stages;
 
-pub use bag_facts::{Depth, Facts, FetchList, Manifest, Metadata, Options, TagFacts};
-pub use bag_fault::{CursorFault, Fault, field_pieces};
+pub use bag_facts::{
+    CursorFault, Depth, Facts, Fault, FetchList, Manifest, Metadata, Options, TagFacts,
+    field_pieces,
+};
 pub use bag_profile::{Profile, ProfileFault};
 pub use stages::stage_faults;

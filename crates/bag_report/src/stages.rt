@@ -3,20 +3,19 @@ ghost use Rattle.std.specs.Prelude.{◌≡◌, ◌≢◌, ◌<◌, [], IfOk};
 ghost use Rattle.std.specs.Option.{option_copied};
 ghost use Rattle.bag_text.specs.Order.{IsListOf};
 ghost use Rattle.bag_tree.specs.Bag.{Bag};
-ghost use Rattle.bag_fault.specs.FaultOrder.{fault_cmp};
+ghost use Rattle.bag_facts.specs.FaultOrder.{fault_cmp};
 ghost use Rattle.bag_facts.specs.Facts.{IsFactsOf};
 ghost use Rattle.bag_facts.specs.declared.options.Depth.TheVariants.{Declaration};
 ghost use Rattle.bag_conformance.specs.ConformanceStage.{IsOfConformance};
 ghost use Rattle.bag_report.specs.Report.{IsStageOf};
 ghost use Rattle.bag_report.specs.Stages.{is_chosen, IsFoundAt};
 
-use bag_completeness::completeness_faults;
 use bag_conformance::conformance_faults;
-use bag_facts::{Depth, Facts};
-use bag_fault::Fault;
+use bag_facts::{Depth, Facts, Fault};
 use bag_profile::Profile;
 use bag_stages::{
-    declaration_faults, fetch_faults, manifest_faults, metadata_faults, parts_faults,
+    completeness_faults, declaration_faults, fetch_faults, manifest_faults, metadata_faults,
+    parts_faults,
 };
 use bag_text::Code;
 use std::alloc::{AllocError, Global};

@@ -7,15 +7,15 @@ use Rattle.std.proofs.lemmas.Map.Views.{Contains-from_any, list_any-from_Contain
 use Rattle.std.proofs.lemmas.Slice.Eq.{bytes_eq-Decides}
 use Rattle.bag_text.specs.Alg.{algs}
 use Rattle.bag_text.specs.Text.{without_prefix}
-use Rattle.bag_words.specs.declared.alg.Alg.{Alg}
-use Rattle.bag_words.proofs.AlgSets.{each_is_listed}
-use Rattle.bag_tags.specs.ManifestName.{prefix, manifest_name, is_alg_text, is_manifest_name}
-use Rattle.bag_tags.specs.declared.kind.Kind.{Kind}
-use Rattle.bag_tags.specs.declared.kind.Kind.TheVariants.{Payload, Tag}
-use Rattle.bag_tags.specs.declared.tag_name.TagName.{TagName}
-use Rattle.bag_tags.specs.declared.tag_name.TagName.TheVariants.{Declaration, Info, Fetch, Manifest}
-use Rattle.bag_tags.proofs.ManifestName.{IsNamed, named_is}
-use Rattle.bag_line.proofs.PickedOut.{both_true}
+use Rattle.bag_text.specs.declared.alg.Alg.{Alg}
+use Rattle.bag_text.proofs.AlgSets.{each_is_listed}
+use Rattle.bag_read.specs.ManifestName.{prefix, manifest_name, is_alg_text, is_manifest_name}
+use Rattle.bag_read.specs.declared.kind.Kind.{Kind}
+use Rattle.bag_read.specs.declared.kind.Kind.TheVariants.{Payload, Tag}
+use Rattle.bag_read.specs.declared.tag_name.TagName.{TagName}
+use Rattle.bag_read.specs.declared.tag_name.TagName.TheVariants.{Declaration, Info, Fetch, Manifest}
+use Rattle.bag_read.proofs.ManifestName.{IsNamed, named_is}
+use Rattle.bag_read.proofs.PickedOut.{both_true}
 use Rattle.bag_tree.specs.Bag.{Bag, HasFile}
 use Rattle.bag_tree.proofs.SameText.{one_text}
 use Rattle.bag_stages.specs.HasList.{HasList}

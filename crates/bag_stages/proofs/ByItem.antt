@@ -5,8 +5,8 @@ use Rattle.std.specs.declared.cmp.Ordering.{Ordering}
 use Rattle.std.specs.declared.cmp.Ordering.TheVariants.{Less}
 use Rattle.bag_text.specs.Order.{IsListOf}
 use Rattle.bag_text.proofs.ListOf.{contains_cases, contains_first, contains_nothing, contains_front, contains_back, contains_either, joined, member_has, nothing_listed, same_members}
-use Rattle.bag_fault.specs.declared.fault.Fault.{Fault}
-use Rattle.bag_fault.specs.FaultOrder.{fault_cmp}
+use Rattle.bag_facts.specs.declared.fault.Fault.{Fault}
+use Rattle.bag_facts.specs.FaultOrder.{fault_cmp}
 use Rattle.bag_facts.proofs.Mapped.{take_one_more}
 
 module _ {I : Type 0} (IsOf : I → Fault → Type 0) where

@@ -8,8 +8,8 @@ use Rattle.std.proofs.lemmas.List.{length-map, take-map}
 use Rattle.bag_text.specs.Text.{text_cmp}
 use Rattle.bag_text.specs.Order.{IsListOf, IsOnly}
 use Rattle.bag_text.proofs.ListOf.{only_listed, same_members}
-use Rattle.bag_fault.specs.declared.fault.Fault.{Fault}
-use Rattle.bag_fault.specs.FaultOrder.{fault_cmp}
+use Rattle.bag_facts.specs.declared.fault.Fault.{Fault}
+use Rattle.bag_facts.specs.FaultOrder.{fault_cmp}
 use Rattle.bag_stages.proofs.ByItem
 
 pub take_whole : {I : Type 0} (items : List I) (i : ℕ) → length items ≤ i → take i items ≡ items

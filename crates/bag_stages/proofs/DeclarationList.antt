@@ -2,12 +2,12 @@
 use Rattle.std.proofs.Common.{◌≡◌, ℕ, List, [], ◌∷◌, Bool, true, false, Option, None, Some, map, refl, sym, subst}
 use Rattle.std.specs.Str.{is_utf8}
 use Rattle.bag_text.specs.Lines.{lines_of_file}
-use Rattle.bag_declaration.specs.Declaration.{IsDeclarationFault, declared_version, declared_encoding}
-use Rattle.bag_declaration.specs.DeclarationFaults.{utf8_fault, text_faults}
-use Rattle.bag_line.specs.LineFault.{AreFaults}
-use Rattle.bag_line.specs.declared.fault.LineFault.{LineFault}
-use Rattle.bag_declaration.specs.declared.declaration.Declaration.{Declaration}
-use Rattle.bag_declaration.proofs.DeclarationFaults.{faults_of_text, faults_of_no_text}
+use Rattle.bag_read.specs.Declaration.{IsDeclarationFault, declared_version, declared_encoding}
+use Rattle.bag_read.specs.DeclarationFaults.{utf8_fault, text_faults}
+use Rattle.bag_read.specs.LineFault.{AreFaults}
+use Rattle.bag_read.specs.declared.line_fault.LineFault.{LineFault}
+use Rattle.bag_read.specs.declared.declaration.Declaration.{Declaration}
+use Rattle.bag_read.proofs.DeclarationFaults.{faults_of_text, faults_of_no_text}
 use Rattle.bag_tree.specs.Bag.{Bag, file}
 use Rattle.bag_facts.specs.TagFacts.{IsReadOf, IsDeclarationOf}
 use Rattle.bag_stages.specs.DeclarationStage.{IsOfDeclaration, DeclarationFaultsAreListed}

@@ -12,24 +12,24 @@ use Rattle.bag_text.specs.Order.{IsListOf}
 use Rattle.bag_text.specs.Text.{text_cmp, IsNoText}
 use Rattle.bag_text.specs.declared.rules.Rules.{Rules}
 use Rattle.bag_text.specs.declared.rules.Rules.TheVariants.{V10, V097}
-use Rattle.bag_words.specs.declared.alg.Alg.{Alg}
-use Rattle.bag_words.specs.declared.code.Code.{Code}
-use Rattle.bag_words.specs.declared.code.Code.TheVariants.{NotUtf8, FetchLine, FetchEscape, FetchUnsafePath, FetchOutsidePayload, FetchNotInManifest}
-use Rattle.bag_words.proofs.AlgSets.{each_is_listed, list_ascends}
+use Rattle.bag_text.specs.declared.alg.Alg.{Alg}
+use Rattle.bag_text.specs.declared.code.Code.{Code}
+use Rattle.bag_text.specs.declared.code.Code.TheVariants.{NotUtf8, FetchLine, FetchEscape, FetchUnsafePath, FetchOutsidePayload, FetchNotInManifest}
+use Rattle.bag_text.proofs.AlgSets.{each_is_listed, list_ascends}
 use Rattle.bag_text.proofs.ListOf.{contains_cases, contains_nothing, nothing_listed, one_listed, same_members}
-use Rattle.bag_line.specs.Fetch.{IsFetch, FetchFault, IsFetchFault}
-use Rattle.bag_line.specs.LineFault.{AreFaults, not_utf8}
-use Rattle.bag_line.specs.declared.fault.LineFault.{LineFault}
-use Rattle.bag_line.specs.declared.fetch.FetchEntry.{FetchEntry}
-use Rattle.bag_line.proofs.FetchFaults.{entries_of_no_text, faults_of_no_text}
-use Rattle.bag_line.proofs.FetchLine.{IsReasonCode, reason_code}
-use Rattle.bag_tags.specs.Manifest.{IsEntry}
-use Rattle.bag_tags.specs.declared.kind.Kind.TheVariants.{Payload}
-use Rattle.bag_tags.specs.declared.manifest.ManifestEntry.{ManifestEntry}
+use Rattle.bag_read.specs.Fetch.{IsFetch, FetchFault, IsFetchFault}
+use Rattle.bag_read.specs.LineFault.{AreFaults, not_utf8}
+use Rattle.bag_read.specs.declared.line_fault.LineFault.{LineFault}
+use Rattle.bag_read.specs.declared.fetch.FetchEntry.{FetchEntry}
+use Rattle.bag_read.proofs.FetchFaults.{entries_of_no_text, faults_of_no_text}
+use Rattle.bag_read.proofs.FetchLine.{IsReasonCode, reason_code}
+use Rattle.bag_read.specs.Manifest.{IsEntry}
+use Rattle.bag_read.specs.declared.kind.Kind.TheVariants.{Payload}
+use Rattle.bag_read.specs.declared.manifest.ManifestEntry.{ManifestEntry}
 use Rattle.bag_tree.specs.Bag.{Bag, file}
-use Rattle.bag_fault.specs.declared.fault.Fault.{Fault}
-use Rattle.bag_fault.specs.FaultOrder.{fault_cmp}
-use Rattle.bag_fault.proofs.Ordered.{fault_cmp_total, fault_cmp_same}
+use Rattle.bag_facts.specs.declared.fault.Fault.{Fault}
+use Rattle.bag_facts.specs.FaultOrder.{fault_cmp}
+use Rattle.bag_facts.proofs.Ordered.{fault_cmp_total, fault_cmp_same}
 use Rattle.bag_facts.specs.Facts.{rules_in}
 use Rattle.bag_facts.specs.TagFacts.{entry_paths, AreByPath, IsFetchListOf, IsManifestNamed, IsReadOf}
 use Rattle.bag_facts.specs.declared.fetch_list.FetchList.{FetchList}

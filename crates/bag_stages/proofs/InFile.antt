@@ -10,15 +10,15 @@ use Rattle.bag_text.specs.Text.{text_cmp}
 use Rattle.bag_text.specs.Alg.{rank_or_zero}
 use Rattle.bag_text.specs.Code.{number, stage}
 use Rattle.bag_text.specs.Order.{IsListOf}
-use Rattle.bag_words.specs.declared.alg.Alg.{Alg}
+use Rattle.bag_text.specs.declared.alg.Alg.{Alg}
 use Rattle.bag_text.proofs.ListOf.{contains_first, contains_behind, each_from_members, member_has}
-use Rattle.bag_line.specs.declared.fault.LineFault.{LineFault}
-use Rattle.bag_line.specs.LineFault.{line_fault_cmp}
-use Rattle.bag_fault.specs.declared.fault.Fault.{Fault}
-use Rattle.bag_fault.specs.FaultOrder.{fault_cmp}
+use Rattle.bag_read.specs.declared.line_fault.LineFault.{LineFault}
+use Rattle.bag_read.specs.LineFault.{line_fault_cmp}
+use Rattle.bag_facts.specs.declared.fault.Fault.{Fault}
+use Rattle.bag_facts.specs.FaultOrder.{fault_cmp}
 use Rattle.bag_stages.specs.FaultFields.{in_file, in_line}
 use Rattle.bag_facts.proofs.Mapped.{mapped_contains, contains_mapped}
-use Rattle.bag_fault.proofs.Ascending.{self_ties}
+use Rattle.bag_facts.proofs.Ascending.{self_ties}
 
 -- faults of one stage are ordered by their paths first
 pub less_by_path : (x y : Fault) → stage x.code ≡ stage y.code → text_cmp x.path y.path ≡ Less → fault_cmp x y ≡ Less

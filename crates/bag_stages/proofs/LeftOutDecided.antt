@@ -1,7 +1,7 @@
 -- Whether payload manifests leave a path out.
 use Rattle.std.proofs.Common.{ℕ, List}
-use Rattle.bag_words.specs.declared.alg.Alg.{Alg}
-use Rattle.bag_tags.specs.declared.kind.Kind.TheVariants.{Payload}
+use Rattle.bag_text.specs.declared.alg.Alg.{Alg}
+use Rattle.bag_read.specs.declared.kind.Kind.TheVariants.{Payload}
 use Rattle.bag_tree.specs.Bag.{Bag, has_file}
 use Rattle.bag_stages.specs.LeftOut.{IsNamedBySome, IsLeftOutByOne, IsLeftOutByAll}
 use Rattle.bag_stages.specs.TagFiles.{manifest_of, named_in, HasSupported, Names}

@@ -11,28 +11,28 @@ use Rattle.bag_text.specs.Lines.{IsLine, lines_of_file}
 use Rattle.bag_text.specs.Order.{IsListOf}
 use Rattle.bag_text.specs.declared.rules.Rules.{Rules}
 use Rattle.bag_text.specs.declared.rules.Rules.TheVariants.{V10, V097}
-use Rattle.bag_words.specs.declared.alg.Alg.{Alg}
-use Rattle.bag_words.specs.declared.code.Code.{Code}
-use Rattle.bag_words.specs.declared.code.Code.TheVariants.{NotUtf8, ManifestLine, DigestLength, ManifestEscape, ManifestUnsafePath, ManifestOutsidePayload, TagmanifestNamesPayload, TagmanifestNamesTagmanifest, NamedAgain, PayloadManifestNotListed}
+use Rattle.bag_text.specs.declared.alg.Alg.{Alg}
+use Rattle.bag_text.specs.declared.code.Code.{Code}
+use Rattle.bag_text.specs.declared.code.Code.TheVariants.{NotUtf8, ManifestLine, DigestLength, ManifestEscape, ManifestUnsafePath, ManifestOutsidePayload, TagmanifestNamesPayload, TagmanifestNamesTagmanifest, NamedAgain, PayloadManifestNotListed}
 use Rattle.bag_text.proofs.ListOf.{contains_nothing, nothing_listed, joined, same_members}
 use Rattle.bag_tree.specs.Bag.{Bag, file, HasFile}
 use Rattle.bag_tree.specs.declared.listing.FileEntry.{FileEntry}
-use Rattle.bag_tags.specs.Manifest.{IsEntry, ManifestFault, IsManifestFault}
-use Rattle.bag_tags.specs.ManifestName.{manifest_name}
-use Rattle.bag_line.specs.LineFault.{AreFaults}
-use Rattle.bag_tags.specs.TagName.{tag_path}
-use Rattle.bag_line.specs.declared.fault.LineFault.{LineFault}
-use Rattle.bag_tags.specs.declared.kind.Kind.{Kind}
-use Rattle.bag_tags.specs.declared.kind.Kind.TheVariants.{Payload, Tag}
-use Rattle.bag_tags.specs.declared.manifest.ManifestEntry.{ManifestEntry}
-use Rattle.bag_tags.specs.declared.tag_name.TagName.{TagName}
-use Rattle.bag_tags.specs.declared.tag_name.TagName.TheVariants as tag_name
-use Rattle.bag_line.proofs.FaultOrder.{line_below}
-use Rattle.bag_tags.proofs.ManifestCodes.{IsManifestCode, manifest_fault_code, manifest_fault_stage, manifest_fault_line}
-use Rattle.bag_tags.proofs.ManifestEntries.{entry_named, named_has_entry}
-use Rattle.bag_tags.proofs.TagPaths.{paths_differ}
-use Rattle.bag_fault.specs.declared.fault.Fault.{Fault}
-use Rattle.bag_fault.specs.FaultOrder.{fault_cmp}
+use Rattle.bag_read.specs.Manifest.{IsEntry, ManifestFault, IsManifestFault}
+use Rattle.bag_read.specs.ManifestName.{manifest_name}
+use Rattle.bag_read.specs.LineFault.{AreFaults}
+use Rattle.bag_read.specs.TagName.{tag_path}
+use Rattle.bag_read.specs.declared.line_fault.LineFault.{LineFault}
+use Rattle.bag_read.specs.declared.kind.Kind.{Kind}
+use Rattle.bag_read.specs.declared.kind.Kind.TheVariants.{Payload, Tag}
+use Rattle.bag_read.specs.declared.manifest.ManifestEntry.{ManifestEntry}
+use Rattle.bag_read.specs.declared.tag_name.TagName.{TagName}
+use Rattle.bag_read.specs.declared.tag_name.TagName.TheVariants as tag_name
+use Rattle.bag_read.proofs.FaultOrder.{line_below}
+use Rattle.bag_read.proofs.ManifestCodes.{IsManifestCode, manifest_fault_code, manifest_fault_stage, manifest_fault_line}
+use Rattle.bag_read.proofs.ManifestEntries.{entry_named, named_has_entry}
+use Rattle.bag_read.proofs.TagPaths.{paths_differ}
+use Rattle.bag_facts.specs.declared.fault.Fault.{Fault}
+use Rattle.bag_facts.specs.FaultOrder.{fault_cmp}
 use Rattle.bag_facts.specs.Facts.{rules_in, IsFactsOf, IsSaid}
 use Rattle.bag_facts.specs.TagFacts.{name_of, path_of, entry_paths, AreByPath}
 use Rattle.bag_facts.specs.TagReader.{AreListed}

@@ -11,20 +11,20 @@ use Rattle.bag_text.specs.Lines.{lines_of_file}
 use Rattle.bag_text.specs.Text.{text_cmp}
 use Rattle.bag_text.specs.declared.rules.Rules.{Rules}
 use Rattle.bag_text.specs.declared.rules.Rules.TheVariants.{V10}
-use Rattle.bag_words.specs.declared.alg.Alg.{Alg}
-use Rattle.bag_tags.specs.Judged.{judged_and_marked, fault_of}
-use Rattle.bag_line.specs.LineFault.{AreFaults, not_utf8}
-use Rattle.bag_tags.specs.Manifest.{IsManifestFault}
-use Rattle.bag_tags.specs.ManifestName.{manifest_name}
-use Rattle.bag_line.specs.declared.fault.LineFault.{LineFault}
-use Rattle.bag_tags.specs.declared.kind.Kind.{Kind}
-use Rattle.bag_tags.specs.declared.kind.Kind.TheVariants.{Payload, Tag}
-use Rattle.bag_tags.specs.declared.tag_name.TagName.{TagName}
-use Rattle.bag_tags.specs.declared.tag_name.TagName.TheVariants.{Manifest}
-use Rattle.bag_tags.proofs.ManifestFaults.{faults_of_text, faults_of_no_text}
+use Rattle.bag_text.specs.declared.alg.Alg.{Alg}
+use Rattle.bag_read.specs.Judged.{judged_and_marked, fault_of}
+use Rattle.bag_read.specs.LineFault.{AreFaults, not_utf8}
+use Rattle.bag_read.specs.Manifest.{IsManifestFault}
+use Rattle.bag_read.specs.ManifestName.{manifest_name}
+use Rattle.bag_read.specs.declared.line_fault.LineFault.{LineFault}
+use Rattle.bag_read.specs.declared.kind.Kind.{Kind}
+use Rattle.bag_read.specs.declared.kind.Kind.TheVariants.{Payload, Tag}
+use Rattle.bag_read.specs.declared.tag_name.TagName.{TagName}
+use Rattle.bag_read.specs.declared.tag_name.TagName.TheVariants.{Manifest}
+use Rattle.bag_read.proofs.ManifestFaults.{faults_of_text, faults_of_no_text}
 use Rattle.bag_tree.specs.Bag.{Bag, file, has_file}
 use Rattle.bag_tree.proofs.SameText.{one_text}
-use Rattle.bag_fault.specs.declared.fault.Fault.{Fault}
+use Rattle.bag_facts.specs.declared.fault.Fault.{Fault}
 use Rattle.bag_facts.specs.Facts.{rules_in}
 use Rattle.bag_stages.specs.FaultFields.{in_file}
 use Rattle.bag_stages.specs.HasList.{HasList}

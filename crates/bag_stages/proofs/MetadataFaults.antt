@@ -7,18 +7,18 @@ use Rattle.bag_text.specs.Code.{stage}
 use Rattle.bag_text.specs.Lines.{IsLine, lines_of_file}
 use Rattle.bag_text.specs.Order.{IsListOf}
 use Rattle.bag_text.specs.declared.rules.Rules.{Rules}
-use Rattle.bag_words.specs.declared.code.Code.{Code}
-use Rattle.bag_words.specs.declared.code.Code.TheVariants.{NotUtf8, InfoLine, OxumMalformed, OxumAgain, OxumDiffers, NoOxum}
+use Rattle.bag_text.specs.declared.code.Code.{Code}
+use Rattle.bag_text.specs.declared.code.Code.TheVariants.{NotUtf8, InfoLine, OxumMalformed, OxumAgain, OxumDiffers, NoOxum}
 use Rattle.bag_text.proofs.ListOf.{nothing_listed, same_members}
-use Rattle.bag_line.specs.Info.{IsElement, InfoFault, IsInfoFault}
-use Rattle.bag_line.specs.LineFault.{AreFaults}
-use Rattle.bag_line.specs.declared.fault.LineFault.{LineFault}
-use Rattle.bag_line.specs.declared.oxum.Oxum.{Oxum}
-use Rattle.bag_line.proofs.InfoElements.{elements_of}
+use Rattle.bag_read.specs.Info.{IsElement, InfoFault, IsInfoFault}
+use Rattle.bag_read.specs.LineFault.{AreFaults}
+use Rattle.bag_read.specs.declared.line_fault.LineFault.{LineFault}
+use Rattle.bag_read.specs.declared.oxum.Oxum.{Oxum}
+use Rattle.bag_read.proofs.InfoElements.{elements_of}
 use Rattle.bag_tree.specs.Bag.{Bag, file}
-use Rattle.bag_fault.specs.declared.fault.Fault.{Fault}
-use Rattle.bag_fault.specs.FaultOrder.{fault_cmp}
-use Rattle.bag_fault.proofs.Ordered.{fault_cmp_total, fault_cmp_same}
+use Rattle.bag_facts.specs.declared.fault.Fault.{Fault}
+use Rattle.bag_facts.specs.FaultOrder.{fault_cmp}
+use Rattle.bag_facts.proofs.Ordered.{fault_cmp_total, fault_cmp_same}
 use Rattle.bag_facts.specs.Facts.{rules_in}
 use Rattle.bag_facts.specs.TagFacts.{IsReadOf, IsMetadataOf}
 use Rattle.bag_facts.specs.declared.metadata.Metadata.{Metadata}

@@ -5,15 +5,15 @@ use Rattle.std.specs.Prelude.{if◌then◌else◌}
 use Rattle.std.specs.Str.{is_utf8}
 use Rattle.bag_text.specs.Lines.{lines_of_file}
 use Rattle.bag_text.specs.declared.rules.Rules.{Rules}
-use Rattle.bag_line.specs.Info.{IsInfoFault}
-use Rattle.bag_line.specs.InfoReader as reading
-use Rattle.bag_line.specs.LineFault.{AreFaults, not_utf8}
-use Rattle.bag_line.specs.declared.fault.LineFault.{LineFault}
-use Rattle.bag_line.specs.declared.info.Element.{Element}
-use Rattle.bag_line.proofs.InfoElements.{elements_of}
-use Rattle.bag_line.proofs.InfoFaults.{faults_of_text, faults_of_no_text}
+use Rattle.bag_read.specs.Info.{IsInfoFault}
+use Rattle.bag_read.specs.InfoReader as reading
+use Rattle.bag_read.specs.LineFault.{AreFaults, not_utf8}
+use Rattle.bag_read.specs.declared.line_fault.LineFault.{LineFault}
+use Rattle.bag_read.specs.declared.info.Element.{Element}
+use Rattle.bag_read.proofs.InfoElements.{elements_of}
+use Rattle.bag_read.proofs.InfoFaults.{faults_of_text, faults_of_no_text}
 use Rattle.bag_tree.specs.Bag.{Bag, file}
-use Rattle.bag_fault.specs.declared.fault.Fault.{Fault}
+use Rattle.bag_facts.specs.declared.fault.Fault.{Fault}
 use Rattle.bag_facts.specs.Facts.{rules_in}
 use Rattle.bag_stages.specs.FaultFields.{in_file}
 use Rattle.bag_stages.specs.HasList.{HasList}

@@ -2,8 +2,8 @@
 use Rattle.std.proofs.Common.{◌≡◌, ◌<◌, ◌≤◌, ◌+◌, ℕ, inl, inr, length, take, get_or, sym, subst, Contains}
 use Rattle.std.proofs.lemmas.List.{get_or_default}
 use Rattle.bag_text.specs.Alg.{algs}
-use Rattle.bag_words.specs.declared.alg.Alg.{Alg}
-use Rattle.bag_words.proofs.AlgSets.{each_is_listed}
+use Rattle.bag_text.specs.declared.alg.Alg.{Alg}
+use Rattle.bag_text.proofs.AlgSets.{each_is_listed}
 use Rattle.bag_facts.proofs.Mapped.{taken_cases}
 use Rattle.bag_stages.proofs.ByPath.{take_whole}
 

@@ -8,19 +8,19 @@ use Rattle.std.proofs.lemmas.Bool.Decides.{Decides-eqb}
 use Rattle.std.proofs.lemmas.List.Kept.{IsStrictlySortedBy-filter}
 use Rattle.bag_text.specs.Code.{stage}
 use Rattle.bag_text.specs.Order.{IsListOf}
-use Rattle.bag_words.specs.declared.code.Code.{Code}
-use Rattle.bag_words.specs.declared.code.Code.TheVariants.{InfoLine, OxumMalformed, OxumAgain, OxumDiffers, NoOxum}
+use Rattle.bag_text.specs.declared.code.Code.{Code}
+use Rattle.bag_text.specs.declared.code.Code.TheVariants.{InfoLine, OxumMalformed, OxumAgain, OxumDiffers, NoOxum}
 use Rattle.bag_text.proofs.ListOf.{contains_cases, contains_first, contains_behind, contains_nothing, contains_front, contains_back, contains_either, each_from_members, member_has, ascending_joined}
-use Rattle.bag_line.specs.Info.{IsElement}
-use Rattle.bag_line.specs.LineFault.{line_fault}
-use Rattle.bag_line.specs.Oxum.{oxum_of}
-use Rattle.bag_line.specs.declared.info.Element.{Element}
-use Rattle.bag_line.specs.declared.oxum.Oxum.{Oxum}
-use Rattle.bag_line.proofs.PickedOut.{both_true}
-use Rattle.bag_line.proofs.FaultOrder.{lower}
+use Rattle.bag_read.specs.Info.{IsElement}
+use Rattle.bag_read.specs.LineFault.{line_fault}
+use Rattle.bag_read.specs.Oxum.{oxum_of}
+use Rattle.bag_read.specs.declared.info.Element.{Element}
+use Rattle.bag_read.specs.declared.oxum.Oxum.{Oxum}
+use Rattle.bag_read.proofs.PickedOut.{both_true}
+use Rattle.bag_read.proofs.FaultOrder.{lower}
 use Rattle.bag_tree.specs.Bag.{Bag}
-use Rattle.bag_fault.specs.declared.fault.Fault.{Fault}
-use Rattle.bag_fault.specs.FaultOrder.{fault_cmp}
+use Rattle.bag_facts.specs.declared.fault.Fault.{Fault}
+use Rattle.bag_facts.specs.FaultOrder.{fault_cmp}
 use Rattle.bag_facts.specs.Facts.{rules_in}
 use Rattle.bag_facts.proofs.Mapped.{mapped_contains, contains_mapped, kept, passed}
 use Rattle.bag_stages.specs.FaultFields.{At, in_file}

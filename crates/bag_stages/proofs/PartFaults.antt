@@ -10,23 +10,23 @@ use Rattle.bag_text.specs.Text.{text_cmp}
 use Rattle.bag_text.specs.Alg.{name, alg_named}
 use Rattle.bag_text.specs.Code.{stage}
 use Rattle.bag_text.specs.Order.{IsListOf}
-use Rattle.bag_words.specs.declared.alg.Alg.{Alg}
-use Rattle.bag_words.specs.declared.code.Code.{Code}
-use Rattle.bag_words.specs.declared.code.Code.TheVariants.{NoPayloadFolder, NoPayloadManifest, AlgorithmUnsupported, NotUtf8}
+use Rattle.bag_text.specs.declared.alg.Alg.{Alg}
+use Rattle.bag_text.specs.declared.code.Code.{Code}
+use Rattle.bag_text.specs.declared.code.Code.TheVariants.{NoPayloadFolder, NoPayloadManifest, AlgorithmUnsupported, NotUtf8}
 use Rattle.bag_text.proofs.ListOf.{nothing_listed, one_listed, joined, same_members}
 use Rattle.bag_tree.specs.Bag.{Bag, file, HasFile, has_folder}
 use Rattle.bag_tree.specs.Listing.{IsOrdered}
 use Rattle.bag_tree.specs.declared.listing.FileEntry.{FileEntry}
-use Rattle.bag_tags.specs.ManifestName.{manifest_name, is_alg_text, prefix}
-use Rattle.bag_tags.specs.TagName.{tag_path}
-use Rattle.bag_tags.specs.declared.kind.Kind.{Kind}
-use Rattle.bag_tags.specs.declared.kind.Kind.TheVariants.{Payload, Tag}
-use Rattle.bag_tags.specs.declared.tag_name.TagName.{TagName}
-use Rattle.bag_tags.specs.declared.tag_name.TagName.TheVariants as tag_name
-use Rattle.bag_tags.proofs.ManifestName.{same_alg}
-use Rattle.bag_tags.proofs.TagPaths.{name_named, paths_differ}
-use Rattle.bag_fault.specs.declared.fault.Fault.{Fault}
-use Rattle.bag_fault.specs.FaultOrder.{fault_cmp}
+use Rattle.bag_read.specs.ManifestName.{manifest_name, is_alg_text, prefix}
+use Rattle.bag_read.specs.TagName.{tag_path}
+use Rattle.bag_read.specs.declared.kind.Kind.{Kind}
+use Rattle.bag_read.specs.declared.kind.Kind.TheVariants.{Payload, Tag}
+use Rattle.bag_read.specs.declared.tag_name.TagName.{TagName}
+use Rattle.bag_read.specs.declared.tag_name.TagName.TheVariants as tag_name
+use Rattle.bag_read.proofs.ManifestName.{same_alg}
+use Rattle.bag_read.proofs.TagPaths.{name_named, paths_differ}
+use Rattle.bag_facts.specs.declared.fault.Fault.{Fault}
+use Rattle.bag_facts.specs.FaultOrder.{fault_cmp}
 use Rattle.bag_facts.specs.Facts.{rules_in, IsFactsOf, IsSaid}
 use Rattle.bag_facts.specs.TagFacts.{name_of, path_of, text_test, Says}
 use Rattle.bag_facts.specs.TagReader.{AreListed}

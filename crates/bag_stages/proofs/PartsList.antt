@@ -3,17 +3,17 @@ use Rattle.std.proofs.Common.{◌≡◌, ◌≢◌, ◌⊎◌, inl, inr, ℕ, Li
 use Rattle.std.specs.Str.{is_utf8}
 use Rattle.bag_text.specs.Alg.{alg_named}
 use Rattle.bag_text.specs.Text.{IsNoText}
-use Rattle.bag_words.specs.declared.alg.Alg.{Alg}
-use Rattle.bag_words.specs.declared.code.Code.{Code}
-use Rattle.bag_words.specs.declared.code.Code.TheVariants.{NoPayloadFolder, NoPayloadManifest, AlgorithmUnsupported, NotUtf8}
-use Rattle.bag_tags.specs.ManifestName.{manifest_name}
-use Rattle.bag_tags.specs.TagName.{tag_path}
-use Rattle.bag_tags.specs.declared.kind.Kind.{Kind}
-use Rattle.bag_tags.specs.declared.kind.Kind.TheVariants.{Payload}
-use Rattle.bag_tags.specs.declared.tag_name.TagName.{TagName}
-use Rattle.bag_tags.specs.declared.tag_name.TagName.TheVariants.{Declaration}
+use Rattle.bag_text.specs.declared.alg.Alg.{Alg}
+use Rattle.bag_text.specs.declared.code.Code.{Code}
+use Rattle.bag_text.specs.declared.code.Code.TheVariants.{NoPayloadFolder, NoPayloadManifest, AlgorithmUnsupported, NotUtf8}
+use Rattle.bag_read.specs.ManifestName.{manifest_name}
+use Rattle.bag_read.specs.TagName.{tag_path}
+use Rattle.bag_read.specs.declared.kind.Kind.{Kind}
+use Rattle.bag_read.specs.declared.kind.Kind.TheVariants.{Payload}
+use Rattle.bag_read.specs.declared.tag_name.TagName.{TagName}
+use Rattle.bag_read.specs.declared.tag_name.TagName.TheVariants.{Declaration}
 use Rattle.bag_tree.specs.Bag.{Bag, file, has_folder}
-use Rattle.bag_fault.specs.declared.fault.Fault.{Fault}
+use Rattle.bag_facts.specs.declared.fault.Fault.{Fault}
 use Rattle.bag_stages.specs.FaultFields.{At, of_bag, of_whole}
 use Rattle.bag_stages.specs.HasList.{HasList}
 use Rattle.bag_stages.specs.PartsStage.{PartHolds, IsOfParts, PartFaultsAreListed}

@@ -4,10 +4,10 @@ use Rattle.std.specs.Ordering.{on}
 use Rattle.bag_text.specs.Lines.{lines_of_file}
 use Rattle.bag_text.specs.Order.{IsListOf}
 use Rattle.bag_text.specs.Text.{text_cmp}
-use Rattle.bag_words.specs.declared.alg.Alg.{Alg}
+use Rattle.bag_text.specs.declared.alg.Alg.{Alg}
 use Rattle.bag_text.proofs.ListOf.{contains_nothing}
-use Rattle.bag_tags.specs.Manifest.{IsEntry}
-use Rattle.bag_tags.specs.declared.kind.Kind.{Kind}
+use Rattle.bag_read.specs.Manifest.{IsEntry}
+use Rattle.bag_read.specs.declared.kind.Kind.{Kind}
 use Rattle.bag_tree.specs.Bag.{Bag, file}
 use Rattle.bag_facts.specs.Facts.{rules_in}
 use Rattle.bag_facts.specs.TagFacts.{entry_paths, AreByPath, IsManifestNamed, IsReadOf}

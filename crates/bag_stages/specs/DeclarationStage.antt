@@ -1,11 +1,11 @@
 -- Stage 1: what is a fault of the declaration (RFC 8493, 2.1.1).
 use Rattle.std.specs.Prelude.{◌≡◌, [], None}
 use Rattle.bag_text.specs.Code.{stage}
-use Rattle.bag_words.specs.declared.code.Code.{Code}
-use Rattle.bag_words.specs.declared.code.Code.TheVariants.{NoDeclaration, DeclarationNotUtf8, DeclarationLineCount, DeclarationLine, VersionUnsupported, EncodingUnsupported}
-use Rattle.bag_declaration.specs.Declaration.{IsDeclarationFault}
+use Rattle.bag_text.specs.declared.code.Code.{Code}
+use Rattle.bag_text.specs.declared.code.Code.TheVariants.{NoDeclaration, DeclarationNotUtf8, DeclarationLineCount, DeclarationLine, VersionUnsupported, EncodingUnsupported}
+use Rattle.bag_read.specs.Declaration.{IsDeclarationFault}
 use Rattle.bag_tree.specs.Bag.{Bag, LacksFile}
-use Rattle.bag_fault.specs.declared.fault.Fault.{Fault}
+use Rattle.bag_facts.specs.declared.fault.Fault.{Fault}
 use Rattle.bag_stages.specs.FaultFields.{At, InFile}
 use Rattle.bag_stages.specs.HasList.{HasList}
 use Rattle.bag_stages.specs.TagFiles.{bagit_txt}

@@ -1,10 +1,10 @@
 -- Where a fault stands: its fields beside its code.
 use Rattle.std.specs.Prelude.{ℕ, ◌≡◌, List, [], Option, Some, None}
-use Rattle.bag_words.specs.declared.alg.Alg.{Alg}
-use Rattle.bag_words.specs.declared.code.Code.{Code}
-use Rattle.bag_line.specs.declared.fault.LineFault.{LineFault}
+use Rattle.bag_text.specs.declared.alg.Alg.{Alg}
+use Rattle.bag_text.specs.declared.code.Code.{Code}
+use Rattle.bag_read.specs.declared.line_fault.LineFault.{LineFault}
 use Rattle.bag_tree.specs.Bag.{Bag, file}
-use Rattle.bag_fault.specs.declared.fault.Fault.{Fault}
+use Rattle.bag_facts.specs.declared.fault.Fault.{Fault}
 
 -- the fields of a fault beside its code
 pub record At (f : Fault) (path : List ℕ) (alg : Option Alg) (line : ℕ) (detail : List ℕ) : Type 0 where

@@ -4,12 +4,12 @@ use Rattle.std.specs.List.Sorted.{IsStrictlySortedBy}
 use Rattle.std.specs.Ordering.{nat_cmp, on}
 use Rattle.bag_text.specs.Order.{IsListOf}
 use Rattle.bag_text.specs.declared.rules.Rules.TheVariants.{V10, V097}
-use Rattle.bag_words.specs.declared.alg.Alg.{Alg}
-use Rattle.bag_words.specs.declared.code.Code.TheVariants.{FetchNotInManifest}
-use Rattle.bag_line.specs.declared.fetch.FetchEntry.{FetchEntry}
-use Rattle.bag_tags.specs.declared.manifest.ManifestEntry.{ManifestEntry}
+use Rattle.bag_text.specs.declared.alg.Alg.{Alg}
+use Rattle.bag_text.specs.declared.code.Code.TheVariants.{FetchNotInManifest}
+use Rattle.bag_read.specs.declared.fetch.FetchEntry.{FetchEntry}
+use Rattle.bag_read.specs.declared.manifest.ManifestEntry.{ManifestEntry}
 use Rattle.bag_tree.specs.Bag.{Bag}
-use Rattle.bag_fault.specs.declared.fault.Fault.{Fault}
+use Rattle.bag_facts.specs.declared.fault.Fault.{Fault}
 use Rattle.bag_facts.specs.Facts.{rules_in}
 use Rattle.bag_facts.specs.TagFacts.{entry_paths}
 use Rattle.bag_stages.specs.FaultFields.{At}

@@ -1,15 +1,15 @@
 -- The faults of a bag's parts, one listed file at a time.
 use Rattle.std.specs.Prelude.{ℕ, ◌≡◌, ◌⊎◌, true, false, List, [], Some, None, Contains}
 use Rattle.bag_text.specs.Alg.{alg_named}
-use Rattle.bag_words.specs.declared.code.Code.TheVariants.{AlgorithmUnsupported, NotUtf8}
-use Rattle.bag_tags.specs.ManifestName.{manifest_name, is_alg_text}
-use Rattle.bag_tags.specs.TagName.{tag_path}
-use Rattle.bag_tags.specs.declared.kind.Kind.{Kind}
-use Rattle.bag_tags.specs.declared.kind.Kind.TheVariants.{Payload}
-use Rattle.bag_tags.specs.declared.tag_name.TagName.{TagName}
+use Rattle.bag_text.specs.declared.code.Code.TheVariants.{AlgorithmUnsupported, NotUtf8}
+use Rattle.bag_read.specs.ManifestName.{manifest_name, is_alg_text}
+use Rattle.bag_read.specs.TagName.{tag_path}
+use Rattle.bag_read.specs.declared.kind.Kind.{Kind}
+use Rattle.bag_read.specs.declared.kind.Kind.TheVariants.{Payload}
+use Rattle.bag_read.specs.declared.tag_name.TagName.{TagName}
 use Rattle.bag_tree.specs.Bag.{Bag, HasFile}
 use Rattle.bag_tree.specs.declared.listing.FileEntry.{FileEntry}
-use Rattle.bag_fault.specs.declared.fault.Fault.{Fault}
+use Rattle.bag_facts.specs.declared.fault.Fault.{Fault}
 use Rattle.bag_facts.specs.Facts.{IsSaid}
 use Rattle.bag_facts.specs.TagFacts.{name_of, text_test}
 use Rattle.bag_facts.specs.Wanted.{paths_of}

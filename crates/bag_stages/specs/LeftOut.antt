@@ -2,8 +2,8 @@
 use Rattle.std.specs.Prelude.{ℕ, List, Option, None, Some}
 use Rattle.bag_text.specs.declared.rules.Rules.{Rules}
 use Rattle.bag_text.specs.declared.rules.Rules.TheVariants.{V10, V097}
-use Rattle.bag_words.specs.declared.alg.Alg.{Alg}
-use Rattle.bag_tags.specs.declared.kind.Kind.TheVariants.{Payload}
+use Rattle.bag_text.specs.declared.alg.Alg.{Alg}
+use Rattle.bag_read.specs.declared.kind.Kind.TheVariants.{Payload}
 use Rattle.bag_tree.specs.Bag.{Bag}
 use Rattle.bag_stages.specs.TagFiles.{HasSupported, Names}
 

@@ -2,10 +2,10 @@
 use Rattle.std.specs.Prelude.{ℕ, ◌<◌, ◌≤◌, ◌≡◌, true, List}
 use Rattle.bag_text.specs.Text.{same_label}
 use Rattle.bag_text.specs.declared.rules.Rules.{Rules}
-use Rattle.bag_line.specs.Info.{IsElement}
-use Rattle.bag_line.specs.declared.info.Element.{Element}
-use Rattle.bag_tags.specs.TagName.{tag_path}
-use Rattle.bag_tags.specs.declared.tag_name.TagName.TheVariants.{Info}
+use Rattle.bag_read.specs.Info.{IsElement}
+use Rattle.bag_read.specs.declared.info.Element.{Element}
+use Rattle.bag_read.specs.TagName.{tag_path}
+use Rattle.bag_read.specs.declared.tag_name.TagName.TheVariants.{Info}
 use Rattle.bag_tree.specs.Bag.{Bag}
 use Rattle.bag_facts.specs.Facts.{rules_in}
 use Rattle.bag_stages.specs.TagFiles.{lines_in}

@@ -1,14 +1,14 @@
 -- Stage 3: what is a fault of the metadata and of its Payload-Oxum (RFC 8493, 2.2.2).
 use Rattle.std.specs.Prelude.{ℕ, ◌≡◌, ◌≢◌, ◌++◌, List, [], None, Some, codes}
 use Rattle.bag_text.specs.Code.{stage}
-use Rattle.bag_words.specs.declared.code.Code.{Code}
-use Rattle.bag_words.specs.declared.code.Code.TheVariants.{InfoLine, OxumMalformed, OxumAgain, OxumDiffers, NoOxum}
-use Rattle.bag_line.specs.Info.{IsInfoFault}
-use Rattle.bag_line.specs.Oxum.{oxum_of}
-use Rattle.bag_line.specs.declared.info.Element.{Element}
-use Rattle.bag_line.specs.declared.oxum.Oxum.{Oxum}
+use Rattle.bag_text.specs.declared.code.Code.{Code}
+use Rattle.bag_text.specs.declared.code.Code.TheVariants.{InfoLine, OxumMalformed, OxumAgain, OxumDiffers, NoOxum}
+use Rattle.bag_read.specs.Info.{IsInfoFault}
+use Rattle.bag_read.specs.Oxum.{oxum_of}
+use Rattle.bag_read.specs.declared.info.Element.{Element}
+use Rattle.bag_read.specs.declared.oxum.Oxum.{Oxum}
 use Rattle.bag_tree.specs.Bag.{Bag}
-use Rattle.bag_fault.specs.declared.fault.Fault.{Fault}
+use Rattle.bag_facts.specs.declared.fault.Fault.{Fault}
 use Rattle.bag_facts.specs.Facts.{rules_in}
 use Rattle.bag_stages.specs.FaultFields.{At, InFile}
 use Rattle.bag_stages.specs.HasList.{HasList}

@@ -1,13 +1,13 @@
 -- The faults of the elements of the label Payload-Oxum (RFC 8493, 2.2.2), of the payload's size.
 use Rattle.std.specs.Prelude.{ℕ, ◌==◌, ◌&&◌, Bool, List, [], ◌∷◌, ◌++◌, Option, None, Some, map, filter, if◌then◌else◌}
 use Rattle.bag_text.specs.Text.{same_label}
-use Rattle.bag_words.specs.declared.code.Code.{Code}
-use Rattle.bag_words.specs.declared.code.Code.TheVariants.{OxumMalformed, OxumAgain, OxumDiffers, NoOxum}
-use Rattle.bag_line.specs.LineFault.{line_fault}
-use Rattle.bag_line.specs.Oxum.{oxum_of}
-use Rattle.bag_line.specs.declared.info.Element.{Element}
-use Rattle.bag_line.specs.declared.oxum.Oxum.{Oxum}
-use Rattle.bag_fault.specs.declared.fault.Fault.{Fault}
+use Rattle.bag_text.specs.declared.code.Code.{Code}
+use Rattle.bag_text.specs.declared.code.Code.TheVariants.{OxumMalformed, OxumAgain, OxumDiffers, NoOxum}
+use Rattle.bag_read.specs.LineFault.{line_fault}
+use Rattle.bag_read.specs.Oxum.{oxum_of}
+use Rattle.bag_read.specs.declared.info.Element.{Element}
+use Rattle.bag_read.specs.declared.oxum.Oxum.{Oxum}
+use Rattle.bag_facts.specs.declared.fault.Fault.{Fault}
 use Rattle.bag_stages.specs.FaultFields.{in_file, of_whole}
 use Rattle.bag_stages.specs.MetadataStage.{oxum_label, pair}
 use Rattle.bag_stages.specs.Payload.{oxum_text}

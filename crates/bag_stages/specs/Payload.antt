@@ -1,7 +1,7 @@
 -- The payload of a bag, and its size (RFC 8493, 2.1.2 and 2.2.2).
 use Rattle.std.specs.Prelude.{ℕ, ◌++◌, List, length, filter, sum_by, codes, decimal}
 use Rattle.bag_text.specs.Path.{is_payload_path}
-use Rattle.bag_line.specs.declared.oxum.Oxum.{Oxum}
+use Rattle.bag_read.specs.declared.oxum.Oxum.{Oxum}
 use Rattle.bag_tree.specs.Bag.{Bag, files_of}
 
 -- the files of the payload in path order, each with its bytes

@@ -1,7 +1,7 @@
 -- The size of the payload among listed files.
 use Rattle.std.specs.Prelude.{List, length, filter, sum_by}
 use Rattle.bag_text.specs.Path.{is_payload_path}
-use Rattle.bag_line.specs.declared.oxum.Oxum.{Oxum}
+use Rattle.bag_read.specs.declared.oxum.Oxum.{Oxum}
 use Rattle.bag_tree.specs.declared.listing.FileEntry.{FileEntry}
 
 -- the listed files of the payload

@@ -2,7 +2,7 @@
 ghost use Rattle.std.specs.Prelude.{◌≡◌, ◌≢◌, IfOk};
 ghost use Rattle.bag_text.specs.Order.{IsListOf};
 ghost use Rattle.bag_tree.specs.Bag.{Bag};
-ghost use Rattle.bag_fault.specs.FaultOrder.{fault_cmp};
+ghost use Rattle.bag_facts.specs.FaultOrder.{fault_cmp};
 ghost use Rattle.bag_facts.specs.Facts.{IsFactsOf};
 ghost use Rattle.bag_facts.specs.TagFacts.{AreByPath};
 ghost use Rattle.bag_facts.specs.declared.options.Depth.TheVariants.{Declaration};
@@ -11,9 +11,8 @@ ghost use Rattle.bag_stages.specs.FetchStage.{fetch_txt, IsOfFetch};
 
 use crate::named::is_named;
 use crate::tag_file::faults_in_file;
-use bag_facts::{Facts, Manifest};
-use bag_fault::Fault;
-use bag_tags::{FetchEntry, Kind, TagName};
+use bag_facts::{Facts, Fault, Manifest};
+use bag_read::{FetchEntry, Kind, TagName};
 use bag_text::{Alg, Code, Rules, Text};
 use std::alloc::{AllocError, Global};
 

@@ -4,6 +4,11 @@ ghost use Rattle.bag_stages.specs.FetchStage.{FetchFaultsAreListed, FetchFaultsA
 ghost use Rattle.bag_stages.specs.ManifestsStage.{ManifestFaultsAreListed, ManifestFaultsAreOfStageFive};
 ghost use Rattle.bag_stages.specs.MetadataStage.{MetadataFaultsAreListed, MetadataFaultsAreOfStageThree};
 ghost use Rattle.bag_stages.specs.PartsStage.{PartFaultsAreListed, PartFaultsAreOfStageTwo};
+ghost use Rattle.bag_stages.specs.Clashes.{AlikeIsAnEquivalence};
+ghost use Rattle.bag_stages.specs.ClashStage.{ClashesAndLeastsAreAllNames};
+ghost use Rattle.bag_stages.specs.CompletenessStage.{CompletenessFaultsAreListed, CompletenessFaultsAreOfStageSix};
+ghost use Rattle.bag_stages.specs.SummedFiles.{NamesByKind};
+ghost use Rattle.bag_stages.specs.ValidityStage.{ValidityFaultsAreListed, ValidityFaultsAreOfStageSeven};
 
 /// The faults of the declaration are of the first stage.
 pub fn declaration_faults_are_of_stage_one()
@@ -53,4 +58,39 @@ pub fn fetch_faults_are_listed()
 /// Every bag has a list of the faults of its manifests.
 pub fn manifest_faults_are_listed()
     ensures { ManifestFaultsAreListed }
+{}
+
+/// The faults of completeness and of names are of the sixth stage.
+pub fn completeness_faults_are_of_stage_six()
+    ensures { CompletenessFaultsAreOfStageSix }
+{}
+
+/// Every bag has a list of the faults of its completeness and of its names.
+pub fn completeness_faults_are_listed()
+    ensures { CompletenessFaultsAreListed }
+{}
+
+/// To have one NFC form is an equivalence.
+pub fn alike_is_an_equivalence()
+    ensures { AlikeIsAnEquivalence }
+{}
+
+/// The names that clash and the least names of their classes are together all names, none twice.
+pub fn clashes_and_leasts_are_all_names()
+    ensures { ClashesAndLeastsAreAllNames }
+{}
+
+/// The faults of validity are of the seventh stage.
+pub fn validity_faults_are_of_stage_seven()
+    ensures { ValidityFaultsAreOfStageSeven }
+{}
+
+/// Every bag has a list of the faults of its validity.
+pub fn validity_faults_are_listed()
+    ensures { ValidityFaultsAreListed }
+{}
+
+/// Payload manifests name payload files, and tag manifests other files.
+pub fn names_by_kind()
+    ensures { NamesByKind }
 {}

@@ -8,24 +8,47 @@
 //! ```
 //!
 //! Of RFC 8493 it keeps the declaration (2.1.1), the parts of a bag (2.1, 2.3 and 2.4), the metadata and the payload's
-//! size in it (2.2.2), the list of files to fetch (2.2.3), and manifests whose lines are right (2.1.3, 2.2.1). A module
-//! finds the faults of one stage, and the page of `specs` with its name says what they are.
+//! size in it (2.2.2), the list of files to fetch (2.2.3), manifests whose lines are right (2.1.3, 2.2.1), and complete and
+//! valid bags (3). A module finds the faults of one stage, and the page of `specs` with its name says what they are. No file
+//! is opened: the stage of digests takes those of one file after the other.
 #![tactic(auto)]
 
+mod clashes;
+mod completeness;
 mod declaration;
+mod expected;
 mod fetch;
+mod file_fault;
+mod given_digest;
 pub mod laws;
 mod manifests;
 mod metadata;
+mod missing;
 mod named;
+mod names;
 mod oxum_faults;
 mod parts;
+mod payload_named;
 mod payload_size;
+mod places;
+mod seek;
+mod sum_faults;
 mod tag_file;
+mod unlisted;
+mod unnamed;
 
+pub use completeness::{clashes_asked, completeness_faults};
 pub use declaration::declaration_faults;
+pub use expected::{Expected, expected_of};
 pub use fetch::fetch_faults;
+pub use given_digest::GivenDigest;
 pub use manifests::manifest_faults;
 pub use metadata::metadata_faults;
+pub use missing::missing_of;
 pub use named::is_named;
 pub use parts::parts_faults;
+pub use payload_named::is_exact;
+pub use places::Places;
+pub use sum_faults::faults_by;
+pub use unlisted::unlisted_of;
+pub use unnamed::unlisted_in_all;

@@ -4,7 +4,7 @@ ghost use Rattle.std.specs.List.Sorted.{IsStrictlySortedBy};
 ghost use Rattle.bag_text.specs.Order.{IsListOf, IsOnly};
 ghost use Rattle.bag_text.specs.Text.{text_cmp};
 ghost use Rattle.bag_tree.specs.Bag.{Bag};
-ghost use Rattle.bag_fault.specs.FaultOrder.{fault_cmp};
+ghost use Rattle.bag_facts.specs.FaultOrder.{fault_cmp};
 ghost use Rattle.bag_facts.specs.Facts.{rules_in, IsFactsOf, IsSaid};
 ghost use Rattle.bag_facts.specs.TagFacts.{AreByPath};
 ghost use Rattle.bag_facts.specs.TagReader.{AreListed};
@@ -15,9 +15,8 @@ ghost use Rattle.bag_stages.specs.ManifestFaults.{unnamed, IsUnnamedFault, IsUnn
 ghost use Rattle.bag_stages.specs.ManifestsStage.{IsOfManifests};
 
 use crate::tag_file::line_faults;
-use bag_facts::{Facts, Manifest, TagFacts};
-use bag_fault::Fault;
-use bag_tags::{Kind, TagName, manifest_alg};
+use bag_facts::{Facts, Fault, Manifest, TagFacts};
+use bag_read::{Kind, TagName, manifest_alg};
 use bag_text::{Code, Rules, Text};
 use bag_tree::FileEntry;
 use std::alloc::{AllocError, Global};

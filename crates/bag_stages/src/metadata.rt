@@ -2,7 +2,7 @@
 ghost use Rattle.std.specs.Prelude.{◌≡◌, ◌≢◌, IfOk};
 ghost use Rattle.bag_text.specs.Order.{IsListOf};
 ghost use Rattle.bag_tree.specs.Bag.{Bag};
-ghost use Rattle.bag_fault.specs.FaultOrder.{fault_cmp};
+ghost use Rattle.bag_facts.specs.FaultOrder.{fault_cmp};
 ghost use Rattle.bag_facts.specs.Facts.{IsFactsOf, IsSaid};
 ghost use Rattle.bag_facts.specs.declared.options.Depth.TheVariants.{Declaration};
 ghost use Rattle.bag_facts.specs.declared.tag_facts.TagFacts.TheVariants as known;
@@ -13,9 +13,8 @@ ghost use Rattle.bag_stages.specs.PayloadSize.{listed_oxum};
 
 use crate::oxum_faults::{no_oxum, oxum_faults};
 use crate::tag_file::line_faults;
-use bag_facts::{Facts, Metadata};
-use bag_fault::Fault;
-use bag_tags::TagName;
+use bag_facts::{Facts, Fault, Metadata};
+use bag_read::TagName;
 use bag_text::Text;
 use bag_tree::FileEntry;
 use std::alloc::{AllocError, Global};

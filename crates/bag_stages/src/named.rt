@@ -1,6 +1,6 @@
 //! Whether payload manifests name a path.
 ghost use Rattle.std.specs.Prelude.{◌≢◌, ◌↔◌, IsTrue};
-ghost use Rattle.bag_tags.specs.declared.kind.Kind.TheVariants.{Payload};
+ghost use Rattle.bag_read.specs.declared.kind.Kind.TheVariants.{Payload};
 ghost use Rattle.bag_tree.specs.Bag.{Bag};
 ghost use Rattle.bag_facts.specs.Facts.{IsFactsOf};
 ghost use Rattle.bag_facts.specs.declared.options.Depth.TheVariants.{Declaration};
@@ -8,7 +8,7 @@ ghost use Rattle.bag_stages.specs.LeftOut.{IsNamedBySome};
 ghost use Rattle.bag_stages.specs.TagFiles.{Names};
 
 use bag_facts::Facts;
-use bag_tags::Kind;
+use bag_read::Kind;
 use bag_text::{Alg, Text};
 
 /// Whether some payload manifest names a path, of facts read for more than the declaration. Takes no memory.

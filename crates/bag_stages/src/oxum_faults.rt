@@ -5,8 +5,8 @@ ghost use Rattle.bag_stages.specs.PayloadSize.{listed_oxum};
 
 use crate::payload_size::{PayloadSize, payload_size};
 use crate::tag_file::whole_file;
-use bag_fault::Fault;
-use bag_line::{Element, oxum_of};
+use bag_facts::Fault;
+use bag_read::{Element, oxum_of};
 use bag_text::{Code, Text, same_label};
 use bag_tree::FileEntry;
 use std::alloc::{AllocError, Global};

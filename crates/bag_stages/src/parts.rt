@@ -3,11 +3,11 @@ ghost use Rattle.std.specs.Prelude.{◌≡◌, ◌≢◌, ◌∷◌, ◌++◌, �
 ghost use Rattle.std.specs.List.Sorted.{IsStrictlySortedBy};
 ghost use Rattle.bag_text.specs.Order.{IsListOf, IsOnly};
 ghost use Rattle.bag_text.specs.Text.{text_cmp};
-ghost use Rattle.bag_words.specs.declared.code.Code.TheVariants.{NoPayloadFolder, NoPayloadManifest};
-ghost use Rattle.bag_tags.specs.ManifestName.{is_alg_text, manifest_name};
-ghost use Rattle.bag_tags.specs.declared.kind.Kind.{Kind};
+ghost use Rattle.bag_text.specs.declared.code.Code.TheVariants.{NoPayloadFolder, NoPayloadManifest};
+ghost use Rattle.bag_read.specs.ManifestName.{is_alg_text, manifest_name};
+ghost use Rattle.bag_read.specs.declared.kind.Kind.{Kind};
 ghost use Rattle.bag_tree.specs.Bag.{Bag};
-ghost use Rattle.bag_fault.specs.FaultOrder.{fault_cmp};
+ghost use Rattle.bag_facts.specs.FaultOrder.{fault_cmp};
 ghost use Rattle.bag_facts.specs.Facts.{IsFactsOf};
 ghost use Rattle.bag_facts.specs.Wanted.{paths_of};
 ghost use Rattle.bag_facts.specs.declared.options.Depth.TheVariants.{Declaration};
@@ -17,9 +17,8 @@ ghost use Rattle.bag_stages.specs.FaultFields.{of_bag};
 ghost use Rattle.bag_stages.specs.TagFiles.{HasNoText};
 
 use crate::tag_file::whole_file;
-use bag_facts::{Facts, TagFacts};
-use bag_fault::Fault;
-use bag_tags::{Kind, TagName, manifest_alg};
+use bag_facts::{Facts, Fault, TagFacts};
+use bag_read::{Kind, TagName, manifest_alg};
 use bag_text::{Alg, Code, Text};
 use bag_tree::FileEntry;
 use std::alloc::{AllocError, Global};

@@ -16,7 +16,7 @@ pub(crate) struct PayloadSize {
 }
 
 impl Model for PayloadSize {
-    ghost use Rattle.bag_line.specs.declared.oxum.Oxum.{Oxum};
+    ghost use Rattle.bag_read.specs.declared.oxum.Oxum.{Oxum};
 
     ghost Value = { Oxum };
 

@@ -2,8 +2,8 @@
 ghost use Rattle.std.specs.Prelude.{◌≡◌, [], IfOk, map, if◌then◌else◌};
 ghost use Rattle.bag_stages.specs.FaultFields.{in_file, of_whole};
 
-use bag_fault::Fault;
-use bag_tags::LineFault;
+use bag_facts::Fault;
+use bag_read::LineFault;
 use bag_text::{Alg, Code, Text};
 use std::alloc::{AllocError, Global};
 

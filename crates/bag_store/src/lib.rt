@@ -1,4 +1,4 @@
-//! Trees of files that hold a bag, the digests of their files, and what takes the output.
+//! Trees of the files on a disk; and all that stores a bag, under one name.
 //!
 //! ```
 //! let mut tree = FileTree::at(rt, alloc, "deposit")?;
@@ -8,20 +8,25 @@
 //! }
 //! ```
 //!
-//! Of RFC 8493 it keeps the structure of a bag: files by path, and the payload folder (2, 2.1.2), and the digests of files
-//! (2.4). What a tree means is in `bag_tree`, and what its changes are in
-//! `bag_write_tree`; trees in memory are in `bag_memory`, trees for tests in `bag_test_trees`, disks
-//! in `bag_disk`, trees of the files on a disk in `bag_file_tree`, and digests in `bag_digest`.
+//! A `FileTree` stands over any `Disk`, a few calls of the system below a base folder, and is proved for each honest one.
+//! Over a `WritableDisk` it can be changed step by step, so that a folder is made a bag in place (RFC 8493, 2.1).
+//! `FileTree::at` is the tree over the system's disk, of which nothing is promised. What a tree means, its changes and its
+//! digests are in `bag_tree`, trees in memory in `bag_memory`, disks in `bag_disk`.
 #![tactic(auto)]
 
+mod answered;
+mod changing;
+mod file_tree;
+mod keeping;
 pub mod laws;
+mod standing;
+mod target;
+mod writing;
 
-pub use bag_digest::{Digests, HexFault, Sums, digest_file};
 pub use bag_disk::{Disk, DiskFault, Entry, SystemDisk, WritableDisk};
-pub use bag_file_tree::FileTree;
-pub use bag_memory::MemoryTree;
-pub use bag_test_trees::{FailTree, SkewTree};
+pub use bag_memory::{FailTree, MemoryTree, SkewTree};
 pub use bag_tree::{
-    FileEntry, Listing, Out, Refused, Stop, Tree, TreeFault, WriterOut, read_whole,
+    Digests, FileEntry, HexFault, Listing, Out, Refused, Stop, Sums, Tree, TreeFault, WriteTree,
+    WriterOut, digest_file, read_whole,
 };
-pub use bag_write_tree::WriteTree;
+pub use file_tree::FileTree;

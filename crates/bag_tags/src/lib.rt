@@ -1,30 +1,32 @@
-//! Reads the tag files of a bag: what they say, and what is wrong with them, line by line.
+//! Writes the tag files of a bag, so that what is written is read again as the same.
 //!
 //! ```
-//! let manifest = read_manifest(alloc, Rules::V10, Kind::Payload, Alg::Sha256, &bytes)?;
-//! for entry in manifest.items.as_slice() {
-//!     let (path, digest) = (entry.path.as_str(), entry.digest.bytes());
-//! }
+//! let declaration = write_declaration(alloc)?;
+//! let info = write_info(alloc, &elements)?;
+//! let manifest = write_manifest(alloc, Kind::Payload, Alg::Sha256, &entries)?;
 //! ```
 //!
-//! Of RFC 8493 it keeps payload manifests (2.1.3) and tag manifests (2.2.1), and shows what reads the declaration (2.1.1), the
-//! metadata (2.2.2) and the list of files to fetch (2.2.3).
+//! Of RFC 8493 it keeps the declaration (2.1.1), payload manifests (2.1.3), the metadata (2.2.2) and tag manifests (2.2.1).
+//! What reads them is in `bag_read`, and is shown here.
 #![tactic(auto)]
 
-mod digest;
-mod kind;
+mod declaration;
+mod distinct;
+mod element;
+mod entry;
+mod fault;
+mod info;
 pub mod laws;
+mod line;
 mod manifest;
-mod manifest_line;
-mod manifest_name;
-mod named_once;
-mod repeats;
-mod tag_name;
 
-pub use bag_declaration::{Declaration, declared_rules, read_declaration};
-pub use bag_line::{Element, FetchEntry, LineFault, Oxum, Parsed, oxum_of, read_fetch, read_info};
-pub use digest::Digest;
-pub use kind::Kind;
-pub use manifest::{ManifestEntry, read_manifest};
-pub use manifest_name::manifest_alg;
-pub use tag_name::TagName;
+pub use bag_read::{
+    Declaration, Digest, Element, FetchEntry, Kind, LineFault, ManifestEntry, Oxum, Parsed,
+    TagName, declared_rules, manifest_alg, oxum_of, read_declaration, read_fetch, read_info,
+    read_manifest,
+};
+pub use declaration::write_declaration;
+pub use element::is_bad_element;
+pub use fault::WriteFault;
+pub use info::write_info;
+pub use manifest::{push_entry, write_manifest};

@@ -1,4 +1,6 @@
+pub mod AlgSets
 pub mod Blanks
+pub mod Codes
 pub mod FirstByte
 pub mod FirstLine
 pub mod LineEnds

@@ -2,8 +2,10 @@
 ghost use Rattle.bag_text.specs.Lines.{LinesAreTheOnlyCut};
 ghost use Rattle.bag_text.specs.Path.{PathsAreJoinedComponents};
 ghost use Rattle.bag_text.specs.Spelling.{EscapedIsReadAgain, UnescapedIsSpelled};
+ghost use Rattle.std.specs.Prelude.{◌≡◌};
+ghost use Rattle.bag_text.specs.Alg.{EachIsListed, ListAscends, NameIsReadAgain, NamesTellApart, RanksTellApart, algs};
 
-pub use bag_words::laws::{lists_all_algs, tells_algs_apart};
+use crate::Alg;
 
 /// A text is cut into its lines, and into no others.
 pub fn lines_are_the_only_cut()
@@ -23,4 +25,18 @@ pub fn unescaped_is_spelled()
 /// A path that is written is read again.
 pub fn escaped_is_read_again()
     ensures { EscapedIsReadAgain }
+{}
+
+/// The list of all algorithms has each of them once, in the order of their ranks.
+pub fn lists_all_algs()
+    ensures value { Alg.ALL ≡ algs }
+    ensures each { EachIsListed }
+    ensures ascending { ListAscends }
+{}
+
+/// A name names its algorithm, and no two algorithms have one name or one rank.
+pub fn tells_algs_apart()
+    ensures again { NameIsReadAgain }
+    ensures by_name { NamesTellApart }
+    ensures by_rank { RanksTellApart }
 {}

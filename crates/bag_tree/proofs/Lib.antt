@@ -1,7 +1,11 @@
+pub mod HashValues
 pub mod ListingLaw
 pub mod Moving
 pub mod Parents
 pub mod PathEntries
 pub mod Reading
 pub mod SameText
+pub mod Spelled
+pub mod SumsOf
+pub mod Updates
 pub mod Within

@@ -1,8 +1,15 @@
 pub mod Bag
 pub mod Cause
+pub mod Changes
+pub mod Digest
+pub mod DigestFile
+pub mod Digests
+pub mod Hasher
 pub mod Heard
 pub mod Listing
 pub mod Moved
 pub mod Out
+pub mod Steps
+pub mod Sums
 pub mod Tree
 pub mod Whole

@@ -3,8 +3,8 @@ use Rattle.std.specs.Prelude.{◌≡◌, IsTrue, None, Some, Option, List, ℕ, 
 use Rattle.bag_tree.specs.Bag.{file, HasFile}
 use Rattle.bag_tree.specs.Tree.{TreeState, MayRefuse, IsEntryOf, IsOtherSize, CameFromTree}
 use Rattle.bag_tree.specs.declared.listing.FileEntry.{FileEntry}
-use Rattle.bag_tree.specs.declared.fault.TreeFault.{TreeFault}
-use Rattle.bag_tree.specs.declared.fault.TreeFault.TheVariants.{Changed}
+use Rattle.bag_tree.specs.declared.tree_fault.TreeFault.{TreeFault}
+use Rattle.bag_tree.specs.declared.tree_fault.TreeFault.TheVariants.{Changed}
 
 -- More or fewer bytes than were listed are Changed, which an honest tree shows only for a file of its bag that is listed
 -- with another length; any other refusal but want of memory is the tree's own. The file that was opened stays open.

@@ -1,29 +1,43 @@
-//! What a tree of files is, and what takes the output.
+//! What a tree of files is and how it can be changed, what takes the output, and the digests of files.
 //!
 //! ```
 //! let listing = tree.list()?;
 //! for entry in listing.files.as_slice() {
-//!     let bytes = read_whole(alloc, &mut tree, entry)?;
+//!     let sums = digest_file(&mut tree, entry, algs, &mut buffer)?;
 //! }
+//! tree.make_folder("new")?;
+//! tree.move_in("readme.txt", "new")?;
 //! ```
 //!
-//! Of RFC 8493 it keeps the structure of a bag: files by path, and the payload folder (2, 2.1.2).
+//! Of RFC 8493 it keeps the structure of a bag: files by path, and the payload folder (2, 2.1.2), and the checksum algorithms
+//! and how their values are spelled (2.4). With the steps of a `WriteTree` a folder is made a bag in place (2.1).
 #![tactic(auto)]
 
 mod answer;
-mod fault;
+mod digest_file;
+mod digests;
+mod hasher;
 mod heard;
 pub mod laws;
 mod listing;
 mod out;
+mod path_rest;
+mod sums;
 mod tree;
+mod tree_fault;
 mod whole;
+mod write_tree;
 mod writer_out;
 
 pub use answer::Answer;
-pub use fault::{Stop, TreeFault};
+pub use digest_file::digest_file;
+pub use digests::Digests;
 pub use listing::{FileEntry, Listing};
 pub use out::{Out, Refused};
+pub use path_rest::rest_within;
+pub use sums::{HexFault, Sums};
 pub use tree::Tree;
+pub use tree_fault::{Stop, TreeFault};
 pub use whole::read_whole;
+pub use write_tree::WriteTree;
 pub use writer_out::WriterOut;

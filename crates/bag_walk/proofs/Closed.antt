@@ -1,15 +1,15 @@
 -- The closing line behind a segment.
 use Rattle.std.proofs.Common.{◌≡◌, ◌<◌, ◌≤◌, ◌++◌, ◌∷◌, ℕ, zero, suc, Bool, List, [], inl, inr, None, Some, Option, length, min, take, slice_get, refl, sym, ap, ◌∙◌, subst, arith}
 use Rattle.std.specs.List.{concat}
-use Rattle.bag_tree.specs.declared.fault.Stop.{Stop}
-use Rattle.bag_fault.specs.declared.fault.Fault.{Fault}
-use Rattle.bag_output.specs.Closing.{closing}
-use Rattle.bag_output.specs.Ending.{MayEnd, ended, ideal, limit_of, written, written_line}
-use Rattle.bag_output.specs.Writer.{Closes}
-use Rattle.bag_output.specs.declared.outcome.Outcome.{Outcome}
-use Rattle.bag_output.specs.declared.outcome.Outcome.TheVariants as outcome
-use Rattle.bag_output.specs.declared.outcome.Request.{Request}
-use Rattle.bag_output.proofs.Ending.{closed_report, end_may_end, ideal_all, ideal_may_end, take_length, wrote_closed}
+use Rattle.bag_tree.specs.declared.tree_fault.Stop.{Stop}
+use Rattle.bag_facts.specs.declared.fault.Fault.{Fault}
+use Rattle.bag_walk.specs.Closing.{closing}
+use Rattle.bag_walk.specs.Ending.{MayEnd, ended, ideal, limit_of, written, written_line}
+use Rattle.bag_walk.specs.Writer.{Closes}
+use Rattle.bag_walk.specs.declared.outcome.Outcome.{Outcome}
+use Rattle.bag_walk.specs.declared.outcome.Outcome.TheVariants as outcome
+use Rattle.bag_walk.specs.declared.outcome.Request.{Request}
+use Rattle.bag_walk.proofs.Ending.{closed_report, end_may_end, ideal_all, ideal_may_end, take_length, wrote_closed}
 use Rattle.bag_walk.specs.Segment.{ClosesSegment, EndsSegment, IsRead, IsSegment, WroteFirst}
 use Rattle.bag_walk.specs.Stops.{IfStopped}
 use Rattle.bag_walk.specs.declared.segment.Segment.{Segment}

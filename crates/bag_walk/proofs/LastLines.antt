@@ -1,8 +1,8 @@
 -- The line that was written last, read back.
 use Rattle.std.proofs.Common.{◌≡◌, ◌++◌, ◌∷◌, ℕ, suc, ◌+◌, List, [], length, Option, None, Some, slice_get, codes, refl, sym, ap, ◌∙◌, arith, append_assoc}
-use Rattle.bag_fault.specs.FaultLine.{IsLineOf, fault_line}
-use Rattle.bag_fault.specs.declared.fault.Fault.{Fault}
-use Rattle.bag_fault.proofs.Lines.{lines_tell_faults_apart}
+use Rattle.bag_facts.specs.FaultLine.{IsLineOf, fault_line}
+use Rattle.bag_facts.specs.declared.fault.Fault.{Fault}
+use Rattle.bag_facts.proofs.Lines.{lines_tell_faults_apart}
 use Rattle.bag_walk.specs.Lines.{IsLastLine, IsLastOf}
 
 append_cancel_right_one : (xs ys : List ℕ) (x : ℕ) → xs ++ x ∷ [] ≡ ys ++ x ∷ [] → xs ≡ ys

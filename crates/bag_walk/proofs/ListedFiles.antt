@@ -5,7 +5,7 @@ use Rattle.std.specs.FinMap.{IsAntisymmetric, nat_cmp-IsAntisymmetric, slice_cmp
 use Rattle.bag_text.specs.Path.{is_payload_path}
 use Rattle.bag_text.specs.Text.{text_cmp}
 use Rattle.bag_text.proofs.ListOf.{same_members}
-use Rattle.bag_tags.specs.declared.kind.Kind.TheVariants.{Payload}
+use Rattle.bag_read.specs.declared.kind.Kind.TheVariants.{Payload}
 use Rattle.bag_tree.specs.Bag.{Bag, HasFile, has_file}
 use Rattle.bag_facts.specs.declared.options.Depth.TheVariants.{Full}
 use Rattle.bag_facts.specs.declared.options.Options.{Options}
@@ -14,7 +14,7 @@ use Rattle.bag_stages.specs.TagFiles.{Names, named_in}
 use Rattle.bag_stages.proofs.BagLists.{over_algs}
 use Rattle.bag_stages.proofs.HasLists.{Decided, both_decided, for_each, one_where, same_set, true_or_not}
 use Rattle.bag_report.proofs.AscendingList.{ascending_list}
-use Rattle.bag_walk.specs.Openings.{IsListed}
+use Rattle.bag_walk.specs.RunOpenings.{IsListed}
 use Rattle.bag_walk.specs.SegmentOpenings.{EachBagHasListedFiles, IsListedFile}
 use Rattle.bag_walk.proofs.Openings.{full_or_not}
 

@@ -14,16 +14,16 @@ use Rattle.bag_text.specs.Code.{stage}
 use Rattle.bag_text.specs.Text.{text_cmp}
 use Rattle.bag_text.proofs.ListOf.{contains_behind, contains_first}
 use Rattle.bag_tree.proofs.SameText.{exact_texts}
-use Rattle.bag_fault.specs.FaultOrder.{fault_cmp}
-use Rattle.bag_fault.specs.declared.fault.Fault.{Fault}
-use Rattle.bag_fault.proofs.Ascending.{not_both, not_less_than_itself}
-use Rattle.bag_fault.proofs.Ordered.{fault_cmp_total}
+use Rattle.bag_facts.specs.FaultOrder.{fault_cmp}
+use Rattle.bag_facts.specs.declared.fault.Fault.{Fault}
+use Rattle.bag_facts.proofs.Ascending.{not_both, not_less_than_itself}
+use Rattle.bag_facts.proofs.Ordered.{fault_cmp_total}
 use Rattle.bag_facts.proofs.Mapped.{kept}
 use Rattle.bag_facts.proofs.Opens.{front_ascends}
 use Rattle.bag_stages.proofs.InFile.{less_by_path}
-use Rattle.bag_source.specs.Openings.{IsBeforeFile}
-use Rattle.bag_source.specs.Validity.{is_passed}
-use Rattle.bag_source.proofs.Chosen.{less_by_stage}
+use Rattle.bag_walk.specs.Openings.{IsBeforeFile}
+use Rattle.bag_walk.specs.Validity.{is_passed}
+use Rattle.bag_walk.proofs.Chosen.{less_by_stage}
 use Rattle.bag_walk.specs.SegmentOpenings.{NoneBehindLast, not_passed}
 use Rattle.bag_walk.specs.Segments.{cursor_behind}
 use Rattle.bag_walk.proofs.Places.{at_place, less_at}

@@ -4,8 +4,8 @@ use Rattle.std.specs.List.{AllByRecursion}
 use Rattle.std.specs.List.Sorted.{IsStrictlySortedBy}
 use Rattle.std.specs.declared.cmp.Ordering.TheVariants.{Less}
 use Rattle.bag_text.proofs.ListOf.{contains_first}
-use Rattle.bag_fault.specs.FaultOrder.{fault_cmp}
-use Rattle.bag_fault.specs.declared.fault.Fault.{Fault}
+use Rattle.bag_facts.specs.FaultOrder.{fault_cmp}
+use Rattle.bag_facts.specs.declared.fault.Fault.{Fault}
 
 pub at_place : (n : ℕ) (faults : List Fault) → n < length faults → (f : Fault) × (slice_get faults n ≡ Some f)
 at_place n [] less = absurd (omega arith)

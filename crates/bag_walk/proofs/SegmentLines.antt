@@ -2,27 +2,25 @@
 use Rattle.std.proofs.Common.{◌≡◌, ◌<◌, ◌≤◌, ◌+◌, ◌-◌, ◌++◌, ◌∷◌, inl, inr, ℕ, zero, suc, Bool, true, List, [], Option, None, Some, Contains, length, take, drop, slice_get, IsTrue, refl, sym, ap, ◌∙◌, subst, arith, append-nil, append_assoc}
 use Rattle.std.specs.Io.KnownBytes.{Appends}
 use Rattle.std.specs.List.{concat}
-use Rattle.std.proofs.lemmas.List.{length-append, map-append}
+use Rattle.std.proofs.lemmas.List.{length-append, map-append, append_cancel_left}
 use Rattle.std.proofs.Math.Seq.{take-append_seam}
-use Rattle.bag_text.proofs.ListOf.{contains_behind}
+use Rattle.bag_text.proofs.ListOf.{contains_behind, contains_either}
 use Rattle.bag_tree.specs.Bag.{Bag}
 use Rattle.bag_tree.specs.Tree.{TreeState, Keeps}
-use Rattle.bag_tree.specs.declared.fault.Stop.{Stop}
-use Rattle.bag_fault.specs.declared.fault.Fault.{Fault}
-use Rattle.bag_output.specs.Ending.{written, written_line}
-use Rattle.bag_output.specs.Write.{IsCut}
-use Rattle.bag_output.proofs.Lines.{concat-append_one, cut_at}
-use Rattle.bag_output.proofs.Writing.{Appends-append}
-use Rattle.bag_source.specs.Openings.{Opens, OpensAgain, OpensNoneBehind}
-use Rattle.bag_source.specs.Source.{first_of, rest_of, MayStopFilling, Sees}
-use Rattle.bag_source.specs.Shown.{front_is, none_is}
-use Rattle.bag_source.proofs.Filling.{sees_later, sees_second, stop_later}
+use Rattle.bag_tree.specs.declared.tree_fault.Stop.{Stop}
+use Rattle.bag_facts.specs.declared.fault.Fault.{Fault}
+use Rattle.bag_walk.specs.Ending.{written, written_line}
+use Rattle.bag_walk.specs.Write.{IsCut}
+use Rattle.bag_walk.proofs.Lines.{concat-append_one, cut_at}
+use Rattle.bag_walk.proofs.Writing.{Appends-append}
+use Rattle.bag_walk.specs.Openings.{Opens, OpensAgain, OpensNoneBehind}
+use Rattle.bag_walk.specs.Source.{first_of, rest_of, MayStopFilling, Sees}
+use Rattle.bag_walk.specs.Shown.{front_is, none_is}
+use Rattle.bag_walk.proofs.Filling.{sees_later, sees_second, stop_later}
 use Rattle.bag_walk.specs.Lines.{IsLastOf}
 use Rattle.bag_walk.specs.Segment.{IsSegment, MayStopWalk}
 use Rattle.bag_walk.specs.declared.segment.Segment.{Segment}
 use Rattle.bag_walk.specs.declared.segment.SegmentEnd.TheVariants.{Full, AtEnd, Unread, Unwritten}
-use Rattle.std.proofs.lemmas.List.{append_cancel_left}
-use Rattle.bag_text.proofs.ListOf.{contains_either}
 
 module _ (old mid new : TreeState) (xs ys zs : List (List ℕ)) (p : Opens xs ys old mid) where
   pub opens_on : Opens ys zs mid new → Opens xs zs old new

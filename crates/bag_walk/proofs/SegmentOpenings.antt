@@ -8,15 +8,15 @@ use Rattle.bag_text.specs.Path.{is_payload_path}
 use Rattle.bag_text.specs.Text.{text_cmp}
 use Rattle.bag_text.proofs.ListOf.{contains_either, contains_front, contains_nothing, same_members}
 use Rattle.bag_tree.specs.Tree.{TreeState}
-use Rattle.bag_fault.specs.declared.fault.Fault.{Fault}
+use Rattle.bag_facts.specs.declared.fault.Fault.{Fault}
 use Rattle.bag_facts.specs.Wanted.{OpensWanted}
 use Rattle.bag_facts.specs.declared.options.Options.{Options}
 use Rattle.bag_facts.proofs.Mapped.{kept}
 use Rattle.bag_report.specs.Report.{Check}
 use Rattle.bag_report.proofs.Filtered.{filtered_list}
-use Rattle.bag_source.specs.Openings.{NoneBehind, OpensAgain, OpensNoneBehind}
-use Rattle.bag_source.specs.Start.{IsListedToOpen}
-use Rattle.bag_source.specs.Validity.{is_passed}
+use Rattle.bag_walk.specs.Openings.{NoneBehind, OpensAgain, OpensNoneBehind}
+use Rattle.bag_walk.specs.Start.{IsListedToOpen}
+use Rattle.bag_walk.specs.Validity.{is_passed}
 use Rattle.bag_walk.specs.Segment.{EndsSegment, looked_past, still_to_come}
 use Rattle.bag_walk.specs.SegmentOpenings.{AreListed, IsListedFile, NoneBehindLast, OpensFew, OpensInSegment, not_passed}
 use Rattle.bag_walk.specs.Segments.{cursor_behind}

@@ -6,17 +6,17 @@ use Rattle.bag_text.specs.Text.{text_cmp}
 use Rattle.bag_text.proofs.ListOf.{one_list}
 use Rattle.bag_tree.specs.Bag.{Bag}
 use Rattle.bag_tree.specs.Tree.{TreeState, Keeps}
-use Rattle.bag_fault.specs.FaultOrder.{fault_cmp}
-use Rattle.bag_fault.specs.declared.fault.Fault.{Fault}
-use Rattle.bag_fault.proofs.Ordered.{fault_cmp_total}
+use Rattle.bag_facts.specs.FaultOrder.{fault_cmp}
+use Rattle.bag_facts.specs.declared.fault.Fault.{Fault}
+use Rattle.bag_facts.proofs.Ordered.{fault_cmp_total}
 use Rattle.bag_facts.specs.Wanted.{OpensWanted}
 use Rattle.bag_facts.specs.declared.options.Options.{Options}
 use Rattle.bag_profile.specs.Profile.{Profile}
 use Rattle.bag_report.specs.Report.{Check, IsReport, above}
-use Rattle.bag_output.specs.declared.outcome.Request.{Request}
-use Rattle.bag_source.specs.Openings.{OpensAgain, OpensNoneBehind}
-use Rattle.bag_source.specs.Source.{Sees}
-use Rattle.bag_source.specs.Start.{IsListedToOpen, IsStarted}
+use Rattle.bag_walk.specs.declared.outcome.Request.{Request}
+use Rattle.bag_walk.specs.Openings.{OpensAgain, OpensNoneBehind}
+use Rattle.bag_walk.specs.Source.{Sees}
+use Rattle.bag_walk.specs.Start.{IsListedToOpen, IsStarted}
 use Rattle.bag_walk.specs.Lines.{IsLastLine, IsLastOf}
 use Rattle.bag_walk.specs.Run.{IsAsked}
 use Rattle.bag_walk.specs.Segment.{IfUnread, IsSegment, MayStopRun, still_to_come}

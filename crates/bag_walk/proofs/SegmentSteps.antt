@@ -6,20 +6,20 @@ use Rattle.std.specs.Io.KnownBytes.{Appends}
 use Rattle.std.proofs.lemmas.List.{append_cancel_left, drop_more, drop_all, map-append, take-append-drop, length-drop}
 use Rattle.bag_tree.specs.Bag.{HasFile}
 use Rattle.bag_tree.specs.Tree.{TreeState, Keeps}
-use Rattle.bag_tree.specs.declared.fault.Stop.{Stop}
-use Rattle.bag_tree.specs.declared.fault.TreeFault.{TreeFault}
-use Rattle.bag_tree.specs.declared.fault.TreeFault.TheVariants.{Device, Special, Name, NotFound, TooMany, Changed, NoneOpen, Memory, Exists}
-use Rattle.bag_fault.specs.FaultOrder.{fault_cmp}
-use Rattle.bag_fault.specs.declared.fault.Fault.{Fault}
+use Rattle.bag_tree.specs.declared.tree_fault.Stop.{Stop}
+use Rattle.bag_tree.specs.declared.tree_fault.TreeFault.{TreeFault}
+use Rattle.bag_tree.specs.declared.tree_fault.TreeFault.TheVariants.{Device, Special, Name, NotFound, TooMany, Changed, NoneOpen, Memory, Exists}
+use Rattle.bag_facts.specs.FaultOrder.{fault_cmp}
+use Rattle.bag_facts.specs.declared.fault.Fault.{Fault}
 use Rattle.bag_facts.specs.Stops.{MayRefuseFacts}
 use Rattle.bag_facts.specs.declared.options.Options.{Options}
 use Rattle.bag_facts.proofs.Reading.{keeps_itself, keeps_on, later_refusal}
 use Rattle.bag_report.specs.Report.{above, first}
-use Rattle.bag_validity.specs.SummedFiles.{IsSummed}
-use Rattle.bag_output.specs.Ending.{ended, written, written_line}
-use Rattle.bag_output.specs.declared.outcome.Outcome.{Outcome}
-use Rattle.bag_output.specs.declared.outcome.Outcome.TheVariants.{Stopped, Unwritten}
-use Rattle.bag_output.proofs.Writing.{Appends-append, Appends-nil}
+use Rattle.bag_stages.specs.SummedFiles.{IsSummed}
+use Rattle.bag_walk.specs.Ending.{ended, written, written_line}
+use Rattle.bag_walk.specs.declared.outcome.Outcome.{Outcome}
+use Rattle.bag_walk.specs.declared.outcome.Outcome.TheVariants.{Stopped, Unwritten}
+use Rattle.bag_walk.proofs.Writing.{Appends-append, Appends-nil}
 use Rattle.bag_walk.specs.Lines.{IsLastLine, IsLastOf}
 use Rattle.bag_walk.specs.Segment.{EndsSegment, IfUnread, WroteFirst}
 use Rattle.bag_walk.specs.SegmentOpenings.{AreListed, OpensFew, OpensInSegment}

@@ -1,13 +1,13 @@
 -- A run over a walk, by its segment.
 use Rattle.std.proofs.Common.{◌≡◌, ◌≤◌, ◌++◌, ◌∷◌, ◌-◌, inl, inr, ℕ, Bool, List, [], Option, min, ap, ◌∙◌, subst, arith}
 use Rattle.bag_tree.specs.Tree.{TreeState}
-use Rattle.bag_tree.specs.declared.fault.Stop.{Stop}
-use Rattle.bag_fault.specs.declared.fault.Fault.{Fault}
-use Rattle.bag_output.specs.declared.outcome.Outcome.{Outcome}
-use Rattle.bag_output.specs.declared.outcome.Outcome.TheVariants as outcome_of
-use Rattle.bag_output.specs.declared.outcome.Request.{Request}
-use Rattle.bag_source.specs.Openings.{OpensAgain}
-use Rattle.bag_source.specs.Source.{IsNext, MayStopFilling}
+use Rattle.bag_tree.specs.declared.tree_fault.Stop.{Stop}
+use Rattle.bag_facts.specs.declared.fault.Fault.{Fault}
+use Rattle.bag_walk.specs.declared.outcome.Outcome.{Outcome}
+use Rattle.bag_walk.specs.declared.outcome.Outcome.TheVariants as outcome_of
+use Rattle.bag_walk.specs.declared.outcome.Request.{Request}
+use Rattle.bag_walk.specs.Openings.{OpensAgain}
+use Rattle.bag_walk.specs.Source.{IsNext, MayStopFilling}
 use Rattle.bag_walk.specs.Segment.{ClosesSegment, EndsSegment, IfUnread, IsReached, IsRead, MayStopRun, MayStopWalk, StopsAt, StopsWalk, WritesCalmly, looked_past}
 use Rattle.bag_walk.specs.Stops.{IfStopped}
 use Rattle.bag_walk.specs.declared.segment.Segment.{Segment}

@@ -1,8 +1,8 @@
 -- The line that was written last.
 use Rattle.std.specs.Prelude.{zero, suc, ℕ, ◌≡◌, List, [], Option, None, Some, slice_get}
-use Rattle.bag_fault.specs.FaultOrder.{IsFault}
-use Rattle.bag_fault.specs.declared.fault.Fault.{Fault}
-use Rattle.bag_output.specs.Ending.{written_line}
+use Rattle.bag_facts.specs.FaultOrder.{IsFault}
+use Rattle.bag_facts.specs.declared.fault.Fault.{Fault}
+use Rattle.bag_walk.specs.Ending.{written_line}
 
 -- it is this fault's line, or nothing where there is none
 abbrev pub IsLastLine : Option Fault → List ℕ → Type 0

@@ -3,15 +3,15 @@ use Rattle.std.specs.Prelude.{ℕ, ◌-◌, ◌<◌, ◌≤◌, ◌≡◌, ◌++
 use Rattle.std.specs.Io.KnownBytes.{Appends}
 use Rattle.std.specs.List.{concat}
 use Rattle.bag_tree.specs.Tree.{TreeState, CameFromTree}
-use Rattle.bag_tree.specs.declared.fault.Stop.{Stop}
-use Rattle.bag_tree.specs.declared.fault.TreeFault.TheVariants.{Memory}
-use Rattle.bag_fault.specs.declared.fault.Fault.{Fault}
+use Rattle.bag_tree.specs.declared.tree_fault.Stop.{Stop}
+use Rattle.bag_tree.specs.declared.tree_fault.TreeFault.TheVariants.{Memory}
+use Rattle.bag_facts.specs.declared.fault.Fault.{Fault}
 use Rattle.bag_facts.specs.Stops.{IsOutOfMemory, MayRefuseFacts}
-use Rattle.bag_output.specs.Ending.{IsAnswered, IsCutAt, written}
-use Rattle.bag_output.specs.Writer.{WritesReport}
-use Rattle.bag_output.specs.declared.outcome.Outcome.{Outcome}
-use Rattle.bag_output.specs.declared.outcome.Request.{Request}
-use Rattle.bag_source.specs.Source.{MayStopFilling}
+use Rattle.bag_walk.specs.Ending.{IsAnswered, IsCutAt, written}
+use Rattle.bag_walk.specs.Writer.{WritesReport}
+use Rattle.bag_walk.specs.declared.outcome.Outcome.{Outcome}
+use Rattle.bag_walk.specs.declared.outcome.Request.{Request}
+use Rattle.bag_walk.specs.Source.{MayStopFilling}
 use Rattle.bag_walk.specs.declared.segment.Segment.{Segment}
 use Rattle.bag_walk.specs.declared.segment.SegmentEnd.{SegmentEnd}
 use Rattle.bag_walk.specs.declared.segment.SegmentEnd.TheVariants.{Full, AtEnd, Unread, Unwritten}

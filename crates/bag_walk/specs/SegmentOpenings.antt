@@ -5,12 +5,12 @@ use Rattle.bag_text.specs.Path.{is_payload_path}
 use Rattle.bag_text.specs.Text.{text_cmp}
 use Rattle.bag_tree.specs.Bag.{Bag, HasFile}
 use Rattle.bag_tree.specs.Tree.{TreeState}
-use Rattle.bag_fault.specs.declared.fault.Fault.{Fault}
+use Rattle.bag_facts.specs.declared.fault.Fault.{Fault}
 use Rattle.bag_facts.specs.declared.options.Depth.TheVariants.{Full}
 use Rattle.bag_facts.specs.declared.options.Options.{Options}
-use Rattle.bag_source.specs.Openings.{IsBeforeFile}
-use Rattle.bag_source.specs.Validity.{is_passed}
-use Rattle.bag_walk.specs.Openings.{IsListed}
+use Rattle.bag_walk.specs.Openings.{IsBeforeFile}
+use Rattle.bag_walk.specs.Validity.{is_passed}
+use Rattle.bag_walk.specs.RunOpenings.{IsListed}
 use Rattle.bag_walk.specs.declared.segment.SegmentEnd.{SegmentEnd}
 use Rattle.bag_walk.specs.declared.segment.SegmentEnd.TheVariants as end_of
 

@@ -4,18 +4,18 @@ use Rattle.std.specs.List.{concat}
 use Rattle.std.specs.List.Sorted.{IsStrictlySortedBy}
 use Rattle.std.specs.Io.KnownBytes.{Appends}
 use Rattle.bag_tree.specs.Tree.{TreeState, CameFromTree}
-use Rattle.bag_tree.specs.declared.fault.Stop.{Stop}
-use Rattle.bag_tree.specs.declared.fault.TreeFault.{TreeFault}
-use Rattle.bag_tree.specs.declared.fault.TreeFault.TheVariants.{Device, Special, Name, Memory}
-use Rattle.bag_fault.specs.FaultOrder.{fault_cmp}
-use Rattle.bag_fault.specs.declared.fault.Fault.{Fault}
+use Rattle.bag_tree.specs.declared.tree_fault.Stop.{Stop}
+use Rattle.bag_tree.specs.declared.tree_fault.TreeFault.{TreeFault}
+use Rattle.bag_tree.specs.declared.tree_fault.TreeFault.TheVariants.{Device, Special, Name, Memory}
+use Rattle.bag_facts.specs.FaultOrder.{fault_cmp}
+use Rattle.bag_facts.specs.declared.fault.Fault.{Fault}
 use Rattle.bag_facts.specs.Stops.{IsOfFile, MayRefuseFacts}
 use Rattle.bag_facts.specs.declared.options.Options.{Options}
 use Rattle.bag_profile.specs.Profile.{Profile}
 use Rattle.bag_report.specs.Report.{IsReport, above, first}
-use Rattle.bag_output.specs.Ending.{IsCutAt, ended, written}
-use Rattle.bag_output.specs.declared.outcome.Outcome.{Outcome}
-use Rattle.bag_output.specs.declared.outcome.Outcome.TheVariants.{Stopped, Unread, Unwritten}
+use Rattle.bag_walk.specs.Ending.{IsCutAt, ended, written}
+use Rattle.bag_walk.specs.declared.outcome.Outcome.{Outcome}
+use Rattle.bag_walk.specs.declared.outcome.Outcome.TheVariants.{Stopped, Unread, Unwritten}
 use Rattle.bag_walk.specs.Lines.{IsLastLine}
 use Rattle.bag_walk.specs.Segment.{IsSegment}
 use Rattle.bag_walk.specs.SegmentOpenings.{AreListed, OpensFew}

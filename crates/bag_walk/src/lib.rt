@@ -1,22 +1,56 @@
-//! Runs of a check: the faults of a bag, one line after the other.
+//! Runs of a check: the faults of a bag, found as they are asked for, one line after the other.
 //!
 //! ```
 //! let (tree, outcome) = run(alloc, tree, Some(&profile), request, &mut out);
 //! let exit = status(&outcome);
 //! ```
 //!
-//! What stands in the lines is said by `bag_report`, how faults are found one at a time by `bag_source`, and how lines are
-//! written by `bag_output`; a run says which of them are written, which files are opened before each, and how it ended.
-//! `run_segments` writes a report in segments, of which each goes on behind the last line that was written.
+//! A `Source` gives faults in their order, and opens a file only when its faults are asked for. Sources are put together by
+//! `Then`, one behind the other, and by `Merge`, both at once. A walk, `Steps`, owns a tree and a source of its bag, and gives
+//! one fault after the other; `Walk` is the walk over the report of a bag. After a refusal it has the same faults still to give,
+//! and asked again it begins with the file that was refused.
+//!
+//! A run says which lines are written, which files are opened before each, and how it ended. `run_segments` writes a report in
+//! segments, of which each goes on behind the last line that was written.
 #![tactic(auto)]
 
+mod ascending;
+mod closing;
+mod completeness;
+mod cursor;
+mod files;
+mod fixed;
 pub mod laws;
 mod lines;
+mod merge;
+mod next;
+mod outcome;
+mod queue;
+mod report_writer;
 mod runner;
 mod segment;
 mod segments;
+mod source;
+mod start;
+mod steps;
+mod then;
+mod to_sum;
+mod validity;
+mod walk;
+mod write;
 
-pub use bag_output::{Outcome, Request, status};
-pub use bag_source::{Completeness, Fixed, InOrder, Merge, Quiet, Source, Then, Validity, Walk};
+pub use closing::put_line;
+pub use completeness::Completeness;
+pub use cursor::copy_of_cursor;
+pub use fixed::Fixed;
+pub use merge::Merge;
+pub use outcome::{Outcome, Request, status};
+pub use report_writer::{close, end_of_report, fill_line};
 pub use runner::run;
 pub use segments::run_segments;
+pub use source::{InOrder, Quiet, Source};
+pub use start::{Sources, Walk};
+pub use steps::Steps;
+pub use then::Then;
+pub use validity::Validity;
+pub use write::{put_all, put_pieces};

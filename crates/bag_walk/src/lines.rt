@@ -1,12 +1,12 @@
 //! The lines that a report writes, of which the last is kept.
 ghost use Rattle.std.specs.Prelude.{◌≡◌, [], IfOk, OnOk, Option, string_bytes};
-ghost use Rattle.bag_fault.specs.FaultOrder.{IsFault};
-ghost use Rattle.bag_fault.specs.declared.fault.Fault.{Fault as Spoken};
-ghost use Rattle.bag_output.specs.Ending.{written_line};
+ghost use Rattle.bag_facts.specs.FaultOrder.{IsFault};
+ghost use Rattle.bag_facts.specs.declared.fault.Fault.{Fault as Spoken};
+ghost use Rattle.bag_walk.specs.Ending.{written_line};
 ghost use Rattle.bag_walk.specs.Lines.{IsLastLine};
 
-use bag_fault::laws::every_fault_is_one;
-use bag_output::fill_line;
+use crate::fill_line;
+use bag_facts::laws::every_fault_is_one;
 use bag_report::Fault;
 use std::alloc::{AllocError, Global};
 use std::mem;

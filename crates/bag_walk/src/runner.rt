@@ -3,21 +3,20 @@ ghost use Rattle.std.specs.Prelude.{◌≡◌, ℕ, List, Some, IsTrue, drop};
 ghost use Rattle.std.specs.Option.{option_copied};
 ghost use Rattle.bag_tree.specs.Bag.{Bag};
 ghost use Rattle.bag_tree.specs.Tree.{Keeps};
-ghost use Rattle.bag_fault.specs.declared.fault.Fault.{Fault as Spoken};
-ghost use Rattle.bag_output.specs.Ending.{limit_of};
-ghost use Rattle.bag_source.specs.Openings.{OpensAgain, OpensNoneBehind};
-ghost use Rattle.bag_source.specs.Source.{Sees};
-ghost use Rattle.bag_source.specs.Steps.{shown_by, to_give};
-ghost use Rattle.bag_walk.specs.Openings.{LooksNoFurther, OpensInRun, OpensInTurn, OpensListed, OpensNonePassed, StopsInTurn, written_before};
+ghost use Rattle.bag_facts.specs.declared.fault.Fault.{Fault as Spoken};
+ghost use Rattle.bag_walk.specs.Ending.{limit_of};
+ghost use Rattle.bag_walk.specs.Openings.{OpensAgain, OpensNoneBehind};
+ghost use Rattle.bag_walk.specs.Source.{Sees};
+ghost use Rattle.bag_walk.specs.Steps.{shown_by, to_give};
+ghost use Rattle.bag_walk.specs.RunOpenings.{LooksNoFurther, OpensInRun, OpensInTurn, OpensListed, OpensNonePassed, StopsInTurn, written_before};
 ghost use Rattle.bag_walk.specs.Run.{IsRun, IsRunByReport};
 ghost use Rattle.bag_walk.specs.Segment.{MayStopRun, WritesCalmly};
 ghost use Rattle.bag_walk.specs.Stops.{IfStopped};
 
 use crate::lines::Lines;
 use crate::segment::{close_segment, out_of_memory, write_faults};
-use bag_output::{Outcome, Request, close};
+use crate::{InOrder, Outcome, Request, Steps, Walk, close, copy_of_cursor};
 use bag_report::{Fault, Profile};
-use bag_source::{InOrder, Steps, Walk, copy_of_cursor};
 use bag_tree::{Out, Tree};
 use std::alloc::Global;
 

@@ -2,20 +2,19 @@
 ghost use Rattle.std.specs.Prelude.{◌≡◌, ℕ, List, Option, IsTrue, string_bytes};
 ghost use Rattle.bag_tree.specs.Bag.{Bag};
 ghost use Rattle.bag_tree.specs.Tree.{Keeps};
-ghost use Rattle.bag_fault.specs.declared.fault.Fault.{Fault as Spoken};
+ghost use Rattle.bag_facts.specs.declared.fault.Fault.{Fault as Spoken};
 ghost use Rattle.bag_facts.specs.Stops.{IsOutOfMemory};
-ghost use Rattle.bag_output.specs.Closing.{count_of};
-ghost use Rattle.bag_output.specs.Ending.{limit_of};
-ghost use Rattle.bag_source.specs.Openings.{OpensAgain, OpensNoneBehind};
-ghost use Rattle.bag_source.specs.Source.{Sees};
-ghost use Rattle.bag_source.specs.Steps.{shown_by, to_give};
+ghost use Rattle.bag_walk.specs.Closing.{count_of};
+ghost use Rattle.bag_walk.specs.Ending.{limit_of};
+ghost use Rattle.bag_walk.specs.Openings.{OpensAgain, OpensNoneBehind};
+ghost use Rattle.bag_walk.specs.Source.{Sees};
+ghost use Rattle.bag_walk.specs.Steps.{shown_by, to_give};
 ghost use Rattle.bag_walk.specs.Lines.{IsLastOf};
 ghost use Rattle.bag_walk.specs.Segment.{ClosesSegment, IfUnread, IsRead, IsSegment, MayStopWalk, StopsAt, still_to_come};
 ghost use Rattle.bag_walk.specs.Stops.{IfStopped};
 
 use crate::lines::Lines;
-use bag_output::{Outcome, Request, close, end_of_report, put_all};
-use bag_source::{InOrder, Steps};
+use crate::{InOrder, Outcome, Request, Steps, close, end_of_report, put_all};
 use bag_tree::{Out, Refused, Stop, Tree, TreeFault};
 use std::alloc::Global;
 

@@ -3,11 +3,11 @@ ghost use Rattle.std.specs.Prelude.{◌≡◌, ◌<◌, ◌≤◌, ◌+◌, ◌^
 ghost use Rattle.std.specs.Option.{option_copied};
 ghost use Rattle.bag_tree.specs.Bag.{Bag};
 ghost use Rattle.bag_tree.specs.Tree.{Keeps};
-ghost use Rattle.bag_fault.specs.declared.fault.Fault.{Fault as Spoken};
+ghost use Rattle.bag_facts.specs.declared.fault.Fault.{Fault as Spoken};
 ghost use Rattle.bag_report.specs.Report.{IsReport};
-ghost use Rattle.bag_source.specs.Openings.{OpensAgain, OpensNoneBehind};
-ghost use Rattle.bag_source.specs.Source.{Sees};
-ghost use Rattle.bag_source.specs.Steps.{shown_by, to_give};
+ghost use Rattle.bag_walk.specs.Openings.{OpensAgain, OpensNoneBehind};
+ghost use Rattle.bag_walk.specs.Source.{Sees};
+ghost use Rattle.bag_walk.specs.Steps.{shown_by, to_give};
 ghost use Rattle.bag_walk.specs.Lines.{IsLastLine, IsLastOf};
 ghost use Rattle.bag_walk.specs.Segment.{IfUnread, IsSegment, MayStopRun, still_to_come};
 ghost use Rattle.bag_walk.specs.SegmentOpenings.{AreListed, OpensInSegment};
@@ -16,9 +16,8 @@ ghost use Rattle.bag_walk.specs.Segments as spec;
 
 use crate::lines::Lines;
 use crate::segment::{Segment, SegmentEnd, out_of_memory, write_faults};
-use bag_output::{Outcome, end_of_report};
+use crate::{InOrder, Outcome, Steps, Walk, end_of_report};
 use bag_report::{Options, Profile};
-use bag_source::{InOrder, Steps, Walk};
 use bag_tree::{Out, Tree};
 use std::alloc::{AllocError, Global};
 

@@ -1,7 +1,6 @@
 //! What words of the command line ask for.
 use bag_arguments::{Action, Plan, Usage, plan_of};
-use bag_facts::Depth;
-use bag_fault::Fault;
+use bag_facts::{Depth, Fault};
 use bag_text::Alg;
 use case_files::{Mistake, words_of};
 use std::alloc::Global;

@@ -1,6 +1,6 @@
 //! What a row is read by.
 use crate::{plans, profiles, tag_files, texts, written};
-use bag_tags::Kind;
+use bag_read::Kind;
 use bag_text::{Alg, Rules};
 use case_files::Mistake;
 use std::alloc::Global;

@@ -1,5 +1,5 @@
 //! What tag files say.
-use bag_tags::{
+use bag_read::{
     Kind, LineFault, ManifestEntry, TagName, manifest_alg, read_declaration, read_fetch, read_info,
     read_manifest,
 };

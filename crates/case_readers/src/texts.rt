@@ -1,8 +1,8 @@
 //! What texts, lines, paths, codes, algorithms and patterns are.
-use bag_fault::Fault;
+use bag_facts::Fault;
 use bag_profile::matches;
+use bag_read::{Oxum, oxum_of};
 use bag_store::Digests;
-use bag_tags::{Oxum, oxum_of};
 use bag_text::{
     Alg, AlgSet, Code, Rules, check_path, escape_path, is_blank_line, is_payload, lines,
     same_label, split_at_blanks, text_of, trim, unescape_path,

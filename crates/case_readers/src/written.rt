@@ -1,7 +1,7 @@
 //! Tag files that are written.
-use bag_tags::Kind;
+use bag_read::Kind;
+use bag_tags::{WriteFault, write_info, write_manifest};
 use bag_text::{Alg, Text};
-use bag_write::{WriteFault, write_info, write_manifest};
 use case_files::Mistake;
 use std::alloc::Global;
 

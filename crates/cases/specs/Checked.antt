@@ -2,9 +2,9 @@
 use Rattle.std.specs.Prelude.{ℕ, ◌≡◌, List, [], Bool, Option, Some}
 use Rattle.bag_store.specs.Tree.{TreeState}
 use Rattle.bag_profile.specs.Profile.{Profile}
-use Rattle.bag_output.specs.Closing as spec
-use Rattle.bag_output.specs.declared.outcome.Outcome.{Outcome}
-use Rattle.bag_output.specs.declared.outcome.Request.{Request}
+use Rattle.bag_walk.specs.Closing as spec
+use Rattle.bag_walk.specs.declared.outcome.Outcome.{Outcome}
+use Rattle.bag_walk.specs.declared.outcome.Request.{Request}
 use Rattle.bag_walk.specs.Run.{IsRun}
 
 -- a run may write this, and end with this exit status

@@ -1,18 +1,17 @@
 //! Disks in memory for the program.
 ghost use Rattle.std.specs.Prelude.{◌≡◌, [], false, ⊤, IfOk};
 ghost use Rattle.bag_disk.specs.SystemDisk.{system_state};
-ghost use Rattle.bag_memory_disk.specs.MemoryDisk.{state_of};
+ghost use Rattle.test_disk.specs.MemoryDisk.{state_of};
 ghost use Rattle.cases.specs.Shelf.{IsUnopened};
 
 use crate::shelf_disk::ShelfDisk;
-use bag_cli::Disks;
+use bag_cli::{Disks, ReadFault};
 use bag_disk::DiskFault;
-use bag_disks::ReadFault;
-use bag_memory_disk::{Call, MemoryDisk, Node};
 use bag_text::Text;
 use case_files::{Folder, Sort, Spot, folder_of};
 use std::alloc::{AllocError, Global};
 use std::collections::BTreeMap;
+use test_disk::{Call, MemoryDisk, Node};
 
 /// A folder for each name, and files beside them. Of the disks one call is refused, where there is one.
 #[derive(Drop)]

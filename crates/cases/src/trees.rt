@@ -3,8 +3,7 @@ ghost use Rattle.std.specs.Prelude.{None};
 ghost use Rattle.bag_store.specs.Tree.{Keeps};
 ghost use Rattle.cases.specs.Checked.{IsChecked};
 
-use bag_cli::{Action, Plan};
-use bag_making::make_and_tell;
+use bag_cli::{Action, Plan, make_and_tell};
 use bag_store::{FailTree, FileEntry, Listing, MemoryTree, Tree, WriterOut, read_whole};
 use bag_text::{Text, check_path};
 use bag_walk::{Request, run, status};

@@ -1,7 +1,7 @@
 //! A plain reader of `fetch.txt` that tries each prefix of a line, by the rules of each version, over some hundred texts, and one of
 //! thousands of lines; and the paths that it reads in all short spellings.
 use crate::parts::combined;
-use bag_line::read_fetch;
+use bag_read::read_fetch;
 use bag_text::{Rules, trim, unescape_path};
 use std::alloc::Global;
 use std::process::Abort;

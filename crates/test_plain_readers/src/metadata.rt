@@ -1,7 +1,7 @@
 //! A plain reader of `bag-info.txt` that looks back from each line, by the rules of each version, over all metadata of four lines
 //! of eight sorts, over lines that are put together from parts, and over thousands of lines.
 use crate::parts::combined;
-use bag_line::read_info;
+use bag_read::read_info;
 use bag_text::{Rules, trim};
 use std::alloc::Global;
 use std::process::Abort;

@@ -1,16 +1,15 @@
 //! Trees that list what isn't there, and sizes that add up to more than 64 bits can hold.
-ghost use Rattle.bag_memory_disk.specs.MemoryDisk.{not_honest};
+ghost use Rattle.test_disk.specs.MemoryDisk.{not_honest};
 
 use crate::checks::{DECLARED, Files, checked, request_of, tree_of};
 use bag_disk::{Disk, DiskFault, Entry};
-use bag_file_tree::FileTree;
-use bag_memory_disk::{MemoryDisk, Node};
 use bag_report::{Depth, Options};
-use bag_store::{SkewTree, Tree};
+use bag_store::{FileTree, SkewTree, Tree};
 use bag_text::{Text, is_payload};
 use std::alloc::Global;
 use std::collections::BTreeMap;
 use std::process::Abort;
+use test_disk::{MemoryDisk, Node};
 
 /// How trees here are checked.
 fn options_of(depth: Depth) -> Options {

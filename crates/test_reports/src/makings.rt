@@ -2,8 +2,8 @@
 //! thousands of files.
 use crate::checks::{Files, opened, put_files, put_letters};
 use crate::series::{Parts, text_of};
+use bag_cli::{make_and_tell, put_making};
 use bag_make::MakeFault;
-use bag_making::{make_and_tell, put_making};
 use bag_store::{FailTree, MemoryTree, Tree, TreeFault, WriteTree, WriterOut, read_whole};
 use bag_text::{Alg, AlgSet, Text};
 use std::alloc::Global;

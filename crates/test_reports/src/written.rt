@@ -1,8 +1,8 @@
 //! Thousands of elements and entries that are written.
 use crate::series::text_of;
-use bag_tags::Kind;
+use bag_read::Kind;
+use bag_tags::{WriteFault, write_info, write_manifest};
 use bag_text::{Alg, Text};
-use bag_write::{WriteFault, write_info, write_manifest};
 use std::alloc::Global;
 use std::process::Abort;
 

@@ -1,11 +1,11 @@
 //! What stands at paths, disks in memory that hold it, and what trees list and read.
-use bag_memory_disk::{MemoryDisk, Node};
 use bag_store::{FileEntry, Listing, Tree, TreeFault, read_whole};
 use bag_text::Text;
 use std::alloc::Global;
 use std::collections::BTreeMap;
 use std::process::Abort;
 use std::str;
+use test_disk::{MemoryDisk, Node};
 
 /// What stands at a path of a table.
 #[derive(Clone, Copy)]

@@ -2,12 +2,12 @@
 use crate::held::{Held, Place, contents, disk};
 use crate::steps::{Name, Step, Trial, follow, take};
 use crate::trials::{DISK_TRIALS, REFUSED_TRIALS, SAMPLE, SAMPLE_HELD, TRIALS};
-use bag_memory_disk::{Call, RefusingDisk};
 use bag_store::{DiskFault, FailTree, FileTree, MemoryTree, TreeFault};
 use bag_text::check_path;
 use std::alloc::Global;
 use std::process::Abort;
 use std::str;
+use test_disk::{Call, RefusingDisk};
 
 /// Puts what stands at a path into a tree. One folder of the tables is empty; the others come with their files.
 fn put(stop: &impl Abort, tree: &mut MemoryTree, (path, held): Place) {

@@ -1,19 +1,17 @@
 //! The program over disks in memory.
 ghost use Rattle.std.specs.Prelude.{◌≡◌, None};
-ghost use Rattle.bag_memory_disk.specs.MemoryDisk.{fresh, state_of};
+ghost use Rattle.test_disk.specs.MemoryDisk.{fresh, state_of};
 
 use crate::checked;
 use crate::held::Held::{File, Folder};
 use crate::held::{Place, disk};
 use bag_arguments::plan_of;
-use bag_cli::{Disks, Folders, WriterOut, program};
-use bag_disks::ReadFault;
-use bag_memory_disk::MemoryDisk;
+use bag_cli::{Disks, Folders, ProfileRefusal, ReadFault, WriterOut, program, refuse_profile};
 use bag_profile::ProfileFault;
-use bag_profile_file::{ProfileRefusal, refuse_profile};
 use std::alloc::{AllocError, Global};
 use std::process::Abort;
 use std::str;
+use test_disk::MemoryDisk;
 
 /// What stands on a disk.
 const DECLARED: &[Place] = &[

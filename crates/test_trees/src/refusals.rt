@@ -1,9 +1,9 @@
 //! Disks that refuse.
 use crate::held::{Held, Place, disk, ends, listed, text_of};
-use bag_memory_disk::{Call, MemoryDisk, RefusingDisk};
 use bag_store::{DiskFault, FileTree, TreeFault};
 use std::alloc::Global;
 use std::process::Abort;
+use test_disk::{Call, MemoryDisk, RefusingDisk};
 
 const PLACES: &[Place] = &[(b"a", Held::Folder), (b"a/b", Held::File("b"))];
 

@@ -5,11 +5,11 @@ use crate::held::{Held, Place, disk};
 use bag_cli::WriterOut;
 use bag_disk::DiskFault;
 use bag_facts::{Depth, Options};
-use bag_file_tree::FileTree;
-use bag_memory_disk::{Call, RefusingDisk};
+use bag_store::FileTree;
 use bag_walk::{Outcome, run_segments};
 use std::alloc::Global;
 use std::process::Abort;
+use test_disk::{Call, RefusingDisk};
 
 /// Three files that hold `a`. One manifest gives the digest of `b` for each, and the other that of no bytes.
 const PLACES: &[Place] = &[

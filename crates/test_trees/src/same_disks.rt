@@ -1,16 +1,15 @@
 //! Honest disks with files, and the program over them.
 ghost use Rattle.std.specs.Prelude.{◌≡◌, List, None, ℕ};
 ghost use Rattle.bag_cli.specs.Told.{IsCheckOfOne, TellsReport};
-ghost use Rattle.bag_file_tree.specs.DiskBag.{bag_of};
-ghost use Rattle.bag_memory_disk.specs.MemoryDisk.{fresh, state_of};
+ghost use Rattle.bag_store.specs.DiskBag.{bag_of};
+ghost use Rattle.test_disk.specs.MemoryDisk.{fresh, state_of};
 
 use bag_cli::laws::honest_disks_are_told;
-use bag_cli::{Disks, Folders, Plan, perform};
-use bag_disks::ReadFault;
-use bag_memory_disk::MemoryDisk;
+use bag_cli::{Disks, Folders, Plan, ReadFault, perform};
 use bag_tree::Out;
 use std::alloc::{AllocError, Global};
 use std::io::Write;
+use test_disk::MemoryDisk;
 
 /// Disks that hold the same below each base folder, and no file beside them.
 #[derive(Drop)]

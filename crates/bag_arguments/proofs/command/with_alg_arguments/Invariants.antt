@@ -1,6 +1,6 @@
 use Rattle.std.proofs.Common.{◌≡◌, fold, take}
 use Rattle.bag_text.specs.Alg.{name}
-use Rattle.bag_words.specs.declared.alg.Alg.{Alg}
+use Rattle.bag_text.specs.declared.alg.Alg.{Alg}
 use Rattle.clap.specs.Words.{App, app_of, with_rule}
 use Rattle.bag_arguments.specs.Arguments.{flag}
 use Rattle.bag_arguments.proofs.command.with_alg_arguments.Given as goal

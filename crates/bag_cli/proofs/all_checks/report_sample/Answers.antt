@@ -2,8 +2,8 @@ use Rattle.std.proofs.Common.{rules, ◌≡◌, ℕ, ◌∷◌, [], List, Option
 use Rattle.std.specs.Prelude.{MatchResult, codes, unwrap_or}
 use Rattle.std.specs.declared.result.Result.{Result}
 use Rattle.std.specs.declared.result.Result.TheVariants.{Ok, Err}
-use Rattle.bag_disks.specs.Visits.{Event}
-use Rattle.bag_output.specs.declared.outcome.Outcome.{Outcome}
+use Rattle.bag_cli.specs.Visits.{Event}
+use Rattle.bag_walk.specs.declared.outcome.Outcome.{Outcome}
 use Rattle.bag_arguments.specs.declared.plan.Plan.{Plan}
 use Rattle.bag_cli.specs.Checked.{AreCalm, AreChecksOf, IsCheckOfSample, IsVisitToCheck, visit_of}
 use Rattle.bag_cli.specs.Sample.{sample_state}

@@ -1,7 +1,7 @@
 use Rattle.std.proofs.Common.{ap}
 use Rattle.std.specs.Option.{option_copied}
-use Rattle.bag_disks.specs.Folders.{disks_of, visits_of}
-use Rattle.bag_file_tree.specs.FileTree.{state_after, tree_state}
+use Rattle.bag_cli.specs.Folders.{disks_of, visits_of}
+use Rattle.bag_store.specs.FileTree.{state_after, tree_state}
 use Rattle.bag_cli.proofs.Checks.{check_of_run, visited_run}
 use Rattle.bag_cli.proofs.check.check_folder.Goals as goal
 

@@ -1,10 +1,10 @@
 use Rattle.std.proofs.Common.{◌≡◌, inl, inr, ◌++◌, ℕ, List, Option, Ok, IsTrue, map, sym, ap, ◌∙◌, subst, append-nil, arith}
 use Rattle.bag_disk.specs.Disk.{DiskState}
-use Rattle.bag_disks.specs.Visits.{Event}
-use Rattle.bag_file_tree.specs.DiskBag.{bag_of}
-use Rattle.bag_file_tree.specs.FileTree.{tree_state}
-use Rattle.bag_making.specs.Honest.{HonestFoldersAreTold}
-use Rattle.bag_making.specs.Making.{IsMaking}
+use Rattle.bag_cli.specs.Visits.{Event}
+use Rattle.bag_store.specs.DiskBag.{bag_of}
+use Rattle.bag_store.specs.FileTree.{tree_state}
+use Rattle.bag_cli.specs.Honest.{HonestFoldersAreTold}
+use Rattle.bag_cli.specs.Making.{IsMaking}
 use Rattle.bag_arguments.specs.declared.plan.Plan.{Plan}
 use Rattle.bag_cli.specs.Makings.{IsWholeMaking, element_of}
 use Rattle.bag_cli.specs.Told.{TellsMade}

@@ -1,5 +1,5 @@
 use Rattle.std.proofs.Common.{◌≡◌, ◌++◌, ◌∷◌, [], true, false, refl, sym, ap, ◌∙◌}
-use Rattle.bag_tags.specs.ManifestName.{manifest_name}
+use Rattle.bag_read.specs.ManifestName.{manifest_name}
 use Rattle.bag_stages.specs.FaultFields.{of_whole}
 use Rattle.bag_conformance.proofs.FaultSets.{all_items, one_more, one_other}
 use Rattle.bag_conformance.proofs.Manifests.{lacking_all, lacking_fault, listed_as, IsLacking}

@@ -1,5 +1,5 @@
 use Rattle.std.proofs.Common.{◌≡◌, ◌++◌, ◌∷◌, [], true, false, refl, sym, ◌∙◌}
-use Rattle.bag_words.specs.declared.code.Code.TheVariants.{TagFileNotAllowed}
+use Rattle.bag_text.specs.declared.code.Code.TheVariants.{TagFileNotAllowed}
 use Rattle.bag_facts.specs.TagReader.{AreListed}
 use Rattle.bag_conformance.specs.NotAllowed.{IsOtherTagFile}
 use Rattle.bag_conformance.proofs.FaultSets.{all_items, one_more, one_other}

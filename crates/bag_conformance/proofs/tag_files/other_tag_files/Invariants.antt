@@ -1,5 +1,5 @@
 use Rattle.std.proofs.Common.{take}
-use Rattle.bag_words.specs.declared.code.Code.TheVariants.{TagFileNotAllowed}
+use Rattle.bag_text.specs.declared.code.Code.TheVariants.{TagFileNotAllowed}
 use Rattle.bag_conformance.specs.ConformanceFaults.{AreAll}
 use Rattle.bag_conformance.specs.NotAllowed.{IsOtherTagFile}
 use Rattle.bag_conformance.proofs.FaultSets.{FaultsOf}

@@ -1,6 +1,6 @@
 use Rattle.std.proofs.Common.{◌≡◌, inl, inr, refl, subst}
 use Rattle.bag_text.specs.Rules.{rules_of}
-use Rattle.bag_declaration.specs.Declaration.{declared_version}
+use Rattle.bag_read.specs.Declaration.{declared_version}
 use Rattle.bag_facts.proofs.facts.rules_read.Goals as goal
 
 pub returns-in-Some : goal.returns-in-Some

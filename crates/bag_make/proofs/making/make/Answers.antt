@@ -1,9 +1,9 @@
 use Rattle.std.proofs.Common.{IsTrue}
 use Rattle.std.proofs.lemmas.Result.{on_ok_weaker, IfErr-weaker}
-use Rattle.bag_write.proofs.DeclarationReadAgain.{declaration_again}
-use Rattle.bag_write.proofs.InfoReadAgain.{info_again}
-use Rattle.bag_write.proofs.ManifestReadAgain.{manifest_again}
-use Rattle.bag_made.proofs.NoFault.{made_is_valid}
+use Rattle.bag_tags.proofs.DeclarationReadAgain.{declaration_again}
+use Rattle.bag_tags.proofs.InfoReadAgain.{info_again}
+use Rattle.bag_tags.proofs.ManifestReadAgain.{manifest_again}
+use Rattle.bag_make.proofs.NoFault.{made_is_valid}
 use Rattle.bag_make.specs.Make.{Leaves, MayRefuseMaking}
 use Rattle.bag_make.proofs.Made.{made_has_no_fault, leaves_bag}
 use Rattle.bag_make.proofs.making.make.Goals as goal

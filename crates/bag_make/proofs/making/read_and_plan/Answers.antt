@@ -2,7 +2,7 @@ use Rattle.std.proofs.Common.{◌∙◌, ◌++◌, ap, sym, subst}
 use Rattle.bag_tree.specs.Bag.{files_of}
 use Rattle.bag_tree.specs.Listing.{IsListingOf}
 use Rattle.bag_facts.specs.Wanted.{paths_of}
-use Rattle.bag_made.specs.Made.{new_payload}
+use Rattle.bag_make.specs.Made.{new_payload}
 use Rattle.bag_make.specs.Stops.{StopsSumming}
 use Rattle.bag_make.specs.Summed.{AreSummed, AreSummedFiles, OpensFirstOf}
 use Rattle.bag_make.proofs.ReadFolder.{files_are, opens_folder, opened_folder, files_refused}

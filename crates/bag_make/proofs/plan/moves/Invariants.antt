@@ -1,5 +1,5 @@
 use Rattle.std.proofs.Common.{◌≡◌, ◌∷◌, map, take}
-use Rattle.bag_write.specs.Distinct.{texts_of}
+use Rattle.bag_tags.specs.Distinct.{texts_of}
 use Rattle.bag_make.specs.declared.step.Step.TheVariants.{MakeFolder, MoveIn}
 use Rattle.bag_make.proofs.plan.moves.Given as goal
 

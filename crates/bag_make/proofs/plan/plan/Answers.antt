@@ -3,8 +3,8 @@ use Rattle.std.proofs.lemmas.Bool.{not-true}
 use Rattle.bag_text.specs.Path.{is_base_name, is_path}
 use Rattle.bag_tree.specs.Bag.{files_of, has_folder}
 use Rattle.bag_tree.specs.declared.listing.FileEntry.{FileEntry}
-use Rattle.bag_write.specs.Distinct.{texts_of}
-use Rattle.bag_made.specs.Made.{File, data_folder}
+use Rattle.bag_tags.specs.Distinct.{texts_of}
+use Rattle.bag_make.specs.Made.{File, data_folder}
 use Rattle.bag_make.specs.Plan.{has_new, listed_tops, new_file, steps_for, tops}
 use Rattle.bag_make.specs.Steps.{IsStep}
 use Rattle.bag_make.specs.declared.step.Step.TheVariants.{MakeFolder, MoveIn, Rename}

@@ -1,7 +1,6 @@
-use Rattle.std.proofs.Common.{sym, subst}
+use Rattle.std.proofs.Common.{sym, subst, take, ◌+◌}
 use Rattle.bag_make.specs.Summed.{AreSummed}
 use Rattle.bag_make.proofs.Summing.{sums_more}
-use Rattle.std.proofs.Common.{take, ◌+◌}
 use Rattle.bag_make.proofs.summed.sum_tag_files.Goals as goal
 
 pub loop-file-preserved : goal.loop-file-preserved

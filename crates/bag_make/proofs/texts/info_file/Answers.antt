@@ -1,7 +1,7 @@
 use Rattle.std.proofs.Common.{◌≡◌, ◌++◌, ◌∷◌, ◌∙◌, [], List, ap}
 use Rattle.bag_stages.specs.MetadataStage.{oxum_label}
 use Rattle.bag_stages.specs.Payload.{oxum_text}
-use Rattle.bag_write.specs.Element.{NewElement, info_text}
+use Rattle.bag_tags.specs.Element.{NewElement, info_text}
 use Rattle.bag_make.specs.Texts.{size_of}
 use Rattle.bag_make.proofs.texts.info_file.Goals as goal
 

@@ -1,5 +1,5 @@
 use Rattle.std.proofs.Common.{◌≡◌, map, take, string_bytes}
-use Rattle.bag_write.specs.Entry as entry
+use Rattle.bag_tags.specs.Entry as entry
 use Rattle.bag_make.specs.Summed.{summed_entry}
 use Rattle.bag_make.proofs.texts.manifest.Given as goal
 

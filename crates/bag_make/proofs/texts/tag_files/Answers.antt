@@ -1,6 +1,6 @@
 use Rattle.std.proofs.Common.{◌∙◌, ◌++◌, ap, subst}
 use Rattle.std.specs.List.{swap}
-use Rattle.bag_tags.specs.declared.kind.Kind.TheVariants.{Tag}
+use Rattle.bag_read.specs.declared.kind.Kind.TheVariants.{Tag}
 use Rattle.bag_make.specs.Summed.{AreSummed}
 use Rattle.bag_make.specs.Texts.{manifests_of, named_of}
 use Rattle.bag_make.proofs.Composed.{tag_files_are}

@@ -1,6 +1,6 @@
 use Rattle.std.proofs.Common.{◌≡◌, map, take}
 use Rattle.bag_text.specs.Path as spec
-use Rattle.bag_write.specs.Distinct.{texts_of}
+use Rattle.bag_tags.specs.Distinct.{texts_of}
 use Rattle.bag_make.proofs.tops.first_components.Given as goal
 
 abbrev pub invariant-loop-entry : goal.invariant-loop-entry

@@ -3,8 +3,8 @@ use Rattle.std.specs.Cmp.Lexicographic.{nat_list_cmp_total}
 use Rattle.std.proofs.lemmas.List.Filters.{dedup_is}
 use Rattle.bag_text.proofs.ListOf.{one_list}
 use Rattle.bag_text.specs.Text.{text_cmp}
-use Rattle.bag_write.specs.Distinct.{texts_of}
-use Rattle.bag_completeness.proofs.PayloadNames.{sorted_listed}
+use Rattle.bag_tags.specs.Distinct.{texts_of}
+use Rattle.bag_stages.proofs.PayloadNames.{sorted_listed}
 use Rattle.bag_make.specs.Plan as plan
 use Rattle.bag_make.proofs.TopsInOrder.{listed_in_order}
 use Rattle.bag_make.proofs.tops.in_order.Goals as goal

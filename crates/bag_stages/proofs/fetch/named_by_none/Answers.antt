@@ -1,7 +1,7 @@
 use Rattle.std.proofs.Common.{◌≡◌, ◌∷◌, [], None, false, true, sym, ◌∙◌, subst, append-nil}
 use Rattle.std.specs.Ordering.{nat_cmp, on}
 use Rattle.bag_text.specs.Order.{IsListOf}
-use Rattle.bag_fault.specs.FaultOrder.{fault_cmp}
+use Rattle.bag_facts.specs.FaultOrder.{fault_cmp}
 use Rattle.bag_stages.specs.FetchFaults.{not_in_manifest, IsNamedByNone, IsNamedByNoneAmong}
 use Rattle.bag_stages.proofs.ByItem.{no_items, one_item_more}
 use Rattle.bag_stages.proofs.ByPath.{take_whole}

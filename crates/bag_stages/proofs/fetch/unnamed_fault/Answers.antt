@@ -1,4 +1,4 @@
-use Rattle.bag_words.specs.declared.code.Code.TheVariants.{FetchNotInManifest}
+use Rattle.bag_text.specs.declared.code.Code.TheVariants.{FetchNotInManifest}
 use Rattle.bag_stages.proofs.fetch.unnamed_fault.Goals as goal
 
 pub returns : goal.returns

@@ -1,7 +1,7 @@
 use Rattle.std.proofs.Common.{◌≡◌, ◌≢◌, take}
 use Rattle.bag_text.specs.Order.{IsListOf}
 use Rattle.bag_tree.specs.Bag.{Bag}
-use Rattle.bag_fault.specs.FaultOrder.{fault_cmp}
+use Rattle.bag_facts.specs.FaultOrder.{fault_cmp}
 use Rattle.bag_facts.specs.Facts.{IsFactsOf}
 use Rattle.bag_facts.specs.declared.options.Depth.TheVariants.{Declaration}
 use Rattle.bag_stages.specs.FetchFaults.{AreFetched, IsNotInManifest}

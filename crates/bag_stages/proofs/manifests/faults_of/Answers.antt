@@ -1,6 +1,6 @@
 use Rattle.std.proofs.Common.{sym, subst}
 use Rattle.bag_text.specs.Order.{IsListOf}
-use Rattle.bag_fault.specs.FaultOrder.{fault_cmp}
+use Rattle.bag_facts.specs.FaultOrder.{fault_cmp}
 use Rattle.bag_facts.specs.Wanted.{paths_of}
 use Rattle.bag_stages.specs.ManifestFaults.{IsUnnamedBy}
 use Rattle.bag_stages.proofs.ManifestFaults.{lines_listed, read_payload_manifest, read_tag_manifest}

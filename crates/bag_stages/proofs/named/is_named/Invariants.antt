@@ -1,5 +1,5 @@
 use Rattle.std.proofs.Common.{◌≢◌}
-use Rattle.bag_tags.specs.declared.kind.Kind.TheVariants.{Payload}
+use Rattle.bag_read.specs.declared.kind.Kind.TheVariants.{Payload}
 use Rattle.bag_tree.specs.Bag.{Bag}
 use Rattle.bag_facts.specs.Facts.{IsFactsOf}
 use Rattle.bag_facts.specs.declared.options.Depth.TheVariants.{Declaration}

@@ -2,7 +2,7 @@ use Rattle.std.proofs.Common.{◌≡◌, ◌++◌, [], sym, subst, append-nil}
 use Rattle.std.specs.Option.{option_to_list}
 use Rattle.bag_text.specs.Order.{IsListOf}
 use Rattle.bag_text.proofs.ListOf.{nothing_listed, contains_nothing}
-use Rattle.bag_fault.specs.FaultOrder.{fault_cmp}
+use Rattle.bag_facts.specs.FaultOrder.{fault_cmp}
 use Rattle.bag_facts.specs.Wanted.{paths_of}
 use Rattle.bag_stages.specs.FileFaults.{IsFileFault, IsFaultAmong}
 use Rattle.bag_stages.proofs.ByPath.{take_whole, one_fault_more}

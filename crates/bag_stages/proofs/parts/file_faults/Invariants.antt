@@ -3,7 +3,7 @@ use Rattle.std.specs.List.Sorted.{IsStrictlySortedBy}
 use Rattle.bag_text.specs.Order.{IsListOf}
 use Rattle.bag_text.specs.Text.{text_cmp}
 use Rattle.bag_tree.specs.Bag.{Bag}
-use Rattle.bag_fault.specs.FaultOrder.{fault_cmp}
+use Rattle.bag_facts.specs.FaultOrder.{fault_cmp}
 use Rattle.bag_facts.specs.Wanted.{paths_of}
 use Rattle.bag_stages.specs.FileFaults.{AreTagsOf, IsFaultAmong}
 use Rattle.bag_stages.proofs.parts.file_faults.Given as goal

@@ -1,7 +1,7 @@
 use Rattle.std.proofs.Common.{◌≡◌, ◌∙◌, ap, IsTrue, min, ◌-◌}
-use Rattle.bag_output.specs.Ending.{limit_of}
-use Rattle.bag_source.specs.Steps.{shown_by, to_give}
-use Rattle.bag_walk.specs.Openings.{written_before}
+use Rattle.bag_walk.specs.Ending.{limit_of}
+use Rattle.bag_walk.specs.Steps.{shown_by, to_give}
+use Rattle.bag_walk.specs.RunOpenings.{written_before}
 use Rattle.bag_walk.specs.Segment.{looked_past}
 use Rattle.bag_walk.proofs.Walked.{calmly, looked_before, stopped_run}
 use Rattle.bag_walk.proofs.runner.run_of_walk.Goals as goal

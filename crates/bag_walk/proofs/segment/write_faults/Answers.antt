@@ -3,11 +3,11 @@ use Rattle.std.proofs.lemmas.List.{length-append}
 use Rattle.std.specs.Io.KnownBytes.{Appends}
 use Rattle.std.specs.Option.{option_copied}
 use Rattle.bag_facts.proofs.Reading.{keeps_itself, keeps_on}
-use Rattle.bag_output.specs.Write.{IsCut}
-use Rattle.bag_output.proofs.Writing.{Appends-nil}
-use Rattle.bag_source.specs.Source.{rest_of}
-use Rattle.bag_source.specs.Steps.{shown_by, to_give}
-use Rattle.bag_source.proofs.Filling.{some_opened}
+use Rattle.bag_walk.specs.Write.{IsCut}
+use Rattle.bag_walk.proofs.Writing.{Appends-nil}
+use Rattle.bag_walk.specs.Source.{rest_of}
+use Rattle.bag_walk.specs.Steps.{shown_by, to_give}
+use Rattle.bag_walk.proofs.Filling.{some_opened}
 use Rattle.bag_walk.proofs.LastLines.{last_given}
 use Rattle.bag_walk.proofs.SegmentLines.{again_on, behind_now, ends_at_end, ends_unread, ends_unwritten, last_is, left_at, left_at_end, left_is, none_opened, once, one_line_more, opens_nothing, opens_on, sees_now, stops_now}
 use Rattle.bag_walk.proofs.segment.write_faults.Goals as goal

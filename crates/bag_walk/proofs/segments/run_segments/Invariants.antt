@@ -2,7 +2,7 @@ use Rattle.std.proofs.Common.{◌≡◌, ◌≤◌, List, take, IsTrue, string_b
 use Rattle.std.specs.List.{sum}
 use Rattle.std.specs.Option.{option_copied}
 use Rattle.bag_tree.specs.Tree.{Keeps}
-use Rattle.bag_fault.specs.declared.fault.Fault.{Fault}
+use Rattle.bag_facts.specs.declared.fault.Fault.{Fault}
 use Rattle.bag_report.specs.Report.{IsReport}
 use Rattle.bag_walk.specs.Segments.{IsStopped}
 use Rattle.bag_walk.proofs.SegmentSteps.{SoFar}

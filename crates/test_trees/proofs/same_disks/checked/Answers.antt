@@ -1,8 +1,8 @@
 use Rattle.std.proofs.Common.{◌≡◌, ℕ, List, Option, None, refl, subst}
 use Rattle.bag_tree.specs.Tree.{TreeState}
 use Rattle.bag_disk.specs.Disk.{DiskState}
-use Rattle.bag_file_tree.specs.FileTree.{tree_state}
-use Rattle.bag_memory_disk.specs.MemoryDisk.{fresh, state_of}
+use Rattle.bag_store.specs.FileTree.{tree_state}
+use Rattle.test_disk.specs.MemoryDisk.{fresh, state_of}
 use Rattle.bag_arguments.specs.declared.plan.Action.{Action}
 use Rattle.bag_cli.specs.Checked.{AreChecksOf}
 use Rattle.bag_cli.specs.Performed.{IsChecked, IsDoneBy, IsPerformed}

@@ -1,5 +1,5 @@
-use Rattle.bag_disks.specs.Folders.{disks_of, visits_of}
-use Rattle.bag_file_tree.specs.FileTree.{tree_state}
+use Rattle.bag_cli.specs.Folders.{disks_of, visits_of}
+use Rattle.bag_store.specs.FileTree.{tree_state}
 use Rattle.bag_cli.proofs.Makings.{visited_making}
 use Rattle.bag_cli.proofs.all_makings.Makings.make_one.Goals as goal
 

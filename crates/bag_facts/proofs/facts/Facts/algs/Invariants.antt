@@ -1,6 +1,6 @@
 use Rattle.std.proofs.Common.{take}
-use Rattle.bag_tags.specs.TagName.{tag_path}
-use Rattle.bag_tags.specs.declared.tag_name.TagName.TheVariants.{Manifest}
+use Rattle.bag_read.specs.TagName.{tag_path}
+use Rattle.bag_read.specs.declared.tag_name.TagName.TheVariants.{Manifest}
 use Rattle.bag_tree.specs.Bag.{Bag, HasFile}
 use Rattle.bag_facts.specs.Facts.{IsFactsOf}
 use Rattle.bag_facts.proofs.AlgsOf.{AreThose}

@@ -1,6 +1,6 @@
 use Rattle.std.proofs.Common.{◌≡◌, refl, subst, ◌↔◌, IsTrue, Any}
-use Rattle.bag_words.specs.declared.code.Code.TheVariants.{NotUtf8}
-use Rattle.bag_line.specs.Fetch.{FetchFault}
+use Rattle.bag_text.specs.declared.code.Code.TheVariants.{NotUtf8}
+use Rattle.bag_read.specs.Fetch.{FetchFault}
 use Rattle.bag_facts.proofs.TextTold.{text_told}
 use Rattle.bag_facts.proofs.fetch_list.FetchList.parse.Goals as goal
 

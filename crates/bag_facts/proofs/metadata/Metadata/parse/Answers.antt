@@ -1,6 +1,6 @@
 use Rattle.std.proofs.Common.{◌≡◌, refl, subst, ◌↔◌, IsTrue, Any}
-use Rattle.bag_words.specs.declared.code.Code.TheVariants.{NotUtf8}
-use Rattle.bag_line.specs.Info.{InfoFault}
+use Rattle.bag_text.specs.declared.code.Code.TheVariants.{NotUtf8}
+use Rattle.bag_read.specs.Info.{InfoFault}
 use Rattle.bag_facts.proofs.TextTold.{text_told}
 use Rattle.bag_facts.proofs.metadata.Metadata.parse.Goals as goal
 

@@ -1,6 +1,6 @@
 use Rattle.std.proofs.Common.{◌≡◌}
 use Rattle.bag_memory.specs.Memory.{bag_of, file_map}
-use Rattle.bag_write_tree.specs.Steps.{make_folder}
+use Rattle.bag_tree.specs.Steps.{make_folder}
 use Rattle.bag_memory.proofs.Changed.{memory_changed, count_made}
 use Rattle.bag_memory.proofs.InMemory.{folder_put_passes, text_name_of}
 use Rattle.bag_memory.proofs.memory_tree.MemoryTreeWriteTree.make_folder.Goals as goal

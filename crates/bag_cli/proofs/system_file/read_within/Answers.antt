@@ -1,0 +1,19 @@
+use Rattle.std.proofs.Common.{◌≡◌, ◌≤◌, ◌+◌, ◌++◌, ◌∙◌, [], Option, None, Some, List, ℕ, length, take, ap, arith}
+use Rattle.std.proofs.lemmas.Grind.{common_steps}
+use Rattle.std.specs.Prelude.{IfSome}
+use Rattle.std.specs.Option.{option_map}
+use Rattle.bag_cli.proofs.system_file.read_within.Goals as goal
+
+-- what is shorter than the bytes that were asked for is all
+whole : (left bytes : List ℕ) (most : ℕ) → bytes ≡ take (most + 1) left → length bytes ≤ most → bytes ≡ left
+whole left bytes most is within = grind (arith, common_steps)
+
+all_left : (left : Option (List ℕ)) (start bytes : List ℕ) (limit most : ℕ) → IfSome (option_map (take limit) left) (λ taken. bytes ≡ start ++ taken) → start ≡ []
+    → limit ≡ most + 1 → length bytes ≤ most → IfSome left (λ left. bytes ≡ left)
+all_left None start bytes limit most is empty next within = tt
+all_left (Some left) start bytes limit most is empty next within = whole left bytes most (is ∙ ap (λ front. front ++ take limit left) empty ∙ ap (λ n. take n left) next) within
+
+pub returns-then-len-most-clause-whole : goal.returns-then-len-most-clause-whole
+returns-then-len-most-clause-whole g c =
+    all_left _ _ _ _ c.args.most (rw (c.in_ok-answer_of.ensures, c.take.ensures.inner) at c.read_to_end.ensures.bytes) c.new-bytes.ensures.items
+    (omega (arith, c.take.ensures.limit, c.from-most.ensures)) (omega (arith, c.if-len-most.true, c.len.ensures, c.from-most.ensures, c.read_to_end.new.buf.ok.0))

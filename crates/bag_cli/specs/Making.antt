@@ -1,0 +1,38 @@
+-- Making a folder a bag, and what is told of it.
+use Rattle.std.specs.Prelude.{ℕ, ◌≡◌, ◌⊎◌, ◌≤◌, Bool, true, IsTrue, List, [], Option, Result, MatchResult, IfErr, OnOk}
+use Rattle.std.specs.List.{list_any}
+use Rattle.std.specs.Io.KnownBytes.{Appends}
+use Rattle.bag_text.specs.declared.alg.Alg.{Alg}
+use Rattle.bag_tree.specs.Tree.{TreeState}
+use Rattle.bag_tree.specs.declared.out.Refused.{Refused}
+use Rattle.bag_tags.specs.Element.{NewElement}
+use Rattle.bag_walk.specs.Write.{IsCut}
+use Rattle.bag_make.specs.Valid.{is_refused}
+use Rattle.bag_make.specs.Make.{CanTell, HasMade, HasNoFault, Leaves, MayRefuseMaking}
+use Rattle.bag_make.specs.Reading.{OpensFolder}
+use Rattle.bag_make.specs.declared.fault.MakeFault.{MakeFault}
+use Rattle.bag_cli.specs.MakingLine.{line, status}
+
+-- all that is promised of making a bag of a folder
+pub record IsMake (algs : List Alg) (info : List NewElement) (old new : TreeState) (made : Result (Unit {0}) MakeFault) : Type 0 where
+  pub honest : new.honest ≡ old.honest
+  pub failures : old.failures ≤ new.failures
+  pub untouched : (algs ≡ []) ⊎ (list_any is_refused info ≡ true) → new ≡ old
+  pub made_bag : OnOk made (HasMade algs info old new)
+  pub valid : OnOk made (IsTrue old.honest → CanTell old.bag → HasNoFault new.bag)
+  pub opens : OpensFolder old new
+  pub refused : IfErr made (MayRefuseMaking algs info old new)
+  pub leaves : IfErr made (λ fault. IsTrue old.honest → Leaves algs info old.bag new.bag fault)
+
+-- the output took the line, and this is the status; or it refused, and took a proper prefix
+abbrev pub Tells : List ℕ → Result (Unit {0}) MakeFault → Bool → Option (List ℕ) → Option (List ℕ) → Bool → Result ℕ Refused → Type 0
+Tells name made quiet before after refused told =
+    MatchResult told
+    (λ n. (n ≡ status made) × Appends before after (line name made quiet))
+    (λ _. IsCut before after (line name made quiet) × (refused ≡ true))
+
+-- the folder was made a bag, or it wasn't, and that was told under this name
+pub record IsMaking (name : List ℕ) (algs : List Alg) (info : List NewElement) (quiet : Bool) (old new : TreeState) (before after : Option (List ℕ)) (refused : Bool) (told : Result ℕ Refused) : Type 0 where
+  pub made : Result (Unit {0}) MakeFault
+  pub make : IsMake algs info old new made
+  pub tells : Tells name made quiet before after refused told

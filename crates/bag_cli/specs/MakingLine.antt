@@ -1,0 +1,48 @@
+-- The line that says how making a bag went, and the exit status.
+use Rattle.std.specs.Prelude.{ℕ, Bool, List, [], ◌++◌, Result, codes, decimal, if◌then◌else◌}
+use Rattle.std.specs.declared.result.Result.TheVariants.{Ok, Err}
+use Rattle.bag_tree.specs.Cause.{word}
+use Rattle.bag_tree.specs.declared.tree_fault.Stop.{Stop}
+use Rattle.bag_tree.specs.declared.tree_fault.TreeFault.{TreeFault}
+use Rattle.bag_facts.specs.FaultLine.{field}
+use Rattle.bag_make.specs.declared.fault.MakeFault.{MakeFault}
+use Rattle.bag_make.specs.declared.fault.MakeFault.TheVariants.{NoAlgorithm, InTheWay, BadValue, ReadStopped, Memory, StepRefused}
+
+-- a file, none where it is the listing, and why it couldn't be read
+abbrev pub stopped_at : Stop → List ℕ
+stopped_at stop = field stop.path ++ (codes " " ++ word stop.cause)
+
+-- what couldn't be read
+abbrev pub unread : Stop → List ℕ
+unread stop = codes "read " ++ stopped_at stop
+
+-- the step that was refused, from 1, and the cause
+abbrev pub refused_step : ℕ → TreeFault → List ℕ
+refused_step place cause = codes "step " ++ (decimal place ++ (codes " " ++ word cause))
+
+-- why a bag wasn't made
+abbrev pub reason : MakeFault → List ℕ
+reason NoAlgorithm = codes "no algorithm"
+reason InTheWay = codes ".bagit-new is there"
+reason BadValue = codes "bad value"
+reason (ReadStopped stop) = unread stop
+reason Memory = codes "out of memory"
+reason (StepRefused place cause) = refused_step place cause
+
+-- the bag of this name was made
+abbrev pub made : List ℕ → List ℕ
+made name = field name ++ codes " made\n"
+
+-- the bag of this name wasn't made, for this reason
+abbrev pub not_made : List ℕ → List ℕ → List ℕ
+not_made name why = field name ++ (codes " not made: " ++ (why ++ codes "\n"))
+
+-- the line with its end; of a quiet making nothing where the bag was made
+abbrev pub line : List ℕ → Result (Unit {0}) MakeFault → Bool → List ℕ
+line name (Ok _) quiet = if quiet then [] else made name
+line name (Err fault) quiet = not_made name (reason fault)
+
+-- the exit status
+abbrev pub status : Result (Unit {0}) MakeFault → ℕ
+status (Ok _) = 0
+status (Err fault) = 3

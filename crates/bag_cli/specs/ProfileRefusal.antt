@@ -1,0 +1,30 @@
+-- What the program says where there is no profile, and its exit status.
+use Rattle.std.specs.Prelude.{ℕ, ◌++◌, List, codes}
+use Rattle.bag_cli.specs.declared.read_fault.ReadFault.{ReadFault}
+use Rattle.bag_cli.specs.declared.read_fault.ReadFault.TheVariants as read
+use Rattle.bag_facts.specs.FaultLine.{field}
+use Rattle.bag_profile.specs.Key.{key_name}
+use Rattle.bag_profile.specs.declared.fault.ProfileFault.TheVariants.{NotJson, NoIdentifier, WrongShape, Memory}
+use Rattle.bag_cli.specs.declared.profile_refusal.ProfileRefusal.{ProfileRefusal}
+use Rattle.bag_cli.specs.declared.profile_refusal.ProfileRefusal.TheVariants.{Unread, Refused}
+
+-- the refusal where the file isn't read
+abbrev pub unread_as : ReadFault → ProfileRefusal
+unread_as read.Unread = Unread
+unread_as read.Memory = Refused Memory
+
+-- the text, without a line end
+abbrev pub refusal_text : ProfileRefusal → List ℕ
+refusal_text Unread = codes "bagit: profile unread"
+refusal_text (Refused NotJson) = codes "bagit: profile: not JSON"
+refusal_text (Refused NoIdentifier) = codes "bagit: profile: no identifier"
+refusal_text (Refused (WrongShape key)) = codes "bagit: profile: wrong shape: " ++ field (key_name key)
+refusal_text (Refused Memory) = codes "bagit: out of memory"
+
+-- bytes that aren't a profile are the fault of who gave them
+abbrev pub refusal_status : ProfileRefusal → ℕ
+refusal_status Unread = 3
+refusal_status (Refused NotJson) = 2
+refusal_status (Refused NoIdentifier) = 2
+refusal_status (Refused (WrongShape key)) = 2
+refusal_status (Refused Memory) = 3

@@ -1,0 +1,59 @@
+//! What gives the disks that the program looks at.
+ghost use Rattle.std.specs.Prelude.{◌≡◌, ◌≤◌, List, ℕ, Option, Some, IfOk, IsErrOf, [], false, ⊤, vec_len};
+ghost use Rattle.bag_disk.specs.Disk.{DiskState};
+ghost use Rattle.bag_disk.specs.SystemDisk.{base_of, system_state};
+ghost use Rattle.bag_cli.specs.SystemFile.{MayBeUnread};
+ghost use Rattle.bag_cli.specs.declared.read_fault.ReadFault.TheVariants.{Unread};
+
+use crate::read_fault::ReadFault;
+use crate::system_file::{open_file, read_within};
+use bag_disk::{SystemDisk, WritableDisk};
+use std::alloc::{AllocError, Global};
+use std::rt::Files;
+
+/// What gives a disk for each base folder, and the bytes of files.
+pub trait Disks {
+    /// What it gives.
+    type Disk: WritableDisk + Drop;
+
+    /// What stands on the disk below each base folder.
+    ghost below: { Self → List ℕ → DiskState };
+
+    /// That a disk is the one below a base folder: of disks that are only made up nothing is said.
+    ghost is_below: { Self.Disk → List ℕ → Type 0 } = { λ _ _. ⊤ };
+
+    /// That the file at a path has these bytes, or none where there is no file that can be read.
+    ghost file: { Self → List ℕ → Option (List ℕ) → Type 0 };
+
+    /// The disk below a base folder, at which it doesn't look yet.
+    fn disk(&self, alloc: Global, base: &str) -> Result<Self::Disk, AllocError>
+        ensures state { IfOk result (λ disk. Self.Disk.state disk ≡ below self.now base.now) }
+        ensures base { IfOk result (λ disk. is_below disk base.now) };
+
+    /// The bytes of the file at a path, all of them. A file of more than so many bytes can't be read.
+    ///
+    /// The path is one of the system's, and leads from no base folder.
+    fn read_file(&self, alloc: Global, path: &str, most: u32) -> Result<Vec<u8>, ReadFault>
+        ensures whole { IfOk result (λ bytes. file self.now path.now (Some bytes.items)) }
+        ensures within { IfOk result (λ bytes. vec_len bytes ≤ most) }
+        ensures unread { IsErrOf result Unread → MayBeUnread (file self.now path.now) most };
+}
+
+/// The disks that a runtime of the system reaches, of which nothing is promised.
+impl<R: Files + AllocGlobal + Clone + Drop> Disks for R {
+    type Disk = SystemDisk<R>;
+
+    ghost below = { λ _ _. system_state [] false };
+
+    ghost is_below = { λ disk base. base_of disk ≡ base };
+
+    ghost file = { λ _ _ _. ⊤ };
+
+    fn disk(&self, alloc: Global, base: &str) -> Result<SystemDisk<R>, AllocError> {
+        SystemDisk::new(self.clone()?, alloc, base)
+    }
+
+    fn read_file(&self, alloc: Global, path: &str, most: u32) -> Result<Vec<u8>, ReadFault> {
+        read_within(alloc, open_file(self, path)?, most)
+    }
+}

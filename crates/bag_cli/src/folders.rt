@@ -1,0 +1,75 @@
+//! The folders that a program looks into.
+ghost use Rattle.std.specs.Prelude.{◌≡◌, ◌≤◌, ◌∷◌, ◌++◌, [], Some, IfOk, IsErrOf, OnOk, OnErr, vec_len};
+ghost use Rattle.bag_store.specs.FileTree.{disk_of, tree_state};
+ghost use Rattle.bag_cli.specs.SystemFile.{MayBeUnread};
+ghost use Rattle.bag_cli.specs.Folders.{disks_of, visits_of};
+ghost use Rattle.bag_cli.specs.Visits.{Entered, Left, Read};
+ghost use Rattle.bag_cli.specs.declared.read_fault.ReadFault.TheVariants.{Unread};
+
+use crate::disks::Disks;
+use crate::read_fault::ReadFault;
+use crate::visits::Visits;
+use bag_store::FileTree;
+use std::alloc::{AllocError, Global};
+
+/// The folders that disks reach, and the files beside them.
+///
+/// Who is lent one, and not the disks, reaches no disk but through it: so each folder that is looked into, as what it is left, and
+/// each file that is read stand in the `Visits` that were made with it.
+#[derive(Drop)]
+pub struct Folders<'d, D> {
+    disks: &'d D,
+}
+
+impl<'d, D: Disks> Folders<'d, D> {
+    /// The folders that these disks reach, of which none was looked into yet.
+    pub fn of(disks: &'d D) -> (Folders<'d, D>, Visits<D>)
+        ensures disks { disks_of result.0 ≡ disks.now }
+        ensures visits { visits_of result.1 ≡ [] }
+    {
+        (Folders { disks }, Visits::none())
+    }
+
+    /// The tree of the files in a folder, at which it doesn't look yet.
+    pub fn enter(
+        &self,
+        alloc: Global,
+        name: &str,
+        visits: &mut Visits<D>,
+    ) -> Result<FileTree<D::Disk>, AllocError>
+        ensures state { IfOk result (λ tree. ⟦<FileTree<D::Disk> as bag_tree::Tree>⟧.state tree ≡ tree_state (D.below (disks_of self.now) name.now) 0) }
+        ensures base { IfOk result (λ tree. D.is_below (disk_of tree) name.now) }
+        ensures entered { OnOk result (visits_of visits.new ≡ visits_of visits.old ++ Entered name.now ∷ []) }
+        ensures refused { OnErr result (visits_of visits.new ≡ visits_of visits.old) }
+    {
+        let disk = self.disks.disk(alloc, name)?;
+        visits.note_of(&name);
+        Ok(FileTree::over(alloc, disk))
+    }
+
+    /// Drops a tree, which is left as it is now.
+    pub fn leave(&self, tree: FileTree<D::Disk>, visits: &mut Visits<D>)
+        ensures { visits_of visits.new ≡ visits_of visits.old ++ Left (⟦<FileTree<D::Disk> as bag_tree::Tree>⟧.state tree) ∷ [] }
+    {
+        visits.note_of(&tree);
+    }
+
+    /// The bytes of the file at a path, all of them. A file of more than so many bytes can't be read.
+    ///
+    /// The path is one of the system's, and leads from no folder.
+    pub fn read_file(
+        &self,
+        alloc: Global,
+        path: &str,
+        most: u32,
+        visits: &mut Visits<D>,
+    ) -> Result<Vec<u8>, ReadFault>
+        ensures whole { IfOk result (λ bytes. D.file (disks_of self.now) path.now (Some bytes.items)) }
+        ensures within { IfOk result (λ bytes. vec_len bytes ≤ most) }
+        ensures unread { IsErrOf result Unread → MayBeUnread (D.file (disks_of self.now) path.now) most }
+        ensures read { visits_of visits.new ≡ visits_of visits.old ++ Read path.now ∷ [] }
+    {
+        visits.note_of(&path);
+        self.disks.read_file(alloc, path, most)
+    }
+}

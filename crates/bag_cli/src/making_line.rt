@@ -1,0 +1,80 @@
+//! The line that says how making a bag went. Writing it takes no memory.
+ghost use Rattle.std.specs.Prelude.{◌++◌, codes};
+ghost use Rattle.bag_cli.specs.MakingLine as spec;
+ghost use Rattle.bag_walk.specs.Write.{Writes};
+
+use bag_make::MakeFault;
+use bag_tree::{Out, Refused, Stop, TreeFault};
+use bag_walk::put_line;
+use itoa::Buffer;
+
+/// Hands the line about a folder of this name to the output, or nothing where the bag was made and the making is quiet. The name
+/// and the path of a file are written as fields of a line.
+pub fn put_making<W: Out>(
+    name: &str,
+    made: &Result<(), MakeFault>,
+    quiet: bool,
+    out: &mut W,
+) -> Result<(), Refused>
+    ensures { Writes (W.taken out.old) (W.taken out.new) (W.has_refused out.new) (spec.line name.now made.now quiet) result }
+{
+    match made {
+        Ok(()) => {
+            if quiet {
+                Ok(())
+            } else {
+                put_line(name, &[" made\n"], out)
+            }
+        }
+        Err(fault) => put_not_made(name, fault, out),
+    }
+}
+
+fn put_not_made<W: Out>(name: &str, fault: &MakeFault, out: &mut W) -> Result<(), Refused>
+    ensures { Writes (W.taken out.old) (W.taken out.new) (W.has_refused out.new) (spec.not_made name.now (spec.reason fault.now)) result }
+{
+    match fault {
+        MakeFault::NoAlgorithm => put_reason(name, "no algorithm", out),
+        MakeFault::InTheWay => put_reason(name, ".bagit-new is there", out),
+        MakeFault::BadValue => put_reason(name, "bad value", out),
+        MakeFault::ReadStopped(stop) => put_unread(name, stop, out),
+        MakeFault::Memory => put_reason(name, "out of memory", out),
+        MakeFault::StepRefused(place, cause) => put_step(name, *place, *cause, out),
+    }
+}
+
+fn put_reason<W: Out>(name: &str, reason: &str, out: &mut W) -> Result<(), Refused>
+    ensures { Writes (W.taken out.old) (W.taken out.new) (W.has_refused out.new) (spec.not_made name.now reason.now) result }
+{
+    put_line(name, &[" not made: ", reason, "\n"], out)
+}
+
+fn put_unread<W: Out>(name: &str, stop: &Stop, out: &mut W) -> Result<(), Refused>
+    ensures { Writes (W.taken out.old) (W.taken out.new) (W.has_refused out.new) (spec.not_made name.now (spec.unread stop.now)) result }
+{
+    put_line(name, &[" not made: read "], out)?;
+    put_cause(stop, out)
+}
+
+fn put_cause<W: Out>(stop: &Stop, out: &mut W) -> Result<(), Refused>
+    ensures { Writes (W.taken out.old) (W.taken out.new) (W.has_refused out.new) (spec.stopped_at stop.now ++ codes "\n") result }
+{
+    put_line(stop.path.as_str(), &[" ", stop.cause.word(), "\n"], out)
+}
+
+fn put_step<W: Out>(name: &str, place: u64, cause: TreeFault, out: &mut W) -> Result<(), Refused>
+    ensures { Writes (W.taken out.old) (W.taken out.new) (W.has_refused out.new) (spec.not_made name.now (spec.refused_step place cause)) result }
+{
+    let mut digits = Buffer::new();
+    put_line(
+        name,
+        &[
+            " not made: step ",
+            digits.format(place),
+            " ",
+            cause.word(),
+            "\n",
+        ],
+        out,
+    )
+}

@@ -1,0 +1,42 @@
+//! Why a file isn't read.
+ghost use Rattle.std.specs.Prelude.{◌≡◌, ◌≢◌, IfOk, Ok};
+ghost use Rattle.std.specs.IoError.{error_kind};
+ghost use Rattle.std.specs.declared.io.ErrorKind.TheVariants.{OutOfMemory};
+ghost use Rattle.bag_cli.specs.declared.read_fault.ReadFault.TheVariants.{Memory, Unread};
+
+use std::io;
+use std::io::ErrorKind;
+use thiserror::Error;
+
+/// Why a file isn't read.
+#[derive(Clone, Copy, Debug, PartialEq, Eq, Error)]
+pub enum ReadFault {
+    /// There is no regular file, it can't be read, or it has too many bytes.
+    #[error("unread")]
+    Unread,
+    /// A growth was refused.
+    #[error("out of memory")]
+    Memory,
+}
+
+/// What a call of the system answered, its error as a fault.
+pub(crate) fn answer_of<T>(answer: io::Result<T>) -> Result<T, ReadFault>
+    ensures { IfOk result (λ given. answer ≡ Ok given) }
+{
+    match answer {
+        Ok(given) => Ok(given),
+        Err(error) => Err(fault_of(&error)),
+    }
+}
+
+/// Which fault an error of the system is.
+fn fault_of(error: &io::Error) -> ReadFault
+    ensures memory { error_kind error.now ≡ OutOfMemory → result ≡ Memory }
+    ensures unread { error_kind error.now ≢ OutOfMemory → result ≡ Unread }
+{
+    if error.kind() == ErrorKind::OutOfMemory {
+        ReadFault::Memory
+    } else {
+        ReadFault::Unread
+    }
+}

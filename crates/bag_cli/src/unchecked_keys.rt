@@ -1,0 +1,25 @@
+//! Writes which keys of a profile aren't checked.
+ghost use Rattle.bag_walk.specs.Write.{Writes};
+ghost use Rattle.bag_cli.specs.UncheckedKeys as spec;
+
+use bag_profile::Profile;
+use bag_tree::{Out, Refused};
+use bag_walk::{put_line, put_pieces};
+
+/// Hands the output a line for each key of the profile that isn't checked, in their order. It takes no memory.
+pub fn write_unchecked<O: Out>(profile: &Profile, out: &mut O) -> Result<(), Refused>
+    ensures { Writes (O.taken out.old) (O.taken out.new) (O.has_refused out.new) (spec.unchecked_lines profile.now.unchecked) result }
+{
+    for key in profile.unchecked() {
+        put_unchecked(key.as_str(), out)?;
+    }
+    Ok(())
+}
+
+/// Hands the line of a key to the output.
+fn put_unchecked<O: Out>(key: &str, out: &mut O) -> Result<(), Refused>
+    ensures { Writes (O.taken out.old) (O.taken out.new) (O.has_refused out.new) (spec.unchecked_line key.now) result }
+{
+    put_pieces(out, &["unchecked "])?;
+    put_line(key, &["\n"], out)
+}

@@ -1,0 +1,37 @@
+//! Which folders were looked into.
+ghost use Rattle.std.specs.Prelude.{◌≡◌, ◌∷◌, ◌++◌, []};
+ghost use Rattle.bag_cli.specs.Folders.{visits_of};
+ghost use Rattle.bag_cli.specs.Visits.{Event};
+
+use crate::record::Record;
+use std::marker::PhantomData;
+
+/// Which folders were looked into that disks of the type `D` reach, one after another, as what their trees were left, and which
+/// files were read beside them. Only clauses read it: it takes no memory.
+///
+/// It comes with the `Folders`: nothing else makes one, and who has no disks can't make a second one of their type.
+#[derive(Drop)]
+pub struct Visits<D> {
+    of: PhantomData<D>,
+    record: Record,
+}
+
+impl<D> Visits<D> {
+    /// None yet.
+    pub(crate) fn none() -> Visits<D>
+        ensures { visits_of result ≡ [] }
+    {
+        Visits {
+            of: PhantomData,
+            record: Record::none(),
+        }
+    }
+
+    /// Notes an event. Its value is given so that a proof can name the event by it.
+    pub(crate) fn note_of<T>(&mut self, _value: &T)
+        ghost event: { Event }
+        ensures { visits_of self.new ≡ visits_of self.old ++ event ∷ [] }
+    {
+        self.record.note();
+    }
+}

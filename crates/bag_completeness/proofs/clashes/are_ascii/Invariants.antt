@@ -1,7 +1,0 @@
-use Rattle.std.proofs.Common.{ℕ, List, take, Contains}
-use Rattle.std.specs.Str.{IsAscii}
-use Rattle.bag_completeness.specs.Names.{texts_of}
-use Rattle.bag_completeness.proofs.clashes.are_ascii.Given as goal
-
-abbrev pub invariant-loop-name : goal.invariant-loop-name
-invariant-loop-name l = (name : List ℕ) → Contains (take l.name-index (texts_of l.names)) name → IsAscii name

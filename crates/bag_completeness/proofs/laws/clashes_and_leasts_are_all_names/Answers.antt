@@ -1,5 +1,0 @@
-use Rattle.bag_completeness.proofs.ClashStage.{clashes_and_leasts_are_all_names}
-use Rattle.bag_completeness.proofs.laws.clashes_and_leasts_are_all_names.Goals as goal
-
-pub returns : goal.returns
-returns c = clashes_and_leasts_are_all_names

@@ -1,7 +1,0 @@
-use Rattle.std.proofs.Common.{◌≡◌, ◌++◌, take}
-use Rattle.bag_facts.specs.TagFacts.{entry_paths}
-use Rattle.bag_completeness.specs.Names.{texts_of}
-use Rattle.bag_completeness.proofs.names.push_paths.Given as goal
-
-abbrev pub invariant-loop-entry : goal.invariant-loop-entry
-invariant-loop-entry l = texts_of l.names.items ≡ texts_of l.initial.names.items ++ entry_paths (take l.entry-index l.entries)

@@ -1,8 +1,0 @@
-use Rattle.std.proofs.Common.{take}
-use Rattle.bag_facts.specs.TagFacts.{entry_paths}
-use Rattle.bag_facts.specs.Wanted.{paths_of}
-use Rattle.bag_completeness.proofs.PayloadNamed.{AreNamedBefore}
-use Rattle.bag_completeness.proofs.payload.are_named.Given as goal
-
-abbrev pub invariant-loop-file : goal.invariant-loop-file
-invariant-loop-file l = AreNamedBefore (entry_paths l.entries) (paths_of (take l.file-index l.files)) (entry_paths l.rest)

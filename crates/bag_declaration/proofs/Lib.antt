@@ -1,4 +1,0 @@
-pub mod DeclarationFaults
-pub mod DeclarationLineParts
-pub mod DeclarationLines
-pub mod DeclaredLines

@@ -1,5 +1,0 @@
-use Rattle.bag_declaration.proofs.DeclaredLines.{declare_or_faulty}
-use Rattle.bag_declaration.proofs.laws.lines_declare_or_are_faulty.Goals as goal
-
-pub returns : goal.returns
-returns c = declare_or_faulty

@@ -1,3 +1,0 @@
-pub mod Declaration
-pub mod DeclarationFaults
-pub mod DeclarationLine

@@ -1,4 +1,0 @@
-pub mod HashValues
-pub mod Spelled
-pub mod SumsOf
-pub mod Updates

@@ -1,5 +1,0 @@
-pub mod Digest
-pub mod Digests
-pub mod File
-pub mod Hasher
-pub mod Sums

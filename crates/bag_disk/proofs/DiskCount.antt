@@ -1,0 +1,77 @@
+-- Distinct paths of a disk are no more than what stands on it.
+use Rattle.std.proofs.Common.{◌≡◌, ℕ, ◌-◌, ◌≤◌, Bool, true, false, cond, List, [], ◌∷◌, length, None, is_some, inl, inr, ⊎_elim, refl, ap, sym, ◌∙◌, subst, ◌++◌, arith, Contains}
+use Rattle.std.specs.FinMap as fin
+use Rattle.std.specs.FinMap.{get-remove, len-remove}
+use Rattle.std.specs.List.{AllByRecursion}
+use Rattle.std.specs.List.Sorted.{IsStrictlySortedBy, IsPermutation}
+use Rattle.std.specs.Ordering.{eq_by_cmp, is_eq}
+use Rattle.std.specs.Cmp.{eq_by_cmp_equiv}
+use Rattle.std.specs.declared.cmp.Ordering.TheVariants.{Less}
+use Rattle.std.specs.Cmp.Lexicographic.{nat_list_cmp_total}
+use Rattle.std.proofs.lemmas.List.Elements.{Contains-append_right, Contains-push, Contains-push_cases, Contains-append_left}
+use Rattle.std.proofs.lemmas.Bool.{cases_lt, false≢true}
+use Rattle.bag_text.specs.Text.{text_cmp}
+use Rattle.std.proofs.lemmas.List.{length-map}
+use Rattle.std.proofs.lemmas.List.Sorted.{Contains-permutation, IsPermutation-sym}
+use Rattle.bag_tree.specs.declared.listing.FileEntry.{FileEntry}
+use Rattle.bag_disk.specs.Disk.{Nodes, node, Has, IsFolder}
+use Rattle.bag_disk.specs.FolderWalk.{AreThere, AreFolders, paths_of}
+use Rattle.bag_disk.proofs.WholeWalk.{path_filed}
+use Rattle.bag_disk.proofs.DiskSteps.{contains_first, contains_cases, contains_none}
+
+above : (k : List ℕ) (ps : List (List ℕ)) (p : List ℕ) → AllByRecursion (λ y. text_cmp k y ≡ Less) ps → Contains ps p → eq_by_cmp text_cmp p k ≡ false
+above k [] p h c = absurd (contains_none p c)
+above k (q ∷ ps) p h c = elim (contains_cases q ps p c) [
+  | inl e ↦ (eq_by_cmp_equiv nat_list_cmp_total).symm p k ∙ ap (eq_by_cmp text_cmp k) (sym e) ∙ ap is_eq h.0
+  | inr within ↦ above k ps p h.1 within
+]
+
+some_there : (nodes : Nodes) (k : List ℕ) → is_some (node nodes k) ≡ true → 1 ≤ fin.len nodes
+some_there nodes k here = ⊎_elim
+    (λ some. omega (arith, some))
+    (λ none. let empty = fin.empty_of_len nodes (omega (arith, none)) in
+    absurd (false≢true (sym (ap is_some (fin.get-empty text_cmp k)) ∙ sym (ap (λ m. is_some (node m k)) empty) ∙ here)))
+    (cases_lt 0 (fin.len nodes))
+
+-- so a count above the limit means too many entries
+pub distinct_fit : (ps : List (List ℕ)) (nodes : Nodes) → IsStrictlySortedBy text_cmp ps → ((p : List ℕ) → Contains ps p → Has nodes p) → length ps ≤ fin.len nodes
+unfolding IsStrictlySortedBy
+distinct_fit [] nodes s h = omega arith
+distinct_fit (k ∷ ps) nodes s h =
+    let fewer = distinct_fit ps (fin.remove nodes k) s.1 (λ p c.
+    ap is_some (get-remove nat_list_cmp_total nodes k p ∙ ap (λ b. cond b None (node nodes p)) (above k ps p s.0 c)) ∙ h p (Contains-append_right (k ∷ []) ps p c)) in
+    let here : is_some (node nodes k) ≡ true = h k (contains_first k ps) in
+    let less : fin.len (fin.remove nodes k) ≡ fin.len nodes - 1 = len-remove nat_list_cmp_total nodes k ∙ ap (λ b. cond b (fin.len nodes - 1) (fin.len nodes)) here in
+    omega (arith, some_there nodes k here)
+
+-- files in strict order, all of which stand there, are no more than what stands there
+pub found_fit : (nodes : Nodes) (found sorted : List FileEntry) → IsPermutation found sorted → IsStrictlySortedBy text_cmp (paths_of sorted) → AreThere nodes found → length sorted ≤ fin.len nodes
+found_fit nodes found sorted permuted ascending there =
+    let fit = distinct_fit (paths_of sorted) nodes ascending (λ p h.
+    let f = path_filed sorted p h in
+    ap (λ o. is_some o) (ap (node nodes) (sym f.2)) ∙ there f.0 (Contains-permutation sorted found f.0 (IsPermutation-sym found sorted permuted) f.1)) in
+    omega (arith, fit, length-map sorted (λ file. file.path))
+
+folder_there : (nodes : Nodes) (path : List ℕ) → (path ≡ [] → false ≡ true) → IsFolder nodes path → Has nodes path
+folder_there nodes [] none is = absurd (false≢true (none refl))
+folder_there nodes (c ∷ path) none is = ap is_some is
+
+abbrev Both : Nodes → List FileEntry → List (List ℕ) → Type 0
+Both nodes found folders = AreThere nodes found × AreFolders nodes folders
+
+-- a folder was taken from the folders
+pub folder_taken : (nodes : Nodes) (found : List FileEntry) (folders rest : List (List ℕ)) (path : List ℕ) → folders ≡ rest ++ path ∷ [] → Both nodes found folders → Both nodes found rest
+folder_taken nodes found folders rest path are both = (both.0, λ f h. both.1 f (subst (λ fs. Contains fs f) (sym are) (Contains-append_left rest (path ∷ []) f h)))
+
+-- a folder was taken from the folders and put with the files
+pub folder_put : (nodes : Nodes) (found found_after : List FileEntry) (folders rest : List (List ℕ)) (path : List ℕ) (b : Bool) → b ≡ false → (path ≡ [] → b ≡ true) → folders ≡ rest ++ path ∷ []
+    → found_after ≡ found ++ record { path = path; size = 0 } ∷ [] → Both nodes found folders → Both nodes found_after rest
+folder_put nodes found found_after folders rest path b isnt none are after both =
+    let entry : FileEntry = record { path = path; size = 0 } in
+    let here : Has nodes path = folder_there nodes path (λ e. sym isnt ∙ none e) (both.1 path (subst (λ fs. Contains fs path) (sym are) (Contains-push rest path))) in (
+      λ e h. elim (Contains-push_cases found entry e (subst (λ xs. Contains xs e) after h)) [
+        | inl old ↦ both.0 e old
+        | inr same ↦ subst (λ (x : FileEntry). Has nodes x.path) same here
+      ],
+      (folder_taken nodes found folders rest path are both).1,
+    )

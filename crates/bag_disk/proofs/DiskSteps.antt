@@ -1,0 +1,276 @@
+-- The steps of a walk over the folders of a disk.
+use Rattle.std.proofs.Common.{◌≡◌, ◌≢◌, ℕ, ◌==◌, true, false, List, [], ◌∷◌, ◌++◌, length, Option, Some, None, is_some, map, refl, ap, sym, ◌∙◌, subst, IsTrue, MatchOption, Result, Ok, Err, OnOk, ◌⊎◌, inl, inr, eqb-true, eq-eqb, append_assoc, Contains}
+use Rattle.std.proofs.lemmas.Bool.{false≢true}
+use Rattle.std.specs.Option.{option_map}
+use Rattle.std.proofs.lemmas.List.Elements.{All-nil, All-cons, Contains-push, Contains-push_cases, Contains-append_left, Contains-append_cases, Contains-append_right}
+use Rattle.bag_text.specs.Path.{slash, under}
+use Rattle.bag_disk.specs.Location.{path_in}
+use Rattle.bag_disk.specs.Disk.{DiskState, OnlyLooks, Nodes, Node, node, Has, IsReached, IsFolder, IsDisk, IsName, AreNamesIn, entry_of}
+use Rattle.bag_disk.specs.Disk.Node.{File, Folder, Other}
+use Rattle.bag_disk.specs.FolderWalk.{Walked, Listing, AllStand, IsBelow, IsAtOrBelow, IsFileOf, paths_of, files_with, folders_with}
+use Rattle.bag_disk.specs.declared.disk.Entry.{Entry}
+use Rattle.bag_disk.specs.declared.disk.Entry.TheVariants as entry
+use Rattle.bag_tree.specs.declared.listing.FileEntry.{FileEntry}
+
+pub contains_none : {X : Type 0} (x : X) → Contains [] x → ⊥
+contains_none x h = elim h.1 [ ]
+
+-- what a list with one more first element contains
+pub contains_cases : {X : Type 0} (x : X) (xs : List X) (y : X) → Contains (x ∷ xs) y → (x ≡ y) ⊎ Contains xs y
+contains_cases x xs y h = elim (Contains-append_cases (x ∷ []) xs y h) [
+  | inr within ↦ inr within
+  | inl one ↦ elim (Contains-push_cases [] x y one) [ inl none ↦ absurd (contains_none y none) | inr e ↦ inl e ]
+]
+
+pub contains_first : {X : Type 0} (x : X) (xs : List X) → Contains (x ∷ xs) x
+contains_first x xs = Contains-append_left (x ∷ []) xs x (Contains-push [] x)
+
+pub contains_map : {X Y : Type 0} (f : X → Y) (xs : List X) (x : X) → Contains xs x → Contains (map f xs) (f x)
+contains_map f [] x h = absurd (contains_none x h)
+contains_map f (y ∷ xs) x h = elim (contains_cases y xs x h) [
+  | inl e ↦ subst (λ z. Contains (f y ∷ map f xs) (f z)) e (contains_first (f y) (map f xs))
+  | inr within ↦ Contains-append_right (f y ∷ []) (map f xs) (f x) (contains_map f xs x within)
+]
+
+-- a text is a name, or begins with one
+pub first_name : (t : List ℕ) → IsName t ⊎ ((name rest : List ℕ) × IsName name × (t ≡ under name rest))
+first_name [] = inl (All-nil (λ c. c ≢ slash))
+first_name (c ∷ t) = elim (c == slash) as (λ b. (c == slash) ≡ b → IsName (c ∷ t) ⊎ ((name rest : List ℕ) × IsName name × ((c ∷ t) ≡ under name rest))) [
+  | true ↦ λ is. inr ([], t, All-nil (λ c. c ≢ slash), ap (λ c. c ∷ t) (eqb-true c slash is))
+  | false ↦ λ not. let other : c ≢ slash = λ e. false≢true (sym not ∙ eq-eqb c slash e) in elim (first_name t) [
+    | inl is ↦ inl (All-cons (λ c. c ≢ slash) c t other is)
+    | inr at ↦ inr (c ∷ at.0, at.1, All-cons (λ c. c ≢ slash) c at.0 other at.2, ap (λ t. c ∷ t) at.3)
+  ]
+] refl
+
+pub has_folder : (nodes : Nodes) (path : List ℕ) → node nodes path ≡ Some Folder → Has nodes path
+has_folder nodes path e = ap is_some e
+
+is_folder : (nodes : Nodes) (path : List ℕ) → node nodes path ≡ Some Folder → IsFolder nodes path
+is_folder nodes [] e = tt
+is_folder nodes (c ∷ path) e = e
+
+is_below : (top rest path : List ℕ) → path ≡ under top rest → IsBelow top path
+is_below [] rest path e = tt
+is_below (c ∷ top) rest path e = (rest, e)
+
+abbrev Pending : List (List ℕ) → List ℕ → Type 0
+Pending pending path = (top : List ℕ) × Contains pending top × IsAtOrBelow top path
+
+-- what stands below a folder stands at or below one of its names
+below_a_name : (nodes : Nodes) (folder path : List ℕ) (names : List (List ℕ)) → IsDisk nodes → AreNamesIn nodes folder names → Has nodes path → IsBelow folder path → Pending (map (path_in folder) names) path
+below_a_name nodes [] path names disk are has below = elim (first_name path) [
+  | inl is ↦ (path, contains_map (path_in []) names path (are.all path is has), inl refl)
+  | inr at ↦ (at.0, contains_map (path_in []) names at.0 (are.all at.0 at.2 (has_folder nodes at.0 (disk.folders path has at.0 at.1 at.3))), inr (at.1, at.3))
+]
+below_a_name nodes (c ∷ folder) path names disk are has below = elim (first_name below.0) [
+  | inl is ↦ (under (c ∷ folder) below.0, contains_map (path_in (c ∷ folder)) names below.0 (are.all below.0 is (subst (Has nodes) below.1 has)), inl below.1)
+  | inr at ↦
+      let deeper : path ≡ under (under (c ∷ folder) at.0) at.1 = below.1 ∙ ap (under (c ∷ folder)) at.3 ∙ sym (append_assoc (c ∷ folder) (slash ∷ at.0) (slash ∷ at.1)) in
+      (under (c ∷ folder) at.0, contains_map (path_in (c ∷ folder)) names at.0 (are.all at.0 at.2 (has_folder nodes (under (c ∷ folder) at.0) (disk.folders path has (under (c ∷ folder) at.0) at.1 deeper))), inr (at.1, deeper))
+]
+
+-- a folder was opened for listing
+pub folder_begun : (nodes : Nodes) (files : List FileEntry) (folders listed : List (List ℕ)) (folder : List ℕ) (names : List (List ℕ)) → IsDisk nodes → AreNamesIn nodes folder names
+    → Walked nodes files (folders ++ folder ∷ []) listed [] → Walked nodes files folders (listed ++ folder ∷ []) (map (path_in folder) names)
+folder_begun nodes files folders listed folder names disk are walked = record {
+  are_files = walked.are_files;
+  are_folders = λ f h. walked.are_folders f (Contains-append_left folders (folder ∷ []) f h);
+  were_folders = λ f h. elim (Contains-push_cases listed folder f h) [
+    | inl old ↦ walked.were_folders f old
+    | inr e ↦ subst (IsFolder nodes) e (walked.are_folders folder (Contains-push folders folder))
+  ];
+  all = λ path has. elim (walked.all path has) [
+    | inl filed ↦ inl filed
+    | inr (inl old) ↦ inr (inl (Contains-append_left listed (folder ∷ []) path old))
+    | inr (inr (inl found)) ↦ elim (Contains-push_cases folders folder path found) [
+      | inl still ↦ inr (inr (inl still))
+      | inr e ↦ inr (inl (subst (Contains (listed ++ folder ∷ [])) e (Contains-push listed folder)))
+    ]
+    | inr (inr (inr (inl below))) ↦ elim (Contains-push_cases folders folder below.0 below.1) [
+      | inl still ↦ inr (inr (inr (inl (below.0, still, below.2))))
+      | inr e ↦ inr (inr (inr (inr (below_a_name nodes folder path names disk are has (subst (λ f. IsBelow f path) (sym e) below.2)))))
+    ]
+    | inr (inr (inr (inr at))) ↦ absurd (contains_none at.0 at.1)
+  ];
+}
+
+pub file_there : (o : Option Node) (size : ℕ) → option_map entry_of o ≡ Some (entry.File size) → (bytes : List ℕ) × (o ≡ Some (File bytes)) × (size ≡ length bytes)
+file_there None size e = cc
+file_there (Some (File bytes)) size e = (bytes, refl, cc)
+file_there (Some Folder) size e = cc
+file_there (Some Other) size e = cc
+
+pub folder_there : (o : Option Node) → option_map entry_of o ≡ Some entry.Folder → o ≡ Some Folder
+folder_there None e = cc
+folder_there (Some (File bytes)) e = cc
+folder_there (Some Folder) e = refl
+folder_there (Some Other) e = cc
+
+paths_push : (files : List FileEntry) (file : FileEntry) → paths_of (files ++ file ∷ []) ≡ paths_of files ++ file.path ∷ []
+paths_push [] file = refl
+paths_push (f ∷ files) file = ap (λ paths. f.path ∷ paths) (paths_push files file)
+
+-- what stands at a pending path was found
+pub path_put : (nodes : Nodes) (files : List FileEntry) (folders listed pending : List (List ℕ)) (path : List ℕ) (found : Entry) → IsDisk nodes
+    → option_map entry_of (node nodes path) ≡ Some found → (found ≡ entry.Other → ⊥)
+    → Walked nodes files folders listed (path ∷ pending) → Walked nodes (files_with files path found) (folders_with folders path found) listed pending
+path_put nodes files folders listed pending path (entry.File size) disk is known walked =
+    let file : FileEntry = record { path = path; size = size } in
+    let there = file_there (node nodes path) size is in
+    let filed : (p : List ℕ) → Contains (paths_of files ++ path ∷ []) p → Contains (paths_of (files ++ file ∷ [])) p = λ p h. subst (λ paths. Contains paths p) (sym (paths_push files file)) h in
+    record {
+      are_files = λ e h. elim (Contains-push_cases files file e h) [
+        | inl old ↦ walked.are_files e old
+        | inr same ↦ subst (IsFileOf nodes) same there
+      ];
+      are_folders = walked.are_folders;
+      were_folders = walked.were_folders;
+      all = λ p has. elim (walked.all p has) [
+        | inl old ↦ inl (filed p (Contains-append_left (paths_of files) (path ∷ []) p old))
+        | inr (inl old) ↦ inr (inl old)
+        | inr (inr (inl old)) ↦ inr (inr (inl old))
+        | inr (inr (inr (inl old))) ↦ inr (inr (inr (inl old)))
+        | inr (inr (inr (inr at))) ↦ elim (contains_cases path pending at.0 at.1) [
+          | inr old ↦ inr (inr (inr (inr (at.0, old, at.2))))
+          | inl e ↦ elim at.2 [
+            | inl here ↦ inl (filed p (subst (Contains (paths_of files ++ path ∷ [])) (e ∙ sym here) (Contains-push (paths_of files) path)))
+            | inr below ↦ absurd (file_no_folder (node nodes path) there.0 there.1 (disk.folders p has path below.0 (below.1 ∙ ap (λ top. under top below.0) (sym e))))
+          ]
+        ]
+      ];
+    }
+  where
+    file_no_folder : (o : Option Node) (bytes : List ℕ) → o ≡ Some (File bytes) → o ≡ Some Folder → ⊥
+    file_no_folder o bytes e f = let both : Some (File bytes) ≡ Some Folder = sym e ∙ f in cc
+path_put nodes files folders listed pending path entry.Folder disk is known walked =
+    let there = folder_there (node nodes path) is in
+    record {
+      are_files = walked.are_files;
+      are_folders = λ f h. elim (Contains-push_cases folders path f h) [
+        | inl old ↦ walked.are_folders f old
+        | inr same ↦ subst (IsFolder nodes) same (is_folder nodes path there)
+      ];
+      were_folders = walked.were_folders;
+      all = λ p has. elim (walked.all p has) [
+        | inl old ↦ inl old
+        | inr (inl old) ↦ inr (inl old)
+        | inr (inr (inl old)) ↦ inr (inr (inl (Contains-append_left folders (path ∷ []) p old)))
+        | inr (inr (inr (inl below))) ↦ inr (inr (inr (inl (below.0, Contains-append_left folders (path ∷ []) below.0 below.1, below.2))))
+        | inr (inr (inr (inr at))) ↦ elim (contains_cases path pending at.0 at.1) [
+          | inr old ↦ inr (inr (inr (inr (at.0, old, at.2))))
+          | inl e ↦ elim at.2 [
+            | inl here ↦ inr (inr (inl (subst (Contains (folders ++ path ∷ [])) (e ∙ sym here) (Contains-push folders path))))
+            | inr below ↦ inr (inr (inr (inl (path, Contains-push folders path, is_below path below.0 p (below.1 ∙ ap (λ top. under top below.0) (sym e))))))
+          ]
+        ]
+      ];
+    }
+path_put nodes files folders listed pending path entry.Other disk is known walked = absurd (known refl)
+
+-- the step, where the path's text is known in three ways
+pub name_added : (nodes : Nodes) (files files_after : List FileEntry) (folders folders_after listed pending : List (List ℕ)) (location path text : List ℕ) (found : Entry) → IsDisk nodes
+    → path ≡ location → text ≡ path → (IsReached nodes text → option_map entry_of (node nodes text) ≡ Some found) → Has nodes location
+    → files_after ≡ files_with files path found → folders_after ≡ folders_with folders path found → (found ≡ entry.Other → ⊥)
+    → Walked nodes files folders listed (location ∷ pending) → Walked nodes files_after folders_after listed pending
+name_added nodes files files_after folders folders_after listed pending location path text found disk at same is has files_are folders_are known walked =
+    let e : text ≡ location = same ∙ at in
+    let there : option_map entry_of (node nodes location) ≡ Some found = subst (λ p. (IsReached nodes p → option_map entry_of (node nodes p) ≡ Some found)) e is (disk.folders location has) in
+    rw (files_are, folders_are, at) (path_put nodes files folders listed pending location found disk there known walked)
+
+pub on_ok : {A E P Q : Type 0} (r : Result A E) → OnOk r P → (P → Q) → OnOk r Q
+on_ok (Ok x) p f = f p
+on_ok (Err e) p f = tt
+
+pub on_ok_always : {A E P : Type 0} (r : Result A E) → P → OnOk r P
+on_ok_always (Ok x) p = p
+on_ok_always (Err e) p = tt
+
+pub on_ok3 : {A E P Q R S : Type 0} (r : Result A E) → OnOk r P → OnOk r Q → OnOk r R → (P → Q → R → S) → OnOk r S
+on_ok3 (Ok x) p q s f = f p q s
+on_ok3 (Err e) p q s f = tt
+
+-- a folder's listing begins
+pub listing_begun : (nodes : Nodes) (files : List FileEntry) (folders listed : List (List ℕ)) (folder text : List ℕ) (names : List (List ℕ)) → IsDisk nodes
+    → text ≡ folder → (IsFolder nodes text → AreNamesIn nodes text names)
+    → Walked nodes files (folders ++ folder ∷ []) listed [] → Listing nodes files folders listed folder names
+listing_begun nodes files folders listed folder text names disk same are walked =
+    let is : IsFolder nodes text = subst (IsFolder nodes) (sym same) (walked.are_folders folder (Contains-push folders folder)) in
+    let named : AreNamesIn nodes folder names = subst (λ f. AreNamesIn nodes f names) same (are is) in
+    record { walked = folder_begun nodes files folders listed folder names disk named walked; there = named.there }
+
+-- the next name was looked at
+pub name_listed : (nodes : Nodes) (files files_after : List FileEntry) (folders folders_after listed : List (List ℕ)) (folder text name name_text : List ℕ) (names : List (List ℕ))
+    → text ≡ folder → name_text ≡ name
+    → (Has nodes (path_in text name_text) → (listed pending : List (List ℕ)) → Walked nodes files folders listed (path_in text name_text ∷ pending) → Walked nodes files_after folders_after listed pending)
+    → Listing nodes files folders listed folder (name ∷ names) → Listing nodes files_after folders_after listed folder names
+name_listed nodes files files_after folders folders_after listed folder text name name_text names same same_name added now =
+    let path : path_in text name_text ≡ path_in folder name = rw (same, same_name) refl in
+    record {
+      walked = added (subst (Has nodes) (sym path) (now.there name (contains_first name names))) (listed ++ folder ∷ []) (map (path_in folder) names)
+          (subst (λ p. Walked nodes files folders (listed ++ folder ∷ []) (p ∷ map (path_in folder) names)) (sym path) now.walked);
+      there = λ n h. now.there n (Contains-append_right (name ∷ []) names n h);
+    }
+
+abbrev Next : DiskState → DiskState → Option (List ℕ) → Type 0
+Next at new next = MatchOption next (at.names ≡ []) (λ name. at.names ≡ name ∷ new.names)
+
+-- a turn of the walk through one folder
+pub turn : (old at new : DiskState) (next : Option (List ℕ)) (files files_after : List FileEntry) (folders folders_after listed : List (List ℕ)) (folder text name name_text : List ℕ)
+    → OnlyLooks old at → OnlyLooks at new → next ≡ Some name → (IsTrue at.honest → Next at new next) → text ≡ folder → name_text ≡ name
+    → (IsTrue new.honest → Has new.nodes (path_in text name_text) → (listed pending : List (List ℕ)) → Walked new.nodes files folders listed (path_in text name_text ∷ pending) → Walked new.nodes files_after folders_after listed pending)
+    → IsTrue old.honest → Listing old.nodes files folders listed folder at.names → Listing old.nodes files_after folders_after listed folder new.names
+turn old at new next files files_after folders folders_after listed folder text name name_text before after is gives same same_name added honest now =
+    let names : at.names ≡ name ∷ new.names = subst (Next at new) is (gives (before.honest ∙ honest)) in
+    let nodes : new.nodes ≡ old.nodes = after.nodes ∙ before.nodes in
+    name_listed old.nodes files files_after folders folders_after listed folder text name name_text new.names same same_name
+    (subst (λ nodes. Has nodes (path_in text name_text) → (listed pending : List (List ℕ)) → Walked nodes files folders listed (path_in text name_text ∷ pending) → Walked nodes files_after folders_after listed pending) nodes (added (after.honest ∙ before.honest ∙ honest)))
+    (subst (Listing old.nodes files folders listed folder) names now)
+
+-- no name of the folder is left
+pub folder_ended : (old at new : DiskState) (next : Option (List ℕ)) (files : List FileEntry) (folders listed : List (List ℕ)) (folder : List ℕ)
+    → OnlyLooks old at → next ≡ None → (IsTrue at.honest → Next at new next)
+    → IsTrue old.honest → Listing old.nodes files folders listed folder at.names → Walked old.nodes files folders (listed ++ folder ∷ []) []
+folder_ended old at new next files folders listed folder before is gives honest now =
+    let none : at.names ≡ [] = subst (Next at new) is (gives (before.honest ∙ honest)) in
+    subst (λ names. Walked old.nodes files folders (listed ++ folder ∷ []) (map (path_in folder) names)) none now.walked
+
+pub looks_at_first : (state : DiskState) → OnlyLooks state state
+looks_at_first state = record { nodes = refl; honest = refl; openings = refl; rest = refl }
+
+pub looks_on : (old at new : DiskState) → OnlyLooks old at → OnlyLooks at new → OnlyLooks old new
+looks_on old at new before after = record {
+  nodes = after.nodes ∙ before.nodes;
+  honest = after.honest ∙ before.honest;
+  openings = after.openings ∙ before.openings;
+  rest = after.rest ∙ before.rest;
+}
+
+-- what follows from the listing of a folder holds once the folder is with those that were listed
+pub folder_done : (old at : DiskState) (files : List FileEntry) (folders listed : List (List ℕ)) (folder text again : List ℕ) (after : List (List ℕ)) (Q : Nodes → List (List ℕ) → Type 0)
+    → IsDisk old.nodes → OnlyLooks old at → text ≡ folder → again ≡ folder → after ≡ listed ++ folder ∷ []
+    → (IsTrue old.honest → IsFolder old.nodes text → AreNamesIn old.nodes text at.names)
+    → (IsTrue at.honest → (listed : List (List ℕ)) → Listing at.nodes files folders listed again at.names → Q at.nodes (listed ++ again ∷ []))
+    → IsTrue old.honest → Walked old.nodes files (folders ++ folder ∷ []) listed [] → Q old.nodes after
+folder_done old at files folders listed folder text again after Q disk looks same same_again after_is are follows honest walked =
+    let begun : Listing old.nodes files folders listed folder at.names = listing_begun old.nodes files folders listed folder text at.names disk same (are honest) walked in
+    let here : Listing at.nodes files folders listed again at.names = subst (λ f. Listing at.nodes files folders listed f at.names) (sym same_again) (subst (λ nodes. Listing nodes files folders listed folder at.names) (sym looks.nodes) begun) in
+    let done : Q at.nodes (listed ++ again ∷ []) = follows (looks.honest ∙ honest) listed here in
+    subst (Q old.nodes) (ap (λ f. listed ++ f ∷ []) same_again ∙ sym after_is) (subst (λ nodes. Q nodes (listed ++ again ∷ [])) looks.nodes done)
+
+-- what was found stands there
+pub all_stand : (nodes : Nodes) (files : List FileEntry) (folders listed pending : List (List ℕ)) → Walked nodes files folders listed pending → AllStand nodes files folders listed
+all_stand nodes files folders listed pending walked = record {
+  are_there = λ e h. let f = walked.are_files e h in ap is_some f.1;
+  are_folders = walked.are_folders;
+  were_folders = walked.were_folders;
+}
+
+-- at first the base folder is to be listed
+pub walk_begun : (nodes : Nodes) → Walked nodes [] ([] ∷ []) [] []
+walk_begun nodes = record {
+  are_files = λ e h. absurd (contains_none e h);
+  are_folders = λ f h. elim (contains_cases [] [] f h) [ inl e ↦ subst (IsFolder nodes) e tt | inr none ↦ absurd (contains_none f none) ];
+  were_folders = λ f h. absurd (contains_none f h);
+  all = λ path has. inr (inr (inr (inl ([], contains_first [] [], tt))));
+}

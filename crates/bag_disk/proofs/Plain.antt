@@ -1,0 +1,125 @@
+-- A disk on which only files and folders stand, with names in UTF-8.
+use Rattle.std.proofs.Common.{◌≡◌, ℕ, ◌+◌, ◌<◌, ◌&&◌, Bool, true, false, cond, IsUtf8, List, [], ◌∷◌, ◌++◌, length, length-append, suc, add-one, get_or, drop, Option, Some, None, is_some, refl, ap, sym, ◌∙◌, subst, inl, inr, arith, Contains}
+use Rattle.std.proofs.lemmas.Bool.{false≢true, and_parts, and_from}
+use Rattle.std.proofs.lemmas.Str.{IsUtf8-drop, IsCharBoundary-after_ascii}
+use Rattle.std.proofs.Math.Seq.{get_or-append_seam}
+use Rattle.std.specs.Option.{option_map}
+use Rattle.std.specs.List.{list_all}
+use Rattle.std.specs.FinMap as fin
+use Rattle.std.specs.FinMap.{find, is_sorted, get-entries, entries_sorted}
+use Rattle.std.specs.Ordering.{eq_by_cmp}
+use Rattle.bag_text.specs.Text.{text_cmp}
+use Rattle.bag_text.specs.Path.{slash, is_path, under}
+use Rattle.bag_disk.specs.Location.{path_in}
+use Rattle.bag_disk.specs.Disk.{Nodes, Node, node, Has, IsFolder, IsDisk, IsReached, HasUnnamed, entry_of, is_plain, is_plain_node}
+use Rattle.bag_disk.specs.Disk.Node.{File, Folder, Other}
+use Rattle.bag_tree.proofs.SameText.{one_text, text_itself}
+use Rattle.bag_tree.proofs.PathEntries.{none_below, t_true}
+use Rattle.bag_disk.specs.FolderWalk.{Walked}
+use Rattle.bag_disk.specs.declared.disk.Entry.{Entry}
+use Rattle.bag_disk.specs.declared.disk.Entry.TheVariants as entry
+use Rattle.bag_tree.specs.declared.listing.FileEntry.{FileEntry}
+use Rattle.bag_disk.proofs.DiskSteps.{contains_none}
+use Rattle.bag_disk.proofs.WholeWalk.{path_filed}
+
+abbrev plain_entry : List ℕ × Node → Bool
+plain_entry e = is_plain_node e.1
+
+and_false : (a b : Bool) → b ≡ false → (a && b) ≡ false
+and_false true b e = e
+and_false false b e = refl
+
+other_among : (es : List (List ℕ × Node)) (q : List ℕ) → find text_cmp q es ≡ Some Other → list_all plain_entry es ≡ false
+other_among [] q is = cc
+other_among (e ∷ es) q is = elim (eq_by_cmp text_cmp q e.0) as (λ b. cond b (Some e.1) (find text_cmp q es) ≡ Some Other → (is_plain_node e.1 && list_all plain_entry es) ≡ false) [
+  | true ↦ λ here. let n : e.1 ≡ Other = cc in rw n refl
+  | false ↦ λ later. and_false (is_plain_node e.1) (list_all plain_entry es) (other_among es q later)
+] is
+
+-- where something else stands the disk isn't plain
+pub other_not_plain : (nodes : Nodes) (path : List ℕ) → node nodes path ≡ Some Other → is_plain nodes ≡ false
+other_not_plain nodes path is = other_among (fin.entries nodes) path (sym (get-entries nodes path) ∙ is)
+
+all_among : (es : List (List ℕ × Node)) → is_sorted text_cmp es ≡ true → ((q : List ℕ) (n : Node) → find text_cmp q es ≡ Some n → is_plain_node n ≡ true) → list_all plain_entry es ≡ true
+all_among [] sorted plain = refl
+all_among (e ∷ es) sorted plain =
+    let parts = and_parts _ _ sorted in
+    and_from (is_plain_node e.1) (list_all plain_entry es)
+    (plain e.0 e.1 (ap (λ b. cond b (Some e.1) (find text_cmp e.0 es)) (text_itself e.0)))
+    (all_among es parts.1 (λ q n is. plain q n (elim (eq_by_cmp text_cmp q e.0) as (λ b. eq_by_cmp text_cmp q e.0 ≡ b → cond b (Some e.1) (find text_cmp q es) ≡ Some n) [
+      | true ↦ λ same. let none : find text_cmp q es ≡ None = ap (λ p. find text_cmp p es) (one_text q e.0 same) ∙ none_below e.0 es parts.0 in let both : None ≡ Some n = sym none ∙ is in cc
+      | false ↦ λ _. is
+    ] refl)))
+
+-- where each node is a file or a folder the disk is plain
+pub all_plain : (nodes : Nodes) → ((path : List ℕ) (n : Node) → node nodes path ≡ Some n → is_plain_node n ≡ true) → is_plain nodes ≡ true
+all_plain nodes plain = all_among (fin.entries nodes) (t_true _ (entries_sorted nodes)) (λ q n is. plain q n (get-entries nodes q ∙ is))
+
+-- where something else was answered the disk isn't plain
+pub other_seen : (nodes : Nodes) (path : List ℕ) (found : Entry) → option_map entry_of (node nodes path) ≡ Some found → found ≡ entry.Other → is_plain nodes ≡ false
+other_seen nodes path found is other = other_not_plain nodes path (other_there (node nodes path) (is ∙ ap Some other))
+  where
+    other_there : (o : Option Node) → option_map entry_of o ≡ Some entry.Other → o ≡ Some Other
+    other_there None e = cc
+    other_there (Some (File bytes)) e = cc
+    other_there (Some Folder) e = cc
+    other_there (Some Other) e = refl
+
+-- the same, where the path's text is known in three ways
+pub name_is_other : (nodes : Nodes) (location path text : List ℕ) (found : Entry) → IsDisk nodes → path ≡ location → text ≡ path
+    → (IsReached nodes text → option_map entry_of (node nodes text) ≡ Some found) → Has nodes location → found ≡ entry.Other → is_plain nodes ≡ false
+name_is_other nodes location path text found disk at same is has other =
+    other_seen nodes location found (subst (λ p. (IsReached nodes p → option_map entry_of (node nodes p) ≡ Some found)) (same ∙ at) is (disk.folders location has)) other
+
+-- a name is in UTF-8 where its path is
+text_under : (folder name : List ℕ) → IsUtf8 (under folder name) → IsUtf8 name
+text_under folder name text =
+    let at : get_or (under folder name) (length folder) 0 ≡ slash = get_or-append_seam folder slash name 0 in
+    let within : length folder < length (under folder name) = omega (arith, length-append folder (slash ∷ name)) in
+    subst IsUtf8 (after folder name) (IsUtf8-drop (under folder name) (length folder + 1) text (IsCharBoundary-after_ascii (under folder name) (length folder) text within (omega (arith, at))))
+  where
+    after : (folder name : List ℕ) → drop (length folder + 1) (under folder name) ≡ name
+    after folder name = ap (λ n. drop n (folder ++ slash ∷ name)) (add-one (length folder)) ∙ past folder name
+      where
+        past : (folder name : List ℕ) → drop (suc (length folder)) (folder ++ slash ∷ name) ≡ name
+        past [] name = refl
+        past (c ∷ folder) name = past folder name
+
+text_in : (folder name : List ℕ) → IsUtf8 (path_in folder name) → IsUtf8 name
+text_in [] name text = text
+text_in (c ∷ folder) name text = text_under (c ∷ folder) name text
+
+-- what has a name that isn't UTF-8 is something else
+unnamed_is_other : (nodes : Nodes) (path : List ℕ) → IsDisk nodes → Has nodes path → ¬ (IsUtf8 path) → node nodes path ≡ Some Other
+unnamed_is_other nodes path disk has unnamed = elim (node nodes path) as (λ o. node nodes path ≡ o → is_some o ≡ true → o ≡ Some Other) [
+  | None ↦ λ _ h. absurd (false≢true h)
+  | Some (File bytes) ↦ λ is _. absurd (unnamed (disk.texts path (File bytes) is (λ h. cc)))
+  | Some Folder ↦ λ is _. absurd (unnamed (disk.texts path Folder is (λ h. cc)))
+  | Some Other ↦ λ _ _. refl
+] refl has
+
+-- where a name of a folder isn't UTF-8 the disk isn't plain
+pub unnamed_not_plain : (nodes : Nodes) (folder : List ℕ) (names : List (List ℕ)) → IsDisk nodes → ((name : List ℕ) → Contains names name → Has nodes (path_in folder name)) → HasUnnamed names → is_plain nodes ≡ false
+unnamed_not_plain nodes folder names disk there unnamed =
+    let path = path_in folder unnamed.0 in
+    other_not_plain nodes path (unnamed_is_other nodes path disk (there unnamed.0 unnamed.1) (λ text. unnamed.2 (text_in folder unnamed.0 text)))
+
+-- where a whole walk was made the disk is plain
+pub walked_plain : (nodes : Nodes) (files : List FileEntry) (listed : List (List ℕ)) → IsDisk nodes → Walked nodes files [] listed [] → is_plain nodes ≡ true
+walked_plain nodes files listed disk walked = all_plain nodes (λ path n is.
+    let has : Has nodes path = ap is_some is in
+    elim (walked.all path has) [
+      | inl filed ↦ let f = path_filed files path filed in let there = walked.are_files f.0 f.1 in
+          let same : Some (File there.0) ≡ Some n = sym there.1 ∙ ap (node nodes) f.2 ∙ is in
+          let file : n ≡ File there.0 = cc in rw file refl
+      | inr (inl old) ↦ folder_plain path n (disk.paths path has) is (walked.were_folders path old)
+      | inr (inr (inl found)) ↦ absurd (contains_none path found)
+      | inr (inr (inr (inl below))) ↦ absurd (contains_none below.0 below.1)
+      | inr (inr (inr (inr at))) ↦ absurd (contains_none at.0 at.1)
+    ])
+  where
+    folder_plain : (path : List ℕ) (n : Node) → is_path path ≡ true → node nodes path ≡ Some n → IsFolder nodes path → is_plain_node n ≡ true
+    folder_plain [] n path is folder = absurd (false≢true path)
+    folder_plain (c ∷ path) n _ is folder =
+        let same : Some Folder ≡ Some n = sym folder ∙ is in
+        let f : n ≡ Folder = cc in rw f refl

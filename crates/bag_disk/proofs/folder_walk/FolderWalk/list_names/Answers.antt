@@ -1,0 +1,40 @@
+use Rattle.std.proofs.Common.{◌∙◌, ◌++◌, ◌∷◌, [], Err, ap, refl, arith}
+use Rattle.bag_disk.proofs.DiskSteps.{turn, folder_ended, looks_at_first, looks_on, all_stand}
+use Rattle.bag_disk.proofs.Plain.{unnamed_not_plain}
+use Rattle.bag_disk.proofs.Refusals.{due_of_name}
+use Rattle.bag_disk.proofs.folder_walk.FolderWalk.list_names.Goals as goal
+
+pub loop-self-init : goal.loop-self-init
+loop-self-init g c = (looks_at_first (g.D.Disk.state c.args.disk.now), λ honest listed now. now, refl, omega arith, λ paths. paths)
+
+pub loop-self-preserved : goal.loop-self-preserved
+loop-self-preserved g c =
+    let old = g.D.Disk.state c.args.disk.now in
+    let at = g.D.Disk.state c.loop-self.disk in
+    let new = g.D.Disk.state c.next_name.new.self in (
+      looks_on old at new c.loop-self.invariant.0 c.in-Ok-Some.ensures.looks,
+      λ honest listed begun. turn old at new c.in-Ok-Some.field-0 c.loop-self.self.files.items c.add.new.self.files.items c.loop-self.self.folders.items c.add.new.self.folders.items listed c.args.folder.now c.args.folder.now c.in-Ok-Some.name c.as_str.result.now
+          c.loop-self.invariant.0 c.in-Ok-Some.ensures.looks c.in-Ok-Some.field-0-is c.in-Ok-Some.ensures.honest refl c.as_str.ensures
+          c.in_ok-add-in-Ok-Some.ensures.walked honest (c.loop-self.invariant.1 honest listed begun),
+      c.in_ok-add-in-Ok-Some.ensures.listed ∙ c.loop-self.invariant.2,
+      omega (arith, c.in_ok-add-in-Ok-Some.ensures.left, c.loop-self.invariant.3),
+      λ paths. c.in_ok-add-in-Ok-Some.ensures.paths (c.loop-self.invariant.4 paths),
+    )
+
+pub returns-in-Ok-None-clause-paths : goal.returns-in-Ok-None-clause-paths
+returns-in-Ok-None-clause-paths g c = c.loop-self.invariant.4
+
+pub returns-in-Ok-None-clause-walked : goal.returns-in-Ok-None-clause-walked
+returns-in-Ok-None-clause-walked g c = λ honest listed begun.
+    folder_ended (g.D.Disk.state c.args.disk.now) (g.D.Disk.state c.loop-self.disk) (g.D.Disk.state c.next_name.new.self) c.in-Ok-None.field-0 c.loop-self.self.files.items c.loop-self.self.folders.items listed c.args.folder.now
+    c.loop-self.invariant.0 c.in-Ok-None.field-0-is c.in-Ok-None.ensures.honest honest (c.loop-self.invariant.1 honest listed begun)
+
+pub returns-in-Err-clause-refused : goal.returns-in-Err-clause-refused
+returns-in-Err-clause-refused g c =
+    let nodes = (g.D.Disk.state c.args.disk.now).nodes in
+    due_of_name _ _ _ c.in-Err.fault c.of_name.result c.of_name.ensures (λ is honest listed begun.
+    unnamed_not_plain nodes c.args.folder.now _ (g.met.D.Disk.is_disk c.args.disk.now) (c.loop-self.invariant.1 honest listed begun).there (c.in-Err.ensures.unnamed (ap Err is) (c.loop-self.invariant.0.honest ∙ honest)))
+
+pub returns-clause-refused : goal.returns-clause-refused
+returns-clause-refused g c = λ honest listed begun.
+    all_stand (g.D.Disk.state c.args.disk.now).nodes c.loop-self.self.files.items c.loop-self.self.folders.items (listed ++ c.args.folder.now ∷ []) _ (c.loop-self.invariant.1 honest listed begun).walked

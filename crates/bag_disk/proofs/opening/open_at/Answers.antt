@@ -1,0 +1,44 @@
+use Rattle.std.proofs.Common.{◌∙◌, sym, ap, Some, Err}
+use Rattle.bag_disk.specs.Disk.{bytes_of, node}
+use Rattle.bag_disk.specs.BagBelow.{file_of_disk}
+use Rattle.bag_disk.proofs.DiskSteps.{file_there, folder_there}
+use Rattle.bag_disk.proofs.DiskPaths.{no_path}
+use Rattle.bag_disk.proofs.Plain.{other_seen}
+use Rattle.bag_disk.proofs.Refusals.{due_for, due_of_path}
+use Rattle.bag_disk.proofs.opening.open_at.Goals as goal
+
+pub returns-then-not-is_path-clause-refused : goal.returns-then-not-is_path-clause-refused
+returns-then-not-is_path-clause-refused g c = λ honest.
+    let nodes = (g.D.Disk.state c.args.disk.now).nodes in
+    file_of_disk nodes c.args.path.now ∙ ap bytes_of (no_path nodes c.args.path.now (g.met.D.Disk.is_disk c.args.disk.now) (sym c.is_path.ensures ∙ c.if-not-is_path.true))
+
+pub returns-in-Err-clause-refused : goal.returns-in-Err-clause-refused
+returns-in-Err-clause-refused g c =
+    let nodes = (g.D.Disk.state c.args.disk.now).nodes in
+    due_for _ _ _ _ _ _ c.in-Err.refusal (λ over. over) (λ none honest. file_of_disk nodes c.args.path.now ∙ ap bytes_of (none honest)) (λ never. never) c.in-Err.ensures.refused
+
+pub returns-in-Ok-Folder-clause-refused : goal.returns-in-Ok-Folder-clause-refused
+returns-in-Ok-Folder-clause-refused g c = λ honest.
+    let nodes = (g.D.Disk.state c.args.disk.now).nodes in
+    file_of_disk nodes c.args.path.now ∙ ap bytes_of (folder_there (node nodes c.args.path.now) (c.in-Ok-Folder.ensures.found honest (c.in-Ok.ensures.reached honest) ∙ ap Some c.in-Ok-Folder.field-0-is))
+
+pub returns-in-Ok-Other-clause-refused : goal.returns-in-Ok-Other-clause-refused
+returns-in-Ok-Other-clause-refused g c = λ honest.
+    other_seen (g.D.Disk.state c.args.disk.now).nodes c.args.path.now c.in-Ok-Other.field-0 (c.in-Ok-Other.ensures.found honest (c.in-Ok.ensures.reached honest)) c.in-Ok-Other.field-0-is
+
+pub returns-in-Err-entry_at-clause-refused : goal.returns-in-Err-entry_at-clause-refused
+returns-in-Err-entry_at-clause-refused g c =
+    let nodes = (g.D.Disk.state c.args.disk.now).nodes in
+    due_of_path _ _ _ c.in-Err-entry_at.fault c.of_path.result c.of_path.ensures (λ is honest. file_of_disk nodes c.args.path.now ∙ ap bytes_of (c.in-Err-entry_at.ensures.absent (ap Err is) honest (c.in-Ok.ensures.reached honest)))
+
+pub returns-in-Ok-open-clause-honest : goal.returns-in-Ok-open-clause-honest
+returns-in-Ok-open-clause-honest g c = λ honest.
+    let nodes = (g.D.Disk.state c.args.disk.now).nodes in
+    let reached = c.in-Ok.ensures.reached honest in
+    let there = file_there (node nodes c.args.path.now) c.in-Ok-File.field-0-0 (c.in-Ok-File.ensures.found honest reached ∙ ap Some c.in-Ok-File.field-0-is) in
+    (there.0, file_of_disk nodes c.args.path.now ∙ ap bytes_of there.1, c.in-Ok-open.ensures.honest honest reached there.0 there.1)
+
+pub returns-in-Err-open-clause-refused : goal.returns-in-Err-open-clause-refused
+returns-in-Err-open-clause-refused g c =
+    let nodes = (g.D.Disk.state c.args.disk.now).nodes in
+    due_of_path _ _ _ c.in-Err-open.fault c.of_path-in-Err-open.result c.of_path-in-Err-open.ensures (λ is honest. file_of_disk nodes c.args.path.now ∙ ap bytes_of (c.in-Err-open.ensures.absent (ap Err is) honest (c.in-Ok.ensures.reached honest)))

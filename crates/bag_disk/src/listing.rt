@@ -1,0 +1,97 @@
+//! The files below the base folder of a disk.
+ghost use Rattle.std.specs.Prelude.{◌≡◌, ◌<◌, [], IfOk, IfErr, OnOk, Any, ◌↔◌, codes, IsTrue};
+ghost use Rattle.std.specs.FinMap as map;
+ghost use Rattle.std.specs.List.Sorted.{IsPermutation};
+ghost use Rattle.bag_text.specs.Path.{is_payload_path};
+ghost use Rattle.bag_tree.specs.Listing.{IsOrdered, HasItsFolder, IsListingOf};
+ghost use Rattle.bag_tree.specs.Tree.{most_entries};
+ghost use Rattle.bag_disk.specs.Disk.{OnlyLooks, is_plain};
+ghost use Rattle.bag_disk.specs.DiskBag.{bag_of};
+ghost use Rattle.bag_disk.specs.FolderWalk.{ArePaths, Walked};
+ghost use Rattle.bag_disk.specs.Refusal.{HasOther, IsDue};
+
+use crate::Disk;
+use crate::folder_walk::FolderWalk;
+use crate::limit::no_room;
+use crate::path_order::{all_differ, sort_by_key, sort_by_path};
+use crate::refusal::Refusal;
+use bag_text::{Items, Text, is_payload};
+use bag_tree::{FileEntry, Listing};
+use std::alloc::Global;
+
+/// Lists the files below the base folder. It follows no link in it, and opens no file.
+pub fn list_below<D: Disk>(disk: &mut D, alloc: Global) -> Result<Listing, Refusal>
+    ensures looks { OnlyLooks (D.state disk.old) (D.state disk.new) }
+    ensures ordered { IfOk result (λ listing. IsOrdered listing.files) }
+    ensures data { IfOk result HasItsFolder }
+    ensures plain { OnOk result (IsTrue (D.state disk.old).honest → IsTrue (is_plain (D.state disk.old).nodes)) }
+    ensures honest { IfOk result (λ listing. IsTrue (D.state disk.old).honest → IsListingOf (bag_of (D.state disk.old).nodes) listing) }
+    ensures refused { IfErr result (IsDue (HasOther (D.state disk.old))
+        ⊥ (IsTrue (D.state disk.old).honest → most_entries < map.len (D.state disk.old).nodes)) }
+{
+    match walk(disk, alloc) {
+        Ok(walk) => listing_of(walk),
+        Err(refusal) => Err(refusal),
+    }
+}
+
+/// Finds all that stands below the base folder.
+fn walk<D: Disk>(disk: &mut D, alloc: Global) -> Result<FolderWalk, Refusal>
+    ensures paths { IfOk result (λ walk. ArePaths walk.files.items) }
+    ensures looks { OnlyLooks (D.state disk.old) (D.state disk.new) }
+    ensures walked { IfOk result (λ walk. IsTrue (D.state disk.old).honest
+        → Walked (D.state disk.old).nodes walk.files.items [] walk.listed.items []) }
+    ensures refused { IfErr result (IsDue (HasOther (D.state disk.old))
+        ⊥ (IsTrue (D.state disk.old).honest → most_entries < map.len (D.state disk.old).nodes)) }
+{
+    let mut walk = FolderWalk::new(alloc)?;
+    while let Some(folder) = walk.folders.pop() {
+        match walk.list_folder(disk, folder) {
+            Ok(()) => {}
+            Err(Refusal::TooMany) => return Err(no_room(walk)),
+            Err(refusal) => return Err(refusal),
+        }
+    }
+    Ok(walk)
+}
+
+/// The listing of what was found: its files sorted, where no two have the same path, and the payload folder was found where
+/// files in it were.
+fn listing_of(walk: FolderWalk) -> Result<Listing, Refusal>
+    requires { ArePaths walk.files.items }
+    ensures ordered { IfOk result (λ listing. IsOrdered listing.files) }
+    ensures files { IfOk result (λ listing. IsPermutation walk.files.items listing.files) }
+    ensures data { IfOk result HasItsFolder }
+    ensures refused { IfErr result (IsDue ⊥ ⊥ ⊥) }
+    ensures has_data { IfOk result (λ listing. IsTrue listing.has_data ↔ Any (λ folder. folder ≡ codes "data") walk.listed.items) }
+{
+    let FolderWalk { files, listed, .. } = walk;
+    let has_data = has_data(listed.as_slice());
+    let mut files = files;
+    sort_by_key(&mut files)?;
+    sort_by_path(&mut files);
+    if !all_differ(files.as_slice()) {
+        return Err(Refusal::Device);
+    }
+    if !has_data && has_payload(files.as_slice()) {
+        return Err(Refusal::Device);
+    }
+    Ok(Listing {
+        files: Items::from_vec(files),
+        has_data,
+    })
+}
+
+/// Whether one of the folders is the payload folder.
+fn has_data(folders: &[Text]) -> bool
+    ensures { IsTrue result ↔ Any (λ folder. folder ≡ codes "data") folders.now }
+{
+    folders.iter().any(|folder| folder.as_str() == "data")
+}
+
+/// Whether one of the files is in the payload folder.
+fn has_payload(files: &[FileEntry]) -> bool
+    ensures { IsTrue result ↔ Any (λ file. IsTrue (is_payload_path file.path)) files.now }
+{
+    files.iter().any(|file| is_payload(file.path.as_str()))
+}

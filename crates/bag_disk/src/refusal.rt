@@ -1,0 +1,78 @@
+//! Why the disk refused.
+ghost use Rattle.std.specs.Prelude.{◌≡◌};
+ghost use Rattle.bag_disk.specs.Refusal.{at_known, of_name, of_path};
+ghost use Rattle.bag_disk.specs.declared.refusal.Refusal.TheVariants.{Memory};
+
+use crate::DiskFault;
+use std::alloc::{AllocError, AllocFailed};
+
+/// Why the disk refused.
+#[derive(Clone, Copy)]
+pub enum Refusal {
+    /// The system refused.
+    Device,
+    /// What stands there is neither a folder nor a regular file.
+    Special,
+    /// A name isn't UTF-8.
+    Name,
+    /// There is no such file.
+    NotFound,
+    /// There are more than 16,777,216 files and folders.
+    TooMany,
+    /// A growth was refused.
+    Memory,
+    /// What was to be made is there.
+    Exists,
+}
+
+impl From<AllocError> for Refusal {
+    ghost from_gives = { λ _ r. r ≡ Memory };
+
+    fn from(_: AllocError) -> Self {
+        Refusal::Memory
+    }
+}
+
+impl<T: Drop> From<AllocFailed<T>> for Refusal {
+    ghost from_gives = { λ _ r. r ≡ Memory };
+
+    fn from(_: AllocFailed<T>) -> Self {
+        Refusal::Memory
+    }
+}
+
+impl Refusal {
+    /// What a fault of the disk means at the path of one file.
+    pub fn of_path(fault: DiskFault) -> Refusal
+        ensures { result ≡ of_path fault }
+    {
+        match fault {
+            DiskFault::NotFound => Refusal::NotFound,
+            DiskFault::Exists | DiskFault::Name | DiskFault::Device => Refusal::Device,
+            DiskFault::Memory => Refusal::Memory,
+        }
+    }
+
+    /// What a fault of the disk means where its own answers named what stands there.
+    pub fn at_known(fault: DiskFault) -> Refusal
+        ensures { result ≡ at_known fault }
+    {
+        match fault {
+            DiskFault::NotFound | DiskFault::Exists | DiskFault::Name | DiskFault::Device => {
+                Refusal::Device
+            }
+            DiskFault::Memory => Refusal::Memory,
+        }
+    }
+
+    /// What a fault of the disk means in place of a name.
+    pub fn of_name(fault: DiskFault) -> Refusal
+        ensures { result ≡ of_name fault }
+    {
+        match fault {
+            DiskFault::Name => Refusal::Name,
+            DiskFault::NotFound | DiskFault::Exists | DiskFault::Device => Refusal::Device,
+            DiskFault::Memory => Refusal::Memory,
+        }
+    }
+}

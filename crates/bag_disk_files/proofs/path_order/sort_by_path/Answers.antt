@@ -1,9 +1,0 @@
-use Rattle.std.proofs.Common.{rules, is_lt}
-use Rattle.std.specs.Cmp.Lexicographic.{nat_list_cmp_total}
-use Rattle.std.proofs.lemmas.List.Sorted.{answers_always, ranks_by}
-use Rattle.bag_text.specs.Text.{text_cmp}
-use Rattle.bag_disk_files.proofs.path_order.sort_by_path.Goals as goal
-
-pub returns-clause-sorted : goal.returns-clause-sorted
-returns-clause-sorted c =
-    c.sort_unstable_by.ensures.sorted (λ x y. is_lt (text_cmp x.path y.path)) (ranks_by nat_list_cmp_total (λ file. file.path)) (answers_always _ _ _ (λ f a r g called. search rules))

@@ -1,4 +1,0 @@
-pub mod BagBelow
-pub mod DiskBag
-pub mod FolderWalk
-pub mod Refusal

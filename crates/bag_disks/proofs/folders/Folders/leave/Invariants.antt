@@ -1,8 +1,0 @@
-use Rattle.bag_file_tree.specs.FileTree.{state_after}
-use Rattle.bag_disks.specs.Visits.{Left}
-use Rattle.bag_disks.proofs.folders.Folders.leave.Given as goal
-
-abbrev pub ghost-note_of : goal.ghost-note_of
-ghost-note_of g a =
-    let tree = a._value.now in
-    Left (state_after (g.D.Disk.Disk.state tree.disk) tree.answered.failures tree.answered.given tree.answered.last)

@@ -1,5 +1,0 @@
-use Rattle.bag_disks.specs.Visits.{Read}
-use Rattle.bag_disks.proofs.folders.Folders.read_file.Given as goal
-
-abbrev pub ghost-note_of : goal.ghost-note_of
-ghost-note_of g a = Read a._value.now.now

@@ -1,4 +1,0 @@
-use Rattle.bag_disks.proofs.visits.Visits.note_of.Given as goal
-
-abbrev pub ghost-note : goal.ghost-note
-ghost-note g a = g.event

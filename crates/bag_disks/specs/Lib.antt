@@ -1,3 +1,0 @@
-pub mod File
-pub mod Folders
-pub mod Visits

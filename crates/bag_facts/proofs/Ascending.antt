@@ -1,0 +1,99 @@
+-- An ascending list is determined by its members.
+use Rattle.std.proofs.Common.{◌≡◌, zero, suc, List, [], ◌∷◌, refl, sym, ap, subst, ◌∙◌, ◌⊎◌, inl, inr, ◌↔◌, true, arith, Contains}
+use Rattle.std.specs.declared.cmp.Ordering.{Ordering}
+use Rattle.std.specs.declared.cmp.Ordering.TheVariants.{Less, Equal, Greater}
+use Rattle.std.specs.Ordering.{ordering_reverse, is_eq, eq_by_cmp}
+use Rattle.std.specs.Cmp.{IsTotalOrder}
+use Rattle.std.specs.List.{AllByRecursion}
+use Rattle.std.specs.List.Sorted.{IsStrictlySortedBy}
+use Rattle.bag_facts.specs.FaultOrder.{OneOfThree}
+
+less_not_greater : Less ≡ Greater → ⊥
+less_not_greater h = cc
+
+-- an answer that stays the same the other way round
+self_tie : (o : Ordering) → o ≡ ordering_reverse o → o ≡ Equal
+self_tie Less e = cc
+self_tie Equal e = refl
+self_tie Greater e = cc
+
+tie_is : (o : Ordering) → is_eq o ≡ true → o ≡ Equal
+tie_is Less e = cc
+tie_is Equal e = refl
+tie_is Greater e = cc
+
+module _ {A : Type 0} {R : A → A → Ordering} (total : IsTotalOrder R) where
+  pub not_both : (x y : A) → R x y ≡ Less → R y x ≡ Less → ⊥
+  not_both x y p q = less_not_greater (sym p ∙ total.antisymm x y ∙ ap ordering_reverse q)
+
+  none_in_empty : (z : A) → Contains [] z → ⊥
+  none_in_empty z (k, inside, is) = absurd (omega arith)
+
+  member_of_cons : (x : A) (xs : List A) (z : A) → Contains (x ∷ xs) z → (x ≡ z) ⊎ Contains xs z
+  member_of_cons x xs z (zero, inside, is) = inl is
+  member_of_cons x xs z (suc k, inside, is) = inr (k, omega arith, is)
+
+  member_after : (x : A) (xs : List A) (z : A) → Contains xs z → Contains (x ∷ xs) z
+  member_after x xs z (k, inside, is) = (suc k, omega arith, is)
+
+  at_member : (P : A → Type 0) (xs : List A) (z : A) → AllByRecursion P xs → Contains xs z → P z
+  at_member P [] z all (k, inside, is) = absurd (omega arith)
+  at_member P (x ∷ xs) z all has = elim (member_of_cons x xs z has) [ inl same ↦ subst P same all.0 | inr later ↦ at_member P xs z all.1 later ]
+
+  -- an element that is below all of a list is not in it
+  not_in_above : (x : A) (xs : List A) → AllByRecursion (λ y. R x y ≡ Less) xs → Contains xs x → ⊥
+  not_in_above x xs all has = let self = at_member (λ y. R x y ≡ Less) xs x all has in not_both x x self self
+
+  heads_tie : (x y : A) (xs ys : List A) → AllByRecursion (λ z. R x z ≡ Less) xs → AllByRecursion (λ z. R y z ≡ Less) ys
+      → Contains (y ∷ ys) x → Contains (x ∷ xs) y → x ≡ y
+  heads_tie x y xs ys above_x above_y has_x has_y =
+      elim (member_of_cons y ys x has_x) [
+        | inl same ↦ sym same
+        | inr later ↦ elim (member_of_cons x xs y has_y) [
+          | inl same ↦ same
+          | inr other ↦ absurd (not_both x y (at_member (λ z. R x z ≡ Less) xs y above_x other) (at_member (λ z. R y z ≡ Less) ys x above_y later))
+        ]
+      ]
+
+  -- what is in the rest of one list is in the rest of the other
+  rest_in : (x y : A) (xs ys : List A) → x ≡ y → AllByRecursion (λ z. R x z ≡ Less) xs → ((z : A) → Contains (x ∷ xs) z → Contains (y ∷ ys) z)
+      → (z : A) → Contains xs z → Contains ys z
+  rest_in x y xs ys same above_x moves z has =
+      elim (member_of_cons y ys z (moves z (member_after x xs z has))) [
+        | inl is ↦ absurd (not_in_above x xs above_x (subst (Contains xs) (sym (same ∙ is)) has))
+        | inr later ↦ later
+      ]
+
+  pub same_lists : (xs ys : List A) → IsStrictlySortedBy R xs → IsStrictlySortedBy R ys
+      → ((z : A) → Contains xs z → Contains ys z) → ((z : A) → Contains ys z → Contains xs z) → xs ≡ ys
+  unfolding IsStrictlySortedBy
+  same_lists [] [] p q there back = refl
+  same_lists [] (y ∷ ys) p q there back = absurd (none_in_empty y (back y (zero, omega arith, refl)))
+  same_lists (x ∷ xs) [] p q there back = absurd (none_in_empty x (there x (zero, omega arith, refl)))
+  same_lists (x ∷ xs) (y ∷ ys) p q there back =
+      let same = heads_tie x y xs ys p.0 q.0 (there x (zero, omega arith, refl)) (back y (zero, omega arith, refl)) in
+      let rest = same_lists xs ys p.1 q.1 (rest_in x y xs ys same p.0 there) (rest_in y x ys xs (sym same) q.0 back) in
+      λ i. same i ∷ rest i
+
+  pub self_ties : (x : A) → R x x ≡ Equal
+  self_ties x = self_tie (R x x) (total.antisymm x x)
+
+  pub not_less_than_itself : (x y : A) → x ≡ y → R x y ≡ Less → ⊥
+  not_less_than_itself x y same less = let self : R x x ≡ Less = subst (λ z. R x z ≡ Less) (sym same) less in not_both x x self self
+
+  -- one of three facts holds, and no two of them do
+  one_of : (x y : A) (o : Ordering) → (R x y ≡ Equal → x ≡ y) → R x y ≡ o → (R x y ≡ Less) ⊎ ((x ≡ y) ⊎ (R y x ≡ Less))
+  one_of x y Less tied e = inl e
+  one_of x y Equal tied e = inr (inl (tied e))
+  one_of x y Greater tied e = inr (inr (total.antisymm y x ∙ ap ordering_reverse e))
+
+  pub one_of_three : ((x y : A) → R x y ≡ Equal → x ≡ y) → (x y : A) → OneOfThree (R x y ≡ Less) (x ≡ y) (R y x ≡ Less)
+  one_of_three tied x y = (
+    one_of x y (R x y) (tied x y) refl,
+    (λ h. not_less_than_itself x y h.1 h.0),
+    (λ h. not_both x y h.0 h.1),
+    (λ h. not_less_than_itself y x (sym h.0) h.1),
+  )
+
+  pub equal_is_one : ((x y : A) → R x y ≡ Equal → x ≡ y) → (x y : A) → (eq_by_cmp R x y ≡ true) ↔ (x ≡ y)
+  equal_is_one tied x y = (λ h. tied x y (tie_is (R x y) h), λ same. ap is_eq (subst (λ z. R x z ≡ Equal) same (self_ties x)))

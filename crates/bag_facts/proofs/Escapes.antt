@@ -1,0 +1,40 @@
+-- The escapes of a field.
+use Rattle.std.proofs.Common.{◌≡◌, ℕ, ◌||◌, ◌==◌, Bool, true, false, not, cond, length, List, [], ◌∷◌, ◌++◌, refl, ap, ◌∙◌, nat_lt, arith, codes}
+use Rattle.std.specs.Str.{bytes_eq}
+use Rattle.std.specs.List.{flat_map}
+use Rattle.std.proofs.lemmas.Bool.{agree_below, agree_below_at}
+use Rattle.std.proofs.lemmas.Bool.Decides.{nat_tests}
+use Rattle.percent_encoding.specs.AsciiSet.{contains, should_percent_encode}
+use Rattle.percent_encoding.specs.Percent.{percent_encode, percent_encode_byte, encode_byte}
+use Rattle.bag_facts.specs.declared.field.TheConstants.{ESCAPED}
+use Rattle.bag_facts.specs.FaultLine.{is_encoded, encoded, field}
+
+table : agree_below (contains ESCAPED) is_encoded 128 ≡ true
+table = refl
+
+same_test_at : (b : ℕ) (t : Bool) → nat_lt b 128 ≡ t → (not t || contains ESCAPED b) ≡ is_encoded b
+same_test_at b true e = agree_below_at (contains ESCAPED) is_encoded 128 b table (grind (arith, nat_tests))
+same_test_at b false e = grind (arith, nat_tests)
+
+-- what the set escapes is what the definition does
+pub same_test : (b : ℕ) → should_percent_encode ESCAPED b ≡ is_encoded b
+unfolding should_percent_encode
+same_test b = same_test_at b (nat_lt b 128) refl
+
+same_byte : (b : ℕ) → encode_byte ESCAPED b ≡ encoded b
+same_byte b = ap (λ t. cond t (percent_encode_byte b) (b ∷ [])) (same_test b)
+
+pub same_escapes : (bs : List ℕ) → percent_encode ESCAPED bs ≡ flat_map encoded bs
+unfolding percent_encode
+same_escapes [] = refl
+same_escapes (b ∷ bs) = ap (λ front. front ++ flat_map (encode_byte ESCAPED) bs) (same_byte b) ∙ ap (λ rest. encoded b ++ rest) (same_escapes bs)
+
+-- a text that is neither empty nor a hyphen
+pub other_field : (t : List ℕ) → bytes_eq t [] ≡ false → bytes_eq t (codes "-") ≡ false → field t ≡ flat_map encoded t
+other_field t some other =
+    ap (λ b. cond b (codes "-") (cond (bytes_eq t (codes "-")) (codes "%2D") (flat_map encoded t))) some
+    ∙ ap (λ b. cond b (codes "%2D") (flat_map encoded t)) other
+
+pub nonempty : (t : List ℕ) → (length t == 0) ≡ false → bytes_eq t [] ≡ false
+nonempty [] e = cc
+nonempty (x ∷ t) e = refl

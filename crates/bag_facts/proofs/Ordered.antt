@@ -1,0 +1,62 @@
+-- The order of faults.
+use Rattle.std.proofs.Common.{◌≡◌, refl}
+use Rattle.std.specs.declared.cmp.Ordering.{Ordering}
+use Rattle.std.specs.declared.cmp.Ordering.TheVariants.{Less, Equal, Greater}
+use Rattle.std.specs.Ordering.{ordering_then}
+use Rattle.std.specs.Cmp.{IsTotalOrder, nat_cmp_total}
+use Rattle.std.specs.Cmp.Lexicographic.{nat_list_cmp_total}
+use Rattle.std.specs.FinMap.{IsAntisymmetric, nat_cmp-IsAntisymmetric, slice_cmp-IsAntisymmetric}
+use Rattle.std.proofs.lemmas.Cmp.{on_total, then_total}
+use Rattle.bag_text.specs.Text.{text_cmp}
+use Rattle.bag_text.specs.Alg.{rank_or_zero}
+use Rattle.bag_text.specs.Code.{number, stage}
+use Rattle.bag_facts.specs.FaultOrder.{fault_cmp, FaultsAreOrdered, OneOfThreeHolds, EqualFaultsAreOne, AscendingFaultsAreOne}
+use Rattle.bag_facts.proofs.Ascending.{same_lists, one_of_three, equal_is_one}
+use Rattle.bag_facts.proofs.Algs.{same_alg}
+use Rattle.bag_facts.proofs.Codes.{same_code}
+
+pub fault_cmp_total : IsTotalOrder fault_cmp
+fault_cmp_total =
+    then_total (then_total (then_total (then_total (then_total
+    (on_total (λ f. stage f.code) nat_cmp_total)
+    (on_total (λ f. f.path) nat_list_cmp_total))
+    (on_total (λ f. rank_or_zero f.alg) nat_cmp_total))
+    (on_total (λ f. f.line) nat_cmp_total))
+    (on_total (λ f. number f.code) nat_cmp_total))
+    (on_total (λ f. f.detail) nat_list_cmp_total)
+
+-- both comparisons of a pair tie where the pair does
+both_tie : (a b : Ordering) → ordering_then a b ≡ Equal → (a ≡ Equal) × (b ≡ Equal)
+both_tie Less b e = cc
+both_tie Equal b e = (refl, e)
+both_tie Greater b e = cc
+
+text_cmp_same : IsAntisymmetric text_cmp
+text_cmp_same = slice_cmp-IsAntisymmetric nat_cmp-IsAntisymmetric
+
+-- faults that tie are one fault
+pub fault_cmp_same : IsAntisymmetric fault_cmp
+fault_cmp_same f g e =
+    let details = both_tie _ _ e in
+    let numbers = both_tie _ _ details.0 in
+    let lines = both_tie _ _ numbers.0 in
+    let ranks = both_tie _ _ lines.0 in
+    let paths = both_tie _ _ ranks.0 in
+    let code_is = same_code f.code g.code (nat_cmp-IsAntisymmetric _ _ numbers.1) in
+    let path_is = text_cmp_same f.path g.path paths.1 in
+    let alg_is = same_alg f.alg g.alg (nat_cmp-IsAntisymmetric _ _ ranks.1) in
+    let line_is = nat_cmp-IsAntisymmetric f.line g.line lines.1 in
+    let detail_is = text_cmp_same f.detail g.detail details.1 in
+    λ i. record { code = code_is i; path = path_is i; alg = alg_is i; line = line_is i; detail = detail_is i }
+
+pub faults_are_ordered : FaultsAreOrdered
+faults_are_ordered = (fault_cmp_total, fault_cmp_same)
+
+pub one_of_three_holds : OneOfThreeHolds
+one_of_three_holds = one_of_three fault_cmp_total fault_cmp_same
+
+pub equal_faults_are_one : EqualFaultsAreOne
+equal_faults_are_one = equal_is_one fault_cmp_total fault_cmp_same
+
+pub ascending_faults_are_one : AscendingFaultsAreOne
+ascending_faults_are_one xs ys p q members = same_lists fault_cmp_total xs ys p q (λ f has. (members f).0 has) (λ f has. (members f).1 has)

@@ -1,5 +1,0 @@
-use Rattle.bag_fault.proofs.Ordered.{one_of_three_holds}
-use Rattle.bag_fault.proofs.laws.one_of_three_holds.Goals as goal
-
-pub returns : goal.returns
-returns c = one_of_three_holds

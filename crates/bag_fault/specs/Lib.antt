@@ -1,4 +1,0 @@
-pub mod EarlierReports
-pub mod FaultLine
-pub mod FaultOrder
-pub mod LineFields

@@ -1,5 +1,0 @@
-use Rattle.bag_line.proofs.FetchLineParts.{read_or_reason}
-use Rattle.bag_line.proofs.laws.fetch_lines_read_or_have_one_reason.Goals as goal
-
-pub returns : goal.returns
-returns c = read_or_reason

@@ -1,8 +1,0 @@
-use Rattle.bag_write.proofs.DeclarationReadAgain.{declaration_again}
-use Rattle.bag_write.proofs.InfoReadAgain.{info_again}
-use Rattle.bag_write.proofs.ManifestReadAgain.{manifest_again}
-use Rattle.bag_made.proofs.NoFault.{made_is_valid}
-use Rattle.bag_made.proofs.laws.a_made_bag_has_no_fault.Goals as goal
-
-pub returns : goal.returns
-returns c = made_is_valid declaration_again info_again manifest_again

@@ -1,5 +1,0 @@
-use Rattle.bag_made.proofs.PathOrder.{manifests_ascend}
-use Rattle.bag_made.proofs.laws.manifests_ascend.Goals as goal
-
-pub returns : goal.returns
-returns c = manifests_ascend

@@ -1,5 +1,0 @@
-use Rattle.bag_made.proofs.PayloadIsTheFolder.{payload_is}
-use Rattle.bag_made.proofs.laws.the_payload_is_the_folder.Goals as goal
-
-pub returns : goal.returns
-returns c = payload_is

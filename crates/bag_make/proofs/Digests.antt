@@ -1,0 +1,38 @@
+-- A digest has the algorithm's length and lower-case digits.
+use Rattle.std.proofs.Common.{◌≡◌, ℕ, ◌*◌, ◌/◌, ◌%◌, ◌<◌, true, false, List, [], ◌∷◌, length, refl, ap, ◌∙◌, arith, slice_index}
+use Rattle.std.specs.List.{list_all}
+use Rattle.std.proofs.lemmas.Bool.{agree_below_at, and_from, or_from, not_from_true, eq-eqb}
+use Rattle.std.proofs.lemmas.List.Elements.{All-head, All-tail}
+use Rattle.hex.specs.Hex.{encode_with, encode_lower, lower_digits}
+use Rattle.hex.proofs.HexLemmas.{length-encode_with}
+use Rattle.bag_text.specs.Alg.{hex_len}
+use Rattle.bag_text.specs.declared.alg.Alg.{Alg}
+use Rattle.bag_text.specs.declared.alg.Alg.TheVariants.{Md5}
+use Rattle.bag_tree.specs.Digest.{hash, hash_len, digest}
+use Rattle.bag_tree.proofs.HashValues.{AreBytes, value}
+use Rattle.bag_tags.specs.Entry.{is_lower_hex_digit, is_bad_digest}
+
+lower_digit : (d : ℕ) → d < 16 → is_lower_hex_digit (slice_index lower_digits d) ≡ true
+lower_digit d l = agree_below_at (λ d. is_lower_hex_digit (slice_index lower_digits d)) (λ d. true) 16 d refl l
+
+lower_each : (bytes : List ℕ) → AreBytes bytes → list_all is_lower_hex_digit (encode_lower bytes) ≡ true
+unfolding encode_with
+lower_each [] all = refl
+lower_each (b ∷ bytes) all =
+    let small : b < 256 = All-head (λ b. b < 256) b bytes all in
+    and_from _ _ (lower_digit (b / 16) (omega arith))
+    (and_from _ _ (lower_digit (b % 16) (omega arith)) (lower_each bytes (All-tail (λ b. b < 256) b bytes all)))
+
+twice : (alg : Alg) → 2 * hash_len alg ≡ hex_len alg
+twice Md5 = refl
+twice _ = refl
+
+digest_length : (alg : Alg) (bytes : List ℕ) → length (digest alg bytes) ≡ hex_len alg
+digest_length alg bytes = length-encode_with lower_digits (hash alg bytes) ∙ ap (λ n. 2 * n) (value alg bytes).0 ∙ twice alg
+
+-- a digest can be written
+pub good_digest : (alg : Alg) (bytes : List ℕ) → is_bad_digest alg (digest alg bytes) ≡ false
+good_digest alg bytes =
+    or_from _ _
+    (not_from_true _ (eq-eqb (length (digest alg bytes)) (hex_len alg) (digest_length alg bytes)))
+    (not_from_true _ (lower_each (hash alg bytes) (value alg bytes).1))

@@ -1,0 +1,101 @@
+-- Stage 6: the manifests of a made bag name its payload, and the tag files that are there.
+use Rattle.std.proofs.Common.{◌≡◌, inl, inr, ℕ, ◌==◌, true, false, List, ◌∷◌, length, nat_lt, sym, ap, ◌∙◌, subst, Contains, arith}
+use Rattle.std.proofs.lemmas.Bool.{and_parts, eqb-true, ltb-true}
+use Rattle.bag_text.specs.Path.{under, components, is_path, is_payload_path}
+use Rattle.bag_text.specs.declared.alg.Alg.{Alg}
+use Rattle.bag_text.specs.declared.code.Code.{Code}
+use Rattle.bag_text.specs.declared.code.Code.TheVariants.{PayloadFileMissing, TagFileMissing, PayloadFileNotListed, NameClash}
+use Rattle.bag_text.proofs.ListOf.{contains_cases}
+use Rattle.bag_read.specs.TagName.{tag_path}
+use Rattle.bag_read.specs.declared.kind.Kind.{Kind}
+use Rattle.bag_read.specs.declared.kind.Kind.TheVariants.{Payload, Tag}
+use Rattle.bag_read.specs.declared.tag_name.TagName.{TagName}
+use Rattle.bag_read.specs.declared.tag_name.TagName.TheVariants.{Declaration, Info, Manifest}
+use Rattle.bag_read.proofs.TagPaths.{in_base}
+use Rattle.bag_tree.specs.Bag.{Bag, HasFile, file, files_of}
+use Rattle.bag_facts.specs.declared.fault.Fault.{Fault}
+use Rattle.bag_facts.specs.Facts.{rules_in}
+use Rattle.bag_stages.proofs.LeftOut.{left_out_by, not_both}
+use Rattle.bag_stages.specs.CompletenessStage.{Missing, CompletenessHolds, IsOfCompleteness}
+use Rattle.bag_report.specs.Report.{asks}
+use Rattle.bag_tags.specs.Element.{NewElement}
+use Rattle.bag_tags.specs.ReadAgain.{ManifestIsReadAgain}
+use Rattle.bag_make.specs.Made.{File, data_folder, new_payload, named_tag_files, declaration_file, info_file, payload_manifests, made}
+use Rattle.bag_make.specs.Valid.{full}
+use Rattle.bag_make.proofs.Entries.{AreWritable, listed, listed_named, named_listed}
+use Rattle.bag_make.specs.Contents.{IsNew, IsNewText}
+use Rattle.bag_facts.proofs.Mapped.{mapped_contains}
+use Rattle.bag_make.proofs.MadeRules.{made_rules}
+use Rattle.bag_make.proofs.Held.{held_is, content_of, payload_member, payload_manifest_member, has_payload, has_declaration, has_info, has_manifest}
+
+-- a tag file stands in the base folder
+pub no_payload_tag : (tag : TagName) → is_payload_path (tag_path tag) ≡ true → ⊥
+no_payload_tag tag e =
+    let long : nat_lt 1 (length (components (tag_path tag))) ≡ true = (and_parts _ (nat_lt 1 (length (components (tag_path tag)))) e).1 in
+    let one : (length (components (tag_path tag)) == 1) ≡ true = (and_parts (is_path (tag_path tag)) (length (components (tag_path tag)) == 1) (in_base tag)).1 in
+    absurd (omega (arith, ltb-true 1 (length (components (tag_path tag))) long, eqb-true (length (components (tag_path tag))) 1 one))
+
+module _ (bag : Bag) (algs : List Alg) (info : List NewElement) where
+  -- what tag manifests are to name are tag files
+  pub named_tag : (q c : List ℕ) → Contains (named_tag_files (files_of bag) algs info) (q, c) → IsNew bag algs info q c
+  named_tag q c h =
+      let files = files_of bag in
+      elim (contains_cases (info_file files algs info) (declaration_file files algs info ∷ payload_manifests files algs info) (q, c) h) [
+        | inl e ↦ (Info, sym (ap (λ (y : File). y.0) e), sym (ap (λ (y : File). y.1) e))
+        | inr more ↦ elim (contains_cases (declaration_file files algs info) (payload_manifests files algs info) (q, c) more) [
+          | inl e ↦ (Declaration, sym (ap (λ (y : File). y.0) e), sym (ap (λ (y : File). y.1) e))
+          | inr rest ↦ payload_manifest_member bag algs info q c rest
+        ]
+      ]
+
+  pub tag_there : (tag : TagName) (c : List ℕ) → IsNewText bag algs info tag c → HasFile (made bag algs info) (tag_path tag)
+  tag_there Declaration c h = has_declaration bag algs info
+  tag_there Info c h = has_info bag algs info
+  tag_there (Manifest Payload alg) c h = has_manifest bag algs info Payload alg h.0
+  tag_there (Manifest Tag alg) c h = has_manifest bag algs info Tag alg h.0
+  tag_there _ c h = absurd h
+
+  -- what the manifests are to name is there
+  listed_there : (kind : Kind) (q c : List ℕ) → Contains (listed bag algs info kind) (q, c) → HasFile (made bag algs info) q
+  listed_there Payload q c h =
+      let m = payload_member bag algs info q c h in
+      subst (HasFile (made bag algs info)) (sym m.1) (has_payload bag algs info m.0 c m.2)
+  listed_there Tag q c h =
+      let m = named_tag q c h in
+      subst (HasFile (made bag algs info)) (sym m.1) (tag_there m.0 c m.2)
+
+  -- a file of the payload is one that the payload manifests are to name
+  payload_listed : (q : List ℕ) → HasFile (made bag algs info) q → is_payload_path q ≡ true → (c : List ℕ) × Contains (new_payload (files_of bag)) (q, c)
+  payload_listed q has is =
+      let held = content_of (file (made bag algs info) q) has in (
+        held.0,
+        elim (held_is bag algs info q held.0 held.1) [
+          | inl (p, at, there) ↦
+              let one : Contains (new_payload (files_of bag)) (under data_folder p, held.0) = mapped_contains {B = File} (λ (e : File). (under data_folder e.0, e.1)) (files_of bag) (p, held.0) there in
+              subst (λ r. Contains (new_payload (files_of bag)) (r, held.0)) (sym at) one
+          | inr (tag, at, h) ↦ absurd (no_payload_tag tag (ap is_payload_path (sym at) ∙ is))
+        ],
+      )
+
+  module _ (read : ManifestIsReadAgain) (writable : AreWritable bag algs info) (f : Fault) where
+    none_missing : (kind : Kind) → Missing (made bag algs info) f kind → ⊥
+    none_missing kind (alg, at, names, lacks) =
+        let l = named_listed bag algs info read writable kind alg f.path names in
+        (let clash : true ≡ false = sym (listed_there kind f.path l.0 l.1) ∙ lacks in cc)
+
+    by_code : (code : Code) → CompletenessHolds (made bag algs info) f code → asks full code ≡ true → ⊥
+    unfolding CompletenessHolds asks
+    by_code PayloadFileMissing h asked = none_missing Payload h
+    by_code TagFileMissing h asked = none_missing Tag h
+    by_code PayloadFileNotListed (at, (there, is), out) asked =
+        let l = payload_listed f.path there is in
+        elim (left_out_by (made bag algs info) f.path (rules_in (made bag algs info)) f.alg out) [
+          | inl one ↦ one.1.2.1 (listed_named bag algs info read writable Payload one.1.0 f.path l.0 one.1.2.0 l.1)
+          | inr all ↦ not_both (rules_in (made bag algs info)) (made_rules bag algs info) all.0
+        ]
+    by_code NameClash h asked = cc
+    by_code _ h asked = h
+
+    pub no_completeness_fault : IsOfCompleteness (made bag algs info) f → asks full f.code ≡ true → ⊥
+    unfolding IsOfCompleteness
+    no_completeness_fault h asked = by_code f.code h asked

@@ -1,0 +1,125 @@
+-- Stage 3: the metadata of a made bag reads, and its Payload-Oxum is the payload's size.
+use Rattle.std.proofs.Common.{◌≡◌, ℕ, zero, suc, ◌+◌, ◌<◌, ◌^◌, true, false, List, [], ◌∷◌, ◌++◌, length, Some, None, refl, sym, ap, ◌∙◌, subst, arith}
+use Rattle.std.specs.Prelude.{All}
+use Rattle.std.specs.Char.{encode_utf8}
+use Rattle.std.specs.List.{list_any, slice_get}
+use Rattle.std.specs.Str.{is_utf8, chars}
+use Rattle.std.proofs.lemmas.Bool.{or_from, or_parts}
+use Rattle.std.proofs.lemmas.List.Elements.{All-push}
+use Rattle.std.proofs.lemmas.List.Folds.{list_any-append}
+use Rattle.bag_text.specs.Text.{IsText, same_label}
+use Rattle.bag_text.specs.declared.rules.Rules.TheVariants.{V10}
+use Rattle.bag_text.specs.declared.alg.Alg.{Alg}
+use Rattle.bag_text.specs.declared.code.Code.{Code}
+use Rattle.bag_text.specs.declared.code.Code.TheVariants.{InfoLine, OxumMalformed, OxumAgain, OxumDiffers, NoOxum}
+use Rattle.bag_read.specs.Info.{IsElement, IsInfoFault}
+use Rattle.bag_read.specs.Oxum.{oxum_of}
+use Rattle.bag_read.specs.declared.info.Element.{Element}
+use Rattle.bag_read.specs.declared.oxum.Oxum.{Oxum}
+use Rattle.bag_read.specs.declared.tag_name.TagName.TheVariants.{Info}
+use Rattle.bag_tree.specs.Bag.{Bag, file, files_of}
+use Rattle.bag_facts.specs.declared.fault.Fault.{Fault}
+use Rattle.bag_stages.specs.FaultFields.{in_line}
+use Rattle.bag_stages.specs.Metadata.{bag_info_txt, HasElement}
+use Rattle.bag_stages.specs.MetadataStage.{oxum_label, MetadataHolds, IsOfMetadata}
+use Rattle.bag_stages.specs.Payload.{oxum_of_files, oxum_text}
+use Rattle.bag_stages.specs.TagFiles.{lines_in, lines_or_none}
+use Rattle.bag_tags.specs.Element.{NewElement, info_text, is_bad_element, is_bad_label, is_bad_value}
+use Rattle.bag_tags.specs.ReadAgain.{InfoIsReadAgain}
+use Rattle.bag_make.specs.Made.{new_payload, new_elements, made}
+use Rattle.bag_make.specs.Valid.{CanMake, is_refused}
+use Rattle.bag_make.proofs.Held.{tag_held, has_info, content_of}
+use Rattle.bag_make.proofs.MadeRules.{made_rules}
+use Rattle.bag_make.proofs.OxumReads.{oxum_reads, oxum_is_text, oxum_is_good}
+use Rattle.bag_make.proofs.PayloadIsTheFolder.{payload_size, oxum_is}
+
+-- the only element of a list with this label is the last one
+only_last : (xs : List NewElement) (y z : NewElement) (k : ℕ) → list_any is_refused xs ≡ false → slice_get (xs ++ y ∷ []) k ≡ Some z → same_label z.0 oxum_label ≡ true → (k ≡ length xs) × (z ≡ y)
+only_last [] y z zero none at same = (refl, let one : y ≡ z = cc in sym one)
+only_last [] y z (suc k) none at same = cc
+only_last (x ∷ xs) y z zero none at same =
+    let one : x ≡ z = cc in
+    let lacks : same_label x.0 oxum_label ≡ false = (or_parts (is_bad_element x) _ (or_parts (is_refused x) _ none).0).1 in
+    (let clash : true ≡ false = sym same ∙ ap (λ (w : NewElement). same_label w.0 oxum_label) (sym one) ∙ lacks in cc)
+only_last (x ∷ xs) y z (suc k) none at same =
+    let more = only_last xs y z k (or_parts (is_refused x) _ none).1 at same in
+    (ap suc more.0, more.1)
+
+last_place : (xs : List NewElement) (y : NewElement) → slice_get (xs ++ y ∷ []) (length xs) ≡ Some y
+last_place [] y = refl
+last_place (x ∷ xs) y = last_place xs y
+
+none_bad : (xs : List NewElement) → list_any is_refused xs ≡ false → list_any is_bad_element xs ≡ false
+none_bad [] none = refl
+none_bad (x ∷ xs) none =
+    let two = or_parts (is_refused x) (list_any is_refused xs) none in
+    or_from (is_bad_element x) _ (or_parts (is_bad_element x) _ two.0).0 (none_bad xs two.1)
+
+label_text : IsText oxum_label
+unfolding is_utf8 chars encode_utf8
+label_text = refl
+
+module _ (bag : Bag) (algs : List Alg) (info : List NewElement) (can : CanMake bag algs info) where
+  abbrev sums : Oxum
+  sums = oxum_of_files (new_payload (files_of bag))
+
+  octets : sums.octets < 2 ^ 64
+  octets = subst (λ (s : Oxum). s.octets < 2 ^ 64) (sym (payload_size (files_of bag))) can.size
+
+  streams : sums.streams < 2 ^ 64
+  streams = subst (λ (s : Oxum). s.streams < 2 ^ 64) (sym (payload_size (files_of bag))) can.count
+
+  abbrev last : NewElement
+  last = (oxum_label, oxum_text sums)
+
+  abbrev pub elements : List NewElement
+  elements = new_elements (files_of bag) algs info
+
+  pub elements_text : All (λ element. IsText element.0 × IsText element.1) elements
+  elements_text = All-push (λ (element : NewElement). IsText element.0 × IsText element.1) info last can.texts (label_text, oxum_is_text sums octets streams)
+
+  pub elements_good : list_any is_bad_element elements ≡ false
+  elements_good =
+      list_any-append is_bad_element info (last ∷ [])
+      ∙ or_from (list_any is_bad_element info) _ (none_bad info can.good)
+      (or_from (is_bad_element last) false (or_from (is_bad_label oxum_label) (is_bad_value (oxum_text sums)) refl (oxum_is_good sums octets streams)) refl)
+
+  module _ (read : InfoIsReadAgain) where
+    in_text : file (made bag algs info) bag_info_txt ≡ Some (info_text elements)
+    in_text =
+        let held = content_of (file (made bag algs info) bag_info_txt) (has_info bag algs info) in
+        held.1 ∙ ap Some (tag_held bag algs info Info held.0 held.1)
+
+    stands : (e : Element) → HasElement (made bag algs info) oxum_label e → (e.line ≡ length info + 1) × (e.value ≡ oxum_text sums)
+    stands e (is, same) =
+        let place = ((read elements elements_text elements_good).0 e).0 (subst (λ o. IsElement V10 (lines_or_none o) e) in_text (subst (λ rules. IsElement rules (lines_in (made bag algs info) bag_info_txt) e) (made_rules bag algs info) is)) in
+        let only = only_last info last (e.label, e.value) place.0 can.good place.2 same in
+        (place.1 ∙ ap (λ k. k + 1) only.0, ap (λ (x : NewElement). x.1) only.1)
+
+    -- it has the element
+    pub has_oxum : (e : Element) × HasElement (made bag algs info) oxum_label e
+    has_oxum =
+        let e : Element = record { line = length info + 1; label = oxum_label; value = oxum_text sums } in
+        let is = ((read elements elements_text elements_good).0 e).1 (length info, refl, last_place info last) in
+        (e, (subst (λ rules. IsElement rules (lines_in (made bag algs info) bag_info_txt) e) (sym (made_rules bag algs info)) (subst (λ o. IsElement V10 (lines_or_none o) e) (sym in_text) is), refl))
+
+    module _ (f : Fault) where
+      by_code : (code : Code) → MetadataHolds (made bag algs info) f code → ⊥
+      unfolding MetadataHolds
+      by_code InfoLine (at, alg, (bytes, held, wrong)) =
+          (read elements elements_text elements_good).1 (in_line f)
+          (subst (λ b. IsInfoFault V10 b (in_line f)) (tag_held bag algs info Info bytes held) (subst (λ rules. IsInfoFault rules bytes (in_line f)) (made_rules bag algs info) wrong))
+      by_code OxumMalformed (e, at, first, none) =
+          let read_as : oxum_of e.value ≡ Some sums = ap oxum_of (stands e first.0).1 ∙ oxum_reads sums octets streams in
+          (let clash : None ≡ Some sums = sym none ∙ read_as in cc)
+      by_code OxumAgain (e, at, (has, (d, earlier, low))) = absurd (omega (arith, (stands e has).0, (stands d earlier).0, low))
+      by_code OxumDiffers (e, other, at, first, reads, differs) =
+          let read_as : oxum_of e.value ≡ Some sums = ap oxum_of (stands e first.0).1 ∙ oxum_reads sums octets streams in
+          let same : other ≡ sums = (let both : Some other ≡ Some sums = sym reads ∙ read_as in cc) in
+          differs (same ∙ sym (oxum_is bag algs info can.is_bag))
+      by_code NoOxum (at, none) = none has_oxum.0 has_oxum.1
+      by_code _ h = h
+
+      pub no_metadata_fault : IsOfMetadata (made bag algs info) f → ⊥
+      unfolding IsOfMetadata
+      no_metadata_fault h = by_code f.code h

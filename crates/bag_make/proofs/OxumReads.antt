@@ -1,0 +1,163 @@
+-- The size of a payload that is written is read again.
+use Rattle.std.proofs.Common.{◌≡◌, ℕ, zero, suc, ◌+◌, ◌-◌, ◌<◌, ◌^◌, Bool, true, false, not, ◌&&◌, ◌||◌, cond, List, [], ◌∷◌, ◌++◌, length, take, drop, reverse, get_or, nat_lt, Option, Some, None, refl, sym, ap, ◌∙◌, arith, codes, bytes_eq, append_assoc}
+use Rattle.std.specs.Char.{is_ascii_digit}
+use Rattle.std.specs.Fmt.{decimal}
+use Rattle.std.specs.List.{list_all, list_any, prefix_len, suffix_len, before_first, after_first, position_or_len}
+use Rattle.std.specs.Str.{all_ascii_digits}
+use Rattle.std.specs.Str.Parse.{digits_value}
+use Rattle.std.proofs.lemmas.Bool.{and_from, lt-ltb, not_from_false, or_from, both_ways}
+use Rattle.std.proofs.lemmas.Bool.Decides.{nat_tests}
+use Rattle.std.proofs.lemmas.Fmt.{digits_decimal, digits_value-decimal, decimal_nonempty, IsAscii-decimal}
+use Rattle.std.proofs.lemmas.List.{get_or-reverse, take_all}
+use Rattle.std.proofs.lemmas.List.Folds.{list_any-append}
+use Rattle.std.proofs.lemmas.List.Sums.{prefix_len_passes, suffix_len-le-length, prefix_len-le-length}
+use Rattle.std.proofs.lemmas.Slice.Eq.{bytes_eq-Decides}
+use Rattle.std.proofs.lemmas.Str.{IsAscii-append, IsUtf8-from_ascii, is_utf8-from_IsUtf8}
+use Rattle.std.proofs.lemmas.Str.Parse.{numerals_by_value, tells_all_ascii_digits}
+use Rattle.bag_text.specs.LineEnd.{is_line_end}
+use Rattle.bag_text.specs.Number.{is_digits}
+use Rattle.bag_text.specs.Text.{IsText, is_blank, trim, without_trailing_blanks}
+use Rattle.bag_read.specs.Oxum.{is_number, is_dot, oxum_of}
+use Rattle.bag_read.specs.declared.oxum.Oxum.{Oxum}
+use Rattle.bag_read.proofs.Fronts.{front_len, take_front}
+use Rattle.bag_read.proofs.PickedOut.{both_true}
+use Rattle.bag_stages.specs.Payload.{oxum_text}
+use Rattle.bag_tags.specs.Element.{is_bad_value}
+
+-- ---- a text without a blank stays as it is when it is stays_whole
+
+none_at : (p : ℕ → Bool) (t : List ℕ) (i : ℕ) → list_any p t ≡ false → i < length t → p (get_or t i 0) ≡ false
+none_at p [] i e l = absurd (omega arith)
+none_at p (c ∷ t) zero e l = none_first (p c) (list_any p t) e
+  where
+    none_first : (a b : Bool) → (a || b) ≡ false → a ≡ false
+    none_first true b e = cc
+    none_first false b e = refl
+none_at p (c ∷ t) (suc i) e l = none_at p t i (none_behind (p c) (list_any p t) e) (omega arith)
+  where
+    none_behind : (a b : Bool) → (a || b) ≡ false → b ≡ false
+    none_behind true b e = cc
+    none_behind false b e = e
+
+module _ (p : ℕ → Bool) (t : List ℕ) (none : list_any p t ≡ false) where
+  no_front : (n : ℕ) → prefix_len p t ≡ n → n ≡ 0
+  no_front zero e = refl
+  no_front (suc n) e =
+      let passes : p (get_or t 0 0) ≡ true = prefix_len_passes p t 0 0 (omega arith) in
+      absurd (both_ways (p (get_or t 0 0)) (none_at p t 0 none (omega (arith, prefix_len-le-length p t))) passes)
+
+  no_back : (n : ℕ) → suffix_len p t ≡ n → n ≡ 0
+  no_back zero e = refl
+  no_back (suc n) e =
+      let within : 0 < length t = omega (arith, suffix_len-le-length p t) in
+      let passes : p (get_or (reverse t) 0 0) ≡ true = prefix_len_passes p (reverse t) 0 0 (omega arith) in
+      let at : get_or (reverse t) 0 0 ≡ get_or t (length t - 1 - 0) 0 = get_or-reverse t 0 0 within in
+      absurd (both_ways (p (get_or t (length t - 1 - 0) 0)) (none_at p t (length t - 1 - 0) none (omega arith)) (ap p (sym at) ∙ passes))
+
+stays_whole : (t : List ℕ) → list_any is_blank t ≡ false → trim t ≡ t
+stays_whole t none =
+    let front : prefix_len is_blank t ≡ 0 = no_front is_blank t none _ refl in
+    let back : suffix_len is_blank t ≡ 0 = no_back is_blank t none _ refl in
+    let whole : length t - suffix_len is_blank t ≡ length t = omega arith in
+    ap (λ n. without_trailing_blanks (drop n t)) front ∙ ap (λ n. take n t) whole ∙ take_all (length t) t (omega arith)
+
+-- ---- digits
+
+no_digit : (test : ℕ → Bool) → ((c : ℕ) → is_ascii_digit c ≡ true → test c ≡ false) → (t : List ℕ) → all_ascii_digits t ≡ true → list_any test t ≡ false
+no_digit test h [] e = refl
+no_digit test h (c ∷ t) e =
+    let two = both_true (is_ascii_digit c) (all_ascii_digits t) e in
+    or_from (test c) (list_any test t) (h c two.0) (no_digit test h t two.1)
+
+digit_no_blank : (c : ℕ) → is_ascii_digit c ≡ true → is_blank c ≡ false
+digit_no_blank c e = grind (arith, nat_tests)
+
+digit_no_end : (c : ℕ) → is_ascii_digit c ≡ true → is_line_end c ≡ false
+digit_no_end c e = grind (arith, nat_tests)
+
+digits_no_dot : (t : List ℕ) → all_ascii_digits t ≡ true → list_all (λ c. not (is_dot c)) t ≡ true
+digits_no_dot [] e = refl
+digits_no_dot (c ∷ t) e =
+    let two = both_true (is_ascii_digit c) (all_ascii_digits t) e in
+    and_from (not (is_dot c)) _ (not_from_false (is_dot c) (digit_no_dot c two.0)) (digits_no_dot t two.1)
+  where
+    digit_no_dot : (c : ℕ) → is_ascii_digit c ≡ true → is_dot c ≡ false
+    digit_no_dot c e = grind (arith, nat_tests)
+
+module _ (n : ℕ) (small : n < 2 ^ 64) where
+  pub are_digits : all_ascii_digits (decimal n) ≡ true
+  are_digits = digits_decimal (numerals_by_value _ tells_all_ascii_digits) n small
+
+  value_is : digits_value 10 (decimal n) ≡ n
+  value_is = digits_value-decimal (numerals_by_value _ tells_all_ascii_digits) n small
+
+  some_digit : not (bytes_eq (decimal n) []) ≡ true
+  some_digit = not_from_false _ (some_text (decimal n) (decimal_nonempty n small))
+    where
+      some_text : (t : List ℕ) → 0 < length t → bytes_eq t [] ≡ false
+      some_text [] l = absurd (omega arith)
+      some_text (c ∷ t) l = refl
+
+  number_reads : is_number (decimal n) ≡ true
+  number_reads = and_from (is_digits (decimal n)) _ (and_from _ _ some_digit are_digits) (ap (λ v. nat_lt v (2 ^ 64)) value_is ∙ lt-ltb n (2 ^ 64) small)
+
+module _ (sums : Oxum) (octets : sums.octets < 2 ^ 64) (streams : sums.streams < 2 ^ 64) where
+  abbrev front : List ℕ
+  front = decimal sums.octets
+
+  abbrev back : List ℕ
+  back = decimal sums.streams
+
+  text_is : oxum_text sums ≡ front ++ 46 ∷ back
+  text_is = append_assoc front (codes ".") back
+
+  dot_place : position_or_len is_dot (front ++ 46 ∷ back) ≡ length front
+  dot_place = front_len (λ c. not (is_dot c)) front (46 ∷ back) (digits_no_dot front (are_digits sums.octets octets)) refl
+
+  before : before_first is_dot (oxum_text sums) ≡ front
+  before = ap (before_first is_dot) text_is ∙ ap (λ n. take n (front ++ 46 ∷ back)) dot_place ∙ take_front front (46 ∷ back)
+
+  drop_past : (xs : List ℕ) → drop (length xs + 1) (xs ++ 46 ∷ back) ≡ back
+  drop_past [] = refl
+  drop_past (x ∷ xs) =
+      let step : suc (length xs) + 1 ≡ suc (length xs + 1) = omega arith in
+      ap (λ n. drop n (x ∷ xs ++ 46 ∷ back)) step ∙ drop_past xs
+
+  after : after_first is_dot (oxum_text sums) ≡ back
+  after = ap (after_first is_dot) text_is ∙ ap (λ n. drop (n + 1) (front ++ 46 ∷ back)) dot_place ∙ drop_past front
+
+  chosen : (b : Bool) (x y : Oxum) → b ≡ true → x ≡ y → cond {A = Option Oxum} b (Some x) None ≡ Some y
+  chosen true x y e same = ap Some same
+  chosen false x y e same = cc
+
+  -- it is read as the same two numbers
+  pub oxum_reads : oxum_of (oxum_text sums) ≡ Some sums
+  oxum_reads =
+      chosen (is_number (before_first is_dot (oxum_text sums)) && is_number (after_first is_dot (oxum_text sums))) _ sums
+      (and_from _ _ (ap is_number before ∙ number_reads sums.octets octets) (ap is_number after ∙ number_reads sums.streams streams))
+      (λ i. record {
+        octets = (ap (digits_value 10) before ∙ value_is sums.octets octets) i;
+        streams = (ap (digits_value 10) after ∙ value_is sums.streams streams) i;
+      })
+
+  pub oxum_is_text : IsText (oxum_text sums)
+  oxum_is_text =
+      is_utf8-from_IsUtf8 (oxum_text sums)
+      (IsUtf8-from_ascii (oxum_text sums) (IsAscii-append (front ++ codes ".") back (IsAscii-append front (codes ".") (IsAscii-decimal sums.octets octets) dot_ascii) (IsAscii-decimal sums.streams streams)))
+    where
+      dot_ascii : (i : ℕ) → get_or (codes ".") i 0 < 128
+      dot_ascii zero = omega arith
+      dot_ascii (suc i) = omega arith
+
+  none_in : (test : ℕ → Bool) → ((c : ℕ) → is_ascii_digit c ≡ true → test c ≡ false) → test 46 ≡ false → list_any test (oxum_text sums) ≡ false
+  none_in test h dot =
+      list_any-append test (front ++ codes ".") back
+      ∙ or_from _ _
+      (list_any-append test front (codes ".") ∙ or_from _ _ (no_digit test h front (are_digits sums.octets octets)) (or_from (test 46) false dot refl))
+      (no_digit test h back (are_digits sums.streams streams))
+
+  -- and can be written
+  pub oxum_is_good : is_bad_value (oxum_text sums) ≡ false
+  oxum_is_good =
+      or_from _ _ (none_in is_line_end digit_no_end refl)
+      (ap not ((bytes_eq-Decides (trim (oxum_text sums)) (oxum_text sums)).1 (stays_whole (oxum_text sums) (none_in is_blank digit_no_blank refl))))

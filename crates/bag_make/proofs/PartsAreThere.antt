@@ -1,0 +1,73 @@
+-- Stage 2: the parts of a made bag are there, and its algorithms are supported.
+use Rattle.std.proofs.Common.{◌≡◌, ◌≢◌, ℕ, true, false, List, [], ◌∷◌, Some, None, refl, sym, ap, ◌∙◌, subst, Contains}
+use Rattle.std.specs.Cmp.Lexicographic.{nat_list_cmp_total}
+use Rattle.std.specs.FinSet as set
+use Rattle.std.specs.FinSet.{contains-insert}
+use Rattle.std.specs.Ordering.{eq_by_cmp}
+use Rattle.std.proofs.lemmas.Bool.{or_left}
+use Rattle.bag_text.specs.Alg.{name, alg_named}
+use Rattle.bag_text.specs.Text.{text_cmp, IsNoText}
+use Rattle.bag_text.specs.declared.alg.Alg.{Alg}
+use Rattle.bag_text.specs.declared.code.Code.{Code}
+use Rattle.bag_text.specs.declared.code.Code.TheVariants.{NoPayloadFolder, NoPayloadManifest, AlgorithmUnsupported, NotUtf8}
+use Rattle.bag_text.proofs.ListOf.{contains_first}
+use Rattle.bag_read.specs.declared.kind.Kind.TheVariants.{Payload}
+use Rattle.bag_read.specs.declared.tag_name.TagName.{TagName}
+use Rattle.bag_read.specs.declared.tag_name.TagName.TheVariants.{Declaration, Info, Fetch, Manifest}
+use Rattle.bag_read.proofs.TagPaths.{name_named, name_is_text}
+use Rattle.bag_tree.specs.Bag.{Bag, file, has_folder}
+use Rattle.bag_tree.proofs.SameText.{text_itself}
+use Rattle.bag_facts.specs.declared.fault.Fault.{Fault}
+use Rattle.bag_stages.specs.PartsStage.{PartHolds, IsOfParts}
+use Rattle.bag_read.specs.LineFault.{not_utf8}
+use Rattle.bag_tags.specs.Element.{NewElement}
+use Rattle.bag_tags.specs.ReadAgain.{InfoIsReadAgain, ManifestIsReadAgain}
+use Rattle.bag_make.specs.Made.{entries_of, made, data_folder}
+use Rattle.bag_make.specs.Valid.{CanMake}
+use Rattle.bag_make.proofs.Entries.{holds_manifest, listed}
+use Rattle.bag_make.specs.Contents.{IsNewText}
+use Rattle.bag_make.proofs.Held.{tag_held, has_manifest, manifest_is}
+use Rattle.bag_make.proofs.MetadataReads.{elements, elements_text, elements_good}
+use Rattle.bag_make.proofs.Writable.{writable}
+
+some_member : (algs : List Alg) → algs ≢ [] → (alg : Alg) × Contains algs alg
+some_member [] some = absurd (some refl)
+some_member (alg ∷ algs) some = (alg, contains_first alg algs)
+
+put_there : (names : set.FinSet text_cmp) → set.contains (set.insert names data_folder) data_folder ≡ true
+put_there names = contains-insert nat_list_cmp_total names data_folder data_folder ∙ or_left (eq_by_cmp text_cmp data_folder data_folder) (set.contains names data_folder) (text_itself data_folder)
+
+module _ (bag : Bag) (algs : List Alg) (info : List NewElement) where
+  pub has_data : has_folder (made bag algs info) data_folder ≡ true
+  unfolding made
+  has_data = put_there _
+
+  module _ (can : CanMake bag algs info) (info_read : InfoIsReadAgain) (manifest_read : ManifestIsReadAgain) where
+    -- each tag file that is read as lines is a text
+    is_text : (tag : TagName) (c : List ℕ) → tag ≢ Declaration → IsNewText bag algs info tag c → IsNoText c → ⊥
+    is_text Declaration c other h bad = other refl
+    is_text Info c other h bad =
+        (info_read (elements bag algs info can) (elements_text bag algs info can) (elements_good bag algs info can)).1 not_utf8 (refl, refl, subst IsNoText h bad)
+    is_text Fetch c other h bad = h
+    is_text (Manifest kind alg) c other h bad =
+        let held = holds_manifest bag algs info kind alg c h in
+        let written = writable bag algs info can kind alg in
+        (manifest_read kind alg (entries_of alg (listed bag algs info kind)) written.0 written.1).1 not_utf8 (refl, refl, subst IsNoText held.1 bad)
+
+    module _ (f : Fault) where
+      by_code : (code : Code) → PartHolds (made bag algs info) f code → ⊥
+      unfolding PartHolds
+      by_code NoPayloadFolder (at, lacks) = (let clash : true ≡ false = sym has_data ∙ lacks in cc)
+      by_code NoPayloadManifest (at, none) =
+          let m = some_member algs can.some_alg in
+          none (name m.0) (name_is_text m.0, has_manifest bag algs info Payload m.0 m.1)
+      by_code AlgorithmUnsupported (kind, alg, at, has, none) =
+          let m = manifest_is bag algs info kind alg has.1 in
+          (let clash : None ≡ Some m.0 = sym none ∙ ap alg_named m.1 ∙ name_named m.0 in cc)
+      by_code NotUtf8 (at, ((tag, other, same), (bytes, held, bad))) =
+          is_text tag bytes other (tag_held bag algs info tag bytes (ap (file (made bag algs info)) same ∙ held)) bad
+      by_code _ h = h
+
+      pub no_part_fault : IsOfParts (made bag algs info) f → ⊥
+      unfolding IsOfParts
+      no_part_fault h = by_code f.code h

@@ -1,0 +1,80 @@
+-- The payload of a made bag is the files of the folder, under data/.
+use Rattle.std.proofs.Common.{◌≡◌, ℕ, ◌+◌, Bool, true, false, cond, ◌&&◌, List, [], ◌∷◌, ◌++◌, length, sum_by, Some, None, refl, sym, ap, ◌∙◌, subst}
+use Rattle.std.specs.Cmp.Lexicographic.{nat_list_cmp_total}
+use Rattle.std.specs.FinMap.{find, is_sorted, entries_sorted, get-entries}
+use Rattle.std.specs.FinMap.Entries.{below_all, find-where_key, is_sorted-where_key, same_entries}
+use Rattle.std.specs.Ordering.{is_lt, eq_by_cmp}
+use Rattle.std.proofs.Math.Dec.{T}
+use Rattle.std.proofs.lemmas.List.{length-map}
+use Rattle.std.proofs.lemmas.List.Sums.{sum_by-cons}
+use Rattle.bag_text.specs.Path.{under, is_payload_path}
+use Rattle.bag_text.specs.Text.{text_cmp}
+use Rattle.bag_text.specs.declared.alg.Alg.{Alg}
+use Rattle.bag_tree.specs.Bag.{Bag, IsBag, files_of}
+use Rattle.bag_tree.proofs.SameText.{exact_texts}
+use Rattle.bag_stages.specs.Payload.{payload, oxum, oxum_of_files}
+use Rattle.bag_tags.specs.Element.{NewElement}
+use Rattle.bag_make.specs.Made.{File, data_folder, new_payload, new_tag_files, made}
+use Rattle.bag_make.proofs.FilesAreNamed.{no_payload_tag}
+use Rattle.bag_make.proofs.Held.{none_by, all, held, found, tag_member, payload_member, has_listed}
+use Rattle.bag_make.proofs.Writable.{in_payload}
+
+below_payload : (k : List ℕ) (es : List File) → below_all text_cmp (under data_folder k) (new_payload es) ≡ below_all text_cmp k es
+below_payload k [] = refl
+below_payload k (e ∷ es) = ap (λ b. is_lt (text_cmp k e.0) && b) (below_payload k es)
+
+-- the files stay in their order
+pub sorted_payload : (es : List File) → is_sorted text_cmp (new_payload es) ≡ is_sorted text_cmp es
+sorted_payload [] = refl
+sorted_payload (e ∷ es) = ap (λ b. b && is_sorted text_cmp (new_payload es)) (below_payload e.0 es) ∙ ap (λ b. below_all text_cmp e.0 es && b) (sorted_payload es)
+
+find_front : (q : List ℕ) (xs ys : List File) → find text_cmp q ys ≡ None → find text_cmp q (xs ++ ys) ≡ find text_cmp q xs
+find_front q [] ys none = none
+find_front q (x ∷ xs) ys none = ap (cond (eq_by_cmp text_cmp q x.0) (Some x.1)) (find_front q xs ys none)
+
+-- counting and summing
+same_octets : (es : List File) → sum_by (λ (e : File). length e.1) (new_payload es) ≡ sum_by (λ (e : File). length e.1) es
+same_octets [] = refl
+same_octets (e ∷ es) =
+    sum_by-cons (λ (e : File). length e.1) (under data_folder e.0, e.1) (new_payload es)
+    ∙ ap (λ n. length e.1 + n) (same_octets es) ∙ sym (sum_by-cons (λ (e : File). length e.1) e es)
+
+-- the payload has the folder's size
+pub payload_size : (es : List File) → oxum_of_files (new_payload es) ≡ oxum_of_files es
+payload_size es = λ i. record { octets = same_octets es i; streams = length-map {B = File} es (λ (e : File). (under data_folder e.0, e.1)) i }
+
+module _ (bag : Bag) (algs : List Alg) (info : List NewElement) (is_bag : IsBag bag) where
+  abbrev files : List File
+  files = files_of bag
+
+  no_tag_found : (q : List ℕ) → is_payload_path q ≡ true → find text_cmp q (new_tag_files files algs info) ≡ None
+  no_tag_found q is = none_by _ (λ c e.
+      let m = tag_member bag algs info q c (found q c (new_tag_files files algs info) e) in
+      no_payload_tag m.0 (ap is_payload_path (sym m.1) ∙ is))
+
+  no_payload_found : (q : List ℕ) → is_payload_path q ≡ false → find text_cmp q (new_payload files) ≡ None
+  no_payload_found q isnt = none_by _ (λ c e.
+      let m = payload_member bag algs info q c (found q c (new_payload files) e) in
+      let is = in_payload m.0 (is_bag.paths m.0 (has_listed bag m.0 c m.2)).0 in
+      let clash : true ≡ false = sym is ∙ ap is_payload_path (sym m.1) ∙ isnt in cc)
+
+  found_by : (q : List ℕ) (b : Bool) → is_payload_path q ≡ b → cond b (find text_cmp q (all bag algs info)) None ≡ find text_cmp q (new_payload files)
+  found_by q true is = find_front q (new_payload files) (new_tag_files files algs info) (no_tag_found q is)
+  found_by q false isnt = sym (no_payload_found q isnt)
+
+  found_alike : (q : List ℕ) → find text_cmp q (payload (made bag algs info)) ≡ find text_cmp q (new_payload files)
+  found_alike q =
+      find-where_key text_cmp is_payload_path q (λ x e. ap is_payload_path (sym (exact_texts q x e))) (files_of (made bag algs info))
+      ∙ ap (λ o. cond (is_payload_path q) o None) (sym (get-entries (made bag algs info).files q) ∙ held bag algs info q)
+      ∙ found_by q (is_payload_path q) refl
+
+  pub payload_is : payload (made bag algs info) ≡ new_payload files
+  payload_is =
+      same_entries text_cmp nat_list_cmp_total exact_texts (payload (made bag algs info)) (new_payload files)
+      (is_sorted-where_key text_cmp is_payload_path (files_of (made bag algs info)) (entries_sorted (made bag algs info).files))
+      (subst T (sym (sorted_payload files)) (entries_sorted bag.files))
+      found_alike
+
+  -- so its size is the folder's
+  pub oxum_is : oxum (made bag algs info) ≡ oxum_of_files (new_payload files)
+  oxum_is = ap oxum_of_files payload_is

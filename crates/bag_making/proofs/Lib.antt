@@ -1,2 +1,0 @@
-mod Honest
-mod Lines

@@ -1,7 +1,0 @@
-use Rattle.std.proofs.Common.{decimal}
-use Rattle.bag_tree.specs.Cause.{word}
-use Rattle.bag_making.proofs.Lines.{word_ended}
-use Rattle.bag_making.proofs.line.put_step.Goals as goal
-
-pub returns : goal.returns
-returns g c = rw (c.format.ensures.text, c.word.ensures, word_ended (decimal c.args.place) (word c.args.cause)) at c.put_line.ensures

@@ -1,3 +1,0 @@
-pub mod Honest
-pub mod Making
-pub mod MakingLine

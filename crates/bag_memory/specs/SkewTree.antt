@@ -1,0 +1,19 @@
+-- A tree that lists something else than it has.
+use Rattle.std.specs.Prelude.{Option}
+use Rattle.bag_tree.specs.Tree.{TreeState}
+use Rattle.bag_tree.specs.declared.answer.Answer.{Answer}
+use Rattle.bag_tree.specs.declared.listing.Listing.{Listing}
+use Rattle.bag_memory.specs.MemoryView.{state_of}
+use Rattle.bag_memory.specs.declared.skew_tree.SkewTree.{SkewTree}
+
+-- what the tree in memory means
+abbrev pub memory_of : SkewTree → TreeState
+memory_of tree = state_of tree.tree
+
+-- what the next `list` answers
+abbrev pub listing_of : SkewTree → Option Listing
+listing_of tree = tree.listing
+
+-- what the last call answered without asking the tree in memory
+abbrev pub own_of : SkewTree → Option Answer
+own_of tree = tree.own

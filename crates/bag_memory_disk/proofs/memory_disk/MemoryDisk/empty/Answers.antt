@@ -1,7 +1,0 @@
-use Rattle.std.proofs.Common.{sym, subst}
-use Rattle.bag_disk.specs.Disk.{empty_disk, IsDisk}
-use Rattle.bag_memory_disk.specs.Held.{nodes_of}
-use Rattle.bag_memory_disk.proofs.memory_disk.MemoryDisk.empty.Goals as goal
-
-pub with_nodes-requires : goal.with_nodes-requires
-with_nodes-requires c = subst (λ held. IsDisk (nodes_of held)) (sym c.new.ensures.empty) empty_disk

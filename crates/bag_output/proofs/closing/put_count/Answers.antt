@@ -1,4 +1,0 @@
-use Rattle.bag_output.proofs.closing.put_count.Goals as goal
-
-pub returns : goal.returns
-returns g c = rw c.format.ensures.text at c.put_line.ensures

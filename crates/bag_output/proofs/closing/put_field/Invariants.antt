@@ -1,7 +1,0 @@
-use Rattle.percent_encoding.specs.Iter.{encoded_text}
-use Rattle.bag_fault.specs.FaultLine.{field}
-use Rattle.bag_output.specs.Write.{IsTaken}
-use Rattle.bag_output.proofs.closing.put_field.Given as goal
-
-abbrev pub invariant-loop-piece : goal.invariant-loop-piece
-invariant-loop-piece g l = IsTaken (g.W.Out.taken l.fn.out) (g.W.Out.taken l.out) (field l.text) (encoded_text l.piece-iterator)

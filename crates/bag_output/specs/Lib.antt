@@ -1,4 +1,0 @@
-pub mod Closing
-pub mod Ending
-pub mod Write
-pub mod Writer

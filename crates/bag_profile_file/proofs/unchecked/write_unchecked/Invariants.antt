@@ -1,7 +1,0 @@
-use Rattle.std.proofs.Common.{take}
-use Rattle.std.specs.Io.KnownBytes.{Appends}
-use Rattle.bag_profile_file.specs.Unchecked.{unchecked_lines}
-use Rattle.bag_profile_file.proofs.unchecked.write_unchecked.Given as goal
-
-abbrev pub invariant-loop-key : goal.invariant-loop-key
-invariant-loop-key g l = Appends (g.O.Out.taken l.fn.out) (g.O.Out.taken l.out) (unchecked_lines (take l.key-index l.key-items))

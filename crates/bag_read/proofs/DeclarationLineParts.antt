@@ -1,0 +1,103 @@
+-- The two lines of the declaration and their parts.
+use Rattle.std.proofs.Common.{◌≡◌, ◌≢◌, ℕ, suc, ◌+◌, Bool, true, false, not, ◌==◌, cond, List, [], ◌∷◌, ◌++◌, length, take, drop, refl, sym, ap, ◌∙◌, subst, codes, Option, Some, None, bytes_eq, nat_eq, arith, append_assoc, length-append}
+use Rattle.std.specs.Prelude.{IsTrue, option_and_then}
+use Rattle.std.specs.Char.{is_ascii_digit}
+use Rattle.std.specs.List.{list_all, prefix_len, starts_with, before_first, after_first}
+use Rattle.std.specs.Str.{byte}
+use Rattle.std.proofs.lemmas.Bool.Decides.{nat_tests}
+use Rattle.bag_text.specs.Number.{is_digits}
+use Rattle.bag_text.specs.Text.{after_prefix, is_blank}
+use Rattle.bag_read.specs.Declaration.{when, is_version, is_encoding}
+use Rattle.bag_read.specs.LineParts.{AreDigits}
+use Rattle.bag_read.proofs.AreDigits.{are_digits, digits_are}
+use Rattle.bag_read.specs.DeclarationLine.{VersionLinesReadAsTheirParts, EncodingLinesReadAsTheirParts}
+use Rattle.bag_read.proofs.Fronts.{drop_front, take_front, front_len}
+use Rattle.bag_read.proofs.LineParts.{not_empty, empty_test, not_true}
+use Rattle.bag_read.proofs.PickedOut.{both_true}
+use Rattle.bag_read.proofs.Texts.{after_is, prefix_test}
+
+abbrev is_dot : ℕ → Bool
+is_dot c = c == byte "."
+
+abbrev no_dot : ℕ → Bool
+no_dot c = not (is_dot c)
+
+digit_no_dot : (c : ℕ) → is_ascii_digit c ≡ true → no_dot c ≡ true
+digit_no_dot c e = grind (arith, nat_tests)
+
+digits_no_dot : (t : List ℕ) → list_all is_ascii_digit t ≡ true → list_all no_dot t ≡ true
+digits_no_dot [] e = refl
+digits_no_dot (c ∷ t) e = let two = both_true (is_ascii_digit c) (list_all is_ascii_digit t) e in rw (digit_no_dot c two.0) (digits_no_dot t two.1)
+
+cut_with : (c : ℕ) (t : List ℕ) (n m k : ℕ) → m ≡ suc n → k ≡ suc (n + 1) → t ≡ take n t ++ codes "." ++ drop (n + 1) t → c ∷ t ≡ take m (c ∷ t) ++ codes "." ++ drop k (c ∷ t)
+cut_with c t n m k e f is = rw (e, f) (ap (λ s. c ∷ s) is)
+
+-- a text with something after its first dot is what stands before it, the dot, and that
+cut_on : (c : ℕ) (t : List ℕ) (b : Bool) → is_dot c ≡ b → (after_first is_dot t ≢ [] → t ≡ before_first is_dot t ++ codes "." ++ after_first is_dot t)
+    → drop (cond (not b) (1 + prefix_len no_dot t) 0 + 1) (c ∷ t) ≢ [] → c ∷ t ≡ take (cond (not b) (1 + prefix_len no_dot t) 0) (c ∷ t) ++ codes "." ++ drop (cond (not b) (1 + prefix_len no_dot t) 0 + 1) (c ∷ t)
+cut_on c t true e more h = let same : c ≡ 46 = grind (arith, nat_tests) in ap (λ d. d ∷ t) same
+cut_on c t false e more h =
+    let front : 1 + prefix_len no_dot t ≡ suc (prefix_len no_dot t) = omega arith in
+    let back : 1 + prefix_len no_dot t + 1 ≡ suc (prefix_len no_dot t + 1) = omega arith in
+    cut_with c t (prefix_len no_dot t) (1 + prefix_len no_dot t) (1 + prefix_len no_dot t + 1) front back
+    (more (λ none. h (ap (λ k. drop k (c ∷ t)) back ∙ none)))
+
+cut_at_dot : (t : List ℕ) → after_first is_dot t ≢ [] → t ≡ before_first is_dot t ++ codes "." ++ after_first is_dot t
+cut_at_dot [] h = absurd (h refl)
+cut_at_dot (c ∷ t) h = cut_on c t (is_dot c) refl (cut_at_dot t) h
+
+abbrev IsVersion : List ℕ → Type 0
+IsVersion version = (major minor : List ℕ) × AreDigits major × AreDigits minor × (version ≡ major ++ codes "." ++ minor)
+
+version_is : (t : List ℕ) → is_version t ≡ true → IsVersion t
+version_is t e =
+    let two = both_true (is_digits (before_first is_dot t)) (is_digits (after_first is_dot t)) e in
+    let minor = are_digits (after_first is_dot t) two.1 in
+    (before_first is_dot t, after_first is_dot t, are_digits (before_first is_dot t) two.0, minor, cut_at_dot t minor.0)
+
+is_version_of : (t : List ℕ) → IsVersion t → is_version t ≡ true
+is_version_of t (major, minor, a, b, e) =
+    let at : t ≡ major ++ (codes "." ++ minor) = e ∙ append_assoc major (codes ".") minor in
+    let n : prefix_len no_dot t ≡ length major = ap (prefix_len no_dot) at ∙ front_len no_dot major (codes "." ++ minor) (digits_no_dot major a.1) refl in
+    let before : before_first is_dot t ≡ major = ap (λ k. take k t) n ∙ ap (take (length major)) at ∙ take_front major (codes "." ++ minor) in
+    let long : length major + 1 ≡ length (major ++ codes ".") = sym (length-append major (codes ".")) in
+    let after : after_first is_dot t ≡ minor = ap (λ k. drop (k + 1) t) n ∙ ap (λ k. drop k t) long ∙ ap (drop (length (major ++ codes "."))) e ∙ drop_front (major ++ codes ".") minor in
+    rw (before, after, digits_are major a, digits_are minor b) refl
+
+-- a text that passes its test, after its label
+when_by : (test : List ℕ → Bool) (t u : List ℕ) (b : Bool) → test t ≡ b → cond b (Some t) None ≡ Some u → (test u ≡ true) × (t ≡ u)
+when_by test t u true e h = let same : t ≡ u = cc in (subst (λ s. test s ≡ true) same e, same)
+when_by test t u false e h = cc
+
+then_some : (test : List ℕ → Bool) (o : Option (List ℕ)) (u : List ℕ) → option_and_then (when test) o ≡ Some u → (o ≡ Some u) × (test u ≡ true)
+then_some test None u e = cc
+then_some test (Some t) u e = let two = when_by test t u (test t) refl e in (ap Some two.1, two.0)
+
+module _ (test : List ℕ → Bool) (label line value : List ℕ) where
+  pub labelled : option_and_then (when test) (after_prefix label line) ≡ Some value → (line ≡ label ++ value) × (test value ≡ true)
+  labelled e = let two = then_some test (after_prefix label line) value e in (after_is label line value two.0, two.1)
+
+  pub labelled_back : line ≡ label ++ value → test value ≡ true → option_and_then (when test) (after_prefix label line) ≡ Some value
+  labelled_back at good =
+      let there : starts_with nat_eq line label ≡ true = (prefix_test label line).1 value at in
+      let after : drop (length label) line ≡ value = ap (drop (length label)) at ∙ drop_front label value in
+      ap (λ b. option_and_then (when test) (cond b (Some (drop (length label) line)) None)) there
+      ∙ ap (when test) after ∙ ap (λ b. cond b (Some value) None) good
+
+pub version_lines : VersionLinesReadAsTheirParts
+version_lines line version = (
+  λ e. (let two = labelled is_version (codes "BagIt-Version: ") line version e in (two.0, version_is version two.1)),
+  λ h. labelled_back is_version (codes "BagIt-Version: ") line version h.0 (is_version_of version h.1),
+)
+
+encoding_is : (t : List ℕ) → is_encoding t ≡ true → (t ≢ []) × IsTrue (list_all (λ c. not (is_blank c)) t)
+encoding_is t e = let two = both_true (not (bytes_eq t [])) (list_all (λ c. not (is_blank c)) t) e in (not_empty t (not_true _ two.0), two.1)
+
+is_encoding_of : (t : List ℕ) → t ≢ [] → IsTrue (list_all (λ c. not (is_blank c)) t) → is_encoding t ≡ true
+is_encoding_of t some plain = rw (empty_test t some) plain
+
+pub encoding_lines : EncodingLinesReadAsTheirParts
+encoding_lines line encoding = (
+  λ e. (let two = labelled is_encoding (codes "Tag-File-Character-Encoding: ") line encoding e in let is = encoding_is encoding two.1 in (two.0, is.0, is.1)),
+  λ h. labelled_back is_encoding (codes "Tag-File-Character-Encoding: ") line encoding h.0 (is_encoding_of encoding h.1 h.2),
+)

@@ -1,0 +1,159 @@
+-- A line of fetch.txt and its parts.
+use Rattle.std.proofs.Common.{◌≡◌, ◌≢◌, ℕ, ◌⊎◌, inl, inr, Bool, true, false, not, ◌&&◌, ◌||◌, cond, List, [], refl, sym, ap, ◌∙◌, subst, codes, length, Option, Some, None, Result, Ok, Err, bytes_eq, nat_lt}
+use Rattle.std.specs.Prelude.{IsTrue}
+use Rattle.std.proofs.lemmas.Slice.Eq.{bytes_eq-Decides}
+use Rattle.bag_text.specs.Number.{is_digits}
+use Rattle.bag_text.specs.Path.{is_path, is_payload_path, first_component, components}
+use Rattle.bag_text.specs.Spelling.{unescaped}
+use Rattle.bag_text.specs.Text.{is_blank_line, before_blank, after_blanks, without_prefix}
+use Rattle.bag_text.specs.declared.rules.Rules.{Rules}
+use Rattle.bag_text.specs.declared.code.Code.TheVariants.{FetchLine, FetchOutsidePayload, FetchUnsafePath}
+use Rattle.bag_text.proofs.LineEnds.{spellings}
+use Rattle.bag_read.specs.Reason.{Reason, ◌>>=◌}
+use Rattle.bag_read.specs.LineParts.{IsWithout}
+use Rattle.bag_read.specs.Fetch.{url_of, length_of, written_of, is_length, lacks_part, spelling_of, decoded_or, fetched_path, fetch_line}
+use Rattle.bag_read.specs.FetchLine.{IsLength, ReadsAs, FetchLinesReadAsTheirParts, OnlyReads, HasOnlyReason, FetchLinesReadOrHaveOneReason}
+use Rattle.bag_read.proofs.AreDigits.{are_digits, digits_are}
+use Rattle.bag_read.proofs.LineParts.{or_false, not_false, not_empty, empty_test, is_cut, cut_part, cut_rest, not_blank, begins_some, is_without, without_alone}
+use Rattle.bag_read.proofs.PickedOut.{both_true}
+use Rattle.bag_read.proofs.Reason.{bind_ok}
+
+either_true : (a b : Bool) → (a || b) ≡ true → (a ≡ true) ⊎ (b ≡ true)
+either_true true b e = inl refl
+either_true false b e = inr e
+
+-- a length
+length_told : (t : List ℕ) → is_length t ≡ true → IsLength t
+length_told t e =
+    elim (either_true (bytes_eq t (codes "-")) (is_digits t) e) [
+      | inl h ↦ inl ((bytes_eq-Decides t (codes "-")).0 h)
+      | inr h ↦ inr (are_digits t h)
+    ]
+
+told_length : (t : List ℕ) → IsLength t → is_length t ≡ true
+told_length t (inl e) = rw ((bytes_eq-Decides t (codes "-")).1 e) refl
+told_length t (inr digits) = digits_too (bytes_eq t (codes "-")) (digits_are t digits)
+  where
+    digits_too : (b : Bool) → is_digits t ≡ true → (b || is_digits t) ≡ true
+    digits_too true e = refl
+    digits_too false e = e
+
+length_some : (t : List ℕ) → is_length (before_blank t) ≡ true → t ≢ []
+length_some t e none = let clash : false ≡ true = ap (λ s. is_length (before_blank s)) (sym none) ∙ e in cc
+
+part_some : (t : List ℕ) → is_length t ≡ true → t ≢ []
+part_some t e none = let clash : false ≡ true = ap is_length (sym none) ∙ e in cc
+
+-- what a spelling needs
+abbrev HasParts : List ℕ → List ℕ → List ℕ → Type 0
+HasParts url size written = (url ≢ []) × (is_length size ≡ true) × (written ≢ [])
+
+has_parts : (url size written : List ℕ) → lacks_part url size written ≡ false → HasParts url size written
+has_parts url size written e =
+    let outer = or_false (bytes_eq url [] || not (is_length size)) (bytes_eq written []) e in
+    let inner = or_false (bytes_eq url []) (not (is_length size)) outer.0 in
+    (not_empty url inner.0, not_false _ inner.1, not_empty written outer.1)
+
+lacks_none : (url size written : List ℕ) → HasParts url size written → lacks_part url size written ≡ false
+lacks_none url size written (some, told, follows) = rw (empty_test url some, told, empty_test written follows) refl
+
+spelling_by : (written spelling : List ℕ) (b : Bool) → cond {A = Result (List ℕ) Reason} b (Err (FetchLine, [])) (Ok (without_prefix (codes "./") written)) ≡ Ok spelling → (b ≡ false) × (without_prefix (codes "./") written ≡ spelling)
+spelling_by written spelling true e = cc
+spelling_by written spelling false e = (refl, let same : without_prefix (codes "./") written ≡ spelling = cc in same)
+
+decoded_ok : (o : Option (List ℕ)) (spelling path : List ℕ) → decoded_or o spelling ≡ Ok path → o ≡ Some path
+decoded_ok None spelling path e = cc
+decoded_ok (Some p) spelling path e = let same : p ≡ path = cc in ap Some same
+
+fetched_by : (path fetched : List ℕ) (a b : Bool) → is_path path ≡ a → is_payload_path path ≡ b
+    → cond {A = Result (List ℕ) Reason} a (cond b (Ok path) (Err (FetchOutsidePayload, path))) (Err (FetchUnsafePath, path)) ≡ Ok fetched → IsTrue (is_payload_path path) × (path ≡ fetched)
+fetched_by path fetched true true e f h = (f, let same : path ≡ fetched = cc in same)
+fetched_by path fetched true false e f h = cc
+fetched_by path fetched false b e f h = cc
+
+payload_is_path : (path : List ℕ) → is_payload_path path ≡ true → is_path path ≡ true
+payload_is_path path e = (both_true (is_path path) (bytes_eq (first_component path) (codes "data")) (both_true (is_path path && bytes_eq (first_component path) (codes "data")) (nat_lt 1 (length (components path))) e).0).0
+
+payload_fetched : (path : List ℕ) → is_payload_path path ≡ true → fetched_path path ≡ Ok path
+payload_fetched path e =
+    ap (λ b. cond {A = Result (List ℕ) Reason} b (cond (is_payload_path path) (Ok path) (Err (FetchOutsidePayload, path))) (Err (FetchUnsafePath, path))) (payload_is_path path e)
+    ∙ ap (λ b. cond {A = Result (List ℕ) Reason} b (Ok path) (Err (FetchOutsidePayload, path))) e
+
+module _ (rules : Rules) where
+  -- a line that reads, and its parts
+  line_parts : (line path : List ℕ) → fetch_line rules line ≡ Ok path → ReadsAs rules line (url_of line) (length_of line) path
+  unfolding fetch_line
+  line_parts line path e =
+      let first = bind_ok (spelling_of line) _ path e in
+      let second = bind_ok (decoded_or (unescaped rules first.0) first.0) _ path first.2 in
+      let whole = spelling_by (written_of line) first.0 (lacks_part (url_of line) (length_of line) (written_of line)) first.1 in
+      let has = has_parts (url_of line) (length_of line) (written_of line) whole.0 in
+      let fetched = fetched_by second.0 path (is_path second.0) (is_payload_path second.0) refl refl second.2 in
+      record {
+        behind = after_blanks line;
+        written = written_of line;
+        spelling = first.0;
+        url_first = is_cut line has.0 (length_some (after_blanks line) has.1);
+        length_next = is_cut (after_blanks line) (part_some (length_of line) has.1) has.2;
+        length_told = length_told (length_of line) has.1;
+        dot_slash = subst (IsWithout (codes "./") (written_of line)) whole.1 (is_without (codes "./") (written_of line));
+        spelled = (spellings rules first.0 path).1 (decoded_ok (unescaped rules first.0) first.0 second.0 second.1 ∙ ap Some fetched.1);
+        in_payload = subst (λ p. IsTrue (is_payload_path p)) fetched.1 fetched.0;
+      }
+
+  module _ (line url size path : List ℕ) (r : ReadsAs rules line url size path) where
+    pub url_is : url_of line ≡ url
+    url_is = cut_part line url r.behind r.url_first
+
+    behind_is : after_blanks line ≡ r.behind
+    behind_is = cut_rest line url r.behind r.url_first
+
+    pub size_is : length_of line ≡ size
+    size_is = ap before_blank behind_is ∙ cut_part r.behind size r.written r.length_next
+
+    written_is : written_of line ≡ r.written
+    written_is = ap after_blanks behind_is ∙ cut_rest r.behind size r.written r.length_next
+
+    has_all : HasParts (url_of line) (length_of line) (written_of line)
+    has_all = (
+      subst (λ t. t ≢ []) (sym url_is) r.url_first.some_part,
+      ap is_length size_is ∙ told_length size r.length_told,
+      subst (λ t. t ≢ []) (sym written_is) (begins_some r.written r.length_next.begins),
+    )
+
+    spelling_is : spelling_of line ≡ Ok r.spelling
+    spelling_is =
+        ap (λ b. cond {A = Result (List ℕ) Reason} b (Err (FetchLine, [])) (Ok (without_prefix (codes "./") (written_of line)))) (lacks_none (url_of line) (length_of line) (written_of line) has_all)
+        ∙ ap {B = Result (List ℕ) Reason} Ok (ap (without_prefix (codes "./")) written_is ∙ without_alone (codes "./") r.written r.spelling r.dot_slash)
+
+    pub path_is : fetch_line rules line ≡ Ok path
+    unfolding fetch_line
+    path_is =
+        ap (λ s. s >>= λ spelling. decoded_or (unescaped rules spelling) spelling >>= λ path. fetched_path path) spelling_is
+        ∙ ap (λ o. decoded_or o r.spelling >>= λ path. fetched_path path) ((spellings rules r.spelling path).0 r.spelled)
+        ∙ payload_fetched path r.in_payload
+
+  result_by : (line : List ℕ) (r : Result (List ℕ) Reason) → is_blank_line line ≡ false → fetch_line rules line ≡ r → OnlyReads rules line ⊎ HasOnlyReason rules line
+  result_by line (Ok x) some e = inl (
+    url_of line,
+    length_of line,
+    x,
+    line_parts line x e,
+    λ u s p r. (sym (url_is line u s p r), sym (size_is line u s p r), (let same : Ok x ≡ Ok p = sym e ∙ path_is line u s p r in let one : x ≡ p = cc in sym one)),
+    λ reason h. (let clash : Ok x ≡ Err reason = sym e ∙ h.1 in cc),
+  )
+  result_by line (Err reason) some e = inr (
+    reason,
+    (some, e),
+    λ other h. (let same : Err reason ≡ Err other = sym e ∙ h.1 in let one : reason ≡ other = cc in sym one),
+    λ u s p r. (let clash : Err reason ≡ Ok p = sym e ∙ path_is line u s p r in cc),
+  )
+
+pub lines_read : FetchLinesReadAsTheirParts
+lines_read rules line url size path = (
+  λ (some, u, s, is). subst (λ t. ReadsAs rules line t size path) (sym u) (subst (λ t. ReadsAs rules line (url_of line) t path) (sym s) (line_parts rules line path is)),
+  λ r. (not_blank line url r.behind r.url_first, sym (url_is rules line url size path r), sym (size_is rules line url size path r), path_is rules line url size path r),
+)
+
+pub read_or_reason : FetchLinesReadOrHaveOneReason
+read_or_reason rules line some = result_by rules line (fetch_line rules line) some refl

@@ -1,0 +1,45 @@
+-- A line moves what it makes from the lines that follow to what was read.
+use Rattle.std.proofs.Common.{◌≡◌, ℕ, Bool, true, false, List, [], ◌∷◌, refl, Option, Some, None, append_assoc}
+use Rattle.bag_text.specs.Text.{is_blank_line, trim, begins_with_blank}
+use Rattle.bag_read.specs.Info.{split}
+use Rattle.bag_read.specs.InfoReader.{Numbered, all_elements, all_faults, after_line, elements, faults, value_on, wrong}
+use Rattle.bag_read.specs.declared.info_reader.Above.{Above}
+use Rattle.bag_read.specs.declared.info_reader.Above.TheVariants.{Nothing, Refused, Begun}
+use Rattle.bag_read.specs.declared.info_reader.Reader.{Reader}
+use Rattle.bag_text.specs.declared.rules.Rules.{Rules}
+
+module _ (rules : Rules) where
+  module _ (r : Reader) (n : ℕ) (line : List ℕ) (xs : Numbered) where
+    elements_in : (b w : Bool) (s : Option (List ℕ × List ℕ)) (a : Above) → is_blank_line line ≡ b → begins_with_blank line ≡ w → split rules line ≡ s → r.above ≡ a → all_elements rules (after_line rules r n line) xs ≡ all_elements rules r ((n, line) ∷ xs)
+    elements_in true w s Nothing eb ew es ea = rw (ea) (rw (eb) refl)
+    elements_in true w s Refused eb ew es ea = rw (ea) (rw (eb) refl)
+    elements_in true w s (Begun e) eb ew es ea = rw (ea) (rw (eb) refl)
+    elements_in false true s Nothing eb ew es ea = rw (ea) (rw (eb, ew) refl)
+    elements_in false true s Refused eb ew es ea = rw (ea) (rw (eb, ew) refl)
+    elements_in false true s (Begun e) eb ew es ea = rw (ea) (rw (eb, ew) refl)
+    elements_in false false None Nothing eb ew es ea = rw (ea) (rw (eb, ew, es) (append_assoc r.items [] (elements rules xs)))
+    elements_in false false None Refused eb ew es ea = rw (ea) (rw (eb, ew, es) (append_assoc r.items [] (elements rules xs)))
+    elements_in false false None (Begun e) eb ew es ea = rw (ea) (rw (eb, ew, es) (append_assoc r.items (e ∷ []) (elements rules xs)))
+    elements_in false false (Some x) Nothing eb ew es ea = rw (ea) (rw (eb, ew, es) (append_assoc r.items [] (record { line = n; label = x.0; value = value_on (trim x.1) xs } ∷ elements rules xs)))
+    elements_in false false (Some x) Refused eb ew es ea = rw (ea) (rw (eb, ew, es) (append_assoc r.items [] (record { line = n; label = x.0; value = value_on (trim x.1) xs } ∷ elements rules xs)))
+    elements_in false false (Some x) (Begun e) eb ew es ea = rw (ea) (rw (eb, ew, es) (append_assoc r.items (e ∷ []) (record { line = n; label = x.0; value = value_on (trim x.1) xs } ∷ elements rules xs)))
+
+    pub elements_kept : all_elements rules (after_line rules r n line) xs ≡ all_elements rules r ((n, line) ∷ xs)
+    elements_kept = elements_in (is_blank_line line) (begins_with_blank line) (split rules line) r.above refl refl refl refl
+
+    faults_in : (b w : Bool) (s : Option (List ℕ × List ℕ)) (a : Above) → is_blank_line line ≡ b → begins_with_blank line ≡ w → split rules line ≡ s → r.above ≡ a → all_faults rules (after_line rules r n line) xs ≡ all_faults rules r ((n, line) ∷ xs)
+    faults_in true w s Nothing eb ew es ea = rw (ea) (rw (eb) refl)
+    faults_in true w s Refused eb ew es ea = rw (ea) (rw (eb) refl)
+    faults_in true w s (Begun e) eb ew es ea = rw (ea) (rw (eb) refl)
+    faults_in false true s Nothing eb ew es ea = rw (ea) (rw (eb, ew) (append_assoc r.faults (wrong n ∷ []) (faults rules false xs)))
+    faults_in false true s Refused eb ew es ea = rw (ea) (rw (eb, ew) refl)
+    faults_in false true s (Begun e) eb ew es ea = rw (ea) (rw (eb, ew) refl)
+    faults_in false false None Nothing eb ew es ea = rw (ea) (rw (eb, ew, es) (append_assoc r.faults (wrong n ∷ []) (faults rules true xs)))
+    faults_in false false None Refused eb ew es ea = rw (ea) (rw (eb, ew, es) (append_assoc r.faults (wrong n ∷ []) (faults rules true xs)))
+    faults_in false false None (Begun e) eb ew es ea = rw (ea) (rw (eb, ew, es) (append_assoc r.faults (wrong n ∷ []) (faults rules true xs)))
+    faults_in false false (Some x) Nothing eb ew es ea = rw (ea) (rw (eb, ew, es) refl)
+    faults_in false false (Some x) Refused eb ew es ea = rw (ea) (rw (eb, ew, es) refl)
+    faults_in false false (Some x) (Begun e) eb ew es ea = rw (ea) (rw (eb, ew, es) refl)
+
+    pub faults_kept : all_faults rules (after_line rules r n line) xs ≡ all_faults rules r ((n, line) ∷ xs)
+    faults_kept = faults_in (is_blank_line line) (begins_with_blank line) (split rules line) r.above refl refl refl refl

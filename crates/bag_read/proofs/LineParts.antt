@@ -1,0 +1,145 @@
+-- The parts of a line: what stands before its blanks, and what follows them.
+use Rattle.std.proofs.Common.{◌≡◌, ◌≢◌, ℕ, suc, ◌+◌, inl, inr, Bool, true, false, not, ◌||◌, ◌==◌, cond, List, [], ◌∷◌, ◌++◌, length, take, drop, refl, sym, ap, ◌∙◌, subst, bytes_eq, nat_eq, arith, append_assoc}
+use Rattle.std.specs.List.{list_all, prefix_len, starts_with}
+use Rattle.std.proofs.lemmas.Bool.Decides.{nat_tests}
+use Rattle.std.proofs.lemmas.List.{take-append-drop}
+use Rattle.std.proofs.lemmas.List.Folds.{length-prefix_len}
+use Rattle.std.proofs.lemmas.Slice.Eq.{bytes_eq-Decides}
+use Rattle.bag_text.specs.Text.{is_blank, is_blank_line, before_blank, after_blanks, without_prefix}
+use Rattle.bag_read.specs.LineParts.{BeginsUnblank, IsCut, IsWithout}
+use Rattle.bag_read.proofs.Fronts.{drop_front, take_front, stops, front_passes, rest_stops, front_len}
+use Rattle.bag_read.proofs.PickedOut.{both_true}
+use Rattle.bag_read.proofs.Texts.{prefix_test}
+
+-- no blank
+abbrev unblank : ℕ → Bool
+unblank c = not (is_blank c)
+
+pub or_false : (a b : Bool) → (a || b) ≡ false → (a ≡ false) × (b ≡ false)
+or_false true b e = cc
+or_false false b e = (refl, e)
+
+pub not_false : (b : Bool) → not b ≡ false → b ≡ true
+not_false true e = refl
+not_false false e = cc
+
+pub not_true : (b : Bool) → not b ≡ true → b ≡ false
+not_true true e = cc
+not_true false e = refl
+
+pub not_empty : (t : List ℕ) → bytes_eq t [] ≡ false → t ≢ []
+not_empty t e same = let clash : false ≡ true = sym e ∙ (bytes_eq-Decides t []).1 same in cc
+
+pub empty_test : (t : List ℕ) → t ≢ [] → bytes_eq t [] ≡ false
+empty_test [] h = absurd (h refl)
+empty_test (c ∷ t) h = refl
+
+-- a text is its part before a blank, the blanks, and what follows them
+module _ (text : List ℕ) where
+  abbrev part : List ℕ
+  part = before_blank text
+
+  abbrev tail : List ℕ
+  tail = drop (length part) text
+
+  abbrev blanks : List ℕ
+  blanks = take (prefix_len is_blank tail) tail
+
+  abbrev rest : List ℕ
+  rest = after_blanks text
+
+  text_is : text ≡ part ++ blanks ++ rest
+  text_is =
+      sym (take-append-drop (prefix_len unblank text) text)
+      ∙ ap (λ n. part ++ drop n text) (sym (length-prefix_len unblank text))
+      ∙ ap (λ t. part ++ t) (sym (take-append-drop (prefix_len is_blank tail) tail))
+      ∙ sym (append_assoc part blanks rest)
+
+  tail_stops : stops unblank tail ≡ true
+  tail_stops = subst (λ n. stops unblank (drop n text) ≡ true) (sym (length-prefix_len unblank text)) (rest_stops unblank text)
+
+  some_blanks : (t : List ℕ) → stops unblank t ≡ true → drop (prefix_len is_blank t) t ≢ [] → take (prefix_len is_blank t) t ≢ []
+  some_blanks [] e h = absurd (h refl)
+  some_blanks (c ∷ t) e h = blank_first c t (is_blank c) refl e
+    where
+      blank_first : (c : ℕ) (t : List ℕ) (b : Bool) → is_blank c ≡ b → not (not b) ≡ true → take (cond b (1 + prefix_len is_blank t) 0) (c ∷ t) ≢ []
+      blank_first c t true e h = let on : suc (prefix_len is_blank t) ≡ 1 + prefix_len is_blank t = omega arith in subst (λ m. take m (c ∷ t) ≢ []) on (λ same. cc)
+      blank_first c t false e h = cc
+
+  begins : (t : List ℕ) → stops is_blank t ≡ true → t ≢ [] → BeginsUnblank t
+  begins [] e h = absurd (h refl)
+  begins (c ∷ t) e h = (c, t, refl, not_true (is_blank c) e)
+
+  pub is_cut : part ≢ [] → rest ≢ [] → IsCut text part rest
+  is_cut some follows = record {
+    blanks = blanks;
+    text_is = text_is;
+    some_part = some;
+    no_blank = front_passes unblank text;
+    some_blank = some_blanks tail tail_stops follows;
+    only_blanks = front_passes is_blank tail;
+    begins = begins rest (rest_stops is_blank tail) follows;
+  }
+
+stops_blank : (t : List ℕ) → BeginsUnblank t → stops is_blank t ≡ true
+stops_blank t (c, more, e, u) = subst (λ s. stops is_blank s ≡ true) (sym e) (rw u refl)
+
+blank_stops : (blanks rest : List ℕ) → blanks ≢ [] → list_all is_blank blanks ≡ true → stops unblank (blanks ++ rest) ≡ true
+blank_stops [] rest h e = absurd (h refl)
+blank_stops (c ∷ blanks) rest h e = rw (both_true (is_blank c) (list_all is_blank blanks) e).0 refl
+
+zero_suc : (n : ℕ) → (0 == suc n) ≡ false
+zero_suc n = grind (arith, nat_tests)
+
+-- and it is cut so in no other way
+module _ (text part rest : List ℕ) (cut : IsCut text part rest) where
+  abbrev behind : List ℕ
+  behind = cut.blanks ++ rest
+
+  text_at : text ≡ part ++ behind
+  text_at = cut.text_is ∙ append_assoc part cut.blanks rest
+
+  pub cut_part : before_blank text ≡ part
+  cut_part =
+      ap before_blank text_at
+      ∙ ap (λ n. take n (part ++ behind)) (front_len unblank part behind cut.no_blank (blank_stops cut.blanks rest cut.some_blank cut.only_blanks))
+      ∙ take_front part behind
+
+  tail_is : drop (length (before_blank text)) text ≡ behind
+  tail_is = ap (λ h. drop (length h) text) cut_part ∙ ap (drop (length part)) text_at ∙ drop_front part behind
+
+  pub cut_rest : after_blanks text ≡ rest
+  cut_rest =
+      ap (λ t. drop (prefix_len is_blank t) t) tail_is
+      ∙ ap (λ n. drop n behind) (front_len is_blank cut.blanks rest cut.only_blanks (stops_blank rest cut.begins))
+      ∙ drop_front cut.blanks rest
+
+  begins_so : (p t : List ℕ) → p ≢ [] → list_all unblank p ≡ true → is_blank_line (p ++ t) ≡ false
+  begins_so [] t some e = absurd (some refl)
+  begins_so (c ∷ p) t some e = rw (not_true (is_blank c) (both_true (unblank c) (list_all unblank p) e).0) (zero_suc (length (p ++ t)))
+
+  pub not_blank : is_blank_line text ≡ false
+  not_blank = ap is_blank_line text_at ∙ begins_so part behind cut.some_part cut.no_blank
+
+pub begins_some : (t : List ℕ) → BeginsUnblank t → t ≢ []
+begins_some t (c, more, e, u) same = let clash : c ∷ more ≡ [] = sym e ∙ same in cc
+
+-- what stands behind a mark
+without_by : (mark text : List ℕ) (b : Bool) → starts_with nat_eq text mark ≡ b → IsWithout mark text (cond b (drop (length mark) text) text)
+without_by mark text true e = inl ((prefix_test mark text).0 e)
+without_by mark text false e = inr (refl, λ more same. (let clash : false ≡ true = sym e ∙ (prefix_test mark text).1 more same in cc))
+
+pub is_without : (mark text : List ℕ) → IsWithout mark text (without_prefix mark text)
+is_without mark text = without_by mark text (starts_with nat_eq text mark) refl
+
+pub without_is : (mark behind : List ℕ) → without_prefix mark (mark ++ behind) ≡ behind
+without_is mark behind = rw ((prefix_test mark (mark ++ behind)).1 behind refl) (drop_front mark behind)
+
+lacks_by : (mark text : List ℕ) (b : Bool) → starts_with nat_eq text mark ≡ b → ((more : List ℕ) → text ≢ mark ++ more) → cond b (drop (length mark) text) text ≡ text
+lacks_by mark text true e h = absurd (h _ ((prefix_test mark text).0 e))
+lacks_by mark text false e h = refl
+
+-- and nothing else stands there
+pub without_alone : (mark text r : List ℕ) → IsWithout mark text r → without_prefix mark text ≡ r
+without_alone mark text r (inl e) = ap (without_prefix mark) e ∙ without_is mark r
+without_alone mark text r (inr h) = lacks_by mark text (starts_with nat_eq text mark) refl h.1 ∙ sym h.0

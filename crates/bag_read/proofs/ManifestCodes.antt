@@ -1,0 +1,75 @@
+-- The codes of a manifest's faults, their stages and their lines.
+use Rattle.std.proofs.Common.{◌≡◌, ◌≢◌, ℕ, ◌<◌, ◌⊎◌, inl, inr, List, refl, lit<}
+use Rattle.bag_text.specs.Code.{number, stage}
+use Rattle.bag_text.specs.declared.rules.Rules.{Rules}
+use Rattle.bag_text.specs.declared.alg.Alg.{Alg}
+use Rattle.bag_text.specs.declared.code.Code.{Code}
+use Rattle.bag_text.specs.declared.code.Code.TheVariants.{NotUtf8, ManifestLine, DigestLength, ManifestEscape, ManifestUnsafePath, ManifestOutsidePayload, TagmanifestNamesPayload, TagmanifestNamesTagmanifest, NamedAgain}
+use Rattle.bag_read.specs.declared.kind.Kind.{Kind}
+use Rattle.bag_read.specs.declared.line_fault.LineFault.{LineFault}
+use Rattle.bag_read.specs.Manifest.{ManifestFault, IsManifestFault}
+use Rattle.bag_read.proofs.ManifestLine.{IsReasonCode, reason_code}
+
+-- the codes of faults of a manifest's lines
+abbrev pub IsManifestCode : Code → Type 0
+IsManifestCode NamedAgain = Unit {0}
+IsManifestCode code = IsReasonCode code
+
+pub manifest_code_stage : (code : Code) → IsManifestCode code → stage code ≡ 5
+manifest_code_stage ManifestLine is = refl
+manifest_code_stage DigestLength is = refl
+manifest_code_stage ManifestEscape is = refl
+manifest_code_stage ManifestUnsafePath is = refl
+manifest_code_stage ManifestOutsidePayload is = refl
+manifest_code_stage TagmanifestNamesPayload is = refl
+manifest_code_stage TagmanifestNamesTagmanifest is = refl
+manifest_code_stage NamedAgain is = refl
+manifest_code_stage other is = absurd is
+
+pub manifest_code_number : (code : Code) → IsManifestCode code → (500 < number code) × (number code < 509)
+manifest_code_number ManifestLine is = (lit< tt, lit< tt)
+manifest_code_number DigestLength is = (lit< tt, lit< tt)
+manifest_code_number ManifestEscape is = (lit< tt, lit< tt)
+manifest_code_number ManifestUnsafePath is = (lit< tt, lit< tt)
+manifest_code_number ManifestOutsidePayload is = (lit< tt, lit< tt)
+manifest_code_number TagmanifestNamesPayload is = (lit< tt, lit< tt)
+manifest_code_number TagmanifestNamesTagmanifest is = (lit< tt, lit< tt)
+manifest_code_number NamedAgain is = (lit< tt, lit< tt)
+manifest_code_number other is = absurd is
+
+module _ (rules : Rules) (kind : Kind) (alg : Alg) (bytes : List ℕ) where
+  -- a fault of a line, or the one fault of bytes that aren't UTF-8
+  abbrev pub OfLine : Code → ℕ → Type 0
+  OfLine code line = IsManifestCode code × (0 < line)
+
+  abbrev pub OfFile : Code → ℕ → Type 0
+  OfFile code line = (code ≡ NotUtf8) × (line ≡ 0)
+
+  fault_code : (code : Code) (f : LineFault) → ManifestFault code rules kind alg bytes f → OfFile code f.line ⊎ OfLine code f.line
+  fault_code NotUtf8 f h = inl (refl, h.0)
+  fault_code NamedAgain f h = inr (tt, h.2.0)
+  fault_code code f h = inr (reason_code rules kind alg h.0 (code, f.detail) h.2.1, h.1.0)
+
+  -- a fault is of a line, with a code of manifests, or the fault of bytes that aren't UTF-8
+  pub manifest_fault_code : (f : LineFault) → IsManifestFault rules kind alg bytes f → OfFile f.code f.line ⊎ OfLine f.code f.line
+  manifest_fault_code f h = fault_code f.code f h
+
+  fault_of_line : (f : LineFault) → OfFile f.code f.line ⊎ OfLine f.code f.line → f.code ≢ NotUtf8 → OfLine f.code f.line
+  fault_of_line f (inl h) other = absurd (other h.0)
+  fault_of_line f (inr h) other = h
+
+  -- a fault of another code than NotUtf8 is of stage 5
+  pub manifest_fault_stage : (f : LineFault) → IsManifestFault rules kind alg bytes f → f.code ≢ NotUtf8 → stage f.code ≡ 5
+  manifest_fault_stage f h other = manifest_code_stage f.code (fault_of_line f (manifest_fault_code f h) other).0
+
+  -- and of a line
+  pub manifest_fault_line : (f : LineFault) → IsManifestFault rules kind alg bytes f → f.code ≢ NotUtf8 → 0 < f.line
+  manifest_fault_line f h other = (fault_of_line f (manifest_fault_code f h) other).1
+
+  -- a fault of the code NotUtf8 is of the whole file, and of stage 2
+  whole_file : (code : Code) (f : LineFault) → code ≡ NotUtf8 → ManifestFault code rules kind alg bytes f → (f.line ≡ 0) × (stage code ≡ 2)
+  whole_file NotUtf8 f e h = (h.0, refl)
+  whole_file other f e h = cc
+
+  pub manifest_fault_whole : (f : LineFault) → IsManifestFault rules kind alg bytes f → f.code ≡ NotUtf8 → (f.line ≡ 0) × (stage f.code ≡ 2)
+  manifest_fault_whole f h e = whole_file f.code f e h

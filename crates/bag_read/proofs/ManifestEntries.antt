@@ -1,0 +1,98 @@
+-- The entries of a manifest are of the paths that its lines name, one for each path.
+use Rattle.std.proofs.Common.{◌≡◌, ◌≢◌, ℕ, suc, ◌+◌, ◌-◌, ◌<◌, inl, inr, Bool, true, false, List, [], ◌∷◌, take, refl, ap, sym, ◌∙◌, subst, Option, Some, None, Result, Ok, Err, bytes_eq, arith}
+use Rattle.std.specs.Prelude.{Contains, filter_map}
+use Rattle.std.specs.List.{slice_get, cons_option}
+use Rattle.std.proofs.lemmas.Bool.{cases_lt}
+use Rattle.std.proofs.Math.Nat.{eq-or-lt_of_le}
+use Rattle.std.proofs.lemmas.Option.{slice_get_within, get_or_from_slice_get}
+use Rattle.std.proofs.lemmas.Slice.Eq.{bytes_eq-Decides}
+use Rattle.bag_text.specs.Lines.{IsLine}
+use Rattle.bag_text.specs.Text.{is_blank_line}
+use Rattle.bag_text.specs.declared.rules.Rules.{Rules}
+use Rattle.bag_text.specs.declared.alg.Alg.{Alg}
+use Rattle.bag_text.proofs.ListOf.{contains_cases, contains_nothing}
+use Rattle.bag_read.specs.declared.kind.Kind.{Kind}
+use Rattle.bag_read.specs.declared.manifest.ManifestEntry.{ManifestEntry}
+use Rattle.bag_read.specs.Reason.{Reason}
+use Rattle.bag_read.specs.Manifest.{Reads, IsEntry, named, named_before, manifest_line}
+use Rattle.bag_read.proofs.PickedOut.{is_picked}
+use Rattle.bag_read.proofs.ManifestJudged.{path_of, path_of_reads, reads_path, earlier_named}
+
+-- the first element of which a function picks out a text
+module _ {A : Type 0} (f : A → Option (List ℕ)) where
+  abbrev pub IsFirstPicked : List A → List ℕ → Type 0
+  IsFirstPicked xs y = (k : ℕ) × (x : A) × (slice_get xs k ≡ Some x) × (f x ≡ Some y) × ¬ (Contains (filter_map f (take k xs)) y)
+
+  abbrev gives : Option (List ℕ) → List ℕ → Bool
+  gives None y = false
+  gives (Some z) y = bytes_eq z y
+
+  not_here : (x : A) (xs : List A) (y : List ℕ) (k : ℕ) (o : Option (List ℕ)) → f x ≡ o → o ≢ Some y → ¬ (Contains (filter_map f (take k xs)) y) → ¬ (Contains (filter_map f (take (suc k) (x ∷ xs))) y)
+  not_here x xs y k None e other none = λ c. none (subst (λ o. Contains (cons_option o (filter_map f (take k xs))) y) e c)
+  not_here x xs y k (Some z) e other none = λ c.
+      elim (contains_cases z (filter_map f (take k xs)) y (subst (λ o. Contains (cons_option o (filter_map f (take k xs))) y) e c)) [
+        | inl same ↦ absurd (other (ap Some same))
+        | inr d ↦ none d
+      ]
+
+  behind : (x : A) (xs : List A) (y : List ℕ) (o : Option (List ℕ)) → f x ≡ o → o ≢ Some y → IsFirstPicked xs y → IsFirstPicked (x ∷ xs) y
+  behind x xs y o e other p = (suc p.0, p.1, p.2, p.3, not_here x xs y p.0 o e other p.4)
+
+  first_cons : (x : A) (xs : List A) (y : List ℕ) (o : Option (List ℕ)) (b : Bool) → f x ≡ o → gives o y ≡ b → Contains (cons_option o (filter_map f xs)) y → (Contains (filter_map f xs) y → IsFirstPicked xs y) → IsFirstPicked (x ∷ xs) y
+  first_cons x xs y None b e t c more = behind x xs y None e (λ h. cc) (more c)
+  first_cons x xs y (Some z) true e t c more =
+      (0, x, refl, e ∙ ap Some ((bytes_eq-Decides z y).0 t), λ d. contains_nothing y d)
+  first_cons x xs y (Some z) false e t c more =
+      let differ : z ≢ y = λ h. (let clash : false ≡ true = sym t ∙ (bytes_eq-Decides z y).1 h in cc) in
+      elim (contains_cases z (filter_map f xs) y c) [
+        | inl same ↦ absurd (differ same)
+        | inr d ↦ behind x xs y (Some z) e (λ h. differ cc) (more d)
+      ]
+
+  pub first_picked : (xs : List A) (y : List ℕ) → Contains (filter_map f xs) y → IsFirstPicked xs y
+  first_picked [] y c = absurd (contains_nothing y c)
+  first_picked (x ∷ xs) y c = first_cons x xs y (f x) (gives (f x) y) refl refl c (first_picked xs y)
+
+module _ (rules : Rules) (kind : Kind) (alg : Alg) (all : List (List ℕ)) where
+  -- the path of an entry is named
+  pub entry_named : (e : ManifestEntry) → IsEntry rules kind alg all e → Contains (named rules kind alg all) e.path
+  entry_named e (line, (some, at), reads, first) =
+      let there : Contains all line = (e.line - 1, slice_get_within all (e.line - 1) line at, get_or_from_slice_get all (e.line - 1) line line at) in
+      is_picked (path_of rules kind alg) all line e.path there (path_of_reads rules kind alg line e.digest e.path reads)
+
+  -- and a path that is named has an entry, of the first line that names it
+  pub named_has_entry : (path : List ℕ) → Contains (named rules kind alg all) path → (e : ManifestEntry) × IsEntry rules kind alg all e × (e.path ≡ path)
+  named_has_entry path c =
+      let p = first_picked (path_of rules kind alg) all path c in
+      let k = p.0 in
+      let r = reads_path rules kind alg p.1 path (is_blank_line p.1) (manifest_line rules kind alg p.1) refl refl p.3 in
+      let step : k ≡ k + 1 - 1 = omega arith in
+      let at : IsLine all (k + 1) p.1 = (omega arith, ap (slice_get all) (sym step) ∙ p.2) in
+      let first : ¬ (Contains (named_before rules kind alg all (k + 1)) path) = subst (λ n. ¬ (Contains (named rules kind alg (take n all)) path)) step p.4 in
+      (record { line = k + 1; digest = r.0; path = path }, (p.1, at, r.1, first), refl)
+
+  abbrev digest_read : Result (List ℕ × List ℕ) Reason → List ℕ
+  digest_read (Ok x) = x.0
+  digest_read (Err reason) = []
+
+  not_later : (e g : ManifestEntry) → IsEntry rules kind alg all e → IsEntry rules kind alg all g → e.path ≡ g.path → e.line < g.line → ⊥
+  not_later e g (line, at, reads, _) (_, _, _, first) same low =
+      first (earlier_named rules kind alg all g.line g.path (e.line, line, e.digest, low, at, subst (Reads rules kind alg line e.digest) same reads))
+
+  same_line : (e g : ManifestEntry) → IsEntry rules kind alg all e → IsEntry rules kind alg all g → e.path ≡ g.path → e.line ≡ g.line → e ≡ g
+  same_line e g (l, at, reads, _) (m, there, again, _) same n =
+      let lines_same : Some l ≡ Some m = sym at.1 ∙ ap (λ k. slice_get all (k - 1)) n ∙ there.1 in
+      let one : l ≡ m = cc in
+      let digest : e.digest ≡ g.digest = ap digest_read (sym reads.1 ∙ ap (manifest_line rules kind alg) one ∙ again.1) in
+      λ i. record { line = n i; digest = digest i; path = same i }
+
+  -- two entries of one path are one
+  pub entry_of_path_once : (e g : ManifestEntry) → IsEntry rules kind alg all e → IsEntry rules kind alg all g → e.path ≡ g.path → e ≡ g
+  entry_of_path_once e g h k same =
+      elim (cases_lt e.line g.line) [
+        | inl low ↦ absurd (not_later e g h k same low)
+        | inr high ↦ elim (eq-or-lt_of_le high) [
+          | inl n ↦ same_line e g h k same (sym n)
+          | inr low ↦ absurd (not_later g e k h (sym same) low)
+        ]
+      ]

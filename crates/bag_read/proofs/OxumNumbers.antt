@@ -1,0 +1,37 @@
+-- The numbers of an oxum.
+use Rattle.std.proofs.Common.{◌≡◌, ℕ, ◌<◌, ◌^◌, Bool, true, false, not, cond, List, [], ◌∷◌, length, refl, ap, sym, arith, Option, Some, None, Result, Ok, Err, bytes_eq, nat_lt}
+use Rattle.std.specs.Str.{all_ascii_digits}
+use Rattle.std.specs.Str.Parse.{ParsesUnsigned, digits_value}
+use Rattle.std.specs.Prelude.{OkIff}
+use Rattle.std.proofs.lemmas.Bool.Decides.{nat_tests}
+use Rattle.std.proofs.lemmas.Str.Parse.{numerals_by_value, tells_all_ascii_digits, parse_digits}
+use Rattle.bag_text.specs.Number.{is_digits}
+use Rattle.bag_read.specs.Oxum.{number_of}
+use Rattle.bag_read.proofs.LineParts.{not_true}
+use Rattle.bag_read.proofs.PickedOut.{both_true}
+
+abbrev value_or_none : {E : Type 0} → Result ℕ E → Option ℕ
+value_or_none (Ok n) = Some n
+value_or_none (Err e) = None
+
+below : (m n : ℕ) → m < n → nat_lt m n ≡ true
+below m n l = grind (arith, nat_tests)
+
+by_test : (v n : ℕ) (b : Bool) → nat_lt v n ≡ b → (v < n → ⊥) → cond b (Some v) None ≡ None
+by_test v n true e h = absurd (h (grind (arith, nat_tests)))
+by_test v n false e h = refl
+
+some_of : (t : List ℕ) → bytes_eq t [] ≡ false → 0 < length t
+some_of [] e = cc
+some_of (c ∷ t) e = omega arith
+
+told : {E : Type 0} (t : List ℕ) (r : Result ℕ E) → bytes_eq t [] ≡ false → all_ascii_digits t ≡ true → OkIff r ((0 < length t) × (digits_value 10 t < 2 ^ 64)) (digits_value 10 t) → value_or_none r ≡ number_of t
+told t (Ok n) some digits ((_, fits), same) = rw (some, digits, below (digits_value 10 t) (2 ^ 64) fits) (ap Some same)
+told t (Err e) some digits none =
+    rw (some, digits) (sym (by_test (digits_value 10 t) (2 ^ 64) (nat_lt (digits_value 10 t) (2 ^ 64)) refl (λ l. none (some_of t some, l))))
+
+-- what `parse` reads of digits
+pub number_read : {E : Type 0} (t : List ℕ) (r : Result ℕ E) → ParsesUnsigned 64 10 t r → is_digits t ≡ true → value_or_none r ≡ number_of t
+number_read t r h digits =
+    let two = both_true (not (bytes_eq t [])) (all_ascii_digits t) digits in
+    told t r (not_true _ two.0) two.1 (parse_digits (numerals_by_value _ tells_all_ascii_digits) 64 t r h two.1)

@@ -1,0 +1,137 @@
+-- The paths of tag files.
+use Rattle.std.proofs.Common.{◌≡◌, ◌≢◌, ◌++◌, ℕ, List, [], ◌∷◌, find, subst, Option, None, Some, Bool, true, false, refl, sym, ap, ◌∙◌, cond, arith, ◌==◌, append_assoc, get_or, MatchOption, codes, bytes_eq}
+use Rattle.std.proofs.lemmas.Bool.Decides.{nat_tests}
+use Rattle.std.specs.List.{list_all, slice_get}
+use Rattle.std.proofs.lemmas.List.Elements.{All-contains}
+use Rattle.std.proofs.lemmas.List.Sums.{AllPass-from_list_all}
+use Rattle.std.proofs.lemmas.Slice.Eq.{bytes_eq-Decides}
+use Rattle.bag_text.specs.Alg.{algs, name, alg_named}
+use Rattle.bag_text.specs.Path.{is_base_name}
+use Rattle.bag_text.specs.declared.alg.Alg.{Alg}
+use Rattle.bag_text.proofs.AlgSets.{each_is_listed, name_is_read_again, names_tell_apart}
+use Rattle.bag_read.specs.declared.kind.Kind.{Kind}
+use Rattle.bag_read.specs.declared.kind.Kind.TheVariants.{Payload, Tag}
+use Rattle.bag_read.specs.declared.tag_name.TagName.{TagName}
+use Rattle.bag_read.specs.declared.tag_name.TagName.TheVariants.{Declaration, Info, Fetch, Manifest}
+use Rattle.bag_read.specs.ManifestName.{manifest_name, is_alg_text, prefix}
+use Rattle.bag_read.specs.TagName.{tag_path, TagPathsDiffer, TagFilesStandInTheBase}
+use Rattle.bag_read.proofs.ManifestName.{same_alg}
+
+-- what all of the list pass, each algorithm passes
+each_alg : (test : Alg → Bool) → list_all test algs ≡ true → (alg : Alg) → test alg ≡ true
+each_alg test all alg = All-contains (λ a. test a ≡ true) algs alg (AllPass-from_list_all test algs all) (each_is_listed alg)
+
+pub name_named : (a : Alg) → alg_named (name a) ≡ Some a
+name_named = name_is_read_again
+
+pub name_is_text : (a : Alg) → is_alg_text (name a) ≡ true
+name_is_text = each_alg (λ a. is_alg_text (name a)) refl
+
+by_first : (test : Alg → Bool) (b : Bool) (first found : Alg) (later : Option Alg) → test first ≡ b → (later ≡ Some found → test found ≡ true)
+    → cond b (Some first) later ≡ Some found → test found ≡ true
+by_first test true first found later passes there e = let same : first ≡ found = cc in subst (λ a. test a ≡ true) same passes
+by_first test false first found later passes there e = there e
+
+-- what is found passes the test
+found_passes : (test : Alg → Bool) (all : List Alg) (found : Alg) → find test all ≡ Some found → test found ≡ true
+found_passes test [] found e = cc
+found_passes test (first ∷ rest) found e = by_first test (test first) first found (find test rest) refl (found_passes test rest found) e
+
+-- the algorithm of a name has this name
+pub alg_named_is : (t : List ℕ) (a : Alg) → alg_named t ≡ Some a → t ≡ name a
+alg_named_is t a h = sym ((bytes_eq-Decides (name a) t).0 (found_passes (λ alg. bytes_eq (name alg) t) algs a h))
+
+same_name : (a b : Alg) → name a ≡ name b → a ≡ b
+same_name = names_tell_apart
+
+one_text : (kind : Kind) (a b : List ℕ) → manifest_name kind a ≡ manifest_name kind b → a ≡ b
+one_text kind a b e = same_alg kind (manifest_name kind a) (a ++ codes ".txt") a b (append_assoc (prefix kind) a (codes ".txt")) refl e
+
+-- two bytes tell the three files and the two kinds of manifests apart
+abbrev first : List ℕ → ℕ
+first t = get_or t 0 0
+
+abbrev fourth : List ℕ → ℕ
+fourth t = get_or t 3 0
+
+apart : (m n : ℕ) → (m == n) ≡ false → m ≡ n → ⊥
+apart m n e same = grind (arith, nat_tests)
+
+pub paths_differ : TagPathsDiffer
+paths_differ Declaration Declaration e = refl
+paths_differ Declaration Info e = absurd (apart 105 45 refl (ap fourth e))
+paths_differ Declaration Fetch e = absurd (apart 98 102 refl (ap first e))
+paths_differ Declaration (Manifest Payload a) e = absurd (apart 98 109 refl (ap first e))
+paths_differ Declaration (Manifest Tag a) e = absurd (apart 98 116 refl (ap first e))
+paths_differ Info Declaration e = absurd (apart 45 105 refl (ap fourth e))
+paths_differ Info Info e = refl
+paths_differ Info Fetch e = absurd (apart 98 102 refl (ap first e))
+paths_differ Info (Manifest Payload a) e = absurd (apart 98 109 refl (ap first e))
+paths_differ Info (Manifest Tag a) e = absurd (apart 98 116 refl (ap first e))
+paths_differ Fetch Declaration e = absurd (apart 102 98 refl (ap first e))
+paths_differ Fetch Info e = absurd (apart 102 98 refl (ap first e))
+paths_differ Fetch Fetch e = refl
+paths_differ Fetch (Manifest Payload a) e = absurd (apart 102 109 refl (ap first e))
+paths_differ Fetch (Manifest Tag a) e = absurd (apart 102 116 refl (ap first e))
+paths_differ (Manifest Payload a) Declaration e = absurd (apart 109 98 refl (ap first e))
+paths_differ (Manifest Payload a) Info e = absurd (apart 109 98 refl (ap first e))
+paths_differ (Manifest Payload a) Fetch e = absurd (apart 109 102 refl (ap first e))
+paths_differ (Manifest Payload a) (Manifest Payload b) e = ap (Manifest Payload) (same_name a b (one_text Payload (name a) (name b) e))
+paths_differ (Manifest Payload a) (Manifest Tag b) e = absurd (apart 109 116 refl (ap first e))
+paths_differ (Manifest Tag a) Declaration e = absurd (apart 116 98 refl (ap first e))
+paths_differ (Manifest Tag a) Info e = absurd (apart 116 98 refl (ap first e))
+paths_differ (Manifest Tag a) Fetch e = absurd (apart 116 102 refl (ap first e))
+paths_differ (Manifest Tag a) (Manifest Payload b) e = absurd (apart 116 109 refl (ap first e))
+paths_differ (Manifest Tag a) (Manifest Tag b) e = ap (Manifest Tag) (same_name a b (one_text Tag (name a) (name b) e))
+
+abbrev first_or : Option ℕ → ℕ
+first_or None = 0
+first_or (Some x) = x
+
+-- no tag file's path begins with a d
+pub no_tag_begins_so : (path : List ℕ) → slice_get path 0 ≡ Some 100 → (name : TagName) → tag_path name ≢ path
+no_tag_begins_so path begins name same = begins_other name (ap (λ t. first_or (slice_get t 0)) same ∙ ap first_or begins)
+  where
+    begins_other : (name : TagName) → first_or (slice_get (tag_path name) 0) ≡ 100 → ⊥
+    begins_other Declaration e = apart 98 100 refl e
+    begins_other Info e = apart 98 100 refl e
+    begins_other Fetch e = apart 102 100 refl e
+    begins_other (Manifest Payload a) e = apart 109 100 refl e
+    begins_other (Manifest Tag a) e = apart 116 100 refl e
+
+manifest_in_base : (kind : Kind) (alg : Alg) → is_base_name (manifest_name kind (name alg)) ≡ true
+manifest_in_base Payload = each_alg (λ a. is_base_name (manifest_name Payload (name a))) refl
+manifest_in_base Tag = each_alg (λ a. is_base_name (manifest_name Tag (name a))) refl
+
+pub in_base : TagFilesStandInTheBase
+in_base Declaration = refl
+in_base Info = refl
+in_base Fetch = refl
+in_base (Manifest kind alg) = manifest_in_base kind alg
+
+-- the manifest of a supported algorithm, at a path that has the form of a manifest's
+pub manifest_by : (kind : Kind) (path text : List ℕ) (alg : Alg) → path ≡ manifest_name kind text → Some alg ≡ alg_named text → tag_path (Manifest kind alg) ≡ path
+manifest_by kind path text alg at e = sym (at ∙ ap (manifest_name kind) (alg_named_is text alg (sym e)))
+
+pub no_manifest_by : (kind : Kind) (path text : List ℕ) → path ≡ manifest_name kind text → None ≡ alg_named text → (alg : Alg) → tag_path (Manifest kind alg) ≢ path
+no_manifest_by kind path text at e alg same =
+    let text_is : text ≡ name alg = one_text kind text (name alg) (sym at ∙ sym same) in
+    let clash : None ≡ Some alg = e ∙ ap alg_named text_is ∙ name_named alg in cc
+
+other : (path name : List ℕ) → false ≡ bytes_eq path name → name ≢ path
+other path name e same = let clash : false ≡ true = e ∙ (bytes_eq-Decides path name).1 (sym same) in cc
+
+at_no_file : (path : List ℕ) → false ≡ bytes_eq path (codes "bagit.txt") → false ≡ bytes_eq path (codes "bag-info.txt") → false ≡ bytes_eq path (codes "fetch.txt")
+    → ((alg : Alg) → tag_path (Manifest Payload alg) ≢ path) → ((alg : Alg) → tag_path (Manifest Tag alg) ≢ path) → (name : TagName) → tag_path name ≢ path
+at_no_file path d i f payload tag Declaration = other path (codes "bagit.txt") d
+at_no_file path d i f payload tag Info = other path (codes "bag-info.txt") i
+at_no_file path d i f payload tag Fetch = other path (codes "fetch.txt") f
+at_no_file path d i f payload tag (Manifest Payload alg) = payload alg
+at_no_file path d i f payload tag (Manifest Tag alg) = tag alg
+
+-- a path that is none of the three files, nor that of a payload manifest
+pub at_no_payload : (path : List ℕ) (r : Option TagName) → false ≡ bytes_eq path (codes "bagit.txt") → false ≡ bytes_eq path (codes "bag-info.txt") → false ≡ bytes_eq path (codes "fetch.txt")
+    → ((alg : Alg) → tag_path (Manifest Payload alg) ≢ path) → MatchOption r ((alg : Alg) → tag_path (Manifest Tag alg) ≢ path) (λ name. tag_path name ≡ path)
+    → MatchOption r ((name : TagName) → tag_path name ≢ path) (λ name. tag_path name ≡ path)
+at_no_payload path None d i f payload tag = at_no_file path d i f payload tag
+at_no_payload path (Some name) d i f payload found = found

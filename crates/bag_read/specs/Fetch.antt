@@ -1,0 +1,75 @@
+-- The list of files to fetch, fetch.txt (RFC 8493, 2.2.3).
+use Rattle.std.specs.Prelude.{ℕ, ◌≡◌, ◌||◌, Bool, false, not, List, [], Option, Some, None, Result, Ok, Err, bytes_eq, codes, if◌then◌else◌}
+use Rattle.bag_text.specs.Text.{IsNoText, before_blank, after_blanks, without_prefix, is_blank_line}
+use Rattle.bag_text.specs.Lines.{lines_of_file, IsLine}
+use Rattle.bag_text.specs.Number.{is_digits}
+use Rattle.bag_text.specs.Path.{is_path, is_payload_path}
+use Rattle.bag_text.specs.Spelling.{unescaped}
+use Rattle.bag_text.specs.declared.rules.Rules.{Rules}
+use Rattle.bag_text.specs.declared.code.Code.{Code}
+use Rattle.bag_text.specs.declared.code.Code.TheVariants.{NotUtf8, FetchLine, FetchEscape, FetchUnsafePath, FetchOutsidePayload}
+use Rattle.bag_read.specs.Reason.{Reason, ◌>>=◌}
+use Rattle.bag_read.specs.declared.line_fault.LineFault.{LineFault}
+use Rattle.bag_read.specs.declared.fetch.FetchEntry.{FetchEntry}
+
+-- a line is a URL, a length and a path as it is written, with blanks between them
+abbrev pub url_of : List ℕ → List ℕ
+url_of line = before_blank line
+
+abbrev pub length_of : List ℕ → List ℕ
+length_of line = before_blank (after_blanks line)
+
+abbrev pub written_of : List ℕ → List ℕ
+written_of line = after_blanks (after_blanks line)
+
+-- a length in bytes, or a - where it isn't told
+abbrev pub is_length : List ℕ → Bool
+is_length t = bytes_eq t (codes "-") || is_digits t
+
+-- whether a part is missing, or the length isn't one
+abbrev pub lacks_part : List ℕ → List ℕ → List ℕ → Bool
+lacks_part url size written = bytes_eq url [] || not (is_length size) || bytes_eq written []
+
+-- the spelling of the path, without one ./ in front
+abbrev pub spelling_of : List ℕ → Result (List ℕ) Reason
+spelling_of line =
+    if lacks_part (url_of line) (length_of line) (written_of line) then Err (FetchLine, [])
+    else Ok (without_prefix (codes "./") (written_of line))
+
+abbrev pub decoded_or : Option (List ℕ) → List ℕ → Result (List ℕ) Reason
+decoded_or None spelling = Err (FetchEscape, spelling)
+decoded_or (Some path) spelling = Ok path
+
+-- only payload files are fetched
+abbrev pub fetched_path : List ℕ → Result (List ℕ) Reason
+fetched_path path =
+    if is_path path then (if is_payload_path path then Ok path else Err (FetchOutsidePayload, path))
+    else Err (FetchUnsafePath, path)
+
+-- the path of a line that isn't blank, or the first reason why it doesn't read
+unfoldable pub fetch_line : Rules → List ℕ → Result (List ℕ) Reason
+fetch_line rules line = do
+  spelling ← spelling_of line
+  path ← decoded_or (unescaped rules spelling) spelling
+  fetched_path path
+
+abbrev pub Reads : Rules → List ℕ → List ℕ → List ℕ → List ℕ → Type 0
+Reads rules line url size path =
+    (is_blank_line line ≡ false) × (url ≡ url_of line) × (size ≡ length_of line) × (fetch_line rules line ≡ Ok path)
+
+abbrev pub HasReason : Rules → List ℕ → Reason → Type 0
+HasReason rules line reason = (is_blank_line line ≡ false) × (fetch_line rules line ≡ Err reason)
+
+-- a line that reads
+abbrev pub IsFetch : Rules → List (List ℕ) → FetchEntry → Type 0
+IsFetch rules all e = (line : List ℕ) × IsLine all e.line line × Reads rules line e.url e.length e.path
+
+-- what is wrong with the file: by cases on the fault's code
+abbrev pub FetchFault : Rules → Code → List ℕ → LineFault → Type 0
+FetchFault rules NotUtf8 bytes f = (f.line ≡ 0) × (f.detail ≡ []) × IsNoText bytes
+-- the reasons why a line doesn't read
+FetchFault rules reason bytes f =
+    (line : List ℕ) × IsLine (lines_of_file bytes) f.line line × HasReason rules line (reason, f.detail)
+
+abbrev pub IsFetchFault : Rules → List ℕ → LineFault → Type 0
+IsFetchFault rules bytes f = FetchFault rules f.code bytes f

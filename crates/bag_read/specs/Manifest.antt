@@ -1,0 +1,101 @@
+-- Manifests (RFC 8493, 2.1.3 and 2.2.1).
+use Rattle.std.specs.Prelude.{ℕ, ◌-◌, ◌≡◌, ◌==◌, ◌||◌, false, not, List, [], length, Option, Some, None, Result, Ok, Err, bytes_eq, codes, if◌then◌else◌, filter_map, take, Contains}
+use Rattle.std.specs.Str.{str_to_ascii_lowercase}
+use Rattle.std.specs.Char.{is_ascii_hexdigit}
+use Rattle.std.specs.List.{list_all}
+use Rattle.bag_text.specs.Text.{IsNoText, before_blank, after_blanks, without_prefix, is_blank_line}
+use Rattle.bag_text.specs.Lines.{lines_of_file, IsLine}
+use Rattle.bag_text.specs.Path.{is_path, is_payload_path}
+use Rattle.bag_text.specs.Spelling.{unescaped}
+use Rattle.bag_text.specs.Alg.{hex_len}
+use Rattle.bag_text.specs.declared.rules.Rules.{Rules}
+use Rattle.bag_text.specs.declared.alg.Alg.{Alg}
+use Rattle.bag_text.specs.declared.code.Code.{Code}
+use Rattle.bag_text.specs.declared.code.Code.TheVariants.{NotUtf8, ManifestLine, DigestLength, ManifestEscape, ManifestUnsafePath, ManifestOutsidePayload, TagmanifestNamesPayload, TagmanifestNamesTagmanifest, NamedAgain}
+use Rattle.bag_read.specs.ManifestName.{is_manifest_name}
+use Rattle.bag_read.specs.declared.kind.Kind.{Kind}
+use Rattle.bag_read.specs.declared.kind.Kind.TheVariants.{Payload, Tag}
+use Rattle.bag_read.specs.Reason.{Reason, ◌>>=◌}
+use Rattle.bag_read.specs.declared.line_fault.LineFault.{LineFault}
+use Rattle.bag_read.specs.declared.manifest.ManifestEntry.{ManifestEntry}
+
+-- the digest in lower case, where it is hex, has the algorithm's length, and something follows it
+abbrev pub checked_digest : Alg → List ℕ → List ℕ → Result (List ℕ) Reason
+checked_digest alg digest rest =
+    if bytes_eq digest [] || not (list_all is_ascii_hexdigit digest) || bytes_eq rest [] then Err (ManifestLine, [])
+    else if not (length digest == hex_len alg) then Err (DigestLength, digest)
+    else Ok (str_to_ascii_lowercase digest)
+
+-- the digest at the front of a line
+abbrev pub digest_of : Alg → List ℕ → Result (List ℕ) Reason
+digest_of alg line = checked_digest alg (before_blank line) (after_blanks line)
+
+-- what may be written before a path is dropped: one *, as md5sum -b has it, and then one ./
+abbrev pub without_marks : List ℕ → List ℕ
+without_marks rest = without_prefix (codes "./") (without_prefix (codes "*") rest)
+
+-- the path as it is written, after the digest and the blanks
+abbrev pub spelled_path : List ℕ → List ℕ
+spelled_path line = without_marks (after_blanks line)
+
+abbrev pub decoded_or : Option (List ℕ) → List ℕ → Result (List ℕ) Reason
+decoded_or None spelling = Err (ManifestEscape, spelling)
+decoded_or (Some path) spelling = Ok path
+
+-- a payload manifest names payload files, and a tag manifest other files, but no tag manifest
+abbrev pub placed : Kind → List ℕ → Result (List ℕ) Reason
+placed Payload path = if is_payload_path path then Ok path else Err (ManifestOutsidePayload, path)
+placed Tag path =
+    if is_payload_path path then Err (TagmanifestNamesPayload, path)
+    else if is_manifest_name Tag path then Err (TagmanifestNamesTagmanifest, path)
+    else Ok path
+
+abbrev pub named_path : Kind → List ℕ → Result (List ℕ) Reason
+named_path kind path = if is_path path then placed kind path else Err (ManifestUnsafePath, path)
+
+-- the digest and the path of a line that isn't blank, or the first reason why it doesn't read
+unfoldable pub manifest_line : Rules → Kind → Alg → List ℕ → Result (List ℕ × List ℕ) Reason
+manifest_line rules kind alg line = do
+  digest ← digest_of alg line
+  path ← decoded_or (unescaped rules (spelled_path line)) (spelled_path line)
+  named ← named_path kind path
+  Ok (digest, named)
+
+abbrev pub Reads : Rules → Kind → Alg → List ℕ → List ℕ → List ℕ → Type 0
+Reads rules kind alg line digest path = (is_blank_line line ≡ false) × (manifest_line rules kind alg line ≡ Ok (digest, path))
+
+abbrev pub HasReason : Rules → Kind → Alg → List ℕ → Reason → Type 0
+HasReason rules kind alg line reason = (is_blank_line line ≡ false) × (manifest_line rules kind alg line ≡ Err reason)
+
+-- the path that a line names, where it reads
+abbrev pub path_read : Result (List ℕ × List ℕ) Reason → Option (List ℕ)
+path_read (Ok x) = Some x.1
+path_read (Err reason) = None
+
+-- the paths that lines name, in their order
+abbrev pub named : Rules → Kind → Alg → List (List ℕ) → List (List ℕ)
+named rules kind alg all = filter_map (λ line. if is_blank_line line then None else path_read (manifest_line rules kind alg line)) all
+
+-- the paths that the lines before line k name
+abbrev pub named_before : Rules → Kind → Alg → List (List ℕ) → ℕ → List (List ℕ)
+named_before rules kind alg all k = named rules kind alg (take (k - 1) all)
+
+-- an entry: a line that reads, the first that names its path
+abbrev pub IsEntry : Rules → Kind → Alg → List (List ℕ) → ManifestEntry → Type 0
+IsEntry rules kind alg all e =
+    (line : List ℕ) × IsLine all e.line line × Reads rules kind alg line e.digest e.path
+    × ¬ (Contains (named_before rules kind alg all e.line) e.path)
+
+-- what is wrong with the file: by cases on the fault's code
+abbrev pub ManifestFault : Code → Rules → Kind → Alg → List ℕ → LineFault → Type 0
+ManifestFault NotUtf8 rules kind alg bytes f = (f.line ≡ 0) × (f.detail ≡ []) × IsNoText bytes
+ManifestFault NamedAgain rules kind alg bytes f =
+    let all = lines_of_file bytes in
+    (line : List ℕ) × (digest : List ℕ) × IsLine all f.line line × Reads rules kind alg line digest f.detail
+    × Contains (named_before rules kind alg all f.line) f.detail
+-- the reasons why a line doesn't read
+ManifestFault reason rules kind alg bytes f =
+    (line : List ℕ) × IsLine (lines_of_file bytes) f.line line × HasReason rules kind alg line (reason, f.detail)
+
+abbrev pub IsManifestFault : Rules → Kind → Alg → List ℕ → LineFault → Type 0
+IsManifestFault rules kind alg bytes f = ManifestFault f.code rules kind alg bytes f

@@ -1,0 +1,62 @@
+//! Laws of the definitions, each the contract of a function that does nothing.
+ghost use Rattle.bag_read.specs.ManifestLine.{LinesReadAsTheirParts, LinesReadOrHaveOneReason};
+ghost use Rattle.bag_read.specs.TagName.{TagFilesStandInTheBase, TagPathsDiffer};
+ghost use Rattle.bag_read.specs.FetchLine.{FetchLinesReadAsTheirParts, FetchLinesReadOrHaveOneReason};
+ghost use Rattle.bag_read.specs.InfoPlaces.{ContinuationsAreBelow, EachLineHasOnePlace, EachLineIsOfOneElement};
+ghost use Rattle.bag_read.specs.DeclarationLine.{EncodingLinesReadAsTheirParts, LinesDeclareOrAreFaulty, VersionLinesReadAsTheirParts};
+
+/// No two tag files stand at one path.
+pub fn tag_paths_differ()
+    ensures { TagPathsDiffer }
+{}
+
+/// Each tag file stands in the base folder: its path is a path of one component.
+pub fn tag_files_stand_in_the_base()
+    ensures { TagFilesStandInTheBase }
+{}
+
+/// A line of a manifest reads just where it is a digest of the algorithm, blanks, and a spelling of a path that may
+/// stand there; and it says that digest, in lower case, and that path.
+pub fn lines_read_as_their_parts()
+    ensures { LinesReadAsTheirParts }
+{}
+
+/// A line of a manifest that isn't blank reads in one way, or has one reason why it doesn't.
+pub fn lines_read_or_have_one_reason()
+    ensures { LinesReadOrHaveOneReason }
+{}
+
+/// A line of `bag-info.txt` that isn't blank is the first line of an element, or goes on with one, or is wrong, or is
+/// passed over below a line that is wrong; it is just one of these, and of one element at most. The lines that go on
+/// with an element are those of its value, in their order.
+pub fn each_line_has_one_place()
+    ensures place { EachLineHasOnePlace }
+    ensures element { EachLineIsOfOneElement }
+    ensures parts { ContinuationsAreBelow }
+{}
+
+/// A line of `fetch.txt` reads just where it is a URL, blanks, a length, blanks, and a spelling of the path of a payload
+/// file; and it says these three.
+pub fn fetch_lines_read_as_their_parts()
+    ensures { FetchLinesReadAsTheirParts }
+{}
+
+/// A line of `fetch.txt` that isn't blank reads in one way, or has one reason why it doesn't.
+pub fn fetch_lines_read_or_have_one_reason()
+    ensures { FetchLinesReadOrHaveOneReason }
+{}
+
+/// Line 1 of the declaration declares a version just where it is its label and then digits, a dot and digits.
+pub fn version_lines_read_as_their_parts()
+    ensures { VersionLinesReadAsTheirParts }
+{}
+
+/// Line 2 of the declaration declares an encoding just where it is its label and then a text without a blank.
+pub fn encoding_lines_read_as_their_parts()
+    ensures { EncodingLinesReadAsTheirParts }
+{}
+
+/// Line 1 of the declaration declares just one version, or is fault 104 and declares none; and so line 2 an encoding.
+pub fn lines_declare_or_are_faulty()
+    ensures { LinesDeclareOrAreFaulty }
+{}

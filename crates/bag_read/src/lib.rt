@@ -1,0 +1,48 @@
+//! Reads the tag files of a bag: what they say, and what is wrong with them, line by line.
+//!
+//! ```
+//! let declaration = read_declaration(alloc, &bytes)?;
+//! let manifest = read_manifest(alloc, Rules::V10, Kind::Payload, Alg::Sha256, &bytes)?;
+//! for entry in manifest.items.as_slice() {
+//!     let (path, digest) = (entry.path.as_str(), entry.digest.bytes());
+//! }
+//! ```
+//!
+//! Of RFC 8493 it keeps the declaration (2.1.1), payload manifests (2.1.3) and tag manifests (2.2.1), the metadata (2.2.2) and
+//! the list of files to fetch (2.2.3).
+#![tactic(auto)]
+
+mod declaration;
+mod declaration_faults;
+mod declaration_line;
+mod digest;
+mod digits;
+mod fetch;
+mod fetch_line;
+mod info;
+mod info_line;
+mod info_reader;
+mod kind;
+pub mod laws;
+mod line_fault;
+mod manifest;
+mod manifest_line;
+mod manifest_name;
+mod named_once;
+mod oxum;
+mod prefix;
+mod repeats;
+mod tag_name;
+
+pub use declaration::{Declaration, declared_rules, read_declaration};
+pub use digest::Digest;
+pub use digits::is_digits;
+pub use fetch::{FetchEntry, read_fetch};
+pub use info::{Element, read_info};
+pub use kind::Kind;
+pub use line_fault::{LineFault, Parsed, unread};
+pub use manifest::{ManifestEntry, read_manifest};
+pub use manifest_name::manifest_alg;
+pub use oxum::{Oxum, oxum_of};
+pub use prefix::{after_prefix, before_suffix, without_prefix};
+pub use tag_name::TagName;

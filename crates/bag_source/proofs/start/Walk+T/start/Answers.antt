@@ -1,4 +1,0 @@
-use Rattle.bag_source.proofs.start.Walk+T.start.Goals as goal
-
-pub returns-in-Ok-clause-started : goal.returns-in-Ok-clause-started
-returns-in-Ok-clause-started g c = rw (c.new.ensures, ← c.as_ref.ensures.value) c.in-Ok.ensures.started

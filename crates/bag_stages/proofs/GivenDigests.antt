@@ -1,0 +1,32 @@
+-- A digest that a manifest gives has no more bytes than the longest one has.
+use Rattle.std.proofs.Common.{◌≡◌, ◌≤◌, ◌*◌, ℕ, List, length, take, ap, ◌∙◌, arith}
+use Rattle.std.specs.Char.{to_ascii_lowercase}
+use Rattle.std.proofs.lemmas.List.{length-map, take_all}
+use Rattle.hex.specs.Hex.{encode_lower, lower_digits}
+use Rattle.hex.proofs.HexLemmas.{length-encode_with}
+use Rattle.bag_text.specs.Alg.{hex_len}
+use Rattle.bag_text.specs.declared.alg.Alg.{Alg}
+use Rattle.bag_text.specs.declared.alg.Alg.TheVariants.{Md5}
+use Rattle.bag_read.specs.declared.kind.Kind.{Kind}
+use Rattle.bag_read.specs.declared.manifest.ManifestEntry.{ManifestEntry}
+use Rattle.bag_read.proofs.ManifestLineParts.{lines_read}
+use Rattle.bag_tree.specs.Bag.{Bag}
+use Rattle.bag_facts.specs.Facts.{rules_in}
+use Rattle.bag_stages.specs.ValidityStage.{IsEntryIn}
+
+at_most : (alg : Alg) → hex_len alg ≤ 128
+at_most Md5 = omega arith
+at_most _ = omega arith
+
+module _ (bag : Bag) (kind : Kind) (alg : Alg) (entry : ManifestEntry) (listed : IsEntryIn bag kind alg entry) where
+  short_text : length entry.digest ≤ 128
+  short_text =
+      let read = (lines_read (rules_in bag) kind alg listed.0 entry.digest entry.path).0 listed.2 in
+      let len : length entry.digest ≡ hex_len alg = ap length read.in_lower_case ∙ length-map read.hex to_ascii_lowercase ∙ read.hex_length in
+      omega (arith, len, at_most alg)
+
+  -- so the first of them are all
+  pub all_bytes : (bytes : List ℕ) → encode_lower bytes ≡ entry.digest → take 64 bytes ≡ bytes
+  all_bytes bytes is =
+      let twice : length (encode_lower bytes) ≡ 2 * length bytes = length-encode_with lower_digits bytes in
+      take_all 64 bytes (omega (arith, ap length is, twice, short_text))

@@ -1,0 +1,35 @@
+-- The files whose digests are compared.
+use Rattle.std.proofs.Common.{◌≡◌, ◌≢◌, ℕ, List, [], ◌∷◌, ap, is_some, refl, subst, sym, Contains}
+use Rattle.bag_text.specs.declared.alg.Alg.{Alg}
+use Rattle.bag_text.proofs.ListOf.{contains_first, contains_nothing}
+use Rattle.bag_read.proofs.ManifestEntries.{entry_named}
+use Rattle.bag_tree.specs.Bag.{Bag}
+use Rattle.bag_facts.specs.declared.fault.Fault.{Fault}
+use Rattle.bag_facts.specs.Facts.{rules_in}
+use Rattle.bag_stages.specs.TagFiles.{lines_in, manifest_of, Names}
+use Rattle.bag_stages.specs.Given.{AreNaming}
+use Rattle.bag_stages.specs.SummedFiles.{kind_of, IsNamed, IsSummed}
+use Rattle.bag_stages.specs.ValidityStage.{IsOfValidity}
+use Rattle.bag_stages.proofs.NamesByKind.{names_by_kind}
+use Rattle.bag_stages.proofs.ValidityFaults.{validity_of_entry, IsOfSomeEntry}
+
+-- of the algorithms whose manifests name a path there is one exactly where a manifest, of whatever kind, names it
+module _ (bag : Bag) (path : List ℕ) where
+  pub some_named : (set : List Alg) → AreNaming bag path set → set ≢ [] → IsNamed bag path
+  some_named [] are some = absurd (some refl)
+  some_named (alg ∷ set) are some = (kind_of path, alg, (are alg).0 (contains_first alg set))
+
+  pub named_some : (set : List Alg) → AreNaming bag path set → IsNamed bag path → set ≢ []
+  named_some set are (kind, alg, named) none =
+      let one : Names bag (kind_of path) alg path = subst (λ k. Names bag k alg path) (names_by_kind bag kind alg path named) named in
+      contains_nothing alg (subst (λ s. Contains s alg) none ((are alg).1 one))
+
+-- each fault of a digest is of a file that is there and that a manifest names
+module _ (bag : Bag) (f : Fault) where
+  entry_is_summed : IsOfSomeEntry bag f → IsSummed bag f.path
+  entry_is_summed (kind, (alg, (entry, listed, (content, there, differ, is)))) =
+      let at : f.path ≡ entry.path = ap (λ (x : Fault). x.path) is in
+      subst (IsSummed bag) (sym at) (ap is_some there, (kind, alg, entry_named (rules_in bag) kind alg (lines_in bag (manifest_of kind alg)) entry listed))
+
+  pub faulty_is_summed : IsOfValidity bag f → IsSummed bag f.path
+  faulty_is_summed h = entry_is_summed (validity_of_entry bag f h)

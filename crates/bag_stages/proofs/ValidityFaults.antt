@@ -1,0 +1,89 @@
+-- The faults of validity.
+use Rattle.std.proofs.Common.{◌≡◌, ◌≢◌, ℕ, List, Some, refl, sym, subst}
+use Rattle.bag_text.specs.Code.{stage}
+use Rattle.bag_text.specs.declared.alg.Alg.{Alg}
+use Rattle.bag_text.specs.declared.code.Code.{Code}
+use Rattle.bag_text.specs.declared.code.Code.TheVariants.{PayloadSumDiffers, TagSumDiffers}
+use Rattle.bag_read.specs.declared.kind.Kind.{Kind}
+use Rattle.bag_read.specs.declared.kind.Kind.TheVariants.{Payload, Tag}
+use Rattle.bag_read.specs.declared.manifest.ManifestEntry.{ManifestEntry}
+use Rattle.bag_tree.specs.Bag.{Bag, file}
+use Rattle.bag_tree.specs.Digest.{digest}
+use Rattle.bag_facts.specs.declared.fault.Fault.{Fault}
+use Rattle.bag_stages.specs.SumFaults.{differing_code}
+use Rattle.bag_stages.specs.ValidityStage.{expected_and_found, Differs, IsEntryIn, IsOfValidity, ValidityFaultsAreOfStageSeven, ValidityHolds}
+
+-- the fault of an entry's file that has this digest
+abbrev pub fault_of_sum : Kind → Alg → ManifestEntry → List ℕ → Fault
+fault_of_sum kind alg entry found = record {
+  code = differing_code kind;
+  path = entry.path;
+  alg = Some alg;
+  line = 0;
+  detail = expected_and_found entry.digest found;
+}
+
+-- the fault of a file of these bytes whose digest isn't the one that an entry gives
+abbrev pub sum_fault : Kind → Alg → ManifestEntry → List ℕ → Fault
+sum_fault kind alg entry content = fault_of_sum kind alg entry (digest alg content)
+
+module _ (bag : Bag) where
+  -- the fault of the file of an entry
+  abbrev pub IsOfEntry : Kind → Alg → ManifestEntry → Fault → Type 0
+  IsOfEntry kind alg entry f =
+      (content : List ℕ) × (file bag entry.path ≡ Some content) × (entry.digest ≢ digest alg content) × (f ≡ sum_fault kind alg entry content)
+
+  -- such a fault of some entry of a manifest
+  abbrev pub IsOfManifest : Kind → Alg → Fault → Type 0
+  IsOfManifest kind alg f = (entry : ManifestEntry) × IsEntryIn bag kind alg entry × IsOfEntry kind alg entry f
+
+  abbrev pub IsOfKind : Kind → Fault → Type 0
+  IsOfKind kind f = (alg : Alg) × IsOfManifest kind alg f
+
+  abbrev pub IsOfSomeEntry : Fault → Type 0
+  IsOfSomeEntry f = (kind : Kind) × IsOfKind kind f
+
+-- what the codes of the stage say
+module _ (bag : Bag) (f : Fault) where
+  holds_stage : (c : Code) → ValidityHolds bag f c → stage c ≡ 7
+  unfolding ValidityHolds
+  holds_stage PayloadSumDiffers h = refl
+  holds_stage TagSumDiffers h = refl
+  holds_stage other h = absurd h
+
+  from_fields : (kind : Kind) → f.code ≡ differing_code kind → Differs bag f kind → IsOfSomeEntry bag f
+  from_fields kind e (alg, entry, content, listed, there, differ, at) =
+      let is : f ≡ sum_fault kind alg entry content =
+      λ i. record { code = e i; path = at.path_is i; alg = at.alg_is i; line = at.line_is i; detail = at.detail_is i } in
+      (kind, (alg, (entry, listed, (content, there, differ, is))))
+
+  of_holds : (c : Code) → f.code ≡ c → ValidityHolds bag f c → IsOfSomeEntry bag f
+  unfolding ValidityHolds
+  of_holds PayloadSumDiffers e h = from_fields Payload e h
+  of_holds TagSumDiffers e h = from_fields Tag e h
+  of_holds other e h = absurd h
+
+  pub validity_of_entry : IsOfValidity bag f → IsOfSomeEntry bag f
+  unfolding IsOfValidity
+  validity_of_entry h = of_holds f.code refl h
+
+module _ (bag : Bag) where
+  holds_of : (kind : Kind) (f : Fault) → Differs bag f kind → ValidityHolds bag f (differing_code kind)
+  unfolding ValidityHolds
+  holds_of Payload f h = h
+  holds_of Tag f h = h
+
+  fault_holds : (kind : Kind) (alg : Alg) (entry : ManifestEntry) (content : List ℕ) → IsEntryIn bag kind alg entry → file bag entry.path ≡ Some content → entry.digest ≢ digest alg content
+      → IsOfValidity bag (sum_fault kind alg entry content)
+  unfolding IsOfValidity
+  fault_holds kind alg entry content listed there differ =
+      holds_of kind (sum_fault kind alg entry content)
+      (alg, entry, content, listed, there, differ, record { path_is = refl; alg_is = refl; line_is = refl; detail_is = refl })
+
+  pub entry_of_validity : (f : Fault) → IsOfSomeEntry bag f → IsOfValidity bag f
+  entry_of_validity f (kind, (alg, (entry, listed, (content, there, differ, is)))) =
+      subst (IsOfValidity bag) (sym is) (fault_holds kind alg entry content listed there differ)
+
+pub validity_of_stage_seven : ValidityFaultsAreOfStageSeven
+unfolding IsOfValidity
+validity_of_stage_seven bag f h = holds_stage bag f f.code h

@@ -1,0 +1,63 @@
+-- Every bag has a list of the faults of its validity.
+use Rattle.std.proofs.Common.{◌≡◌, ◌≢◌, inl, inr, ℕ, List, [], Bool, true, false, Option, None, Some, refl, sym, ap, ◌∙◌, subst, bytes_eq, filter_map}
+use Rattle.std.specs.Str.{is_utf8}
+use Rattle.std.proofs.lemmas.Slice.Eq.{bytes_eq-Decides}
+use Rattle.bag_text.specs.Lines.{lines_of_file}
+use Rattle.bag_text.specs.declared.rules.Rules.{Rules}
+use Rattle.bag_text.specs.declared.alg.Alg.{Alg}
+use Rattle.bag_read.specs.Judged.{entry_of, judged_and_marked}
+use Rattle.bag_read.specs.Manifest.{IsEntry}
+use Rattle.bag_read.specs.declared.kind.Kind.{Kind}
+use Rattle.bag_read.specs.declared.manifest.ManifestEntry.{ManifestEntry}
+use Rattle.bag_read.proofs.ManifestFaults.{entries_of_text, entries_of_no_text}
+use Rattle.bag_tree.specs.Bag.{Bag, file}
+use Rattle.bag_tree.specs.Digest.{digest}
+use Rattle.bag_facts.specs.Facts.{rules_in}
+use Rattle.bag_stages.specs.HasList.{HasList}
+use Rattle.bag_stages.specs.TagFiles.{lines_or_none, manifest_of}
+use Rattle.bag_stages.proofs.BagLists.{over_algs, over_kinds}
+use Rattle.bag_stages.proofs.HasLists.{Decided, nothing, one_where, same_set, for_each}
+use Rattle.bag_stages.specs.ValidityStage.{IsEntryIn, IsOfValidity, ValidityFaultsAreListed}
+use Rattle.bag_stages.proofs.ValidityFaults.{sum_fault, IsOfEntry, IsOfKind, IsOfManifest, IsOfSomeEntry, entry_of_validity, validity_of_entry}
+
+differ_by : (a b : List ℕ) (same : Bool) → bytes_eq a b ≡ same → Decided (a ≢ b)
+differ_by a b true e = inr (λ no. no ((bytes_eq-Decides a b).0 e))
+differ_by a b false e = inl (λ is. let clash : false ≡ true = sym e ∙ (bytes_eq-Decides a b).1 is in cc)
+
+differ_or_not : (a b : List ℕ) → Decided (a ≢ b)
+differ_or_not a b = differ_by a b (bytes_eq a b) refl
+
+entries_by : (rules : Rules) (kind : Kind) (alg : Alg) (bytes : List ℕ) (b : Bool) → is_utf8 bytes ≡ b → HasList (IsEntry rules kind alg (lines_of_file bytes))
+entries_by rules kind alg bytes true e = (filter_map entry_of (judged_and_marked rules kind alg (lines_of_file bytes)), (entries_of_text rules kind alg bytes e).members)
+entries_by rules kind alg bytes false e = ([], (entries_of_no_text rules kind alg bytes e).members)
+
+-- the entries of what is at the place of a manifest
+entries_or_none : (rules : Rules) (kind : Kind) (alg : Alg) (content : Option (List ℕ)) → HasList (IsEntry rules kind alg (lines_or_none content))
+entries_or_none rules kind alg None = nothing _ (λ e h. let clash : None ≡ Some h.0 = h.1.1 in cc)
+entries_or_none rules kind alg (Some bytes) = entries_by rules kind alg bytes (is_utf8 bytes) refl
+
+module _ (bag : Bag) where
+  pub entries_listed : (kind : Kind) (alg : Alg) → HasList (IsEntryIn bag kind alg)
+  entries_listed kind alg = entries_or_none (rules_in bag) kind alg (file bag (manifest_of kind alg))
+
+  -- the fault of an entry's file, where it is there and has another digest
+  of_file : (kind : Kind) (alg : Alg) (entry : ManifestEntry) (content : Option (List ℕ)) → file bag entry.path ≡ content → HasList (IsOfEntry bag kind alg entry)
+  of_file kind alg entry None e = nothing _ (λ f h. let clash : None ≡ Some h.0 = sym e ∙ h.1 in cc)
+  of_file kind alg entry (Some content) e =
+      same_set _ (IsOfEntry bag kind alg entry)
+      (λ f h. (content, e, h.0, h.1))
+      (λ f h. (
+      let both : Some h.0 ≡ Some content = sym h.1 ∙ e in
+      let same : h.0 ≡ content = cc in
+      (subst (λ c. entry.digest ≢ digest alg c) same h.2, h.3 ∙ ap (sum_fault kind alg entry) same)))
+      (one_where (sum_fault kind alg entry content) (entry.digest ≢ digest alg content) (differ_or_not entry.digest (digest alg content)))
+
+  of_manifest : (kind : Kind) (alg : Alg) → HasList (IsOfManifest bag kind alg)
+  of_manifest kind alg =
+      for_each (IsOfEntry bag kind alg) (λ entry. of_file kind alg entry (file bag entry.path) refl) (IsEntryIn bag kind alg) (entries_listed kind alg)
+
+  of_some_entry : HasList (IsOfSomeEntry bag)
+  of_some_entry = over_kinds (IsOfKind bag) (λ kind. over_algs (IsOfManifest bag kind) (of_manifest kind))
+
+pub validity_faults_are_listed : ValidityFaultsAreListed
+validity_faults_are_listed bag = same_set (IsOfSomeEntry bag) (IsOfValidity bag) (entry_of_validity bag) (validity_of_entry bag) (of_some_entry bag)

@@ -1,0 +1,33 @@
+use Rattle.std.proofs.Common.{[], arith, refl, subst, sym, Contains}
+use Rattle.bag_stages.specs.Names.{texts_of}
+use Rattle.bag_stages.proofs.ClashFaults.{one_ascii_more}
+use Rattle.bag_stages.proofs.PayloadNames.{Lent, all_texts, text_at, text_within}
+use Rattle.bag_stages.proofs.clashes.are_ascii.Goals as goal
+
+pub loop-name-preserved : goal.loop-name-preserved
+loop-name-preserved c =
+    let names = c.args.names.now in
+    let i = c.loop-name.name-index in
+    one_ascii_more (texts_of names) i _ (text_within names i c.loop-name-test.true) (text_at names i (record { ref_ptr = (0, 0); now = [] }) c.loop-name-test.true)
+    c.loop-name.invariant (rw c.if-not-is_ascii.false at c.is_ascii.ensures.cases)
+
+pub returns-then-not-is_ascii : goal.returns-then-not-is_ascii
+returns-then-not-is_ascii c = (
+  λ is. cc,
+  λ all.
+      let names = c.args.names.now in
+      let i = c.loop-name.name-index in
+      let none : Lent = record { ref_ptr = (0, 0); now = [] } in
+      let here = text_at names i none c.loop-name-test.true in
+      let other = rw c.if-not-is_ascii.true at c.is_ascii.ensures.cases in
+      let low = all _ (i, text_within names i c.loop-name-test.true, sym here) other.0 in
+      absurd (omega (arith, low, other.1)),
+)
+
+pub returns : goal.returns
+returns c = (
+  λ is name there.
+      let names = c.args.names.now in
+      c.loop-name.invariant name (subst (λ ns. Contains ns name) (sym (all_texts names c.loop-name.name-index c.loop-name-test.false)) there),
+  λ all. refl,
+)

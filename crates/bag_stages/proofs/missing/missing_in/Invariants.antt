@@ -1,0 +1,16 @@
+use Rattle.std.proofs.Common.{take, Some, Contains}
+use Rattle.std.specs.List.Sorted.{IsStrictlySortedBy}
+use Rattle.bag_text.specs.Order.{IsListOf}
+use Rattle.bag_text.specs.Text.{text_cmp}
+use Rattle.bag_facts.specs.FaultOrder.{fault_cmp}
+use Rattle.bag_facts.specs.TagFacts.{entry_paths, AreByPath}
+use Rattle.bag_facts.specs.Wanted.{paths_of}
+use Rattle.bag_stages.specs.CompletenessFaults.{IsOfPathAmong}
+use Rattle.bag_stages.proofs.Sought.{Follows}
+use Rattle.bag_stages.proofs.missing.missing_in.Given as goal
+
+abbrev pub invariant-loop-entry : goal.invariant-loop-entry
+invariant-loop-entry l =
+    AreByPath l.entries → IsStrictlySortedBy text_cmp (paths_of l.files)
+    → IsListOf fault_cmp (IsOfPathAmong l.code (Some l.alg) (λ path. ¬ (Contains (paths_of l.files) path)) (entry_paths (take l.entry-index l.entries))) l.faults.items
+    × Follows (entry_paths (take l.entry-index l.entries)) (paths_of l.files) (paths_of l.rest)

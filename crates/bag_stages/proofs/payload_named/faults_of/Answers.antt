@@ -1,0 +1,14 @@
+use Rattle.bag_stages.specs.CompletenessFaults.{IsWrong}
+use Rattle.bag_stages.proofs.EachOnce.{both_once, nothing_once, once_listed}
+use Rattle.bag_stages.proofs.PayloadNamed.{apart, nothing_wrong}
+use Rattle.bag_stages.proofs.payload_named.faults_of.Goals as goal
+
+pub returns-then-is_exact : goal.returns-then-is_exact
+returns-then-is_exact c = λ bag facts deep.
+    rw c.new.ensures.items (nothing_once (IsWrong bag c.args.alg) (nothing_wrong bag c.args.alg (c.is_exact.ensures bag facts deep c.if-is_exact.true)))
+
+pub returns : goal.returns
+returns c = λ bag facts deep.
+    rw c.in_ok-append.ensures.items
+    (both_once _ _ c.in_ok-faults.faults.items c.in_ok-of_files.of_files.items (apart bag c.args.alg)
+    (once_listed _ c.in_ok-faults.faults.items (c.in_ok-faults.ensures bag facts deep)) (once_listed _ c.in_ok-of_files.of_files.items (c.in_ok-of_files.ensures bag facts deep)))

@@ -1,0 +1,60 @@
+-- Stage 6: what keeps a bag from being complete (RFC 8493, 3), and names that differ by normal form alone.
+use Rattle.std.specs.Prelude.{ℕ, ◌≡◌, ◌⊎◌, Bool, true, List, [], None, Some}
+use Rattle.bag_text.specs.Code.{stage}
+use Rattle.bag_text.specs.Path.{is_payload_path}
+use Rattle.bag_text.specs.declared.alg.Alg.{Alg}
+use Rattle.bag_text.specs.declared.code.Code.{Code}
+use Rattle.bag_text.specs.declared.code.Code.TheVariants.{PayloadFileMissing, TagFileMissing, PayloadFileNotListed, NameClash}
+use Rattle.bag_read.specs.declared.kind.Kind.{Kind}
+use Rattle.bag_read.specs.declared.kind.Kind.TheVariants.{Payload, Tag}
+use Rattle.bag_tree.specs.Bag.{Bag, HasFile, LacksFile}
+use Rattle.bag_facts.specs.declared.fault.Fault.{Fault}
+use Rattle.bag_facts.specs.Facts.{rules_in}
+use Rattle.bag_stages.specs.FaultFields.{At}
+use Rattle.bag_stages.specs.HasList.{HasList}
+use Rattle.bag_stages.specs.LeftOut.{IsLeftOut}
+use Rattle.bag_stages.specs.TagFiles.{Names}
+use Rattle.bag_stages.specs.Clashes.{Clashes}
+
+-- a file of the payload
+abbrev pub IsPayloadFile : Bag → List ℕ → Type 0
+IsPayloadFile bag path = HasFile bag path × (is_payload_path path ≡ true)
+
+-- a file of the payload, or a path that a payload manifest names
+abbrev pub IsPayloadName : Bag → List ℕ → Type 0
+IsPayloadName bag path = IsPayloadFile bag path ⊎ ((alg : Alg) × Names bag Payload alg path)
+
+-- what a code says of a bag and the other fields of the fault
+module _ (bag : Bag) (f : Fault) where
+  -- a manifest names a file that isn't there
+  abbrev pub Missing : Kind → Type 0
+  Missing kind = (alg : Alg) × At f f.path (Some alg) 0 [] × Names bag kind alg f.path × LacksFile bag f.path
+
+  unfoldable pub CompletenessHolds : Code → Type 0
+  -- every file that a manifest names is there
+  CompletenessHolds PayloadFileMissing = Missing Payload
+  CompletenessHolds TagFileMissing = Missing Tag
+  -- payload manifests leave out no payload file
+  CompletenessHolds PayloadFileNotListed =
+      At f f.path f.alg 0 [] × IsPayloadFile bag f.path × IsLeftOut (rules_in bag) bag f.alg f.path
+  -- a name that isn't the least of those with its NFC form
+  CompletenessHolds NameClash =
+      (least : List ℕ) × At f f.path None 0 least × Clashes (IsPayloadName bag) f.path least
+  -- codes of other stages
+  CompletenessHolds other = ⊥
+
+-- the fault is one of the bag's completeness or of its names: what its code says holds
+unfoldable pub IsOfCompleteness : Bag → Fault → Type 0
+IsOfCompleteness bag f = CompletenessHolds bag f f.code
+
+-- such a fault that is looked for: a clash of names only where clashes are
+abbrev pub IsSoughtInStageSix : Bool → Bag → Fault → Type 0
+IsSoughtInStageSix clashes bag f = IsOfCompleteness bag f × (f.code ≡ NameClash → clashes ≡ true)
+
+-- the law: these faults are of the sixth stage
+abbrev pub CompletenessFaultsAreOfStageSix : Type 0
+CompletenessFaultsAreOfStageSix = (bag : Bag) (f : Fault) → IsOfCompleteness bag f → stage f.code ≡ 6
+
+-- the law: every bag has a list of these faults
+abbrev pub CompletenessFaultsAreListed : Type 0
+CompletenessFaultsAreListed = (bag : Bag) → HasList (IsOfCompleteness bag)

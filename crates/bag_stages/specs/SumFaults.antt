@@ -1,0 +1,40 @@
+-- The faults of a file whose digests aren't those that manifests give.
+use Rattle.std.specs.Prelude.{ℕ, ◌≡◌, List, Option, None, Some, Contains, bytes_eq, filter_map, if◌then◌else◌}
+use Rattle.hex.specs.Hex.{encode_lower}
+use Rattle.bag_text.specs.declared.code.Code.{Code}
+use Rattle.bag_text.specs.declared.code.Code.TheVariants.{PayloadSumDiffers, TagSumDiffers}
+use Rattle.bag_read.specs.declared.kind.Kind.{Kind}
+use Rattle.bag_read.specs.declared.kind.Kind.TheVariants.{Payload, Tag}
+use Rattle.bag_tree.specs.Digest.{digest, sum_at}
+use Rattle.bag_facts.specs.declared.fault.Fault.{Fault}
+use Rattle.bag_stages.specs.SummedFiles.{kind_of}
+use Rattle.bag_stages.specs.ValidityStage.{expected_and_found}
+use Rattle.bag_stages.specs.declared.expected.Expected.{Expected}
+
+-- what a file is whose digest isn't the one that a manifest of this kind gives
+abbrev pub differing_code : Kind → Code
+differing_code Payload = PayloadSumDiffers
+differing_code Tag = TagSumDiffers
+
+-- the fault that a file's digest is this one, and not the expected one
+abbrev pub sum_differs : List ℕ → Expected → List ℕ → Fault
+sum_differs path expected found = record {
+  code = differing_code (kind_of path);
+  path = path;
+  alg = Some expected.alg;
+  line = 0;
+  detail = expected_and_found (encode_lower expected.digest) found;
+}
+
+-- that fault of a file with these bytes, where its digest differs
+abbrev pub differing : List ℕ → List ℕ → Expected → Option Fault
+differing path content expected =
+    if bytes_eq (encode_lower expected.digest) (digest expected.alg content) then None else Some (sum_differs path expected (digest expected.alg content))
+
+-- the faults of a file with these bytes, one for each digest that differs
+abbrev pub faults_of_bytes : List ℕ → List ℕ → List Expected → List Fault
+faults_of_bytes path content expected = filter_map (differing path content) expected
+
+-- these are the digests of the bytes, by each algorithm by which one is expected
+abbrev pub AreSumsBy : List Expected → List ℕ → List (Option (List ℕ)) → Type 0
+AreSumsBy expected content sums = (one : Expected) → Contains expected one → sum_at sums one.alg ≡ Some (digest one.alg content)

@@ -1,0 +1,114 @@
+//! What manifests give for a file.
+ghost use Rattle.std.specs.Prelude.{◌≡◌, ◌≢◌, ℕ, List, Some, IfOk, Contains, MatchOption, length, map};
+ghost use Rattle.std.specs.Option.{option_copied};
+ghost use Rattle.bag_text.specs.Order.{IsListOf};
+ghost use Rattle.bag_tree.specs.Bag.{Bag, file};
+ghost use Rattle.bag_facts.specs.FaultOrder.{fault_cmp};
+ghost use Rattle.bag_facts.specs.Facts.{IsFactsOf};
+ghost use Rattle.bag_facts.specs.TagFacts.{entry_paths, AreByPath};
+ghost use Rattle.bag_facts.specs.declared.options.Depth.TheVariants.{Declaration};
+ghost use Rattle.bag_stages.specs.Given.{AreNaming, IsGivenBy};
+ghost use Rattle.bag_stages.specs.SumFaults.{faults_of_bytes};
+ghost use Rattle.bag_stages.specs.SummedFiles.{kind_of};
+ghost use Rattle.bag_stages.specs.ValidityStage.{IsOfFile};
+
+use crate::{GivenDigest, Places};
+use bag_facts::Facts;
+use bag_read::{Kind, ManifestEntry};
+use bag_text::{Alg, Items, Text, is_payload};
+use std::alloc::{AllocError, Global};
+
+/// The digest that a manifest gives for a file.
+#[derive(Debug, Drop)]
+pub struct Expected {
+    /// The algorithm of the manifest.
+    pub alg: Alg,
+    /// The bytes that it spells.
+    pub digest: GivenDigest,
+}
+
+/// The digests that manifests give for a file (RFC 8493, 2.1.3 and 2.2.1), in the order of their algorithms, of facts read for
+/// more than the declaration: none exactly where no manifest names it. A manifest that names it at the place where it is looked
+/// for first is not searched, and each other takes time log n of its entries. For one file after another in path order, hand
+/// over the places that the call before left.
+pub fn expected_of(
+    alloc: Global,
+    facts: &Facts,
+    path: &Text,
+    places: &mut Places,
+) -> Result<Items<Expected>, AllocError>
+    ensures algs { IfOk result (λ expected. (bag : Bag) → IsFactsOf bag facts.now → facts.now.options.depth ≢ Declaration
+        → AreNaming bag path.now (map (λ one. one.alg) expected)) }
+    ensures faults { IfOk result (λ expected. (bag : Bag) (content : List ℕ) → IsFactsOf bag facts.now → facts.now.options.depth ≢ Declaration
+        → file bag path.now ≡ Some content → IsListOf fault_cmp (IsOfFile bag path.now) (faults_of_bytes path.now content expected)) }
+    ensures count { IfOk result (λ expected. places.new.count ≡ length expected) }
+{
+    let kind = kind_of(path.as_str());
+    let mut expected = Vec::with_capacity(alloc, places.count)?;
+    for alg in Alg::ALL {
+        let Some(one) = expected_by(facts, path, kind, alg, places.of(alg)) else {
+            continue;
+        };
+        expected.push(one)?;
+    }
+    expected.shrink_to_fit();
+    places.count = expected.len();
+    Ok(Items::from_vec(expected))
+}
+
+/// The digest that the manifest of a kind and an algorithm gives for a file, where it names it.
+fn expected_by(
+    facts: &Facts,
+    path: &Text,
+    kind: Kind,
+    alg: Alg,
+    place: &mut usize,
+) -> Option<Expected>
+    ensures { (bag : Bag) → IsFactsOf bag facts.now → facts.now.options.depth ≢ Declaration
+        → IsGivenBy bag path.now kind alg result }
+{
+    let Some(entry) = entry_near(facts.entries(kind, alg), path, place) else {
+        return None;
+    };
+    let digest = GivenDigest::new(entry.digest.bytes());
+    Some(Expected { alg, digest })
+}
+
+/// The entry of a path among entries in the order of their paths. It is looked for at a place first, and then by a search; the
+/// place is left behind it.
+fn entry_near<'a>(
+    entries: &'a [ManifestEntry],
+    path: &Text,
+    place: &mut usize,
+) -> Option<&'a ManifestEntry>
+    ensures { AreByPath entries.now → MatchOption (option_copied result) (¬ (Contains (entry_paths entries.now) path.now))
+        (λ entry. Contains entries.now entry × (entry.path ≡ path.now)) }
+{
+    if let Some(entry) = entries.get(*place) {
+        if entry.path == *path {
+            *place += 1;
+            return Some(entry);
+        }
+    }
+    match entries.binary_search_by(|entry| entry.path.cmp(path)) {
+        Ok(found) => {
+            *place = found + 1;
+            entries.get(found)
+        }
+        Err(behind) => {
+            *place = behind;
+            None
+        }
+    }
+}
+
+/// The kind of the manifests that may name a path.
+pub(crate) fn kind_of(path: &str) -> Kind
+    ensures { result ≡ kind_of path.now }
+{
+    if is_payload(path) {
+        Kind::Payload
+    } else {
+        Kind::Tag
+    }
+}

@@ -1,0 +1,25 @@
+//! Faults of one file.
+ghost use Rattle.std.specs.Prelude.{◌≡◌, IfOk};
+ghost use Rattle.bag_stages.specs.CompletenessFaults.{of_file};
+
+use bag_facts::Fault;
+use bag_text::{Alg, Code, Text};
+use std::alloc::{AllocError, Global};
+
+/// The fault of a file that the manifest of an algorithm is wrong about, or all where no algorithm is told.
+pub(crate) fn file_fault(
+    alloc: Global,
+    code: Code,
+    alg: Option<Alg>,
+    path: &Text,
+) -> Result<Fault, AllocError>
+    ensures { IfOk result (λ fault. fault ≡ of_file code alg path.now) }
+{
+    Ok(Fault {
+        code,
+        path: path.copy(alloc)?,
+        alg,
+        line: 0,
+        detail: Text::empty(alloc),
+    })
+}

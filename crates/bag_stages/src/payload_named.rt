@@ -1,0 +1,86 @@
+//! What payload manifests say of the payload's files that isn't so.
+ghost use Rattle.std.specs.Prelude.{◌≢◌, IfOk, IfSome, IsTrue};
+ghost use Rattle.bag_tree.specs.Bag.{Bag};
+ghost use Rattle.bag_facts.specs.Facts.{IsFactsOf};
+ghost use Rattle.bag_facts.specs.TagFacts.{entry_paths};
+ghost use Rattle.bag_facts.specs.Wanted.{paths_of};
+ghost use Rattle.bag_facts.specs.declared.options.Depth.TheVariants.{Declaration};
+ghost use Rattle.bag_stages.specs.CompletenessFaults.{HasEachOnce, IsWrong, IsWrongOfSome};
+ghost use Rattle.bag_stages.specs.PayloadNamed.{AreNamed, GoesOn, IsNamedExactly};
+
+use crate::missing::missing_of;
+use crate::unlisted::unlisted_of;
+use bag_facts::{Facts, Fault};
+use bag_read::{Kind, ManifestEntry};
+use bag_text::{Alg, Text, is_payload};
+use bag_tree::FileEntry;
+use std::alloc::{AllocError, Global};
+
+/// The faults that payload manifests name files that aren't there, and that they don't name payload files, one manifest
+/// after another.
+pub(crate) fn payload_faults(alloc: Global, facts: &Facts) -> Result<Vec<Fault>, AllocError>
+    ensures { IfOk result (λ faults. (bag : Bag) → IsFactsOf bag facts.now → facts.now.options.depth ≢ Declaration
+        → HasEachOnce (IsWrongOfSome bag) faults.items) }
+{
+    let mut faults = Vec::new(alloc);
+    for alg in Alg::ALL {
+        let mut of_alg = faults_of(alloc, facts, alg)?;
+        faults.append(&mut of_alg)?;
+    }
+    Ok(faults)
+}
+
+/// These faults of the manifest of an algorithm. Most manifests have none, which one look at both lists shows.
+fn faults_of(alloc: Global, facts: &Facts, alg: Alg) -> Result<Vec<Fault>, AllocError>
+    ensures { IfOk result (λ faults. (bag : Bag) → IsFactsOf bag facts.now → facts.now.options.depth ≢ Declaration
+        → HasEachOnce (IsWrong bag alg) faults.items) }
+{
+    if is_exact(facts, alg) {
+        return Ok(Vec::new(alloc));
+    }
+    let mut faults = missing_of(alloc, facts, Kind::Payload, alg)?;
+    let mut of_files = unlisted_of(alloc, facts, alg)?;
+    faults.append(&mut of_files)?;
+    Ok(faults)
+}
+
+/// Whether the payload manifest of an algorithm is there and names the payload's files and no other, so that it has no fault
+/// of completeness. The facts are read for more than the declaration.
+pub fn is_exact(facts: &Facts, alg: Alg) -> bool
+    ensures { (bag : Bag) → IsFactsOf bag facts.now → facts.now.options.depth ≢ Declaration → IsTrue result → IsNamedExactly bag alg }
+{
+    match facts.manifest(Kind::Payload, alg) {
+        Some(manifest) => are_named(manifest.entries.as_slice(), facts.listing.files.as_slice()),
+        None => false,
+    }
+}
+
+/// Whether entries are those of the payload files among these files, in their order.
+fn are_named(entries: &[ManifestEntry], files: &[FileEntry]) -> bool
+    ensures { IsTrue result → AreNamed (entry_paths entries.now) (paths_of files.now) }
+{
+    let mut rest = entries;
+    for file in files {
+        let Some(after) = behind(rest, &file.path) else {
+            return false;
+        };
+        rest = after;
+    }
+    rest.is_empty()
+}
+
+/// The entries that are left behind a file: the first has its path, or it isn't of the payload.
+fn behind<'a>(entries: &'a [ManifestEntry], path: &Text) -> Option<&'a [ManifestEntry]>
+    ensures { IfSome result (λ rest. GoesOn (entry_paths entries.now) path.now (entry_paths rest.now)) }
+{
+    if let Some((first, rest)) = entries.split_first() {
+        if first.path == *path {
+            return Some(rest);
+        }
+    }
+    if is_payload(path.as_str()) {
+        None
+    } else {
+        Some(entries)
+    }
+}

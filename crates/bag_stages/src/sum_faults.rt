@@ -1,0 +1,91 @@
+//! Stage 7: digests that differ.
+ghost use Rattle.std.specs.Prelude.{◌≡◌, ℕ, List, Some, IfOk};
+ghost use Rattle.bag_tree.specs.Digest.{digest, sum_at};
+ghost use Rattle.bag_stages.specs.SumFaults.{differing, differing_code, faults_of_bytes, sum_differs, AreSumsBy};
+ghost use Rattle.bag_stages.specs.ValidityStage.{expected_and_found};
+ghost use Rattle.bag_stages.specs.declared.expected.Expected.{Expected as Given};
+
+use crate::Expected;
+use crate::expected::kind_of;
+use bag_facts::Fault;
+use bag_read::Kind;
+use bag_text::{Code, Text};
+use bag_tree::{HexFault, Sums};
+use std::alloc::{AllocError, Global};
+
+/// The faults of a file whose digests are these: one for each that is another than what a manifest gives, in the order in
+/// which they are expected. A digest that is right takes no memory. Fails only where memory runs out.
+pub fn faults_by(
+    alloc: Global,
+    path: &Text,
+    expected: &[Expected],
+    sums: &Sums,
+) -> Result<Vec<Fault>, AllocError>
+    ensures { IfOk result (λ faults. (content : List ℕ) → AreSumsBy expected.now content sums.now
+        → faults.items ≡ faults_of_bytes path.now content expected.now) }
+{
+    let mut faults = Vec::new(alloc);
+    for one in expected {
+        let Some(fault) = fault_by(alloc, path, one, sums)? else {
+            continue;
+        };
+        faults.push(fault)?;
+    }
+    Ok(faults)
+}
+
+/// The fault of a file whose digest isn't the one that is expected; none where it is, or where it wasn't asked for.
+fn fault_by(
+    alloc: Global,
+    path: &Text,
+    expected: &Expected,
+    sums: &Sums,
+) -> Result<Option<Fault>, AllocError>
+    ensures { IfOk result (λ fault. (content : List ℕ) → sum_at sums.now expected.now.alg ≡ Some (digest expected.now.alg content)
+        → fault ≡ differing path.now content expected.now) }
+{
+    if sums.is_digest(expected.alg, expected.digest.as_slice()) {
+        return Ok(None);
+    }
+    match sums.hex(alloc, expected.alg) {
+        Ok(found) => Ok(Some(sum_differs(alloc, path, expected, found.as_str())?)),
+        Err(HexFault::NotAsked) => Ok(None),
+        Err(HexFault::Memory) => Err(AllocError),
+    }
+}
+
+/// The fault of a file whose digest was found to be another than the one that is expected.
+fn sum_differs(
+    alloc: Global,
+    path: &Text,
+    expected: &Expected,
+    found: &str,
+) -> Result<Fault, AllocError>
+    ensures { IfOk result (λ fault. fault ≡ sum_differs path.now expected.now found.now) }
+{
+    let given = hex::encode(alloc, expected.digest.as_slice())?;
+    Ok(Fault {
+        code: differing_code(kind_of(path.as_str())),
+        path: path.copy(alloc)?,
+        alg: Some(expected.alg),
+        line: 0,
+        detail: expected_and_found(alloc, given.as_str(), found)?,
+    })
+}
+
+/// What a file is whose digest isn't the one that a manifest of a kind gives.
+fn differing_code(kind: Kind) -> Code
+    ensures { result ≡ differing_code kind }
+{
+    match kind {
+        Kind::Payload => Code::PayloadSumDiffers,
+        Kind::Tag => Code::TagSumDiffers,
+    }
+}
+
+/// The digest that was expected, a colon, and the digest that was found.
+fn expected_and_found(alloc: Global, expected: &str, found: &str) -> Result<Text, AllocError>
+    ensures { IfOk result (λ text. text ≡ expected_and_found expected.now found.now) }
+{
+    Ok(Text::from_string(format!(in alloc; "{expected}:{found}")?))
+}

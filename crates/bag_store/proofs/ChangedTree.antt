@@ -1,0 +1,192 @@
+-- What a step makes of a tree of the files on a disk.
+use Rattle.std.proofs.Common.{◌≡◌, ℕ, ◌+◌, ◌≤◌, ◌==◌, Bool, true, false, cond, IsTrue, List, [], ◌∷◌, length, take, Some, None, is_some, inl, inr, ◌⊎◌, refl, ap, sym, subst, ◌∙◌, arith}
+use Rattle.std.proofs.lemmas.Bool.{false≢true}
+use Rattle.std.specs.FinMap as map
+use Rattle.std.specs.FinMap.{get-insert, len-empty, len-entries, len-insert}
+use Rattle.std.specs.Ordering.{eq_by_cmp}
+use Rattle.std.specs.Cmp.Lexicographic.{nat_list_cmp_total}
+use Rattle.bag_text.specs.Text.{text_cmp}
+use Rattle.bag_text.specs.Path.{is_base_name, under}
+use Rattle.bag_tree.specs.Bag.{Bag}
+use Rattle.bag_tree.specs.declared.answer.Answer.{Answer}
+use Rattle.bag_tree.specs.Changes.{HasBegun, HasChanged, IsSame}
+use Rattle.bag_tree.specs.Steps as step
+use Rattle.bag_tree.proofs.Within.{within_cases}
+use Rattle.bag_disk.specs.Disk.{DiskState, Nodes, Node, node, IsDisk, OnlyLooks, is_plain, is_plain_node}
+use Rattle.bag_disk.specs.Disk.Node.{File, Folder, Other}
+use Rattle.bag_disk.specs.WritableDisk.{Closes, MakesFolder}
+use Rattle.bag_tree.specs.Moved.{MovesAll, is_within, moved, renamed, with_renamed}
+use Rattle.bag_disk.proofs.Moving.{nodes_move}
+use Rattle.bag_store.specs.Changing.{IsMovedIn, IsRenamed, MovesInto, Renames}
+use Rattle.bag_disk.specs.DiskBag.{bag_of}
+use Rattle.bag_store.specs.FileTree.{state_after}
+use Rattle.bag_store.specs.Answered.{count_after, last_count, one_more_failure}
+use Rattle.bag_store.specs.Writing.{Begins, Makes, MakesFileOf}
+use Rattle.bag_disk.specs.declared.refusal.Refusal.{Refusal}
+use Rattle.bag_disk.specs.declared.refusal.Refusal.TheVariants.{Device, Special, Name, NotFound, TooMany, Memory, Exists}
+use Rattle.bag_store.proofs.BagSteps.{bag_moved_in, bag_renamed, file_made, folder_made, free_not_taken}
+use Rattle.bag_disk.proofs.Plain.{all_plain, other_not_plain}
+
+-- what stands there stood there before, or is a file or a folder
+abbrev NothingElse : Nodes → Nodes → Type 0
+NothingElse old new = (path : List ℕ) (n : Node) → node new path ≡ Some n → (is_plain_node n ≡ true) ⊎ ((q : List ℕ) × (node old q ≡ Some n))
+
+plain_value : (n : Node) → (n ≡ Other → ⊥) → is_plain_node n ≡ true
+plain_value (File bytes) none = refl
+plain_value Folder none = refl
+plain_value Other none = absurd (none refl)
+
+stays_plain : (old new : Nodes) → NothingElse old new → is_plain old ≡ true → is_plain new ≡ true
+stays_plain old new from plain = all_plain new (λ path n is. elim (from path n is) [
+  | inl good ↦ good
+  | inr at ↦ plain_value n (λ other. false≢true (sym (other_not_plain old at.0 (at.1 ∙ ap Some other)) ∙ plain))
+])
+
+nothing_else_put : (nodes : Nodes) (name : List ℕ) (n : Node) → is_plain_node n ≡ true → NothingElse nodes (map.insert nodes name n)
+nothing_else_put nodes name n good path m is = elim (eq_by_cmp text_cmp path name) as (λ b. cond b (Some n) (node nodes path) ≡ Some m → (is_plain_node m ≡ true) ⊎ ((q : List ℕ) × (node nodes q ≡ Some m))) [
+  | true ↦ λ same. let one : n ≡ m = cc in inl (ap is_plain_node (sym one) ∙ good)
+  | false ↦ λ there. inr (path, there)
+] (sym (get-insert nat_list_cmp_total nodes name n path) ∙ is)
+
+nothing_else_moved : (nodes : Nodes) (from to : List ℕ) → IsDisk nodes → node nodes to ≡ None → NothingElse nodes (moved from to nodes)
+nothing_else_moved nodes from to disk free path n is = elim (is_within to path) as (λ b. is_within to path ≡ b → (is_plain_node n ≡ true) ⊎ ((q : List ℕ) × (node nodes q ≡ Some n))) [
+  | true ↦ λ within. elim (within_cases to path within) [
+    | inl itself ↦ inr (from, sym all.arrived ∙ ap (node (moved from to nodes)) (sym itself) ∙ is)
+    | inr below ↦ inr (under from below.0, sym (all.arrived_below below.0) ∙ ap (node (moved from to nodes)) (sym below.1) ∙ is)
+  ]
+  | false ↦ λ outside. elim (is_within from path) as (λ b. is_within from path ≡ b → (is_plain_node n ≡ true) ⊎ ((q : List ℕ) × (node nodes q ≡ Some n))) [
+    | true ↦ λ within. absurd (false≢true (ap is_some (sym (all.left path within outside) ∙ is)))
+    | false ↦ λ off. inr (path, sym (all.others path off outside) ∙ is)
+  ] refl
+] refl
+  where
+    all : MovesAll nodes (moved from to nodes) from to
+    all = nodes_move nodes from to disk free
+
+one_more : (b : Bool) (n m : ℕ) → m ≡ cond b n (n + 1) → m ≤ n + 1
+one_more true n m e = omega (arith, e)
+one_more false n m e = omega (arith, e)
+
+-- at most one more stands there
+more_put : (nodes : Nodes) (path : List ℕ) (n : Node) → map.len (map.insert nodes path n) ≤ map.len nodes + 1
+more_put nodes path n = one_more (map.contains_key nodes path) (map.len nodes) _ (len-insert nat_list_cmp_total nodes path n)
+
+with_as_many : (from to : List ℕ) (nodes : Nodes) (es : List (List ℕ × Node)) → map.len (with_renamed from to nodes es) ≤ map.len nodes + length es
+with_as_many from to nodes [] = omega arith
+with_as_many from to nodes (e ∷ es) =
+    let more = more_put nodes (renamed from to e.0) e.1 in
+    let others = with_as_many from to (map.insert nodes (renamed from to e.0) e.1) es in
+    omega (arith, more, others)
+
+as_many_moved : (from to : List ℕ) (nodes : Nodes) → map.len (moved from to nodes) ≤ map.len nodes + 0
+as_many_moved from to nodes =
+    let all = with_as_many from to map.empty (map.entries nodes) in
+    let none = len-empty text_cmp Node in
+    let many = len-entries nodes in
+    omega (arith, all, none, many)
+
+-- a step on what stands there
+record Steps (change : Bag → Bag) (more : ℕ) (old new : Nodes) : Type 0 where
+  bag : bag_of new ≡ change (bag_of old)
+  plain : is_plain old ≡ true → is_plain new ≡ true
+  entries : map.len new ≤ map.len old + more
+
+folder_steps : (old new : Nodes) (name : List ℕ) → IsDisk old → IsDisk new → is_base_name name ≡ true → MakesFolder old new name → Steps (step.make_folder name) 1 old new
+folder_steps old new name disk disk_then is makes = subst (Steps (step.make_folder name) 1 old) (sym makes.made) (record {
+  bag = folder_made old name disk (subst IsDisk makes.made disk_then) is makes.free;
+  plain = stays_plain old _ (nothing_else_put old name Folder refl);
+  entries = more_put old name Folder;
+})
+
+file_steps : (old new : Nodes) (name bytes : List ℕ) → IsDisk old → IsDisk new → MakesFileOf old new name bytes → Steps (step.create name bytes) 1 old new
+file_steps old new name bytes disk disk_then makes = subst (Steps (step.create name bytes) 1 old) (sym makes.made) (record {
+  bag = file_made old name bytes disk (subst IsDisk makes.made disk_then) makes.free;
+  plain = stays_plain old _ (nothing_else_put old name (File bytes) refl);
+  entries = more_put old name (File bytes);
+})
+
+moved_steps : (old new : Nodes) (top folder : List ℕ) → IsDisk old → IsDisk new → is_base_name top ≡ true → MovesInto old new top folder → Steps (step.move_in top folder) 0 old new
+moved_steps old new top folder disk disk_then is moves = subst (Steps (step.move_in top folder) 0 old) (sym moves.moved.moved) (record {
+  bag = bag_moved_in old top folder disk (subst IsDisk moves.moved.moved disk_then) is moves.free;
+  plain = stays_plain old _ (nothing_else_moved old top (under folder top) disk moves.free);
+  entries = as_many_moved top (under folder top) old;
+})
+
+renamed_steps : (old new : Nodes) (from to : List ℕ) → IsDisk old → IsDisk new → is_base_name from ≡ true → is_base_name to ≡ true → Renames old new from to → Steps (step.rename_folder from to) 0 old new
+renamed_steps old new from to disk disk_then from_is to_is moves = subst (Steps (step.rename_folder from to) 0 old) (sym moves.moved.moved) (record {
+  bag = bag_renamed old from to disk (subst IsDisk moves.moved.moved disk_then) from_is to_is moves.folder_is moves.free;
+  plain = stays_plain old _ (nothing_else_moved old from to disk moves.free);
+  entries = as_many_moved from to old;
+})
+
+module _ (old new : DiskState) (failures failures_then given given_then : ℕ) (last last_then : Answer) where
+  changed : (change : Bag → Bag) (more : ℕ) → Closes old new → failures ≤ failures_then → (IsTrue old.honest → Steps change more old.nodes new.nodes)
+      → HasChanged change more (state_after old failures given last) (state_after new failures_then given_then last_then)
+  changed change more closes grows steps = record {
+    bag = λ honest. (steps honest).bag;
+    plain = λ honest. (steps honest).plain;
+    honest = closes.honest;
+    entries = λ honest. (steps honest).entries;
+    failures = grows;
+    openings = closes.openings;
+    rest = closes.rest;
+  }
+
+  pub folder_changed : (name : List ℕ) → IsDisk old.nodes → IsDisk new.nodes → is_base_name name ≡ true → failures ≤ failures_then → Closes old new → (IsTrue old.honest → MakesFolder old.nodes new.nodes name)
+      → HasChanged (step.make_folder name) 1 (state_after old failures given last) (state_after new failures_then given_then last_then)
+  folder_changed name disk disk_then is grows closes makes =
+      changed (step.make_folder name) 1 closes grows (λ honest. folder_steps old.nodes new.nodes name disk disk_then is (makes honest))
+
+  pub file_changed : (name bytes : List ℕ) → IsDisk old.nodes → IsDisk new.nodes → failures ≤ failures_then → Makes old new name bytes
+      → HasChanged (step.create name bytes) 1 (state_after old failures given last) (state_after new failures_then given_then last_then)
+  file_changed name bytes disk disk_then grows makes =
+      changed (step.create name bytes) 1 makes.closed grows (λ honest. file_steps old.nodes new.nodes name bytes disk disk_then (makes.file honest))
+
+  pub moved_changed : (top folder : List ℕ) → IsDisk old.nodes → IsDisk new.nodes → is_base_name top ≡ true → failures ≤ failures_then → Closes old new → IsMovedIn old new top folder
+      → HasChanged (step.move_in top folder) 0 (state_after old failures given last) (state_after new failures_then given_then last_then)
+  moved_changed top folder disk disk_then is grows closes moves =
+      changed (step.move_in top folder) 0 closes grows (λ honest. moved_steps old.nodes new.nodes top folder disk disk_then is (moves honest))
+
+  pub renamed_changed : (from to : List ℕ) → IsDisk old.nodes → IsDisk new.nodes → is_base_name from ≡ true → is_base_name to ≡ true → failures ≤ failures_then → Closes old new → IsRenamed old new from to
+      → HasChanged (step.rename_folder from to) 0 (state_after old failures given last) (state_after new failures_then given_then last_then)
+  renamed_changed from to disk disk_then from_is to_is grows closes moves =
+      changed (step.rename_folder from to) 0 closes grows (λ honest. renamed_steps old.nodes new.nodes from to disk disk_then from_is to_is (moves honest))
+
+  -- a refused step left all
+  pub step_same : OnlyLooks old new → failures ≤ failures_then → given_then ≡ given → IsSame (state_after old failures given last) (state_after new failures_then given_then last_then)
+  step_same looks grows same = record {
+    keeps = record { bag = ap bag_of looks.nodes; plain = ap is_plain looks.nodes; honest = looks.honest; entries = ap map.len looks.nodes; failures = grows };
+    openings = looks.openings;
+    rest = looks.rest;
+    given = same;
+  }
+
+  -- a refused step left all, or a file of some first bytes
+  pub step_begun : (name bytes : List ℕ) → IsDisk old.nodes → IsDisk new.nodes → is_base_name name ≡ true → failures ≤ failures_then → given_then ≡ given → OnlyLooks old new ⊎ Begins old new name bytes
+      → IsSame (state_after old failures given last) (state_after new failures_then given_then last_then)
+      ⊎ HasBegun name bytes (state_after old failures given last) (state_after new failures_then given_then last_then)
+  step_begun name bytes disk disk_then is grows same (inl looks) = inl (step_same looks grows same)
+  step_begun name bytes disk disk_then is grows same (inr begins) = inr (record {
+    count = begins.count;
+    begun = file_changed name (take begins.count bytes) disk disk_then grows begins.first;
+    free = λ honest. free_not_taken old.nodes name is (begins.first.file honest).free;
+  })
+
+one_grows : (failures : ℕ) → failures ≤ one_more_failure failures
+one_grows failures = elim (failures == last_count) as (λ b. failures ≤ cond b failures (failures + 1)) [
+  | true ↦ omega arith
+  | false ↦ omega arith
+]
+
+pub kept_count : (before after : ℕ) → after ≡ before → before ≤ after
+kept_count before after same = omega (arith, same)
+
+-- a refusal forgets no failure
+pub count_grows : (refusal : Refusal) (failures : ℕ) → failures ≤ count_after refusal failures
+count_grows Device failures = one_grows failures
+count_grows Special failures = one_grows failures
+count_grows Name failures = one_grows failures
+count_grows NotFound failures = omega arith
+count_grows TooMany failures = omega arith
+count_grows Memory failures = omega arith
+count_grows Exists failures = omega arith

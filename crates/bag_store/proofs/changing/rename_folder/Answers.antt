@@ -1,0 +1,30 @@
+use Rattle.std.proofs.Common.{◌≡◌, None}
+use Rattle.bag_disk.specs.Disk.{node}
+use Rattle.bag_disk.specs.WritableDisk.{Moves}
+use Rattle.bag_store.proofs.BagSteps.{lacks_it}
+use Rattle.bag_store.proofs.BaseNames.{base_reached}
+use Rattle.bag_store.proofs.Looked.{had_before}
+use Rattle.bag_disk.proofs.Refusals.{due_in_step}
+use Rattle.bag_store.proofs.changing.rename_folder.Goals as goal
+
+pub returns-in-Err-clause-refused : goal.returns-in-Err-clause-refused
+returns-in-Err-clause-refused g c =
+    let nodes = (g.D.Disk.state c.args.disk.now).nodes in
+    let from = c.args.from.now in
+    let reached = base_reached nodes from c.requires.from in
+    due_in_step _ _ _ _ _ c.in-Err.refusal (λ over honest. over honest reached) (λ none honest. lacks_it nodes from c.requires.from (none honest reached)) c.in-Err.ensures.refused
+
+pub returns-in-Ok-rename-clause-renamed : goal.returns-in-Ok-rename-clause-renamed
+returns-in-Ok-rename-clause-renamed g c = λ honest.
+    let old = g.D.Disk.state c.args.disk.now in
+    let mid = g.D.Disk.state c.keep_with_base.new.disk in
+    let new = g.D.Disk.state c.rename.new.self in
+    let from = c.args.from.now in
+    let to = c.args.to.now in
+    let looks = c.in-Ok-keep_with_base.ensures.looks in
+    record {
+      folder_is = c.in-Ok.ensures.folder honest (base_reached old.nodes from c.requires.from);
+      free = had_before old mid looks (λ nodes. node nodes to ≡ None) c.in-Ok-check_free.ensures.free honest;
+      moved = had_before old mid looks (λ nodes. Moves nodes new.nodes from to)
+          (λ then. c.in-Ok-rename.ensures.moved then (base_reached mid.nodes from c.requires.from) (base_reached mid.nodes to c.requires.to) (c.in-Ok-check_free.ensures.free then)) honest;
+    }

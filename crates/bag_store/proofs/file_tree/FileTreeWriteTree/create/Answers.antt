@@ -1,0 +1,26 @@
+use Rattle.std.proofs.Common.{◌∙◌, ◌≤◌, subst, sym}
+use Rattle.std.proofs.lemmas.Bool.{false≢true}
+use Rattle.bag_store.proofs.BagSteps.{free_not_taken}
+use Rattle.bag_store.proofs.ChangedTree.{count_grows, file_changed, kept_count, step_begun}
+use Rattle.bag_store.proofs.file_tree.FileTreeWriteTree.create.Goals as goal
+
+pub returns-in-Ok-clause-changed : goal.returns-in-Ok-clause-changed
+returns-in-Ok-clause-changed g c =
+    let disk = c.args.self.now.disk in
+    let disk_then = c.create.new.disk in
+    file_changed (g.D.Disk.state disk) (g.D.Disk.state disk_then) _ _ _ _ _ _ c.args.name.now c.args.bytes.now (g.met.D.Disk.is_disk disk) (g.met.D.Disk.is_disk disk_then) (kept_count _ _ c.give.ensures.failures)
+    c.in-Ok.ensures.made
+
+pub returns-in-Ok-clause-possible : goal.returns-in-Ok-clause-possible
+returns-in-Ok-clause-possible g c = λ honest. (
+  λ never. never,
+  λ taken. false≢true (sym (free_not_taken (g.D.Disk.state c.args.self.now.disk).nodes c.args.name.now c.requires (c.in-Ok.ensures.made.file honest).free) ∙ taken),
+)
+
+pub returns-in-Err-clause-begun : goal.returns-in-Err-clause-begun
+returns-in-Err-clause-begun g c =
+    let disk = c.args.self.now.disk in
+    let disk_then = c.create.new.disk in
+    let before = c.args.self.now.answered in
+    step_begun (g.D.Disk.state disk) (g.D.Disk.state disk_then) _ _ _ _ _ _ c.args.name.now c.args.bytes.now (g.met.D.Disk.is_disk disk) (g.met.D.Disk.is_disk disk_then) c.requires
+    (subst (λ n. before.failures ≤ n) (sym c.refuse.ensures.failures) (count_grows c.in-Err.refusal before.failures)) c.refuse.ensures.given c.in-Err.ensures.begun

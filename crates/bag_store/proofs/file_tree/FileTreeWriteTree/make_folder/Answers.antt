@@ -1,0 +1,18 @@
+use Rattle.std.proofs.Common.{◌∙◌, sym}
+use Rattle.std.proofs.lemmas.Bool.{false≢true}
+use Rattle.bag_store.proofs.BagSteps.{free_not_taken}
+use Rattle.bag_store.proofs.ChangedTree.{folder_changed, kept_count}
+use Rattle.bag_store.proofs.file_tree.FileTreeWriteTree.make_folder.Goals as goal
+
+pub returns-in-Ok-clause-changed : goal.returns-in-Ok-clause-changed
+returns-in-Ok-clause-changed g c =
+    let disk = c.args.self.now.disk in
+    let disk_then = c.make_folder.new.disk in
+    folder_changed (g.D.Disk.state disk) (g.D.Disk.state disk_then) _ _ _ _ _ _ c.args.name.now (g.met.D.Disk.is_disk disk) (g.met.D.Disk.is_disk disk_then) c.requires (kept_count _ _ c.give.ensures.failures)
+    c.in-Ok.ensures.closed c.in-Ok.ensures.made
+
+pub returns-in-Ok-clause-possible : goal.returns-in-Ok-clause-possible
+returns-in-Ok-clause-possible g c = λ honest. (
+  λ never. never,
+  λ taken. false≢true (sym (free_not_taken (g.D.Disk.state c.args.self.now.disk).nodes c.args.name.now c.requires (c.in-Ok.ensures.made honest).free) ∙ taken),
+)

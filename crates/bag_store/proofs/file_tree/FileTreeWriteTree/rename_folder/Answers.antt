@@ -1,0 +1,20 @@
+use Rattle.std.proofs.Common.{◌∙◌, sym}
+use Rattle.std.proofs.lemmas.Bool.{false≢true}
+use Rattle.bag_store.proofs.BagSteps.{free_not_taken, has_it}
+use Rattle.bag_store.proofs.ChangedTree.{kept_count, renamed_changed}
+use Rattle.bag_store.proofs.file_tree.FileTreeWriteTree.rename_folder.Goals as goal
+
+pub returns-in-Ok-clause-changed : goal.returns-in-Ok-clause-changed
+returns-in-Ok-clause-changed g c =
+    let disk = c.args.self.now.disk in
+    let disk_then = c.rename_folder.new.disk in
+    renamed_changed (g.D.Disk.state disk) (g.D.Disk.state disk_then) _ _ _ _ _ _ c.args.from.now c.args.to.now (g.met.D.Disk.is_disk disk) (g.met.D.Disk.is_disk disk_then) c.requires.from c.requires.to
+    (kept_count _ _ c.give.ensures.failures) c.in-Ok.ensures.closed c.in-Ok.ensures.renamed
+
+pub returns-in-Ok-clause-possible : goal.returns-in-Ok-clause-possible
+returns-in-Ok-clause-possible g c = λ honest.
+    let nodes = (g.D.Disk.state c.args.self.now.disk).nodes in
+    let renames = c.in-Ok.ensures.renamed honest in (
+      has_it nodes c.args.from.now c.requires.from renames.folder_is,
+      λ taken. false≢true (sym (free_not_taken nodes c.args.to.now c.requires.to renames.free) ∙ taken),
+    )

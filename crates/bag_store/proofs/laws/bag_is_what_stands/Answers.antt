@@ -1,0 +1,5 @@
+use Rattle.bag_disk.specs.BagBelow.{bag_is_what_stands}
+use Rattle.bag_store.proofs.laws.bag_is_what_stands.Goals as goal
+
+pub returns : goal.returns
+returns c = bag_is_what_stands

@@ -1,0 +1,37 @@
+-- How a refusal of the disk is answered and counted.
+use Rattle.std.specs.Prelude.{ℕ, ◌+◌, ◌==◌, if◌then◌else◌}
+use Rattle.bag_tree.specs.declared.tree_fault.TreeFault.{TreeFault}
+use Rattle.bag_tree.specs.declared.tree_fault.TreeFault.TheVariants as fault
+use Rattle.bag_disk.specs.declared.refusal.Refusal.{Refusal}
+use Rattle.bag_disk.specs.declared.refusal.Refusal.TheVariants.{Device, Special, Name, NotFound, TooMany, Memory, Exists}
+
+-- the count that has no successor
+abbrev pub last_count : ℕ
+last_count = 0xffff_ffff_ffff_ffff
+
+-- a failure that can't be counted is Memory
+abbrev pub failure_or_memory : TreeFault → ℕ → TreeFault
+failure_or_memory failure count = if count == last_count then fault.Memory else failure
+
+abbrev pub one_more_failure : ℕ → ℕ
+one_more_failure count = if count == last_count then count else count + 1
+
+-- the fault that answers a refusal, after so many failures
+abbrev pub fault_of : Refusal → ℕ → TreeFault
+fault_of Device count = failure_or_memory fault.Device count
+fault_of Special count = failure_or_memory fault.Special count
+fault_of Name count = failure_or_memory fault.Name count
+fault_of NotFound count = fault.NotFound
+fault_of TooMany count = fault.TooMany
+fault_of Memory count = fault.Memory
+fault_of Exists count = fault.Exists
+
+-- how many failures there are then
+abbrev pub count_after : Refusal → ℕ → ℕ
+count_after Device count = one_more_failure count
+count_after Special count = one_more_failure count
+count_after Name count = one_more_failure count
+count_after NotFound count = count
+count_after TooMany count = count
+count_after Memory count = count
+count_after Exists count = count

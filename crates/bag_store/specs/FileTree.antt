@@ -1,0 +1,32 @@
+-- What a tree of the files on a disk means.
+use Rattle.std.specs.Prelude.{ℕ}
+use Rattle.std.specs.FinMap as map
+use Rattle.bag_tree.specs.Tree.{TreeState}
+use Rattle.bag_tree.specs.declared.answer.Answer.{Answer}
+use Rattle.bag_tree.specs.declared.answer.Answer.TheVariants.{Given}
+use Rattle.bag_store.specs.declared.file_tree.FileTree.{FileTree}
+use Rattle.bag_disk.specs.Disk.{DiskState, is_plain}
+use Rattle.bag_disk.specs.DiskBag.{bag_of}
+
+-- the disk of a tree
+abbrev pub disk_of : {D : Type 0} → FileTree D → D
+disk_of tree = tree.disk
+
+-- what a tree of the files on a disk means, after so many failures, where its reads of the open file have given so many
+-- bytes, and its last call answered so
+abbrev pub state_after : DiskState → ℕ → ℕ → Answer → TreeState
+state_after disk failures given last = record {
+  bag = bag_of disk.nodes;
+  plain = is_plain disk.nodes;
+  honest = disk.honest;
+  entries = map.len disk.nodes;
+  failures = failures;
+  openings = disk.openings;
+  rest = disk.rest;
+  given = given;
+  last = last;
+}
+
+-- what a tree of the files on a disk means at which it hasn't looked yet, after so many failures
+abbrev pub tree_state : DiskState → ℕ → TreeState
+tree_state disk failures = state_after disk failures 0 Given

@@ -1,0 +1,115 @@
+//! The steps that change what stands below a base folder.
+ghost use Rattle.std.specs.Prelude.{◌≡◌, ◌≢◌, IfErr, IsTrue, None, OnErr, OnOk};
+ghost use Rattle.bag_text.specs.Path.{is_base_name, under};
+ghost use Rattle.bag_tree.specs.Steps.{lacks_folder, lacks_source};
+ghost use Rattle.bag_disk.specs.Disk.{OnlyLooks};
+ghost use Rattle.bag_disk.specs.WritableDisk.{Closes, MakesFolder, Moves};
+ghost use Rattle.bag_store.specs.Changing.{HasTarget, IsRenamed, IsMovedIn, IsTaken, LacksFolder, LacksSource};
+ghost use Rattle.bag_disk.specs.Refusal.{HasOther, IsDueInStep};
+
+use crate::keeping::{BASE, keep_names, keep_with_base};
+use crate::standing::{Standing, check_free, check_taken, standing_at};
+use crate::target::folder_in_the_way;
+use bag_disk::{Disk, DiskFault, Refusal, WritableDisk, check_is_folder, path_in};
+use std::alloc::Global;
+
+/// Makes a folder in the base folder, where nothing has its name. First the device is asked to keep the names there, so that
+/// one that can't is known before anything is changed.
+pub(crate) fn make_folder<D: WritableDisk>(disk: &mut D, name: &str) -> Result<(), Refusal>
+    requires { IsTrue (is_base_name name.now) }
+    ensures made { OnOk result (IsTrue (D.state disk.old).honest
+        → MakesFolder (D.state disk.old).nodes (D.state disk.new).nodes name.now) }
+    ensures closed { OnOk result (Closes (D.state disk.old) (D.state disk.new)) }
+    ensures same { OnErr result (OnlyLooks (D.state disk.old) (D.state disk.new)) }
+    ensures refused { IfErr result (IsDueInStep (HasOther (D.state disk.old)) ⊥ (IsTaken (D.state disk.old) name.now)) }
+{
+    match keep_names(disk, BASE) {
+        Ok(()) => {}
+        Err(refusal) => return Err(refusal),
+    }
+    match disk.make_folder(name) {
+        Ok(()) => Ok(()),
+        Err(DiskFault::Exists) => Err(in_the_way(disk, name)),
+        Err(fault) => Err(Refusal::at_known(fault)),
+    }
+}
+
+/// Why nothing can be made where the disk says that something stands.
+pub(crate) fn in_the_way<D: Disk>(disk: &D, name: &str) -> Refusal
+    requires { IsTrue (is_base_name name.now) }
+    ensures { IsDueInStep (HasOther (D.state disk.now)) ⊥ (IsTaken (D.state disk.now) name.now) result }
+{
+    match check_free(disk, name) {
+        Ok(()) => Refusal::Device,
+        Err(refusal) => refusal,
+    }
+}
+
+/// Moves what has a name in the base folder into a folder of it, where nothing has this name.
+pub(crate) fn move_in<D: WritableDisk>(
+    disk: &mut D,
+    alloc: Global,
+    top: &str,
+    folder: &str,
+) -> Result<(), Refusal>
+    requires top { IsTrue (is_base_name top.now) }
+    requires folder { IsTrue (is_base_name folder.now) }
+    ensures moved { OnOk result (IsMovedIn (D.state disk.old) (D.state disk.new) top.now folder.now) }
+    ensures closed { OnOk result (Closes (D.state disk.old) (D.state disk.new)) }
+    ensures same { OnErr result (OnlyLooks (D.state disk.old) (D.state disk.new)) }
+    ensures refused { IfErr result (IsDueInStep (HasOther (D.state disk.old))
+        (LacksSource (D.state disk.old) top.now folder.now) (HasTarget (D.state disk.old) top.now folder.now)) }
+{
+    match check_is_folder(disk, folder) {
+        Ok(()) => {}
+        Err(refusal) => return Err(refusal),
+    }
+    match check_taken(disk, top) {
+        Ok(()) => {}
+        Err(refusal) => return Err(refusal),
+    }
+    let target = path_in(alloc, folder, top)?;
+    match standing_at(disk, target.as_str()) {
+        Ok(None) => {}
+        Ok(Some(Standing::File)) => return Err(Refusal::Exists),
+        Ok(Some(Standing::Folder)) => return Err(folder_in_the_way(disk, alloc, target.as_str())),
+        Err(refusal) => return Err(refusal),
+    }
+    match disk.rename(top, target.as_str()) {
+        Ok(()) => Ok(()),
+        Err(fault) => Err(Refusal::at_known(fault)),
+    }
+}
+
+/// Gives a folder of the base folder another name, where nothing has it. Before that the device is asked to keep the names in
+/// both folders, which may take a while: only then it is looked whether the name is free.
+pub(crate) fn rename_folder<D: WritableDisk>(
+    disk: &mut D,
+    from: &str,
+    to: &str,
+) -> Result<(), Refusal>
+    requires from { IsTrue (is_base_name from.now) }
+    requires to { IsTrue (is_base_name to.now) }
+    ensures renamed { OnOk result (IsRenamed (D.state disk.old) (D.state disk.new) from.now to.now) }
+    ensures closed { OnOk result (Closes (D.state disk.old) (D.state disk.new)) }
+    ensures same { OnErr result (OnlyLooks (D.state disk.old) (D.state disk.new)) }
+    ensures refused { IfErr result (IsDueInStep (HasOther (D.state disk.old))
+        (LacksFolder (D.state disk.old) from.now) (IsTaken (D.state disk.old) to.now)) }
+{
+    match check_is_folder(disk, from) {
+        Ok(()) => {}
+        Err(refusal) => return Err(refusal),
+    }
+    match keep_with_base(disk, from) {
+        Ok(()) => {}
+        Err(refusal) => return Err(refusal),
+    }
+    match check_free(disk, to) {
+        Ok(()) => {}
+        Err(refusal) => return Err(refusal),
+    }
+    match disk.rename(from, to) {
+        Ok(()) => Ok(()),
+        Err(fault) => Err(Refusal::at_known(fault)),
+    }
+}

@@ -1,0 +1,62 @@
+//! Looks at what stands where a step is to be made.
+ghost use Rattle.std.specs.Prelude.{◌≡◌, IfErr, IfOk, IsTrue, None, OnOk, false, true};
+ghost use Rattle.bag_text.specs.Path.{is_base_name, is_path};
+ghost use Rattle.bag_tree.specs.Steps.{is_taken};
+ghost use Rattle.bag_disk.specs.Disk.{IsReached, is_plain, node};
+ghost use Rattle.bag_store.specs.Changing.{IsTaken};
+ghost use Rattle.bag_disk.specs.DiskBag.{bag_of};
+ghost use Rattle.bag_disk.specs.Refusal.{HasOther, IsDue, IsDueInStep};
+ghost use Rattle.bag_store.specs.Standing.{IsStanding};
+
+use bag_disk::{Disk, DiskFault, Entry, Refusal};
+
+/// What can stand in a bag's folder.
+#[derive(Clone, Copy)]
+pub(crate) enum Standing {
+    File,
+    Folder,
+}
+
+/// What stands at a path. What is no file and no folder is `Special`, and no link is followed.
+pub(crate) fn standing_at<D: Disk>(disk: &D, path: &str) -> Result<Option<Standing>, Refusal>
+    requires { IsTrue (is_path path.now) }
+    ensures found { IfOk result (λ standing. IsTrue (D.state disk.now).honest → IsReached (D.state disk.now).nodes path.now
+        → IsStanding (D.state disk.now).nodes path.now standing) }
+    ensures refused { IfErr result (IsDue (IsTrue (D.state disk.now).honest → IsReached (D.state disk.now).nodes path.now
+        → is_plain (D.state disk.now).nodes ≡ false) ⊥ ⊥) }
+{
+    match disk.entry_at(path) {
+        Ok(Entry::File(_)) => Ok(Some(Standing::File)),
+        Ok(Entry::Folder) => Ok(Some(Standing::Folder)),
+        Ok(Entry::Other) => Err(Refusal::Special),
+        Err(DiskFault::NotFound) => Ok(None),
+        Err(fault) => Err(Refusal::at_known(fault)),
+    }
+}
+
+/// Refuses a name of the base folder that something has.
+pub(crate) fn check_free<D: Disk>(disk: &D, name: &str) -> Result<(), Refusal>
+    requires { IsTrue (is_base_name name.now) }
+    ensures free { OnOk result (IsTrue (D.state disk.now).honest → node (D.state disk.now).nodes name.now ≡ None) }
+    ensures refused { IfErr result (IsDueInStep (HasOther (D.state disk.now)) ⊥ (IsTaken (D.state disk.now) name.now)) }
+{
+    match standing_at(disk, name) {
+        Ok(None) => Ok(()),
+        Ok(Some(_)) => Err(Refusal::Exists),
+        Err(refusal) => Err(refusal),
+    }
+}
+
+/// Refuses a name of the base folder that nothing has.
+pub(crate) fn check_taken<D: Disk>(disk: &D, name: &str) -> Result<(), Refusal>
+    requires { IsTrue (is_base_name name.now) }
+    ensures taken { OnOk result (IsTaken (D.state disk.now) name.now) }
+    ensures refused { IfErr result (IsDue (HasOther (D.state disk.now))
+        (IsTrue (D.state disk.now).honest → is_taken (bag_of (D.state disk.now).nodes) name.now ≡ false) ⊥) }
+{
+    match standing_at(disk, name) {
+        Ok(None) => Err(Refusal::NotFound),
+        Ok(Some(_)) => Ok(()),
+        Err(refusal) => Err(refusal),
+    }
+}

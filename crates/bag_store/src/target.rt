@@ -1,0 +1,45 @@
+//! Folders that stand where something is to be moved.
+ghost use Rattle.std.specs.Prelude.{◌≡◌, ◌↔◌, Any, IsTrue, true};
+ghost use Rattle.bag_tree.specs.Moved as moving;
+ghost use Rattle.bag_tree.specs.Steps as step;
+ghost use Rattle.bag_disk.specs.Disk.{OnlyLooks};
+ghost use Rattle.bag_disk.specs.DiskBag.{bag_of};
+ghost use Rattle.bag_disk.specs.Refusal.{IsDueInStep};
+
+use bag_disk::{Disk, Refusal, list_below};
+use bag_tree::{FileEntry, rest_within};
+use std::alloc::Global;
+
+/// Why nothing can be moved to where a folder stands: a file is in it, or it might be replaced. The files below the base
+/// folder are listed for that.
+pub(crate) fn folder_in_the_way<D: Disk>(disk: &mut D, alloc: Global, folder: &str) -> Refusal
+    ensures looks { OnlyLooks (D.state disk.old) (D.state disk.new) }
+    ensures refused { IsDueInStep ⊥ ⊥ (IsTrue (D.state disk.old).honest
+        → step.has_within (bag_of (D.state disk.old).nodes) folder.now ≡ true) result }
+{
+    match list_below(disk, alloc) {
+        Ok(listing) => {
+            if has_within(listing.files.as_slice(), folder) {
+                Refusal::Exists
+            } else {
+                Refusal::Device
+            }
+        }
+        Err(Refusal::Memory) => Refusal::Memory,
+        Err(_) => Refusal::Device,
+    }
+}
+
+/// Whether one of the files stands at a path or below it.
+fn has_within(files: &[FileEntry], top: &str) -> bool
+    ensures { IsTrue result ↔ Any (λ file. IsTrue (moving.is_within top.now file.path)) files.now }
+{
+    files.iter().any(|file| is_within(top, file.path.as_str()))
+}
+
+/// Whether a path is another, or below it.
+fn is_within(top: &str, path: &str) -> bool
+    ensures { result ≡ moving.is_within top.now path.now }
+{
+    rest_within(top, path).is_some()
+}

@@ -1,0 +1,66 @@
+//! Files that are made in the base folder.
+ghost use Rattle.std.specs.Prelude.{◌≡◌, ◌⊎◌, IfErr, IsTrue, None, OnErr, OnOk, is_some};
+ghost use Rattle.bag_text.specs.Path.{is_base_name};
+ghost use Rattle.bag_disk.specs.Disk.{OnlyLooks};
+ghost use Rattle.bag_store.specs.Changing.{IsTaken};
+ghost use Rattle.bag_disk.specs.Refusal.{HasOther, IsDueInStep};
+ghost use Rattle.bag_store.specs.Writing.{Begins, HasWritten, HasWrittenSome, Makes};
+
+use crate::changing::in_the_way;
+use crate::keeping::{BASE, keep_names};
+use bag_disk::{Disk, DiskFault, Refusal, WritableDisk};
+
+/// Makes a file in the base folder, where nothing has its name, and has the device keep it and all names in the base folder.
+pub(crate) fn create<D: WritableDisk>(disk: &mut D, name: &str, bytes: &[u8]) -> Result<(), Refusal>
+    requires { IsTrue (is_base_name name.now) }
+    ensures made { OnOk result (Makes (D.state disk.old) (D.state disk.new) name.now bytes.now) }
+    ensures kept { OnOk result (D.written disk.new ≡ None) }
+    ensures names_kept { OnOk result (IsTrue (D.is_kept disk.new)) }
+    ensures begun { OnErr result (OnlyLooks (D.state disk.old) (D.state disk.new)
+        ⊎ Begins (D.state disk.old) (D.state disk.new) name.now bytes.now) }
+    ensures refused { IfErr result (IsDueInStep (HasOther (D.state disk.old)) ⊥ (IsTaken (D.state disk.old) name.now)) }
+{
+    match disk.create(name) {
+        Ok(()) => fill(disk, bytes),
+        Err(DiskFault::Exists) => Err(in_the_way(disk, name)),
+        Err(fault) => Err(Refusal::at_known(fault)),
+    }
+}
+
+/// Writes the bytes of the file that is being written, and has the device keep it and all names in the base folder.
+fn fill<D: WritableDisk>(disk: &mut D, bytes: &[u8]) -> Result<(), Refusal>
+    requires { IsTrue (is_some (D.written disk.old)) }
+    ensures whole { OnOk result (HasWritten (D.state disk.old) (D.state disk.new) (D.written disk.old) bytes.now) }
+    ensures kept { OnOk result (D.written disk.new ≡ None) }
+    ensures names_kept { OnOk result (IsTrue (D.is_kept disk.new)) }
+    ensures part { OnErr result (HasWrittenSome (D.state disk.old) (D.state disk.new) (D.written disk.old) bytes.now) }
+    ensures refused { IfErr result (IsDueInStep ⊥ ⊥ ⊥) }
+{
+    match write_all(disk, bytes) {
+        Ok(()) => {}
+        Err(refusal) => return Err(refusal),
+    }
+    match disk.sync() {
+        Ok(()) => keep_names(disk, BASE),
+        Err(fault) => Err(Refusal::at_known(fault)),
+    }
+}
+
+/// Writes all bytes behind those of the file that is being written.
+fn write_all<D: WritableDisk>(disk: &mut D, bytes: &[u8]) -> Result<(), Refusal>
+    requires { IsTrue (is_some (D.written disk.old)) }
+    ensures whole { OnOk result (HasWritten (D.state disk.old) (D.state disk.new) (D.written disk.old) bytes.now) }
+    ensures same_file { D.written disk.new ≡ D.written disk.old }
+    ensures part { OnErr result (HasWrittenSome (D.state disk.old) (D.state disk.new) (D.written disk.old) bytes.now) }
+    ensures refused { IfErr result (IsDueInStep ⊥ ⊥ ⊥) }
+{
+    let mut done = 0;
+    while done < bytes.len() {
+        match disk.write(&bytes[done..]) {
+            Ok(0) => return Err(Refusal::Device),
+            Ok(count) => done += count,
+            Err(fault) => return Err(Refusal::at_known(fault)),
+        }
+    }
+    Ok(())
+}

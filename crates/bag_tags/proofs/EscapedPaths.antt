@@ -1,0 +1,120 @@
+-- Paths as they are written in manifests.
+use Rattle.std.proofs.Common.{◌≡◌, ◌≢◌, ℕ, Bool, true, false, ◌||◌, ◌==◌, List, [], ◌∷◌, ◌++◌, refl, ap, sym, ◌∙◌, subst, Option, Some, None, arith, codes, eqb}
+use Rattle.std.specs.List.{list_any}
+use Rattle.std.specs.Str.{IsUtf8, is_utf8, chars, encode_utf8_all, all_scalars}
+use Rattle.std.specs.Char.{IsScalar, encode_utf8}
+use Rattle.std.proofs.lemmas.Bool.Decides.{nat_tests}
+use Rattle.std.proofs.lemmas.List.Concat.{flat_map-append}
+use Rattle.std.proofs.lemmas.List.Folds.{list_any-append}
+use Rattle.std.proofs.lemmas.Str.{IsUtf8-append, IsUtf8-nil, IsUtf8-encode, IsUtf8-from_is_utf8}
+use Rattle.bag_text.specs.LineEnd.{is_line_end}
+use Rattle.bag_text.specs.Path.{is_path}
+use Rattle.bag_text.specs.Spelling.{percent, unescaped_strictly, both, escape_one, escape}
+use Rattle.bag_text.specs.Text.{is_blank}
+use Rattle.bag_text.proofs.SpellingLaws.{unescaped_plain, read_again}
+use Rattle.bag_text.proofs.Spellings.{escape-encode}
+use Rattle.bag_read.specs.LineParts.{BeginsUnblank}
+use Rattle.bag_read.proofs.PickedOut.{both_true}
+use Rattle.bag_tags.specs.Entry.{begins_with_mark}
+
+-- a character as it is written has no line end
+one_line : (c : ℕ) (feed back mark : Bool) → (c == 10) ≡ feed → (c == 13) ≡ back → (c == 37) ≡ mark → list_any is_line_end (escape_one c) ≡ false
+one_line c true back mark f b m = rw f refl
+one_line c false true mark f b m = rw (f, b) refl
+one_line c false false true f b m = rw (f, b, m) refl
+one_line c false false false f b m = rw (f, b, m) (rw (f, b) refl)
+
+pub no_end_written : (path : List ℕ) → list_any is_line_end (escape path) ≡ false
+no_end_written [] = refl
+no_end_written (c ∷ path) =
+    list_any-append is_line_end (escape_one c) (escape path)
+    ∙ ap (λ b. b || list_any is_line_end (escape path)) (one_line c _ _ _ refl refl refl) ∙ no_end_written path
+
+feed_utf8 : IsUtf8 (escape (encode_utf8 10))
+unfolding is_utf8 chars encode_utf8
+feed_utf8 = IsUtf8-from_is_utf8 (codes "%0A") refl
+
+return_utf8 : IsUtf8 (escape (encode_utf8 13))
+unfolding is_utf8 chars encode_utf8
+return_utf8 = IsUtf8-from_is_utf8 (codes "%0D") refl
+
+percent_utf8 : IsUtf8 (escape (encode_utf8 37))
+unfolding is_utf8 chars encode_utf8
+percent_utf8 = IsUtf8-from_is_utf8 (codes "%25") refl
+
+same_code : (c d : ℕ) → eqb c d ≡ true → c ≡ d
+same_code c d e = grind (arith, nat_tests)
+
+one_utf8 : (c : ℕ) (feed back mark : Bool) → eqb c 10 ≡ feed → eqb c 13 ≡ back → eqb c 37 ≡ mark → IsScalar c → IsUtf8 (escape (encode_utf8 c))
+one_utf8 c true back mark f b m s = subst (λ x. IsUtf8 (escape (encode_utf8 x))) (sym (same_code c 10 f)) feed_utf8
+one_utf8 c false true mark f b m s = subst (λ x. IsUtf8 (escape (encode_utf8 x))) (sym (same_code c 13 b)) return_utf8
+one_utf8 c false false true f b m s = subst (λ x. IsUtf8 (escape (encode_utf8 x))) (sym (same_code c 37 m)) percent_utf8
+one_utf8 c false false false f b m s = subst IsUtf8 (sym (escape-encode c (rw (f, b, m) refl))) (IsUtf8-encode c s)
+
+chars_utf8 : (cs : List ℕ) → all_scalars cs ≡ true → IsUtf8 (escape (encode_utf8_all cs))
+chars_utf8 [] e = IsUtf8-nil
+chars_utf8 (c ∷ cs) e =
+    let two = both_true _ (all_scalars cs) e in
+    subst IsUtf8 (sym (flat_map-append escape_one (encode_utf8 c) (encode_utf8_all cs)))
+    (IsUtf8-append (escape (encode_utf8 c)) (escape (encode_utf8_all cs)) (one_utf8 c _ _ _ refl refl refl two.0) (chars_utf8 cs two.1))
+
+-- a text that is written stays a text
+pub written_utf8 : (path : List ℕ) → IsUtf8 path → IsUtf8 (escape path)
+written_utf8 path (cs, (scalars, is)) = subst (λ t. IsUtf8 (escape t)) is (chars_utf8 cs scalars)
+
+plain_by : (h : ℕ) (path : List ℕ) (o : Option (List ℕ)) → both (Some h) o ≡ Some path → (rest : List ℕ) × (path ≡ h ∷ rest) × (o ≡ Some rest)
+plain_by h path None e = cc
+plain_by h path (Some rest) e = (rest, let same : h ∷ rest ≡ path = cc in sym same, refl)
+
+-- a character at the front of a spelling that begins no escape is the first of the path
+plain_first : (h : ℕ) (more path : List ℕ) → h ≢ percent → unescaped_strictly (h ∷ more) ≡ Some path → (rest : List ℕ) × (path ≡ h ∷ rest) × (unescaped_strictly more ≡ Some rest)
+plain_first h more path other e = plain_by h path (unescaped_strictly more) (sym (unescaped_plain h more other) ∙ e)
+
+star_no_percent : 42 ≢ percent
+star_no_percent same = omega (arith, same)
+
+dot_no_percent : 46 ≢ percent
+dot_no_percent same = omega (arith, same)
+
+slash_no_percent : 47 ≢ percent
+slash_no_percent same = omega (arith, same)
+
+never : true ≡ false → ⊥
+never e = cc
+
+blank_no_percent : (c : ℕ) → is_blank c ≡ true → c ≢ percent
+blank_no_percent c e same = grind (arith, nat_tests)
+
+module _ (path : List ℕ) where
+  spelled : (s : List ℕ) → escape path ≡ s → unescaped_strictly s ≡ Some path
+  spelled s e = sym (ap unescaped_strictly e) ∙ read_again path
+
+  module _ (unmarked : begins_with_mark path ≡ false) where
+    -- it begins with no *
+    pub no_star : (more : List ℕ) → escape path ≢ codes "*" ++ more
+    no_star more e =
+        let (rest, is, _) = plain_first 42 more path star_no_percent (spelled (42 ∷ more) e) in
+        never (sym (ap begins_with_mark is) ∙ unmarked)
+
+    first_by : (c : ℕ) (more : List ℕ) (b : Bool) → is_blank c ≡ b → escape path ≡ c ∷ more → b ≡ false
+    first_by c more false e h = refl
+    first_by c more true e h =
+        let (rest, is, _) = plain_first c more path (blank_no_percent c e) (spelled (c ∷ more) h) in
+        let begins : begins_with_mark (c ∷ rest) ≡ true = rw e refl in
+        sym begins ∙ sym (ap begins_with_mark is) ∙ unmarked
+
+    begins_by : (s : List ℕ) → escape path ≡ s → path ≢ [] → BeginsUnblank s
+    begins_by [] e some = let empty : Some [] ≡ Some path = spelled [] e in let same : [] ≡ path = cc in absurd (some (sym same))
+    begins_by (c ∷ more) e some = (c, more, refl, first_by c more (is_blank c) refl e)
+
+    -- nor with a blank
+    pub begins_unblank : path ≢ [] → BeginsUnblank (escape path)
+    begins_unblank some = begins_by (escape path) refl some
+
+  -- nor with ./
+  pub no_dot_slash : is_path path ≡ true → (more : List ℕ) → escape path ≢ codes "./" ++ more
+  no_dot_slash safe more e =
+      let (behind, is, next) = plain_first 46 (47 ∷ more) path dot_no_percent (spelled (46 ∷ 47 ∷ more) e) in
+      let (rest, then, _) = plain_first 47 more behind slash_no_percent next in
+      let whole : path ≡ 46 ∷ 47 ∷ rest = is ∙ ap (λ t. 46 ∷ t) then in
+      never (sym safe ∙ ap is_path whole)

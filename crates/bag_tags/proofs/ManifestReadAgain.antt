@@ -1,0 +1,122 @@
+-- The entries that are written are read again, and no others, with no fault.
+use Rattle.std.proofs.Common.{◌≡◌, ℕ, zero, suc, ◌-◌, inl, inr, true, false, List, [], ◌∷◌, map, take, refl, ap, sym, ◌∙◌, subst, Some, Result, Ok, Err, arith, bytes_eq, option_map}
+use Rattle.std.specs.Prelude.{Contains}
+use Rattle.std.specs.List.{AllByRecursion, list_any, slice_get}
+use Rattle.std.proofs.lemmas.List.Elements.{recursion_from_All}
+use Rattle.std.proofs.lemmas.Map.Keys.{IsDistinct-head, IsDistinct-tail}
+use Rattle.std.proofs.lemmas.Option.{slice_get-map}
+use Rattle.std.proofs.lemmas.Slice.Eq.{bytes_eq-Decides}
+use Rattle.bag_text.specs.Lines.{lines_of_file, IsLine}
+use Rattle.bag_text.specs.Text.{IsText}
+use Rattle.bag_text.specs.declared.rules.Rules.TheVariants.{V10}
+use Rattle.bag_text.specs.declared.alg.Alg.{Alg}
+use Rattle.bag_text.specs.declared.code.Code.{Code}
+use Rattle.bag_text.specs.declared.code.Code.TheVariants.{NotUtf8, NamedAgain}
+use Rattle.bag_text.proofs.ListOf.{contains_cases, contains_nothing}
+use Rattle.bag_read.specs.Reason.{Reason}
+use Rattle.bag_read.specs.declared.line_fault.LineFault.{LineFault}
+use Rattle.bag_read.proofs.LineParts.{or_false}
+use Rattle.bag_read.specs.Manifest.{Reads, named, named_before, manifest_line, IsEntry, ManifestFault}
+use Rattle.bag_read.specs.declared.kind.Kind.{Kind}
+use Rattle.bag_read.specs.declared.manifest.ManifestEntry.{ManifestEntry}
+use Rattle.bag_tags.specs.Entry.{NewEntry, entry_line, manifest_text, is_bad_entry, paths, NamesEachOnce}
+use Rattle.bag_tags.specs.ReadAgain.{StandsOn, ManifestIsReadAgain}
+use Rattle.bag_tags.proofs.ManifestLines.{reads, written}
+use Rattle.bag_tags.proofs.WrittenLines.{IsWritten, at_place, file_lines, is_text, line_of_item, item_on_line}
+
+take_map : (k : ℕ) (entries : List NewEntry) → take k (map entry_line entries) ≡ map entry_line (take k entries)
+take_map zero entries = refl
+take_map (suc k) [] = refl
+take_map (suc k) (x ∷ xs) = ap (λ more. entry_line x ∷ more) (take_map k xs)
+
+taken : {A : Type 0} (P : A → Type 0) (k : ℕ) (xs : List A) → AllByRecursion P xs → AllByRecursion P (take k xs)
+taken P zero xs all = tt
+taken P (suc k) [] all = tt
+taken P (suc k) (x ∷ xs) all = (all.0, taken P k xs all.1)
+
+-- a path that stands on one place stands on none before it
+apart : (entries : List NewEntry) (k : ℕ) (x : NewEntry) → NamesEachOnce entries → slice_get entries k ≡ Some x → Contains (paths (take k entries)) x.1 → ⊥
+apart [] k x once e c = cc
+apart (y ∷ ys) zero x once e c = contains_nothing x.1 c
+apart (y ∷ ys) (suc k) x once e c =
+    elim (contains_cases y.1 (paths (take k ys)) x.1 c) [
+      | inl same ↦ (
+          let there : slice_get (paths ys) k ≡ Some x.1 = slice_get-map (λ (z : NewEntry). z.1) ys k ∙ ap (option_map (λ (z : NewEntry). z.1)) e in
+          let other = at_place (λ p. bytes_eq y.1 p ≡ false) (paths ys) k x.1 (IsDistinct-head bytes_eq y.1 (paths ys) once) there in
+          let clash : false ≡ true = sym other ∙ (bytes_eq-Decides y.1 x.1).1 same in
+          cc)
+      | inr before ↦ apart ys k x (IsDistinct-tail bytes_eq y.1 (paths ys) once) e before
+    ]
+
+same_reading : (x y : NewEntry) → ◌≡◌ {A = Result NewEntry Reason} (Ok x) (Ok y) → x ≡ y
+same_reading x y e = cc
+
+no_reason : (x : NewEntry) (reason : Reason) → ◌≡◌ {A = Result NewEntry Reason} (Ok x) (Err reason) → ⊥
+no_reason x reason e = cc
+
+module _ (kind : Kind) (alg : Alg) where
+  abbrev IsGood : NewEntry → Type 0
+  IsGood x = (is_bad_entry kind alg x ≡ false) × IsText x.1
+
+  good_each : (entries : List NewEntry) → AllByRecursion (λ x. IsText x.1) entries → list_any (is_bad_entry kind alg) entries ≡ false → AllByRecursion IsGood entries
+  good_each [] texts e = tt
+  good_each (x ∷ xs) texts e =
+      let two = or_false (is_bad_entry kind alg x) (list_any (is_bad_entry kind alg) xs) e in ((two.0, texts.0), good_each xs texts.1 two.1)
+
+  written_each : (entries : List NewEntry) → AllByRecursion IsGood entries → AllByRecursion (IsWritten entry_line) entries
+  written_each [] all = tt
+  written_each (x ∷ xs) all = (written kind alg x all.0.0 all.0.1, written_each xs all.1)
+
+  named_each : (entries : List NewEntry) → AllByRecursion IsGood entries → named V10 kind alg (map entry_line entries) ≡ paths entries
+  named_each [] all = refl
+  named_each (x ∷ xs) all = let is = reads kind alg x all.0.0 in rw (is.0, is.1) (ap (λ more. x.1 ∷ more) (named_each xs all.1))
+
+  module _ (entries : List NewEntry) (all : AllByRecursion IsGood entries) (once : NamesEachOnce entries) where
+    abbrev here : List (List ℕ)
+    here = map entry_line entries
+
+    reads_at : (n : ℕ) (x : NewEntry) → StandsOn entries n x → Reads V10 kind alg (entry_line x) x.0 x.1
+    reads_at n x (k, at, is) = reads kind alg x (at_place IsGood entries k x all is).0
+
+    first_named : (n : ℕ) (x : NewEntry) → StandsOn entries n x → ¬ (Contains (named_before V10 kind alg here n) x.1)
+    first_named n x (k, at, is) c =
+        let before : n - 1 ≡ k = omega (arith, at) in
+        let names : named_before V10 kind alg here n ≡ paths (take k entries) = ap (λ j. named V10 kind alg (take j here)) before ∙ ap (named V10 kind alg) (take_map k entries) ∙ named_each (take k entries) (taken IsGood k entries all) in
+        apart entries k x once is (subst (λ ps. Contains ps x.1) names c)
+
+    same_entry : (n : ℕ) (line digest path : List ℕ) → IsLine here n line → Reads V10 kind alg line digest path → StandsOn entries n (digest, path)
+    same_entry n line digest path is read =
+        let (x, stands, same) = line_of_item entry_line entries n line is in
+        let pair : ◌≡◌ {A = NewEntry} x (digest, path) = same_reading x (digest, path) (sym (reads_at n x stands).1 ∙ sym (ap (manifest_line V10 kind alg) same) ∙ read.1) in
+        subst (StandsOn entries n) pair stands
+
+    to : (e : ManifestEntry) → IsEntry V10 kind alg here e → StandsOn entries e.line (e.digest, e.path)
+    to e (line, is, read, first) = same_entry e.line line e.digest e.path is read
+
+    from : (e : ManifestEntry) → StandsOn entries e.line (e.digest, e.path) → IsEntry V10 kind alg here e
+    from e stands =
+        let x : NewEntry = (e.digest, e.path) in
+        (entry_line x, item_on_line entry_line entries e.line x stands, reads_at e.line x stands, first_named e.line x stands)
+
+    abbrev bytes : List ℕ
+    bytes = manifest_text entries
+
+    lines_are : lines_of_file bytes ≡ here
+    lines_are = file_lines entry_line entries (written_each entries all)
+
+    no_fault : (code : Code) (f : LineFault) → ManifestFault code V10 kind alg bytes f → ⊥
+    no_fault NotUtf8 f w = let clash : true ≡ false = sym (is_text entry_line entries (written_each entries all)) ∙ w.2 in cc
+    no_fault NamedAgain f (line, digest, is, read, again) =
+        let stands = same_entry f.line line digest f.detail (subst (λ ls. IsLine ls f.line line) lines_are is) read in
+        first_named f.line (digest, f.detail) stands (subst (λ ls. Contains (named_before V10 kind alg ls f.line) f.detail) lines_are again)
+    no_fault code f w =
+        let (x, stands, same) = line_of_item entry_line entries f.line w.0 (subst (λ ls. IsLine ls f.line w.0) lines_are w.1) in
+        no_reason x (code, f.detail) (sym (reads_at f.line x stands).1 ∙ sym (ap (manifest_line V10 kind alg) same) ∙ w.2.1)
+
+pub manifest_again : ManifestIsReadAgain
+manifest_again kind alg entries texts can =
+    let all = good_each kind alg entries (recursion_from_All _ entries texts) can.0 in
+    let same = lines_are kind alg entries all can.1 in (
+      λ e. (λ is. to kind alg entries all can.1 e (subst (λ ls. IsEntry V10 kind alg ls e) same is), λ stands. subst (λ ls. IsEntry V10 kind alg ls e) (sym same) (from kind alg entries all can.1 e stands)),
+      λ f w. no_fault kind alg entries all can.1 f.code f w,
+    )

@@ -1,0 +1,93 @@
+-- Lines that are written, each with an LF behind it, are the lines that are read.
+use Rattle.std.proofs.Common.{◌≡◌, ℕ, zero, suc, ◌-◌, inl, Bool, true, false, cond, List, [], ◌∷◌, ◌++◌, drop, map, flat_map, append_assoc, refl, ap, sym, ◌∙◌, subst, Option, Some, None, arith, option_map}
+use Rattle.std.specs.Char.{encode_utf8}
+use Rattle.std.specs.List.{AllByRecursion, list_any, slice_get}
+use Rattle.std.specs.Str.{IsUtf8, is_utf8, chars}
+use Rattle.std.proofs.lemmas.Bool.Decides.{nat_tests}
+use Rattle.std.proofs.lemmas.List.Elements.{All-from_recursion}
+use Rattle.std.proofs.lemmas.Option.{slice_get-map}
+use Rattle.std.proofs.lemmas.Str.{IsUtf8-append, IsUtf8-nil, IsUtf8-from_is_utf8, is_utf8-from_IsUtf8}
+use Rattle.bag_text.specs.LineEnd.{is_line_end}
+use Rattle.bag_text.specs.Lines.{line_feed, lines, lines_of_text, lines_of_file, HasNoEnd, IsLine}
+use Rattle.bag_text.specs.Text.{IsText, has_mark}
+use Rattle.bag_text.proofs.FirstLine.{lines_split}
+use Rattle.bag_text.proofs.LineLaws.{IsPlain}
+use Rattle.bag_read.proofs.LineParts.{or_false}
+use Rattle.bag_tags.specs.ReadAgain.{StandsOn}
+
+plain_one : (c : ℕ) → is_line_end c ≡ false → IsPlain c
+plain_one c e = ((λ feed. grind (arith, nat_tests)), (λ back. grind (arith, nat_tests)))
+
+plain_each : (t : List ℕ) → list_any is_line_end t ≡ false → AllByRecursion IsPlain t
+plain_each [] e = tt
+plain_each (c ∷ t) e = let two = or_false (is_line_end c) (list_any is_line_end t) e in (plain_one c two.0, plain_each t two.1)
+
+-- a text without a line end is one line
+pub no_end : (t : List ℕ) → list_any is_line_end t ≡ false → HasNoEnd t
+no_end t e = All-from_recursion IsPlain t (plain_each t e)
+
+feed_utf8 : IsUtf8 (line_feed ∷ [])
+unfolding is_utf8 chars encode_utf8
+feed_utf8 = IsUtf8-from_is_utf8 (line_feed ∷ []) refl
+
+file_by : (t : List ℕ) (u m : Bool) → u ≡ true → m ≡ false → lines_of_text (cond u (Some (cond m (drop 3 t) t)) None) ≡ lines t
+file_by t true false e f = refl
+file_by t true true e f = cc
+file_by t false m e f = cc
+
+-- what is known of each element of a list is known of those behind
+pub behind : {A : Type 0} (P : A → Type 0) (k : ℕ) (xs : List A) → AllByRecursion P xs → AllByRecursion P (drop k xs)
+behind P zero xs all = all
+behind P (suc k) [] all = tt
+behind P (suc k) (x ∷ xs) all = behind P k xs all.1
+
+pub at_place : {A : Type 0} (P : A → Type 0) (xs : List A) (k : ℕ) (x : A) → AllByRecursion P xs → slice_get xs k ≡ Some x → P x
+at_place P [] k x all e = cc
+at_place P (y ∷ ys) zero x all e = let same : y ≡ x = cc in subst P same all.0
+at_place P (y ∷ ys) (suc k) x all e = at_place P ys k x all.1 e
+
+-- two texts
+abbrev Pair : Type 0
+Pair = List ℕ × List ℕ
+
+module _ (line : Pair → List ℕ) where
+  -- a line that is written
+  abbrev pub IsWritten : Pair → Type 0
+  IsWritten x = IsUtf8 (line x) × (list_any is_line_end (line x) ≡ false) × ((rest : List ℕ) → has_mark (line x ++ rest) ≡ false)
+
+  abbrev pub text : List Pair → List ℕ
+  text items = flat_map (λ x. line x ++ line_feed ∷ []) items
+
+  text_utf8 : (items : List Pair) → AllByRecursion IsWritten items → IsUtf8 (text items)
+  text_utf8 [] all = IsUtf8-nil
+  text_utf8 (x ∷ xs) all = IsUtf8-append (line x ++ line_feed ∷ []) (text xs) (IsUtf8-append (line x) (line_feed ∷ []) all.0.0 feed_utf8) (text_utf8 xs all.1)
+
+  pub is_text : (items : List Pair) → AllByRecursion IsWritten items → IsText (text items)
+  is_text items all = is_utf8-from_IsUtf8 (text items) (text_utf8 items all)
+
+  no_mark : (items : List Pair) → AllByRecursion IsWritten items → has_mark (text items) ≡ false
+  no_mark [] all = refl
+  no_mark (x ∷ xs) all = ap has_mark (append_assoc (line x) (line_feed ∷ []) (text xs)) ∙ all.0.2 (line_feed ∷ [] ++ text xs)
+
+  lines_again : (items : List Pair) → AllByRecursion IsWritten items → lines (text items) ≡ map line items
+  lines_again [] all = refl
+  lines_again (x ∷ xs) all =
+      lines_split (line x) (line_feed ∷ []) (text xs) (no_end (line x) all.0.1) (inl refl) ∙ ap (λ more. line x ∷ more) (lines_again xs all.1)
+
+  pub file_lines : (items : List Pair) → AllByRecursion IsWritten items → lines_of_file (text items) ≡ map line items
+  file_lines items all = file_by (text items) _ _ (is_text items all) (no_mark items all) ∙ lines_again items all
+
+  found : (items : List Pair) (k : ℕ) (l : List ℕ) (o : Option Pair) → slice_get items k ≡ o → option_map line o ≡ Some l → (x : Pair) × (slice_get items k ≡ Some x) × (l ≡ line x)
+  found items k l None e h = cc
+  found items k l (Some x) e h = (x, e, let same : line x ≡ l = cc in sym same)
+
+  -- a line that is read is that of an item, on its place
+  pub line_of_item : (items : List Pair) (n : ℕ) (l : List ℕ) → IsLine (map line items) n l → (x : Pair) × StandsOn items n x × (l ≡ line x)
+  line_of_item items n l (some, e) =
+      let (x, here, is) = found items (n - 1) l _ refl (sym (slice_get-map line items (n - 1)) ∙ e) in
+      (x, (n - 1, omega arith, here), is)
+
+  pub item_on_line : (items : List Pair) (n : ℕ) (x : Pair) → StandsOn items n x → IsLine (map line items) n (line x)
+  item_on_line items n x (k, at, here) =
+      let before : n - 1 ≡ k = omega arith in
+      (omega arith, ap (slice_get (map line items)) before ∙ slice_get-map line items k ∙ ap (option_map line) here)

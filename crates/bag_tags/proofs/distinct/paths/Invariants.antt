@@ -1,0 +1,7 @@
+use Rattle.std.proofs.Common.{◌≡◌, take}
+use Rattle.bag_tags.specs.Distinct.{texts_of}
+use Rattle.bag_tags.specs.Entry as spec
+use Rattle.bag_tags.proofs.distinct.paths.Given as goal
+
+abbrev pub invariant-loop-entry : goal.invariant-loop-entry
+invariant-loop-entry l = texts_of l.paths.items ≡ spec.paths (take l.entry-index l.entries)

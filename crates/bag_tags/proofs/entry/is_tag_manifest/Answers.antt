@@ -1,0 +1,7 @@
+use Rattle.std.proofs.Common.{◌∙◌}
+use Rattle.bag_read.specs.declared.kind.Kind.TheVariants.{Tag}
+use Rattle.bag_read.proofs.ManifestName.{has_alg}
+use Rattle.bag_tags.proofs.entry.is_tag_manifest.Goals as goal
+
+pub returns : goal.returns
+returns c = c.is_some.ensures ∙ has_alg Tag c.args.path.now c.manifest_alg.result c.manifest_alg.ensures.alg

@@ -1,5 +1,0 @@
-use Rattle.bag_tags.proofs.ManifestLineParts.{lines_read}
-use Rattle.bag_tags.proofs.laws.lines_read_as_their_parts.Goals as goal
-
-pub returns : goal.returns
-returns c = lines_read

@@ -1,5 +1,0 @@
-use Rattle.bag_tags.proofs.ManifestLineParts.{read_or_reason}
-use Rattle.bag_tags.proofs.laws.lines_read_or_have_one_reason.Goals as goal
-
-pub returns : goal.returns
-returns c = read_or_reason

@@ -1,5 +1,0 @@
-use Rattle.bag_tags.proofs.TagPaths.{in_base}
-use Rattle.bag_tags.proofs.laws.tag_files_stand_in_the_base.Goals as goal
-
-pub returns : goal.returns
-returns c = in_base

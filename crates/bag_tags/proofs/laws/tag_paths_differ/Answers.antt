@@ -1,5 +1,0 @@
-use Rattle.bag_tags.proofs.TagPaths.{paths_differ}
-use Rattle.bag_tags.proofs.laws.tag_paths_differ.Goals as goal
-
-pub returns : goal.returns
-returns c = paths_differ

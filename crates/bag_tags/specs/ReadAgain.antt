@@ -1,0 +1,44 @@
+-- The laws of what is written: by the rules of 1.0, which the declaration that is written declares, it is read again as the same,
+-- and nothing else, with no fault.
+use Rattle.std.specs.Prelude.{ℕ, ◌≡◌, ◌+◌, ◌↔◌, false, List, Some, codes, slice_get, All}
+use Rattle.std.specs.List.{list_any}
+use Rattle.bag_text.specs.Lines.{lines_of_file}
+use Rattle.bag_text.specs.Text.{IsText}
+use Rattle.bag_text.specs.declared.rules.Rules.TheVariants.{V10}
+use Rattle.bag_text.specs.declared.alg.Alg.{Alg}
+use Rattle.bag_read.specs.Info.{IsElement, IsInfoFault}
+use Rattle.bag_read.specs.declared.line_fault.LineFault.{LineFault}
+use Rattle.bag_read.specs.declared.info.Element.{Element}
+use Rattle.bag_read.specs.Declaration.{declared_version, declared_encoding, IsDeclarationFault}
+use Rattle.bag_read.specs.Manifest.{IsEntry, IsManifestFault}
+use Rattle.bag_read.specs.declared.kind.Kind.{Kind}
+use Rattle.bag_read.specs.declared.manifest.ManifestEntry.{ManifestEntry}
+use Rattle.bag_tags.specs.Declaration.{declaration_text}
+use Rattle.bag_tags.specs.Element.{NewElement, info_text, is_bad_element}
+use Rattle.bag_tags.specs.Entry.{NewEntry, manifest_text, CanWrite}
+
+-- the declaration is read as version 1.0 and UTF-8, with no fault
+abbrev pub DeclarationIsReadAgain : Type 0
+DeclarationIsReadAgain =
+    (declared_version declaration_text ≡ Some (codes "1.0"))
+    × (declared_encoding declaration_text ≡ Some (codes "UTF-8"))
+    × ((f : LineFault) → ¬ (IsDeclarationFault declaration_text f))
+
+-- what stands on this line: the first on line 1, and each on a line of its own
+abbrev pub StandsOn : List (List ℕ × List ℕ) → ℕ → List ℕ × List ℕ → Type 0
+StandsOn items line item = (k : ℕ) × (line ≡ k + 1) × (slice_get items k ≡ Some item)
+
+-- the metadata is read as these elements
+abbrev pub InfoIsReadAgain : Type 0
+InfoIsReadAgain =
+    (elements : List NewElement) → All (λ element. IsText element.0 × IsText element.1) elements
+    → list_any is_bad_element elements ≡ false
+    → ((e : Element) → IsElement V10 (lines_of_file (info_text elements)) e ↔ StandsOn elements e.line (e.label, e.value))
+    × ((f : LineFault) → ¬ (IsInfoFault V10 (info_text elements) f))
+
+-- a manifest is read as these entries
+abbrev pub ManifestIsReadAgain : Type 0
+ManifestIsReadAgain =
+    (kind : Kind) (alg : Alg) (entries : List NewEntry) → All (λ entry. IsText entry.1) entries → CanWrite kind alg entries
+    → ((e : ManifestEntry) → IsEntry V10 kind alg (lines_of_file (manifest_text entries)) e ↔ StandsOn entries e.line (e.digest, e.path))
+    × ((f : LineFault) → ¬ (IsManifestFault V10 kind alg (manifest_text entries) f))

@@ -1,0 +1,63 @@
+//! Entries that can't be written to a manifest (RFC 8493, 2.1.3 and 2.2.1).
+ghost use Rattle.std.specs.Prelude.{◌≡◌};
+ghost use Rattle.std.specs.List.{list_all};
+ghost use Rattle.bag_tags.specs.Entry as spec;
+
+use bag_read::{Kind, manifest_alg};
+use bag_text::{Alg, Text, check_path, is_blank, is_payload};
+
+/// What may stand before a path in a manifest, as `md5sum -b` has it.
+const STAR: u8 = b'*';
+
+/// Whether a digest and its path would not be read again as they are.
+pub(crate) fn is_bad_entry(kind: Kind, alg: Alg, entry: &(Text, Text)) -> bool
+    ensures { result ≡ spec.is_bad_entry kind alg entry.now }
+{
+    is_bad_digest(alg, entry.0.as_str()) || is_bad_path(kind, entry.1.as_str())
+}
+
+/// A text that isn't lower-case hex of the algorithm's length.
+fn is_bad_digest(alg: Alg, digest: &str) -> bool
+    ensures { result ≡ spec.is_bad_digest alg digest.now }
+{
+    digest.len() != alg.hex_len() || !is_lower_hex(digest)
+}
+
+fn is_lower_hex(text: &str) -> bool
+    ensures { result ≡ list_all spec.is_lower_hex_digit text.now }
+{
+    text.as_bytes().iter().all(|byte| byte.is_ascii_hexdigit() && !byte.is_ascii_uppercase())
+}
+
+/// A text that a manifest of this kind may not name, or that begins with a blank or a `*`.
+fn is_bad_path(kind: Kind, path: &str) -> bool
+    ensures { result ≡ spec.is_bad_path kind path.now }
+{
+    !may_name(kind, path) || begins_with_mark(path)
+}
+
+/// Whether a manifest of this kind may name a path.
+fn may_name(kind: Kind, path: &str) -> bool
+    ensures { result ≡ spec.may_name kind path.now }
+{
+    match kind {
+        Kind::Payload => is_payload(path),
+        Kind::Tag => check_path(path).is_ok() && !is_payload(path) && !is_tag_manifest(path),
+    }
+}
+
+fn is_tag_manifest(path: &str) -> bool
+    ensures { result ≡ spec.is_tag_manifest path.now }
+{
+    manifest_alg(Kind::Tag, path).is_some()
+}
+
+/// Whether a text begins with what a reader drops before a path.
+fn begins_with_mark(text: &str) -> bool
+    ensures { result ≡ spec.begins_with_mark text.now }
+{
+    match text.as_bytes().first() {
+        Some(byte) => is_blank(*byte) || *byte == STAR,
+        None => false,
+    }
+}

@@ -1,0 +1,25 @@
+//! Why a tag file isn't written.
+use std::alloc::AllocError;
+use thiserror::Error;
+
+/// Why a tag file isn't written.
+#[derive(Clone, Copy, Debug, PartialEq, Eq, Error)]
+pub enum WriteFault {
+    /// Memory ran out.
+    #[error("out of memory")]
+    Memory,
+    /// A value that would not be read again as it is given.
+    #[error("a value that can't be written")]
+    BadValue,
+}
+
+impl From<AllocError> for WriteFault {
+    ghost use Rattle.std.specs.Prelude.{◌≡◌};
+    ghost use Rattle.bag_tags.specs.declared.fault.WriteFault.TheVariants.{Memory};
+
+    ghost from_gives = { λ _ fault. fault ≡ Memory };
+
+    fn from(_error: AllocError) -> WriteFault {
+        WriteFault::Memory
+    }
+}

@@ -1,5 +1,0 @@
-use Rattle.bag_test_trees.proofs.Counting.{one_call_is_refused}
-use Rattle.bag_test_trees.proofs.laws.one_call_is_refused.Goals as goal
-
-pub returns : goal.returns
-returns c = one_call_is_refused

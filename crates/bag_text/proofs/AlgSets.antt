@@ -1,0 +1,139 @@
+-- Sets of algorithms.
+use Rattle.std.proofs.Common.{◌≡◌, ◌≢◌, ◌↔◌, ◌⊎◌, inl, inr, ℕ, zero, suc, ◌-◌, ◌<◌, Bool, true, false, not, ◌||◌, List, [], ◌∷◌, filter, map, Contains, IsTrue, refl, sym, ap, subst, ◌∙◌, length, arith, get_or, set, rules, ◌+◌, ◌++◌, take, cond, append-nil}
+use Rattle.std.specs.Bool.{beq}
+use Rattle.std.specs.List.{list_any}
+use Rattle.std.specs.List.Sorted.{IsStrictlySortedBy}
+use Rattle.std.proofs.lemmas.Bool.Decides.{nat_tests}
+use Rattle.std.proofs.lemmas.Grind.{get_or-set_at}
+use Rattle.std.proofs.lemmas.List.{get_or-set_other, take_more}
+use Rattle.std.proofs.lemmas.List.Elements.{filter-append}
+use Rattle.std.proofs.lemmas.Map.Views.{Contains-from_any}
+use Rattle.bag_text.specs.declared.alg.Alg.{Alg}
+use Rattle.bag_text.specs.declared.alg.Alg.TheVariants.{Md5}
+use Rattle.bag_text.specs.declared.alg_set.AlgSet.TheInside.{Inside}
+use Rattle.bag_text.specs.Alg.{algs, rank, EachIsListed, ListAscends, NameIsReadAgain, NamesTellApart}
+use Rattle.bag_text.specs.AlgList.{same_alg, has_member, with_member}
+use Rattle.bag_text.specs.AlgSet.{IsTable, flag, members}
+use Rattle.bag_text.specs.AlgTable.{same_alg_same, has_each, has_member-filter, flags_are}
+
+pub same_alg_self : (a : Alg) → same_alg a a ≡ true
+same_alg_self a = grind (arith, nat_tests)
+
+-- the test of a list finds its members alone
+pub Contains-from_has_member : (set : List Alg) (alg : Alg) → has_member set alg ≡ true → Contains set alg
+Contains-from_has_member set alg e = Contains-from_any {eq = same_alg} same_alg_same alg set e
+
+or_right : (b c : Bool) → c ≡ true → (b || c) ≡ true
+or_right true c e = refl
+or_right false c e = e
+
+has_member_at : (set : List Alg) (alg : Alg) (k : ℕ) → k < length set → get_or set k alg ≡ alg → has_member set alg ≡ true
+has_member_at [] alg k l e = absurd (omega arith)
+has_member_at (x ∷ set) alg zero l e = ap (λ b. b || has_member set alg) (ap (same_alg alg) e ∙ same_alg_self alg)
+has_member_at (x ∷ set) alg (suc k) l e = or_right (same_alg alg x) _ (has_member_at set alg k (omega arith) e)
+
+pub has_member-from_Contains : (set : List Alg) (alg : Alg) → Contains set alg → has_member set alg ≡ true
+has_member-from_Contains set alg (k, l, e) = has_member_at set alg k l e
+
+-- a set that a test makes
+pub Contains-filter : (p : Alg → Bool) (alg : Alg) → Contains (filter p algs) alg ↔ IsTrue (p alg)
+Contains-filter p alg = (
+  (λ h. sym (has_member-filter p alg) ∙ has_member-from_Contains (filter p algs) alg h),
+  (λ h. Contains-from_has_member (filter p algs) alg (has_member-filter p alg ∙ h)),
+)
+
+-- one more member of a set that a test makes
+pub with_member-filter : (p : Alg → Bool) (alg : Alg) → with_member (filter p algs) alg ≡ filter (λ a. same_alg a alg || p a) algs
+with_member-filter p alg = λ i. filter (λ a. same_alg a alg || has_member-filter p a i) algs
+
+pub rank_within : (alg : Alg) → rank alg - 1 < length algs
+rank_within Md5 = omega arith
+rank_within _ = omega arith
+
+rank_positive : (alg : Alg) → 0 < rank alg
+rank_positive Md5 = omega arith
+rank_positive _ = omega arith
+
+more_at : (flags : List Bool) (alg a : Alg) (same : Bool) → length flags ≡ length algs → same_alg a alg ≡ same
+    → get_or (set flags (rank alg - 1) true) (rank a - 1) false ≡ (same || get_or flags (rank a - 1) false)
+more_at flags alg a true long s =
+    let at : rank a ≡ rank alg = grind (arith, nat_tests) in
+    get_or-set_at flags (rank alg - 1) (rank a - 1) true false (ap (λ n. n - 1) at) (omega (arith, rank_within alg))
+more_at flags alg a false long s =
+    let other : rank a ≢ rank alg = grind (arith, nat_tests) in
+    get_or-set_other flags (rank alg - 1) (rank a - 1) true false (λ e. other (omega (arith, rank_positive a, rank_positive alg)))
+
+-- one more flag
+flag_more : (s : Inside) (alg a : Alg) → IsTable s → flag (record { flags = set s.flags (rank alg - 1) true }) a ≡ (same_alg a alg || flag s a)
+flag_more s alg a long = more_at s.flags alg a _ long refl
+
+-- one more flag is one more member
+pub members_more : (s : Inside) (alg : Alg) → IsTable s → members (record { flags = set s.flags (rank alg - 1) true }) ≡ with_member (members s) alg
+members_more s alg long = (λ i. filter (λ a. flag_more s alg a long i) algs) ∙ sym (with_member-filter (flag s) alg)
+
+either : (b c : Bool) → (b || c) ≡ true → (b ≡ true) ⊎ (c ≡ true)
+either true c e = inl refl
+either false c e = inr e
+
+-- the members of a set with one more
+pub Contains-with_member : (p : Alg → Bool) (alg a : Alg) → Contains (with_member (filter p algs) alg) a ↔ (Contains (filter p algs) a ⊎ (a ≡ alg))
+Contains-with_member p alg a =
+    let there = Contains-filter p a in
+    let here = Contains-filter (λ x. same_alg x alg || has_member (filter p algs) x) a in (
+      (λ h. elim (either (same_alg a alg) (has_member (filter p algs) a) (here.0 h)) [ inl same ↦ inr (same_alg_same a alg same) | inr old ↦ inl (Contains-from_has_member _ a old) ]),
+      (λ h. here.1 (elim h [ inl old ↦ or_right (same_alg a alg) _ (has_member-from_Contains _ a old) | inr same ↦ ap (λ b. b || has_member (filter p algs) a) (ap (λ x. same_alg x alg) same ∙ same_alg_self alg) ])),
+    )
+
+set_flag : (b c : Bool) → (beq b true || c) ≡ (b || c)
+set_flag true c = refl
+set_flag false c = refl
+
+any_map : (p : Alg → Bool) (xs : List Alg) → list_any (λ b. beq b true) (map p xs) ≡ list_any p xs
+any_map p [] = refl
+any_map p (x ∷ xs) = set_flag (p x) _ ∙ ap (λ b. p x || b) (any_map p xs)
+
+no_member_at : (p : Alg → Bool) (x : Alg) (xs : List Alg) (here : Bool) → p x ≡ here → IsTrue (not (list_any p xs)) ↔ (filter p xs ≡ [])
+    → IsTrue (not (list_any p (x ∷ xs))) ↔ (filter p (x ∷ xs) ≡ [])
+no_member_at p x xs true h more = rw h ((λ e. cc), (λ e. cc))
+no_member_at p x xs false h more = rw h more
+
+no_member : (p : Alg → Bool) (xs : List Alg) → IsTrue (not (list_any p xs)) ↔ (filter p xs ≡ [])
+no_member p [] = (λ _. refl, λ _. refl)
+no_member p (x ∷ xs) = no_member_at p x xs (p x) refl (no_member p xs)
+
+-- no flag is set where there is no member
+pub no_flag : (s : Inside) → IsTable s → IsTrue (not (list_any (λ b. beq b true) s.flags)) ↔ (members s ≡ [])
+no_flag s long = subst (λ b. IsTrue (not b) ↔ (members s ≡ [])) (sym (any_map (flag s) algs) ∙ ap (list_any (λ b. beq b true)) (flags_are s long)) (no_member (flag s) algs)
+
+-- each algorithm is listed
+pub each_is_listed : EachIsListed
+each_is_listed alg = Contains-from_has_member algs alg (has_each alg)
+
+pub list_ascends : ListAscends
+unfolding IsStrictlySortedBy
+list_ascends = search rules
+
+pub name_is_read_again : NameIsReadAgain
+name_is_read_again Md5 = refl
+name_is_read_again _ = refl
+
+pub names_tell_apart : NamesTellApart
+names_tell_apart a b e = cc (name_is_read_again a, name_is_read_again b)
+
+-- the members among the first algorithms, and among one more
+module _ (set : List Alg) (p : Alg → Bool) (i : ℕ) (some : List Alg) (is : filter p algs ≡ set) (lt : i < length algs) (so_far : some ≡ filter (has_member set) (take i algs)) where
+  test : has_member set (get_or algs i Md5) ≡ p (get_or algs i Md5)
+  test = ap (λ s. has_member s (get_or algs i Md5)) (sym is) ∙ has_member-filter p (get_or algs i Md5)
+
+  kept : (b : Bool) → p (get_or algs i Md5) ≡ b → filter (has_member set) (take (i + 1) algs) ≡ some ++ cond b (get_or algs i Md5 ∷ []) []
+  kept b e =
+      ap (filter (has_member set)) (take_more algs i Md5 lt)
+      ∙ filter-append (has_member set) (take i algs) (get_or algs i Md5 ∷ [])
+      ∙ ap (λ b. filter (has_member set) (take i algs) ++ cond b (get_or algs i Md5 ∷ []) []) (test ∙ e)
+      ∙ ap (λ xs. xs ++ cond b (get_or algs i Md5 ∷ []) []) (sym so_far)
+
+  pub member_more : p (get_or algs i Md5) ≡ true → some ++ get_or algs i Md5 ∷ [] ≡ filter (has_member set) (take (i + 1) algs)
+  member_more e = sym (kept true e)
+
+  pub no_member_more : p (get_or algs i Md5) ≡ false → some ≡ filter (has_member set) (take (i + 1) algs)
+  no_member_more e = sym (kept false e ∙ append-nil some)

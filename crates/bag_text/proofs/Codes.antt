@@ -1,0 +1,98 @@
+-- Codes in the table of codes are found by their numbers.
+use Rattle.std.proofs.Common.{◌≡◌, List, [], ◌∷◌, ℕ, Bool, true, false, cond, Option, None, Some, unwrap_or, find, map, ◌==◌, refl, sym, ap, ◌∙◌, Bor}
+use Rattle.std.specs.Option.{option_map}
+use Rattle.bag_text.specs.Code.{number, word, all_codes, words}
+use Rattle.bag_text.specs.declared.code.Code.{Code}
+use Rattle.bag_text.specs.declared.code.Code.TheVariants.{NoDeclaration, DeclarationNotUtf8, DeclarationLineCount, DeclarationLine, VersionUnsupported, EncodingUnsupported, NoPayloadFolder, NoPayloadManifest, AlgorithmUnsupported, NotUtf8, InfoLine, OxumMalformed, OxumAgain, OxumDiffers, NoOxum, FetchLine, FetchEscape, FetchUnsafePath, FetchOutsidePayload, FetchNotInManifest, ManifestLine, DigestLength, ManifestEscape, ManifestUnsafePath, ManifestOutsidePayload, TagmanifestNamesPayload, TagmanifestNamesTagmanifest, NamedAgain, PayloadManifestNotListed, PayloadFileMissing, TagFileMissing, PayloadFileNotListed, NameClash, PayloadSumDiffers, TagSumDiffers, ProfileIdentifier, LabelRequired, LabelRepeated, ValueNotAllowed, ManifestRequired, ManifestNotAllowed, TagmanifestRequired, TagmanifestNotAllowed, TagFileRequired, TagFileNotAllowed, FetchNotAllowed, VersionNotAccepted, SerializationRequired}
+
+-- the code of this number
+abbrev pub code_numbered : ℕ → Option Code
+code_numbered n = find (λ code. number code == n) all_codes
+
+pub numbered_code : (c : Code) → code_numbered (number c) ≡ Some c
+numbered_code NoDeclaration = refl
+numbered_code DeclarationNotUtf8 = refl
+numbered_code DeclarationLineCount = refl
+numbered_code DeclarationLine = refl
+numbered_code VersionUnsupported = refl
+numbered_code EncodingUnsupported = refl
+numbered_code NoPayloadFolder = refl
+numbered_code NoPayloadManifest = refl
+numbered_code AlgorithmUnsupported = refl
+numbered_code NotUtf8 = refl
+numbered_code InfoLine = refl
+numbered_code OxumMalformed = refl
+numbered_code OxumAgain = refl
+numbered_code OxumDiffers = refl
+numbered_code NoOxum = refl
+numbered_code FetchLine = refl
+numbered_code FetchEscape = refl
+numbered_code FetchUnsafePath = refl
+numbered_code FetchOutsidePayload = refl
+numbered_code FetchNotInManifest = refl
+numbered_code ManifestLine = refl
+numbered_code DigestLength = refl
+numbered_code ManifestEscape = refl
+numbered_code ManifestUnsafePath = refl
+numbered_code ManifestOutsidePayload = refl
+numbered_code TagmanifestNamesPayload = refl
+numbered_code TagmanifestNamesTagmanifest = refl
+numbered_code NamedAgain = refl
+numbered_code PayloadManifestNotListed = refl
+numbered_code PayloadFileMissing = refl
+numbered_code TagFileMissing = refl
+numbered_code PayloadFileNotListed = refl
+numbered_code NameClash = refl
+numbered_code PayloadSumDiffers = refl
+numbered_code TagSumDiffers = refl
+numbered_code ProfileIdentifier = refl
+numbered_code LabelRequired = refl
+numbered_code LabelRepeated = refl
+numbered_code ValueNotAllowed = refl
+numbered_code ManifestRequired = refl
+numbered_code ManifestNotAllowed = refl
+numbered_code TagmanifestRequired = refl
+numbered_code TagmanifestNotAllowed = refl
+numbered_code TagFileRequired = refl
+numbered_code TagFileNotAllowed = refl
+numbered_code FetchNotAllowed = refl
+numbered_code VersionNotAccepted = refl
+numbered_code SerializationRequired = refl
+
+found_cond : {A B : Type 0} (f : A → B) (b : Bool) (x : A) (later : Option A) (read : Option B)
+    → option_map f later ≡ read → option_map f (cond b (Some x) later) ≡ cond b (Some (f x)) read
+found_cond f true x later read e = refl
+found_cond f false x later read e = e
+
+-- what is found in a mapped list is mapped
+found_mapped : {A B : Type 0} (f : A → B) (test : B → Bool) (xs : List A) → option_map f (find (λ x. test (f x)) xs) ≡ find test (map f xs)
+found_mapped f test [] = refl
+found_mapped f test (x ∷ xs) = found_cond f (test (f x)) x (find (λ y. test (f y)) xs) (find test (map f xs)) (found_mapped f test xs)
+
+-- a code beside its word
+abbrev worded : Code → Code × List ℕ
+worded c = (c, word c)
+
+abbrev row_numbered : {W : Type 0} → ℕ → List (Code × W) → Option (Code × W)
+row_numbered n rows = find (λ row. number row.0 == n) rows
+
+word_numbered : (c : Code) → row_numbered (number c) words ≡ Some (worded c)
+word_numbered c = sym (found_mapped worded (λ row. number row.0 == number c) all_codes) ∙ ap (option_map worded) (numbered_code c)
+
+-- a row as a code and a word
+abbrev pub seen : Code × Bor (List ℕ) → Code × List ℕ
+seen row = (row.0, row.1.now)
+
+-- what is read at a code's number is its row
+pub row_read : (rows : List (Code × Bor (List ℕ))) (c : Code) (n : ℕ) (read : Option (Code × Bor (List ℕ))) → map seen rows ≡ words → n ≡ number c → read ≡ row_numbered n rows
+    → option_map seen read ≡ Some (worded c)
+row_read rows c n read same at found =
+    ap (option_map seen) (found ∙ ap (λ k. row_numbered k rows) at) ∙ found_mapped seen (λ row. number row.0 == number c) rows ∙ ap (row_numbered (number c)) same ∙ word_numbered c
+
+-- it is there
+pub row_there : (c : Code) (read : Option (Code × Bor (List ℕ))) → option_map seen read ≡ Some (c, word c) → read ≡ None → ⊥
+row_there c read row none = cc
+
+-- and has the code's word
+pub row_word : (c : Code) (read : Option (Code × Bor (List ℕ))) (k : Code) (w : Bor (List ℕ)) → option_map seen read ≡ Some (c, word c) → read ≡ Some (k, w) → w.now ≡ word c
+row_word c read k w row found = ap (λ (o : Option (Code × List ℕ)). (unwrap_or o (c, [])).1) (sym (ap (option_map seen) found) ∙ row)

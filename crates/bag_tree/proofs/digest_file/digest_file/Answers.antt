@@ -1,0 +1,81 @@
+use Rattle.std.proofs.Common.{rules, inl, inr, ◌∙◌, ◌++◌, take, refl, sym, subst, arith, IsTrue}
+use Rattle.std.proofs.lemmas.Grind.{common_steps}
+use Rattle.bag_tree.proofs.Reading.{read_all, read_more, given_some, longer_than, ended_after}
+use Rattle.bag_tree.proofs.digest_file.digest_file.Goals as goal
+
+pub loop-count-preserved : goal.loop-count-preserved
+loop-count-preserved g c =
+    let before = c.loop-count.invariant in
+    record {
+      keeps = search rules;
+      calm = c.in_ok-count.ensures.calm ∙ before.calm;
+      opened = c.read.ensures.openings ∙ before.opened;
+      file_open = c.in_ok-count.ensures.file_open.1;
+      given = omega (arith, c.in_ok-count.ensures.given, before.given, c.if-left-count.false);
+      taken = record {
+        front = before.taken.front ++ take c.in_ok-count.count c.read.new.buffer;
+        size = grind (arith, common_steps);
+        taken = c.update.ensures _ before.taken.front before.taken.taken;
+        honest = λ h.
+            let still : IsTrue (g.T.Tree.state c.loop-count.tree).honest = subst IsTrue (sym before.keeps.honest) h in
+            read_more _ _ _ _ _ _ (before.taken.honest h) (c.in_ok-count.ensures.honest still);
+      };
+    }
+
+pub returns-then-left-eq0-clause-sums : goal.returns-then-left-eq0-clause-sums
+returns-then-left-eq0-clause-sums g c =
+    let before = c.loop-count.invariant in
+    record {
+      content = before.taken.front;
+      bytes = before.taken.taken.bytes;
+      size = omega (arith, before.taken.size, c.if-left-eq0.true);
+      sums_of = c.finish.ensures _ before.taken.front before.taken.taken;
+      honest = λ h.
+          let still : IsTrue (g.T.Tree.state c.loop-count.tree).honest = subst IsTrue (sym before.keeps.honest) h in
+          read_all _ _ _ _ _ (before.taken.honest h) (rw c.if-count-eq0.true at (c.in_ok-count.ensures.honest still));
+    }
+
+pub returns-in_err-count-clause-opens : goal.returns-in_err-count-clause-opens
+returns-in_err-count-clause-opens g c = inr (c.read.ensures.openings ∙ c.loop-count.invariant.opened)
+
+pub returns-then-left-count-clause-opens : goal.returns-then-left-count-clause-opens
+returns-then-left-count-clause-opens g c = inr (c.read.ensures.openings ∙ c.loop-count.invariant.opened)
+
+pub returns-then-left-eq0-clause-opens : goal.returns-then-left-eq0-clause-opens
+returns-then-left-eq0-clause-opens g c = inr (c.read.ensures.openings ∙ c.loop-count.invariant.opened)
+
+pub returns-else-left-eq0-clause-opens : goal.returns-else-left-eq0-clause-opens
+returns-else-left-eq0-clause-opens g c = inr (c.read.ensures.openings ∙ c.loop-count.invariant.opened)
+
+pub returns-then-left-eq0-clause-opened : goal.returns-then-left-eq0-clause-opened
+returns-then-left-eq0-clause-opened g c = c.read.ensures.openings ∙ c.loop-count.invariant.opened
+
+pub returns-then-left-count-clause-refused : goal.returns-then-left-count-clause-refused
+returns-then-left-count-clause-refused g c =
+    let before = c.loop-count.invariant in (
+      inl (
+        c.in_ok-count.ensures.last ∙ given_some _ (omega (arith, c.if-count-eq0.false)),
+        omega (arith, c.in_ok-count.ensures.given, before.given, c.if-left-count.true),
+      ),
+      λ h.
+          let still : IsTrue (g.T.Tree.state c.loop-count.tree).honest = subst IsTrue (sym before.keeps.honest) h in
+          longer_than _ _ _ _ _ _ _ (before.taken.honest h) (c.in_ok-count.ensures.honest still) (omega (arith, before.taken.size, c.if-left-count.true)),
+    )
+
+pub returns-else-left-eq0-clause-refused : goal.returns-else-left-eq0-clause-refused
+returns-else-left-eq0-clause-refused g c =
+    let before = c.loop-count.invariant in (
+      inr (
+        rw c.if-count-eq0.true at c.in_ok-count.ensures.last,
+        omega (arith, c.in_ok-count.ensures.given, c.if-count-eq0.true, before.given, c.if-left-eq0.false),
+      ),
+      λ h.
+          let still : IsTrue (g.T.Tree.state c.loop-count.tree).honest = subst IsTrue (sym before.keeps.honest) h in
+          ended_after _ _ _ _ _ _ (before.taken.honest h) (rw c.if-count-eq0.true at (c.in_ok-count.ensures.honest still)) (omega (arith, before.taken.size, c.if-left-eq0.false)),
+    )
+
+pub returns-then-left-count-clause-answered : goal.returns-then-left-count-clause-answered
+returns-then-left-count-clause-answered g c = λ other. absurd (other refl)
+
+pub returns-else-left-eq0-clause-answered : goal.returns-else-left-eq0-clause-answered
+returns-else-left-eq0-clause-answered g c = λ other. absurd (other refl)

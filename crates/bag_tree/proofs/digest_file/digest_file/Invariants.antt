@@ -1,0 +1,19 @@
+use Rattle.std.proofs.Common.{◌≡◌, ◌+◌, ◌∷◌, ◌++◌, []}
+use Rattle.bag_tree.specs.Tree.{Keeps, HasOpen}
+use Rattle.bag_tree.specs.DigestFile.{HasTakenSome}
+use Rattle.bag_tree.proofs.digest_file.digest_file.Given as goal
+
+abbrev pub invariant-loop-count : goal.invariant-loop-count
+invariant-loop-count g l =
+    let state = g.T.Tree.state in
+    record {
+      keeps : Keeps (state l.fn.tree) (state l.tree);
+      calm : (state l.tree).failures ≡ (state l.fn.tree).failures;
+      opened : (state l.tree).openings ≡ (state l.fn.tree).openings ++ l.entry.path ∷ [];
+      file_open : HasOpen (state l.tree);
+      given : (state l.tree).given + l.left ≡ l.entry.size;
+      taken : HasTakenSome (state l.fn.tree) (state l.tree).rest l.entry l.fn.algs l.digests l.left;
+    }
+
+abbrev pub decreases-loop-count : goal.decreases-loop-count
+decreases-loop-count g l = l.left

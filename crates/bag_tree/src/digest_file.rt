@@ -1,0 +1,50 @@
+//! The digests of a listed file.
+ghost use Rattle.std.specs.Prelude.{◌≡◌, ◌≢◌, ◌<◌, ◌∷◌, ◌++◌, [], length, IfOk, IfErr, OnOk};
+ghost use Rattle.bag_tree.specs.Tree.{Keeps, OpensAtMost};
+ghost use Rattle.bag_tree.specs.Whole.{MayRefuseWhole};
+ghost use Rattle.bag_tree.specs.declared.answer.Answer.TheVariants.{Refused};
+ghost use Rattle.bag_tree.specs.declared.tree_fault.TreeFault.TheVariants.{Changed};
+ghost use Rattle.bag_tree.specs.DigestFile.{AreSumsOfFile};
+
+use crate::{Digests, FileEntry, Sums, Tree, TreeFault};
+use bag_text::AlgSet;
+
+/// The digests of a listed file by all algorithms of a set, in one pass (RFC 8493, 2.4).
+///
+/// The file is opened once at most, and no other; it is read through the buffer. More or fewer bytes than it was listed with
+/// are `Changed`. No memory is taken but by the tree itself.
+pub fn digest_file<T: Tree>(
+    tree: &mut T,
+    entry: &FileEntry,
+    algs: AlgSet,
+    buffer: &mut [u8],
+) -> Result<Sums, TreeFault>
+    requires { 0 < length buffer.old }
+    ensures keeps { Keeps (T.state tree.old) (T.state tree.new) }
+    ensures calm { OnOk result ((T.state tree.new).failures ≡ (T.state tree.old).failures) }
+    ensures opens { OpensAtMost (T.state tree.old) (T.state tree.new) entry.now.path }
+    ensures opened { OnOk result ((T.state tree.new).openings ≡ (T.state tree.old).openings ++ entry.now.path ∷ []) }
+    ensures sums { IfOk result (AreSumsOfFile (T.state tree.old) entry.now algs) }
+    ensures refused { IfErr result (MayRefuseWhole (T.state tree.old) (T.state tree.new) entry.now) }
+    ensures answered { IfErr result (λ fault. fault ≢ Changed → (T.state tree.new).last ≡ Refused fault) }
+{
+    tree.open_file(entry.path.as_str())?;
+    let mut digests = Digests::new(algs);
+    let mut left = entry.size;
+    loop {
+        let count = tree.read(buffer)?;
+        if count == 0 {
+            break;
+        }
+        if left < count as u64 {
+            return Err(TreeFault::Changed);
+        }
+        left -= count as u64;
+        digests.update(&buffer[..count]);
+    }
+    if left == 0 {
+        Ok(digests.finish())
+    } else {
+        Err(TreeFault::Changed)
+    }
+}

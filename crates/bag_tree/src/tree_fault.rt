@@ -1,0 +1,97 @@
+//! Why a tree refused a call.
+ghost use Rattle.std.specs.Prelude.{◌≡◌, []};
+ghost use Rattle.bag_tree.specs.declared.tree_fault.TreeFault.TheVariants.{Memory};
+ghost use Rattle.bag_tree.specs.Cause as spec;
+
+use bag_text::Text;
+use std::alloc::{AllocError, AllocFailed, Global};
+use thiserror::Error;
+
+/// Why a tree refused a call.
+#[derive(Clone, Copy, Debug, PartialEq, Eq, Error)]
+pub enum TreeFault {
+    /// The system refused: a folder, a file or a read.
+    #[error("the device refused")]
+    Device,
+    /// A symbolic link, a socket, a pipe or a device stands in the tree.
+    #[error("a link or a special file stands in the tree")]
+    Special,
+    /// A name isn't UTF-8.
+    #[error("a name isn't UTF-8")]
+    Name,
+    /// There is no such file.
+    #[error("no such file")]
+    NotFound,
+    /// There are more than 16,777,216 files and folders.
+    #[error("too many files and folders")]
+    TooMany,
+    /// A file has more or fewer bytes than were listed.
+    #[error("a file changed")]
+    Changed,
+    /// A read without an open file.
+    #[error("no file is open")]
+    NoneOpen,
+    /// A growth was refused.
+    #[error("out of memory")]
+    Memory,
+    /// What was to be made is there.
+    #[error("it is there already")]
+    Exists,
+}
+
+impl TreeFault {
+    /// The word for this cause in the closing lines: ASCII, in lower case, with hyphens.
+    pub fn word(self) -> &'static str
+        ensures { result.now ≡ spec.word self }
+    {
+        match self {
+            TreeFault::Device => "device",
+            TreeFault::Special => "special",
+            TreeFault::Name => "name",
+            TreeFault::NotFound => "not-found",
+            TreeFault::TooMany => "too-many",
+            TreeFault::Changed => "changed",
+            TreeFault::NoneOpen => "none-open",
+            TreeFault::Memory => "memory",
+            TreeFault::Exists => "exists",
+        }
+    }
+}
+
+impl From<AllocError> for TreeFault {
+    ghost from_gives = { λ _ e. e ≡ Memory };
+
+    fn from(_: AllocError) -> Self {
+        TreeFault::Memory
+    }
+}
+
+impl<T: Drop> From<AllocFailed<T>> for TreeFault {
+    ghost from_gives = { λ _ e. e ≡ Memory };
+
+    fn from(_: AllocFailed<T>) -> Self {
+        TreeFault::Memory
+    }
+}
+
+/// A refusal, and the file that it is about. The path is empty for a listing and for want of memory.
+#[derive(Debug, Drop, Error)]
+#[error("{cause}: '{path}'")]
+pub struct Stop {
+    pub cause: TreeFault,
+    /// Of the file that was refused; empty where it is none.
+    pub path: Text,
+}
+
+impl Stop {
+    /// A refusal that is about no file.
+    pub fn without_path(alloc: Global, cause: TreeFault) -> Stop
+        ensures cause { result.cause ≡ cause }
+        ensures path { result.path ≡ [] }
+    {
+        Stop {
+            cause,
+            path: Text::empty(alloc),
+        }
+    }
+}

@@ -1,4 +1,0 @@
-pub mod Given
-pub mod SumFaults
-pub mod SummedFiles
-pub mod ValidityStage

@@ -1,0 +1,294 @@
+-- The files whose digests are to be compared, and their faults.
+use Rattle.std.proofs.Common.{◌≡◌, ◌≢◌, ◌<◌, ◌≤◌, ◌+◌, ◌++◌, ◌∷◌, ◌⊎◌, inl, inr, ℕ, Bool, true, false, List, [], length, map, take, get_or, Option, None, Some, Contains, refl, sym, ap, ◌∙◌, subst, is_lt, is_some, nat_lt, ◌==◌, ◌&&◌, ◌||◌}
+use Rattle.std.specs.List.Sorted.{IsStrictlySortedBy}
+use Rattle.std.specs.Ordering.{nat_cmp, ordering_then}
+use Rattle.std.specs.Cmp.{nat_cmp_is}
+use Rattle.std.specs.declared.cmp.Ordering.{Ordering}
+use Rattle.std.specs.declared.cmp.Ordering.TheVariants.{Less, Equal, Greater}
+use Rattle.std.proofs.lemmas.List.{length-map, map-append, take-map, take_all}
+use Rattle.std.proofs.lemmas.Bool.{eqb-true, ltb-true}
+use Rattle.std.proofs.Math.ListN.{get_or-map}
+use Rattle.bag_text.specs.Alg.{rank_or_zero}
+use Rattle.bag_text.specs.Code.{number, stage}
+use Rattle.bag_text.specs.Order.{IsListOf}
+use Rattle.bag_text.specs.Text.{text_cmp}
+use Rattle.bag_text.proofs.ListOf.{contains_back, contains_behind, contains_cases, contains_either, contains_first, contains_front, contains_nothing, joined, member_has, nothing_listed, one_listed, same_members}
+use Rattle.bag_tree.specs.Bag.{Bag, file, HasFile}
+use Rattle.bag_tree.specs.declared.listing.FileEntry.{FileEntry}
+use Rattle.bag_facts.specs.FaultOrder.{fault_cmp}
+use Rattle.bag_facts.specs.declared.fault.Fault.{Fault}
+use Rattle.bag_facts.proofs.Ascending.{not_both}
+use Rattle.bag_facts.proofs.Ordered.{fault_cmp_total}
+use Rattle.bag_facts.specs.Facts.{IsFactsOf}
+use Rattle.bag_facts.specs.Wanted.{paths_of}
+use Rattle.bag_facts.specs.declared.facts.Facts.{Facts}
+use Rattle.bag_facts.specs.declared.options.Depth.{Depth}
+use Rattle.bag_facts.specs.declared.options.Depth.TheVariants.{Declaration, Fast, Complete, Full}
+use Rattle.bag_facts.proofs.ListedFiles.{file_listed, listed_file, own_size}
+use Rattle.bag_facts.proofs.Mapped.{take_one_more}
+use Rattle.bag_stages.proofs.ByItem.{before_next}
+use Rattle.bag_stages.proofs.InFile.{less_by_path}
+use Rattle.bag_stages.specs.Given.{AreNaming}
+use Rattle.bag_stages.specs.SumFaults.{faults_of_bytes}
+use Rattle.bag_stages.specs.SummedFiles.{IsNamed, IsSummed}
+use Rattle.bag_stages.specs.ValidityStage.{IsOfFile, IsOfValidity}
+use Rattle.bag_stages.specs.declared.expected.Expected.{Expected}
+use Rattle.bag_stages.proofs.SummedFiles.{faulty_is_summed, named_some, some_named}
+use Rattle.bag_stages.proofs.ValidityFaults.{validity_of_stage_seven}
+use Rattle.bag_report.specs.Report.{above, is_above}
+use Rattle.bag_report.proofs.Filtered.{filtered_list}
+use Rattle.bag_walk.specs.Files.{AreToSum, IsNamedAhead, TellsItsFaults}
+use Rattle.bag_walk.specs.ToSum.{faults_at, faults_in, faults_of_files, paths_to_sum}
+use Rattle.bag_walk.specs.Validity.{is_passed, AreFilesOf, IsOfBag}
+use Rattle.bag_walk.specs.declared.to_sum.ToSum.{ToSum}
+
+-- no file was gone through yet
+module _ (bag : Bag) (after : Option Fault) where
+  pub none_chosen : AreToSum bag after [] []
+  none_chosen = record {
+    paths = nothing_listed text_cmp _ (λ path h. contains_nothing path h.0);
+    listed = λ to_sum c. absurd (contains_nothing to_sum c);
+    faults = λ to_sum c. absurd (contains_nothing to_sum c);
+  }
+
+  -- one file more, behind all of them
+  module _ (before : List FileEntry) (file : FileEntry) (chosen : List ToSum) (so_far : AreToSum bag after before chosen) where
+    abbrev IsBefore : List ℕ → Type 0
+    IsBefore path = Contains (paths_of before) path × IsNamedAhead bag after path
+
+    abbrev IsNow : List ℕ → Type 0
+    IsNow path = Contains (paths_of (before ++ file ∷ [])) path × IsNamedAhead bag after path
+
+    paths_now : paths_of (before ++ file ∷ []) ≡ paths_of before ++ file.path ∷ []
+    paths_now = map-append (λ (entry : FileEntry). entry.path) before (file ∷ [])
+
+    from_before : (path : List ℕ) → IsBefore path → IsNow path
+    from_before path h = (subst (λ l. Contains l path) (sym paths_now) (contains_front (paths_of before) (file.path ∷ []) path h.0), h.1)
+
+    to_cases : (path : List ℕ) → IsNow path → IsBefore path ⊎ ((path ≡ file.path) × IsNamedAhead bag after path)
+    to_cases path h = elim (contains_either (paths_of before) (file.path ∷ []) path (subst (λ l. Contains l path) paths_now h.0)) [
+      | inl a ↦ inl (a, h.1)
+      | inr b ↦ elim (contains_cases file.path [] path b) [ inl same ↦ inr (sym same, h.1) | inr none ↦ absurd (contains_nothing path none) ]
+    ]
+
+    listed_now : (to_sum : ToSum) → Contains chosen to_sum → Contains (before ++ file ∷ []) to_sum.file
+    listed_now to_sum c = contains_front before (file ∷ []) to_sum.file (so_far.listed to_sum c)
+
+    pub passed_over : ¬ (IsNamedAhead bag after file.path) → AreToSum bag after (before ++ file ∷ []) chosen
+    passed_over lacks = record {
+      paths = same_members text_cmp IsBefore IsNow (paths_to_sum chosen) from_before
+          (λ path h. elim (to_cases path h) [ inl a ↦ a | inr b ↦ absurd (lacks (subst (IsNamedAhead bag after) b.0 b.1)) ]) so_far.paths;
+      listed = listed_now;
+      faults = so_far.faults;
+    }
+
+    module _ (to_sum : ToSum) (is : to_sum.file ≡ file) (ahead : IsNamedAhead bag after file.path) (tells : TellsItsFaults bag to_sum)
+        (less : (path : List ℕ) → Contains (paths_of before) path → text_cmp path file.path ≡ Less) where
+      last : IsListOf text_cmp (λ path. path ≡ file.path) (file.path ∷ [])
+      last = one_listed text_cmp (λ path. path ≡ file.path) file.path refl (λ y e. e)
+
+      more : IsListOf text_cmp IsNow (paths_to_sum chosen ++ file.path ∷ [])
+      more =
+          same_members text_cmp (λ path. IsBefore path ⊎ (path ≡ file.path)) IsNow (paths_to_sum chosen ++ file.path ∷ [])
+          (λ path h. elim h [
+            | inl a ↦ from_before path a
+            | inr e ↦ (
+              subst (λ l. Contains l path) (sym paths_now) (contains_back (paths_of before) (file.path ∷ []) path (subst (Contains (file.path ∷ [])) (sym e) (contains_first file.path []))),
+              subst (IsNamedAhead bag after) (sym e) ahead,
+            )
+          ])
+          (λ path h. elim (to_cases path h) [ inl a ↦ inl a | inr b ↦ inr b.0 ])
+          (joined text_cmp IsBefore (λ path. path ≡ file.path) (paths_to_sum chosen) (file.path ∷ []) so_far.paths last
+          (λ x y a e. subst (λ p. text_cmp x p ≡ Less) (sym e) (less x a.0)))
+
+      path_more : paths_to_sum (chosen ++ to_sum ∷ []) ≡ paths_to_sum chosen ++ file.path ∷ []
+      path_more = map-append (λ (t : ToSum). t.file.path) chosen (to_sum ∷ []) ∙ ap (λ (f : FileEntry). paths_to_sum chosen ++ f.path ∷ []) is
+
+      old_or_new : (t : ToSum) → Contains (chosen ++ to_sum ∷ []) t → Contains chosen t ⊎ (to_sum ≡ t)
+      old_or_new t c = elim (contains_either chosen (to_sum ∷ []) t c) [
+        | inl a ↦ inl a
+        | inr b ↦ elim (contains_cases to_sum [] t b) [ inl same ↦ inr same | inr none ↦ absurd (contains_nothing t none) ]
+      ]
+
+      pub added : AreToSum bag after (before ++ file ∷ []) (chosen ++ to_sum ∷ [])
+      added = record {
+        paths = subst (IsListOf text_cmp IsNow) (sym path_more) more;
+        listed = λ t c. elim (old_or_new t c) [
+          | inl a ↦ listed_now t a
+          | inr e ↦ subst (Contains (before ++ file ∷ [])) (sym is ∙ ap (λ (x : ToSum). x.file) e) (contains_back before (file ∷ []) file (contains_first file []))
+        ];
+        faults = λ t c. elim (old_or_new t c) [ inl a ↦ so_far.faults t a | inr e ↦ subst (TellsItsFaults bag) e tells ];
+      }
+
+-- the first files of a list, and one more
+module _ (bag : Bag) (after : Option Fault) (files : List FileEntry) (i : ℕ) (file : FileEntry) (chosen : List ToSum) (lt : i < length files) (at : file ≡ get_or files i file)
+    (so_far : AreToSum bag after (take i files) chosen) where
+  more_files : take (i + 1) files ≡ take i files ++ file ∷ []
+  more_files = take_one_more files i file lt at
+
+  behind_all : IsStrictlySortedBy text_cmp (paths_of files) → (path : List ℕ) → Contains (paths_of (take i files)) path → text_cmp path file.path ≡ Less
+  behind_all ordered path c =
+      let path_of : FileEntry → List ℕ = λ entry. entry.path in
+      let within : i < length (paths_of files) = rw (length-map files path_of) lt in
+      let next : file.path ≡ get_or (paths_of files) i file.path = ap path_of at ∙ sym (get_or-map path_of files i file) in
+      before_next text_cmp (paths_of files) i file.path path ordered within next (subst (λ l. Contains l path) (sym (take-map path_of i files)) c)
+
+  pub one_passed_over : ¬ (IsNamedAhead bag after file.path) → AreToSum bag after (take (i + 1) files) chosen
+  one_passed_over lacks = subst (λ l. AreToSum bag after l chosen) (sym more_files) (passed_over bag after (take i files) file chosen so_far lacks)
+
+  pub one_added : IsStrictlySortedBy text_cmp (paths_of files) → (to_sum : ToSum) → to_sum.file ≡ file → IsNamedAhead bag after file.path → TellsItsFaults bag to_sum
+      → AreToSum bag after (take (i + 1) files) (chosen ++ to_sum ∷ [])
+  one_added ordered to_sum is ahead tells =
+      subst (λ l. AreToSum bag after l (chosen ++ to_sum ∷ [])) (sym more_files)
+      (added bag after (take i files) file chosen so_far to_sum is ahead tells (behind_all ordered))
+
+pub all_chosen : (bag : Bag) (after : Option Fault) (files : List FileEntry) (i : ℕ) (chosen : List ToSum) → length files ≤ i → AreToSum bag after (take i files) chosen → AreToSum bag after files chosen
+all_chosen bag after files i chosen le h = subst (λ l. AreToSum bag after l chosen) (take_all i files le) h
+
+pub not_declaration : (depth : Depth) → depth ≡ Full → depth ≢ Declaration
+not_declaration depth full is = let clash : Full ≡ Declaration = sym full ∙ is in cc
+
+-- what gives the faults of each content gives those of the file
+tells_by : (bag : Bag) (to_sum : ToSum) (content : Option (List ℕ)) → file bag to_sum.file.path ≡ content
+    → ((bytes : List ℕ) → file bag to_sum.file.path ≡ Some bytes → IsListOf fault_cmp (IsOfFile bag to_sum.file.path) (faults_of_bytes to_sum.file.path bytes to_sum.expected))
+    → IsListOf fault_cmp (IsOfFile bag to_sum.file.path) (faults_at to_sum content)
+tells_by bag to_sum None none each = nothing_listed fault_cmp (IsOfFile bag to_sum.file.path) (λ f h.
+    let there : HasFile bag to_sum.file.path = subst (HasFile bag) h.1 (faulty_is_summed bag f h.0).0 in
+    let clash : false ≡ true = sym (ap is_some none) ∙ there in cc)
+tells_by bag to_sum (Some bytes) there each = each bytes there
+
+pub tells : (bag : Bag) (to_sum : ToSum)
+    → ((bytes : List ℕ) → file bag to_sum.file.path ≡ Some bytes → IsListOf fault_cmp (IsOfFile bag to_sum.file.path) (faults_of_bytes to_sum.file.path bytes to_sum.expected))
+    → TellsItsFaults bag to_sum
+tells bag to_sum each = tells_by bag to_sum (file bag to_sum.file.path) refl each
+
+-- there is a digest exactly where a manifest names the file
+some_algs : (expected : List Expected) → expected ≢ [] → map (λ (one : Expected). one.alg) expected ≢ []
+some_algs [] some = absurd (some refl)
+some_algs (one ∷ expected) some = λ none. cc
+
+pub named_by : (bag : Bag) (path : List ℕ) (expected : List Expected) → AreNaming bag path (map (λ one. one.alg) expected) → expected ≢ [] → IsNamed bag path
+named_by bag path expected are some = some_named bag path (map (λ one. one.alg) expected) are (some_algs expected some)
+
+pub unnamed_by : (bag : Bag) (path : List ℕ) (expected : List Expected) → AreNaming bag path (map (λ one. one.alg) expected) → expected ≡ [] → ¬ (IsNamed bag path)
+unnamed_by bag path expected are none named = named_some bag path (map (λ one. one.alg) expected) are named (ap (map (λ (one : Expected). one.alg)) none)
+
+-- a fault of an earlier stage is less
+pub less_by_stage : (x y : Fault) → stage x.code < stage y.code → fault_cmp x y ≡ Less
+less_by_stage x y less =
+    let paths : Ordering = text_cmp x.path y.path in
+    let algs : Ordering = nat_cmp (rank_or_zero x.alg) (rank_or_zero y.alg) in
+    let lines : Ordering = nat_cmp x.line y.line in
+    let numbers : Ordering = nat_cmp (number x.code) (number y.code) in
+    let details : Ordering = text_cmp x.detail y.detail in
+    ap (λ o. ordering_then (ordering_then (ordering_then (ordering_then (ordering_then o paths) algs) lines) numbers) details)
+    (sym (nat_cmp_is (stage x.code) (stage y.code) Less less))
+
+-- a fault above a cursor is of a file that the cursor hasn't passed
+less_is : (o : Ordering) → is_lt o ≡ true → o ≡ Less
+less_is Less h = refl
+less_is Equal h = cc
+less_is Greater h = cc
+
+bool_cases : (b : Bool) (P : Type 0) → (b ≡ true → P) → (b ≡ false → P) → P
+bool_cases true P if_true if_false = if_true refl
+bool_cases false P if_true if_false = if_false refl
+
+module _ (cursor f : Fault) (seven : stage f.code ≡ 7) where
+  less_if : (later same less : Bool) → nat_lt 7 (stage cursor.code) ≡ later → (stage cursor.code == 7) ≡ same → is_lt (text_cmp f.path cursor.path) ≡ less
+      → (later || (same && less)) ≡ true → fault_cmp f cursor ≡ Less
+  less_if true same less e g h passed = less_by_stage f cursor (subst (λ n. n < stage cursor.code) (sym seven) (ltb-true _ _ e))
+  less_if false true true e g h passed = less_by_path f cursor (seven ∙ sym (eqb-true _ _ g)) (less_is _ h)
+  less_if false true false e g h passed = cc
+  less_if false false less e g h passed = cc
+
+  passed_is_less : is_passed (Some cursor) f.path ≡ true → fault_cmp f cursor ≡ Less
+  passed_is_less = less_if _ _ _ refl refl refl
+
+  above_is_ahead : is_above (Some cursor) f ≡ true → is_passed (Some cursor) f.path ≡ false
+  above_is_ahead above =
+      bool_cases (is_passed (Some cursor) f.path) (is_passed (Some cursor) f.path ≡ false)
+      (λ passed. absurd (not_both fault_cmp_total f cursor (passed_is_less passed) (less_is _ above))) (λ e. e)
+
+ahead_of : (bag : Bag) (after : Option Fault) (f : Fault) → IsOfValidity bag f → is_above after f ≡ true → is_passed after f.path ≡ false
+ahead_of bag None f valid above = refl
+ahead_of bag (Some cursor) f valid above = above_is_ahead cursor f (validity_of_stage_seven bag f valid) above
+
+-- the faults of files that have them, one file after another
+module _ (bag : Bag) (after : Option Fault) where
+  abbrev IsAbove : Fault → Type 0
+  IsAbove f = IsOfValidity bag f × (is_above after f ≡ true)
+
+  abbrev Among : List (List ℕ) → Fault → Type 0
+  Among paths f = Contains paths f.path × IsAbove f
+
+  pub listed_faults : (files : List ToSum) → IsStrictlySortedBy text_cmp (paths_to_sum files) → ((to_sum : ToSum) → Contains files to_sum → TellsItsFaults bag to_sum)
+      → IsListOf fault_cmp (Among (paths_to_sum files)) (faults_of_files bag after files)
+  unfolding IsStrictlySortedBy
+  listed_faults [] s tell = nothing_listed fault_cmp (Among []) (λ f h. contains_nothing f.path h.0)
+  listed_faults (t ∷ ts) s tell =
+      let path : List ℕ = t.file.path in
+      let paths : List (List ℕ) = paths_to_sum ts in
+      let first : IsListOf fault_cmp (λ f. IsOfFile bag path f × (is_above after f ≡ true)) (above after (faults_in bag t)) =
+      filtered_list fault_cmp (IsOfFile bag path) (is_above after) (faults_in bag t) (tell t (contains_first t ts)) in
+      let rest : IsListOf fault_cmp (Among paths) (faults_of_files bag after ts) = listed_faults ts s.1 (λ other c. tell other (contains_behind t ts other c)) in
+      same_members fault_cmp (λ f. (IsOfFile bag path f × (is_above after f ≡ true)) ⊎ Among paths f) (Among (path ∷ paths)) (above after (faults_in bag t) ++ faults_of_files bag after ts)
+      (λ f h. elim h [
+        | inl a ↦ (subst (Contains (path ∷ paths)) (sym a.0.1) (contains_first path paths), (a.0.0, a.1))
+        | inr b ↦ (contains_behind path paths f.path b.0, b.1)
+      ])
+      (λ f h. elim (contains_cases path paths f.path h.0) [ inl e ↦ inl ((h.1.0, sym e), h.1.1) | inr c ↦ inr (c, h.1) ])
+      (joined fault_cmp (λ f. IsOfFile bag path f × (is_above after f ≡ true)) (Among paths) (above after (faults_in bag t)) (faults_of_files bag after ts) first rest
+      (λ x y a b. less_by_path x y (validity_of_stage_seven bag x a.0.0 ∙ sym (validity_of_stage_seven bag y b.1.0))
+      (rw a.0.1 (member_has _ paths y.path s.0 b.0))))
+
+-- of the files of a bag
+module _ (bag : Bag) (after : Option Fault) (facts : Facts) (of : IsFactsOf bag facts) (chosen : List ToSum) (are : AreToSum bag after facts.listing.files chosen) where
+  has_file : (path : List ℕ) → Contains (paths_of facts.listing.files) path → HasFile bag path
+  has_file path c = listed_file bag facts.listing.files path of.listing.files c
+
+  is_listed : (path : List ℕ) → HasFile bag path → Contains (paths_of facts.listing.files) path
+  is_listed path h = file_listed bag facts.listing.files path of.listing.files h
+
+  pub chosen_todo : IsListOf text_cmp (λ path. IsSummed bag path × (is_passed after path ≡ false)) (paths_to_sum chosen)
+  chosen_todo =
+      same_members text_cmp (λ path. Contains (paths_of facts.listing.files) path × IsNamedAhead bag after path) (λ path. IsSummed bag path × (is_passed after path ≡ false)) (paths_to_sum chosen)
+      (λ path h. ((has_file path h.0, h.1.0), h.1.1)) (λ path h. (is_listed path h.0.0, (h.0.1, h.1))) are.paths
+
+  pub chosen_faults : IsListOf fault_cmp (λ f. IsOfValidity bag f × (is_above after f ≡ true)) (faults_of_files bag after chosen)
+  chosen_faults =
+      same_members fault_cmp (Among bag after (paths_to_sum chosen)) (λ f. IsOfValidity bag f × (is_above after f ≡ true)) (faults_of_files bag after chosen)
+      (λ f h. h.1)
+      (λ f h. ((chosen_todo.members f.path).1 (faulty_is_summed bag f h.0, ahead_of bag after f h.0 h.1), h))
+      (listed_faults bag after chosen are.paths.ascending are.faults)
+
+  pub chosen_of : AreFilesOf bag chosen
+  chosen_of = record {
+    in_order = are.paths.ascending;
+    entries = λ to_sum c. sym (of.listing.files to_sum.file.path) ∙ own_size facts.listing.files to_sum.file of.ordered.ascending (are.listed to_sum c);
+  }
+
+pub none_of : (bag : Bag) (after : Option Fault) → IsOfBag bag after [] []
+unfolding IsStrictlySortedBy
+none_of bag after = record { files = record { in_order = tt; entries = λ to_sum c. absurd (contains_nothing to_sum c) }; ascends = tt }
+
+-- of a bag, whatever the depth
+module _ (bag : Bag) (after : Option Fault) (facts : Facts) (of : IsFactsOf bag facts) (chosen : List ToSum)
+    (at_full : facts.options.depth ≡ Full → AreToSum bag after facts.listing.files chosen) (at_other : facts.options.depth ≢ Full → chosen ≡ []) where
+  of_all : facts.options.depth ≡ Full → IsOfBag bag after chosen []
+  of_all full = record {
+    files = chosen_of bag after facts of chosen (at_full full);
+    ascends = (chosen_faults bag after facts of chosen (at_full full)).ascending;
+  }
+
+  of_none : facts.options.depth ≢ Full → IsOfBag bag after chosen []
+  of_none other = subst (λ l. IsOfBag bag after l []) (sym (at_other other)) (none_of bag after)
+
+  of_by : (depth : Depth) → facts.options.depth ≡ depth → IsOfBag bag after chosen []
+  of_by Declaration e = of_none (λ full. let clash : Declaration ≡ Full = sym e ∙ full in cc)
+  of_by Fast e = of_none (λ full. let clash : Fast ≡ Full = sym e ∙ full in cc)
+  of_by Complete e = of_none (λ full. let clash : Complete ≡ Full = sym e ∙ full in cc)
+  of_by Full e = of_all e
+
+  pub chosen_is_of : IsOfBag bag after chosen []
+  chosen_is_of = of_by facts.options.depth refl

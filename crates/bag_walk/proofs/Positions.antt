@@ -1,0 +1,73 @@
+-- A walk over a report.
+use Rattle.std.proofs.Common.{◌≡◌, ◌++◌, ◌∷◌, inl, inr, ℕ, List, [], true, Option, None, Some, Contains, refl, ap, sym, subst}
+use Rattle.std.specs.List.Sorted.{IsStrictlySortedBy}
+use Rattle.std.specs.Ordering.{is_lt}
+use Rattle.std.specs.declared.cmp.Ordering.{Ordering}
+use Rattle.std.specs.declared.cmp.Ordering.TheVariants.{Less, Equal, Greater}
+use Rattle.bag_text.proofs.ListOf.{contains_behind, contains_cases, contains_either, contains_first, contains_front, contains_nothing, member_has}
+use Rattle.bag_tree.specs.Tree.{TreeState}
+use Rattle.bag_facts.specs.FaultOrder.{fault_cmp}
+use Rattle.bag_facts.specs.declared.fault.Fault.{Fault}
+use Rattle.bag_facts.proofs.Ascending.{not_less_than_itself}
+use Rattle.bag_facts.proofs.Ordered.{fault_cmp_total}
+use Rattle.bag_report.specs.Report.{Check, is_above}
+use Rattle.bag_walk.specs.Openings.{Opens, OpensAgain, OpensNoneBehind, StillWait}
+use Rattle.bag_walk.specs.Source.{first_of, rest_of}
+use Rattle.bag_walk.specs.Steps.{Gives, StandsAt}
+
+lt_is : (o : Ordering) → is_lt o ≡ true → o ≡ Less
+lt_is Less e = refl
+lt_is Equal e = cc
+lt_is Greater e = cc
+
+-- what is above a fault that is above a position is above the position
+above_on : (position : Option Fault) (f g : Fault) → is_above position f ≡ true → fault_cmp f g ≡ Less → is_above position g ≡ true
+above_on None f g a less = refl
+above_on (Some p) f g a less = ap is_lt (fault_cmp_total.trans p f g (lt_is _ a) less)
+
+module _ (check : Check) (position : Option Fault) where
+  -- behind its first fault stands what is above that
+  stands_on : (f : Fault) (faults : List Fault) → StandsAt check position (f ∷ faults) → StandsAt check (Some f) faults
+  unfolding IsStrictlySortedBy
+  stands_on f faults h = record {
+    ascending = h.ascending.1;
+    members = λ g. (
+      λ c. (((h.members g).0 (contains_behind f faults g c)).0, ap is_lt (member_has (λ w. fault_cmp f w ≡ Less) faults g h.ascending.0 c)),
+      λ m. (let less : fault_cmp f g ≡ Less = lt_is _ m.1 in
+          let ahead : Contains (f ∷ faults) g = (h.members g).1 (m.0, above_on position f g ((h.members f).0 (contains_first f faults)).1 less) in
+          elim (contains_cases f faults g ahead) [ inl e ↦ absurd (not_less_than_itself fault_cmp_total f g e less) | inr d ↦ d ]),
+    );
+  }
+
+  gives_first : (left : List Fault) → StandsAt check position left → Gives check position (first_of left) (rest_of left)
+  unfolding IsStrictlySortedBy
+  gives_first [] h = ((λ f m. contains_nothing f ((h.members f).1 m)), h)
+  gives_first (f ∷ faults) h = (
+    (
+      (h.members f).0 (contains_first f faults),
+      (λ g m. elim (contains_cases f faults g ((h.members g).1 m)) [ inl e ↦ inl e | inr d ↦ inr (member_has (λ w. fault_cmp f w ≡ Less) faults g h.ascending.0 d) ]),
+    ),
+    stands_on f faults h,
+  )
+
+  -- the first is given, and the rest is left
+  pub gives : (left after : List Fault) (shown : Option Fault) → shown ≡ first_of left → after ≡ rest_of left → StandsAt check position left → Gives check position shown after
+  gives left after shown e d h =
+      subst (λ s. Gives check position s after) (sym e) (subst (λ l. Gives check position (first_of left) l) (sym d) (gives_first left h))
+
+-- files before which a fault stands wait on
+module _ (files before after : List (List ℕ)) (left : List Fault) (old new : TreeState) (behind : OpensNoneBehind left old new) where
+  pub still_wait : Opens before after old new → StillWait files left before → StillWait files left after
+  still_wait p waits f path c d ahead = elim (contains_either p.opened after path (subst (λ l. Contains l path) p.left (waits f path c d ahead))) [
+    | inl u ↦ absurd (behind p.opened p.openings f path c u ahead)
+    | inr v ↦ v
+  ]
+
+  pub wait_again : OpensAgain before after old new → StillWait files left before → StillWait files left after
+  wait_again p waits f path c d ahead = elim (contains_either p.passed after path (subst (λ l. Contains l path) p.left (waits f path c d ahead))) [
+    | inl u ↦ absurd (elim p.openings [
+      | inl e ↦ behind p.passed e f path c u ahead
+      | inr (last, rest, is, e) ↦ behind (p.passed ++ last ∷ []) e f path c (contains_front p.passed (last ∷ []) path u) ahead
+    ])
+    | inr v ↦ v
+  ]

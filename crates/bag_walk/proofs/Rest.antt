@@ -1,0 +1,20 @@
+-- The rest of a list.
+use Rattle.std.proofs.Common.{◌≡◌, ◌+◌, ◌∷◌, ℕ, zero, suc, List, [], drop, refl, add-one}
+use Rattle.std.specs.List.Sorted.{IsStrictlySortedBy}
+use Rattle.bag_facts.specs.FaultOrder.{fault_cmp}
+use Rattle.bag_facts.specs.declared.fault.Fault.{Fault}
+use Rattle.bag_walk.specs.Source.{rest_of}
+
+drop_suc : {A : Type 0} (xs : List A) (n : ℕ) → drop (suc n) xs ≡ rest_of (drop n xs)
+drop_suc [] zero = refl
+drop_suc [] (suc n) = refl
+drop_suc (x ∷ xs) zero = refl
+drop_suc (x ∷ xs) (suc n) = drop_suc xs n
+
+pub drop_rest : {A : Type 0} (xs : List A) (n : ℕ) → drop (n + 1) xs ≡ rest_of (drop n xs)
+drop_rest xs n = rw add-one (drop_suc xs n)
+
+pub rest_ascends : (faults : List Fault) → IsStrictlySortedBy fault_cmp faults → IsStrictlySortedBy fault_cmp (rest_of faults)
+unfolding IsStrictlySortedBy
+rest_ascends [] s = tt
+rest_ascends (f ∷ faults) s = s.1

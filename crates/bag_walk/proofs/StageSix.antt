@@ -1,0 +1,125 @@
+-- The faults of completeness and of names above a cursor.
+use Rattle.std.proofs.Common.{◌≡◌, ◌⊎◌, inl, inr, ◌<◌, ◌≤◌, ◌&&◌, ◌+◌, ◌++◌, ◌∷◌, ℕ, List, [], length, take, get_or, Bool, true, false, Option, arith, refl, ap, sym, ◌∙◌, subst}
+use Rattle.std.proofs.lemmas.Bool.{and_parts}
+use Rattle.std.proofs.lemmas.List.{get_or_default}
+use Rattle.bag_text.specs.Alg.{algs}
+use Rattle.bag_text.specs.Code.{stage}
+use Rattle.bag_text.specs.Order.{IsListOf}
+use Rattle.bag_text.specs.declared.alg.Alg.{Alg}
+use Rattle.bag_text.specs.declared.code.Code.{Code}
+use Rattle.bag_text.specs.declared.code.Code.TheVariants.{NoOxum, NameClash}
+use Rattle.bag_text.proofs.AlgSets.{each_is_listed}
+use Rattle.bag_text.proofs.ListOf.{contains_nothing, nothing_listed, same_members}
+use Rattle.bag_tree.specs.Bag.{Bag}
+use Rattle.bag_facts.specs.FaultOrder.{fault_cmp}
+use Rattle.bag_facts.specs.declared.fault.Fault.{Fault}
+use Rattle.bag_facts.proofs.Mapped.{take_one_more}
+use Rattle.bag_facts.specs.Options.{reaches}
+use Rattle.bag_facts.specs.declared.options.Options.{Options}
+use Rattle.bag_stages.proofs.ByItem.{OfSome, of_last_or_before, of_one_more}
+use Rattle.bag_stages.proofs.ByPath.{take_whole}
+use Rattle.bag_stages.specs.ClashStage.{IsSoughtClash}
+use Rattle.bag_stages.specs.CompletenessFaults.{IsIncomplete, IsUnlistedInAll, IsWrong}
+use Rattle.bag_stages.specs.CompletenessStage.{IsSoughtInStageSix}
+use Rattle.bag_stages.specs.PayloadNamed.{IsNamedExactly}
+use Rattle.bag_stages.proofs.CompletenessFaults.{completeness_of_stage_six, is_sought, sought_is}
+use Rattle.bag_stages.proofs.PayloadNamed.{nothing_wrong}
+use Rattle.bag_report.specs.Report.{Check, asks, is_above, IsReported}
+use Rattle.bag_report.proofs.Asked.{not_reached}
+use Rattle.bag_report.proofs.Filtered.{filtered_list}
+use Rattle.bag_report.proofs.Found.{is_of_completeness, of_completeness}
+use Rattle.bag_walk.specs.Completeness.{IsAbove, IsOfAlg, IsOfSomeAlg, IsSoughtAbove, IsStageAbove}
+use Rattle.bag_walk.specs.Merge.{union}
+use Rattle.bag_walk.proofs.UnitedLists.{united}
+
+-- the same set in other words
+same_above : (after : Option Fault) (P Q : Fault → Type 0) (xs : List Fault) → ((f : Fault) → P f → Q f) → ((f : Fault) → Q f → P f)
+    → IsListOf fault_cmp (IsAbove after P) xs → IsListOf fault_cmp (IsAbove after Q) xs
+same_above after P Q xs to from list = same_members fault_cmp (IsAbove after P) (IsAbove after Q) xs (λ f h. (to f h.0, h.1)) (λ f h. (from f h.0, h.1)) list
+
+module _ (after : Option Fault) (bag : Bag) where
+  -- a manifest that names exactly the payload has no fault
+  pub none_wrong : (alg : Alg) → IsNamedExactly bag alg → IsListOf fault_cmp (IsAbove after (IsWrong bag alg)) []
+  none_wrong alg exact = nothing_listed fault_cmp _ (λ f h. nothing_wrong bag alg exact f h.0)
+
+  -- the first manifests, and the next
+  abbrev pub OfAlgs : List Alg → Fault → Type 0
+  OfAlgs some = OfSome (IsOfAlg bag) some
+
+  pub no_alg_yet : IsListOf fault_cmp (IsAbove after (OfAlgs [])) []
+  no_alg_yet = nothing_listed fault_cmp _ (λ f h. contains_nothing h.0.0 h.0.1)
+
+  pub one_alg_more : (i : ℕ) (any : Alg) (faults of_alg : List Fault) → i < length algs → IsListOf fault_cmp (IsAbove after (OfAlgs (take i algs))) faults
+      → IsListOf fault_cmp (IsAbove after (IsOfAlg bag (get_or algs i any))) of_alg → IsListOf fault_cmp (IsAbove after (OfAlgs (take (i + 1) algs))) (union faults of_alg)
+  one_alg_more i any faults of_alg lt first next =
+      let alg : Alg = get_or algs i any in
+      let before : List Alg = take i algs in
+      let at : alg ≡ get_or algs i alg = sym (get_or_default algs i alg any lt) in
+      subst (λ some. IsListOf fault_cmp (IsAbove after (OfAlgs some)) (union faults of_alg)) (sym (take_one_more algs i alg lt at))
+      (same_above after (λ f. OfAlgs before f ⊎ IsOfAlg bag alg f) (OfAlgs (before ++ alg ∷ [])) (union faults of_alg) (of_one_more (IsOfAlg bag) before alg) (of_last_or_before (IsOfAlg bag) before alg)
+      (united after (OfAlgs before) (IsOfAlg bag alg) faults of_alg first next))
+
+  pub all_algs : (i : ℕ) (faults : List Fault) → length algs ≤ i → IsListOf fault_cmp (IsAbove after (OfAlgs (take i algs))) faults
+      → IsListOf fault_cmp (IsAbove after (IsOfSomeAlg bag)) faults
+  all_algs i faults le list =
+      same_above after (OfAlgs algs) (IsOfSomeAlg bag) faults (λ f h. (h.0, h.2)) (λ f h. (h.0, each_is_listed h.0, h.1))
+      (subst (λ some. IsListOf fault_cmp (IsAbove after (OfAlgs some)) faults) (take_whole algs i le) list)
+
+  to_incomplete : (f : Fault) → IsOfSomeAlg bag f ⊎ IsUnlistedInAll bag f → IsIncomplete bag f
+  to_incomplete f (inl (alg, inl (inl h))) = inl (inl (alg, h))
+  to_incomplete f (inl (alg, inl (inr h))) = inr (inl (alg, h))
+  to_incomplete f (inl (alg, inr h)) = inl (inr (alg, h))
+  to_incomplete f (inr h) = inr (inr h)
+
+  from_incomplete : (f : Fault) → IsIncomplete bag f → IsOfSomeAlg bag f ⊎ IsUnlistedInAll bag f
+  from_incomplete f (inl (inl (alg, h))) = inl (alg, inl (inl h))
+  from_incomplete f (inl (inr (alg, h))) = inl (alg, inr h)
+  from_incomplete f (inr (inl (alg, h))) = inl (alg, inl (inr h))
+  from_incomplete f (inr (inr h)) = inr h
+
+  -- and those of all payload manifests at once
+  pub algs_and_all : (of_algs of_all : List Fault) → IsListOf fault_cmp (IsAbove after (IsOfSomeAlg bag)) of_algs → IsListOf fault_cmp (IsAbove after (IsUnlistedInAll bag)) of_all
+      → IsListOf fault_cmp (IsAbove after (IsIncomplete bag)) (union of_algs of_all)
+  algs_and_all of_algs of_all p q =
+      same_above after (λ f. IsOfSomeAlg bag f ⊎ IsUnlistedInAll bag f) (IsIncomplete bag) (union of_algs of_all) to_incomplete from_incomplete
+      (united after (IsOfSomeAlg bag) (IsUnlistedInAll bag) of_algs of_all p q)
+
+  -- and the clashes of names
+  pub all_sought : (clashes : Bool) (files names : List Fault) → IsListOf fault_cmp (IsAbove after (IsIncomplete bag)) files
+      → IsListOf fault_cmp (IsAbove after (IsSoughtClash clashes bag)) names → IsListOf fault_cmp (IsSoughtAbove clashes bag after) (union files names)
+  all_sought clashes files names p q =
+      same_above after (λ f. IsIncomplete bag f ⊎ IsSoughtClash clashes bag f) (IsSoughtInStageSix clashes bag) (union files names) (sought_is bag clashes) (is_sought bag clashes)
+      (united after (IsIncomplete bag) (IsSoughtClash clashes bag) files names p q)
+
+-- what is asked for of a stage that the depth reaches
+asked_at_six : (options : Options) (c : Code) → reaches options.depth 6 ≡ true → stage c ≡ 6 → (c ≡ NameClash → options.clashes ≡ true) → asks options c ≡ true
+unfolding asks
+asked_at_six options NoOxum reach at sought = absurd (omega (arith, at))
+asked_at_six options NameClash reach at sought = ap (λ b. b && reaches options.depth 6) (sought refl) ∙ reach
+asked_at_six options other reach at sought = subst (λ n. reaches options.depth n ≡ true) (sym at) reach
+
+asked_clash : (options : Options) (c : Code) → asks options c ≡ true → c ≡ NameClash → options.clashes ≡ true
+unfolding asks
+asked_clash options c e is = (and_parts _ _ (subst (λ d. asks options d ≡ true) is e)).0
+
+module _ (check : Check) (after : Option Fault) (faults : List Fault) where
+  pub reached_part : reaches check.options.depth 6 ≡ true → IsListOf fault_cmp (IsSoughtAbove check.options.clashes check.bag after) faults → IsStageAbove check 6 after faults
+  reached_part reach list =
+      same_above after (IsSoughtInStageSix check.options.clashes check.bag) (λ f. IsReported check f × (stage f.code ≡ 6)) faults
+      (λ f h. let at : stage f.code ≡ 6 = completeness_of_stage_six check.bag f h.0 in
+      ((is_of_completeness check.bag check.profile f h.0, asked_at_six check.options f.code reach at h.1), at))
+      (λ f h. (of_completeness check.bag check.profile f h.0.0 h.1, asked_clash check.options f.code h.0.1))
+      list
+
+  pub part_beyond : reaches check.options.depth 6 ≡ false → faults ≡ [] → IsStageAbove check 6 after faults
+  part_beyond beyond none = rw none (filtered_list fault_cmp _ (is_above after) [] (not_reached check 6 [] beyond refl))
+
+  part_by : (reach : Bool) → reaches check.options.depth 6 ≡ reach → (reaches check.options.depth 6 ≡ true → IsListOf fault_cmp (IsSoughtAbove check.options.clashes check.bag after) faults)
+      → (reaches check.options.depth 6 ≡ false → faults ≡ []) → IsStageAbove check 6 after faults
+  part_by true e sought none = reached_part e (sought e)
+  part_by false e sought none = part_beyond e (none e)
+
+  -- both as the part of the report
+  pub part_of_report : (reaches check.options.depth 6 ≡ true → IsListOf fault_cmp (IsSoughtAbove check.options.clashes check.bag after) faults)
+      → (reaches check.options.depth 6 ≡ false → faults ≡ []) → IsStageAbove check 6 after faults
+  part_of_report sought none = part_by (reaches check.options.depth 6) refl sought none

@@ -1,0 +1,147 @@
+-- Two ascending lists of faults as one, of which the least is taken.
+use Rattle.std.proofs.Common.{◌≡◌, ◌⊎◌, inl, inr, ◌++◌, ◌∷◌, Bor, List, [], Option, None, Some, IsSome, drop, length, Contains, arith, refl, ap, sym, ◌∙◌, subst, append-nil, append_assoc}
+use Rattle.std.specs.Prelude.{if◌then◌else◌}
+use Rattle.std.specs.List.Sorted.{IsStrictlySortedBy}
+use Rattle.std.specs.Option.{option_copied, option_to_list}
+use Rattle.std.specs.Ordering.{is_gt}
+use Rattle.std.specs.Slice.{IsItemAt}
+use Rattle.std.specs.declared.cmp.Ordering.{Ordering}
+use Rattle.std.specs.declared.cmp.Ordering.TheVariants.{Less, Equal, Greater}
+use Rattle.bag_text.specs.Order.{IsListOf}
+use Rattle.bag_text.proofs.ListOf.{contains_back, contains_either, contains_front, contains_nothing, one_list}
+use Rattle.bag_facts.specs.FaultOrder.{fault_cmp}
+use Rattle.bag_facts.specs.declared.fault.Fault.{Fault}
+use Rattle.bag_facts.proofs.Ordered.{fault_cmp_total}
+use Rattle.bag_report.specs.Report.{above, is_above}
+use Rattle.bag_report.proofs.Filtered.{filtered_list}
+use Rattle.bag_walk.specs.Completeness.{IsAbove, TakesLeast}
+use Rattle.bag_walk.specs.Lists.{nothing_left}
+use Rattle.bag_walk.specs.Merge.{fronts, union, union_is}
+use Rattle.bag_walk.specs.Source.{first_of, rest_of}
+use Rattle.bag_walk.specs.Union.{first_of_union}
+use Rattle.bag_walk.proofs.Merging.{left_equal, left_greater, left_less}
+use Rattle.bag_walk.proofs.Rest.{rest_ascends}
+
+-- without a cursor each fault is left
+pub above_none : (faults : List Fault) → faults ≡ above None faults
+above_none [] = refl
+above_none (f ∷ faults) = ap (λ fs. f ∷ fs) (above_none faults)
+
+-- the front of a queue
+pub front_is : {A : Type 0} (xs : List A) (front : Option (Bor A)) → IsItemAt xs 0 front → option_copied front ≡ first_of xs
+front_is [] None item = refl
+front_is [] (Some x) item = absurd (omega (arith, item.3.0))
+front_is {A} (x ∷ xs) None item = let some : IsSome {T = Bor A} None = item.2 (omega arith) in cc
+front_is (x ∷ xs) (Some front) item = ap Some item.1
+
+pub popped_is : {A : Type 0} (xs ys : List A) (front : Option A) → xs ≡ option_to_list front ++ ys → ys ≡ drop 1 xs → front ≡ first_of xs
+popped_is [] ys None parts rest = refl
+popped_is [] ys (Some y) parts rest = let clash : [] ≡ y ∷ ys = parts in cc
+popped_is (x ∷ xs) ys None parts rest = absurd (omega (arith, ap length parts, ap length rest))
+popped_is (x ∷ xs) ys (Some y) parts rest = let same : x ∷ xs ≡ y ∷ ys = parts in cc
+
+pub popped_rest : {A : Type 0} (xs : List A) → drop 1 xs ≡ rest_of xs
+popped_rest [] = refl
+popped_rest (x ∷ xs) = refl
+
+pub nothing_by_length : {A : Type 0} (xs : List A) → length xs ≡ 0 → xs ≡ []
+nothing_by_length [] none = refl
+nothing_by_length (x ∷ xs) none = absurd (omega arith)
+
+-- a list and nothing
+module _ (xs : List Fault) (s : IsStrictlySortedBy fault_cmp xs) where
+  pub union_nothing : xs ≡ union xs []
+  union_nothing =
+      one_list fault_cmp fault_cmp_total (Contains (xs ++ [])) xs (union xs [])
+      (record { ascending = s; members = λ f. (λ c. contains_front xs [] f c, λ c. elim (contains_either xs [] f c) [ inl a ↦ a | inr b ↦ absurd (contains_nothing f b) ]) }) (union_is xs [])
+
+  pub nothing_union : xs ≡ union [] xs
+  nothing_union = one_list fault_cmp fault_cmp_total (Contains xs) xs (union [] xs) (record { ascending = s; members = λ f. (λ c. c, λ c. c) }) (union_is [] xs)
+
+none_in_nothing : union [] [] ≡ []
+unfolding IsStrictlySortedBy
+none_in_nothing = sym (union_nothing [] tt)
+
+-- the least of two lists, by which front comes first
+module _ (fs gs : List Fault) (p : IsStrictlySortedBy fault_cmp fs) (q : IsStrictlySortedBy fault_cmp gs) where
+  abbrev order : Ordering
+  order = fronts (first_of fs) (first_of gs)
+
+  pub takes_less : order ≡ Less → TakesLeast fs gs (first_of fs) (rest_of fs) gs
+  takes_less e = record {
+    first = first_of_union fs gs p q ∙ ap (λ o. if is_gt o then first_of gs else first_of fs) e;
+    rest = left_less fs gs p q (first_of fs) (first_of gs) (refl, refl) e (rest_of fs) refl;
+    ascends = rest_ascends fs p;
+    others_ascend = q;
+  }
+
+  pub takes_greater : order ≡ Greater → TakesLeast fs gs (first_of gs) fs (rest_of gs)
+  takes_greater e = record {
+    first = first_of_union fs gs p q ∙ ap (λ o. if is_gt o then first_of gs else first_of fs) e;
+    rest = left_greater fs gs p q (first_of fs) (first_of gs) (refl, refl) e (rest_of gs) refl;
+    ascends = p;
+    others_ascend = rest_ascends gs q;
+  }
+
+equal_rest : (fs gs : List Fault) → IsStrictlySortedBy fault_cmp fs → IsStrictlySortedBy fault_cmp gs → fronts (first_of fs) (first_of gs) ≡ Equal
+    → union (rest_of fs) (rest_of gs) ≡ rest_of (union fs gs)
+equal_rest [] [] p q e = none_in_nothing ∙ sym (ap rest_of none_in_nothing)
+equal_rest [] (y ∷ ys) p q e = cc
+equal_rest (x ∷ xs) [] p q e = cc
+equal_rest (x ∷ xs) (y ∷ ys) p q e =
+    left_equal (x ∷ xs) (y ∷ ys) p q (Some x) (Some y) (refl, refl) e (subst (λ o. IsSome (if is_gt o then Some y else Some x)) (sym e) refl) xs ys refl refl
+
+pub takes_equal : (fs gs : List Fault) → IsStrictlySortedBy fault_cmp fs → IsStrictlySortedBy fault_cmp gs → fronts (first_of fs) (first_of gs) ≡ Equal
+    → TakesLeast fs gs (first_of fs) (rest_of fs) (rest_of gs)
+takes_equal fs gs p q e = record {
+  first = first_of_union fs gs p q ∙ ap (λ o. if is_gt o then first_of gs else first_of fs) e;
+  rest = equal_rest fs gs p q e;
+  ascends = rest_ascends fs p;
+  others_ascend = rest_ascends gs q;
+}
+
+-- what is taken and what is left are all
+first_and_rest : (u : List Fault) (f : Fault) → first_of u ≡ Some f → u ≡ f ∷ rest_of u
+first_and_rest [] f e = cc
+first_and_rest (x ∷ u) f e = let same : x ≡ f = cc in ap (λ y. y ∷ u) same
+
+-- The first faults of two lists were taken.
+pub record HasTaken (all others taken left others_left : List Fault) : Type 0 where
+  pub parts : taken ++ union left others_left ≡ union all others
+  pub ascends : IsStrictlySortedBy fault_cmp left
+  pub others_ascend : IsStrictlySortedBy fault_cmp others_left
+
+pub none_taken : (fs gs : List Fault) → IsStrictlySortedBy fault_cmp fs → IsStrictlySortedBy fault_cmp gs → HasTaken fs gs [] fs gs
+none_taken fs gs p q = record { parts = refl; ascends = p; others_ascend = q }
+
+module _ (fs gs taken left others_left : List Fault) (has : HasTaken fs gs taken left others_left) where
+  pub one_taken : (f : Fault) (more others_more : List Fault) → TakesLeast left others_left (Some f) more others_more → HasTaken fs gs (taken ++ f ∷ []) more others_more
+  one_taken f more others_more takes = record {
+    parts =
+        append_assoc taken (f ∷ []) (union more others_more)
+        ∙ ap (λ rest. taken ++ f ∷ rest) takes.rest
+        ∙ ap (λ rest. taken ++ rest) (sym (first_and_rest (union left others_left) f takes.first))
+        ∙ has.parts;
+    ascends = takes.ascends;
+    others_ascend = takes.others_ascend;
+  }
+
+  pub all_taken : (more others_more : List Fault) → TakesLeast left others_left None more others_more → taken ≡ union fs gs
+  all_taken more others_more takes = sym (append-nil taken) ∙ ap (λ rest. taken ++ rest) (sym (nothing_left (union left others_left) (sym takes.first))) ∙ has.parts
+
+-- what is above a cursor of two sets
+module _ (after : Option Fault) (P Q : Fault → Type 0) (xs ys : List Fault) (p : IsListOf fault_cmp (IsAbove after P) xs) (q : IsListOf fault_cmp (IsAbove after Q) ys) where
+  pub united : IsListOf fault_cmp (IsAbove after (λ f. P f ⊎ Q f)) (union xs ys)
+  united = record {
+    ascending = (union_is xs ys).ascending;
+    members = λ f. (
+      λ c. elim (contains_either xs ys f (((union_is xs ys).members f).0 c)) [
+        | inl a ↦ (let h = (p.members f).0 a in (inl h.0, h.1))
+        | inr b ↦ (let h = (q.members f).0 b in (inr h.0, h.1))
+      ],
+      λ h. ((union_is xs ys).members f).1 (elim h.0 [ inl a ↦ contains_front xs ys f ((p.members f).1 (a, h.1)) | inr b ↦ contains_back xs ys f ((q.members f).1 (b, h.1)) ]),
+    );
+  }
+
+pub cut_above : (after : Option Fault) (P : Fault → Type 0) (xs : List Fault) → IsListOf fault_cmp P xs → IsListOf fault_cmp (IsAbove after P) (above after xs)
+cut_above after P xs list = filtered_list fault_cmp P (is_above after) xs list

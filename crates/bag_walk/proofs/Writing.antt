@@ -1,0 +1,123 @@
+-- A text is written piece by piece.
+use Rattle.std.proofs.Common.{◌≡◌, ℕ, zero, suc, get_or, ◌∷◌, ◌+◌, ◌<◌, ◌++◌, Bool, List, [], length, take, drop, Option, None, Some, refl, ap, sym, ◌∙◌, subst, append_assoc, append-nil, take-append-drop, length-append, arith}
+use Rattle.std.proofs.lemmas.Grind.{common_steps}
+use Rattle.std.proofs.Math.Seq.{take-append-add}
+use Rattle.std.proofs.lemmas.Result.{MatchResult-weaker}
+use Rattle.std.specs.Prelude.{Result, Err}
+use Rattle.std.specs.Io.KnownBytes.{Appends, Keeps}
+use Rattle.std.specs.Borrow.{Bor}
+use Rattle.bag_tree.specs.Out.{Takes}
+use Rattle.bag_tree.specs.declared.out.Refused.{Refused}
+use Rattle.bag_walk.specs.Write.{IsCut, IsTaken, Writes, text_of}
+
+-- nothing was written yet
+pub Appends-nil : (old : Option (List ℕ)) → Appends old old []
+Appends-nil None = tt
+Appends-nil (Some xs) = sym (append-nil xs)
+
+-- one text after another
+pub Appends-append : (old mid new : Option (List ℕ)) (first second : List ℕ) → Appends old mid first → Appends mid new second → Appends old new (first ++ second)
+Appends-append None mid new first second p q = tt
+Appends-append (Some xs) None new first second p q = absurd p
+Appends-append (Some xs) (Some ys) None first second p q = absurd q
+Appends-append (Some xs) (Some ys) (Some zs) first second p q = q ∙ ap (λ front. front ++ second) p ∙ append_assoc xs first second
+
+Appends-keeps : (old mid new : Option (List ℕ)) (text : List ℕ) → Appends old mid text → Keeps mid new → Appends old new text
+Appends-keeps None mid new text p k = tt
+Appends-keeps (Some xs) None new text p k = absurd p
+Appends-keeps (Some xs) (Some ys) None text p k = absurd k
+Appends-keeps (Some xs) (Some ys) (Some zs) text p k = k ∙ p
+
+-- a call took some more
+pub taken_more : (old mid new : Option (List ℕ)) (text rest : List ℕ) (n : ℕ) → IsTaken old mid text rest → Takes mid new rest n → IsTaken old new text (drop n rest)
+taken_more old mid new text rest n so_far piece = record {
+  front = so_far.front ++ take n rest;
+  joins = so_far.joins ∙ ap (λ xs. so_far.front ++ xs) (sym (take-append-drop n rest)) ∙ sym (append_assoc so_far.front (take n rest) (drop n rest));
+  taken = Appends-append old mid new so_far.front (take n rest) so_far.taken piece.appended;
+}
+
+take_front : (text front rest : List ℕ) → text ≡ front ++ rest → take (length front) text ≡ front
+take_front text front rest e = grind (arith, common_steps)
+
+-- a call refused, and some of the text was left
+pub cut_off : (old mid new : Option (List ℕ)) (text rest : List ℕ) → 0 < length rest → IsTaken old mid text rest → Keeps mid new → IsCut old new text
+cut_off old mid new text rest some so_far kept =
+    let size : length text ≡ length so_far.front + length rest = ap length so_far.joins ∙ length-append so_far.front rest in
+    (length so_far.front, omega arith, subst (Appends old new) (sym (take_front text so_far.front rest so_far.joins)) (Appends-keeps old mid new so_far.front so_far.taken kept))
+
+pub take_in_first : (first second : List ℕ) (n : ℕ) → n < length first → take n (first ++ second) ≡ take n first
+take_in_first first second n within = grind (arith, common_steps)
+
+take_past_first : (first second : List ℕ) (n : ℕ) → take (length first + n) (first ++ second) ≡ first ++ take n second
+take_past_first first second n = take-append-add first second n
+
+-- a text that was cut off is a cut of a longer one
+pub IsCut-append : (old new : Option (List ℕ)) (first second : List ℕ) → IsCut old new first → IsCut old new (first ++ second)
+IsCut-append old new first second cut =
+    let within : cut.0 < length first = cut.1 in
+    (cut.0, omega (arith, length-append first second), subst (Appends old new) (sym (take_in_first first second cut.0 within)) cut.2)
+
+-- what was taken where a second part was cut off
+pub taken_past : (old mid new : Option (List ℕ)) (first second : List ℕ) (n : ℕ) → Appends old mid first → Appends mid new (take n second) → Appends old new (take (length first + n) (first ++ second))
+taken_past old mid new first second n taken more = subst (Appends old new) (sym (take_past_first first second n)) (Appends-append old mid new first (take n second) taken more)
+
+-- and so is one whose second part was cut off
+pub append-IsCut : (old mid new : Option (List ℕ)) (first second : List ℕ) → Appends old mid first → IsCut mid new second → IsCut old new (first ++ second)
+append-IsCut old mid new first second taken cut =
+    let within : cut.0 < length second = cut.1 in
+    (length first + cut.0, omega (arith, length-append first second), subst (Appends old new) (sym (take_past_first first second cut.0)) (Appends-append old mid new first (take cut.0 second) taken cut.2))
+
+-- a second text after a first
+pub writes_after : (old mid new : Option (List ℕ)) (refused : Bool) (first second : List ℕ) (result : Result (Unit {0}) Refused) → Writes mid new refused second result → Appends old mid first → Writes old new refused (first ++ second) result
+writes_after old mid new refused first second result w taken =
+    MatchResult-weaker result w (λ _ all. Appends-append old mid new first second taken all) (λ _ part. (append-IsCut old mid new first second taken part.0, part.1))
+
+-- a first text that was cut off
+pub cut_before : (old new : Option (List ℕ)) (refused : Bool) (first second : List ℕ) (e : Refused) → Writes old new refused first (Err e) → Writes old new refused (first ++ second) (Err e)
+cut_before old new refused first second e part = (IsCut-append old new first second part.0, part.1)
+
+-- a third text after two that were taken
+pub writes_third : (old mid new : Option (List ℕ)) (refused : Bool) (first second third : List ℕ) (result : Result (Unit {0}) Refused) → Writes mid new refused third result → Appends old mid (first ++ second)
+    → Writes old new refused (first ++ (second ++ third)) result
+writes_third old mid new refused first second third result w taken =
+    subst (λ text. Writes old new refused text result) (append_assoc first second third) (writes_after old mid new refused (first ++ second) third result w taken)
+
+-- a third text after two of which not all was taken
+pub cut_third : (old new : Option (List ℕ)) (first second third : List ℕ) → IsCut old new (first ++ second) → IsCut old new (first ++ (second ++ third))
+cut_third old new first second third cut = subst (IsCut old new) (append_assoc first second third) (IsCut-append old new (first ++ second) third cut)
+
+-- the pieces before one, that piece, and the others
+text_split : (pieces : List (Bor (List ℕ))) (i : ℕ) (d : Bor (List ℕ)) → i < length pieces → text_of pieces ≡ text_of (take i pieces) ++ ((get_or pieces i d).now ++ text_of (drop (suc i) pieces))
+text_split [] i d h = absurd (omega arith)
+text_split (p ∷ ps) zero d h = refl
+text_split (p ∷ ps) (suc i) d h =
+    ap (λ rest. p.now ++ rest) (text_split ps i d (omega arith)) ∙ sym (append_assoc p.now (text_of (take i ps)) ((get_or ps i d).now ++ text_of (drop (suc i) ps)))
+
+-- a piece was cut off after those before it
+pub pieces_cut : (old mid new : Option (List ℕ)) (pieces : List (Bor (List ℕ))) (i : ℕ) (d : Bor (List ℕ)) → i < length pieces → Appends old mid (text_of (take i pieces)) → IsCut mid new (get_or pieces i d).now → IsCut old new (text_of pieces)
+pieces_cut old mid new pieces i d h taken cut =
+    subst (IsCut old new) (sym (text_split pieces i d h))
+    (append-IsCut old mid new (text_of (take i pieces)) ((get_or pieces i d).now ++ text_of (drop (suc i) pieces)) taken (IsCut-append mid new (get_or pieces i d).now (text_of (drop (suc i) pieces)) cut))
+
+-- nothing of a text was taken yet
+pub taken_none : (old : Option (List ℕ)) (text rest : List ℕ) → text ≡ rest → IsTaken old old text rest
+taken_none old text rest e = record { front = []; joins = e; taken = Appends-nil old }
+
+-- one more piece of a text was taken
+pub taken_piece : (old mid new : Option (List ℕ)) (text rest piece after : List ℕ) → IsTaken old mid text rest → rest ≡ piece ++ after → Appends mid new piece → IsTaken old new text after
+taken_piece old mid new text rest piece after so_far e more = record {
+  front = so_far.front ++ piece;
+  joins = so_far.joins ∙ ap (λ xs. so_far.front ++ xs) e ∙ sym (append_assoc so_far.front piece after);
+  taken = Appends-append old mid new so_far.front piece so_far.taken more;
+}
+
+-- a piece of a text was cut off
+pub cut_piece : (old mid new : Option (List ℕ)) (text rest piece after : List ℕ) → IsTaken old mid text rest → rest ≡ piece ++ after → IsCut mid new piece → IsCut old new text
+cut_piece old mid new text rest piece after so_far e cut =
+    subst (IsCut old new) (sym (so_far.joins ∙ ap (λ xs. so_far.front ++ xs) e))
+    (append-IsCut old mid new so_far.front (piece ++ after) so_far.taken (IsCut-append mid new piece after cut))
+
+-- all of a text was taken
+pub taken_all : (old new : Option (List ℕ)) (text rest : List ℕ) → IsTaken old new text rest → rest ≡ [] → Appends old new text
+taken_all old new text rest so_far e =
+    subst (Appends old new) (sym (so_far.joins ∙ ap (λ xs. so_far.front ++ xs) e ∙ append-nil so_far.front)) so_far.taken

@@ -1,0 +1,21 @@
+use Rattle.std.specs.Option.{option_copied}
+use Rattle.std.proofs.lemmas.Result.{IfOk-weaker}
+use Rattle.bag_text.specs.Order.{IsListOf}
+use Rattle.bag_facts.specs.FaultOrder.{fault_cmp}
+use Rattle.bag_stages.specs.ClashStage.{IsSoughtClash}
+use Rattle.bag_walk.specs.Completeness.{IsAbove}
+use Rattle.bag_walk.proofs.StageSix.{all_sought}
+use Rattle.bag_walk.proofs.UnitedLists.{cut_above}
+use Rattle.bag_walk.proofs.completeness.sought.Goals as goal
+
+pub returns : goal.returns
+returns c = IfOk-weaker c.merged.result _ _
+    (λ faults is bag facts deep.
+    let after = option_copied c.args.after in
+    let clashes = c.args.facts.now.options.clashes in
+    let files = c.in_ok-of_files.ensures bag facts deep in
+    let names : IsListOf fault_cmp (IsAbove after (IsSoughtClash clashes bag)) c.above-of_names.result.items =
+    rw c.above-of_names.ensures (cut_above after (IsSoughtClash clashes bag) c.in_ok-clashes_asked.field-0.items (c.in_ok-clashes_asked.ensures bag facts deep)) in
+    rw (is files.ascending names.ascending)
+    (all_sought after bag clashes c.in_ok-of_files.of_files.items c.above-of_names.result.items files names))
+    c.merged.ensures

@@ -1,0 +1,8 @@
+use Rattle.std.proofs.Common.{sym, subst}
+use Rattle.std.specs.List.Sorted.{IsStrictlySortedBy}
+use Rattle.bag_facts.specs.FaultOrder.{fault_cmp}
+use Rattle.bag_walk.proofs.Rest.{rest_ascends}
+use Rattle.bag_walk.proofs.fixed.FixedSource.advance.Goals as goal
+
+pub returns-clause-rest : goal.returns-clause-rest
+returns-clause-rest g c = λ bag h. (subst (IsStrictlySortedBy fault_cmp) (sym c.leave_first.ensures) (rest_ascends c.args.self.now.faults h), c.leave_first.ensures)

@@ -1,0 +1,30 @@
+use Rattle.std.proofs.Common.{subst}
+use Rattle.bag_walk.specs.Openings.{OpensNoneBehind}
+use Rattle.bag_walk.specs.Source.{Sees}
+use Rattle.bag_walk.proofs.steps.Steps.step.Goals as goal
+
+pub returns-in-Ok-clause-behind : goal.returns-in-Ok-clause-behind
+returns-in-Ok-clause-behind g c = λ bag h sees.
+    let state = g.T.Tree.state in
+    let left = c.leave.ensures.left bag h in
+    let seen : Sees (state c.leave.new.self.tree) (g.S.Source.todo c.leave.new.self.source) bag = rw (c.leave.ensures.tree, c.leave.ensures.todo) sees in
+    subst (λ fs. OpensNoneBehind fs (state c.args.self.now.tree) (state c.fill.new.tree)) left.1
+    (subst (λ t. OpensNoneBehind (g.S.Source.remaining bag c.leave.new.self.source) (state t) (state c.fill.new.tree)) c.leave.ensures.tree
+    (c.fill.ensures.behind g.met.S.InOrder.is_in_order bag left.0 seen))
+
+pub returns-in-Err-clause-behind : goal.returns-in-Err-clause-behind
+returns-in-Err-clause-behind g c = λ bag h sees.
+    let state = g.T.Tree.state in
+    let left = c.leave.ensures.left bag h in
+    let seen : Sees (state c.leave.new.self.tree) (g.S.Source.todo c.leave.new.self.source) bag = rw (c.leave.ensures.tree, c.leave.ensures.todo) sees in
+    subst (λ fs. OpensNoneBehind fs (state c.args.self.now.tree) (state c.fill.new.tree)) left.1
+    (subst (λ t. OpensNoneBehind (g.S.Source.remaining bag c.leave.new.self.source) (state t) (state c.fill.new.tree)) c.leave.ensures.tree
+    (c.fill.ensures.behind g.met.S.InOrder.is_in_order bag left.0 seen))
+
+pub returns-in-Ok-clause-opens : goal.returns-in-Ok-clause-opens
+returns-in-Ok-clause-opens g c =
+    rw (c.leave.ensures.tree, c.leave.ensures.todo) at (c.in-Ok.ensures.opens g.met.S.InOrder.is_in_order)
+
+pub returns-in-Err-clause-again : goal.returns-in-Err-clause-again
+returns-in-Err-clause-again g c =
+    rw (c.leave.ensures.tree, c.leave.ensures.todo) at (c.in-Err.ensures.again g.met.S.InOrder.is_in_order)

@@ -1,0 +1,24 @@
+-- Files whose digests are to be compared.
+use Rattle.std.specs.Prelude.{ℕ, List, [], map, flat_map, Option, None, Some}
+use Rattle.bag_tree.specs.Bag.{Bag, file}
+use Rattle.bag_facts.specs.declared.fault.Fault.{Fault}
+use Rattle.bag_stages.specs.SumFaults.{faults_of_bytes}
+use Rattle.bag_report.specs.Report.{above}
+use Rattle.bag_walk.specs.declared.to_sum.ToSum.{ToSum}
+
+-- the faults of a file with these bytes, and none of one that isn't there
+abbrev pub faults_at : ToSum → Option (List ℕ) → List Fault
+faults_at to_sum None = []
+faults_at to_sum (Some content) = faults_of_bytes to_sum.file.path content to_sum.expected
+
+-- the faults of a file of the bag
+abbrev pub faults_in : Bag → ToSum → List Fault
+faults_in bag to_sum = faults_at to_sum (file bag to_sum.file.path)
+
+-- the faults of files of the bag above a cursor, one file after another
+abbrev pub faults_of_files : Bag → Option Fault → List ToSum → List Fault
+faults_of_files bag after files = flat_map (λ to_sum. above after (faults_in bag to_sum)) files
+
+-- where they stand
+abbrev pub paths_to_sum : List ToSum → List (List ℕ)
+paths_to_sum files = map (λ to_sum. to_sum.file.path) files

@@ -1,0 +1,26 @@
+-- What a run writes of the faults of a report.
+use Rattle.std.specs.Prelude.{ℕ, ◌≡◌, ◌≤◌, ◌⊎◌, Bool, true, List, Option, length, take}
+use Rattle.std.specs.Io.KnownBytes.{Appends}
+use Rattle.bag_tree.specs.declared.tree_fault.Stop.{Stop}
+use Rattle.bag_facts.specs.declared.fault.Fault.{Fault}
+use Rattle.bag_walk.specs.Closing.{closing, count_of}
+use Rattle.bag_walk.specs.Ending.{MayEnd, ReachesEnd, Wrote}
+use Rattle.bag_walk.specs.Write.{IsCut}
+use Rattle.bag_walk.specs.declared.outcome.Outcome.{Outcome}
+use Rattle.bag_walk.specs.declared.outcome.Outcome.TheVariants.{Unwritten}
+use Rattle.bag_walk.specs.declared.outcome.Request.{Request}
+
+-- the closing line of an outcome was written, or the output refused it
+abbrev pub Closes : Request → Outcome → Option (List ℕ) → Option (List ℕ) → Bool → Outcome → Type 0
+Closes request ending before after refused result =
+    ((result ≡ ending) × Appends before after (closing request ending))
+    ⊎ ((result ≡ Unwritten (count_of ending)) × (refused ≡ true) × IsCut before after (closing request ending))
+
+-- the lines of the first of these faults, and the closing line of how it ended
+pub record WritesReport (request : Request) (faults : List Fault) (Stops : Stop → Type 0) (before after : Option (List ℕ)) (refused : Bool) (outcome : Outcome) : Type 0 where
+  pub count : ℕ
+  pub ending : Outcome
+  pub within : count ≤ length faults
+  pub may_end : MayEnd request count Stops ending
+  pub all : ReachesEnd ending → count ≡ length faults
+  pub wrote : Wrote request (take count faults) ending before after refused outcome

@@ -1,0 +1,103 @@
+//! The line that ends a report. Writing it takes no memory.
+ghost use Rattle.std.specs.Prelude.{◌≡◌, ◌++◌};
+ghost use Rattle.bag_facts.specs.FaultLine.{field};
+ghost use Rattle.bag_walk.specs.Closing as spec;
+ghost use Rattle.bag_walk.specs.Write.{Writes, text_of};
+
+use crate::write::{put_all, put_pieces};
+use crate::{Outcome, Request};
+use bag_facts::{Depth, field_pieces};
+use bag_tree::{Out, Refused, Stop};
+use itoa::Buffer;
+
+/// Hands the closing line to the output.
+pub(crate) fn put_closing<W: Out>(
+    request: &Request,
+    outcome: &Outcome,
+    out: &mut W,
+) -> Result<(), Refused>
+    ensures { Writes (W.taken out.old) (W.taken out.new) (W.has_refused out.new) (spec.closing request.now outcome.now) result }
+{
+    let name = request.name.as_str();
+    match outcome {
+        Outcome::Clean => {
+            if request.quiet {
+                Ok(())
+            } else {
+                put_verdict(name, verdict(request.options.depth), out)
+            }
+        }
+        Outcome::Faults(count) => put_count(name, " has faults: ", *count, out),
+        Outcome::Stopped(count) => put_count(name, " stopped, faults: ", *count, out),
+        Outcome::Rest(count) => put_count(name, " rest done, faults: ", *count, out),
+        Outcome::Unread(count, stop) => put_unread(name, stop, *count, out),
+        Outcome::Unwritten(_) => Ok(()),
+    }
+}
+
+/// What is said of a bag without faults.
+fn verdict(depth: Depth) -> &'static str
+    ensures { result.now ≡ spec.verdict depth }
+{
+    match depth {
+        Depth::Declaration => " has a good declaration",
+        Depth::Fast => " agrees with its oxum",
+        Depth::Complete => " is complete",
+        Depth::Full => " is valid",
+    }
+}
+
+fn put_verdict<W: Out>(name: &str, verdict: &str, out: &mut W) -> Result<(), Refused>
+    ensures { Writes (W.taken out.old) (W.taken out.new) (W.has_refused out.new) (spec.about name.now verdict.now) result }
+{
+    put_line(name, &[verdict, "\n"], out)
+}
+
+fn put_count<W: Out>(name: &str, text: &str, count: u64, out: &mut W) -> Result<(), Refused>
+    ensures { Writes (W.taken out.old) (W.taken out.new) (W.has_refused out.new) (spec.about_count name.now text.now count) result }
+{
+    let mut digits = Buffer::new();
+    put_line(name, &[text, digits.format(count), "\n"], out)
+}
+
+fn put_unread<W: Out>(name: &str, stop: &Stop, count: u64, out: &mut W) -> Result<(), Refused>
+    ensures { Writes (W.taken out.old) (W.taken out.new) (W.has_refused out.new) (spec.unread_line name.now stop.now count) result }
+{
+    put_line(name, &[" unread "], out)?;
+    put_cause(stop, count, out)
+}
+
+fn put_cause<W: Out>(stop: &Stop, count: u64, out: &mut W) -> Result<(), Refused>
+    ensures { Writes (W.taken out.old) (W.taken out.new) (W.has_refused out.new) (spec.stopped_at stop.now count) result }
+{
+    let mut digits = Buffer::new();
+    put_line(
+        stop.path.as_str(),
+        &[
+            " ",
+            stop.cause.word(),
+            ", faults: ",
+            digits.format(count),
+            "\n",
+        ],
+        out,
+    )
+}
+
+/// Hands a text to the output as a field of a line, and then the pieces. It takes no memory.
+pub fn put_line<W: Out>(text: &str, pieces: &[&str], out: &mut W) -> Result<(), Refused>
+    ensures { Writes (W.taken out.old) (W.taken out.new) (W.has_refused out.new) (field text.now ++ text_of pieces.now) result }
+{
+    put_field(text, out)?;
+    put_pieces(out, pieces)
+}
+
+/// Hands a text to the output as a field of a line.
+fn put_field<W: Out>(text: &str, out: &mut W) -> Result<(), Refused>
+    ensures { Writes (W.taken out.old) (W.taken out.new) (W.has_refused out.new) (field text.now) result }
+{
+    for piece in field_pieces(text) {
+        put_all(out, piece.as_bytes())?;
+    }
+    Ok(())
+}

@@ -1,0 +1,170 @@
+//! Faults of completeness, and clashes of names.
+ghost use Rattle.std.specs.Prelude.{◌≡◌, ◌≢◌, ⊤, [], true, false, Option, IfOk};
+ghost use Rattle.std.specs.List.Sorted.{IsStrictlySortedBy};
+ghost use Rattle.std.specs.Option.{option_copied};
+ghost use Rattle.bag_text.specs.Order.{IsListOf};
+ghost use Rattle.bag_tree.specs.Bag.{Bag};
+ghost use Rattle.bag_facts.specs.FaultOrder.{fault_cmp};
+ghost use Rattle.bag_facts.specs.Facts.{IsFactsOf};
+ghost use Rattle.bag_facts.specs.Options.{reaches};
+ghost use Rattle.bag_facts.specs.declared.options.Depth.TheVariants.{Declaration};
+ghost use Rattle.bag_stages.specs.CompletenessFaults.{IsIncomplete, IsWrong};
+ghost use Rattle.bag_profile.specs.Profile.{Profile};
+ghost use Rattle.bag_walk.specs.Completeness.{IsAbove, IsOfAlg, IsOfSomeAlg, IsSoughtAbove, IsStageAbove};
+ghost use Rattle.bag_walk.specs.Source.{first_of};
+
+use crate::ascending::{above, merged};
+use crate::{Fixed, InOrder, Quiet, Source};
+use bag_facts::{Facts, Fault};
+use bag_read::Kind;
+use bag_stages::{clashes_asked, is_exact, missing_of, unlisted_in_all, unlisted_of};
+use bag_text::Alg;
+use bag_tree::{Stop, Tree};
+use std::alloc::{AllocError, Global};
+
+/// What keeps a bag from being complete (RFC 8493, 3), and where they are asked for clashes of names, above a cursor. Opens no
+/// file.
+#[derive(Debug, Drop)]
+pub struct Completeness {
+    list: Fixed,
+}
+
+impl Completeness {
+    /// Those of a bag of which these facts were read. There are none where the depth doesn't have them. Fails only where memory
+    /// runs out.
+    pub fn new(
+        alloc: Global,
+        facts: &Facts,
+        after: Option<&Fault>,
+    ) -> Result<Completeness, AllocError>
+        ensures sought { IfOk result (λ source. (bag : Bag) → IsFactsOf bag facts.now → reaches facts.now.options.depth 6 ≡ true
+            → IsListOf fault_cmp (IsSoughtAbove facts.now.options.clashes bag (option_copied after.entry)) source.list.faults) }
+        ensures none { IfOk result (λ source. reaches facts.now.options.depth 6 ≡ false → source.list.faults ≡ []) }
+        ensures reported { IfOk result (λ source. (bag : Bag) (profile : Option Profile) → IsFactsOf bag facts.now
+            → IsStageAbove (record { bag = bag; profile = profile; options = facts.now.options }) 6 (option_copied after.entry) source.list.faults) }
+    {
+        let faults = asked(alloc, facts, after)?;
+        Ok(Completeness {
+            list: Fixed::of(faults),
+        })
+    }
+}
+
+/// The faults of completeness and of names above a cursor that are asked for.
+fn asked(alloc: Global, facts: &Facts, after: Option<&Fault>) -> Result<Vec<Fault>, AllocError>
+    ensures sought { IfOk result (λ faults. (bag : Bag) → IsFactsOf bag facts.now → reaches facts.now.options.depth 6 ≡ true
+        → IsListOf fault_cmp (IsSoughtAbove facts.now.options.clashes bag (option_copied after.entry)) faults.items) }
+    ensures none { IfOk result (λ faults. reaches facts.now.options.depth 6 ≡ false → faults.items ≡ []) }
+{
+    if facts.options.depth.has_stage(6) {
+        sought(alloc, facts, after)
+    } else {
+        Ok(Vec::new(alloc))
+    }
+}
+
+/// The faults of completeness above a cursor, of facts read for more than the declaration, and where the options ask for them
+/// the clashes of names.
+fn sought(alloc: Global, facts: &Facts, after: Option<&Fault>) -> Result<Vec<Fault>, AllocError>
+    ensures { IfOk result (λ faults. (bag : Bag) → IsFactsOf bag facts.now → facts.now.options.depth ≢ Declaration
+        → IsListOf fault_cmp (IsSoughtAbove facts.now.options.clashes bag (option_copied after.entry)) faults.items) }
+{
+    let of_files = of_files(alloc, facts, after)?;
+    let of_names = above(clashes_asked(alloc, facts)?, after);
+    merged(alloc, of_files, of_names)
+}
+
+/// The faults above a cursor that files are missing or aren't listed: those of each manifest, and those of all payload
+/// manifests at once, which a bag has by the rules of 0.97.
+fn of_files(alloc: Global, facts: &Facts, after: Option<&Fault>) -> Result<Vec<Fault>, AllocError>
+    ensures { IfOk result (λ faults. (bag : Bag) → IsFactsOf bag facts.now → facts.now.options.depth ≢ Declaration
+        → IsListOf fault_cmp (IsAbove (option_copied after.entry) (IsIncomplete bag)) faults.items) }
+{
+    let of_algs = of_algs(alloc, facts, after)?;
+    let of_all = above(unlisted_in_all(alloc, facts)?, after);
+    merged(alloc, of_algs, of_all)
+}
+
+/// Those of the manifests of each algorithm.
+fn of_algs(alloc: Global, facts: &Facts, after: Option<&Fault>) -> Result<Vec<Fault>, AllocError>
+    ensures { IfOk result (λ faults. (bag : Bag) → IsFactsOf bag facts.now → facts.now.options.depth ≢ Declaration
+        → IsListOf fault_cmp (IsAbove (option_copied after.entry) (IsOfSomeAlg bag)) faults.items) }
+{
+    let mut faults = Vec::new(alloc);
+    for alg in Alg::ALL {
+        let of_alg = of_alg(alloc, facts, alg, after)?;
+        faults = merged(alloc, faults, of_alg)?;
+    }
+    Ok(faults)
+}
+
+/// Those of the manifests of an algorithm.
+fn of_alg(
+    alloc: Global,
+    facts: &Facts,
+    alg: Alg,
+    after: Option<&Fault>,
+) -> Result<Vec<Fault>, AllocError>
+    ensures { IfOk result (λ faults. (bag : Bag) → IsFactsOf bag facts.now → facts.now.options.depth ≢ Declaration
+        → IsListOf fault_cmp (IsAbove (option_copied after.entry) (IsOfAlg bag alg)) faults.items) }
+{
+    let of_payload = of_payload(alloc, facts, alg, after)?;
+    let of_tags = above(missing_of(alloc, facts, Kind::Tag, alg)?, after);
+    merged(alloc, of_payload, of_tags)
+}
+
+/// Those of the payload manifest of an algorithm. Most have none, which one look at both lists shows.
+fn of_payload(
+    alloc: Global,
+    facts: &Facts,
+    alg: Alg,
+    after: Option<&Fault>,
+) -> Result<Vec<Fault>, AllocError>
+    ensures { IfOk result (λ faults. (bag : Bag) → IsFactsOf bag facts.now → facts.now.options.depth ≢ Declaration
+        → IsListOf fault_cmp (IsAbove (option_copied after.entry) (IsWrong bag alg)) faults.items) }
+{
+    if is_exact(facts, alg) {
+        return Ok(Vec::new(alloc));
+    }
+    let missing = above(missing_of(alloc, facts, Kind::Payload, alg)?, after);
+    let unlisted = above(unlisted_of(alloc, facts, alg)?, after);
+    merged(alloc, missing, unlisted)
+}
+
+impl<T: Tree> Source<T> for Completeness {
+    ghost is_of = { λ bag s. IsStrictlySortedBy fault_cmp s.list.faults };
+
+    ghost remaining = { λ bag s. s.list.faults };
+
+    ghost todo = { λ s. [] };
+
+    ghost found = { λ s. first_of s.list.faults };
+
+    ghost in_order = { ⊤ };
+
+    ghost is_first = { λ bag s fault h e. e };
+
+    ghost ascends = { λ bag s h. h };
+
+    fn fill(&mut self, tree: &mut T) -> Result<(), Stop> {
+        self.list.fill(tree)
+    }
+
+    fn peek(&self) -> Option<&Fault> {
+        <Fixed as Source<T>>::peek(&self.list)
+    }
+
+    fn advance(&mut self) {
+        <Fixed as Source<T>>::advance(&mut self.list);
+    }
+}
+
+impl<T: Tree> InOrder<T> for Completeness {
+    ghost is_in_order = { tt };
+}
+
+impl<T: Tree> Quiet<T> for Completeness {
+    ghost use Rattle.std.specs.Prelude.{refl};
+
+    ghost is_quiet = { λ s. refl };
+}

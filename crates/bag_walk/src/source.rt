@@ -1,0 +1,83 @@
+//! What a source of faults is.
+ghost use Rattle.std.specs.Prelude.{ℕ, ◌≡◌, [], List, Option, Some, None, IsTrue, IsSome, IfErr, OnOk, OnErr};
+ghost use Rattle.std.specs.List.Sorted.{IsStrictlySortedBy};
+ghost use Rattle.std.specs.Option.{option_copied};
+ghost use Rattle.bag_tree.specs.Bag.{Bag};
+ghost use Rattle.bag_tree.specs.Tree.{Keeps};
+ghost use Rattle.bag_facts.specs.FaultOrder.{fault_cmp};
+ghost use Rattle.bag_facts.specs.declared.fault.Fault.{Fault};
+ghost use Rattle.bag_walk.specs.Openings.{Opens, OpensAgain, OpensNoneBehind};
+ghost use Rattle.bag_walk.specs.Source.{first_of, rest_of, Sees, MayStopAnyway, MayStopFilling};
+
+use bag_facts::Fault;
+use bag_tree::{Stop, Tree};
+
+/// Faults of a bag in their order, which are found as they are asked for.
+///
+/// `fill` finds the first fault that is left, `peek` shows it, and `advance` takes it away.
+pub trait Source<T: Tree> {
+    /// What it holds is of this bag.
+    ghost is_of: { Bag → Self → Type 0 };
+
+    /// The faults that are left in a bag.
+    ghost remaining: { Bag → Self → List Fault };
+
+    /// The files that it may still open. The first is the next.
+    ghost todo: { Self → List (List ℕ) };
+
+    /// The fault that it shows.
+    ghost found: { Self → Option Fault };
+
+    /// What it promises of the files that it opens: they are the first of those that it may still open, each once, and none
+    /// stands behind the first fault that is left.
+    ghost in_order: { Type 0 };
+
+    /// Finds the first fault that is left, over an honest tree of its bag, and leaves what is left as it is, also where it is
+    /// refused. The file that was refused is the next to be opened.
+    ///
+    /// A source that has no file to open does so over any tree, for each bag that it is of.
+    fn fill(&mut self, tree: &mut T) -> Result<(), Stop>
+        ensures keeps { Keeps (T.state tree.old) (T.state tree.new) }
+        ensures calm { OnOk result ((T.state tree.new).failures ≡ (T.state tree.old).failures) }
+        ensures opens { OnOk result (in_order → Opens (todo self.old) (todo self.new) (T.state tree.old) (T.state tree.new)) }
+        ensures again { OnErr result (in_order → OpensAgain (todo self.old) (todo self.new) (T.state tree.old) (T.state tree.new)) }
+        ensures ended { OnOk result (in_order → found self.new ≡ None → todo self.new ≡ []) }
+        ensures same { (bag : Bag) → is_of bag self.old → Sees (T.state tree.old) (todo self.old) bag
+            → is_of bag self.new × (remaining bag self.new ≡ remaining bag self.old) }
+        ensures first { OnOk result ((bag : Bag) → is_of bag self.old → Sees (T.state tree.old) (todo self.old) bag
+            → found self.new ≡ first_of (remaining bag self.new)) }
+        ensures behind { in_order → (bag : Bag) → is_of bag self.old → Sees (T.state tree.old) (todo self.old) bag
+            → OpensNoneBehind (remaining bag self.old) (T.state tree.old) (T.state tree.new) }
+        ensures stop { IfErr result (λ stop. (IsTrue (T.state tree.old).honest → is_of (T.state tree.old).bag self.old)
+            → MayStopFilling (todo self.new) (T.state tree.old) (T.state tree.new) stop) }
+        ensures anyway { IfErr result (MayStopAnyway (todo self.new) (T.state tree.old) (T.state tree.new)) };
+
+    /// The first fault that is left, where it was found. After `fill` there is none only where none is left.
+    fn peek(&self) -> Option<&Fault>
+        ensures { option_copied result ≡ found self.now };
+
+    /// Takes the fault that was found away.
+    fn advance(&mut self)
+        requires { IsSome (found self.old) }
+        ensures rest { (bag : Bag) → is_of bag self.old → is_of bag self.new × (remaining bag self.new ≡ rest_of (remaining bag self.old)) }
+        ensures todo { todo self.new ≡ todo self.old };
+
+    /// A fault that is shown is the first that is left.
+    ghost is_first: { (bag : Bag) (source : Self) (fault : Fault) → is_of bag source → found source ≡ Some fault
+        → first_of (remaining bag source) ≡ Some fault };
+
+    /// The faults that are left ascend.
+    ghost ascends: { (bag : Bag) (source : Self) → is_of bag source → IsStrictlySortedBy fault_cmp (remaining bag source) };
+}
+
+/// A source that opens its files in their order, and none behind the first fault that is left.
+pub trait InOrder<T: Tree>: Source<T> {
+    /// The promise holds.
+    ghost is_in_order: { Self.in_order };
+}
+
+/// A source that opens no file.
+pub trait Quiet<T: Tree>: InOrder<T> {
+    /// No file is to be opened.
+    ghost is_quiet: { (source : Self) → Self.todo source ≡ [] };
+}

@@ -1,0 +1,79 @@
+//! A file whose digests are to be compared.
+ghost use Rattle.std.specs.Prelude.{◌≡◌, ◌<◌, ◌∷◌, ◌++◌, ℕ, List, [], Contains, IsTrue, IfOk, IfErr, OnOk, OnErr, length};
+ghost use Rattle.std.specs.Option.{option_copied};
+ghost use Rattle.bag_tree.specs.Tree.{Keeps, IsEntryOf, OpensAtMost};
+ghost use Rattle.bag_stages.specs.SumFaults.{faults_of_bytes, AreSumsBy};
+ghost use Rattle.bag_stages.specs.declared.expected.Expected.{Expected as Given};
+ghost use Rattle.bag_report.specs.Report.{above};
+ghost use Rattle.bag_walk.specs.Source.{MayStopAnyway, MayStopFilling};
+ghost use Rattle.bag_walk.specs.ToSum.{faults_in};
+
+use crate::ascending::above;
+use bag_facts::{Fault, stop_at};
+use bag_stages::{Expected, faults_by};
+use bag_text::{AlgSet, Items};
+use bag_tree::{FileEntry, Stop, Sums, Tree, TreeFault, digest_file};
+use std::alloc::{AllocError, Global};
+
+/// A listed file, and what manifests give for it, in the order of their algorithms.
+#[derive(Debug, Drop)]
+pub(crate) struct ToSum {
+    pub file: FileEntry,
+    pub expected: Items<Expected>,
+}
+
+/// The faults of a file that are above a cursor. It is opened once, and read once for all its algorithms.
+pub(crate) fn faults_of_file<T: Tree>(
+    alloc: Global,
+    tree: &mut T,
+    to_sum: &ToSum,
+    after: Option<&Fault>,
+    buffer: &mut [u8],
+) -> Result<Vec<Fault>, Stop>
+    requires { 0 < length buffer.old }
+    ensures keeps { Keeps (T.state tree.old) (T.state tree.new) }
+    ensures calm { OnOk result ((T.state tree.new).failures ≡ (T.state tree.old).failures) }
+    ensures opened { OnOk result ((T.state tree.new).openings ≡ (T.state tree.old).openings ++ to_sum.now.file.path ∷ []) }
+    ensures opens { OnErr result (OpensAtMost (T.state tree.old) (T.state tree.new) to_sum.now.file.path) }
+    ensures faults { IfOk result (λ faults. IsTrue (T.state tree.old).honest
+        → faults.items ≡ above (option_copied after.entry) (faults_in (T.state tree.old).bag to_sum.now)) }
+    ensures stop { IfErr result (λ stop. (rest : List (List ℕ)) → (IsTrue (T.state tree.old).honest → IsEntryOf (T.state tree.old).bag to_sum.now.file)
+        → MayStopFilling (to_sum.now.file.path ∷ rest) (T.state tree.old) (T.state tree.new) stop) }
+    ensures anyway { IfErr result (λ stop. (rest : List (List ℕ)) → MayStopAnyway (to_sum.now.file.path ∷ rest) (T.state tree.old) (T.state tree.new) stop) }
+{
+    let algs = algs_of(to_sum.expected.as_slice());
+    let sums = match digest_file(tree, &to_sum.file, algs, buffer) {
+        Ok(sums) => sums,
+        Err(cause) => return Err(stop_at(alloc, cause, &to_sum.file.path)),
+    };
+    match faults_above(alloc, to_sum, &sums, after) {
+        Ok(faults) => Ok(faults),
+        Err(AllocError) => Err(Stop::without_path(alloc, TreeFault::Memory)),
+    }
+}
+
+/// The algorithms by which digests are given.
+fn algs_of(expected: &[Expected]) -> AlgSet
+    ensures { (one : Given) → Contains expected.now one → Contains result one.alg }
+{
+    let mut algs = AlgSet::empty();
+    for one in expected {
+        algs = algs.with(one.alg);
+    }
+    algs
+}
+
+/// The faults of a file whose digests are these, above a cursor.
+fn faults_above(
+    alloc: Global,
+    to_sum: &ToSum,
+    sums: &Sums,
+    after: Option<&Fault>,
+) -> Result<Vec<Fault>, AllocError>
+    ensures { IfOk result (λ faults. (content : List ℕ) → AreSumsBy to_sum.now.expected content sums.now
+        → faults.items ≡ above (option_copied after.entry) (faults_of_bytes to_sum.now.file.path content to_sum.now.expected)) }
+{
+    let expected = to_sum.expected.as_slice();
+    let faults = faults_by(alloc, &to_sum.file.path, expected, sums)?;
+    Ok(above(faults, after))
+}

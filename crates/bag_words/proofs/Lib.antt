@@ -1,2 +1,0 @@
-pub mod AlgSets
-pub mod Codes

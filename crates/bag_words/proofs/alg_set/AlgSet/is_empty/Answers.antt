@@ -1,5 +1,0 @@
-use Rattle.bag_words.proofs.AlgSets.{no_flag}
-use Rattle.bag_words.proofs.alg_set.AlgSet.is_empty.Goals as goal
-
-pub returns : goal.returns
-returns c = rw (c.contains.ensures.value, ← c.self.view_is) (no_flag c.self.inside c.self.invariant)

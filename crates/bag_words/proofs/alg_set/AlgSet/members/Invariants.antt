@@ -1,6 +1,0 @@
-use Rattle.std.proofs.Common.{◌≡◌, take, filter}
-use Rattle.bag_words.specs.AlgList.{has_member}
-use Rattle.bag_words.proofs.alg_set.AlgSet.members.Given as goal
-
-abbrev pub invariant-loop-alg : goal.invariant-loop-alg
-invariant-loop-alg l = l.members.items ≡ filter (has_member l.fn.self) (take l.alg-index l.alg-items)

@@ -1,5 +1,0 @@
-pub mod Alg
-pub mod AlgList
-pub mod AlgSet
-pub mod AlgTable
-pub mod Code

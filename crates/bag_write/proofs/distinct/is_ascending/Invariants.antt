@@ -1,8 +1,0 @@
-use Rattle.std.proofs.Common.{◌≡◌, ℕ, ◌+◌, ◌<◌, List, get_or}
-use Rattle.std.specs.Borrow.{Bor}
-use Rattle.std.specs.declared.cmp.Ordering.TheVariants.{Less}
-use Rattle.bag_text.specs.Text.{text_cmp}
-use Rattle.bag_write.proofs.distinct.is_ascending.Given as goal
-
-abbrev pub invariant-loop-k : goal.invariant-loop-k
-invariant-loop-k l = (k : ℕ) (d : Bor (List ℕ)) → k + 1 < l.k → text_cmp (get_or l.texts k d).now (get_or l.texts (k + 1) d).now ≡ Less

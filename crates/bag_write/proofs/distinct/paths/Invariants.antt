@@ -1,7 +1,0 @@
-use Rattle.std.proofs.Common.{◌≡◌, take}
-use Rattle.bag_write.specs.Distinct.{texts_of}
-use Rattle.bag_write.specs.Entry as spec
-use Rattle.bag_write.proofs.distinct.paths.Given as goal
-
-abbrev pub invariant-loop-entry : goal.invariant-loop-entry
-invariant-loop-entry l = texts_of l.paths.items ≡ spec.paths (take l.entry-index l.entries)

@@ -1,6 +1,0 @@
-use Rattle.std.proofs.Common.{◌≡◌, take, string_bytes}
-use Rattle.bag_write.specs.Element as spec
-use Rattle.bag_write.proofs.info.info_text.Given as goal
-
-abbrev pub invariant-loop-element : goal.invariant-loop-element
-invariant-loop-element l = string_bytes l.text ≡ spec.info_text (take l.element-index l.elements)

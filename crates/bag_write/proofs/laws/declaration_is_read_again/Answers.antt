@@ -1,5 +1,0 @@
-use Rattle.bag_write.proofs.DeclarationReadAgain.{declaration_again}
-use Rattle.bag_write.proofs.laws.declaration_is_read_again.Goals as goal
-
-pub returns : goal.returns
-returns c = declaration_again

@@ -1,6 +1,0 @@
-use Rattle.std.proofs.Common.{◌≡◌, take, string_bytes}
-use Rattle.bag_write.specs.Entry as spec
-use Rattle.bag_write.proofs.manifest.manifest_text.Given as goal
-
-abbrev pub invariant-loop-entry : goal.invariant-loop-entry
-invariant-loop-entry l = string_bytes l.text ≡ spec.manifest_text (take l.entry-index l.entries)

@@ -1,5 +1,0 @@
-pub mod Declaration
-pub mod Distinct
-pub mod Element
-pub mod Entry
-pub mod ReadAgain

@@ -1,8 +1,0 @@
-//! Laws of the definitions, each the contract of a function that does nothing.
-ghost use Rattle.std.specs.Prelude.{ℕ, List};
-ghost use Rattle.bag_tree.specs.Moved.{MovedIsThere};
-
-/// A file that is moved stands at its new path then, and so do those below it, and no other is moved.
-pub fn moved_is_there()
-    ensures { MovedIsThere (List ℕ) }
-{}

@@ -1,0 +1,34 @@
+-- What a lookup finds is what stands there.
+use Rattle.std.proofs.Common.{◌≡◌, ℕ, ◌==◌, List, [], ◌∷◌, length, Option, None, Some, cond, MatchOption, Bor, refl, ap, sym, ◌∙◌, Bool, true, false}
+use Rattle.std.proofs.lemmas.Bool.{false≢true}
+use Rattle.std.specs.FinMap.{find, get-from_entries}
+use Rattle.std.specs.Cmp.Lexicographic.{nat_list_cmp_total}
+use Rattle.std.specs.Map.{lookup}
+use Rattle.std.specs.Option.{option_map, option_copied}
+use Rattle.std.specs.BTreeMap.{is_at}
+use Rattle.bag_text.specs.Text.{text_cmp}
+use Rattle.bag_disk.specs.Disk as disk
+use Rattle.test_disk.specs.Held.{Held, entries_of, nodes_of, node_of}
+use Rattle.test_disk.specs.declared.held.Node.{Node}
+
+mapped_cond : (b : Bool) (n : Node) (o : Option Node) → cond b (Some (node_of n)) (option_map node_of o) ≡ option_map node_of (cond b (Some n) o)
+mapped_cond true n o = refl
+mapped_cond false n o = refl
+
+find_held : (held : Held) (q : List ℕ) → find text_cmp q (entries_of held) ≡ option_map node_of (lookup (is_at (λ k. text_cmp q k.items)) held)
+find_held [] q = refl
+find_held (e ∷ held) q =
+    ap (cond (is_at (text_cmp q) e.0.items) (Some (node_of e.1))) (find_held held q) ∙ mapped_cond (is_at (text_cmp q) e.0.items) e.1 (lookup (is_at (λ k. text_cmp q k.items)) held)
+
+-- what stands at a path is what a lookup finds
+pub found_at : (held : Held) (q : List ℕ) → disk.node (nodes_of held) q ≡ option_map node_of (lookup (is_at (λ k. text_cmp q k.items)) held)
+found_at held q = get-from_entries nat_list_cmp_total (entries_of held) q ∙ find_held held q
+
+pub match_copied : (r : Option (Bor Node)) (o : Option Node) (p : Option disk.Node) → option_copied r ≡ o → p ≡ option_map node_of o → MatchOption r (p ≡ None) (λ found. p ≡ Some (node_of found.now))
+match_copied None o p e is = is ∙ ap (option_map node_of) (sym e)
+match_copied (Some x) o p e is = is ∙ ap (option_map node_of) (sym e)
+
+-- where a path isn't that of the base folder and no folder stands at it, there is none
+pub no_folder : (nodes : disk.Nodes) (folder : List ℕ) → (length folder == 0) ≡ false → disk.is_folder_node (disk.node nodes folder) ≡ false → disk.IsFolder nodes folder → ⊥
+no_folder nodes [] some none is = false≢true (sym some)
+no_folder nodes (c ∷ folder) some none is = false≢true (sym none ∙ ap disk.is_folder_node is)

@@ -1,0 +1,19 @@
+use Rattle.std.proofs.Common.{◌≡◌, None, arith}
+use Rattle.std.proofs.lemmas.Grind.{common_steps}
+use Rattle.bag_disk.specs.Disk.{node}
+use Rattle.bag_tree.specs.Moved.{moved}
+use Rattle.test_disk.specs.Held.{nodes_of}
+use Rattle.test_disk.proofs.HeldMoved.{others_stay}
+use Rattle.test_disk.proofs.Placed.{disk_passes}
+use Rattle.test_disk.proofs.memory_disk.MemoryDiskWritableDisk.rename.Goals as goal
+
+pub invariant_of-self-2 : goal.invariant_of-self-2
+invariant_of-self-2 c = record { passes = disk_passes (nodes_of c.in-Ok.moved.entries) c.in-Ok.ensures.disk }
+
+pub returns-clause-others : goal.returns-clause-others
+returns-clause-others c _ _ _ =
+    let nodes = nodes_of c.args.self.now.nodes.entries in
+    let new = nodes_of c.in-Ok.moved.entries in
+    let free : node nodes c.args.to.now ≡ None = grind (arith, common_steps) in
+    let made : new ≡ moved c.args.from.now c.args.to.now nodes = grind (arith, common_steps) in
+    others_stay nodes new c.args.from.now c.args.to.now c.args.self.now.passes free made

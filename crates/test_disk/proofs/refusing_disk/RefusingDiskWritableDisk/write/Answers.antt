@@ -1,0 +1,26 @@
+use Rattle.std.proofs.Common.{refl}
+use Rattle.std.proofs.lemmas.Bool.{and_parts}
+use Rattle.std.proofs.lemmas.Result.{IfOk-weaker}
+use Rattle.test_disk.proofs.RefusedCalls.{tells}
+use Rattle.test_disk.proofs.refusing_disk.RefusingDiskWritableDisk.write.Goals as goal
+
+pub returns-clause-appended : goal.returns-clause-appended
+returns-clause-appended g c = IfOk-weaker c.write.result _ _ (λ _ old honest. old (and_parts _ _ honest).0) c.write.ensures.appended
+
+pub returns-clause-taken : goal.returns-clause-taken
+returns-clause-taken g c is honest = c.write.ensures.taken is (and_parts _ _ honest).0
+
+pub returns-clause-absent : goal.returns-clause-absent
+returns-clause-absent g c is honest = c.write.ensures.absent is (and_parts _ _ honest).0
+
+pub returns-clause-unnamed : goal.returns-clause-unnamed
+returns-clause-unnamed g c is honest = c.write.ensures.unnamed is (and_parts _ _ honest).0
+
+pub returns-then-is_due-clause-taken : goal.returns-then-is_due-clause-taken
+returns-then-is_due-clause-taken g c is honest = absurd (tells c.args.self.now.fault _ _ is refl honest)
+
+pub returns-then-is_due-clause-absent : goal.returns-then-is_due-clause-absent
+returns-then-is_due-clause-absent g c is honest = absurd (tells c.args.self.now.fault _ _ is refl honest)
+
+pub returns-then-is_due-clause-unnamed : goal.returns-then-is_due-clause-unnamed
+returns-then-is_due-clause-unnamed g c is honest = absurd (tells c.args.self.now.fault _ _ is refl honest)

@@ -1,0 +1,10 @@
+-- A disk of which one call is refused.
+use Rattle.bag_disk.specs.declared.disk.DiskFault.{DiskFault}
+use Rattle.test_disk.specs.declared.refusing_disk.Call.{Call}
+use Rattle.test_disk.specs.declared.refusing_disk.RefusingDisk.{RefusingDisk}
+
+abbrev pub call_of : {D : Type 0} → RefusingDisk D → Call
+call_of disk = disk.call
+
+abbrev pub fault_of : {D : Type 0} → RefusingDisk D → DiskFault
+fault_of disk = disk.fault

@@ -1,0 +1,434 @@
+//! A disk in memory.
+ghost use Rattle.test_disk.specs.Held.{nodes_of};
+ghost use Rattle.test_disk.specs.Placing.{PassesAsDisk};
+
+use crate::changing::{add_node, append, moved_to};
+use crate::held::{Node, is_folder, names_in, node_at};
+use crate::placing::are_placed;
+use crate::reading::read_at;
+use bag_disk::{Disk, DiskFault, Entry, WritableDisk};
+use bag_text::{Items, Text};
+use std::alloc::{AllocError, Global};
+use std::collections::BTreeMap;
+use std::str;
+
+/// What a file holds when it is opened, in place of what is listed.
+#[derive(Drop)]
+pub(crate) struct Swap {
+    path: Text,
+    bytes: Vec<u8>,
+}
+
+impl Swap {
+    ghost use Rattle.std.specs.Prelude.{◌≡◌, Some};
+    ghost use Rattle.test_disk.specs.MemoryDisk.{bytes_with};
+
+    /// What is read in place of a file's bytes.
+    fn in_place_of<'a>(&'a self, path: &str, bytes: &'a [u8]) -> &'a [u8]
+        ensures { result.now ≡ bytes_with (Some self.now) path.now bytes.now }
+    {
+        if self.path.as_str() == path {
+            self.bytes.as_slice()
+        } else {
+            bytes
+        }
+    }
+}
+
+/// A disk in memory, below its base folder. It is honest until a file is swapped.
+#[derive(Drop)]
+pub struct MemoryDisk {
+    alloc: Global,
+    nodes: BTreeMap<Vec<u8>, Node>,
+    barred: Items<Text>,
+    swap: Option<Swap>,
+    openings: Items<Text>,
+    open: Option<Items<u8>>,
+    at: usize,
+    names: Items<Items<u8>>,
+    named: usize,
+    written: Option<Text>,
+    /// Whether the device was asked to keep the names in the base folder as they are.
+    is_kept: bool,
+    ghost passes: { PassesAsDisk (nodes_of nodes.entries) },
+}
+
+impl MemoryDisk {
+    ghost use Rattle.std.specs.Prelude.{◌≡◌, ◌++◌, ◌∷◌, [], IfOk, MatchOption, OnOk, OnErr};
+    ghost use Rattle.bag_disk.specs.Disk.{IsDisk};
+    ghost use Rattle.test_disk.specs.MemoryDisk.{fresh, not_honest, barred_of, state_of};
+
+    /// A disk that holds this at these paths; none where that can't stand on a disk: a key isn't a path, the folders on its
+    /// way aren't there, or a file or a folder has a name that isn't UTF-8.
+    pub fn holding(alloc: Global, nodes: BTreeMap<Vec<u8>, Node>) -> Option<MemoryDisk>
+        ensures disk { MatchOption result (¬ (IsDisk (nodes_of nodes.entries))) (λ disk. state_of disk ≡ fresh (nodes_of nodes.entries)) }
+        ensures open { MatchOption result (¬ (IsDisk (nodes_of nodes.entries))) (λ disk. barred_of disk ≡ []) }
+    {
+        if !are_placed(&nodes) {
+            return None;
+        }
+        Some(MemoryDisk::with_nodes(alloc, nodes))
+    }
+
+    /// A disk on which nothing stands.
+    pub fn empty(alloc: Global) -> MemoryDisk
+        ensures disk { state_of result ≡ fresh (nodes_of []) }
+        ensures open { barred_of result ≡ [] }
+    {
+        MemoryDisk::with_nodes(alloc, BTreeMap::new(alloc))
+    }
+
+    fn with_nodes(alloc: Global, nodes: BTreeMap<Vec<u8>, Node>) -> MemoryDisk
+        requires { IsDisk (nodes_of nodes.entries) }
+        ensures disk { state_of result ≡ fresh (nodes_of nodes.entries) }
+        ensures open { barred_of result ≡ [] }
+    {
+        MemoryDisk {
+            alloc,
+            nodes,
+            barred: Items::new(alloc),
+            swap: None,
+            openings: Items::new(alloc),
+            open: None,
+            at: 0,
+            names: Items::new(alloc),
+            named: 0,
+            written: None,
+            is_kept: false,
+        }
+    }
+
+    /// A disk that holds the same. None of its folders is barred, no file of it is swapped, and nothing is open.
+    pub fn fresh_copy(&self, alloc: Global) -> Result<MemoryDisk, AllocError>
+        ensures disk { IfOk result (λ disk. state_of disk ≡ fresh (state_of self.now).nodes) }
+        ensures open { IfOk result (λ disk. barred_of disk ≡ []) }
+    {
+        Ok(MemoryDisk::with_nodes(alloc, self.nodes.clone()?))
+    }
+
+    /// From now on the folder may not be read: entering it answers `Device`. The empty path is the base folder.
+    pub fn bar(&mut self, folder: Text) -> Result<(), AllocError>
+        ensures same { state_of self.new ≡ state_of self.old }
+        ensures barred { OnOk result (barred_of self.new ≡ barred_of self.old ++ folder ∷ []) }
+        ensures refused { OnErr result (barred_of self.new ≡ barred_of self.old) }
+    {
+        self.barred.push(folder)
+    }
+
+    /// From now on the file at the path, where there is one, holds these bytes when it is opened, and no other file is
+    /// swapped. What is listed stays, so the disk isn't honest any more.
+    pub fn swap(&mut self, path: Text, bytes: Vec<u8>)
+        ensures state { state_of self.new ≡ not_honest (state_of self.old) }
+        ensures barred { barred_of self.new ≡ barred_of self.old }
+    {
+        self.swap = Some(Swap { path, bytes });
+    }
+
+    /// The paths that were opened, in the order of the calls.
+    pub fn openings(&self) -> &[Text]
+        ensures { result.now ≡ (state_of self.now).openings }
+    {
+        self.openings.as_slice()
+    }
+}
+
+impl MemoryDisk {
+    ghost use Rattle.std.specs.Prelude.{◌≡◌, IfErr, IfOk, IsErrOf, None, Some};
+    ghost use Rattle.bag_disk.specs.Disk.{node};
+    ghost use Rattle.bag_disk.specs.declared.disk.DiskFault.TheVariants.{NotFound};
+    ghost use Rattle.test_disk.specs.MemoryDisk.{MayRefuse, bytes_with, content_of, is_barred};
+
+    /// Whether a folder may not be read.
+    fn is_barred(&self, folder: &str) -> bool
+        ensures { result ≡ is_barred self.now folder.now }
+    {
+        self.barred.iter().any(|path| path.as_str() == folder)
+    }
+
+    /// A copy of what a file holds when it is opened.
+    fn content(&self, path: &str) -> Result<Items<u8>, DiskFault>
+        ensures content { IfOk result (λ content. content_of self.now path.now ≡ Some content) }
+        ensures absent { IsErrOf result NotFound → node (nodes_of self.now.nodes.entries) path.now ≡ None }
+        ensures refused { IfErr result (MayRefuse (content_of self.now path.now ≡ None)) }
+    {
+        match node_at(&self.nodes, path.as_bytes()) {
+            Some(Node::File(bytes)) => Ok(self.copy_with_swap(path, bytes.as_slice())?),
+            Some(Node::Folder) | Some(Node::Other) => Err(DiskFault::Device),
+            None => Err(DiskFault::NotFound),
+        }
+    }
+
+    /// A copy of a file's bytes, or of those that are swapped for them.
+    fn copy_with_swap(&self, path: &str, bytes: &[u8]) -> Result<Items<u8>, AllocError>
+        ensures { IfOk result (λ copy. copy ≡ bytes_with self.now.swap path.now bytes.now) }
+    {
+        let held = match &self.swap {
+            Some(swap) => swap.in_place_of(path, bytes),
+            None => bytes,
+        };
+        Ok(Items::from_vec(held.to_vec(self.alloc)?))
+    }
+}
+
+impl Disk for MemoryDisk {
+    ghost use Rattle.std.specs.Prelude.{◌≡◌, ◌<◌, ◌≤◌, ◌++◌, ◌∷◌, [], IfErr, IfOk, IsErrOf, IsTrue, List, MatchOption, None, OnErr, OnOk, Some, is_some, length, ℕ};
+    ghost use Rattle.std.specs.Option.{option_map};
+    ghost use Rattle.bag_text.specs.Path.{is_path};
+    ghost use Rattle.bag_tree.specs.Tree.{ReadsNext};
+    ghost use Rattle.bag_disk.specs.Disk.{AreNamesIn, HasUnnamed, IsFileWith, IsFolder, IsReached, OnlyLooks, SameDisk, entry_of, node};
+    ghost use Rattle.bag_disk.specs.declared.disk.DiskFault.TheVariants.{Memory, Name, NotFound};
+    ghost use Rattle.test_disk.specs.MemoryDisk.{IsEntry, MayRefuse, barred_of, content_of, is_barred, state_of};
+    ghost use Rattle.test_disk.specs.PlacingLaw.{passing_is_disk};
+
+    ghost state = { state_of };
+
+    ghost is_disk = { λ disk. passing_is_disk (nodes_of disk.nodes.entries) disk.passes };
+
+    fn entry_at(&self, path: &str) -> Result<Entry, DiskFault>
+        ensures found { IfOk result (λ entry. IsTrue (state_of self.now).honest → IsReached (state_of self.now).nodes path.now
+            → option_map entry_of (node (state_of self.now).nodes path.now) ≡ Some entry) }
+        ensures absent { IsErrOf result NotFound → IsTrue (state_of self.now).honest → IsReached (state_of self.now).nodes path.now
+            → node (state_of self.now).nodes path.now ≡ None }
+        ensures exact { IsEntry (node (state_of self.now).nodes path.now) result }
+    {
+        match node_at(&self.nodes, path.as_bytes()) {
+            Some(node) => Ok(node.entry()),
+            None => Err(DiskFault::NotFound),
+        }
+    }
+
+    fn enter(&mut self, folder: &str) -> Result<(), DiskFault>
+        ensures looks { OnlyLooks (state_of self.old) (state_of self.new) }
+        ensures honest { OnOk result (IsTrue (state_of self.old).honest → IsFolder (state_of self.old).nodes folder.now
+            → AreNamesIn (state_of self.old).nodes folder.now (state_of self.new).names) }
+        ensures barred { barred_of self.new ≡ barred_of self.old }
+        ensures shut { OnOk result (IsTrue (is_barred self.old folder.now) → ⊥) }
+        ensures refused { IfErr result (MayRefuse (IsTrue (is_barred self.old folder.now))) }
+    {
+        if self.is_barred(folder) {
+            return Err(DiskFault::Device);
+        }
+        self.names = names_in(self.alloc, &self.nodes, folder.as_bytes())?;
+        self.named = 0;
+        Ok(())
+    }
+
+    fn next_name(&mut self) -> Result<Option<Text>, DiskFault>
+        ensures looks { OnlyLooks (state_of self.old) (state_of self.new) }
+        ensures unnamed { IsErrOf result Name → IsTrue (state_of self.old).honest → HasUnnamed (state_of self.old).names }
+        ensures honest { IfOk result (λ next. IsTrue (state_of self.old).honest
+            → MatchOption next ((state_of self.old).names ≡ []) (λ name. (state_of self.old).names ≡ name ∷ (state_of self.new).names)) }
+        ensures barred { barred_of self.new ≡ barred_of self.old }
+    {
+        let Some(name) = self.names.as_slice().get(self.named) else {
+            return Ok(None);
+        };
+        let Ok(text) = str::from_utf8(name.as_slice()) else {
+            return Err(DiskFault::Name);
+        };
+        let text = Text::from_str(self.alloc, text)?;
+        self.named += 1;
+        Ok(Some(text))
+    }
+
+    fn open(&mut self, path: &str) -> Result<(), DiskFault>
+        ensures same { SameDisk (state_of self.old) (state_of self.new) }
+        ensures opened { OnOk result ((state_of self.new).openings ≡ (state_of self.old).openings ++ path.now ∷ []) }
+        ensures file_open { OnOk result (IsTrue (is_some (state_of self.new).rest)) }
+        ensures honest { OnOk result (IsTrue (state_of self.old).honest → IsReached (state_of self.old).nodes path.now
+            → (bytes : List ℕ) → IsFileWith (state_of self.old).nodes path.now bytes → (state_of self.new).rest ≡ Some bytes) }
+        ensures absent { IsErrOf result NotFound → IsTrue (state_of self.old).honest → IsReached (state_of self.old).nodes path.now
+            → node (state_of self.old).nodes path.now ≡ None }
+        ensures closed { OnErr result ((state_of self.new).rest ≡ None) }
+        ensures not_opened { OnErr result ((state_of self.new).openings ≡ (state_of self.old).openings) }
+        ensures barred { barred_of self.new ≡ barred_of self.old }
+        ensures content { OnOk result ((state_of self.new).rest ≡ content_of self.old path.now) }
+        ensures refused { IfErr result (MayRefuse (content_of self.old path.now ≡ None)) }
+    {
+        self.open = None;
+        let content = match self.content(path) {
+            Ok(content) => content,
+            Err(fault) => return Err(fault),
+        };
+        self.openings.push(Text::from_str(self.alloc, path)?)?;
+        self.open = Some(content);
+        self.at = 0;
+        Ok(())
+    }
+
+    fn is_open(&self) -> bool {
+        self.open.is_some()
+    }
+
+    fn close(&mut self) {
+        self.open = None;
+    }
+
+    fn read(&mut self, buffer: &mut [u8]) -> Result<usize, DiskFault> {
+        let Some(content) = &self.open else {
+            return Err(DiskFault::Device);
+        };
+        let count = read_at(content.as_slice(), self.at, buffer);
+        self.at += count;
+        Ok(count)
+    }
+}
+
+impl WritableDisk for MemoryDisk {
+    ghost use Rattle.std.specs.Prelude.{◌≡◌, ◌≤◌, ◌==◌, ◌||◌, IfErr, IfOk, IsErrOf, IsOk, IsTrue, List, MatchResult, None, OnErr, OnOk, Some, false, is_some, length, take, ℕ};
+    ghost use Rattle.bag_text.specs.Path.{is_path};
+    ghost use Rattle.bag_disk.specs.Disk.{Has, IsFolder, IsReached, OnlyLooks, node};
+    ghost use Rattle.bag_disk.specs.WritableDisk.{Appends, Closes, HasFile, MakesFile, MakesFolder, Moves};
+    ghost use Rattle.bag_tree.specs.Moved.{KeepsOthers};
+    ghost use Rattle.bag_disk.specs.declared.disk.DiskFault.TheVariants.{Exists, Name, NotFound};
+    ghost use Rattle.test_disk.specs.Changing.{MayRefuseAdding, MayRefuseMoving, MayRefuseWriting};
+    ghost use Rattle.test_disk.specs.MemoryDisk.{barred_of, is_kept_of, state_of, written_of};
+
+    ghost written = { written_of };
+
+    ghost is_kept = { is_kept_of };
+
+    fn make_folder(&mut self, path: &str) -> Result<(), DiskFault>
+        requires { IsTrue (is_path path.now) }
+        ensures made { OnOk result (IsTrue (state_of self.old).honest → IsReached (state_of self.old).nodes path.now
+            → MakesFolder (state_of self.old).nodes (state_of self.new).nodes path.now) }
+        ensures closed { OnOk result (Closes (state_of self.old) (state_of self.new)) }
+        ensures ended { OnOk result (written_of self.new ≡ None) }
+        ensures taken { IsErrOf result Exists → IsTrue (state_of self.old).honest → IsReached (state_of self.old).nodes path.now
+            → Has (state_of self.old).nodes path.now }
+        ensures absent { IsErrOf result NotFound → IsTrue (state_of self.old).honest → IsReached (state_of self.old).nodes path.now → ⊥ }
+        ensures same { OnErr result (OnlyLooks (state_of self.old) (state_of self.new)) }
+        ensures same_file { OnErr result (written_of self.new ≡ written_of self.old) }
+        ensures unkept { MatchResult result (λ _. is_kept_of self.new ≡ false) (λ _. is_kept_of self.new ≡ is_kept_of self.old) }
+        ensures barred { barred_of self.new ≡ barred_of self.old }
+        ensures refused { IfErr result (MayRefuseAdding (state_of self.old).nodes path.now) }
+    {
+        match add_node(self.alloc, &mut self.nodes, path.as_bytes(), Node::Folder) {
+            Ok(()) => {}
+            Err(fault) => return Err(fault),
+        }
+        self.is_kept = false;
+        self.open = None;
+        self.written = None;
+        Ok(())
+    }
+
+    fn rename(&mut self, from: &str, to: &str) -> Result<(), DiskFault>
+        ensures moved { OnOk result (IsTrue (state_of self.old).honest
+            → IsReached (state_of self.old).nodes from.now → IsReached (state_of self.old).nodes to.now
+            → node (state_of self.old).nodes to.now ≡ None → Moves (state_of self.old).nodes (state_of self.new).nodes from.now to.now) }
+        ensures others { OnOk result (IsTrue (state_of self.old).honest
+            → IsReached (state_of self.old).nodes from.now → IsReached (state_of self.old).nodes to.now
+            → KeepsOthers (state_of self.old).nodes (state_of self.new).nodes from.now to.now) }
+        ensures closed { OnOk result (Closes (state_of self.old) (state_of self.new)) }
+        ensures ended { OnOk result (written_of self.new ≡ None) }
+        ensures taken { IsErrOf result Exists → IsTrue (state_of self.old).honest → IsReached (state_of self.old).nodes to.now
+            → Has (state_of self.old).nodes to.now }
+        ensures absent { IsErrOf result NotFound → IsTrue (state_of self.old).honest
+            → IsReached (state_of self.old).nodes from.now → IsReached (state_of self.old).nodes to.now
+            → node (state_of self.old).nodes from.now ≡ None }
+        ensures same { OnErr result (OnlyLooks (state_of self.old) (state_of self.new)) }
+        ensures same_file { OnErr result (written_of self.new ≡ written_of self.old) }
+        ensures unkept { MatchResult result (λ _. is_kept_of self.new ≡ false) (λ _. is_kept_of self.new ≡ is_kept_of self.old) }
+        ensures barred { barred_of self.new ≡ barred_of self.old }
+        ensures refused { IfErr result (MayRefuseMoving (state_of self.old).nodes from.now to.now) }
+    {
+        match moved_to(self.alloc, &self.nodes, from.as_bytes(), to.as_bytes()) {
+            Ok(moved) => self.nodes = moved,
+            Err(fault) => return Err(fault),
+        }
+        self.is_kept = false;
+        self.open = None;
+        self.written = None;
+        Ok(())
+    }
+
+    fn create(&mut self, path: &str) -> Result<(), DiskFault>
+        requires { IsTrue (is_path path.now) }
+        ensures made { OnOk result (IsTrue (state_of self.old).honest → IsReached (state_of self.old).nodes path.now
+            → MakesFile (state_of self.old).nodes (state_of self.new).nodes path.now) }
+        ensures closed { OnOk result (Closes (state_of self.old) (state_of self.new)) }
+        ensures begun { OnOk result (IsTrue (is_some (written_of self.new))) }
+        ensures begun_there { OnOk result (IsTrue (state_of self.old).honest → written_of self.new ≡ Some path.now) }
+        ensures taken { IsErrOf result Exists → IsTrue (state_of self.old).honest → IsReached (state_of self.old).nodes path.now
+            → Has (state_of self.old).nodes path.now }
+        ensures absent { IsErrOf result NotFound → IsTrue (state_of self.old).honest → IsReached (state_of self.old).nodes path.now → ⊥ }
+        ensures same { OnErr result (OnlyLooks (state_of self.old) (state_of self.new)) }
+        ensures same_file { OnErr result (written_of self.new ≡ written_of self.old) }
+        ensures unkept { MatchResult result (λ _. is_kept_of self.new ≡ false) (λ _. is_kept_of self.new ≡ is_kept_of self.old) }
+        ensures barred { barred_of self.new ≡ barred_of self.old }
+        ensures refused { IfErr result (MayRefuseAdding (state_of self.old).nodes path.now) }
+    {
+        let written = Text::from_str(self.alloc, path)?;
+        let file = Node::File(Vec::new(self.alloc));
+        match add_node(self.alloc, &mut self.nodes, path.as_bytes(), file) {
+            Ok(()) => {}
+            Err(fault) => return Err(fault),
+        }
+        self.is_kept = false;
+        self.open = None;
+        self.written = Some(written);
+        Ok(())
+    }
+
+    fn write(&mut self, bytes: &[u8]) -> Result<usize, DiskFault>
+        ensures within { IfOk result (λ n. n ≤ length bytes.now) }
+        ensures appended { IfOk result (λ n. IsTrue (state_of self.old).honest → (path : List ℕ) → written_of self.old ≡ Some path
+            → HasFile (state_of self.old).nodes path → Appends (state_of self.old).nodes (state_of self.new).nodes path (take n bytes.now)) }
+        ensures closed { OnOk result (Closes (state_of self.old) (state_of self.new)) }
+        ensures taken { IsErrOf result Exists → IsTrue (state_of self.old).honest → ⊥ }
+        ensures absent { IsErrOf result NotFound → IsTrue (state_of self.old).honest → ⊥ }
+        ensures unnamed { IsErrOf result Name → IsTrue (state_of self.old).honest → ⊥ }
+        ensures same { OnErr result (OnlyLooks (state_of self.old) (state_of self.new)) }
+        ensures same_file { written_of self.new ≡ written_of self.old }
+        ensures same_names { is_kept_of self.new ≡ is_kept_of self.old }
+        ensures barred { barred_of self.new ≡ barred_of self.old }
+        ensures all { IfOk result (λ n. n ≡ length bytes.now) }
+        ensures refused { IfErr result (MayRefuseWriting (state_of self.old).nodes (written_of self.old)) }
+    {
+        let Some(path) = &self.written else {
+            return Err(DiskFault::Device);
+        };
+        match append(self.alloc, &mut self.nodes, path.as_str().as_bytes(), bytes) {
+            Ok(()) => {}
+            Err(fault) => return Err(fault),
+        }
+        self.open = None;
+        Ok(bytes.len())
+    }
+
+    fn sync(&mut self) -> Result<(), DiskFault>
+        ensures kept { OnOk result ((state_of self.new).nodes ≡ (state_of self.old).nodes) }
+        ensures closed { OnOk result (Closes (state_of self.old) (state_of self.new)) }
+        ensures ended { OnOk result (written_of self.new ≡ None) }
+        ensures taken { IsErrOf result Exists → IsTrue (state_of self.old).honest → ⊥ }
+        ensures absent { IsErrOf result NotFound → IsTrue (state_of self.old).honest → ⊥ }
+        ensures unnamed { IsErrOf result Name → IsTrue (state_of self.old).honest → ⊥ }
+        ensures same { OnErr result (OnlyLooks (state_of self.old) (state_of self.new)) }
+        ensures same_file { OnErr result (written_of self.new ≡ written_of self.old) }
+        ensures same_names { is_kept_of self.new ≡ is_kept_of self.old }
+        ensures barred { barred_of self.new ≡ barred_of self.old }
+        ensures synced { IsOk result }
+    {
+        self.open = None;
+        self.written = None;
+        Ok(())
+    }
+
+    fn sync_folder(&mut self, folder: &str) -> Result<(), DiskFault>
+        ensures looks { OnlyLooks (state_of self.old) (state_of self.new) }
+        ensures same_file { written_of self.new ≡ written_of self.old }
+        ensures kept { MatchResult result (λ _. is_kept_of self.new ≡ (length folder.now == 0 || is_kept_of self.old)) (λ _. is_kept_of self.new ≡ is_kept_of self.old) }
+        ensures taken { IsErrOf result Exists → IsTrue (state_of self.old).honest → ⊥ }
+        ensures absent { IsErrOf result NotFound → IsTrue (state_of self.old).honest → IsFolder (state_of self.old).nodes folder.now → ⊥ }
+        ensures unnamed { IsErrOf result Name → IsTrue (state_of self.old).honest → ⊥ }
+        ensures barred { barred_of self.new ≡ barred_of self.old }
+        ensures refused { IfErr result (λ fault. (fault ≡ NotFound) × (IsFolder (state_of self.old).nodes folder.now → ⊥)) }
+    {
+        if !folder.is_empty() && !is_folder(&self.nodes, folder.as_bytes()) {
+            return Err(DiskFault::NotFound);
+        }
+        self.is_kept = folder.is_empty() || self.is_kept;
+        Ok(())
+    }
+}
