@@ -18,7 +18,7 @@ pub use Rattle.bag_tree.specs.Bag
 pub use Rattle.bag_tree.specs.Cause
 pub use Rattle.bag_tree.specs.Changes
 pub use Rattle.bag_tree.specs.Digest
-pub use Rattle.bag_tree.specs.DigestFile
+pub use Rattle.bag_tree.specs.FileSums
 pub use Rattle.bag_tree.specs.Digests
 pub use Rattle.bag_tree.specs.Hasher
 pub use Rattle.bag_tree.specs.Heard

@@ -2,7 +2,7 @@ pub mod Bag
 pub mod Cause
 pub mod Changes
 pub mod Digest
-pub mod DigestFile
+pub mod FileSums
 pub mod Digests
 pub mod Hasher
 pub mod Heard

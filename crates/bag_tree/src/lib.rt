@@ -14,8 +14,8 @@
 #![tactic(auto)]
 
 mod answer;
-mod digest_file;
 mod digests;
+mod file_sums;
 mod hasher;
 mod heard;
 pub mod laws;
@@ -30,8 +30,8 @@ mod write_tree;
 mod writer_out;
 
 pub use answer::Answer;
-pub use digest_file::digest_file;
 pub use digests::Digests;
+pub use file_sums::digest_file;
 pub use listing::{FileEntry, Listing};
 pub use out::{Out, Refused};
 pub use path_rest::rest_within;

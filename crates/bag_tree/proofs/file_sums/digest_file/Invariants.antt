@@ -1,7 +1,7 @@
 use Rattle.std.proofs.Common.{◌≡◌, ◌+◌, ◌∷◌, ◌++◌, []}
 use Rattle.bag_tree.specs.Tree.{Keeps, HasOpen}
-use Rattle.bag_tree.specs.DigestFile.{HasTakenSome}
-use Rattle.bag_tree.proofs.digest_file.digest_file.Given as goal
+use Rattle.bag_tree.specs.FileSums.{HasTakenSome}
+use Rattle.bag_tree.proofs.file_sums.digest_file.Given as goal
 
 abbrev pub invariant-loop-count : goal.invariant-loop-count
 invariant-loop-count g l =

@@ -1,7 +1,7 @@
 use Rattle.std.proofs.Common.{rules, inl, inr, ◌∙◌, ◌++◌, take, refl, sym, subst, arith, IsTrue}
 use Rattle.std.proofs.lemmas.Grind.{common_steps}
 use Rattle.bag_tree.proofs.Reading.{read_all, read_more, given_some, longer_than, ended_after}
-use Rattle.bag_tree.proofs.digest_file.digest_file.Goals as goal
+use Rattle.bag_tree.proofs.file_sums.digest_file.Goals as goal
 
 pub loop-count-preserved : goal.loop-count-preserved
 loop-count-preserved g c =

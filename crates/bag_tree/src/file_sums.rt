@@ -4,7 +4,7 @@ ghost use Rattle.bag_tree.specs.Tree.{Keeps, OpensAtMost};
 ghost use Rattle.bag_tree.specs.Whole.{MayRefuseWhole};
 ghost use Rattle.bag_tree.specs.declared.answer.Answer.TheVariants.{Refused};
 ghost use Rattle.bag_tree.specs.declared.tree_fault.TreeFault.TheVariants.{Changed};
-ghost use Rattle.bag_tree.specs.DigestFile.{AreSumsOfFile};
+ghost use Rattle.bag_tree.specs.FileSums.{AreSumsOfFile};
 
 use crate::{Digests, FileEntry, Sums, Tree, TreeFault};
 use bag_text::AlgSet;
