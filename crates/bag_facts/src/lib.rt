@@ -35,7 +35,7 @@ pub use fault::Fault;
 pub use fetch_list::FetchList;
 pub use field::field_pieces;
 pub use from_line::CursorFault;
-pub use manifest::{Manifest, entry_at};
+pub use manifest::Manifest;
 pub use metadata::Metadata;
 pub use options::{Depth, Options};
 pub use tag_facts::TagFacts;

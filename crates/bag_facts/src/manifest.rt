@@ -56,7 +56,7 @@ impl Manifest {
 }
 
 /// The entry of a path among entries in the order of their paths, found in time log n of these.
-pub fn entry_at<'a>(entries: &'a [ManifestEntry], path: &Text) -> Option<&'a ManifestEntry>
+pub(crate) fn entry_at<'a>(entries: &'a [ManifestEntry], path: &Text) -> Option<&'a ManifestEntry>
     ensures { AreByPath entries.now → MatchOption (option_copied result) (¬ (Contains (entry_paths entries.now) path.now))
         (λ entry. Contains entries.now entry × (entry.path ≡ path.now)) }
 {

@@ -5,7 +5,7 @@ ghost use Rattle.std.specs.List.{list_all};
 ghost use Rattle.bag_text.specs.Number as number;
 
 /// One or more ASCII digits.
-pub fn is_digits(text: &str) -> bool
+pub(crate) fn is_digits(text: &str) -> bool
     ensures { result ≡ number.is_digits text.now }
 {
     !text.is_empty() && has_digits_only(text)

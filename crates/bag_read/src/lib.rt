@@ -36,13 +36,11 @@ mod tag_name;
 
 pub use declaration::{Declaration, declared_rules, read_declaration};
 pub use digest::Digest;
-pub use digits::is_digits;
 pub use fetch::{FetchEntry, read_fetch};
 pub use info::{Element, read_info};
 pub use kind::Kind;
-pub use line_fault::{LineFault, Parsed, unread};
+pub use line_fault::{LineFault, Parsed};
 pub use manifest::{ManifestEntry, read_manifest};
 pub use manifest_name::manifest_alg;
 pub use oxum::{Oxum, oxum_of};
-pub use prefix::{after_prefix, before_suffix, without_prefix};
 pub use tag_name::TagName;

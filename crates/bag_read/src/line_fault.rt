@@ -24,7 +24,7 @@ pub struct Parsed<T> {
 
 /// What is read of bytes that aren't UTF-8: no item, and the one fault `NotUtf8`, of the whole file. An error only for
 /// want of memory.
-pub fn unread<T>(alloc: Global) -> Result<Parsed<T>, AllocError>
+pub(crate) fn unread<T>(alloc: Global) -> Result<Parsed<T>, AllocError>
     ensures items { IfOk result (λ parsed. parsed.items ≡ []) }
     ensures faults { IfOk result (λ parsed. parsed.faults ≡ not_utf8 ∷ []) }
 {

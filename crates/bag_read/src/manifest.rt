@@ -9,10 +9,11 @@ ghost use Rattle.bag_read.specs.Judged.{judged_all, judged_and_marked, entry_of,
 ghost use Rattle.bag_read.specs.LineFault.{AreFaults};
 ghost use Rattle.bag_read.specs.Manifest.{IsEntry, IsManifestFault};
 
+use crate::line_fault::unread;
 use crate::manifest_line::{Judged, Verdict, judge};
 use crate::named_once::are_different;
 use crate::repeats::mark_repeats;
-use crate::{Digest, Kind, LineFault, Parsed, unread};
+use crate::{Digest, Kind, LineFault, Parsed};
 use bag_text::{Alg, Items, Rules, Text, is_blank_line, lines, text_of};
 use std::alloc::{AllocError, Global};
 

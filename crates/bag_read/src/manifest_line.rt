@@ -6,7 +6,8 @@ ghost use Rattle.bag_read.specs.Judged as judged;
 ghost use Rattle.bag_read.specs.Manifest as spec;
 
 use crate::manifest_name::is_manifest_name;
-use crate::{Digest, Kind, without_prefix};
+use crate::prefix::without_prefix;
+use crate::{Digest, Kind};
 use bag_text::{
     Alg, Code, PathFault, Rules, Text, check_path, is_payload, split_at_blanks, unescape_path,
 };

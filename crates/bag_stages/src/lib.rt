@@ -45,7 +45,6 @@ pub use given_digest::GivenDigest;
 pub use manifests::manifest_faults;
 pub use metadata::metadata_faults;
 pub use missing::missing_of;
-pub use named::is_named;
 pub use parts::parts_faults;
 pub use payload_named::is_exact;
 pub use places::Places;

@@ -12,7 +12,7 @@ use bag_read::Kind;
 use bag_text::{Alg, Text};
 
 /// Whether some payload manifest names a path, of facts read for more than the declaration. Takes no memory.
-pub fn is_named(facts: &Facts, path: &Text) -> bool
+pub(crate) fn is_named(facts: &Facts, path: &Text) -> bool
     ensures named { (bag : Bag) → IsFactsOf bag facts.now → facts.now.options.depth ≢ Declaration → IsTrue result → IsNamedBySome bag path.now }
     ensures unnamed { (bag : Bag) → IsFactsOf bag facts.now → facts.now.options.depth ≢ Declaration → IsNamedBySome bag path.now → IsTrue result }
 {

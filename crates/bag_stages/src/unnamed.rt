@@ -10,7 +10,7 @@ ghost use Rattle.bag_stages.specs.CompletenessFaults.{IsLeftByAll, IsUnlistedInA
 ghost use Rattle.bag_stages.specs.PayloadNamed.{IsNamedExactly};
 
 use crate::file_fault::file_fault;
-use crate::is_named;
+use crate::named::is_named;
 use crate::payload_named::is_exact;
 use bag_facts::{Facts, Fault};
 use bag_read::Kind;

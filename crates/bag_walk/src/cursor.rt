@@ -6,7 +6,10 @@ use bag_facts::Fault;
 use std::alloc::{AllocError, Global};
 
 /// An equal cursor. Fails only where memory runs out.
-pub fn copy_of_cursor(alloc: Global, after: Option<&Fault>) -> Result<Option<Fault>, AllocError>
+pub(crate) fn copy_of_cursor(
+    alloc: Global,
+    after: Option<&Fault>,
+) -> Result<Option<Fault>, AllocError>
     ensures { IfOk result (λ copy. copy ≡ option_copied after.entry) }
 {
     match after {

@@ -41,11 +41,9 @@ mod write;
 
 pub use closing::put_line;
 pub use completeness::Completeness;
-pub use cursor::copy_of_cursor;
 pub use fixed::Fixed;
 pub use merge::Merge;
 pub use outcome::{Outcome, Request, status};
-pub use report_writer::{close, end_of_report, fill_line};
 pub use runner::run;
 pub use segments::run_segments;
 pub use source::{InOrder, Quiet, Source};
@@ -53,4 +51,4 @@ pub use start::{Sources, Walk};
 pub use steps::Steps;
 pub use then::Then;
 pub use validity::Validity;
-pub use write::{put_all, put_pieces};
+pub use write::put_pieces;

@@ -5,7 +5,7 @@ ghost use Rattle.bag_facts.specs.declared.fault.Fault.{Fault as Spoken};
 ghost use Rattle.bag_walk.specs.Ending.{written_line};
 ghost use Rattle.bag_walk.specs.Lines.{IsLastLine};
 
-use crate::fill_line;
+use crate::report_writer::fill_line;
 use bag_facts::laws::every_fault_is_one;
 use bag_report::Fault;
 use std::alloc::{AllocError, Global};

@@ -12,7 +12,7 @@ use std::alloc::AllocError;
 
 /// Puts a fault's line with its end, an LF, in place of what the buffer held. It takes memory only where the line is longer
 /// than the buffer.
-pub fn fill_line(line: &mut String, fault: &Fault) -> Result<(), AllocError>
+pub(crate) fn fill_line(line: &mut String, fault: &Fault) -> Result<(), AllocError>
     ensures { OnOk result (string_bytes line.new ≡ written_line fault.now) }
 {
     line.clear();
@@ -21,7 +21,7 @@ pub fn fill_line(line: &mut String, fault: &Fault) -> Result<(), AllocError>
 }
 
 /// How a run ends that has shown all faults above a cursor, and has written so many.
-pub fn end_of_report(after: Option<&Fault>, written: u64) -> Outcome
+pub(crate) fn end_of_report(after: Option<&Fault>, written: u64) -> Outcome
     ensures { result ≡ ended (option_copied after.entry) written }
 {
     match (after, written) {
@@ -33,7 +33,7 @@ pub fn end_of_report(after: Option<&Fault>, written: u64) -> Outcome
 
 /// Writes the closing line of an outcome, and answers how the run ended: so, or `Unwritten` with the same number of
 /// fault lines. It takes no memory.
-pub fn close<W: Out>(request: &Request, ending: Outcome, out: &mut W) -> Outcome
+pub(crate) fn close<W: Out>(request: &Request, ending: Outcome, out: &mut W) -> Outcome
     ensures { Closes request.now ending (W.taken out.old) (W.taken out.new) (W.has_refused out.new) result }
 {
     match put_closing(request, &ending, out) {

@@ -14,7 +14,9 @@ ghost use Rattle.bag_walk.specs.Segment.{ClosesSegment, IfUnread, IsRead, IsSegm
 ghost use Rattle.bag_walk.specs.Stops.{IfStopped};
 
 use crate::lines::Lines;
-use crate::{InOrder, Outcome, Request, Steps, close, end_of_report, put_all};
+use crate::report_writer::{close, end_of_report};
+use crate::write::put_all;
+use crate::{InOrder, Outcome, Request, Steps};
 use bag_tree::{Out, Refused, Stop, Tree, TreeFault};
 use std::alloc::Global;
 
