@@ -13,7 +13,7 @@ use Rattle.bag_walk.specs.Writer.{Closes, WritesReport}
 use Rattle.bag_walk.specs.declared.outcome.Outcome.{Outcome}
 use Rattle.bag_walk.specs.declared.outcome.Outcome.TheVariants.{Clean, Faults, Stopped, Rest, Unread, Unwritten}
 use Rattle.bag_walk.specs.declared.outcome.Request.{Request}
-use Rattle.bag_walk.proofs.Lines.{concat-append_one, line_of_run, last_of_run, front_of_run, all_of_run, cut_at}
+use Rattle.bag_walk.proofs.RunLines.{concat-append_one, line_of_run, last_of_run, front_of_run, all_of_run, cut_at}
 use Rattle.bag_walk.proofs.Writing.{Appends-append}
 
 pub take_length : (n : ℕ) (faults : List Fault) → n ≤ length faults → length (take n faults) ≡ n

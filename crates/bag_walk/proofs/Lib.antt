@@ -7,7 +7,7 @@ pub mod Ending
 pub mod Filling
 pub mod LastLines
 pub mod Lending
-pub mod Lines
+pub mod RunLines
 pub mod ListedFiles
 pub mod Merging
 pub mod Openings

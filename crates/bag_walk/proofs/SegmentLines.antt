@@ -11,7 +11,7 @@ use Rattle.bag_tree.specs.declared.tree_fault.Stop.{Stop}
 use Rattle.bag_facts.specs.declared.fault.Fault.{Fault}
 use Rattle.bag_walk.specs.Ending.{written, written_line}
 use Rattle.bag_walk.specs.Write.{IsCut}
-use Rattle.bag_walk.proofs.Lines.{concat-append_one, cut_at}
+use Rattle.bag_walk.proofs.RunLines.{concat-append_one, cut_at}
 use Rattle.bag_walk.proofs.Writing.{Appends-append}
 use Rattle.bag_walk.specs.Openings.{Opens, OpensAgain, OpensNoneBehind}
 use Rattle.bag_walk.specs.Source.{first_of, rest_of, MayStopFilling, Sees}

@@ -153,7 +153,7 @@ next_spec 𝓤 𝓛 𝓜 𝓡 wired T S LT LS t t-d o o-d s s-d bt bo bs =
     nothing ! $ move ! (1 ∷ 0 ∷ []) $ join ! $ move ! (2 ∷ 4 ∷ []) $ join ! $ join ! $
     nothing ! $ use0 𝓛 (raw (fact 𝓤 (κS ⊑ S.lives))) (fact_i 𝓤 (κS ⊑ S.lives) (emp 𝓤) inS) $ join ! $ use0 𝓛 (raw (fact 𝓤 (κT ⊑ T.lives))) (fact_i 𝓤 (κT ⊑ T.lives) (emp 𝓤) inT) $ join ! $
     move ! (1 ∷ 0 ∷ []) $ join ! $ use1 𝓛 (raw (G.pre z)) (id⊢ 𝓤 _) $
-    calls_at ! (framed 𝓤 𝓛.H 𝓜 (tables 𝓤 𝓛.H 𝓜 𝓡 𝓡.env)) G (go-met.met 𝓤 𝓛 𝓜 𝓡 (code.calls-bag_source::steps::Steps::go_on 𝓡.env wired) T S LT LS t t-d o o-d s s-d bt bo bs) z
+    calls_at ! (framed 𝓤 𝓛.H 𝓜 (tables 𝓤 𝓛.H 𝓜 𝓡 𝓡.env)) G (go-met.met 𝓤 𝓛 𝓜 𝓡 (code.calls-bag_walk::steps::Steps::go_on 𝓡.env wired) T S LT LS t t-d o o-d s s-d bt bo bs) z
     (and_then ! (get ! refl) (no_more !)) (λ v.
     let Gone = type_at (go.signature T S).result z.0.0 in
     use1 𝓛 (later (some (λ (u : Gone.Denot). ((‵ (flft κ₁ q₁) ⊛ others) ⊛ ‵ (Gone.own_val u (v ∷ []))) ⊛
@@ -185,7 +185,7 @@ next_spec 𝓤 𝓛 𝓜 𝓡 wired T S LT LS t t-d o o-d s s-d bt bo bs =
     nothing ! $ move ! (2 ∷ 0 ∷ []) $ join ! $ move ! (1 ∷ 0 ∷ []) $ join ! $ move ! (2 ∷ 6 ∷ []) $ join ! $ join ! $
     nothing ! $ use0 𝓛 (raw (fact 𝓤 (κS ⊑ S.lives))) (fact_i 𝓤 (κS ⊑ S.lives) (emp 𝓤) inS) $ join ! $ use0 𝓛 (raw (fact 𝓤 (κT ⊑ T.lives))) (fact_i 𝓤 (κT ⊑ T.lives) (emp 𝓤) inT) $ join ! $
     move ! (1 ∷ 0 ∷ []) $ join ! $ use1 𝓛 (raw (G₂.pre z₂)) (id⊢ 𝓤 _) $
-    calls_at ! (framed 𝓤 𝓛.H 𝓜 (tables 𝓤 𝓛.H 𝓜 𝓡 𝓡.env)) G₂ (answer-met.met 𝓤 𝓛 𝓜 𝓡 (code.calls-bag_source::steps::Steps::answer 𝓡.env wired) T S LT LS t t-d o o-d s s-d bt bo bs) z₂
+    calls_at ! (framed 𝓤 𝓛.H 𝓜 (tables 𝓤 𝓛.H 𝓜 𝓡 𝓡.env)) G₂ (answer-met.met 𝓤 𝓛 𝓜 𝓡 (code.calls-bag_walk::steps::Steps::answer 𝓡.env wired) T S LT LS t t-d o o-d s s-d bt bo bs) z₂
     (and_then ! (get ! refl) (and_then ! (get ! refl) (no_more !))) (λ v₂.
     let Out = type_at (answer.signature T S).result κs in
     use1 𝓛 (later (some (λ (x : Out.Denot). ((‵ (flft κ q) ⊛ others) ⊛ ‵ (Out.own_val x (v₂ ∷ []))) ⊛
