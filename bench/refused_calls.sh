@@ -4,7 +4,7 @@
 # alone. Whatever is refused, no run hangs, statuses are 0, 1 and 3, and no file is lost:
 #
 # - of a making: the bytes of each file stand once, at the file's own path, in `.bagit-new` or in `data`; status 0 and `made` come only
-#   where a whole bag stands there, which the programs of coreutils accept; and moved back as README.md says it, the folder is as it was;
+#   where a whole bag stands there, which the programs of coreutils accept; and moved back as docs/NOT_MADE.md says it, the folder is as it was;
 # - of a check: what is written is the whole report, or its first lines and a closing line that counts them and says that something
 #   couldn't be read; or why nothing could be begun; or a first part of all that, where the output itself was refused or the program was
 #   killed. The folder is as it was.
@@ -85,7 +85,7 @@ is_whole_bag() {
         [[ $(wc -l <d/manifest-sha256.txt) == $(wc -l <files) && $(wc -l <d/tagmanifest-md5.txt) == 4 ]]
 }
 
-# Moves back what a making that didn't end has moved, as README.md says it.
+# Moves back what a making that didn't end has moved, as docs/NOT_MADE.md says it.
 move_back() {
     if [[ ! -e d/.bagit-new && -e d/w ]]; then return; fi
     (
