@@ -6,6 +6,8 @@
 //!     Err(usage) => refuse_words(&usage, &mut err),
 //! }
 //! ```
+//!
+//! `plan_of` gives exactly the plan, the help, or the first thing that is wrong with the words, but for memory.
 #![tactic(auto)]
 
 mod check_option;

@@ -8,6 +8,10 @@
 //!
 //! `Disks` gives the disks that the program looks at, and the bytes of files elsewhere, as profiles; it is implemented for
 //! every runtime of the system, of which nothing is promised.
+//!
+//! For each directory the output takes what the run theorem says of its tree, or what its making told, and the status is the
+//! greatest of all. The disk is the one below the base folder; each folder whose tree is given, and as what it is left, is
+//! noted. A file's bytes are the whole file, up to a bound.
 #![tactic(auto)]
 
 mod all_checks;

@@ -8,6 +8,8 @@
 //! ```
 //!
 //! No file is opened.
+//!
+//! The faults of this stage are found exactly, of facts that were read beyond the declaration.
 #![tactic(auto)]
 
 mod by_label;

@@ -12,6 +12,10 @@
 //! ```
 //!
 //! Of RFC 8493 it keeps which files of a bag are tag files that are read (2.1, 2.2), and what each of them says.
+//!
+//! The facts are the bag's, of an honest tree, and else those of some bag with the listed files; exactly the wanted tag files
+//! are opened, each once and in path order. The order of faults is total, and faults that tie are one; a line tells its fault,
+//! and is read back.
 #![tactic(auto)]
 
 mod arrangement;

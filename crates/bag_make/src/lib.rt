@@ -5,6 +5,10 @@
 //! let algs = AlgSet::empty().with(Alg::Sha256);
 //! let (tree, made) = make(alloc, tree, algs, &[(label, value)]);
 //! ```
+//!
+//! The bag that was made is the one of the definition, has the folder as its payload, and no fault, as long as the numbers of
+//! files and of bytes stay below 2^64. Each refusal comes for its reason alone, and before the first step leaves the bag as it
+//! was; a refused step leaves what the steps before it made, and perhaps a begun tag file.
 #![tactic(auto)]
 
 mod fault;

@@ -8,9 +8,10 @@
 //! }
 //! ```
 //!
-//! Of RFC 8493 it keeps what a complete bag and a valid one have (3). What is read of a bag is in `bag_facts`, faults and
-//! their lines are in `bag_fault`, profiles are in `bag_profile`, and the faults of each stage are in `bag_stages`,
-//! `bag_completeness`, `bag_validity` and `bag_conformance`.
+//! Of RFC 8493 it keeps what a complete bag and a valid one have (3). What is read of a bag, faults and their lines are in
+//! `bag_facts`, profiles in `bag_profile`, and the faults of each stage in `bag_stages` and `bag_conformance`.
+//!
+//! Of each stage but the seventh exactly the part of the report is found that is asked for; every bag has exactly one report.
 #![tactic(auto)]
 
 pub mod laws;

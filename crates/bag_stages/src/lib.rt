@@ -11,6 +11,10 @@
 //! size in it (2.2.2), the list of files to fetch (2.2.3), manifests whose lines are right (2.1.3, 2.2.1), and complete and
 //! valid bags (3). A module finds the faults of one stage, and the page of `specs` with its name says what they are. No file
 //! is opened: the stage of digests takes those of one file after the other.
+//!
+//! Each stage's faults are found exactly, without options but for clashes of names, of facts that were read beyond the
+//! declaration, but for stage 1. The algorithms whose manifests name a file are exactly the expected ones, and of its digests
+//! the seventh stage's faults are found exactly.
 #![tactic(auto)]
 
 mod clashes;

@@ -16,7 +16,7 @@ pub enum Code {
     DeclarationLineCount = 103,
     /// Line 1 of `bagit.txt` declares no version, or line 2 no encoding (RFC 8493, 2.1.1).
     DeclarationLine = 104,
-    /// `bagit.txt` declares a version other than 1.0 (RFC 8493, 2.1.1).
+    /// `bagit.txt` declares a version other than 1.0 and 0.97 (RFC 8493, 2.1.1).
     VersionUnsupported = 105,
     /// `bagit.txt` declares an encoding of tag files other than UTF-8 (RFC 8493, 2.1.1).
     EncodingUnsupported = 106,

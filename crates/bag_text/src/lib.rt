@@ -10,6 +10,10 @@
 //!
 //! Of RFC 8493 it keeps how lines of tag files end (2.3), what a path is (2.1.2, 5.1), how manifests spell it (2.1.3), and the
 //! algorithms that can be computed (2.4). `Text` and `Items` own their memory; contracts see them as bytes and as items.
+//!
+//! Each call of `Text` and `Items` is exact, by the bytes and items that contracts see; where memory runs out a list stays as
+//! it was. Codes and algorithms have their numbers and names, and are found by them; a set has its members and no others. Lines
+//! are the only cut of a text. A spelling spells one path at the most by the rules of 1.0, and just one by those of 0.97.
 #![tactic(auto)]
 
 mod alg;

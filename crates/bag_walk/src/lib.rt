@@ -12,6 +12,10 @@
 //!
 //! A run says which lines are written, which files are opened before each, and how it ended. `run_segments` writes a report in
 //! segments, of which each goes on behind the last line that was written.
+//!
+//! What a run writes, and how it ends, is the theorem of the whole: exactly the faults above the cursor, up to the limit, then
+//! the closing line, or a proper prefix. A source gives the faults that are left, the least first; a file is opened when its
+//! faults are asked for, once for all its algorithms, and none behind the fault that is given. Segments add up to one report.
 #![tactic(auto)]
 
 mod ascending;

@@ -7,6 +7,9 @@
 //! ```
 //!
 //! A `MemoryDisk` is honest unless it is told otherwise. A `RefusingDisk` is any disk of which one call is refused.
+//!
+//! There is a disk of all that can stand on one, and of nothing else. It is honest until a file is swapped, and calls that
+//! change it are exact.
 #![tactic(auto)]
 
 mod changing;
