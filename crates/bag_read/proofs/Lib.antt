@@ -7,6 +7,7 @@ pub mod FaultOrder
 pub mod FetchFaults
 pub mod FetchLine
 pub mod FetchLineParts
+pub mod FetchReasons
 pub mod Fronts
 pub mod HexDigits
 pub mod InfoElements
@@ -23,6 +24,7 @@ pub mod ManifestJudged
 pub mod ManifestLine
 pub mod ManifestLineParts
 pub mod ManifestName
+pub mod ManifestReasons
 pub mod NamedOnce
 pub mod OxumNumbers
 pub mod PickedOut

@@ -3,7 +3,9 @@ pub mod DeclarationFaults
 pub mod DeclarationLine
 pub mod Fetch
 pub mod FetchLine
+pub mod FetchReasons
 pub mod FetchVerdict
+pub mod FirstReason
 pub mod Info
 pub mod InfoLine
 pub mod InfoPlaces
@@ -14,6 +16,7 @@ pub mod LineParts
 pub mod Manifest
 pub mod ManifestLine
 pub mod ManifestName
+pub mod ManifestReasons
 pub mod NamedOnce
 pub mod Oxum
 pub mod Reason
