@@ -8,6 +8,7 @@ pub mod FetchFaults
 pub mod FetchLine
 pub mod FetchLineParts
 pub mod FetchReasons
+pub mod FirstMark
 pub mod Fronts
 pub mod HexDigits
 pub mod InfoElements
@@ -16,6 +17,7 @@ pub mod InfoLine
 pub mod InfoParts
 pub mod InfoPlaces
 pub mod InfoReader
+pub mod InfoSplit
 pub mod LineParts
 pub mod ManifestCodes
 pub mod ManifestEntries
@@ -27,6 +29,7 @@ pub mod ManifestName
 pub mod ManifestReasons
 pub mod NamedOnce
 pub mod OxumNumbers
+pub mod OxumParts
 pub mod PickedOut
 pub mod Reason
 pub mod RepeatsFollowers

@@ -10,6 +10,7 @@ pub mod Info
 pub mod InfoLine
 pub mod InfoPlaces
 pub mod InfoReader
+pub mod InfoSplit
 pub mod Judged
 pub mod LineFault
 pub mod LineParts

@@ -5,6 +5,8 @@ ghost use Rattle.bag_read.specs.TagName.{TagFilesStandInTheBase, TagPathsDiffer}
 ghost use Rattle.bag_read.specs.FetchLine.{FetchLinesReadAsTheirParts, FetchLinesReadOrHaveOneReason};
 ghost use Rattle.bag_read.specs.FetchReasons.{FirstFetchReasonIsTold};
 ghost use Rattle.bag_read.specs.InfoPlaces.{ContinuationsAreBelow, EachLineHasOnePlace, EachLineIsOfOneElement};
+ghost use Rattle.bag_read.specs.InfoSplit.{LinesSplitAsTheirParts};
+ghost use Rattle.bag_read.specs.Oxum.{OxumsReadAsTheirParts};
 ghost use Rattle.bag_read.specs.DeclarationLine.{EncodingLinesReadAsTheirParts, LinesDeclareOrAreFaulty, VersionLinesReadAsTheirParts};
 
 /// No two tag files stand at one path.
@@ -40,6 +42,16 @@ pub fn each_line_has_one_place()
     ensures place { EachLineHasOnePlace }
     ensures element { EachLineIsOfOneElement }
     ensures parts { ContinuationsAreBelow }
+{}
+
+/// The first line of an element splits just where it is a label, the first colon, and what may follow it.
+pub fn lines_split_as_their_parts()
+    ensures { LinesSplitAsTheirParts }
+{}
+
+/// A value of `Payload-Oxum` reads just where it is two numbers of ASCII digits with a dot between them; and it says these.
+pub fn oxums_read_as_their_parts()
+    ensures { OxumsReadAsTheirParts }
 {}
 
 /// A line of `fetch.txt` reads just where it is a URL, blanks, a length, blanks, and a spelling of the path of a payload
