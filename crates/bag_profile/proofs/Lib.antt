@@ -1,3 +1,4 @@
+pub mod HeldKeys
 pub mod JsonTexts
 pub mod Orders
 pub mod PatternLaws

@@ -1,4 +1,5 @@
 pub mod Answer
+pub mod Held
 pub mod Key
 pub mod Label
 pub mod NameLists

@@ -1,4 +1,5 @@
 //! Laws of the definitions, each the contract of a function that does nothing.
+ghost use Rattle.bag_profile.specs.Held.{ProfilesHoldTheirKeys, RulesHoldTheirKeys};
 ghost use Rattle.bag_profile.specs.Pattern.{MatchesArePieces};
 ghost use Rattle.bag_profile.specs.Shape.{FirstFaultIsTold};
 ghost use Rattle.bag_profile.specs.TextSet.{TextSetsAreLists};
@@ -16,4 +17,10 @@ pub fn text_sets_are_lists()
 /// A value is a profile where all keys have their shapes, and else its first fault is told.
 pub fn first_fault_is_told()
     ensures { FirstFaultIsTold }
+{}
+
+/// A value that is a profile is one that holds at each key what stands there, and else the key's default.
+pub fn profiles_hold_their_keys()
+    ensures profile { ProfilesHoldTheirKeys }
+    ensures rules { RulesHoldTheirKeys }
 {}

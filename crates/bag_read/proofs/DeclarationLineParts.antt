@@ -25,7 +25,7 @@ no_dot c = not (is_dot c)
 digit_no_dot : (c : ℕ) → is_ascii_digit c ≡ true → no_dot c ≡ true
 digit_no_dot c e = grind (arith, nat_tests)
 
-digits_no_dot : (t : List ℕ) → list_all is_ascii_digit t ≡ true → list_all no_dot t ≡ true
+pub digits_no_dot : (t : List ℕ) → list_all is_ascii_digit t ≡ true → list_all no_dot t ≡ true
 digits_no_dot [] e = refl
 digits_no_dot (c ∷ t) e = let two = both_true (is_ascii_digit c) (list_all is_ascii_digit t) e in rw (digit_no_dot c two.0) (digits_no_dot t two.1)
 
@@ -42,7 +42,7 @@ cut_on c t false e more h =
     cut_with c t (prefix_len no_dot t) (1 + prefix_len no_dot t) (1 + prefix_len no_dot t + 1) front back
     (more (λ none. h (ap (λ k. drop k (c ∷ t)) back ∙ none)))
 
-cut_at_dot : (t : List ℕ) → after_first is_dot t ≢ [] → t ≡ before_first is_dot t ++ codes "." ++ after_first is_dot t
+pub cut_at_dot : (t : List ℕ) → after_first is_dot t ≢ [] → t ≡ before_first is_dot t ++ codes "." ++ after_first is_dot t
 cut_at_dot [] h = absurd (h refl)
 cut_at_dot (c ∷ t) h = cut_on c t (is_dot c) refl (cut_at_dot t) h
 

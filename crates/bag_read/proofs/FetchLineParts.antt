@@ -18,19 +18,19 @@ use Rattle.bag_read.proofs.LineParts.{or_false, not_false, not_empty, empty_test
 use Rattle.bag_read.proofs.PickedOut.{both_true}
 use Rattle.bag_read.proofs.Reason.{bind_ok}
 
-either_true : (a b : Bool) → (a || b) ≡ true → (a ≡ true) ⊎ (b ≡ true)
+pub either_true : (a b : Bool) → (a || b) ≡ true → (a ≡ true) ⊎ (b ≡ true)
 either_true true b e = inl refl
 either_true false b e = inr e
 
 -- a length
-length_told : (t : List ℕ) → is_length t ≡ true → IsLength t
+pub length_told : (t : List ℕ) → is_length t ≡ true → IsLength t
 length_told t e =
     elim (either_true (bytes_eq t (codes "-")) (is_digits t) e) [
       | inl h ↦ inl ((bytes_eq-Decides t (codes "-")).0 h)
       | inr h ↦ inr (are_digits t h)
     ]
 
-told_length : (t : List ℕ) → IsLength t → is_length t ≡ true
+pub told_length : (t : List ℕ) → IsLength t → is_length t ≡ true
 told_length t (inl e) = rw ((bytes_eq-Decides t (codes "-")).1 e) refl
 told_length t (inr digits) = digits_too (bytes_eq t (codes "-")) (digits_are t digits)
   where
@@ -38,23 +38,23 @@ told_length t (inr digits) = digits_too (bytes_eq t (codes "-")) (digits_are t d
     digits_too true e = refl
     digits_too false e = e
 
-length_some : (t : List ℕ) → is_length (before_blank t) ≡ true → t ≢ []
+pub length_some : (t : List ℕ) → is_length (before_blank t) ≡ true → t ≢ []
 length_some t e none = let clash : false ≡ true = ap (λ s. is_length (before_blank s)) (sym none) ∙ e in cc
 
-part_some : (t : List ℕ) → is_length t ≡ true → t ≢ []
+pub part_some : (t : List ℕ) → is_length t ≡ true → t ≢ []
 part_some t e none = let clash : false ≡ true = ap is_length (sym none) ∙ e in cc
 
 -- what a spelling needs
-abbrev HasParts : List ℕ → List ℕ → List ℕ → Type 0
-HasParts url size written = (url ≢ []) × (is_length size ≡ true) × (written ≢ [])
+abbrev pub HasTests : List ℕ → List ℕ → List ℕ → Type 0
+HasTests url size written = (url ≢ []) × (is_length size ≡ true) × (written ≢ [])
 
-has_parts : (url size written : List ℕ) → lacks_part url size written ≡ false → HasParts url size written
+pub has_parts : (url size written : List ℕ) → lacks_part url size written ≡ false → HasTests url size written
 has_parts url size written e =
     let outer = or_false (bytes_eq url [] || not (is_length size)) (bytes_eq written []) e in
     let inner = or_false (bytes_eq url []) (not (is_length size)) outer.0 in
     (not_empty url inner.0, not_false _ inner.1, not_empty written outer.1)
 
-lacks_none : (url size written : List ℕ) → HasParts url size written → lacks_part url size written ≡ false
+pub lacks_none : (url size written : List ℕ) → HasTests url size written → lacks_part url size written ≡ false
 lacks_none url size written (some, told, follows) = rw (empty_test url some, told, empty_test written follows) refl
 
 spelling_by : (written spelling : List ℕ) (b : Bool) → cond {A = Result (List ℕ) Reason} b (Err (FetchLine, [])) (Ok (without_prefix (codes "./") written)) ≡ Ok spelling → (b ≡ false) × (without_prefix (codes "./") written ≡ spelling)
@@ -71,7 +71,7 @@ fetched_by path fetched true true e f h = (f, let same : path ≡ fetched = cc i
 fetched_by path fetched true false e f h = cc
 fetched_by path fetched false b e f h = cc
 
-payload_is_path : (path : List ℕ) → is_payload_path path ≡ true → is_path path ≡ true
+pub payload_is_path : (path : List ℕ) → is_payload_path path ≡ true → is_path path ≡ true
 payload_is_path path e = (both_true (is_path path) (bytes_eq (first_component path) (codes "data")) (both_true (is_path path && bytes_eq (first_component path) (codes "data")) (nat_lt 1 (length (components path))) e).0).0
 
 payload_fetched : (path : List ℕ) → is_payload_path path ≡ true → fetched_path path ≡ Ok path
@@ -114,7 +114,7 @@ module _ (rules : Rules) where
     written_is : written_of line ≡ r.written
     written_is = ap after_blanks behind_is ∙ cut_rest r.behind size r.written r.length_next
 
-    has_all : HasParts (url_of line) (length_of line) (written_of line)
+    has_all : HasTests (url_of line) (length_of line) (written_of line)
     has_all = (
       subst (λ t. t ≢ []) (sym url_is) r.url_first.some_part,
       ap is_length size_is ∙ told_length size r.length_told,

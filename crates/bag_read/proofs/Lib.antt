@@ -7,6 +7,8 @@ pub mod FaultOrder
 pub mod FetchFaults
 pub mod FetchLine
 pub mod FetchLineParts
+pub mod FetchReasons
+pub mod FirstMark
 pub mod Fronts
 pub mod HexDigits
 pub mod InfoElements
@@ -15,6 +17,7 @@ pub mod InfoLine
 pub mod InfoParts
 pub mod InfoPlaces
 pub mod InfoReader
+pub mod InfoSplit
 pub mod LineParts
 pub mod ManifestCodes
 pub mod ManifestEntries
@@ -23,8 +26,10 @@ pub mod ManifestJudged
 pub mod ManifestLine
 pub mod ManifestLineParts
 pub mod ManifestName
+pub mod ManifestReasons
 pub mod NamedOnce
 pub mod OxumNumbers
+pub mod OxumParts
 pub mod PickedOut
 pub mod Reason
 pub mod RepeatsFollowers

@@ -1,12 +1,12 @@
 -- The parts of a line: what stands before its blanks, and what follows them.
-use Rattle.std.proofs.Common.{◌≡◌, ◌≢◌, ℕ, suc, ◌+◌, inl, inr, Bool, true, false, not, ◌||◌, ◌==◌, cond, List, [], ◌∷◌, ◌++◌, length, take, drop, refl, sym, ap, ◌∙◌, subst, bytes_eq, nat_eq, arith, append_assoc}
+use Rattle.std.proofs.Common.{◌≡◌, ◌≢◌, ◌⊎◌, ℕ, suc, ◌+◌, inl, inr, Bool, true, false, not, ◌||◌, ◌==◌, cond, List, [], ◌∷◌, ◌++◌, length, take, drop, refl, sym, ap, ◌∙◌, subst, bytes_eq, nat_eq, arith, append_assoc}
 use Rattle.std.specs.List.{list_all, prefix_len, starts_with}
 use Rattle.std.proofs.lemmas.Bool.Decides.{nat_tests}
 use Rattle.std.proofs.lemmas.List.{take-append-drop}
 use Rattle.std.proofs.lemmas.List.Folds.{length-prefix_len}
 use Rattle.std.proofs.lemmas.Slice.Eq.{bytes_eq-Decides}
 use Rattle.bag_text.specs.Text.{is_blank, is_blank_line, before_blank, after_blanks, without_prefix}
-use Rattle.bag_read.specs.LineParts.{BeginsUnblank, IsCut, IsWithout}
+use Rattle.bag_read.specs.LineParts.{BeginsUnblank, IsCut, IsFronted, IsWithout}
 use Rattle.bag_read.proofs.Fronts.{drop_front, take_front, stops, front_passes, rest_stops, front_len}
 use Rattle.bag_read.proofs.PickedOut.{both_true}
 use Rattle.bag_read.proofs.Texts.{prefix_test}
@@ -81,6 +81,24 @@ module _ (text : List ℕ) where
     begins = begins rest (rest_stops is_blank tail) follows;
   }
 
+  none_left : (t : List ℕ) → ¬ (t ≢ []) → t ≡ []
+  none_left [] h = refl
+  none_left (c ∷ t) h = absurd (h (λ same. cc))
+
+  begins_or_none : (t : List ℕ) → stops is_blank t ≡ true → (t ≡ []) ⊎ BeginsUnblank t
+  begins_or_none [] e = inl refl
+  begins_or_none (c ∷ t) e = inr (c, t, refl, not_true (is_blank c) e)
+
+  pub is_fronted : IsFronted text part rest
+  is_fronted = record {
+    blanks = blanks;
+    text_is = text_is;
+    no_blank = front_passes unblank text;
+    only_blanks = front_passes is_blank tail;
+    longest = λ none. none_left rest (λ some. some_blanks tail tail_stops some none);
+    begins = begins_or_none rest (rest_stops is_blank tail);
+  }
+
 stops_blank : (t : List ℕ) → BeginsUnblank t → stops is_blank t ≡ true
 stops_blank t (c, more, e, u) = subst (λ s. stops is_blank s ≡ true) (sym e) (rw u refl)
 
@@ -120,6 +138,31 @@ module _ (text part rest : List ℕ) (cut : IsCut text part rest) where
 
   pub not_blank : is_blank_line text ≡ false
   not_blank = ap is_blank_line text_at ∙ begins_so part behind cut.some_part cut.no_blank
+
+behind_stops : (blanks rest : List ℕ) → list_all is_blank blanks ≡ true → (blanks ≡ [] → rest ≡ []) → stops unblank (blanks ++ rest) ≡ true
+behind_stops [] rest e h = subst (λ t. stops unblank t ≡ true) (sym (h refl)) refl
+behind_stops (c ∷ blanks) rest e h = rw (both_true (is_blank c) (list_all is_blank blanks) e).0 refl
+
+rest_begins : (t : List ℕ) → (t ≡ []) ⊎ BeginsUnblank t → stops is_blank t ≡ true
+rest_begins t (inl none) = subst (λ s. stops is_blank s ≡ true) (sym none) refl
+rest_begins t (inr some) = stops_blank t some
+
+-- and it has one longest front
+module _ (text front rest : List ℕ) (at : IsFronted text front rest) where
+  text_behind : text ≡ front ++ (at.blanks ++ rest)
+  text_behind = at.text_is ∙ append_assoc front at.blanks rest
+
+  pub fronted_part : before_blank text ≡ front
+  fronted_part =
+      ap before_blank text_behind
+      ∙ ap (λ n. take n (front ++ (at.blanks ++ rest))) (front_len unblank front (at.blanks ++ rest) at.no_blank (behind_stops at.blanks rest at.only_blanks at.longest))
+      ∙ take_front front (at.blanks ++ rest)
+
+  pub fronted_rest : after_blanks text ≡ rest
+  fronted_rest =
+      ap (λ t. drop (prefix_len is_blank t) t) (ap (λ h. drop (length h) text) fronted_part ∙ ap (drop (length front)) text_behind ∙ drop_front front (at.blanks ++ rest))
+      ∙ ap (λ n. drop n (at.blanks ++ rest)) (front_len is_blank at.blanks rest at.only_blanks (rest_begins rest at.begins))
+      ∙ drop_front at.blanks rest
 
 pub begins_some : (t : List ℕ) → BeginsUnblank t → t ≢ []
 begins_some t (c, more, e, u) same = let clash : c ∷ more ≡ [] = sym e ∙ same in cc

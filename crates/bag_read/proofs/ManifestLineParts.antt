@@ -23,7 +23,7 @@ use Rattle.bag_read.proofs.LineParts.{or_false, not_false, not_empty, empty_test
 use Rattle.bag_read.proofs.Reason.{bind_ok}
 use Rattle.bag_read.proofs.ManifestName.{named_test, named_is}
 
-same_number : (m n : ℕ) → (m == n) ≡ true → m ≡ n
+pub same_number : (m n : ℕ) → (m == n) ≡ true → m ≡ n
 same_number m n e = grind (arith, nat_tests)
 
 number_same : (m n : ℕ) → m ≡ n → (m == n) ≡ true
@@ -50,10 +50,10 @@ good_digest alg h r digest k = good_by alg h r digest _ _ refl refl k
 digest_good : (alg : Alg) (h r : List ℕ) → h ≢ [] → list_all is_ascii_hexdigit h ≡ true → r ≢ [] → length h ≡ hex_len alg → checked_digest alg h r ≡ Ok (str_to_ascii_lowercase h)
 digest_good alg h r some digits follows long = rw (empty_test h some, digits, empty_test r follows, number_same (length h) (hex_len alg) long) refl
 
-written_is : (rest : List ℕ) → IsSpelling rest (without_marks rest)
+pub written_is : (rest : List ℕ) → IsSpelling rest (without_marks rest)
 written_is rest = (without_prefix (codes "*") rest, is_without (codes "*") rest, is_without (codes "./") (without_prefix (codes "*") rest))
 
-written_alone : (rest spelling : List ℕ) → IsSpelling rest spelling → without_marks rest ≡ spelling
+pub written_alone : (rest spelling : List ℕ) → IsSpelling rest spelling → without_marks rest ≡ spelling
 written_alone rest spelling (unmarked, star, here) = ap (without_prefix (codes "./")) (without_alone (codes "*") rest unmarked star) ∙ without_alone (codes "./") unmarked spelling here
 
 decoded_ok : (o : Option (List ℕ)) (spelling path : List ℕ) → decoded_or o spelling ≡ Ok path → o ≡ Some path

@@ -47,6 +47,14 @@ named_test kind name true e h =
     let two = both_true (is_alg_text alg) (bytes_eq name (manifest_name kind alg)) e in
     absurd (h alg two.0 ((bytes_eq-Decides name (manifest_name kind alg)).0 two.1))
 
+-- a name of that form is made of an algorithm's text
+pub is_named : (kind : Kind) (name : List ℕ) → is_manifest_name kind name ≡ true → (alg : List ℕ) × IsTrue (is_alg_text alg) × (name ≡ manifest_name kind alg)
+is_named kind name e =
+    let rest = without_prefix (prefix kind) name in
+    let alg = take (length rest - 4) rest in
+    let two = both_true (is_alg_text alg) (bytes_eq name (manifest_name kind alg)) e in
+    (alg, two.0, (bytes_eq-Decides name (manifest_name kind alg)).0 two.1)
+
 -- a name has the form of a manifest's just where there is its algorithm's text
 pub has_alg : (kind : Kind) (name : List ℕ) (r : Option (Bor (List ℕ))) → MatchOption r ((alg : List ℕ) → IsTrue (is_alg_text alg) → name ≢ manifest_name kind alg) (λ alg. IsNamed kind name alg.now) → is_some r ≡ is_manifest_name kind name
 has_alg kind name None h = sym (named_test kind name (is_manifest_name kind name) refl h)

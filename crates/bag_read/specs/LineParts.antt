@@ -18,6 +18,15 @@ pub record IsCut (text part rest : List ℕ) : Type 0 where
   pub only_blanks : IsTrue (list_all is_blank blanks)
   pub begins : BeginsUnblank rest
 
+-- the longest front without a blank, the blanks behind it, and what follows them
+pub record IsFronted (text front rest : List ℕ) : Type 0 where
+  pub blanks : List ℕ
+  pub text_is : text ≡ front ++ blanks ++ rest
+  pub no_blank : IsTrue (list_all (λ c. not (is_blank c)) front)
+  pub only_blanks : IsTrue (list_all is_blank blanks)
+  pub longest : blanks ≡ [] → rest ≡ []
+  pub begins : (rest ≡ []) ⊎ BeginsUnblank rest
+
 -- one or more ASCII digits
 abbrev pub AreDigits : List ℕ → Type 0
 AreDigits t = (t ≢ []) × IsTrue (list_all is_ascii_digit t)

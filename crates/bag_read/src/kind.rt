@@ -8,8 +8,3 @@ pub enum Kind {
     /// `tagmanifest-ALG.txt`, which names other files.
     Tag,
 }
-
-impl Kind {
-    /// Both kinds, in the order of their manifests' paths.
-    pub const ALL: [Kind; 2] = [Kind::Payload, Kind::Tag];
-}

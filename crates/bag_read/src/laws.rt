@@ -1,8 +1,12 @@
 //! Laws of the definitions, each the contract of a function that does nothing.
 ghost use Rattle.bag_read.specs.ManifestLine.{LinesReadAsTheirParts, LinesReadOrHaveOneReason};
+ghost use Rattle.bag_read.specs.ManifestReasons.{FirstReasonIsTold};
 ghost use Rattle.bag_read.specs.TagName.{TagFilesStandInTheBase, TagPathsDiffer};
 ghost use Rattle.bag_read.specs.FetchLine.{FetchLinesReadAsTheirParts, FetchLinesReadOrHaveOneReason};
+ghost use Rattle.bag_read.specs.FetchReasons.{FirstFetchReasonIsTold};
 ghost use Rattle.bag_read.specs.InfoPlaces.{ContinuationsAreBelow, EachLineHasOnePlace, EachLineIsOfOneElement};
+ghost use Rattle.bag_read.specs.InfoSplit.{LinesSplitAsTheirParts};
+ghost use Rattle.bag_read.specs.Oxum.{OxumsReadAsTheirParts};
 ghost use Rattle.bag_read.specs.DeclarationLine.{EncodingLinesReadAsTheirParts, LinesDeclareOrAreFaulty, VersionLinesReadAsTheirParts};
 
 /// No two tag files stand at one path.
@@ -26,6 +30,11 @@ pub fn lines_read_or_have_one_reason()
     ensures { LinesReadOrHaveOneReason }
 {}
 
+/// The reason why a line of a manifest doesn't read holds of it, and none of those that stand before it in their order.
+pub fn first_reason_is_told()
+    ensures { FirstReasonIsTold }
+{}
+
 /// A line of `bag-info.txt` that isn't blank is the first line of an element, or goes on with one, or is wrong, or is
 /// passed over below a line that is wrong; it is just one of these, and of one element at most. The lines that go on
 /// with an element are those of its value, in their order.
@@ -33,6 +42,16 @@ pub fn each_line_has_one_place()
     ensures place { EachLineHasOnePlace }
     ensures element { EachLineIsOfOneElement }
     ensures parts { ContinuationsAreBelow }
+{}
+
+/// The first line of an element splits just where it is a label, the first colon, and what may follow it.
+pub fn lines_split_as_their_parts()
+    ensures { LinesSplitAsTheirParts }
+{}
+
+/// A value of `Payload-Oxum` reads just where it is two numbers of ASCII digits with a dot between them; and it says these.
+pub fn oxums_read_as_their_parts()
+    ensures { OxumsReadAsTheirParts }
 {}
 
 /// A line of `fetch.txt` reads just where it is a URL, blanks, a length, blanks, and a spelling of the path of a payload
@@ -44,6 +63,11 @@ pub fn fetch_lines_read_as_their_parts()
 /// A line of `fetch.txt` that isn't blank reads in one way, or has one reason why it doesn't.
 pub fn fetch_lines_read_or_have_one_reason()
     ensures { FetchLinesReadOrHaveOneReason }
+{}
+
+/// The reason why a line of `fetch.txt` doesn't read holds of it, and none of those that stand before it in their order.
+pub fn first_fetch_reason_is_told()
+    ensures { FirstFetchReasonIsTold }
 {}
 
 /// Line 1 of the declaration declares a version just where it is its label and then digits, a dot and digits.

@@ -2,4 +2,5 @@ pub mod Declaration
 pub mod Distinct
 pub mod Element
 pub mod Entry
+pub mod Line
 pub mod ReadAgain

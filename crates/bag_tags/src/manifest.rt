@@ -1,8 +1,9 @@
 //! Manifests (RFC 8493, 2.1.3 and 2.2.1).
-ghost use Rattle.std.specs.Prelude.{◌≡◌, ◌++◌, ◌∷◌, [], IfOk, OnOk, IsErrOf, IsTrue, string_bytes};
+ghost use Rattle.std.specs.Prelude.{◌≡◌, ◌++◌, ◌∷◌, [], IfOk, OnErr, OnOk, IsErrOf, IsTrue, string_bytes};
 ghost use Rattle.std.specs.List.{list_any};
 ghost use Rattle.bag_text.specs.Lines.{line_feed};
 ghost use Rattle.bag_tags.specs.Entry as spec;
+ghost use Rattle.bag_tags.specs.Line.{HasPartOf};
 
 use crate::WriteFault;
 use crate::distinct::are_paths_distinct;
@@ -67,7 +68,8 @@ pub fn push_entry(
     digest: &str,
     path: &str,
 ) -> Result<(), AllocError>
-    ensures { OnOk result (string_bytes text.new ≡ string_bytes text.old ++ spec.entry_line (digest.now, path.now) ++ line_feed ∷ []) }
+    ensures written { OnOk result (string_bytes text.new ≡ string_bytes text.old ++ spec.entry_line (digest.now, path.now) ++ line_feed ∷ []) }
+    ensures refused { OnErr result (HasPartOf (spec.entry_line (digest.now, path.now) ++ line_feed ∷ []) (string_bytes text.old) (string_bytes text.new)) }
 {
     let escaped = escape_path(alloc, path)?;
     push_line(text, digest, SEPARATOR, escaped.as_str())

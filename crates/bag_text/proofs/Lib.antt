@@ -1,6 +1,7 @@
 pub mod AlgSets
 pub mod Blanks
 pub mod Codes
+pub mod CommonFronts
 pub mod FirstByte
 pub mod FirstLine
 pub mod LineEnds
@@ -12,4 +13,5 @@ pub mod Paths
 pub mod SortKeys
 pub mod SpellingLaws
 pub mod Spellings
+pub mod Trimmed
 pub mod Utf8

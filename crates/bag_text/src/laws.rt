@@ -1,7 +1,9 @@
 //! Laws of the definitions, each the contract of a function that does nothing.
 ghost use Rattle.bag_text.specs.Lines.{LinesAreTheOnlyCut};
 ghost use Rattle.bag_text.specs.Path.{PathsAreJoinedComponents};
+ghost use Rattle.bag_text.specs.SortKey.{CommonFrontIsTheLongest};
 ghost use Rattle.bag_text.specs.Spelling.{EscapedIsReadAgain, UnescapedIsSpelled};
+ghost use Rattle.bag_text.specs.Trim.{TrimTakesOuterBlanks};
 ghost use Rattle.std.specs.Prelude.{◌≡◌};
 ghost use Rattle.bag_text.specs.Alg.{EachIsListed, ListAscends, NameIsReadAgain, NamesTellApart, RanksTellApart, algs};
 
@@ -25,6 +27,16 @@ pub fn unescaped_is_spelled()
 /// A path that is written is read again.
 pub fn escaped_is_read_again()
     ensures { EscapedIsReadAgain }
+{}
+
+/// A text is blanks, what trimming leaves, and blanks; and what it leaves neither begins nor ends with one.
+pub fn trim_takes_outer_blanks()
+    ensures { TrimTakesOuterBlanks }
+{}
+
+/// What both begin with is a front of both, and no longer one is.
+pub fn common_front_is_the_longest()
+    ensures { CommonFrontIsTheLongest }
 {}
 
 /// The list of all algorithms has each of them once, in the order of their ranks.

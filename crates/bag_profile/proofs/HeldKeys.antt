@@ -1,0 +1,194 @@
+-- What a profile holds at each of its keys.
+use Rattle.std.proofs.Common.{◌≡◌, ◌⊎◌, inl, inr, ℕ, Bool, true, false, cond, List, [], Option, Some, None, Result, Ok, Err, refl, sym, ap, ◌∙◌, subst, codes}
+use Rattle.std.specs.Option.{option_map, option_and_then, is_some}
+use Rattle.serde_json.specs.Data.{Data, Members}
+use Rattle.serde_json.specs.Find.{get, as_bool, as_str, as_object}
+use Rattle.bag_profile.specs.declared.fault.ProfileFault.{ProfileFault}
+use Rattle.bag_profile.specs.declared.key.Key.{Key}
+use Rattle.bag_profile.specs.declared.key.Key.TheVariants as key
+use Rattle.bag_profile.specs.declared.label.LabelRule.{LabelRule}
+use Rattle.bag_profile.specs.declared.name_lists.NameRules.{NameRules}
+use Rattle.bag_profile.specs.declared.name_lists.NameLists.{NameLists}
+use Rattle.bag_profile.specs.declared.terms.Serialization.{Serialization}
+use Rattle.bag_profile.specs.declared.terms.Serialization.TheVariants.{Optional}
+use Rattle.bag_profile.specs.declared.terms.Terms.{Terms}
+use Rattle.bag_profile.specs.Answer.{◌>>=◌, shaped, at, present, needed}
+use Rattle.bag_profile.specs.Held.{IsAt, IsSetAt, HoldsKeys, ProfilesHoldTheirKeys, RulesHoldTheirKeys}
+use Rattle.bag_profile.specs.Key.{key_name}
+use Rattle.bag_profile.specs.Label.{optional, flag, allowed_values, label_rule, label_rules}
+use Rattle.bag_profile.specs.NameLists.{texts_at, name_rules, name_lists_of}
+use Rattle.bag_profile.specs.Profile.{Profile}
+use Rattle.bag_profile.specs.Read.{as_record, identifier_of, labels_of, of_object, profile_of}
+use Rattle.bag_profile.specs.Terms.{serialization_named, allow_fetch_of, serialization_of, terms_of}
+use Rattle.bag_profile.specs.TextSet.{texts}
+use Rattle.bag_profile.specs.Unchecked.{unchecked_of}
+
+ok_same : {A : Type 0} (x y : A) → ◌≡◌ {A = Result A ProfileFault} (Ok x) (Ok y) → x ≡ y
+ok_same x y e = cc
+
+some_same : {A : Type 0} (x y : A) → Some x ≡ Some y → x ≡ y
+some_same x y e = cc
+
+-- two steps come to an end where each does
+bind_ok : {A B : Type 0} (r : Result A ProfileFault) (f : A → Result B ProfileFault) (y : B) → (r >>= f) ≡ Ok y → (x : A) × (r ≡ Ok x) × (f x ≡ Ok y)
+bind_ok (Ok x) f y e = (x, refl, e)
+bind_ok (Err fault) f y e = cc
+
+shaped_ok : {A : Type 0} (k : Key) (o : Option A) (x : A) → shaped k o ≡ Ok x → o ≡ Some x
+shaped_ok k None x e = cc
+shaped_ok k (Some y) x e = ap Some (ok_same y x e)
+
+optional_is : {A : Type 0} (default : A) (reading : Data → Option A) (o : Option Data) (x : A) → optional default reading o ≡ Some x
+    → ((o ≡ None) × (x ≡ default)) ⊎ ((value : Data) × (o ≡ Some value) × (reading value ≡ Some x))
+optional_is default reading None x e = inl (refl, sym (some_same default x e))
+optional_is default reading (Some value) x e = inr (value, refl, e)
+
+at_is : {A : Type 0} (k : Key) (default : A) (reading : Data → Option A) (d : Data) (x : A) → at k default reading d ≡ Ok x → IsAt (key_name k) default reading d x
+at_is k default reading d x e = optional_is default reading (get (key_name k) d) x (shaped_ok k (optional default reading (get (key_name k) d)) x e)
+
+set_is : (k : Key) (d : Data) (names : Option (List (List ℕ))) → texts_at k d ≡ Ok names → IsSetAt (key_name k) d names
+unfolding texts_at
+set_is k d names e = at_is k None (λ value. option_map Some (texts value)) d names e
+
+-- ---- the six lists
+
+abbrev HoldPair : Key → Key → Data → NameRules → Type 0
+HoldPair required allowed d rules = IsSetAt (key_name required) d rules.required × IsSetAt (key_name allowed) d rules.allowed
+
+pair_is : (required allowed : Key) (d : Data) (rules : NameRules) → name_rules required allowed d ≡ Ok rules → HoldPair required allowed d rules
+pair_is required allowed d rules e =
+    let one = bind_ok (texts_at required d) _ rules e in
+    let two = bind_ok (texts_at allowed d) _ rules one.2 in
+    subst (HoldPair required allowed d) (ok_same _ rules two.2) (set_is required d one.0 one.1, set_is allowed d two.0 two.1)
+
+abbrev HoldLists : Data → NameLists → Type 0
+HoldLists d lists =
+    HoldPair key.ManifestsRequired key.ManifestsAllowed d lists.manifests
+    × HoldPair key.TagManifestsRequired key.TagManifestsAllowed d lists.tag_manifests
+    × HoldPair key.TagFilesRequired key.TagFilesAllowed d lists.tag_files
+
+lists_are : (d : Data) (lists : NameLists) → name_lists_of d ≡ Ok lists → HoldLists d lists
+lists_are d lists e =
+    let one = bind_ok (name_rules key.ManifestsRequired key.ManifestsAllowed d) _ lists e in
+    let two = bind_ok (name_rules key.TagManifestsRequired key.TagManifestsAllowed d) _ lists one.2 in
+    let three = bind_ok (name_rules key.TagFilesRequired key.TagFilesAllowed d) _ lists two.2 in
+    subst (HoldLists d) (ok_same _ lists three.2) (
+      pair_is key.ManifestsRequired key.ManifestsAllowed d one.0 one.1,
+      pair_is key.TagManifestsRequired key.TagManifestsAllowed d two.0 two.1,
+      pair_is key.TagFilesRequired key.TagFilesAllowed d three.0 three.1,
+    )
+
+-- ---- the terms
+
+abbrev named_in : Data → Option Serialization
+named_in value = option_and_then serialization_named (as_str value)
+
+abbrev HoldTerms : Data → Terms → Type 0
+HoldTerms d terms =
+    IsAt (key_name key.AllowFetch) true as_bool d terms.allow_fetch
+    × IsSetAt (key_name key.AcceptBagItVersion) d terms.versions
+    × IsAt (key_name key.Serialization) Optional named_in d terms.serialization
+
+allow_fetch_is : (d : Data) (x : Bool) → allow_fetch_of d ≡ Ok x → IsAt (key_name key.AllowFetch) true as_bool d x
+unfolding allow_fetch_of
+allow_fetch_is d x e = at_is key.AllowFetch true as_bool d x e
+
+serialization_is : (d : Data) (x : Serialization) → serialization_of d ≡ Ok x → IsAt (key_name key.Serialization) Optional named_in d x
+unfolding serialization_of
+serialization_is d x e = at_is key.Serialization Optional named_in d x e
+
+terms_are : (d : Data) (terms : Terms) → terms_of d ≡ Ok terms → HoldTerms d terms
+terms_are d terms e =
+    let one = bind_ok (allow_fetch_of d) _ terms e in
+    let two = bind_ok (texts_at key.AcceptBagItVersion d) _ terms one.2 in
+    let three = bind_ok (serialization_of d) _ terms two.2 in
+    subst (HoldTerms d) (ok_same _ terms three.2) (allow_fetch_is d one.0 one.1, set_is key.AcceptBagItVersion d two.0 two.1, serialization_is d three.0 three.1)
+
+-- ---- the identifier and the labels
+
+present_ok : {A : Type 0} (k : Key) (reading : Data → Option A) (o : Option Data) (x : A) → present k reading o ≡ Ok x → (value : Data) × (o ≡ Some value) × (reading value ≡ Some x)
+present_ok k reading None x e = cc
+present_ok k reading (Some value) x e = (value, refl, shaped_ok k (reading value) x e)
+
+itself : (value info : Data) (o : Option Members) → option_map (λ _. value) o ≡ Some info → value ≡ info
+itself value info None e = cc
+itself value info (Some _) e = some_same value info e
+
+identifier_is : (d : Data) (identifier : List ℕ) → identifier_of d ≡ Ok identifier
+    → (info value : Data) × (get (key_name key.ProfileInfo) d ≡ Some info) × (get (key_name key.ProfileIdentifier) info ≡ Some value) × (as_str value ≡ Some identifier)
+unfolding identifier_of
+identifier_is d identifier e =
+    let one = bind_ok (needed key.ProfileInfo as_record d) _ identifier e in
+    let info = present_ok key.ProfileInfo as_record (get (key_name key.ProfileInfo) d) one.0 one.1 in
+    let value = present_ok key.ProfileIdentifier as_str (get (key_name key.ProfileIdentifier) one.0) identifier one.2 in
+    (one.0, value.0, info.1 ∙ ap Some (itself info.0 one.0 (as_object info.0) info.2), value.1, value.2)
+
+labels_are : (d : Data) (labels : List LabelRule) → labels_of d ≡ Ok labels → IsAt (key_name key.BagInfo) [] label_rules d labels
+unfolding labels_of
+labels_are d labels e = at_is key.BagInfo [] label_rules d labels e
+
+-- ---- the whole
+
+made : (d : Data) (members : Members) (identifier : List ℕ) (labels : List LabelRule) (lists : NameLists) (terms : Terms)
+    → (as_object d ≡ Some members) → identifier_of d ≡ Ok identifier → labels_of d ≡ Ok labels → name_lists_of d ≡ Ok lists → terms_of d ≡ Ok terms
+    → HoldsKeys d (record { identifier = identifier; labels = labels; names = lists; terms = terms; unchecked = unchecked_of members })
+unfolding key_name
+made d members identifier labels lists terms all i l n t =
+    let six = lists_are d lists n in
+    let three = terms_are d terms t in
+    record {
+      its_identifier = identifier_is d identifier i;
+      bag_info = labels_are d labels l;
+      manifests_required = six.0.0;
+      manifests_allowed = six.0.1;
+      tag_manifests_required = six.1.0;
+      tag_manifests_allowed = six.1.1;
+      tag_files_required = six.2.0;
+      tag_files_allowed = six.2.1;
+      allow_fetch = three.0;
+      accept_version = three.1;
+      serialization = three.2;
+      others = (members, all, refl);
+    }
+
+object_holds : (d : Data) (members : Members) (profile : Profile) → as_object d ≡ Some members → of_object d members ≡ Ok profile → HoldsKeys d profile
+object_holds d members profile all e =
+    let one = bind_ok (identifier_of d) _ profile e in
+    let two = bind_ok (labels_of d) _ profile one.2 in
+    let three = bind_ok (name_lists_of d) _ profile two.2 in
+    let four = bind_ok (terms_of d) _ profile three.2 in
+    subst (HoldsKeys d) (ok_same _ profile four.2) (made d members one.0 two.0 three.0 four.0 all one.1 two.1 three.1 four.1)
+
+pub hold_keys : ProfilesHoldTheirKeys
+unfolding profile_of
+hold_keys d profile e =
+    let one = bind_ok (shaped key.Whole (as_object d)) _ profile e in
+    object_holds d one.0 profile (shaped_ok key.Whole (as_object d) one.0 one.1) one.2
+
+-- ---- the rule of a label
+
+abbrev rule_made : List ℕ → Bool → Bool → List (List ℕ) → LabelRule
+rule_made label required repeatable values = record { label = label; required = required; repeatable = repeatable; values = values }
+
+rule_parts : (b : Bool) (label : List ℕ) (required repeatable : Option Bool) (values : Option (List (List ℕ))) (rule : LabelRule)
+    → cond b (option_and_then (λ x. option_and_then (λ y. option_map (λ z. rule_made label x y z) values) repeatable) required) None ≡ Some rule
+    → (rule.label ≡ label) × (required ≡ Some rule.required) × (repeatable ≡ Some rule.repeatable) × (values ≡ Some rule.values)
+rule_parts false label required repeatable values rule e = cc
+rule_parts true label None repeatable values rule e = cc
+rule_parts true label (Some x) None values rule e = cc
+rule_parts true label (Some x) (Some y) None rule e = cc
+rule_parts true label (Some x) (Some y) (Some z) rule e =
+    subst (λ r. (r.label ≡ label) × (Some x ≡ Some r.required) × (Some y ≡ Some r.repeatable) × (Some z ≡ Some r.values))
+    (some_same (rule_made label x y z) rule e) (refl, refl, refl, refl)
+
+pub rules_hold : RulesHoldTheirKeys
+unfolding label_rule
+rules_hold label d rule e =
+    let parts = rule_parts (is_some (as_object d)) label (flag (codes "required") false d) (flag (codes "repeatable") true d) (allowed_values d) rule e in (
+      parts.0,
+      record {
+        required = optional_is false as_bool (get (codes "required") d) rule.required parts.1;
+        repeatable = optional_is true as_bool (get (codes "repeatable") d) rule.repeatable parts.2;
+        allowed = optional_is [] texts (get (codes "values") d) rule.values parts.3;
+      },
+    )

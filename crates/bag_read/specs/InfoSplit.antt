@@ -1,0 +1,31 @@
+-- What the first line of an element is made of (RFC 8493, 2.2.2), and the law that its definition keeps.
+use Rattle.std.specs.Prelude.{ℕ, ◌≡◌, ◌≢◌, ◌⊎◌, ◌↔◌, true, false, not, List, [], ◌∷◌, ◌++◌, Some, codes, IsTrue}
+use Rattle.std.specs.List.{list_all}
+use Rattle.bag_text.specs.Text.{is_blank, trim}
+use Rattle.bag_text.specs.declared.rules.Rules.{Rules}
+use Rattle.bag_text.specs.declared.rules.Rules.TheVariants.{V10, V097}
+use Rattle.bag_read.specs.Info.{is_colon, split}
+
+-- the label is what stands before the colon; by the rules of 0.97 without the blanks at its ends
+abbrev pub IsLabelIn : Rules → List ℕ → List ℕ → Type 0
+IsLabelIn V10 before label = label ≡ before
+IsLabelIn V097 before label = label ≡ trim before
+
+-- behind the colon the line ends, or a blank follows; by the rules of 0.97 anything may
+abbrev pub MayFollow : Rules → List ℕ → Type 0
+MayFollow V10 part = (part ≡ []) ⊎ ((c : ℕ) × (more : List ℕ) × (part ≡ c ∷ more) × (is_blank c ≡ true))
+MayFollow V097 part = Unit {0}
+
+-- the line is a label, its first colon, and what may follow; the label isn't empty and doesn't end with a blank
+pub record SplitsAs (rules : Rules) (line label part : List ℕ) : Type 0 where
+  pub before : List ℕ
+  pub line_is : line ≡ before ++ codes ":" ++ part
+  pub no_colon : IsTrue (list_all (λ c. not (is_colon c)) before)
+  pub its_label : IsLabelIn rules before label
+  pub some_label : label ≢ []
+  pub no_blank_last : (front : List ℕ) (c : ℕ) → label ≡ front ++ c ∷ [] → is_blank c ≡ false
+  pub follows : MayFollow rules part
+
+-- the law: a line splits just as it is made of these
+abbrev pub LinesSplitAsTheirParts : Type 0
+LinesSplitAsTheirParts = (rules : Rules) (line label part : List ℕ) → (split rules line ≡ Some (label, part)) ↔ SplitsAs rules line label part

@@ -1,0 +1,45 @@
+-- The longest front of two texts.
+use Rattle.std.proofs.Common.{◌≡◌, ◌≢◌, ℕ, suc, ◌+◌, ◌==◌, ◌≤◌, Bool, true, false, cond, List, [], ◌∷◌, ◌++◌, length, take, refl, sym, ap, ◌∙◌, subst, arith}
+use Rattle.std.specs.List.{common_prefix_len}
+use Rattle.std.proofs.lemmas.Bool.Decides.{nat_tests}
+use Rattle.bag_text.specs.SortKey.{common_front, IsFront, IsLongestFront, CommonFrontIsTheLongest}
+
+first_same : (x c : ℕ) (xs ys : List ℕ) → x ∷ xs ≡ c ∷ ys → x ≡ c
+first_same x c xs ys e = cc
+
+rest_same : (x c : ℕ) (xs ys : List ℕ) → x ∷ xs ≡ c ∷ ys → xs ≡ ys
+rest_same x c xs ys e = cc
+
+fronts_of_none : (other : List ℕ) → IsFront other [] → length other ≤ 0
+fronts_of_none [] h = omega arith
+fronts_of_none (c ∷ other) (rest, e) = cc
+
+fronts_of_unlike : (x y : ℕ) (xs ys : List ℕ) → x ≢ y → (other : List ℕ) → IsFront other (x ∷ xs) → IsFront other (y ∷ ys) → length other ≤ 0
+fronts_of_unlike x y xs ys h [] f g = omega arith
+fronts_of_unlike x y xs ys h (c ∷ other) (r, e) (s, i) = absurd (h (first_same x c xs (other ++ r) e ∙ sym (first_same y c ys (other ++ s) i)))
+
+fronts_of_more : (x y : ℕ) (front xs ys : List ℕ) → ((other : List ℕ) → IsFront other xs → IsFront other ys → length other ≤ length front)
+    → (other : List ℕ) → IsFront other (x ∷ xs) → IsFront other (y ∷ ys) → length other ≤ length (x ∷ front)
+fronts_of_more x y front xs ys h [] f g = omega arith
+fronts_of_more x y front xs ys h (c ∷ other) (r, e) (s, i) =
+    let within = h other (r, rest_same x c xs (other ++ r) e) (s, rest_same y c ys (other ++ s) i) in omega (arith, within)
+
+longest_more : (x y : ℕ) (front xs ys : List ℕ) → x ≡ y → IsLongestFront front xs ys → IsLongestFront (x ∷ front) (x ∷ xs) (y ∷ ys)
+longest_more x y front xs ys same ((r, e), (s, i), h) =
+    ((r, ap (λ t. x ∷ t) e), (s, ap (λ c. c ∷ ys) (sym same) ∙ ap (λ t. x ∷ t) i), fronts_of_more x y front xs ys h)
+
+unlike : (x y : ℕ) → (x == y) ≡ false → x ≢ y
+unlike x y e same = grind (arith, nat_tests, e, same)
+
+longest_on : (x y : ℕ) (xs ys : List ℕ) (b : Bool) → (x == y) ≡ b → IsLongestFront (common_front xs ys) xs ys
+    → IsLongestFront (take (cond b (1 + common_prefix_len (λ a b. a == b) xs ys) 0) (x ∷ xs)) (x ∷ xs) (y ∷ ys)
+longest_on x y xs ys true e h =
+    let on : suc (common_prefix_len (λ a b. a == b) xs ys) ≡ 1 + common_prefix_len (λ a b. a == b) xs ys = omega arith in
+    let same : x ≡ y = grind (arith, nat_tests, e) in
+    subst (λ n. IsLongestFront (take n (x ∷ xs)) (x ∷ xs) (y ∷ ys)) on (longest_more x y (common_front xs ys) xs ys same h)
+longest_on x y xs ys false e h = ((x ∷ xs, refl), (y ∷ ys, refl), fronts_of_unlike x y xs ys (unlike x y e))
+
+pub the_longest : CommonFrontIsTheLongest
+the_longest [] second = (([], refl), (second, refl), λ other f g. fronts_of_none other f)
+the_longest (x ∷ xs) [] = ((x ∷ xs, refl), ([], refl), λ other f g. fronts_of_none other g)
+the_longest (x ∷ xs) (y ∷ ys) = longest_on x y xs ys (x == y) refl (the_longest xs ys)
