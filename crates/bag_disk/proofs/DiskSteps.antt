@@ -227,6 +227,15 @@ turn old at new next files files_after folders folders_after listed folder text 
     (subst (λ nodes. Has nodes (path_in text name_text) → (listed pending : List (List ℕ)) → Walked nodes files folders listed (path_in text name_text ∷ pending) → Walked nodes files_after folders_after listed pending) nodes (added (after.honest ∙ before.honest ∙ honest)))
     (subst (Listing old.nodes files folders listed folder) names now)
 
+-- the next name is that of something in the folder
+pub next_there : (old at new : DiskState) (next : Option (List ℕ)) (files : List FileEntry) (folders listed : List (List ℕ)) (folder name name_text : List ℕ)
+    → OnlyLooks old at → OnlyLooks at new → next ≡ Some name → (IsTrue at.honest → Next at new next) → name_text ≡ name
+    → IsTrue old.honest → Listing old.nodes files folders listed folder at.names → Has new.nodes (path_in folder name_text)
+next_there old at new next files folders listed folder name name_text before after is gives same honest now =
+    let names : at.names ≡ name ∷ new.names = subst (Next at new) is (gives (before.honest ∙ honest)) in
+    let here : Has old.nodes (path_in folder name) = now.there name (subst (λ names. Contains names name) (sym names) (contains_first name new.names)) in
+    subst (λ nodes. Has nodes (path_in folder name_text)) (sym (after.nodes ∙ before.nodes)) (subst (λ n. Has old.nodes (path_in folder n)) (sym same) here)
+
 -- no name of the folder is left
 pub folder_ended : (old at new : DiskState) (next : Option (List ℕ)) (files : List FileEntry) (folders listed : List (List ℕ)) (folder : List ℕ)
     → OnlyLooks old at → next ≡ None → (IsTrue at.honest → Next at new next)

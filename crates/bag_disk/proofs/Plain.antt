@@ -11,7 +11,7 @@ use Rattle.std.specs.Ordering.{eq_by_cmp}
 use Rattle.bag_text.specs.Text.{text_cmp}
 use Rattle.bag_text.specs.Path.{slash, is_path, under}
 use Rattle.bag_disk.specs.Location.{path_in}
-use Rattle.bag_disk.specs.Disk.{Nodes, Node, node, Has, IsFolder, IsDisk, IsReached, HasUnnamed, entry_of, is_plain, is_plain_node}
+use Rattle.bag_disk.specs.Disk.{Nodes, Node, node, Has, IsFolder, IsDisk, IsReached, HasSpecial, HasUnnamed, HasUnnamedPath, entry_of, is_plain, is_plain_node}
 use Rattle.bag_disk.specs.Disk.Node.{File, Folder, Other}
 use Rattle.bag_tree.proofs.SameText.{one_text, text_itself}
 use Rattle.bag_tree.proofs.PathEntries.{none_below, t_true}
@@ -55,9 +55,9 @@ all_among (e ∷ es) sorted plain =
 pub all_plain : (nodes : Nodes) → ((path : List ℕ) (n : Node) → node nodes path ≡ Some n → is_plain_node n ≡ true) → is_plain nodes ≡ true
 all_plain nodes plain = all_among (fin.entries nodes) (t_true _ (entries_sorted nodes)) (λ q n is. plain q n (get-entries nodes q ∙ is))
 
--- where something else was answered the disk isn't plain
-pub other_seen : (nodes : Nodes) (path : List ℕ) (found : Entry) → option_map entry_of (node nodes path) ≡ Some found → found ≡ entry.Other → is_plain nodes ≡ false
-other_seen nodes path found is other = other_not_plain nodes path (other_there (node nodes path) (is ∙ ap Some other))
+-- where what was answered is no file and no folder, something special stands there
+pub other_seen : (nodes : Nodes) (path : List ℕ) (found : Entry) → IsUtf8 path → option_map entry_of (node nodes path) ≡ Some found → found ≡ entry.Other → HasSpecial nodes
+other_seen nodes path found text is other = (path, other_there (node nodes path) (is ∙ ap Some other), text)
   where
     other_there : (o : Option Node) → option_map entry_of o ≡ Some entry.Other → o ≡ Some Other
     other_there None e = cc
@@ -66,10 +66,10 @@ other_seen nodes path found is other = other_not_plain nodes path (other_there (
     other_there (Some Other) e = refl
 
 -- the same, where the path's text is known in three ways
-pub name_is_other : (nodes : Nodes) (location path text : List ℕ) (found : Entry) → IsDisk nodes → path ≡ location → text ≡ path
-    → (IsReached nodes text → option_map entry_of (node nodes text) ≡ Some found) → Has nodes location → found ≡ entry.Other → is_plain nodes ≡ false
-name_is_other nodes location path text found disk at same is has other =
-    other_seen nodes location found (subst (λ p. (IsReached nodes p → option_map entry_of (node nodes p) ≡ Some found)) (same ∙ at) is (disk.folders location has)) other
+pub name_is_other : (nodes : Nodes) (location path text : List ℕ) (found : Entry) → IsDisk nodes → IsUtf8 text → path ≡ location → text ≡ path
+    → (IsReached nodes text → option_map entry_of (node nodes text) ≡ Some found) → Has nodes location → found ≡ entry.Other → HasSpecial nodes
+name_is_other nodes location path text found disk utf8 at same is has other =
+    other_seen nodes text found utf8 (is (disk.folders text (subst (Has nodes) (sym (same ∙ at)) has))) other
 
 -- a name is in UTF-8 where its path is
 text_under : (folder name : List ℕ) → IsUtf8 (under folder name) → IsUtf8 name
@@ -98,11 +98,17 @@ unnamed_is_other nodes path disk has unnamed = elim (node nodes path) as (λ o. 
   | Some Other ↦ λ _ _. refl
 ] refl has
 
--- where a name of a folder isn't UTF-8 the disk isn't plain
-pub unnamed_not_plain : (nodes : Nodes) (folder : List ℕ) (names : List (List ℕ)) → IsDisk nodes → ((name : List ℕ) → Contains names name → Has nodes (path_in folder name)) → HasUnnamed names → is_plain nodes ≡ false
-unnamed_not_plain nodes folder names disk there unnamed =
-    let path = path_in folder unnamed.0 in
-    other_not_plain nodes path (unnamed_is_other nodes path disk (there unnamed.0 unnamed.1) (λ text. unnamed.2 (text_in folder unnamed.0 text)))
+-- where a name of a folder isn't UTF-8 a path isn't
+pub unnamed_there : (nodes : Nodes) (folder : List ℕ) (names : List (List ℕ)) → ((name : List ℕ) → Contains names name → Has nodes (path_in folder name)) → HasUnnamed names → HasUnnamedPath nodes
+unnamed_there nodes folder names there unnamed = (path_in folder unnamed.0, there unnamed.0 unnamed.1, λ text. unnamed.2 (text_in folder unnamed.0 text))
+
+-- where something special stands the disk isn't plain
+pub special_not_plain : (nodes : Nodes) → HasSpecial nodes → is_plain nodes ≡ false
+special_not_plain nodes special = other_not_plain nodes special.0 special.1
+
+-- where a path isn't UTF-8 the disk isn't plain
+pub unnamed_not_plain : (nodes : Nodes) → IsDisk nodes → HasUnnamedPath nodes → is_plain nodes ≡ false
+unnamed_not_plain nodes disk unnamed = other_not_plain nodes unnamed.0 (unnamed_is_other nodes unnamed.0 disk unnamed.1 unnamed.2)
 
 -- where a whole walk was made the disk is plain
 pub walked_plain : (nodes : Nodes) (files : List FileEntry) (listed : List (List ℕ)) → IsDisk nodes → Walked nodes files [] listed [] → is_plain nodes ≡ true

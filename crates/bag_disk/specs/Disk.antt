@@ -121,6 +121,14 @@ IsFileWith nodes path bytes = node nodes path ≡ Some (File bytes)
 abbrev pub HasUnnamed : List (List ℕ) → Type 0
 HasUnnamed names = (name : List ℕ) × Contains names name × ¬ (IsUtf8 name)
 
+-- something that is no file and no folder stands there, and its path is in UTF-8
+abbrev pub HasSpecial : Nodes → Type 0
+HasSpecial nodes = (path : List ℕ) × (node nodes path ≡ Some Other) × IsUtf8 path
+
+-- the path of something that stands there isn't in UTF-8
+abbrev pub HasUnnamedPath : Nodes → Type 0
+HasUnnamedPath nodes = (path : List ℕ) × Has nodes path × ¬ (IsUtf8 path)
+
 -- only files and folders stand there, with names in UTF-8
 abbrev pub is_plain : Nodes → Bool
 is_plain nodes = list_all (λ entry. is_plain_node entry.1) (map.entries nodes)

@@ -1,6 +1,6 @@
 //! A walk over the folders of a disk.
-ghost use Rattle.std.specs.Prelude.{◌≡◌, ◌<◌, ◌≤◌, ◌+◌, ◌∷◌, ◌++◌, [], ℕ, List, IfOk, IfErr, OnOk, IsTrue, false, vec_len};
-ghost use Rattle.bag_disk.specs.Disk.{Has, OnlyLooks, is_plain};
+ghost use Rattle.std.specs.Prelude.{◌≡◌, ◌<◌, ◌≤◌, ◌+◌, ◌∷◌, ◌++◌, [], ℕ, List, IfOk, IfErr, OnOk, IsTrue, vec_len};
+ghost use Rattle.bag_disk.specs.Disk.{Has, HasSpecial, HasUnnamedPath, OnlyLooks};
 ghost use Rattle.bag_disk.specs.FolderWalk.{Walked, AllArePaths, AllStand, IsFolderPath, Listing, files_with, folders_with};
 ghost use Rattle.bag_disk.specs.Location.{path_in};
 ghost use Rattle.bag_disk.specs.declared.disk.Entry.TheVariants.{Other};
@@ -57,7 +57,10 @@ impl FolderWalk {
         ensures refused { IfErr result (IsDue
             (IsTrue (D.state disk.old).honest
             → Walked (D.state disk.old).nodes self.old.files.items (self.old.folders.items ++ folder ∷ []) self.old.listed.items []
-            → is_plain (D.state disk.old).nodes ≡ false)
+            → HasSpecial (D.state disk.old).nodes)
+            (IsTrue (D.state disk.old).honest
+            → Walked (D.state disk.old).nodes self.old.files.items (self.old.folders.items ++ folder ∷ []) self.old.listed.items []
+            → HasUnnamedPath (D.state disk.old).nodes)
             ⊥
             (IsTrue (D.state disk.old).honest
             → Walked (D.state disk.old).nodes self.old.files.items (self.old.folders.items ++ folder ∷ []) self.old.listed.items []
@@ -84,7 +87,10 @@ impl FolderWalk {
         ensures refused { IfErr result (IsDue
             (IsTrue (D.state disk.old).honest → (listed : List (List ℕ))
             → Listing (D.state disk.old).nodes self.old.files.items self.old.folders.items listed folder.now (D.state disk.old).names
-            → is_plain (D.state disk.old).nodes ≡ false)
+            → HasSpecial (D.state disk.old).nodes)
+            (IsTrue (D.state disk.old).honest → (listed : List (List ℕ))
+            → Listing (D.state disk.old).nodes self.old.files.items self.old.folders.items listed folder.now (D.state disk.old).names
+            → HasUnnamedPath (D.state disk.old).nodes)
             ⊥
             (IsTrue (D.state disk.old).honest → (listed : List (List ℕ))
             → Listing (D.state disk.old).nodes self.old.files.items self.old.folders.items listed folder.now (D.state disk.old).names
@@ -113,8 +119,8 @@ impl FolderWalk {
             → Walked (D.state disk.now).nodes self.new.files.items self.new.folders.items listed pending) }
         ensures listed { self.new.listed.items ≡ self.old.listed.items }
         ensures refused { IfErr result (IsDue
-            (IsTrue (D.state disk.now).honest → Has (D.state disk.now).nodes (path_in folder.now name.now) → is_plain (D.state disk.now).nodes ≡ false)
-            ⊥ ⊥) }
+            (IsTrue (D.state disk.now).honest → Has (D.state disk.now).nodes (path_in folder.now name.now) → HasSpecial (D.state disk.now).nodes)
+            ⊥ ⊥ ⊥) }
         ensures left { OnOk result (vec_len self.new.folders + self.new.room ≤ vec_len self.old.folders + self.old.room) }
         ensures room { OnOk result (self.new.room + 1 ≡ self.old.room) }
     {
@@ -135,7 +141,7 @@ impl FolderWalk {
         ensures folders { OnOk result (self.new.folders.items ≡ folders_with self.old.folders.items path entry) }
         ensures listed { self.new.listed.items ≡ self.old.listed.items }
         ensures other { OnOk result (entry ≡ Other → ⊥) }
-        ensures refused { IfErr result (IsDue (entry ≡ Other) ⊥ ⊥) }
+        ensures refused { IfErr result (IsDue (entry ≡ Other) ⊥ ⊥ ⊥) }
         ensures left { OnOk result (vec_len self.new.folders ≤ vec_len self.old.folders + 1) }
         ensures room { self.new.room ≡ self.old.room }
     {

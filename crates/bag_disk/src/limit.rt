@@ -15,7 +15,7 @@ use std::alloc::AllocError;
 
 /// Why a walk has no room for what it found: there is too much, or the disk named something twice.
 pub(crate) fn no_room(walk: FolderWalk) -> Refusal
-    ensures { IsDue ⊥ ⊥ ((nodes : Nodes) → AllStand nodes walk.files.items walk.folders.items walk.listed.items → most_entries < map.len nodes) result }
+    ensures { IsDue ⊥ ⊥ ⊥ ((nodes : Nodes) → AllStand nodes walk.files.items walk.folders.items walk.listed.items → most_entries < map.len nodes) result }
 {
     match all_found(walk) {
         Ok(found) => {

@@ -8,7 +8,7 @@ ghost use Rattle.bag_tree.specs.Tree.{most_entries};
 ghost use Rattle.bag_disk.specs.Disk.{OnlyLooks, is_plain};
 ghost use Rattle.bag_disk.specs.DiskBag.{bag_of};
 ghost use Rattle.bag_disk.specs.FolderWalk.{ArePaths, Walked};
-ghost use Rattle.bag_disk.specs.Refusal.{HasOther, IsDue};
+ghost use Rattle.bag_disk.specs.Refusal.{IsDue, MeetsSpecial, MeetsUnnamed};
 
 use crate::Disk;
 use crate::folder_walk::FolderWalk;
@@ -26,7 +26,7 @@ pub fn list_below<D: Disk>(disk: &mut D, alloc: Global) -> Result<Listing, Refus
     ensures data { IfOk result HasItsFolder }
     ensures plain { OnOk result (IsTrue (D.state disk.old).honest → IsTrue (is_plain (D.state disk.old).nodes)) }
     ensures honest { IfOk result (λ listing. IsTrue (D.state disk.old).honest → IsListingOf (bag_of (D.state disk.old).nodes) listing) }
-    ensures refused { IfErr result (IsDue (HasOther (D.state disk.old))
+    ensures refused { IfErr result (IsDue (MeetsSpecial (D.state disk.old)) (MeetsUnnamed (D.state disk.old))
         ⊥ (IsTrue (D.state disk.old).honest → most_entries < map.len (D.state disk.old).nodes)) }
 {
     match walk(disk, alloc) {
@@ -41,7 +41,7 @@ fn walk<D: Disk>(disk: &mut D, alloc: Global) -> Result<FolderWalk, Refusal>
     ensures looks { OnlyLooks (D.state disk.old) (D.state disk.new) }
     ensures walked { IfOk result (λ walk. IsTrue (D.state disk.old).honest
         → Walked (D.state disk.old).nodes walk.files.items [] walk.listed.items []) }
-    ensures refused { IfErr result (IsDue (HasOther (D.state disk.old))
+    ensures refused { IfErr result (IsDue (MeetsSpecial (D.state disk.old)) (MeetsUnnamed (D.state disk.old))
         ⊥ (IsTrue (D.state disk.old).honest → most_entries < map.len (D.state disk.old).nodes)) }
 {
     let mut walk = FolderWalk::new(alloc)?;
@@ -62,7 +62,7 @@ fn listing_of(walk: FolderWalk) -> Result<Listing, Refusal>
     ensures ordered { IfOk result (λ listing. IsOrdered listing.files) }
     ensures files { IfOk result (λ listing. IsPermutation walk.files.items listing.files) }
     ensures data { IfOk result HasItsFolder }
-    ensures refused { IfErr result (IsDue ⊥ ⊥ ⊥) }
+    ensures refused { IfErr result (IsDue ⊥ ⊥ ⊥ ⊥) }
     ensures has_data { IfOk result (λ listing. IsTrue listing.has_data ↔ Any (λ folder. folder ≡ codes "data") walk.listed.items) }
 {
     let FolderWalk { files, listed, .. } = walk;

@@ -1,12 +1,12 @@
 //! Opening a file of a disk.
-ghost use Rattle.std.specs.Prelude.{◌≡◌, ◌++◌, ◌∷◌, [], None, OnOk, OnErr, IfErr, IsTrue, is_some, Some, false};
+ghost use Rattle.std.specs.Prelude.{◌≡◌, ◌++◌, ◌∷◌, [], None, OnOk, OnErr, IfErr, IsTrue, is_some, Some};
 ghost use Rattle.bag_text.specs.Path.{is_path};
 ghost use Rattle.bag_tree.specs.Bag.{file};
 ghost use Rattle.bag_tree.specs.Tree.{IsOpen};
-ghost use Rattle.bag_disk.specs.Disk.{SameDisk, IsReached, is_plain, node};
+ghost use Rattle.bag_disk.specs.Disk.{HasSpecial, SameDisk, IsReached, node};
 ghost use Rattle.bag_disk.specs.DiskBag.{bag_of};
 ghost use Rattle.bag_disk.specs.Disk.Node.{Folder};
-ghost use Rattle.bag_disk.specs.Refusal.{HasOther, IsDue};
+ghost use Rattle.bag_disk.specs.Refusal.{IsDue, MeetsSpecial};
 
 use crate::path::is_path;
 use crate::refusal::Refusal;
@@ -20,7 +20,7 @@ pub fn open_at<D: Disk>(disk: &mut D, path: &str) -> Result<(), Refusal>
     ensures only_paths { OnOk result (IsTrue (is_path path.now)) }
     ensures file_open { OnOk result (IsTrue (is_some (D.state disk.new).rest)) }
     ensures honest { OnOk result (IsTrue (D.state disk.old).honest → IsOpen (file (bag_of (D.state disk.old).nodes) path.now) (D.state disk.new).rest) }
-    ensures refused { IfErr result (IsDue (HasOther (D.state disk.old))
+    ensures refused { IfErr result (IsDue (MeetsSpecial (D.state disk.old)) ⊥
         (IsTrue (D.state disk.old).honest → file (bag_of (D.state disk.old).nodes) path.now ≡ None) ⊥) }
     ensures closed { (D.state disk.old).rest ≡ None → OnErr result ((D.state disk.new).rest ≡ None) }
     ensures not_opened { OnErr result ((D.state disk.new).openings ≡ (D.state disk.old).openings) }
@@ -47,7 +47,7 @@ pub fn open_at<D: Disk>(disk: &mut D, path: &str) -> Result<(), Refusal>
 /// Refuses a path that doesn't lead through folders alone.
 fn check_folders<D: Disk>(disk: &D, path: &str) -> Result<(), Refusal>
     ensures reached { OnOk result (IsTrue (D.state disk.now).honest → IsReached (D.state disk.now).nodes path.now) }
-    ensures refused { IfErr result (IsDue (HasOther (D.state disk.now))
+    ensures refused { IfErr result (IsDue (MeetsSpecial (D.state disk.now)) ⊥
         (IsTrue (D.state disk.now).honest → node (D.state disk.now).nodes path.now ≡ None) ⊥) }
 {
     for (end, byte) in path.as_bytes().iter().enumerate() {
@@ -67,7 +67,7 @@ fn check_folders<D: Disk>(disk: &D, path: &str) -> Result<(), Refusal>
 /// Refuses what is no folder.
 pub fn check_is_folder<D: Disk>(disk: &D, folder: &str) -> Result<(), Refusal>
     ensures folder { OnOk result (IsTrue (D.state disk.now).honest → IsReached (D.state disk.now).nodes folder.now → node (D.state disk.now).nodes folder.now ≡ Some Folder) }
-    ensures refused { IfErr result (IsDue (IsTrue (D.state disk.now).honest → IsReached (D.state disk.now).nodes folder.now → is_plain (D.state disk.now).nodes ≡ false)
+    ensures refused { IfErr result (IsDue (IsTrue (D.state disk.now).honest → IsReached (D.state disk.now).nodes folder.now → HasSpecial (D.state disk.now).nodes) ⊥
         (IsTrue (D.state disk.now).honest → IsReached (D.state disk.now).nodes folder.now → node (D.state disk.now).nodes folder.now ≡ Some Folder → ⊥) ⊥) }
 {
     if !is_path(folder) {

@@ -21,7 +21,7 @@ use Rattle.bag_tree.specs.Moved.{MovesAll, is_within, moved}
 use Rattle.bag_tree.specs.Steps as step
 use Rattle.bag_tree.proofs.Moving.{moves_all}
 use Rattle.bag_tree.proofs.Within.{within_after, within_cases, itself_within, not_after, not_within}
-use Rattle.bag_disk.specs.Disk.{Nodes, Node, node, IsDisk, IsReached, bytes_of, is_folder_node, is_plain}
+use Rattle.bag_disk.specs.Disk.{HasSpecial, Nodes, Node, node, IsDisk, IsReached, bytes_of, is_folder_node}
 use Rattle.bag_disk.specs.Location.{path_in}
 use Rattle.bag_disk.specs.Disk.Node.{File, Folder, Other}
 use Rattle.bag_disk.specs.WritableDisk.{HasFile, Moves, with_file, with_folder}
@@ -312,9 +312,9 @@ to_target nodes folder top target is named at there =
 -- where something is in the way of what is moved into a folder
 pub target_seen : (nodes : Nodes) (honest : Type 0) (folder top target : List ℕ) (absent taken : Type 0) (r : Refusal) → is_base_name folder ≡ true → is_base_name top ≡ true → target ≡ path_in folder top
     → (honest → node nodes folder ≡ Some Folder)
-    → IsDue (honest → IsReached nodes target → is_plain nodes ≡ false) ⊥ ⊥ r → IsDueInStep (honest → is_plain nodes ≡ false) absent taken r
+    → IsDue (honest → IsReached nodes target → HasSpecial nodes) ⊥ ⊥ ⊥ r → IsDueInStep (honest → HasSpecial nodes) absent taken r
 target_seen nodes honest folder top target absent taken r is named at there due =
-    due_in_step _ _ _ _ _ r (λ over h. over h (to_target nodes folder top target is named at (there h))) (λ never. absurd never) due
+    due_in_step _ _ _ _ _ r (λ special h. special h (to_target nodes folder top target is named at (there h))) (λ never. absurd never) due
 
 pub file_in_target : (nodes : Nodes) (folder top target : List ℕ) (o : Option Standing) (seen : Standing) → is_base_name folder ≡ true → is_base_name top ≡ true → target ≡ path_in folder top
     → node nodes folder ≡ Some Folder → o ≡ Some seen → seen ≡ standing.File → (IsReached nodes target → IsStanding nodes target o) → has_within (bag_of nodes) (under folder top) ≡ true

@@ -5,7 +5,7 @@ ghost use Rattle.bag_tree.specs.Steps.{lacks_folder, lacks_source};
 ghost use Rattle.bag_disk.specs.Disk.{OnlyLooks};
 ghost use Rattle.bag_disk.specs.WritableDisk.{Closes, MakesFolder, Moves};
 ghost use Rattle.bag_store.specs.Changing.{HasTarget, IsRenamed, IsMovedIn, IsTaken, LacksFolder, LacksSource};
-ghost use Rattle.bag_disk.specs.Refusal.{HasOther, IsDueInStep};
+ghost use Rattle.bag_disk.specs.Refusal.{IsDueInStep, MeetsSpecial};
 
 use crate::keeping::{BASE, keep_names, keep_with_base};
 use crate::standing::{Standing, check_free, check_taken, standing_at};
@@ -21,7 +21,7 @@ pub(crate) fn make_folder<D: WritableDisk>(disk: &mut D, name: &str) -> Result<(
         → MakesFolder (D.state disk.old).nodes (D.state disk.new).nodes name.now) }
     ensures closed { OnOk result (Closes (D.state disk.old) (D.state disk.new)) }
     ensures same { OnErr result (OnlyLooks (D.state disk.old) (D.state disk.new)) }
-    ensures refused { IfErr result (IsDueInStep (HasOther (D.state disk.old)) ⊥ (IsTaken (D.state disk.old) name.now)) }
+    ensures refused { IfErr result (IsDueInStep (MeetsSpecial (D.state disk.old)) ⊥ (IsTaken (D.state disk.old) name.now)) }
 {
     match keep_names(disk, BASE) {
         Ok(()) => {}
@@ -37,7 +37,7 @@ pub(crate) fn make_folder<D: WritableDisk>(disk: &mut D, name: &str) -> Result<(
 /// Why nothing can be made where the disk says that something stands.
 pub(crate) fn in_the_way<D: Disk>(disk: &D, name: &str) -> Refusal
     requires { IsTrue (is_base_name name.now) }
-    ensures { IsDueInStep (HasOther (D.state disk.now)) ⊥ (IsTaken (D.state disk.now) name.now) result }
+    ensures { IsDueInStep (MeetsSpecial (D.state disk.now)) ⊥ (IsTaken (D.state disk.now) name.now) result }
 {
     match check_free(disk, name) {
         Ok(()) => Refusal::Device,
@@ -57,7 +57,7 @@ pub(crate) fn move_in<D: WritableDisk>(
     ensures moved { OnOk result (IsMovedIn (D.state disk.old) (D.state disk.new) top.now folder.now) }
     ensures closed { OnOk result (Closes (D.state disk.old) (D.state disk.new)) }
     ensures same { OnErr result (OnlyLooks (D.state disk.old) (D.state disk.new)) }
-    ensures refused { IfErr result (IsDueInStep (HasOther (D.state disk.old))
+    ensures refused { IfErr result (IsDueInStep (MeetsSpecial (D.state disk.old))
         (LacksSource (D.state disk.old) top.now folder.now) (HasTarget (D.state disk.old) top.now folder.now)) }
 {
     match check_is_folder(disk, folder) {
@@ -93,7 +93,7 @@ pub(crate) fn rename_folder<D: WritableDisk>(
     ensures renamed { OnOk result (IsRenamed (D.state disk.old) (D.state disk.new) from.now to.now) }
     ensures closed { OnOk result (Closes (D.state disk.old) (D.state disk.new)) }
     ensures same { OnErr result (OnlyLooks (D.state disk.old) (D.state disk.new)) }
-    ensures refused { IfErr result (IsDueInStep (HasOther (D.state disk.old))
+    ensures refused { IfErr result (IsDueInStep (MeetsSpecial (D.state disk.old))
         (LacksFolder (D.state disk.old) from.now) (IsTaken (D.state disk.old) to.now)) }
 {
     match check_is_folder(disk, from) {

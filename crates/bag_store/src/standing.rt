@@ -1,11 +1,11 @@
 //! Looks at what stands where a step is to be made.
-ghost use Rattle.std.specs.Prelude.{◌≡◌, IfErr, IfOk, IsTrue, None, OnOk, false, true};
+ghost use Rattle.std.specs.Prelude.{◌≡◌, IfErr, IfOk, IsTrue, None, OnOk, false};
 ghost use Rattle.bag_text.specs.Path.{is_base_name, is_path};
 ghost use Rattle.bag_tree.specs.Steps.{is_taken};
-ghost use Rattle.bag_disk.specs.Disk.{IsReached, is_plain, node};
+ghost use Rattle.bag_disk.specs.Disk.{HasSpecial, IsReached, node};
 ghost use Rattle.bag_store.specs.Changing.{IsTaken};
 ghost use Rattle.bag_disk.specs.DiskBag.{bag_of};
-ghost use Rattle.bag_disk.specs.Refusal.{HasOther, IsDue, IsDueInStep};
+ghost use Rattle.bag_disk.specs.Refusal.{IsDue, IsDueInStep, MeetsSpecial};
 ghost use Rattle.bag_store.specs.Standing.{IsStanding};
 
 use bag_disk::{Disk, DiskFault, Entry, Refusal};
@@ -23,7 +23,7 @@ pub(crate) fn standing_at<D: Disk>(disk: &D, path: &str) -> Result<Option<Standi
     ensures found { IfOk result (λ standing. IsTrue (D.state disk.now).honest → IsReached (D.state disk.now).nodes path.now
         → IsStanding (D.state disk.now).nodes path.now standing) }
     ensures refused { IfErr result (IsDue (IsTrue (D.state disk.now).honest → IsReached (D.state disk.now).nodes path.now
-        → is_plain (D.state disk.now).nodes ≡ false) ⊥ ⊥) }
+        → HasSpecial (D.state disk.now).nodes) ⊥ ⊥ ⊥) }
 {
     match disk.entry_at(path) {
         Ok(Entry::File(_)) => Ok(Some(Standing::File)),
@@ -38,7 +38,7 @@ pub(crate) fn standing_at<D: Disk>(disk: &D, path: &str) -> Result<Option<Standi
 pub(crate) fn check_free<D: Disk>(disk: &D, name: &str) -> Result<(), Refusal>
     requires { IsTrue (is_base_name name.now) }
     ensures free { OnOk result (IsTrue (D.state disk.now).honest → node (D.state disk.now).nodes name.now ≡ None) }
-    ensures refused { IfErr result (IsDueInStep (HasOther (D.state disk.now)) ⊥ (IsTaken (D.state disk.now) name.now)) }
+    ensures refused { IfErr result (IsDueInStep (MeetsSpecial (D.state disk.now)) ⊥ (IsTaken (D.state disk.now) name.now)) }
 {
     match standing_at(disk, name) {
         Ok(None) => Ok(()),
@@ -51,7 +51,7 @@ pub(crate) fn check_free<D: Disk>(disk: &D, name: &str) -> Result<(), Refusal>
 pub(crate) fn check_taken<D: Disk>(disk: &D, name: &str) -> Result<(), Refusal>
     requires { IsTrue (is_base_name name.now) }
     ensures taken { OnOk result (IsTaken (D.state disk.now) name.now) }
-    ensures refused { IfErr result (IsDue (HasOther (D.state disk.now))
+    ensures refused { IfErr result (IsDue (MeetsSpecial (D.state disk.now)) ⊥
         (IsTrue (D.state disk.now).honest → is_taken (bag_of (D.state disk.now).nodes) name.now ≡ false) ⊥) }
 {
     match standing_at(disk, name) {

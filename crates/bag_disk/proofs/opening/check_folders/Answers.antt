@@ -11,7 +11,8 @@ returns-in-Err-clause-refused g c =
     let items = c.as_bytes-byte-items.result.now in
     let folder = c.in-Some.folder.now in
     let reached : IsTrue (g.D.Disk.state c.args.disk.now).honest → IsReached nodes folder = λ honest. slash_reached nodes c.args.path.now items folder c.loop-end.end c.as_bytes-byte-items.ensures.value c.in-Some.ensures.cases.0 c.loop-end-test.true c.if-byte-eq47.true (c.loop-end.invariant honest) in
-    due_for _ _ _ _ _ _ c.in-Err.refusal (λ over honest. over honest (reached honest))
+    due_for _ _ _ _ _ _ _ _ c.in-Err.refusal (λ special honest. special honest (reached honest))
+    (λ never. never)
     (λ none honest. slash_refused nodes c.args.path.now items folder c.loop-end.end (g.met.D.Disk.is_disk c.args.disk.now) c.as_bytes-byte-items.ensures.value c.in-Some.ensures.cases.0 c.loop-end-test.true c.if-byte-eq47.true (none honest (reached honest)))
     (λ never. never)
     c.in-Err.ensures.refused

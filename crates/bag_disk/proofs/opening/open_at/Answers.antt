@@ -15,7 +15,7 @@ returns-then-not-is_path-clause-refused g c = λ honest.
 pub returns-in-Err-clause-refused : goal.returns-in-Err-clause-refused
 returns-in-Err-clause-refused g c =
     let nodes = (g.D.Disk.state c.args.disk.now).nodes in
-    due_for _ _ _ _ _ _ c.in-Err.refusal (λ over. over) (λ none honest. file_of_disk nodes c.args.path.now ∙ ap bytes_of (none honest)) (λ never. never) c.in-Err.ensures.refused
+    due_for _ _ _ _ _ _ _ _ c.in-Err.refusal (λ special. special) (λ never. never) (λ none honest. file_of_disk nodes c.args.path.now ∙ ap bytes_of (none honest)) (λ never. never) c.in-Err.ensures.refused
 
 pub returns-in-Ok-Folder-clause-refused : goal.returns-in-Ok-Folder-clause-refused
 returns-in-Ok-Folder-clause-refused g c = λ honest.
@@ -24,12 +24,12 @@ returns-in-Ok-Folder-clause-refused g c = λ honest.
 
 pub returns-in-Ok-Other-clause-refused : goal.returns-in-Ok-Other-clause-refused
 returns-in-Ok-Other-clause-refused g c = λ honest.
-    other_seen (g.D.Disk.state c.args.disk.now).nodes c.args.path.now c.in-Ok-Other.field-0 (c.in-Ok-Other.ensures.found honest (c.in-Ok.ensures.reached honest)) c.in-Ok-Other.field-0-is
+    other_seen (g.D.Disk.state c.args.disk.now).nodes c.args.path.now c.in-Ok-Other.field-0 c.utf8.path (c.in-Ok-Other.ensures.found honest (c.in-Ok.ensures.reached honest)) c.in-Ok-Other.field-0-is
 
 pub returns-in-Err-entry_at-clause-refused : goal.returns-in-Err-entry_at-clause-refused
 returns-in-Err-entry_at-clause-refused g c =
     let nodes = (g.D.Disk.state c.args.disk.now).nodes in
-    due_of_path _ _ _ c.in-Err-entry_at.fault c.of_path.result c.of_path.ensures (λ is honest. file_of_disk nodes c.args.path.now ∙ ap bytes_of (c.in-Err-entry_at.ensures.absent (ap Err is) honest (c.in-Ok.ensures.reached honest)))
+    due_of_path _ _ _ _ c.in-Err-entry_at.fault c.of_path.result c.of_path.ensures (λ is honest. file_of_disk nodes c.args.path.now ∙ ap bytes_of (c.in-Err-entry_at.ensures.absent (ap Err is) honest (c.in-Ok.ensures.reached honest)))
 
 pub returns-in-Ok-open-clause-honest : goal.returns-in-Ok-open-clause-honest
 returns-in-Ok-open-clause-honest g c = λ honest.
@@ -41,4 +41,4 @@ returns-in-Ok-open-clause-honest g c = λ honest.
 pub returns-in-Err-open-clause-refused : goal.returns-in-Err-open-clause-refused
 returns-in-Err-open-clause-refused g c =
     let nodes = (g.D.Disk.state c.args.disk.now).nodes in
-    due_of_path _ _ _ c.in-Err-open.fault c.of_path-in-Err-open.result c.of_path-in-Err-open.ensures (λ is honest. file_of_disk nodes c.args.path.now ∙ ap bytes_of (c.in-Err-open.ensures.absent (ap Err is) honest (c.in-Ok.ensures.reached honest)))
+    due_of_path _ _ _ _ c.in-Err-open.fault c.of_path-in-Err-open.result c.of_path-in-Err-open.ensures (λ is honest. file_of_disk nodes c.args.path.now ∙ ap bytes_of (c.in-Err-open.ensures.absent (ap Err is) honest (c.in-Ok.ensures.reached honest)))

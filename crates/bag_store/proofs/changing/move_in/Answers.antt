@@ -10,7 +10,7 @@ returns-in-Err-clause-refused g c =
     let nodes = (g.D.Disk.state c.args.disk.now).nodes in
     let folder = c.args.folder.now in
     let reached = base_reached nodes folder c.requires.folder in
-    due_in_step _ _ _ _ _ c.in-Err.refusal (λ over honest. over honest reached) (λ none honest. lacks_place nodes c.args.top.now folder c.requires.folder (none honest reached)) c.in-Err.ensures.refused
+    due_in_step _ _ _ _ _ c.in-Err.refusal (λ special honest. special honest reached) (λ none honest. lacks_place nodes c.args.top.now folder c.requires.folder (none honest reached)) c.in-Err.ensures.refused
 
 pub standing_at-requires : goal.standing_at-requires
 standing_at-requires g c = subst (λ t. IsTrue (is_path t)) (sym (c.as_str.ensures ∙ c.in_ok-target.ensures)) (target_is_path c.args.folder.now c.args.top.now c.requires.folder c.requires.top)

@@ -12,4 +12,4 @@ returns-in-Ok-Some-clause-refused g c = λ honest.
 pub returns-in-Err-clause-refused : goal.returns-in-Err-clause-refused
 returns-in-Err-clause-refused g c =
     let nodes = (g.D.Disk.state c.args.disk.now).nodes in
-    due_in_step _ _ _ _ _ c.in-Err.refusal (λ over honest. over honest (base_reached nodes c.args.name.now c.requires)) (λ never. never) c.in-Err.ensures.refused
+    due_in_step _ _ _ _ _ c.in-Err.refusal (λ special honest. special honest (base_reached nodes c.args.name.now c.requires)) (λ never. never) c.in-Err.ensures.refused

@@ -18,4 +18,4 @@ returns-in-Ok-Some-clause-taken g c = λ honest.
 pub returns-in-Err-clause-refused : goal.returns-in-Err-clause-refused
 returns-in-Err-clause-refused g c =
     let nodes = (g.D.Disk.state c.args.disk.now).nodes in
-    due_for _ _ _ _ _ _ c.in-Err.refusal (λ over honest. over honest (base_reached nodes c.args.name.now c.requires)) (λ never. absurd never) (λ never. never) c.in-Err.ensures.refused
+    due_for _ _ _ _ _ _ _ _ c.in-Err.refusal (λ special honest. special honest (base_reached nodes c.args.name.now c.requires)) (λ never. never) (λ never. absurd never) (λ never. never) c.in-Err.ensures.refused

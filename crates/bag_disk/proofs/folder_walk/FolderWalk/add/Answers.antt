@@ -24,6 +24,6 @@ returns-in-Ok-clause-walked g c =
 
 pub returns-in-Ok-clause-refused : goal.returns-in-Ok-clause-refused
 returns-in-Ok-clause-refused g c =
-    due_for_err _ _ _ _ _ _ c.put.result
-    (λ other honest has. name_is_other (g.D.Disk.state c.args.disk.now).nodes _ c.in_ok-path.path _ c.in-Ok.entry (g.met.D.Disk.is_disk c.args.disk.now) c.in_ok-path.ensures c.as_str.ensures (c.in-Ok.ensures.found honest) has other)
-    (λ never. never) (λ never. never) c.put.ensures.refused
+    due_for_err _ _ _ _ _ _ _ _ c.put.result
+    (λ other honest has. name_is_other (g.D.Disk.state c.args.disk.now).nodes _ c.in_ok-path.path _ c.in-Ok.entry (g.met.D.Disk.is_disk c.args.disk.now) c.as_str.utf8 c.in_ok-path.ensures c.as_str.ensures (c.in-Ok.ensures.found honest) has other)
+    (λ never. never) (λ never. never) (λ never. never) c.put.ensures.refused

@@ -1,7 +1,10 @@
-use Rattle.std.proofs.Common.{◌∙◌, ◌++◌, ◌∷◌, [], Err, ap, refl, arith}
-use Rattle.bag_disk.proofs.DiskSteps.{turn, folder_ended, looks_at_first, looks_on, all_stand}
-use Rattle.bag_disk.proofs.Plain.{unnamed_not_plain}
-use Rattle.bag_disk.proofs.Refusals.{due_of_name}
+use Rattle.std.proofs.Common.{◌∙◌, ◌++◌, ◌∷◌, [], Err, IsTrue, ap, refl, subst, arith}
+use Rattle.std.proofs.lemmas.Result.{err_from_is_err_and}
+use Rattle.bag_disk.specs.Disk.{Has, HasSpecial}
+use Rattle.bag_disk.specs.Location.{path_in}
+use Rattle.bag_disk.proofs.DiskSteps.{turn, next_there, folder_ended, looks_at_first, looks_on, all_stand}
+use Rattle.bag_disk.proofs.Plain.{unnamed_there}
+use Rattle.bag_disk.proofs.Refusals.{due_for, due_of_name}
 use Rattle.bag_disk.proofs.folder_walk.FolderWalk.list_names.Goals as goal
 
 pub loop-self-init : goal.loop-self-init
@@ -21,6 +24,18 @@ loop-self-preserved g c =
       λ paths. c.in_ok-add-in-Ok-Some.ensures.paths (c.loop-self.invariant.4 paths),
     )
 
+pub returns-in_err-add-in-Ok-Some-clause-refused : goal.returns-in_err-add-in-Ok-Some-clause-refused
+returns-in_err-add-in-Ok-Some-clause-refused g c =
+    let old = g.D.Disk.state c.args.disk.now in
+    let at = g.D.Disk.state c.loop-self.disk in
+    let new = g.D.Disk.state c.next_name.new.self in
+    let looks = looks_on old at new c.loop-self.invariant.0 c.in-Ok-Some.ensures.looks in
+    let p = err_from_is_err_and c.from_residual.result c.from_residual.ensures.1 in
+    rw (p.1, p.2) (due_for (IsTrue new.honest → Has new.nodes (path_in c.args.folder.now c.as_str.result.now) → HasSpecial new.nodes) ⊥ ⊥ ⊥ _ _ _ _ _
+    (λ special honest listed begun. subst HasSpecial looks.nodes (special (looks.honest ∙ honest) (next_there old at new c.in-Ok-Some.field-0 c.loop-self.self.files.items c.loop-self.self.folders.items listed c.args.folder.now c.in-Ok-Some.name c.as_str.result.now
+    c.loop-self.invariant.0 c.in-Ok-Some.ensures.looks c.in-Ok-Some.field-0-is c.in-Ok-Some.ensures.honest c.as_str.ensures honest (c.loop-self.invariant.1 honest listed begun))))
+    (λ never. absurd never) (λ never. never) (λ never. absurd never) c.in_err-add-in-Ok-Some.ensures.refused)
+
 pub returns-in-Ok-None-clause-paths : goal.returns-in-Ok-None-clause-paths
 returns-in-Ok-None-clause-paths g c = c.loop-self.invariant.4
 
@@ -32,8 +47,8 @@ returns-in-Ok-None-clause-walked g c = λ honest listed begun.
 pub returns-in-Err-clause-refused : goal.returns-in-Err-clause-refused
 returns-in-Err-clause-refused g c =
     let nodes = (g.D.Disk.state c.args.disk.now).nodes in
-    due_of_name _ _ _ c.in-Err.fault c.of_name.result c.of_name.ensures (λ is honest listed begun.
-    unnamed_not_plain nodes c.args.folder.now _ (g.met.D.Disk.is_disk c.args.disk.now) (c.loop-self.invariant.1 honest listed begun).there (c.in-Err.ensures.unnamed (ap Err is) (c.loop-self.invariant.0.honest ∙ honest)))
+    due_of_name _ _ _ _ c.in-Err.fault c.of_name.result c.of_name.ensures (λ is honest listed begun.
+    unnamed_there nodes c.args.folder.now _ (c.loop-self.invariant.1 honest listed begun).there (c.in-Err.ensures.unnamed (ap Err is) (c.loop-self.invariant.0.honest ∙ honest)))
 
 pub returns-clause-refused : goal.returns-clause-refused
 returns-clause-refused g c = λ honest listed begun.

@@ -2,6 +2,8 @@ use Rattle.std.proofs.Common.{◌∙◌, ◌≤◌, subst, sym}
 use Rattle.std.proofs.lemmas.Bool.{false≢true}
 use Rattle.bag_store.proofs.BagSteps.{free_not_taken}
 use Rattle.bag_store.proofs.ChangedTree.{count_grows, file_changed, kept_count, step_begun}
+use Rattle.bag_disk.proofs.Plain.{special_not_plain}
+use Rattle.bag_store.proofs.RefusedCalls.{step_answered_so}
 use Rattle.bag_store.proofs.file_tree.FileTreeWriteTree.create.Goals as goal
 
 pub returns-in-Ok-clause-changed : goal.returns-in-Ok-clause-changed
@@ -24,3 +26,8 @@ returns-in-Err-clause-begun g c =
     let before = c.args.self.now.answered in
     step_begun (g.D.Disk.state disk) (g.D.Disk.state disk_then) _ _ _ _ _ _ c.args.name.now c.args.bytes.now (g.met.D.Disk.is_disk disk) (g.met.D.Disk.is_disk disk_then) c.requires
     (subst (λ n. before.failures ≤ n) (sym c.refuse.ensures.failures) (count_grows c.in-Err.refusal before.failures)) c.refuse.ensures.given c.in-Err.ensures.begun
+
+pub returns-in-Err-clause-refused : goal.returns-in-Err-clause-refused
+returns-in-Err-clause-refused g c =
+    step_answered_so _ _ _ _ _ _ _ c.in-Err.refusal _ c.refuse.ensures.fault c.refuse.ensures.failures
+    (λ special honest. special_not_plain (g.D.Disk.state c.args.self.now.disk).nodes (special honest)) (λ never. absurd never) (λ there. there) c.in-Err.ensures.refused

@@ -2,6 +2,8 @@ use Rattle.std.proofs.Common.{◌∙◌, sym}
 use Rattle.std.proofs.lemmas.Bool.{false≢true}
 use Rattle.bag_store.proofs.BagSteps.{free_not_taken}
 use Rattle.bag_store.proofs.ChangedTree.{folder_changed, kept_count}
+use Rattle.bag_disk.proofs.Plain.{special_not_plain}
+use Rattle.bag_store.proofs.RefusedCalls.{step_answered_so}
 use Rattle.bag_store.proofs.file_tree.FileTreeWriteTree.make_folder.Goals as goal
 
 pub returns-in-Ok-clause-changed : goal.returns-in-Ok-clause-changed
@@ -16,3 +18,8 @@ returns-in-Ok-clause-possible g c = λ honest. (
   λ never. never,
   λ taken. false≢true (sym (free_not_taken (g.D.Disk.state c.args.self.now.disk).nodes c.args.name.now c.requires (c.in-Ok.ensures.made honest).free) ∙ taken),
 )
+
+pub returns-in-Err-clause-refused : goal.returns-in-Err-clause-refused
+returns-in-Err-clause-refused g c =
+    step_answered_so _ _ _ _ _ _ _ c.in-Err.refusal _ c.refuse.ensures.fault c.refuse.ensures.failures
+    (λ special honest. special_not_plain (g.D.Disk.state c.args.self.now.disk).nodes (special honest)) (λ never. absurd never) (λ there. there) c.in-Err.ensures.refused

@@ -1,6 +1,8 @@
 use Rattle.bag_text.specs.Path.{under}
 use Rattle.bag_store.proofs.BagSteps.{free_not_within, has_both}
 use Rattle.bag_store.proofs.ChangedTree.{kept_count, moved_changed}
+use Rattle.bag_disk.proofs.Plain.{special_not_plain}
+use Rattle.bag_store.proofs.RefusedCalls.{step_answered_so}
 use Rattle.bag_store.proofs.file_tree.FileTreeWriteTree.move_in.Goals as goal
 
 pub returns-in-Ok-clause-changed : goal.returns-in-Ok-clause-changed
@@ -17,3 +19,8 @@ returns-in-Ok-clause-possible g c = λ honest.
       has_both nodes c.args.top.now c.args.folder.now c.requires.folder moves.folder_is moves.source,
       free_not_within nodes (under c.args.folder.now c.args.top.now) (g.met.D.Disk.is_disk c.args.self.now.disk) moves.free,
     )
+
+pub returns-in-Err-clause-refused : goal.returns-in-Err-clause-refused
+returns-in-Err-clause-refused g c =
+    step_answered_so _ _ _ _ _ _ _ c.in-Err.refusal _ c.refuse.ensures.fault c.refuse.ensures.failures
+    (λ special honest. special_not_plain (g.D.Disk.state c.args.self.now.disk).nodes (special honest)) (λ none. none) (λ there. there) c.in-Err.ensures.refused

@@ -2,6 +2,8 @@ use Rattle.std.proofs.Common.{◌∙◌, sym}
 use Rattle.std.proofs.lemmas.Bool.{false≢true}
 use Rattle.bag_store.proofs.BagSteps.{free_not_taken, has_it}
 use Rattle.bag_store.proofs.ChangedTree.{kept_count, renamed_changed}
+use Rattle.bag_disk.proofs.Plain.{special_not_plain}
+use Rattle.bag_store.proofs.RefusedCalls.{step_answered_so}
 use Rattle.bag_store.proofs.file_tree.FileTreeWriteTree.rename_folder.Goals as goal
 
 pub returns-in-Ok-clause-changed : goal.returns-in-Ok-clause-changed
@@ -18,3 +20,8 @@ returns-in-Ok-clause-possible g c = λ honest.
       has_it nodes c.args.from.now c.requires.from renames.folder_is,
       λ taken. false≢true (sym (free_not_taken nodes c.args.to.now c.requires.to renames.free) ∙ taken),
     )
+
+pub returns-in-Err-clause-refused : goal.returns-in-Err-clause-refused
+returns-in-Err-clause-refused g c =
+    step_answered_so _ _ _ _ _ _ _ c.in-Err.refusal _ c.refuse.ensures.fault c.refuse.ensures.failures
+    (λ special honest. special_not_plain (g.D.Disk.state c.args.self.now.disk).nodes (special honest)) (λ none. none) (λ there. there) c.in-Err.ensures.refused
