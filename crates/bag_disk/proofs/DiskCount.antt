@@ -14,8 +14,9 @@ use Rattle.bag_text.specs.Text.{text_cmp}
 use Rattle.std.proofs.lemmas.List.{length-map}
 use Rattle.std.proofs.lemmas.List.Sorted.{Contains-permutation, IsPermutation-sym}
 use Rattle.bag_tree.specs.declared.listing.FileEntry.{FileEntry}
-use Rattle.bag_disk.specs.Disk.{Nodes, node, Has, IsFolder}
+use Rattle.bag_disk.specs.Disk.{Nodes, node, Has, IsFolder, entry_count, files_and_folders, is_plain_found}
 use Rattle.bag_disk.specs.FolderWalk.{AreThere, AreFolders, paths_of}
+use Rattle.bag_disk.proofs.FilesAndFolders.{stands_alone}
 use Rattle.bag_disk.proofs.WholeWalk.{path_filed}
 use Rattle.bag_disk.proofs.DiskSteps.{contains_first, contains_cases, contains_none}
 
@@ -44,17 +45,17 @@ distinct_fit (k ∷ ps) nodes s h =
     let less : fin.len (fin.remove nodes k) ≡ fin.len nodes - 1 = len-remove nat_list_cmp_total nodes k ∙ ap (λ b. cond b (fin.len nodes - 1) (fin.len nodes)) here in
     omega (arith, some_there nodes k here)
 
--- files in strict order, all of which stand there, are no more than what stands there
-pub found_fit : (nodes : Nodes) (found sorted : List FileEntry) → IsPermutation found sorted → IsStrictlySortedBy text_cmp (paths_of sorted) → AreThere nodes found → length sorted ≤ fin.len nodes
+-- files and folders in strict order, all of which stand there, are no more than the files and folders that stand there
+pub found_fit : (nodes : Nodes) (found sorted : List FileEntry) → IsPermutation found sorted → IsStrictlySortedBy text_cmp (paths_of sorted) → AreThere nodes found → length sorted ≤ entry_count nodes
 found_fit nodes found sorted permuted ascending there =
-    let fit = distinct_fit (paths_of sorted) nodes ascending (λ p h.
+    let fit = distinct_fit (paths_of sorted) (files_and_folders nodes) ascending (λ p h.
     let f = path_filed sorted p h in
-    ap (λ o. is_some o) (ap (node nodes) (sym f.2)) ∙ there f.0 (Contains-permutation sorted found f.0 (IsPermutation-sym found sorted permuted) f.1)) in
+    stands_alone nodes p (ap is_plain_found (ap (node nodes) (sym f.2)) ∙ there f.0 (Contains-permutation sorted found f.0 (IsPermutation-sym found sorted permuted) f.1))) in
     omega (arith, fit, length-map sorted (λ file. file.path))
 
-folder_there : (nodes : Nodes) (path : List ℕ) → (path ≡ [] → false ≡ true) → IsFolder nodes path → Has nodes path
+folder_there : (nodes : Nodes) (path : List ℕ) → (path ≡ [] → false ≡ true) → IsFolder nodes path → is_plain_found (node nodes path) ≡ true
 folder_there nodes [] none is = absurd (false≢true (none refl))
-folder_there nodes (c ∷ path) none is = ap is_some is
+folder_there nodes (c ∷ path) none is = ap is_plain_found is
 
 abbrev Both : Nodes → List FileEntry → List (List ℕ) → Type 0
 Both nodes found folders = AreThere nodes found × AreFolders nodes folders
@@ -68,10 +69,10 @@ pub folder_put : (nodes : Nodes) (found found_after : List FileEntry) (folders r
     → found_after ≡ found ++ record { path = path; size = 0 } ∷ [] → Both nodes found folders → Both nodes found_after rest
 folder_put nodes found found_after folders rest path b isnt none are after both =
     let entry : FileEntry = record { path = path; size = 0 } in
-    let here : Has nodes path = folder_there nodes path (λ e. sym isnt ∙ none e) (both.1 path (subst (λ fs. Contains fs path) (sym are) (Contains-push rest path))) in (
+    let here : is_plain_found (node nodes path) ≡ true = folder_there nodes path (λ e. sym isnt ∙ none e) (both.1 path (subst (λ fs. Contains fs path) (sym are) (Contains-push rest path))) in (
       λ e h. elim (Contains-push_cases found entry e (subst (λ xs. Contains xs e) after h)) [
         | inl old ↦ both.0 e old
-        | inr same ↦ subst (λ (x : FileEntry). Has nodes x.path) same here
+        | inr same ↦ subst (λ (x : FileEntry). is_plain_found (node nodes x.path) ≡ true) same here
       ],
       (folder_taken nodes found folders rest path are both).1,
     )

@@ -5,7 +5,7 @@ use Rattle.std.specs.Option.{option_map}
 use Rattle.std.proofs.lemmas.List.Elements.{All-nil, All-cons, Contains-push, Contains-push_cases, Contains-append_left, Contains-append_cases, Contains-append_right}
 use Rattle.bag_text.specs.Path.{slash, under}
 use Rattle.bag_disk.specs.Location.{path_in}
-use Rattle.bag_disk.specs.Disk.{DiskState, OnlyLooks, Nodes, Node, node, Has, IsReached, IsFolder, IsDisk, IsName, AreNamesIn, entry_of}
+use Rattle.bag_disk.specs.Disk.{DiskState, OnlyLooks, Nodes, Node, node, Has, IsReached, IsFolder, IsDisk, IsName, AreNamesIn, entry_of, is_plain_found}
 use Rattle.bag_disk.specs.Disk.Node.{File, Folder, Other}
 use Rattle.bag_disk.specs.FolderWalk.{Walked, Listing, AllStand, IsBelow, IsAtOrBelow, IsFileOf, paths_of, files_with, folders_with}
 use Rattle.bag_disk.specs.declared.disk.Entry.{Entry}
@@ -270,7 +270,7 @@ folder_done old at files folders listed folder text again after Q disk looks sam
 -- what was found stands there
 pub all_stand : (nodes : Nodes) (files : List FileEntry) (folders listed pending : List (List ℕ)) → Walked nodes files folders listed pending → AllStand nodes files folders listed
 all_stand nodes files folders listed pending walked = record {
-  are_there = λ e h. let f = walked.are_files e h in ap is_some f.1;
+  are_there = λ e h. let f = walked.are_files e h in ap is_plain_found f.1;
   are_folders = walked.are_folders;
   were_folders = walked.were_folders;
 }

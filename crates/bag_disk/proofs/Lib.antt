@@ -2,6 +2,7 @@ pub mod Below
 pub mod DiskCount
 pub mod DiskPaths
 pub mod DiskSteps
+pub mod FilesAndFolders
 pub mod FoundPaths
 pub mod Moving
 pub mod PathOrder

@@ -1,5 +1,5 @@
 -- What stands below a base folder of a disk.
-use Rattle.std.specs.Prelude.{ℕ, ◌≡◌, ◌≢◌, ◌<◌, Bool, true, false, IsTrue, IsUtf8, List, [], ◌∷◌, length, All, Contains, Option, Some, None, is_some}
+use Rattle.std.specs.Prelude.{ℕ, ◌≡◌, ◌≢◌, ◌<◌, Bool, true, false, IsTrue, IsUtf8, List, [], ◌∷◌, filter, length, All, Contains, Option, Some, None, is_some}
 use Rattle.std.proofs.Common.{◌∙◌, ap, sym}
 use Rattle.std.proofs.lemmas.Bool.{false≢true}
 use Rattle.std.specs.FinMap as map
@@ -21,6 +21,11 @@ abbrev pub is_plain_node : Node → Bool
 is_plain_node (File bytes) = true
 is_plain_node Folder = true
 is_plain_node Other = false
+
+-- a regular file or a folder
+abbrev pub is_plain_found : Option Node → Bool
+is_plain_found None = false
+is_plain_found (Some n) = is_plain_node n
 
 -- the bytes of a regular file
 abbrev pub bytes_of : Option Node → Option (List ℕ)
@@ -97,6 +102,14 @@ empty_disk = record {
   folders = λ path has. absurd (false≢true (sym (ap is_some (map.get-empty text_cmp path)) ∙ has));
   bytes = λ path content is. absurd (false≢true (ap is_some (sym (map.get-empty text_cmp path) ∙ is)));
 }
+
+-- the regular files and the folders, without what else stands there
+abbrev pub files_and_folders : Nodes → Nodes
+files_and_folders nodes = map.from_entries (filter (λ entry. is_plain_node entry.1) (map.entries nodes))
+
+-- how many files and folders stand there
+abbrev pub entry_count : Nodes → ℕ
+entry_count nodes = map.len (files_and_folders nodes)
 
 -- what is answered of a node
 abbrev pub entry_of : Node → Entry

@@ -1,8 +1,8 @@
 -- What a walk over the folders of a disk has found.
-use Rattle.std.specs.Prelude.{ℕ, ◌≡◌, ◌⊎◌, List, [], ◌∷◌, ◌++◌, map, Some, length, All, Contains, IsTrue}
+use Rattle.std.specs.Prelude.{ℕ, ◌≡◌, ◌⊎◌, true, List, [], ◌∷◌, ◌++◌, map, Some, length, All, Contains, IsTrue}
 use Rattle.bag_text.specs.Path.{is_path, under}
 use Rattle.bag_disk.specs.Location.{path_in}
-use Rattle.bag_disk.specs.Disk.{Nodes, node, Has, IsFolder}
+use Rattle.bag_disk.specs.Disk.{Nodes, node, Has, IsFolder, is_plain_found}
 use Rattle.bag_disk.specs.Disk.Node.{File}
 use Rattle.bag_disk.specs.declared.disk.Entry.{Entry}
 use Rattle.bag_disk.specs.declared.disk.Entry.TheVariants as entry
@@ -34,9 +34,9 @@ pub record Walked (nodes : Nodes) (files : List FileEntry) (folders listed pendi
       ⊎ (((folder : List ℕ) × Contains folders folder × IsBelow folder path)
       ⊎ ((top : List ℕ) × Contains pending top × IsAtOrBelow top path))))
 
--- each of these stands there
+-- each of these is a file or a folder that is there
 abbrev pub AreThere : Nodes → List FileEntry → Type 0
-AreThere nodes files = (entry : FileEntry) → Contains files entry → Has nodes entry.path
+AreThere nodes files = (entry : FileEntry) → Contains files entry → is_plain_found (node nodes entry.path) ≡ true
 
 -- each of these is a folder that is there
 abbrev pub AreFolders : Nodes → List (List ℕ) → Type 0

@@ -1,8 +1,7 @@
 //! When a tree has too many files and folders.
 ghost use Rattle.std.specs.Prelude.{◌<◌, IfOk, IsTrue};
-ghost use Rattle.std.specs.FinMap as map;
 ghost use Rattle.bag_tree.specs.Tree.{most_entries};
-ghost use Rattle.bag_disk.specs.Disk.{Nodes};
+ghost use Rattle.bag_disk.specs.Disk.{Nodes, entry_count};
 ghost use Rattle.bag_disk.specs.FolderWalk.{AllStand, AreFolders, AreThere};
 ghost use Rattle.bag_disk.specs.Refusal.{IsDue};
 
@@ -15,7 +14,7 @@ use std::alloc::AllocError;
 
 /// Why a walk has no room for what it found: there is too much, or the disk named something twice.
 pub(crate) fn no_room(walk: FolderWalk) -> Refusal
-    ensures { IsDue ⊥ ⊥ ⊥ ((nodes : Nodes) → AllStand nodes walk.files.items walk.folders.items walk.listed.items → most_entries < map.len nodes) result }
+    ensures { IsDue ⊥ ⊥ ⊥ ((nodes : Nodes) → AllStand nodes walk.files.items walk.folders.items walk.listed.items → most_entries < entry_count nodes) result }
 {
     match all_found(walk) {
         Ok(found) => {
@@ -59,7 +58,7 @@ fn with_folders(files: Vec<FileEntry>, folders: Vec<Text>) -> Result<Vec<FileEnt
 
 /// Whether this is more than a tree may have, none of it twice.
 fn are_too_many(found: Vec<FileEntry>) -> bool
-    ensures { IsTrue result → (nodes : Nodes) → AreThere nodes found.items → most_entries < map.len nodes }
+    ensures { IsTrue result → (nodes : Nodes) → AreThere nodes found.items → most_entries < entry_count nodes }
 {
     let mut found = found;
     sort_by_path(&mut found);

@@ -1,11 +1,10 @@
 //! The files below the base folder of a disk.
 ghost use Rattle.std.specs.Prelude.{◌≡◌, ◌<◌, [], IfOk, IfErr, OnOk, Any, ◌↔◌, codes, IsTrue};
-ghost use Rattle.std.specs.FinMap as map;
 ghost use Rattle.std.specs.List.Sorted.{IsPermutation};
 ghost use Rattle.bag_text.specs.Path.{is_payload_path};
 ghost use Rattle.bag_tree.specs.Listing.{IsOrdered, HasItsFolder, IsListingOf};
 ghost use Rattle.bag_tree.specs.Tree.{most_entries};
-ghost use Rattle.bag_disk.specs.Disk.{OnlyLooks, is_plain};
+ghost use Rattle.bag_disk.specs.Disk.{OnlyLooks, entry_count, is_plain};
 ghost use Rattle.bag_disk.specs.DiskBag.{bag_of};
 ghost use Rattle.bag_disk.specs.FolderWalk.{ArePaths, Walked};
 ghost use Rattle.bag_disk.specs.Refusal.{IsDue, MeetsSpecial, MeetsUnnamed};
@@ -27,7 +26,7 @@ pub fn list_below<D: Disk>(disk: &mut D, alloc: Global) -> Result<Listing, Refus
     ensures plain { OnOk result (IsTrue (D.state disk.old).honest → IsTrue (is_plain (D.state disk.old).nodes)) }
     ensures honest { IfOk result (λ listing. IsTrue (D.state disk.old).honest → IsListingOf (bag_of (D.state disk.old).nodes) listing) }
     ensures refused { IfErr result (IsDue (MeetsSpecial (D.state disk.old)) (MeetsUnnamed (D.state disk.old))
-        ⊥ (IsTrue (D.state disk.old).honest → most_entries < map.len (D.state disk.old).nodes)) }
+        ⊥ (IsTrue (D.state disk.old).honest → most_entries < entry_count (D.state disk.old).nodes)) }
 {
     match walk(disk, alloc) {
         Ok(walk) => listing_of(walk),
@@ -42,7 +41,7 @@ fn walk<D: Disk>(disk: &mut D, alloc: Global) -> Result<FolderWalk, Refusal>
     ensures walked { IfOk result (λ walk. IsTrue (D.state disk.old).honest
         → Walked (D.state disk.old).nodes walk.files.items [] walk.listed.items []) }
     ensures refused { IfErr result (IsDue (MeetsSpecial (D.state disk.old)) (MeetsUnnamed (D.state disk.old))
-        ⊥ (IsTrue (D.state disk.old).honest → most_entries < map.len (D.state disk.old).nodes)) }
+        ⊥ (IsTrue (D.state disk.old).honest → most_entries < entry_count (D.state disk.old).nodes)) }
 {
     let mut walk = FolderWalk::new(alloc)?;
     while let Some(folder) = walk.folders.pop() {

@@ -2,7 +2,7 @@
 use Rattle.std.proofs.Common.{◌≡◌, ℕ, ◌+◌, ◌≤◌, ◌==◌, Bool, true, false, cond, IsTrue, List, [], ◌∷◌, length, take, Some, None, is_some, inl, inr, ◌⊎◌, refl, ap, sym, subst, ◌∙◌, arith}
 use Rattle.std.proofs.lemmas.Bool.{false≢true}
 use Rattle.std.specs.FinMap as map
-use Rattle.std.specs.FinMap.{get-insert, len-empty, len-entries, len-insert}
+use Rattle.std.specs.FinMap.{get-insert}
 use Rattle.std.specs.Ordering.{eq_by_cmp}
 use Rattle.std.specs.Cmp.Lexicographic.{nat_list_cmp_total}
 use Rattle.bag_text.specs.Text.{text_cmp}
@@ -12,10 +12,10 @@ use Rattle.bag_tree.specs.declared.answer.Answer.{Answer}
 use Rattle.bag_tree.specs.Changes.{HasBegun, HasChanged, IsSame}
 use Rattle.bag_tree.specs.Steps as step
 use Rattle.bag_tree.proofs.Within.{within_cases}
-use Rattle.bag_disk.specs.Disk.{DiskState, Nodes, Node, node, IsDisk, OnlyLooks, is_plain, is_plain_node}
+use Rattle.bag_disk.specs.Disk.{DiskState, Nodes, Node, node, IsDisk, OnlyLooks, entry_count, is_plain, is_plain_node}
 use Rattle.bag_disk.specs.Disk.Node.{File, Folder, Other}
 use Rattle.bag_disk.specs.WritableDisk.{Closes, MakesFolder}
-use Rattle.bag_tree.specs.Moved.{MovesAll, is_within, moved, renamed, with_renamed}
+use Rattle.bag_tree.specs.Moved.{MovesAll, is_within, moved}
 use Rattle.bag_disk.proofs.Moving.{nodes_move}
 use Rattle.bag_store.specs.Changing.{IsMovedIn, IsRenamed, MovesInto, Renames}
 use Rattle.bag_disk.specs.DiskBag.{bag_of}
@@ -24,6 +24,7 @@ use Rattle.bag_store.specs.Answered.{count_after, last_count, one_more_failure}
 use Rattle.bag_store.specs.Writing.{Begins, Makes, MakesFileOf}
 use Rattle.bag_disk.specs.declared.refusal.Refusal.{Refusal}
 use Rattle.bag_disk.specs.declared.refusal.Refusal.TheVariants.{Device, Special, Name, NotFound, TooMany, Memory, Exists}
+use Rattle.bag_store.proofs.EntryCounts.{as_many_moved, more_put}
 use Rattle.bag_store.proofs.BagSteps.{bag_moved_in, bag_renamed, file_made, folder_made, free_not_taken}
 use Rattle.bag_disk.proofs.Plain.{all_plain, other_not_plain}
 
@@ -63,46 +64,24 @@ nothing_else_moved nodes from to disk free path n is = elim (is_within to path) 
     all : MovesAll nodes (moved from to nodes) from to
     all = nodes_move nodes from to disk free
 
-one_more : (b : Bool) (n m : ℕ) → m ≡ cond b n (n + 1) → m ≤ n + 1
-one_more true n m e = omega (arith, e)
-one_more false n m e = omega (arith, e)
-
--- at most one more stands there
-more_put : (nodes : Nodes) (path : List ℕ) (n : Node) → map.len (map.insert nodes path n) ≤ map.len nodes + 1
-more_put nodes path n = one_more (map.contains_key nodes path) (map.len nodes) _ (len-insert nat_list_cmp_total nodes path n)
-
-with_as_many : (from to : List ℕ) (nodes : Nodes) (es : List (List ℕ × Node)) → map.len (with_renamed from to nodes es) ≤ map.len nodes + length es
-with_as_many from to nodes [] = omega arith
-with_as_many from to nodes (e ∷ es) =
-    let more = more_put nodes (renamed from to e.0) e.1 in
-    let others = with_as_many from to (map.insert nodes (renamed from to e.0) e.1) es in
-    omega (arith, more, others)
-
-as_many_moved : (from to : List ℕ) (nodes : Nodes) → map.len (moved from to nodes) ≤ map.len nodes + 0
-as_many_moved from to nodes =
-    let all = with_as_many from to map.empty (map.entries nodes) in
-    let none = len-empty text_cmp Node in
-    let many = len-entries nodes in
-    omega (arith, all, none, many)
-
 -- a step on what stands there
 record Steps (change : Bag → Bag) (more : ℕ) (old new : Nodes) : Type 0 where
   bag : bag_of new ≡ change (bag_of old)
   plain : is_plain old ≡ true → is_plain new ≡ true
-  entries : map.len new ≤ map.len old + more
+  entries : entry_count new ≤ entry_count old + more
 
 folder_steps : (old new : Nodes) (name : List ℕ) → IsDisk old → IsDisk new → is_base_name name ≡ true → MakesFolder old new name → Steps (step.make_folder name) 1 old new
 folder_steps old new name disk disk_then is makes = subst (Steps (step.make_folder name) 1 old) (sym makes.made) (record {
   bag = folder_made old name disk (subst IsDisk makes.made disk_then) is makes.free;
   plain = stays_plain old _ (nothing_else_put old name Folder refl);
-  entries = more_put old name Folder;
+  entries = more_put old name Folder refl;
 })
 
 file_steps : (old new : Nodes) (name bytes : List ℕ) → IsDisk old → IsDisk new → MakesFileOf old new name bytes → Steps (step.create name bytes) 1 old new
 file_steps old new name bytes disk disk_then makes = subst (Steps (step.create name bytes) 1 old) (sym makes.made) (record {
   bag = file_made old name bytes disk (subst IsDisk makes.made disk_then) makes.free;
   plain = stays_plain old _ (nothing_else_put old name (File bytes) refl);
-  entries = more_put old name (File bytes);
+  entries = more_put old name (File bytes) refl;
 })
 
 moved_steps : (old new : Nodes) (top folder : List ℕ) → IsDisk old → IsDisk new → is_base_name top ≡ true → MovesInto old new top folder → Steps (step.move_in top folder) 0 old new
@@ -155,7 +134,7 @@ module _ (old new : DiskState) (failures failures_then given given_then : ℕ) (
   -- a refused step left all
   pub step_same : OnlyLooks old new → failures ≤ failures_then → given_then ≡ given → IsSame (state_after old failures given last) (state_after new failures_then given_then last_then)
   step_same looks grows same = record {
-    keeps = record { bag = ap bag_of looks.nodes; plain = ap is_plain looks.nodes; honest = looks.honest; entries = ap map.len looks.nodes; failures = grows };
+    keeps = record { bag = ap bag_of looks.nodes; plain = ap is_plain looks.nodes; honest = looks.honest; entries = ap entry_count looks.nodes; failures = grows };
     openings = looks.openings;
     rest = looks.rest;
     given = same;

@@ -1,11 +1,10 @@
 -- What a tree of the files on a disk means.
 use Rattle.std.specs.Prelude.{ℕ}
-use Rattle.std.specs.FinMap as map
 use Rattle.bag_tree.specs.Tree.{TreeState}
 use Rattle.bag_tree.specs.declared.answer.Answer.{Answer}
 use Rattle.bag_tree.specs.declared.answer.Answer.TheVariants.{Given}
 use Rattle.bag_store.specs.declared.file_tree.FileTree.{FileTree}
-use Rattle.bag_disk.specs.Disk.{DiskState, is_plain}
+use Rattle.bag_disk.specs.Disk.{DiskState, entry_count, is_plain}
 use Rattle.bag_disk.specs.DiskBag.{bag_of}
 
 -- the disk of a tree
@@ -19,7 +18,7 @@ state_after disk failures given last = record {
   bag = bag_of disk.nodes;
   plain = is_plain disk.nodes;
   honest = disk.honest;
-  entries = map.len disk.nodes;
+  entries = entry_count disk.nodes;
   failures = failures;
   openings = disk.openings;
   rest = disk.rest;

@@ -10,10 +10,10 @@ use Rattle.std.specs.Str.{is_utf8}
 use Rattle.bag_text.specs.Text.{text_cmp}
 use Rattle.bag_text.specs.Path.{is_path, slash, under}
 use Rattle.bag_tree.proofs.SameText.{one_text}
-use Rattle.bag_disk.specs.Disk.{Nodes, Node, node, IsReached, is_folder_node}
+use Rattle.bag_disk.specs.Disk.{Nodes, Node, node, IsReached, is_folder_node, is_plain_found}
 use Rattle.bag_disk.specs.Disk.Node.{File}
 use Rattle.bag_disk.specs.WritableDisk.{Appends}
-use Rattle.test_disk.specs.Placing.{PassesAsDisk, are_bytes, has_bytes, is_plain_found}
+use Rattle.test_disk.specs.Placing.{PassesAsDisk, are_bytes, has_bytes}
 use Rattle.test_disk.specs.PlacingLaw.{passing_is_disk}
 
 at_put : (P : Option Node → Type 0) (nodes : Nodes) (path : List ℕ) (n : Node) (q : List ℕ) → (q ≡ path → P (Some n)) → (eq_by_cmp text_cmp q path ≡ false → P (node nodes q)) → P (node (map.insert nodes path n) q)

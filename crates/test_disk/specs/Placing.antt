@@ -1,9 +1,9 @@
 -- What can stand on a disk.
-use Rattle.std.specs.Prelude.{ℕ, ◌≡◌, ◌≢◌, Bool, true, false, IsTrue, IsUtf8, List, Option, Some, None, nat_lt}
+use Rattle.std.specs.Prelude.{ℕ, ◌≡◌, ◌≢◌, Bool, true, IsTrue, IsUtf8, List, Option, Some, None, nat_lt}
 use Rattle.std.specs.List.{list_all}
 use Rattle.std.specs.Str.{is_utf8}
 use Rattle.bag_text.specs.Path.{is_path, under}
-use Rattle.bag_disk.specs.Disk.{Nodes, Node, node, Has, IsReached, is_plain_node, is_folder_node}
+use Rattle.bag_disk.specs.Disk.{Nodes, Node, node, Has, IsReached, is_folder_node, is_plain_found}
 use Rattle.bag_disk.specs.Disk.Node.{File, Folder, Other}
 
 -- what is no Other has a name in UTF-8
@@ -19,10 +19,6 @@ has_bytes None = true
 has_bytes (Some (File content)) = are_bytes content
 has_bytes (Some Folder) = true
 has_bytes (Some Other) = true
-
-abbrev pub is_plain_found : Option Node → Bool
-is_plain_found None = false
-is_plain_found (Some n) = is_plain_node n
 
 -- a node can stand at a path
 pub record IsPlaced (nodes : Nodes) (path : List ℕ) (n : Node) : Type 0 where
