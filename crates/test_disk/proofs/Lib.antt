@@ -5,4 +5,3 @@ pub mod HeldNodes
 pub mod HeldPut
 pub mod Placed
 pub mod PutPlaced
-pub mod RefusedCalls

@@ -3,6 +3,10 @@ use Rattle.bag_disk.specs.declared.disk.DiskFault.{DiskFault}
 use Rattle.test_disk.specs.declared.refusing_disk.Call.{Call}
 use Rattle.test_disk.specs.declared.refusing_disk.RefusingDisk.{RefusingDisk}
 
+-- the disk that it stands on
+abbrev pub below_of : {D : Type 0} → RefusingDisk D → D
+below_of disk = disk.disk
+
 abbrev pub call_of : {D : Type 0} → RefusingDisk D → Call
 call_of disk = disk.call
 

@@ -26,11 +26,12 @@ pub struct RefusingDisk<D> {
 }
 
 impl<D: Disk + Drop> RefusingDisk<D> {
-    ghost use Rattle.test_disk.specs.RefusingDisk.{call_of, fault_of};
+    ghost use Rattle.test_disk.specs.RefusingDisk.{below_of, call_of, fault_of};
 
     /// The disk, of which this call is refused by this fault.
     pub fn over(disk: D, call: Call, fault: DiskFault) -> RefusingDisk<D>
         ensures state { ⟦<RefusingDisk<D> as Disk>⟧.state result ≡ refusing (D.state disk) fault }
+        ensures below { below_of result ≡ disk }
         ensures call { call_of result ≡ call }
         ensures fault { fault_of result ≡ fault }
     {
@@ -69,32 +70,60 @@ impl Call {
 }
 
 impl<D: Disk + Drop> Disk for RefusingDisk<D> {
+    ghost use Rattle.std.specs.Prelude.{◌<◌, IsErrOf, IsTrue, false, is_some, length};
+    ghost use Rattle.bag_text.specs.Path.{is_path};
+    ghost use Rattle.test_disk.specs.DiskCalls.{ClosesFile, Enters, LooksAt, NamesNext, Opens, Reads};
+    ghost use Rattle.test_disk.specs.RefusingDisk.{below_of, call_of, fault_of};
+
     ghost state = { λ disk. refusing (D.state disk.disk) disk.fault };
 
     ghost is_disk = { λ disk. D.is_disk disk.disk };
 
-    fn entry_at(&self, path: &str) -> Result<Entry, DiskFault> {
+    fn entry_at(&self, path: &str) -> Result<Entry, DiskFault>
+        requires { IsTrue (is_path path.now) }
+        ensures due { IsTrue (is_refused (call_of self.now) path.now) → IsErrOf result (fault_of self.now) }
+        ensures passed { is_refused (call_of self.now) path.now ≡ false → LooksAt (D.state (below_of self.now)) path.now result }
+    {
         if self.refuses_entry(path) {
             return Err(self.fault);
         }
         self.disk.entry_at(path)
     }
 
-    fn enter(&mut self, folder: &str) -> Result<(), DiskFault> {
+    fn enter(&mut self, folder: &str) -> Result<(), DiskFault>
+        ensures counted { call_of self.new ≡ one_less (call_of self.old) }
+        ensures fault { fault_of self.new ≡ fault_of self.old }
+        ensures due { IsTrue (is_due (call_of self.old)) → IsErrOf result (fault_of self.old) × (below_of self.new ≡ below_of self.old) }
+        ensures passed { is_due (call_of self.old) ≡ false
+            → Enters (D.state (below_of self.old)) (D.state (below_of self.new)) folder.now result }
+    {
         if self.call.is_due() {
             return Err(self.fault);
         }
         self.disk.enter(folder)
     }
 
-    fn next_name(&mut self) -> Result<Option<Text>, DiskFault> {
+    fn next_name(&mut self) -> Result<Option<Text>, DiskFault>
+        ensures counted { call_of self.new ≡ one_less (call_of self.old) }
+        ensures fault { fault_of self.new ≡ fault_of self.old }
+        ensures due { IsTrue (is_due (call_of self.old)) → IsErrOf result (fault_of self.old) × (below_of self.new ≡ below_of self.old) }
+        ensures passed { is_due (call_of self.old) ≡ false → NamesNext (D.state (below_of self.old)) (D.state (below_of self.new)) result }
+    {
         if self.call.is_due() {
             return Err(self.fault);
         }
         self.disk.next_name()
     }
 
-    fn open(&mut self, path: &str) -> Result<(), DiskFault> {
+    fn open(&mut self, path: &str) -> Result<(), DiskFault>
+        requires { IsTrue (is_path path.now) }
+        ensures counted { call_of self.new ≡ one_less (call_of self.old) }
+        ensures fault { fault_of self.new ≡ fault_of self.old }
+        ensures due { IsTrue (is_due (call_of self.old)) → IsErrOf result (fault_of self.old)
+            × ClosesFile (D.state (below_of self.old)) (D.state (below_of self.new)) }
+        ensures passed { is_due (call_of self.old) ≡ false
+            → Opens (D.state (below_of self.old)) (D.state (below_of self.new)) path.now result }
+    {
         if self.call.is_due() {
             self.disk.close();
             return Err(self.fault);
@@ -106,11 +135,23 @@ impl<D: Disk + Drop> Disk for RefusingDisk<D> {
         self.disk.is_open()
     }
 
-    fn close(&mut self) {
+    fn close(&mut self)
+        ensures call { call_of self.new ≡ call_of self.old }
+        ensures fault { fault_of self.new ≡ fault_of self.old }
+        ensures closes { ClosesFile (D.state (below_of self.old)) (D.state (below_of self.new)) }
+    {
         self.disk.close();
     }
 
-    fn read(&mut self, buffer: &mut [u8]) -> Result<usize, DiskFault> {
+    fn read(&mut self, buffer: &mut [u8]) -> Result<usize, DiskFault>
+        requires some { 0 < length buffer.old }
+        requires file_open { IsTrue (is_some (D.state (below_of self.old)).rest) }
+        ensures counted { call_of self.new ≡ one_less (call_of self.old) }
+        ensures fault { fault_of self.new ≡ fault_of self.old }
+        ensures due { IsTrue (is_due (call_of self.old)) → IsErrOf result (fault_of self.old) × (below_of self.new ≡ below_of self.old) }
+        ensures passed { is_due (call_of self.old) ≡ false
+            → Reads (D.state (below_of self.old)) (D.state (below_of self.new)) (length buffer.old) buffer.new result }
+    {
         if self.call.is_due() {
             return Err(self.fault);
         }
@@ -119,46 +160,99 @@ impl<D: Disk + Drop> Disk for RefusingDisk<D> {
 }
 
 impl<D: WritableDisk + Drop> WritableDisk for RefusingDisk<D> {
+    ghost use Rattle.std.specs.Prelude.{IsErrOf, IsTrue, false, is_some};
+    ghost use Rattle.bag_text.specs.Path.{is_path};
+    ghost use Rattle.test_disk.specs.DiskCalls.{Creates, MakesFolderAt, Renames, Syncs, SyncsFolder, Writes};
+    ghost use Rattle.test_disk.specs.RefusingDisk.{below_of, call_of, fault_of};
+
     ghost written = { λ disk. D.written disk.disk };
 
     ghost is_kept = { λ disk. D.is_kept disk.disk };
 
-    fn make_folder(&mut self, path: &str) -> Result<(), DiskFault> {
+    fn make_folder(&mut self, path: &str) -> Result<(), DiskFault>
+        requires { IsTrue (is_path path.now) }
+        ensures counted { call_of self.new ≡ one_less (call_of self.old) }
+        ensures fault { fault_of self.new ≡ fault_of self.old }
+        ensures due { IsTrue (is_due (call_of self.old)) → IsErrOf result (fault_of self.old) × (below_of self.new ≡ below_of self.old) }
+        ensures passed { is_due (call_of self.old) ≡ false
+            → MakesFolderAt (D.state (below_of self.old)) (D.state (below_of self.new)) (D.written (below_of self.old)) (D.written (below_of self.new))
+            (D.is_kept (below_of self.old)) (D.is_kept (below_of self.new)) path.now result }
+    {
         if self.call.is_due() {
             return Err(self.fault);
         }
         self.disk.make_folder(path)
     }
 
-    fn rename(&mut self, from: &str, to: &str) -> Result<(), DiskFault> {
+    fn rename(&mut self, from: &str, to: &str) -> Result<(), DiskFault>
+        requires from { IsTrue (is_path from.now) }
+        requires to { IsTrue (is_path to.now) }
+        ensures counted { call_of self.new ≡ one_less (call_of self.old) }
+        ensures fault { fault_of self.new ≡ fault_of self.old }
+        ensures due { IsTrue (is_due (call_of self.old)) → IsErrOf result (fault_of self.old) × (below_of self.new ≡ below_of self.old) }
+        ensures passed { is_due (call_of self.old) ≡ false
+            → Renames (D.state (below_of self.old)) (D.state (below_of self.new)) (D.written (below_of self.old)) (D.written (below_of self.new))
+            (D.is_kept (below_of self.old)) (D.is_kept (below_of self.new)) from.now to.now result }
+    {
         if self.call.is_due() {
             return Err(self.fault);
         }
         self.disk.rename(from, to)
     }
 
-    fn create(&mut self, path: &str) -> Result<(), DiskFault> {
+    fn create(&mut self, path: &str) -> Result<(), DiskFault>
+        requires { IsTrue (is_path path.now) }
+        ensures counted { call_of self.new ≡ one_less (call_of self.old) }
+        ensures fault { fault_of self.new ≡ fault_of self.old }
+        ensures due { IsTrue (is_due (call_of self.old)) → IsErrOf result (fault_of self.old) × (below_of self.new ≡ below_of self.old) }
+        ensures passed { is_due (call_of self.old) ≡ false
+            → Creates (D.state (below_of self.old)) (D.state (below_of self.new)) (D.written (below_of self.old)) (D.written (below_of self.new))
+            (D.is_kept (below_of self.old)) (D.is_kept (below_of self.new)) path.now result }
+    {
         if self.call.is_due() {
             return Err(self.fault);
         }
         self.disk.create(path)
     }
 
-    fn write(&mut self, bytes: &[u8]) -> Result<usize, DiskFault> {
+    fn write(&mut self, bytes: &[u8]) -> Result<usize, DiskFault>
+        requires { IsTrue (is_some (D.written (below_of self.old))) }
+        ensures counted { call_of self.new ≡ one_less (call_of self.old) }
+        ensures fault { fault_of self.new ≡ fault_of self.old }
+        ensures due { IsTrue (is_due (call_of self.old)) → IsErrOf result (fault_of self.old) × (below_of self.new ≡ below_of self.old) }
+        ensures passed { is_due (call_of self.old) ≡ false
+            → Writes (D.state (below_of self.old)) (D.state (below_of self.new)) (D.written (below_of self.old)) (D.written (below_of self.new))
+            (D.is_kept (below_of self.old)) (D.is_kept (below_of self.new)) bytes.now result }
+    {
         if self.call.is_due() {
             return Err(self.fault);
         }
         self.disk.write(bytes)
     }
 
-    fn sync(&mut self) -> Result<(), DiskFault> {
+    fn sync(&mut self) -> Result<(), DiskFault>
+        requires { IsTrue (is_some (D.written (below_of self.old))) }
+        ensures counted { call_of self.new ≡ one_less (call_of self.old) }
+        ensures fault { fault_of self.new ≡ fault_of self.old }
+        ensures due { IsTrue (is_due (call_of self.old)) → IsErrOf result (fault_of self.old) × (below_of self.new ≡ below_of self.old) }
+        ensures passed { is_due (call_of self.old) ≡ false
+            → Syncs (D.state (below_of self.old)) (D.state (below_of self.new)) (D.written (below_of self.old)) (D.written (below_of self.new))
+            (D.is_kept (below_of self.old)) (D.is_kept (below_of self.new)) result }
+    {
         if self.call.is_due() {
             return Err(self.fault);
         }
         self.disk.sync()
     }
 
-    fn sync_folder(&mut self, folder: &str) -> Result<(), DiskFault> {
+    fn sync_folder(&mut self, folder: &str) -> Result<(), DiskFault>
+        ensures counted { call_of self.new ≡ one_less (call_of self.old) }
+        ensures fault { fault_of self.new ≡ fault_of self.old }
+        ensures due { IsTrue (is_due (call_of self.old)) → IsErrOf result (fault_of self.old) × (below_of self.new ≡ below_of self.old) }
+        ensures passed { is_due (call_of self.old) ≡ false
+            → SyncsFolder (D.state (below_of self.old)) (D.state (below_of self.new)) (D.written (below_of self.old)) (D.written (below_of self.new))
+            (D.is_kept (below_of self.old)) (D.is_kept (below_of self.new)) folder.now result }
+    {
         if self.call.is_due() {
             return Err(self.fault);
         }

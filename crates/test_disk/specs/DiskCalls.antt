@@ -1,0 +1,119 @@
+-- What a call of a disk makes of what the disk means, and what it answers: of each call the clauses of `Disk` and `WritableDisk`.
+use Rattle.std.specs.Prelude.{◌≡◌, ◌≤◌, ◌==◌, ◌||◌, ◌∷◌, ◌++◌, [], Bool, false, ℕ, List, Option, None, Some, is_some, IfOk, IsErrOf, IsTrue, MatchOption, MatchResult, OnErr, OnOk, Result, length, take}
+use Rattle.std.specs.Option.{option_map}
+use Rattle.bag_tree.specs.Moved.{KeepsOthers}
+use Rattle.bag_tree.specs.Tree.{ReadsNext}
+use Rattle.bag_disk.specs.Disk.{AreNamesIn, DiskState, Has, HasUnnamed, IsFileWith, IsFolder, IsReached, OnlyLooks, SameDisk, entry_of, node}
+use Rattle.bag_disk.specs.WritableDisk.{Appends, Closes, HasFile, MakesFile, MakesFolder, Moves}
+use Rattle.bag_disk.specs.declared.disk.Entry.{Entry}
+use Rattle.bag_disk.specs.declared.disk.DiskFault.{DiskFault}
+use Rattle.bag_disk.specs.declared.disk.DiskFault.TheVariants.{Exists, Name, NotFound}
+
+-- the file that is open for reading is closed
+pub record ClosesFile (old new : DiskState) : Type 0 where
+  pub same : SameDisk old new
+  pub openings : new.openings ≡ old.openings
+  pub closed : new.rest ≡ None
+
+-- what a look at a path does
+pub record LooksAt (state : DiskState) (path : List ℕ) (answer : Result Entry DiskFault) : Type 0 where
+  pub found : IfOk answer (λ entry. IsTrue state.honest → IsReached state.nodes path → option_map entry_of (node state.nodes path) ≡ Some entry)
+  pub absent : IsErrOf answer NotFound → IsTrue state.honest → IsReached state.nodes path → node state.nodes path ≡ None
+
+-- what entering a folder does
+pub record Enters (old new : DiskState) (folder : List ℕ) (answer : Result (Unit {0}) DiskFault) : Type 0 where
+  pub looks : OnlyLooks old new
+  pub honest : OnOk answer (IsTrue old.honest → IsFolder old.nodes folder → AreNamesIn old.nodes folder new.names)
+
+-- what the next name of the folder that was entered does
+pub record NamesNext (old new : DiskState) (answer : Result (Option (List ℕ)) DiskFault) : Type 0 where
+  pub looks : OnlyLooks old new
+  pub unnamed : IsErrOf answer Name → IsTrue old.honest → HasUnnamed old.names
+  pub honest : IfOk answer (λ next. IsTrue old.honest → MatchOption next (old.names ≡ []) (λ name. old.names ≡ name ∷ new.names))
+
+-- what opening a file does
+pub record Opens (old new : DiskState) (path : List ℕ) (answer : Result (Unit {0}) DiskFault) : Type 0 where
+  pub same : SameDisk old new
+  pub opened : OnOk answer (new.openings ≡ old.openings ++ path ∷ [])
+  pub file_open : OnOk answer (IsTrue (is_some new.rest))
+  pub honest : OnOk answer (IsTrue old.honest → IsReached old.nodes path → (bytes : List ℕ) → IsFileWith old.nodes path bytes → new.rest ≡ Some bytes)
+  pub absent : IsErrOf answer NotFound → IsTrue old.honest → IsReached old.nodes path → node old.nodes path ≡ None
+  pub closed : OnErr answer (new.rest ≡ None)
+  pub not_opened : OnErr answer (new.openings ≡ old.openings)
+
+-- what a read with room for so many bytes does
+pub record Reads (old new : DiskState) (room : ℕ) (buffer : List ℕ) (answer : Result ℕ DiskFault) : Type 0 where
+  pub same : SameDisk old new
+  pub openings : new.openings ≡ old.openings
+  pub file_open : OnOk answer (IsTrue (is_some new.rest))
+  pub within : IfOk answer (λ n. n ≤ room)
+  pub honest : IfOk answer (λ n. IsTrue old.honest → ReadsNext old.rest new.rest n buffer)
+  pub unread : OnErr answer (new.rest ≡ old.rest)
+
+-- what making a folder does
+pub record MakesFolderAt (old new : DiskState) (written written_then : Option (List ℕ)) (kept_before kept_then : Bool) (path : List ℕ) (answer : Result (Unit {0}) DiskFault) : Type 0 where
+  pub made : OnOk answer (IsTrue old.honest → IsReached old.nodes path → MakesFolder old.nodes new.nodes path)
+  pub closed : OnOk answer (Closes old new)
+  pub ended : OnOk answer (written_then ≡ None)
+  pub taken : IsErrOf answer Exists → IsTrue old.honest → IsReached old.nodes path → Has old.nodes path
+  pub absent : IsErrOf answer NotFound → IsTrue old.honest → IsReached old.nodes path → ⊥
+  pub same : OnErr answer (OnlyLooks old new)
+  pub unkept : MatchResult answer (λ _. kept_then ≡ false) (λ _. kept_then ≡ kept_before)
+  pub same_file : OnErr answer (written_then ≡ written)
+
+-- what a move does
+pub record Renames (old new : DiskState) (written written_then : Option (List ℕ)) (kept_before kept_then : Bool) (from to : List ℕ) (answer : Result (Unit {0}) DiskFault) : Type 0 where
+  pub moved : OnOk answer (IsTrue old.honest → IsReached old.nodes from → IsReached old.nodes to → node old.nodes to ≡ None → Moves old.nodes new.nodes from to)
+  pub others : OnOk answer (IsTrue old.honest → IsReached old.nodes from → IsReached old.nodes to → KeepsOthers old.nodes new.nodes from to)
+  pub closed : OnOk answer (Closes old new)
+  pub ended : OnOk answer (written_then ≡ None)
+  pub taken : IsErrOf answer Exists → IsTrue old.honest → IsReached old.nodes to → Has old.nodes to
+  pub absent : IsErrOf answer NotFound → IsTrue old.honest → IsReached old.nodes from → IsReached old.nodes to → node old.nodes from ≡ None
+  pub same : OnErr answer (OnlyLooks old new)
+  pub unkept : MatchResult answer (λ _. kept_then ≡ false) (λ _. kept_then ≡ kept_before)
+  pub same_file : OnErr answer (written_then ≡ written)
+
+-- what making a file does
+pub record Creates (old new : DiskState) (written written_then : Option (List ℕ)) (kept_before kept_then : Bool) (path : List ℕ) (answer : Result (Unit {0}) DiskFault) : Type 0 where
+  pub made : OnOk answer (IsTrue old.honest → IsReached old.nodes path → MakesFile old.nodes new.nodes path)
+  pub closed : OnOk answer (Closes old new)
+  pub begun : OnOk answer (IsTrue (is_some (written_then)))
+  pub begun_there : OnOk answer (IsTrue old.honest → written_then ≡ Some path)
+  pub taken : IsErrOf answer Exists → IsTrue old.honest → IsReached old.nodes path → Has old.nodes path
+  pub absent : IsErrOf answer NotFound → IsTrue old.honest → IsReached old.nodes path → ⊥
+  pub same : OnErr answer (OnlyLooks old new)
+  pub unkept : MatchResult answer (λ _. kept_then ≡ false) (λ _. kept_then ≡ kept_before)
+  pub same_file : OnErr answer (written_then ≡ written)
+
+-- what writing bytes does
+pub record Writes (old new : DiskState) (written written_then : Option (List ℕ)) (kept_before kept_then : Bool) (bytes : List ℕ) (answer : Result ℕ DiskFault) : Type 0 where
+  pub within : IfOk answer (λ n. n ≤ length bytes)
+  pub appended : IfOk answer (λ n. IsTrue old.honest → (path : List ℕ) → written ≡ Some path → HasFile old.nodes path → Appends old.nodes new.nodes path (take n bytes))
+  pub closed : OnOk answer (Closes old new)
+  pub taken : IsErrOf answer Exists → IsTrue old.honest → ⊥
+  pub absent : IsErrOf answer NotFound → IsTrue old.honest → ⊥
+  pub unnamed : IsErrOf answer Name → IsTrue old.honest → ⊥
+  pub same : OnErr answer (OnlyLooks old new)
+  pub same_file : written_then ≡ written
+  pub same_names : kept_then ≡ kept_before
+
+-- what having the file kept does
+pub record Syncs (old new : DiskState) (written written_then : Option (List ℕ)) (kept_before kept_then : Bool) (answer : Result (Unit {0}) DiskFault) : Type 0 where
+  pub kept : OnOk answer (new.nodes ≡ old.nodes)
+  pub closed : OnOk answer (Closes old new)
+  pub ended : OnOk answer (written_then ≡ None)
+  pub taken : IsErrOf answer Exists → IsTrue old.honest → ⊥
+  pub absent : IsErrOf answer NotFound → IsTrue old.honest → ⊥
+  pub unnamed : IsErrOf answer Name → IsTrue old.honest → ⊥
+  pub same : OnErr answer (OnlyLooks old new)
+  pub same_file : OnErr answer (written_then ≡ written)
+  pub same_names : kept_then ≡ kept_before
+
+-- what having the names in a folder kept does
+pub record SyncsFolder (old new : DiskState) (written written_then : Option (List ℕ)) (kept_before kept_then : Bool) (folder : List ℕ) (answer : Result (Unit {0}) DiskFault) : Type 0 where
+  pub looks : OnlyLooks old new
+  pub same_file : written_then ≡ written
+  pub kept : MatchResult answer (λ _. kept_then ≡ (length folder == 0 || kept_before)) (λ _. kept_then ≡ kept_before)
+  pub taken : IsErrOf answer Exists → IsTrue old.honest → ⊥
+  pub absent : IsErrOf answer NotFound → IsTrue old.honest → IsFolder old.nodes folder → ⊥
+  pub unnamed : IsErrOf answer Name → IsTrue old.honest → ⊥
