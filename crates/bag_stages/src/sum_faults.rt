@@ -87,5 +87,10 @@ fn differing_code(kind: Kind) -> Code
 fn expected_and_found(alloc: Global, expected: &str, found: &str) -> Result<Text, AllocError>
     ensures { IfOk result (λ text. text ≡ expected_and_found expected.now found.now) }
 {
-    Ok(Text::from_string(format!(in alloc; "{expected}:{found}")?))
+    let length = expected.len().saturating_add(found.len()).saturating_add(1);
+    let mut text = String::with_capacity(alloc, length)?;
+    text.push_str(expected)?;
+    text.push(':')?;
+    text.push_str(found)?;
+    Ok(Text::from_string(text))
 }

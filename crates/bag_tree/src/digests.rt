@@ -47,7 +47,11 @@ impl Digests {
 fn hasher_where(algs: AlgSet, alg: Alg) -> Option<Hasher>
     ensures { HoldsWhere algs alg [] result }
 {
-    algs.has(alg).then(|| Hasher::new(alg))
+    if algs.has(alg) {
+        Some(Hasher::new(alg))
+    } else {
+        None
+    }
 }
 
 /// Takes the next bytes, where there is a hasher.
