@@ -1,8 +1,8 @@
 -- The two lines of the declaration and their parts.
-use Rattle.std.proofs.Common.{◌≡◌, ◌≢◌, ℕ, suc, ◌+◌, Bool, true, false, not, ◌==◌, cond, List, [], ◌∷◌, ◌++◌, length, take, drop, refl, sym, ap, ◌∙◌, subst, codes, Option, Some, None, bytes_eq, nat_eq, arith, append_assoc, length-append}
+use Rattle.std.proofs.Common.{◌≡◌, ◌≢◌, ℕ, Bool, true, false, not, ◌==◌, cond, List, [], ◌∷◌, ◌++◌, length, drop, refl, ap, ◌∙◌, subst, codes, Option, Some, None, bytes_eq, nat_eq, arith}
 use Rattle.std.specs.Prelude.{IsTrue, option_and_then}
 use Rattle.std.specs.Char.{is_ascii_digit}
-use Rattle.std.specs.List.{list_all, prefix_len, starts_with, before_first, after_first}
+use Rattle.std.specs.List.{list_all, starts_with, before_first, after_first}
 use Rattle.std.specs.Str.{byte}
 use Rattle.std.proofs.lemmas.Bool.Decides.{nat_tests}
 use Rattle.bag_text.specs.Number.{is_digits}
@@ -11,7 +11,8 @@ use Rattle.bag_read.specs.Declaration.{when, is_version, is_encoding}
 use Rattle.bag_read.specs.LineParts.{AreDigits}
 use Rattle.bag_read.proofs.AreDigits.{are_digits, digits_are}
 use Rattle.bag_read.specs.DeclarationLine.{VersionLinesReadAsTheirParts, EncodingLinesReadAsTheirParts}
-use Rattle.bag_read.proofs.Fronts.{drop_front, take_front, front_len}
+use Rattle.bag_read.proofs.FirstMark.{cut_before, before_is, behind_is}
+use Rattle.bag_read.proofs.Fronts.{drop_front}
 use Rattle.bag_read.proofs.LineParts.{not_empty, empty_test, not_true}
 use Rattle.bag_read.proofs.PickedOut.{both_true}
 use Rattle.bag_read.proofs.Texts.{after_is, prefix_test}
@@ -29,23 +30,6 @@ pub digits_no_dot : (t : List ℕ) → list_all is_ascii_digit t ≡ true → li
 digits_no_dot [] e = refl
 digits_no_dot (c ∷ t) e = let two = both_true (is_ascii_digit c) (list_all is_ascii_digit t) e in rw (digit_no_dot c two.0) (digits_no_dot t two.1)
 
-cut_with : (c : ℕ) (t : List ℕ) (n m k : ℕ) → m ≡ suc n → k ≡ suc (n + 1) → t ≡ take n t ++ codes "." ++ drop (n + 1) t → c ∷ t ≡ take m (c ∷ t) ++ codes "." ++ drop k (c ∷ t)
-cut_with c t n m k e f is = rw (e, f) (ap (λ s. c ∷ s) is)
-
--- a text with something after its first dot is what stands before it, the dot, and that
-cut_on : (c : ℕ) (t : List ℕ) (b : Bool) → is_dot c ≡ b → (after_first is_dot t ≢ [] → t ≡ before_first is_dot t ++ codes "." ++ after_first is_dot t)
-    → drop (cond (not b) (1 + prefix_len no_dot t) 0 + 1) (c ∷ t) ≢ [] → c ∷ t ≡ take (cond (not b) (1 + prefix_len no_dot t) 0) (c ∷ t) ++ codes "." ++ drop (cond (not b) (1 + prefix_len no_dot t) 0 + 1) (c ∷ t)
-cut_on c t true e more h = let same : c ≡ 46 = grind (arith, nat_tests) in ap (λ d. d ∷ t) same
-cut_on c t false e more h =
-    let front : 1 + prefix_len no_dot t ≡ suc (prefix_len no_dot t) = omega arith in
-    let back : 1 + prefix_len no_dot t + 1 ≡ suc (prefix_len no_dot t + 1) = omega arith in
-    cut_with c t (prefix_len no_dot t) (1 + prefix_len no_dot t) (1 + prefix_len no_dot t + 1) front back
-    (more (λ none. h (ap (λ k. drop k (c ∷ t)) back ∙ none)))
-
-pub cut_at_dot : (t : List ℕ) → after_first is_dot t ≢ [] → t ≡ before_first is_dot t ++ codes "." ++ after_first is_dot t
-cut_at_dot [] h = absurd (h refl)
-cut_at_dot (c ∷ t) h = cut_on c t (is_dot c) refl (cut_at_dot t) h
-
 abbrev IsVersion : List ℕ → Type 0
 IsVersion version = (major minor : List ℕ) × AreDigits major × AreDigits minor × (version ≡ major ++ codes "." ++ minor)
 
@@ -53,15 +37,12 @@ version_is : (t : List ℕ) → is_version t ≡ true → IsVersion t
 version_is t e =
     let two = both_true (is_digits (before_first is_dot t)) (is_digits (after_first is_dot t)) e in
     let minor = are_digits (after_first is_dot t) two.1 in
-    (before_first is_dot t, after_first is_dot t, are_digits (before_first is_dot t) two.0, minor, cut_at_dot t minor.0)
+    (before_first is_dot t, after_first is_dot t, are_digits (before_first is_dot t) two.0, minor, cut_before (byte ".") t minor.0)
 
 is_version_of : (t : List ℕ) → IsVersion t → is_version t ≡ true
 is_version_of t (major, minor, a, b, e) =
-    let at : t ≡ major ++ (codes "." ++ minor) = e ∙ append_assoc major (codes ".") minor in
-    let n : prefix_len no_dot t ≡ length major = ap (prefix_len no_dot) at ∙ front_len no_dot major (codes "." ++ minor) (digits_no_dot major a.1) refl in
-    let before : before_first is_dot t ≡ major = ap (λ k. take k t) n ∙ ap (take (length major)) at ∙ take_front major (codes "." ++ minor) in
-    let long : length major + 1 ≡ length (major ++ codes ".") = sym (length-append major (codes ".")) in
-    let after : after_first is_dot t ≡ minor = ap (λ k. drop (k + 1) t) n ∙ ap (λ k. drop k t) long ∙ ap (drop (length (major ++ codes "."))) e ∙ drop_front (major ++ codes ".") minor in
+    let before : before_first is_dot t ≡ major = before_is (byte ".") major minor t (digits_no_dot major a.1) e in
+    let after : after_first is_dot t ≡ minor = behind_is (byte ".") major minor t (digits_no_dot major a.1) e in
     rw (before, after, digits_are major a, digits_are minor b) refl
 
 -- a text that passes its test, after its label

@@ -1,9 +1,10 @@
 -- What stands before the first of a character, and behind it.
-use Rattle.std.proofs.Common.{◌≡◌, ℕ, suc, ◌+◌, Bool, true, false, not, ◌||◌, ◌==◌, cond, List, [], ◌∷◌, ◌++◌, length, take, drop, refl, sym, ap, ◌∙◌, arith, append_assoc, length-append}
+use Rattle.std.proofs.Common.{◌≡◌, ◌≢◌, ℕ, suc, ◌+◌, Bool, true, false, not, ◌||◌, ◌==◌, cond, List, [], ◌∷◌, ◌++◌, length, take, drop, refl, sym, ap, ◌∙◌, arith, append_assoc, length-append}
 use Rattle.std.specs.List.{list_all, list_any, prefix_len, before_first, after_first}
 use Rattle.std.proofs.lemmas.Bool.Decides.{nat_tests}
 use Rattle.bag_read.proofs.Fronts.{drop_front, take_front, front_len}
 use Rattle.bag_read.proofs.InfoLine.{has}
+use Rattle.bag_read.proofs.LineParts.{or_false}
 
 module _ (mark : ℕ) where
   abbrev is_mark : ℕ → Bool
@@ -27,6 +28,22 @@ module _ (mark : ℕ) where
   pub cut_at : (t : List ℕ) → list_any is_mark t ≡ true → t ≡ before_first is_mark t ++ mark ∷ [] ++ after_first is_mark t
   cut_at [] h = cc
   cut_at (c ∷ t) h = cut_on c t (is_mark c) refl (cut_at t) h
+
+  none_on : (c : ℕ) (t : List ℕ) (b : Bool) → b ≡ false → after_first is_mark t ≡ [] → drop (cond (not b) (1 + prefix_len no_mark t) 0 + 1) (c ∷ t) ≡ []
+  none_on c t true e h = cc
+  none_on c t false e h = let back : 1 + prefix_len no_mark t + 1 ≡ suc (prefix_len no_mark t + 1) = omega arith in ap (λ n. drop n (c ∷ t)) back ∙ h
+
+  none_after : (t : List ℕ) → list_any is_mark t ≡ false → after_first is_mark t ≡ []
+  none_after [] e = refl
+  none_after (c ∷ t) e = let two = or_false (is_mark c) (list_any is_mark t) e in none_on c t (is_mark c) two.0 (none_after t two.1)
+
+  some_by : (t : List ℕ) (b : Bool) → list_any is_mark t ≡ b → after_first is_mark t ≢ [] → b ≡ true
+  some_by t true e h = refl
+  some_by t false e h = absurd (h (none_after t e))
+
+  -- a text with something behind the first
+  pub cut_before : (t : List ℕ) → after_first is_mark t ≢ [] → t ≡ before_first is_mark t ++ mark ∷ [] ++ after_first is_mark t
+  cut_before t h = cut_at t (some_by t (list_any is_mark t) refl h)
 
   itself : (mark == mark) ≡ true
   itself = grind (arith, nat_tests)

@@ -4,6 +4,7 @@ use Rattle.std.specs.Str.{byte}
 use Rattle.std.specs.List.{list_any, before_first, after_first}
 use Rattle.bag_text.specs.Rules.{label_of, is_after_colon, may_follow_colon}
 use Rattle.bag_text.specs.Text.{is_blank, is_some_blank, ends_with_blank}
+use Rattle.bag_text.specs.Trim.{EndsWithNoBlank}
 use Rattle.bag_text.specs.declared.rules.Rules.{Rules}
 use Rattle.bag_text.specs.declared.rules.Rules.TheVariants.{V10, V097}
 use Rattle.bag_read.specs.Info.{is_colon, is_label, split}
@@ -29,13 +30,10 @@ has_last : (c : ℕ) (t : List ℕ) → (front : List ℕ) × (last : ℕ) × (c
 has_last c [] = ([], c, refl)
 has_last c (d ∷ t) = let more = has_last d t in (c ∷ more.0, more.1, ap (λ s. c ∷ s) more.2)
 
-abbrev HasNoBlankLast : List ℕ → Type 0
-HasNoBlankLast t = (front : List ℕ) (c : ℕ) → t ≡ front ++ c ∷ [] → is_blank c ≡ false
-
-no_blank_last : (t : List ℕ) → ends_with_blank t ≡ false → HasNoBlankLast t
+no_blank_last : (t : List ℕ) → ends_with_blank t ≡ false → EndsWithNoBlank t
 no_blank_last t e front c same = sym (ends_as front c) ∙ ap ends_with_blank (sym same) ∙ e
 
-not_ending : (t : List ℕ) → HasNoBlankLast t → ends_with_blank t ≡ false
+not_ending : (t : List ℕ) → EndsWithNoBlank t → ends_with_blank t ≡ false
 not_ending [] h = refl
 not_ending (c ∷ t) h =
     let last = has_last c t in

@@ -8,8 +8,8 @@ use Rattle.bag_text.specs.Number.{is_digits}
 use Rattle.bag_read.specs.Oxum.{is_number, is_dot, oxum_of, Writes, IsOxum, OxumsReadAsTheirParts}
 use Rattle.bag_read.specs.declared.oxum.Oxum.{Oxum}
 use Rattle.bag_read.proofs.AreDigits.{are_digits, digits_are}
-use Rattle.bag_read.proofs.DeclarationLineParts.{cut_at_dot, digits_no_dot}
-use Rattle.bag_read.proofs.FirstMark.{before_is, behind_is}
+use Rattle.bag_read.proofs.DeclarationLineParts.{digits_no_dot}
+use Rattle.bag_read.proofs.FirstMark.{cut_before, before_is, behind_is}
 use Rattle.bag_read.proofs.PickedOut.{both_true}
 
 within : (n : ℕ) → nat_lt n (2 ^ 64) ≡ true → n ≤ 18446744073709551615
@@ -47,7 +47,7 @@ module _ (value : List ℕ) where
       let two = both_true (is_number octets) (is_number streams) read.0 in
       let one = number_writes octets two.0 in
       let other = number_writes streams two.1 in
-      subst (IsOxum value) read.1 (octets, streams, cut_at_dot value other.0.0, one, other)
+      subst (IsOxum value) read.1 (octets, streams, cut_before (byte ".") value other.0.0, one, other)
 
   parts_oxum : (oxum : Oxum) → IsOxum value oxum → oxum_of value ≡ Some oxum
   parts_oxum oxum (o, s, e, one, other) =

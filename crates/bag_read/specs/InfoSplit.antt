@@ -1,7 +1,8 @@
 -- What the first line of an element is made of (RFC 8493, 2.2.2), and the law that its definition keeps.
-use Rattle.std.specs.Prelude.{ℕ, ◌≡◌, ◌≢◌, ◌⊎◌, ◌↔◌, true, false, not, List, [], ◌∷◌, ◌++◌, Some, codes, IsTrue}
+use Rattle.std.specs.Prelude.{ℕ, ◌≡◌, ◌≢◌, ◌⊎◌, ◌↔◌, true, not, List, [], ◌∷◌, ◌++◌, Some, codes, IsTrue}
 use Rattle.std.specs.List.{list_all}
 use Rattle.bag_text.specs.Text.{is_blank, trim}
+use Rattle.bag_text.specs.Trim.{EndsWithNoBlank}
 use Rattle.bag_text.specs.declared.rules.Rules.{Rules}
 use Rattle.bag_text.specs.declared.rules.Rules.TheVariants.{V10, V097}
 use Rattle.bag_read.specs.Info.{is_colon, split}
@@ -23,7 +24,7 @@ pub record SplitsAs (rules : Rules) (line label part : List ℕ) : Type 0 where
   pub no_colon : IsTrue (list_all (λ c. not (is_colon c)) before)
   pub its_label : IsLabelIn rules before label
   pub some_label : label ≢ []
-  pub no_blank_last : (front : List ℕ) (c : ℕ) → label ≡ front ++ c ∷ [] → is_blank c ≡ false
+  pub no_blank_last : EndsWithNoBlank label
   pub follows : MayFollow rules part
 
 -- the law: a line splits just as it is made of these
