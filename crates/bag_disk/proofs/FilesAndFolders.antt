@@ -1,9 +1,9 @@
 -- The files and folders of a disk, without what else stands there.
 use Rattle.std.proofs.Common.{◌≡◌, ℕ, Bool, true, false, cond, List, [], ◌∷◌, filter, length, Option, Some, None, is_some, refl, ap, sym, ◌∙◌, subst}
 use Rattle.std.proofs.Math.Dec.{T}
-use Rattle.std.proofs.lemmas.Bool.{false≢true, and_parts, and_from}
+use Rattle.std.proofs.lemmas.Bool.{and_parts, and_from}
 use Rattle.std.specs.FinMap as fin
-use Rattle.std.specs.FinMap.{find, is_sorted, get-entries, get-from_entries, entries_sorted}
+use Rattle.std.specs.FinMap.{find, is_sorted, get-entries, get-from_entries, entries_sorted, len-entries}
 use Rattle.std.specs.FinMap.Entries.{below_all, same_entries}
 use Rattle.std.specs.Ordering.{eq_by_cmp}
 use Rattle.std.specs.Cmp.Lexicographic.{nat_list_cmp_total}
@@ -82,4 +82,4 @@ entries_alone nodes =
 
 -- so many files and folders are among the entries
 pub count_alone : (nodes : Nodes) → length (filter plain_entry (fin.entries nodes)) ≡ entry_count nodes
-count_alone nodes = sym (ap length (entries_alone nodes))
+count_alone nodes = sym (len-entries (files_and_folders nodes) ∙ ap length (entries_alone nodes))

@@ -2,7 +2,7 @@
 use Rattle.std.specs.Prelude.{ℕ, ◌≡◌, List, [], ◌++◌, None, is_some, true}
 use Rattle.std.specs.FinMap as map
 use Rattle.bag_tree.specs.Moved.{MovesAll, moved}
-use Rattle.bag_disk.specs.Disk.{DiskState, Nodes, Node, node, Has, IsDisk, IsFileWith, bytes_of}
+use Rattle.bag_disk.specs.Disk.{DiskState, Nodes, node, Has, IsDisk, IsFileWith, bytes_of}
 use Rattle.bag_disk.specs.Disk.Node.{File, Folder}
 
 -- what stands there, with a folder at the path
