@@ -1,8 +1,10 @@
-use Rattle.std.proofs.Common.{◌∙◌, sym}
+use Rattle.std.proofs.Common.{◌≡◌, true, ◌∙◌, sym}
 use Rattle.std.proofs.lemmas.Bool.{false≢true}
 use Rattle.bag_store.proofs.BagSteps.{free_not_taken, has_it}
 use Rattle.bag_store.proofs.ChangedTree.{kept_count, renamed_changed}
 use Rattle.bag_disk.proofs.Plain.{special_not_plain}
+use Rattle.bag_tree.specs.Steps.{is_taken, lacks_folder}
+use Rattle.bag_store.specs.FileTree.{state_after}
 use Rattle.bag_store.proofs.RefusedCalls.{step_answered_so}
 use Rattle.bag_store.proofs.file_tree.FileTreeWriteTree.rename_folder.Goals as goal
 
@@ -23,5 +25,9 @@ returns-in-Ok-clause-possible g c = λ honest.
 
 pub returns-in-Err-clause-refused : goal.returns-in-Err-clause-refused
 returns-in-Err-clause-refused g c =
-    step_answered_so _ _ _ _ _ _ _ c.in-Err.refusal _ c.refuse.ensures.fault c.refuse.ensures.failures
+    let before = c.args.self.now.answered in
+    let after = c.refuse.new.self in
+    let old = state_after (g.D.Disk.state c.args.self.now.disk) before.failures before.given before.last in
+    let new = state_after (g.D.Disk.state c.rename_folder.new.disk) after.failures after.given after.last in
+    step_answered_so (lacks_folder old.bag c.args.from.now ≡ true) (is_taken old.bag c.args.to.now ≡ true) old new _ _ _ c.in-Err.refusal _ c.refuse.ensures.fault c.refuse.ensures.failures
     (λ special honest. special_not_plain (g.D.Disk.state c.args.self.now.disk).nodes (special honest)) (λ none. none) (λ there. there) c.in-Err.ensures.refused
