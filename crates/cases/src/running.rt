@@ -1,7 +1,6 @@
 //! Commands, and what each side answers to them.
 use crate::answers::{answer_to, held, listed};
 use crate::commands::{Verb, verb_of};
-use crate::shelf::Shelf;
 use crate::world::World;
 use crate::{stages, trees, turns};
 use bag_cli::Disks;
@@ -35,22 +34,18 @@ fn run_verb(
     }
     match verb {
         Verb::Run => {
-            see_on_disk(rt, sight, words, usize::MAX, world, report);
-            see_on_shelf(sight, words, usize::MAX, world, report);
+            see_on_disks(rt, sight, words, usize::MAX, world, report);
             trees::see_in_trees(sight, words, world, report);
         }
         Verb::RunOnDisk => see_on_disk(rt, sight, words, usize::MAX, world, report),
-        Verb::RunWithRoom(room) => {
-            see_on_disk(rt, sight, words, room, world, report);
-            see_on_shelf(sight, words, room, world, report);
-        }
+        Verb::RunWithRoom(room) => see_on_disks(rt, sight, words, room, world, report),
         Verb::RefuseTree => turns::see_in_turn(sight, None, words, world, report),
         Verb::RefuseDisk(fault) => {
             turns::see_in_turn(sight, Some(fault), words, world, report);
         }
         Verb::Stage => stages::see_stage(sight, words, world, report),
         Verb::List | Verb::Write => {
-            see_files(sight, &Shelf::of(world), verb, words, "in memory", report);
+            see_files(sight, world, verb, words, "in memory", report);
             see_files(sight, rt, verb, words, "on the disk", report);
         }
     }
@@ -71,15 +66,17 @@ fn see_on_disk(
     }
 }
 
-/// Runs the program over disks in memory.
-fn see_on_shelf(
+/// The same, and over disks in memory.
+fn see_on_disks(
+    rt: &HostRuntime,
     sight: &Sight<'_>,
     words: &[&str],
     room: usize,
     world: &World,
     report: &mut Report,
 ) {
-    let found = answer_to(sight.texts.alloc, &Shelf::of(world), words, room);
+    see_on_disk(rt, sight, words, room, world, report);
+    let found = answer_to(sight.texts.alloc, world, words, room);
     report.see(sight, "on a disk in memory", &found);
 }
 

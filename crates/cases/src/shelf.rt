@@ -2,6 +2,7 @@
 ghost use Rattle.std.specs.Prelude.{◌≡◌, [], ⊤, IfOk};
 ghost use Rattle.test_disk.specs.Held.{nodes_of};
 ghost use Rattle.test_disk.specs.MemoryDisk.{fresh, state_of};
+ghost use Rattle.test_disk.specs.Refusing.{refusing};
 ghost use Rattle.cases.specs.Shelf.{disk_at, unclaimed};
 
 use crate::world::{World, below};
@@ -11,23 +12,6 @@ use bag_text::Text;
 use std::alloc::{AllocError, Global};
 use std::collections::BTreeMap;
 use test_disk::{Call, MemoryDisk, RefusingDisk};
-
-/// The folders of a case, and the files beside them. Of their disks one call is refused, where there is one.
-#[derive(Drop)]
-pub(crate) struct Shelf<'a> {
-    pub(crate) world: &'a World,
-    pub(crate) refused: Option<(u64, DiskFault)>,
-}
-
-impl<'a> Shelf<'a> {
-    /// Those of whose disks no call is refused.
-    pub(crate) fn of(world: &'a World) -> Shelf<'a> {
-        Shelf {
-            world,
-            refused: None,
-        }
-    }
-}
 
 /// A disk whose base folder can't be entered.
 fn no_disk(alloc: Global) -> Result<MemoryDisk, AllocError>
@@ -63,37 +47,55 @@ fn opened_below<'a>(world: &'a World, folder: &str) -> (&'a str, &'a [u8]) {
     }
 }
 
-impl<'a> Disks for Shelf<'a> {
-    type Disk = RefusingDisk<MemoryDisk>;
+/// The disks of the folders of a case, and the files beside them.
+impl Disks for World {
+    type Disk = MemoryDisk;
 
-    ghost below = { λ shelf. unclaimed shelf.world.now.disks };
+    ghost below = { λ world. unclaimed world.disks };
 
     ghost file = { λ _ _ _. ⊤ };
 
-    fn disk(&self, alloc: Global, base: &str) -> Result<RefusingDisk<MemoryDisk>, AllocError> {
-        let mut disk = copy_of(alloc, &self.world.disks, base)?;
-        let (path, bytes) = opened_below(self.world, base);
-        disk.swap(Text::from_str(alloc, path)?, bytes.to_vec(alloc)?);
-        let (call, fault) = match self.refused {
-            Some((number, fault)) => (Call::Numbered(number), fault),
-            None => (Call::Past, DiskFault::Device),
-        };
-        Ok(RefusingDisk::over(disk, call, fault))
+    fn disk(&self, alloc: Global, base: &str) -> Result<MemoryDisk, AllocError> {
+        let (path, bytes) = opened_below(self, base);
+        let path = Text::from_str(alloc, path)?;
+        let bytes = bytes.to_vec(alloc)?;
+        let mut disk = copy_of(alloc, &self.disks, base)?;
+        disk.swap(path, bytes);
+        Ok(disk)
     }
 
     fn read_file(&self, alloc: Global, path: &str, most: u32) -> Result<Vec<u8>, ReadFault> {
-        match self.world.file(path) {
-            Some(bytes) if bytes.len() as u64 <= u64::from(most) => copied(alloc, bytes),
+        match self.file(path) {
+            Some(bytes) if bytes.len() as u64 <= u64::from(most) => match bytes.to_vec(alloc) {
+                Ok(copy) => Ok(copy),
+                Err(_) => Err(ReadFault::Memory),
+            },
             Some(_) | None => Err(ReadFault::Unread),
         }
     }
 }
 
-fn copied(alloc: Global, bytes: &[u8]) -> Result<Vec<u8>, ReadFault>
-    ensures { IfOk result (λ copy. copy.items ≡ bytes.now) }
-{
-    match bytes.to_vec(alloc) {
-        Ok(copy) => Ok(copy),
-        Err(_) => Err(ReadFault::Memory),
+/// Disks of each of which the call of a number is refused, from 0.
+#[derive(Drop)]
+pub(crate) struct Refusing<'a, D> {
+    pub(crate) disks: &'a D,
+    pub(crate) call: u64,
+    pub(crate) fault: DiskFault,
+}
+
+impl<'a, D: Disks> Disks for Refusing<'a, D> {
+    type Disk = RefusingDisk<D::Disk>;
+
+    ghost below = { λ these base. refusing (D.below these.disks.now base) these.fault };
+
+    ghost file = { λ these. D.file these.disks.now };
+
+    fn disk(&self, alloc: Global, base: &str) -> Result<RefusingDisk<D::Disk>, AllocError> {
+        let disk = self.disks.disk(alloc, base)?;
+        Ok(RefusingDisk::over(disk, Call::Numbered(self.call), self.fault))
+    }
+
+    fn read_file(&self, alloc: Global, path: &str, most: u32) -> Result<Vec<u8>, ReadFault> {
+        self.disks.read_file(alloc, path, most)
     }
 }

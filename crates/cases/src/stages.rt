@@ -73,11 +73,12 @@ fn see_folder(
     world: &World,
     report: &mut Report,
 ) {
+    if !world.has_tree(name) {
+        report.text.fail(Mistake::Name);
+        return;
+    }
     match world.tree(name) {
-        Ok(mut tree) if world.has_tree(name) => {
-            see_depths(sight, &mut tree, profile, asked, report);
-        }
-        Ok(_) => report.text.fail(Mistake::Name),
+        Ok(mut tree) => see_depths(sight, &mut tree, profile, asked, report),
         Err(_) => report.text.fail(Mistake::Memory),
     }
 }

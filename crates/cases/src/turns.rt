@@ -1,6 +1,6 @@
 //! Calls that are refused in turn: the first, the second, and so on, up to the first run of which none is.
 use crate::answers::{answer_to, put_listing};
-use crate::shelf::Shelf;
+use crate::shelf::Refusing;
 use crate::trees::{are_trees, do_over_tree};
 use crate::world::World;
 use bag_cli::{Action, Plan, plan_of};
@@ -28,11 +28,9 @@ impl Turns<'_> {
         match self.fault {
             None => self.over_tree(call),
             Some(fault) => {
-                let shelf = Shelf {
-                    world: self.world,
-                    refused: Some((call.saturating_sub(1), fault)),
-                };
-                answer_to(self.alloc, &shelf, self.words, usize::MAX)
+                let (disks, call) = (self.world, call.saturating_sub(1));
+                let refusing = Refusing { disks, call, fault };
+                answer_to(self.alloc, &refusing, self.words, usize::MAX)
             }
         }
     }
@@ -43,10 +41,11 @@ impl Turns<'_> {
         for directory in self.plan.directories.as_slice() {
             let name = directory.as_str();
             match do_over_tree(self.alloc, self.plan, self.world, name, call, &mut answer) {
-                Ok(mut tree) if matches!(self.plan.action, Action::Make) => {
-                    put_listing(&mut tree, true, &mut answer.written);
+                Ok(mut tree) => {
+                    if matches!(self.plan.action, Action::Make) {
+                        put_listing(&mut tree, true, &mut answer.written);
+                    }
                 }
-                Ok(_) => {}
                 Err(_) => answer.written.fail(Mistake::Memory),
             }
         }

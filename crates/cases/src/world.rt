@@ -217,8 +217,9 @@ fn put_disk(
     folder: &str,
     disks: &mut BTreeMap<String, MemoryDisk>,
 ) -> Result<(), AllocError> {
+    let name = String::from_str(alloc, folder)?;
     if let Some(disk) = MemoryDisk::holding(alloc, nodes_below(alloc, nodes, folder)?) {
-        let _ = disks.insert(String::from_str(alloc, folder)?, disk)?;
+        let _ = disks.insert(name, disk)?;
     }
     Ok(())
 }
