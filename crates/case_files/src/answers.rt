@@ -1,28 +1,29 @@
 //! Answers: what a command writes, what it tells, and its status.
+use crate::bytes::Bytes;
 use std::alloc::Global;
 
 /// What is written, what is told on the error output, and the exit status.
 #[derive(Drop)]
 pub struct Answer {
-    pub written: Vec<u8>,
-    pub told: Vec<u8>,
+    pub written: Bytes,
+    pub told: Bytes,
     pub status: u8,
 }
 
 impl Answer {
-    /// The answer of what ends well and tells nothing.
-    pub fn of(alloc: Global, written: Vec<u8>) -> Answer {
+    /// The answer of what tells nothing.
+    pub fn of(alloc: Global, written: Bytes, status: u8) -> Answer {
         Answer {
             written,
-            told: Vec::new(alloc),
-            status: 0,
+            told: Bytes::new(alloc),
+            status,
         }
     }
 
-    /// Whether all three are the same, byte for byte.
+    /// Whether all three are the same, byte for byte, and there is no mistake.
     pub fn is_same(&self, other: &Answer) -> bool {
-        self.written.as_slice() == other.written.as_slice()
-            && self.told.as_slice() == other.told.as_slice()
-            && self.status == other.status
+        self.written.is_same(&other.written)
+            & self.told.is_same(&other.told)
+            & (self.status == other.status)
     }
 }

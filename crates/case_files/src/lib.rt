@@ -1,27 +1,36 @@
-//! Case files: worked examples as lines that a person can read, and the answers that they want.
+//! Case files: worked examples as lines that a person can read, the answers that they want, and what reads their rows.
 //!
 //! ```
 //! let lines = lines_of(alloc, text)?;
-//! if let Some(entry) = entry_at(&lines, 0) {
-//!     let wanted = texts.answer(alloc, entry.below, 0)?;
-//! }
+//! let wanted = texts.wanted(below(&lines, 0), 0);
+//! report.compare(&sight, "on the disk", &wanted, &found);
 //! ```
 //!
-//! Nothing here knows what a bag is. The form of the files stands in docs/CASES.md.
+//! Who puts bytes together here gets no errors: `Bytes` keep the first mistake that was made on the way, and a `Report` takes it from
+//! them. The form of the files, and what each reader writes, stand in docs/CASES.md.
 #![tactic(auto)]
 
 mod answers;
-mod folders;
+mod bytes;
 mod lines;
 mod mistake;
+mod plans;
+mod profiles;
+mod reader;
 mod report;
+mod shown;
+mod spelled;
+mod tag_files;
 mod texts;
 mod words;
+mod written;
 
 pub use answers::Answer;
-pub use folders::{Folder, Sort, Spot, folder_of};
-pub use lines::{Entry, Line, entry_at, lines_of, parts_of};
+pub use bytes::Bytes;
+pub use lines::{Entry, Line, Part, Word, below, lines_of};
 pub use mistake::Mistake;
+pub use reader::Reader;
 pub use report::{Report, Sight};
+pub use shown::Shown;
 pub use texts::Texts;
 pub use words::words_of;

@@ -1,12 +1,59 @@
-//! The lines of a case file, and its entries.
-use crate::mistake::Mistake;
-use std::alloc::Global;
+//! The lines of a case file.
+use std::alloc::{AllocError, Global};
+
+/// What a line says, by its first word.
+#[derive(Clone, Copy, PartialEq, Eq)]
+pub enum Word {
+    Case,
+    Bag,
+    In,
+    File,
+    Folder,
+    Link,
+    Opened,
+    Beside,
+    Text,
+    Read,
+    /// A row that is read.
+    Row,
+    /// A command that is run.
+    Run,
+    /// A line of an output, of the entry above.
+    Written,
+    /// A line of its error output.
+    Told,
+    /// Its exit status.
+    Status,
+    /// The next of its answers.
+    Then,
+    Unknown,
+}
+
+/// The words that lines begin with.
+const WORDS: [(&str, Word); 16] = [
+    ("|", Word::Written),
+    ("-", Word::Row),
+    ("$", Word::Run),
+    ("file", Word::File),
+    ("case", Word::Case),
+    ("in", Word::In),
+    ("then", Word::Then),
+    ("?", Word::Status),
+    ("beside", Word::Beside),
+    ("text", Word::Text),
+    ("read", Word::Read),
+    ("folder", Word::Folder),
+    ("!", Word::Told),
+    ("bag", Word::Bag),
+    ("opened", Word::Opened),
+    ("link", Word::Link),
+];
 
 /// A line that says something: its number, from 1, its first word, and what follows one space behind that.
 #[derive(Clone, Copy)]
 pub struct Line<'a> {
     pub number: usize,
-    pub word: &'a str,
+    pub word: Word,
     pub rest: &'a str,
 }
 
@@ -17,54 +64,72 @@ pub struct Entry<'a> {
     pub below: &'a [Line<'a>],
 }
 
-impl Line<'_> {
-    /// Whether it is wanted of the entry above it.
-    fn is_wanted(&self) -> bool {
-        matches!(self.word, "|" | "!" | "?" | "then")
+/// What is wanted of one of several runs: the lines up to a `then`, and those behind it, where there is one.
+#[derive(Clone, Copy)]
+pub struct Part<'a> {
+    pub lines: &'a [Line<'a>],
+    pub rest: Option<&'a [Line<'a>]>,
+}
+
+impl Word {
+    fn of(word: &str) -> Word {
+        for (name, known) in &WORDS {
+            if *name == word {
+                return *known;
+            }
+        }
+        Word::Unknown
+    }
+
+    /// Whether such a line is wanted of the entry above it.
+    pub fn is_wanted(self) -> bool {
+        matches!(self, Word::Written | Word::Told | Word::Status | Word::Then)
+    }
+}
+
+fn line_of(place: usize, line: &str) -> Line<'_> {
+    let (word, rest) = line.split_once(' ').unwrap_or((line, ""));
+    Line {
+        number: place.saturating_add(1),
+        word: Word::of(word),
+        rest,
     }
 }
 
 /// The lines of a text that say something: all but empty ones and those that begin with `#`.
-pub fn lines_of(alloc: Global, text: &str) -> Result<Vec<Line<'_>>, Mistake> {
+pub fn lines_of(alloc: Global, text: &str) -> Result<Vec<Line<'_>>, AllocError> {
     let mut lines = Vec::new(alloc);
     for (place, line) in text.lines().enumerate() {
-        if !line.is_empty() && !line.starts_with('#') {
-            let (word, rest) = line.split_once(' ').unwrap_or((line, ""));
-            let number = place.saturating_add(1);
-            lines.push(Line { number, word, rest })?;
+        match line.as_bytes() {
+            [] | [b'#', ..] => {}
+            _ => lines.push(line_of(place, line))?,
         }
     }
     Ok(lines)
 }
 
 /// The lines behind a place that are wanted of the entry there.
-fn below<'a>(lines: &'a [Line<'a>], place: usize) -> &'a [Line<'a>] {
+pub fn below<'a>(lines: &'a [Line<'a>], place: usize) -> &'a [Line<'a>] {
     let rest = lines.get(place.saturating_add(1)..).unwrap_or(&[]);
     for (end, line) in rest.iter().enumerate() {
-        if !line.is_wanted() {
+        if !line.word.is_wanted() {
             return rest.get(..end).unwrap_or(rest);
         }
     }
     rest
 }
 
-/// The entry whose line stands at a place, if one does. The first line of a file is an entry, whatever it says.
-pub fn entry_at<'a>(lines: &'a [Line<'a>], place: usize) -> Option<Entry<'a>> {
-    let line = *lines.get(place)?;
-    let below = below(lines, place);
-    (!line.is_wanted() || place == 0).then_some(Entry { line, below })
-}
-
-/// The lines between `then`: what is wanted of one run after another.
-pub fn parts_of<'a>(alloc: Global, below: &'a [Line<'a>]) -> Result<Vec<&'a [Line<'a>]>, Mistake> {
-    let mut parts = Vec::new(alloc);
-    let mut from = 0usize;
-    for (place, line) in below.iter().enumerate() {
-        if line.word == "then" {
-            parts.push(below.get(from..place).unwrap_or(&[]))?;
-            from = place.saturating_add(1);
+impl<'a> Part<'a> {
+    /// The first part of lines.
+    pub fn of(lines: &'a [Line<'a>]) -> Part<'a> {
+        for (place, line) in lines.iter().enumerate() {
+            if line.word == Word::Then {
+                return Part {
+                    lines: lines.get(..place).unwrap_or(lines),
+                    rest: lines.get(place.saturating_add(1)..),
+                };
+            }
         }
+        Part { lines, rest: None }
     }
-    parts.push(below.get(from..).unwrap_or(&[]))?;
-    Ok(parts)
 }

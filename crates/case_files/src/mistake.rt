@@ -1,5 +1,4 @@
 //! What can be wrong with a case file.
-use std::alloc::{AllocError, AllocFailed};
 use std::io;
 
 /// What is wrong with an entry of a case file, or keeps it from being followed.
@@ -49,22 +48,9 @@ impl Mistake {
             Mistake::Place => "this can't stand here",
         }
     }
-}
 
-impl From<AllocError> for Mistake {
-    fn from(_: AllocError) -> Mistake {
-        Mistake::Memory
-    }
-}
-
-impl<T: Drop> From<AllocFailed<T>> for Mistake {
-    fn from(_: AllocFailed<T>) -> Mistake {
-        Mistake::Memory
-    }
-}
-
-impl From<io::Error> for Mistake {
-    fn from(error: io::Error) -> Mistake {
+    /// What keeps an entry from being followed where the system answers so.
+    pub fn of(error: &io::Error) -> Mistake {
         match error.kind() {
             io::ErrorKind::OutOfMemory => Mistake::Memory,
             io::ErrorKind::InvalidData => Mistake::Text,

@@ -1,141 +1,126 @@
 //! What was compared, and how it differs.
 use crate::answers::Answer;
-use crate::lines::Line;
-use crate::mistake::Mistake;
+use crate::bytes::Bytes;
+use crate::lines::{Entry, Word};
 use crate::texts::Texts;
+use bag_text::common_front;
+use memchr::memrchr;
 use std::alloc::Global;
 use std::str;
 
-/// How many cases there were, how often an answer was compared, how often it differed, and what is told of that.
+/// How many cases there were, how often an answer was compared, how often it differed, and what is told of that; and the mistake that
+/// keeps the files from being followed further.
 #[derive(Drop)]
 pub struct Report {
-    pub text: String,
+    pub text: Bytes,
     pub cases: u64,
     pub answers: u64,
     pub differ: u64,
 }
 
-/// Where an answer is wanted: the file, the line of the entry, and the lines of what is wanted.
+/// Where an answer is wanted: the file, the entry with what is wanted of it, and the texts that have a name there.
 #[derive(Clone, Copy)]
 pub struct Sight<'a> {
-    pub alloc: Global,
     pub file: &'a str,
     pub texts: &'a Texts,
-    pub line: Line<'a>,
-    pub part: &'a [Line<'a>],
+    pub entry: Entry<'a>,
 }
 
 impl Report {
     /// Nothing was compared yet.
     pub fn new(alloc: Global) -> Report {
         Report {
-            text: String::new(alloc),
+            text: Bytes::new(alloc),
             cases: 0,
             answers: 0,
             differ: 0,
         }
     }
 
-    /// Compares an answer of one side with the one that is wanted.
-    pub fn see(&mut self, sight: Sight<'_>, side: &str, found: &Answer) -> Result<(), Mistake> {
-        self.compare(sight, side, &sight.wanted()?, found)
+    /// Notes the mistake of bytes, where there is one.
+    pub fn note(&mut self, bytes: &Bytes) {
+        if let Some(mistake) = bytes.mistake {
+            self.text.fail(mistake);
+        }
     }
 
-    /// Compares what one side wrote, ended well and without a word, with the answer that is wanted.
-    pub fn see_written(
-        &mut self,
-        sight: Sight<'_>,
-        side: &str,
-        written: Vec<u8>,
-    ) -> Result<(), Mistake> {
-        self.see(sight, side, &Answer::of(sight.alloc, written))
+    /// Compares an answer of one side with the one that an entry wants; its status is 0 where none is given.
+    pub fn see(&mut self, sight: &Sight<'_>, side: &str, found: &Answer) {
+        let wanted = sight.texts.wanted(sight.entry.below, 0);
+        self.compare(sight, side, &wanted, found);
     }
 
     /// Compares an answer of one side with another one.
-    pub fn compare(
-        &mut self,
-        sight: Sight<'_>,
-        side: &str,
-        wanted: &Answer,
-        found: &Answer,
-    ) -> Result<(), Mistake> {
+    pub fn compare(&mut self, sight: &Sight<'_>, side: &str, wanted: &Answer, found: &Answer) {
         self.answers = self.answers.saturating_add(1);
-        if found.is_same(wanted) {
-            return Ok(());
+        if !found.is_same(wanted) {
+            self.note(&wanted.written);
+            self.note(&wanted.told);
+            self.note(&found.written);
+            self.tell(sight, side, wanted, found);
         }
+    }
+
+    /// Tells how an answer differs, unless there is a mistake.
+    fn tell(&mut self, sight: &Sight<'_>, side: &str, wanted: &Answer, found: &Answer) {
         self.differ = self.differ.saturating_add(1);
-        let number = sight.number(wanted, found)?;
-        writeln!(self.text, "{}:{number}: {side}", sight.file)?;
-        put_differences(&mut self.text, wanted, found)
+        if self.text.mistake.is_none() {
+            let text = &mut self.text;
+            text.show(&sight.file, ":");
+            text.show(&sight.number(wanted, found), ": ");
+            text.show(&side, "\n");
+            put_differences(text, wanted, found);
+        }
     }
 
     /// Adds the counts, in a line.
-    pub fn close(&mut self) -> Result<(), Mistake> {
-        let (cases, answers, differ) = (self.cases, self.answers, self.differ);
-        writeln!(
-            self.text,
-            "{cases} cases, {answers} answers, {differ} differ"
-        )?;
-        Ok(())
+    pub fn close(&mut self) {
+        let text = &mut self.text;
+        text.show(&self.cases, " cases, ");
+        text.show(&self.answers, " answers, ");
+        text.show(&self.differ, " differ\n");
     }
 }
 
 impl Sight<'_> {
-    /// The one answer that is wanted; its status is 0 where none is given.
-    fn wanted(&self) -> Result<Answer, Mistake> {
-        for line in self.part {
-            if line.word == "then" {
-                return Err(Mistake::Unasked);
-            }
-        }
-        self.texts.answer(self.alloc, self.part, 0)
-    }
-
     /// The number of the line that says what differs: the first whose bytes aren't found, or else the entry's.
-    fn number(&self, wanted: &Answer, found: &Answer) -> Result<usize, Mistake> {
-        if wanted.written.as_slice() != found.written.as_slice() {
-            return self.number_at("|", front(&wanted.written, &found.written));
+    fn number(&self, wanted: &Answer, found: &Answer) -> usize {
+        let written = front(&wanted.written.held, &found.written.held);
+        let told = front(&wanted.told.held, &found.told.held);
+        if !wanted.written.is_same(&found.written) {
+            self.number_at(Word::Written, written)
+        } else if !wanted.told.is_same(&found.told) {
+            self.number_at(Word::Told, told)
+        } else {
+            self.number_at(Word::Status, 0)
         }
-        if wanted.told.as_slice() != found.told.as_slice() {
-            return self.number_at("!", front(&wanted.told, &found.told));
-        }
-        self.number_at("?", 0)
     }
 
     /// The number of the line that begins with a word and has the byte at a place.
-    fn number_at(&self, word: &str, place: usize) -> Result<usize, Mistake> {
-        let mut number = self.line.number;
-        let mut bytes = Vec::new(self.alloc);
-        for line in self.part {
-            if line.word == word && bytes.len() <= place {
+    fn number_at(&self, word: Word, place: usize) -> usize {
+        let mut number = self.entry.line.number;
+        let mut bytes = Bytes::new(self.texts.alloc);
+        for line in self.entry.below {
+            if line.word == word && bytes.held.len() <= place {
                 number = line.number;
-                self.texts.add_line(line.rest, &mut bytes)?;
+                self.texts.add_line(line.rest, &mut bytes);
             }
         }
-        Ok(number)
+        number
     }
 }
 
 /// How many bytes of whole lines two texts begin with alike.
 fn front(a: &[u8], b: &[u8]) -> usize {
-    let mut end = 0usize;
-    for (place, (x, y)) in a.iter().zip(b).enumerate() {
-        if *x != *y {
-            break;
-        }
-        if *x == b'\n' {
-            end = place.saturating_add(1);
-        }
+    match memrchr(b'\n', common_front(a, b)) {
+        Some(place) => place.saturating_add(1),
+        None => 0,
     }
-    end
 }
 
-/// How many bytes of whole lines two texts end with alike.
-fn back(a: Option<&[u8]>, b: Option<&[u8]>) -> usize {
-    let (Some(a), Some(b)) = (a, b) else {
-        return 0;
-    };
-    let mut end = 0usize;
+/// How many bytes of whole lines two texts end with alike, behind the line ends that they begin with.
+fn back(a: &[u8], b: &[u8]) -> usize {
+    let mut end = 0;
     for (place, (x, y)) in a.iter().rev().zip(b.iter().rev()).enumerate() {
         if *x != *y {
             break;
@@ -148,47 +133,40 @@ fn back(a: Option<&[u8]>, b: Option<&[u8]>) -> usize {
 }
 
 /// Adds what differs in two answers.
-fn put_differences(text: &mut String, wanted: &Answer, found: &Answer) -> Result<(), Mistake> {
-    put_difference(text, "|", &wanted.written, &found.written)?;
-    put_difference(text, "!", &wanted.told, &found.told)?;
+fn put_differences(text: &mut Bytes, wanted: &Answer, found: &Answer) {
+    put_difference(text, "|", &wanted.written.held, &found.written.held);
+    put_difference(text, "!", &wanted.told.held, &found.told.held);
     if wanted.status != found.status {
-        writeln!(text, "- ? {}\n+ ? {}", wanted.status, found.status)?;
+        text.put("- ? ");
+        text.show(&wanted.status, "\n+ ? ");
+        text.show(&found.status, "\n");
     }
-    Ok(())
 }
 
 /// Adds the lines in which a wanted text and the one that was found differ.
-fn put_difference(
-    text: &mut String,
-    word: &str,
-    wanted: &[u8],
-    found: &[u8],
-) -> Result<(), Mistake> {
+fn put_difference(text: &mut Bytes, word: &str, wanted: &[u8], found: &[u8]) {
     let start = front(wanted, found);
     // the line end before, where there is one, is the same in both
     let before = start.saturating_sub(1);
-    let end = back(wanted.get(before..), found.get(before..));
+    let end = back(
+        wanted.get(before..).unwrap_or(&[]),
+        found.get(before..).unwrap_or(&[]),
+    );
     let wanted = wanted.get(start..wanted.len().saturating_sub(end));
     let found = found.get(start..found.len().saturating_sub(end));
-    put_lines(text, '-', word, wanted)?;
-    put_lines(text, '+', word, found)
+    put_lines(text, "- ", word, wanted.unwrap_or(&[]));
+    put_lines(text, "+ ", word, found.unwrap_or(&[]));
 }
 
 /// Adds lines with a mark and a word before each, and `\` behind the last where it has no end.
-fn put_lines(
-    text: &mut String,
-    mark: char,
-    word: &str,
-    bytes: Option<&[u8]>,
-) -> Result<(), Mistake> {
-    let bytes = bytes.unwrap_or(&[]);
+fn put_lines(text: &mut Bytes, mark: &str, word: &str, bytes: &[u8]) {
     let lines = str::from_utf8(bytes).unwrap_or("(bytes that are no text)\n");
-    for line in lines.lines() {
-        writeln!(text, "{mark} {word} {line}")?;
+    for line in lines.split_inclusive('\n') {
+        text.show(&mark, word);
+        text.put(" ");
+        text.put(line);
     }
     if !lines.is_empty() && !lines.ends_with('\n') {
-        let _ = text.pop();
-        text.push_str("\\\n")?;
+        text.put("\\\n");
     }
-    Ok(())
 }

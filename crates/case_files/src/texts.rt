@@ -1,6 +1,7 @@
 //! Texts as case files spell them, and those that have a name.
 use crate::answers::Answer;
-use crate::lines::Line;
+use crate::bytes::Bytes;
+use crate::lines::{Line, Word};
 use crate::mistake::Mistake;
 use std::alloc::Global;
 use std::collections::BTreeMap;
@@ -8,6 +9,7 @@ use std::collections::BTreeMap;
 /// The texts that have a name.
 #[derive(Drop)]
 pub struct Texts {
+    pub alloc: Global,
     named: BTreeMap<String, Vec<u8>>,
 }
 
@@ -15,154 +17,150 @@ impl Texts {
     /// No text has a name yet.
     pub fn new(alloc: Global) -> Texts {
         Texts {
+            alloc,
             named: BTreeMap::new(alloc),
         }
     }
 
-    /// Gives a text a name, which it has from then on.
-    pub fn name(&mut self, name: String, bytes: Vec<u8>) -> Result<(), Mistake> {
-        let _ = self.named.insert(name, bytes)?;
-        Ok(())
+    /// Gives a text a name, which it has from then on; says whether there was memory for that.
+    pub fn name(&mut self, name: &str, bytes: Vec<u8>) -> bool {
+        match String::from_str(self.alloc, name) {
+            Ok(name) => self.named.insert(name, bytes).is_ok(),
+            Err(_) => false,
+        }
     }
 
     /// Adds the text of a name, `NAME*3` three times.
-    fn add_named(&self, name: &str, bytes: &mut Vec<u8>) -> Result<(), Mistake> {
+    fn add_named(&self, name: &str, bytes: &mut Bytes) {
         let (name, times) = name.split_once('*').unwrap_or((name, "1"));
         let Some(named) = self.named.get(name) else {
-            return Err(Mistake::Name);
+            bytes.fail(Mistake::Name);
+            return;
         };
-        let Ok(times) = times.parse::<usize>() else {
-            return Err(Mistake::Number);
-        };
-        for _ in 0..times {
-            bytes.extend_from_slice(named)?;
+        let times = times.parse::<u32>().unwrap_or(0);
+        if times == 0 {
+            bytes.fail(Mistake::Number);
         }
-        Ok(())
+        for _ in 0..times {
+            bytes.put_bytes(named);
+        }
     }
 
-    /// Adds a text without escapes, in which `${NAME}` is a text with a name.
-    fn add_plain(&self, text: &str, bytes: &mut Vec<u8>) -> Result<(), Mistake> {
-        let (front, rest) = text.split_once("${").unwrap_or((text, ""));
-        bytes.extend_from_slice(front.as_bytes())?;
-        if rest.is_empty() {
-            return Ok(());
-        }
-        for piece in rest.split("${") {
-            let Some((name, plain)) = piece.split_once('}') else {
-                return Err(Mistake::Escape);
-            };
-            self.add_named(name, bytes)?;
-            bytes.extend_from_slice(plain.as_bytes())?;
-        }
-        Ok(())
+    /// Adds what `$` begins, where `{NAME}` stands behind it a text with a name; gives the rest.
+    fn add_behind_dollar<'a>(&self, text: &'a str, bytes: &mut Bytes) -> &'a str {
+        let Some(name) = text.strip_prefix('{') else {
+            bytes.put("$");
+            return text;
+        };
+        let Some((name, rest)) = name.split_once('}') else {
+            bytes.fail(Mistake::Escape);
+            return "";
+        };
+        self.add_named(name, bytes);
+        rest
     }
 
     /// Adds what a text spells; says whether it doesn't end in a `\`.
-    fn add(&self, text: &str, bytes: &mut Vec<u8>) -> Result<bool, Mistake> {
+    fn add(&self, text: &str, bytes: &mut Bytes) -> bool {
         let mut rest = text;
-        for _ in 0..=text.len() {
-            let Some((plain, escape)) = rest.split_once('\\') else {
-                self.add_plain(rest, bytes)?;
-                return Ok(true);
+        for _ in 0..text.len() {
+            let Some((plain, behind)) = rest.split_once(['\\', '$']) else {
+                break;
             };
-            self.add_plain(plain, bytes)?;
-            if escape.is_empty() {
-                return Ok(false);
+            bytes.put(plain);
+            if rest.as_bytes().get(plain.len()) == Some(&b'$') {
+                rest = self.add_behind_dollar(behind, bytes);
+            } else if behind.is_empty() {
+                return false;
+            } else {
+                rest = add_escaped(behind, bytes);
             }
-            rest = add_escaped(escape, bytes)?;
         }
-        Ok(true)
+        bytes.put(rest);
+        true
     }
 
-    /// The bytes that a text spells.
-    pub fn bytes(&self, alloc: Global, text: &str) -> Result<Vec<u8>, Mistake> {
-        let mut bytes = Vec::new(alloc);
-        self.add(text, &mut bytes)?;
-        Ok(bytes)
-    }
-
-    /// The text that a text spells.
-    pub fn text(&self, alloc: Global, text: &str) -> Result<String, Mistake> {
-        match String::from_utf8(self.bytes(alloc, text)?) {
-            Ok(text) => Ok(text),
-            Err(_) => Err(Mistake::Text),
-        }
+    /// Adds the bytes that a text spells.
+    pub fn add_text(&self, text: &str, bytes: &mut Bytes) {
+        let _ = self.add(text, bytes);
     }
 
     /// Adds the bytes of a line, with its end where it has no `\` there.
-    pub fn add_line(&self, line: &str, bytes: &mut Vec<u8>) -> Result<(), Mistake> {
-        if self.add(line, bytes)? {
-            bytes.push(b'\n')?;
+    pub fn add_line(&self, line: &str, bytes: &mut Bytes) {
+        if self.add(line, bytes) {
+            bytes.put("\n");
         }
-        Ok(())
     }
 
-    /// The bytes of those lines that begin with a word.
-    pub fn joined(
-        &self,
-        alloc: Global,
-        lines: &[Line<'_>],
-        word: &str,
-    ) -> Result<Vec<u8>, Mistake> {
-        let mut bytes = Vec::new(alloc);
+    /// The bytes that a text spells.
+    pub fn bytes(&self, text: &str) -> Bytes {
+        let mut bytes = Bytes::new(self.alloc);
+        self.add_text(text, &mut bytes);
+        bytes
+    }
+
+    /// The bytes of lines of an output, which no others may stand among.
+    pub fn lines(&self, lines: &[Line<'_>]) -> Bytes {
+        let mut bytes = Bytes::new(self.alloc);
         for line in lines {
-            if line.word == word {
-                self.add_line(line.rest, &mut bytes)?;
+            match line.word {
+                Word::Written => self.add_line(line.rest, &mut bytes),
+                _ => bytes.fail(Mistake::Unasked),
             }
         }
-        Ok(bytes)
+        bytes
     }
 
     /// The answer that lines want. Where they give no status it is this one.
-    pub fn answer(&self, alloc: Global, lines: &[Line<'_>], status: u8) -> Result<Answer, Mistake> {
-        let mut status = status;
+    pub fn wanted(&self, lines: &[Line<'_>], status: u8) -> Answer {
+        let mut answer = Answer::of(self.alloc, Bytes::new(self.alloc), status);
         for line in lines {
-            if line.word == "?" {
-                status = number_of(line.rest)?;
-            }
+            self.want(line, &mut answer);
         }
-        Ok(Answer {
-            written: self.joined(alloc, lines, "|")?,
-            told: self.joined(alloc, lines, "!")?,
-            status,
-        })
+        answer
+    }
+
+    /// Adds what a line wants.
+    fn want(&self, line: &Line<'_>, answer: &mut Answer) {
+        match line.word {
+            Word::Written => self.add_line(line.rest, &mut answer.written),
+            Word::Told => self.add_line(line.rest, &mut answer.told),
+            Word::Status => match line.rest.parse::<u8>() {
+                Ok(status) => answer.status = status,
+                Err(_) => answer.told.fail(Mistake::Number),
+            },
+            _ => answer.told.fail(Mistake::Unasked),
+        }
     }
 }
 
-fn number_of(text: &str) -> Result<u8, Mistake> {
-    match text.parse::<u8>() {
-        Ok(number) => Ok(number),
-        Err(_) => Err(Mistake::Number),
-    }
-}
+/// What a letter stands for behind a `\`.
+const ESCAPES: &[(char, &str)] = &[
+    ('\\', "\\"),
+    ('n', "\n"),
+    ('s', " "),
+    ('t', "\t"),
+    ('r', "\r"),
+    ('$', "$"),
+];
 
 /// Adds what is escaped at the front of a text, which stands behind a `\`; gives the rest.
-fn add_escaped<'a>(text: &'a str, bytes: &mut Vec<u8>) -> Result<&'a str, Mistake> {
-    let mut characters = text.chars();
-    let byte = match characters.next() {
-        Some('n') => b'\n',
-        Some('r') => b'\r',
-        Some('t') => b'\t',
-        Some('s') => b' ',
-        Some('\\') => b'\\',
-        Some('$') => b'$',
-        Some('x') => byte_of(characters.next(), characters.next())?,
-        Some(_) | None => return Err(Mistake::Escape),
-    };
-    bytes.push(byte)?;
-    Ok(characters.as_str())
-}
-
-/// The byte of two hex digits.
-fn byte_of(high: Option<char>, low: Option<char>) -> Result<u8, Mistake> {
-    match (digit(high), digit(low)) {
-        (Some(high), Some(low)) => Ok(high.wrapping_mul(16).wrapping_add(low)),
-        _ => Err(Mistake::Escape),
+fn add_escaped<'a>(text: &'a str, bytes: &mut Bytes) -> &'a str {
+    for (letter, escaped) in ESCAPES {
+        if let Some(rest) = text.strip_prefix(*letter) {
+            bytes.put(*escaped);
+            return rest;
+        }
     }
+    add_byte(text, bytes);
+    text.get(3..).unwrap_or("")
 }
 
-/// The value of a hex digit.
-fn digit(character: Option<char>) -> Option<u8> {
-    let digit = character?.to_digit(16)?;
-    u8::try_from(digit).ok()
+/// Adds the byte of the two hex digits behind an `x` at the front of a text.
+fn add_byte(text: &str, bytes: &mut Bytes) {
+    let digits = text.get(..3).unwrap_or("").strip_prefix('x').unwrap_or("");
+    match u8::from_str_radix(digits, 16) {
+        Ok(byte) if !digits.starts_with('+') => bytes.put_bytes(&[byte]),
+        Ok(_) | Err(_) => bytes.fail(Mistake::Escape),
+    }
 }

@@ -1,6 +1,7 @@
-//! What the program answers.
+//! What commands answer over the disk, and over disks in memory.
 use bag_cli::{Disks, Folders, WriterOut, program};
-use case_files::Answer;
+use bag_store::{FileEntry, FileTree, Tree};
+use case_files::{Answer, Bytes, Mistake};
 use std::alloc::Global;
 use std::io::{self, ErrorKind, Write};
 
@@ -36,8 +37,59 @@ pub(crate) fn answer_to<D: Disks>(alloc: Global, disks: &D, words: &[&str], room
     let status = program(alloc, &folders, words, &mut visits, &mut out, &mut told);
     let Room { taken, room: _ } = out.into_inner();
     Answer {
-        written: taken,
-        told,
+        written: Bytes::of(alloc, taken),
+        told: Bytes::of(alloc, told),
         status,
+    }
+}
+
+/// The one word of a command.
+fn only<'a>(words: &[&'a str], mistakes: &mut Bytes) -> &'a str {
+    match words {
+        [word] => *word,
+        _ => {
+            mistakes.fail(Mistake::Command);
+            ""
+        }
+    }
+}
+
+/// The paths of the files in a folder, each in a line.
+pub(crate) fn listed<D: Disks>(alloc: Global, disks: &D, words: &[&str]) -> Bytes {
+    let mut out = Bytes::new(alloc);
+    match disks.disk(alloc, only(words, &mut out)) {
+        Ok(disk) => {
+            let mut tree = FileTree::over(alloc, disk);
+            put_listing(&mut tree, false, &mut out);
+        }
+        Err(_) => out.fail(Mistake::Memory),
+    }
+    out
+}
+
+/// The bytes of a file.
+pub(crate) fn held<D: Disks>(alloc: Global, disks: &D, words: &[&str]) -> Bytes {
+    let mut out = Bytes::new(alloc);
+    match disks.read_file(alloc, only(words, &mut out), u32::MAX) {
+        Ok(bytes) => out.put_bytes(&bytes),
+        Err(_) => out.fail(Mistake::Name),
+    }
+    out
+}
+
+/// Adds the paths of the files of a tree, each in a line and behind its size, where that is asked for.
+pub(crate) fn put_listing<T: Tree>(tree: &mut T, has_sizes: bool, out: &mut Bytes) {
+    match tree.list() {
+        Ok(listing) => put_files(listing.files.as_slice(), has_sizes, out),
+        Err(_) => out.fail(Mistake::System),
+    }
+}
+
+fn put_files(files: &[FileEntry], has_sizes: bool, out: &mut Bytes) {
+    for file in files {
+        if has_sizes {
+            out.show(&file.size, " ");
+        }
+        out.show(&file.path, "\n");
     }
 }

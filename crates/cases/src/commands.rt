@@ -1,69 +1,61 @@
 //! What a command of a case asks for.
 use bag_disk::DiskFault;
-use case_files::{Mistake, words_of};
-use std::alloc::Global;
 
-/// What refuses a call.
+/// What a command does.
 #[derive(Clone, Copy)]
-pub(crate) enum Refusing {
-    /// A tree in memory.
-    Tree,
-    /// A disk in memory, by this fault.
-    Disk(DiskFault),
+pub(crate) enum Verb {
+    /// Runs the program.
+    Run,
+    /// Runs it over the folders on the disk alone.
+    RunOnDisk,
+    /// Runs it with an output that has room for so many bytes.
+    RunWithRoom(usize),
+    /// Runs it over a tree in memory of which each call is refused in turn.
+    RefuseTree,
+    /// Runs it over disks in memory of which each call is refused in turn, by this fault.
+    RefuseDisk(DiskFault),
+    /// Lists the files of a folder.
+    List,
+    /// Writes what a file holds.
+    Write,
+    /// Writes the faults of one stage.
+    Stage,
 }
 
-impl Refusing {
-    /// What a word asks for.
-    fn of(word: &str) -> Result<Refusing, Mistake> {
-        match word {
-            "tree" => Ok(Refusing::Tree),
-            "disk" => Ok(Refusing::Disk(DiskFault::Device)),
-            "disk:memory" => Ok(Refusing::Disk(DiskFault::Memory)),
-            "disk:name" => Ok(Refusing::Disk(DiskFault::Name)),
-            "disk:not-found" => Ok(Refusing::Disk(DiskFault::NotFound)),
-            _ => Err(Mistake::Command),
+/// How commands begin that have no number.
+const VERBS: &[(&str, Verb)] = &[
+    ("stage ", Verb::Stage),
+    ("bagit ", Verb::Run),
+    ("cat ", Verb::Write),
+    ("REFUSE=tree bagit ", Verb::RefuseTree),
+    ("ls ", Verb::List),
+    (
+        "REFUSE=disk:memory bagit ",
+        Verb::RefuseDisk(DiskFault::Memory),
+    ),
+    ("REFUSE=disk bagit ", Verb::RefuseDisk(DiskFault::Device)),
+    (
+        "REFUSE=disk:not-found bagit ",
+        Verb::RefuseDisk(DiskFault::NotFound),
+    ),
+    ("REFUSE=disk:name bagit ", Verb::RefuseDisk(DiskFault::Name)),
+    ("on-disk ", Verb::RunOnDisk),
+];
+
+/// What a command does, and its words, as of `ROOM=10 bagit --validate d`. Behind the last word stands a space.
+pub(crate) fn verb_of(text: &str) -> Option<(Verb, &str)> {
+    for (start, verb) in VERBS {
+        if let Some(words) = text.strip_prefix(*start) {
+            return Some((*verb, words));
         }
     }
+    verb_with_room(text)
 }
 
-/// A command: what refuses its calls in turn, the room of its output, its name, and its words.
-#[derive(Drop)]
-pub(crate) struct Command<'a> {
-    pub(crate) refusing: Option<Refusing>,
-    pub(crate) room: Option<usize>,
-    pub(crate) name: &'a str,
-    pub(crate) words: Vec<&'a str>,
-}
-
-impl<'a> Command<'a> {
-    /// Reads a command, as `ROOM=10 bagit --validate d`.
-    pub(crate) fn of(alloc: Global, text: &'a str) -> Result<Command<'a>, Mistake> {
-        let mut refusing = None;
-        let mut room = None;
-        let mut rest = text;
-        if let Some(given) = text.strip_prefix("REFUSE=") {
-            let (what, behind) = given.split_once(' ').unwrap_or((given, ""));
-            refusing = Some(Refusing::of(what)?);
-            rest = behind;
-        }
-        if let Some(given) = text.strip_prefix("ROOM=") {
-            let (bytes, behind) = given.split_once(' ').unwrap_or((given, ""));
-            room = Some(number_of(bytes)?);
-            rest = behind;
-        }
-        let (name, words) = rest.split_once(' ').unwrap_or((rest, ""));
-        Ok(Command {
-            refusing,
-            room,
-            name,
-            words: words_of(alloc, words)?,
-        })
-    }
-}
-
-fn number_of(text: &str) -> Result<usize, Mistake> {
-    match text.parse::<usize>() {
-        Ok(number) => Ok(number),
-        Err(_) => Err(Mistake::Number),
+fn verb_with_room(text: &str) -> Option<(Verb, &str)> {
+    let (room, words) = text.strip_prefix("ROOM=")?.split_once(" bagit ")?;
+    match room.parse::<usize>() {
+        Ok(room) => Some((Verb::RunWithRoom(room), words)),
+        Err(_) => None,
     }
 }

@@ -1,133 +1,135 @@
 //! Files of cases, which are followed one after another.
 use crate::session::Session;
-use case_files::{Answer, Line, Mistake, Report, entry_at, lines_of};
+use case_files::{Answer, Bytes, Entry, Line, Mistake, Report, Word, below, lines_of};
 use std::fs;
 
-/// Where a file can't be followed further, and why. The line is 0 where none of it was.
+/// How far a file was followed. The line is 0 where none of it was.
 #[derive(Clone, Copy)]
-pub(crate) struct Stopped<'a> {
+pub(crate) struct Place<'a> {
     pub(crate) file: &'a str,
     pub(crate) line: usize,
-    pub(crate) mistake: Mistake,
 }
+
+/// What is found where a file of cases runs another one.
+trait Others {
+    fn found(&self, rt: &HostRuntime, file: &str) -> Answer;
+}
+
+/// Other files are followed, and run none themselves.
+struct Followed;
+
+/// No other file is run.
+struct Refused;
 
 /// Follows files one after another, up to what can't be followed, and adds the counts at the end.
 pub(crate) fn run_files<'a>(
     rt: &HostRuntime,
     files: &'a [String],
     report: &mut Report,
-) -> Result<(), Stopped<'a>> {
+) -> Place<'a> {
+    let mut line = 0;
     for file in files {
-        let (file, mut line) = (file.as_str(), 0);
-        if let Err(mistake) = follow_all(rt, file, &mut line, report) {
-            return Err(Stopped {
-                file,
-                line,
-                mistake,
-            });
+        let file = file.as_str();
+        follow_file(rt, &Followed, file, &mut line, report);
+        if report.text.mistake.is_some() {
+            return Place { file, line };
         }
     }
-    match report.close() {
-        Ok(()) => Ok(()),
-        Err(mistake) => Err(Stopped {
-            file: "",
-            line: 0,
-            mistake,
-        }),
+    report.close();
+    Place { file: "", line: 0 }
+}
+
+/// Follows the entries of a file. Notes the line of each.
+fn follow_file<O: Others>(
+    rt: &HostRuntime,
+    others: &O,
+    file: &str,
+    line: &mut usize,
+    report: &mut Report,
+) {
+    *line = 0;
+    match fs::read_to_string(rt, file) {
+        Ok(text) => match lines_of(rt.alloc(), text.as_str()) {
+            Ok(lines) => follow_lines(rt, others, file, &lines, line, report),
+            Err(_) => report.text.fail(Mistake::Memory),
+        },
+        Err(error) => report.text.fail(Mistake::of(&error)),
     }
 }
 
-/// Follows the entries of a file, also those that run other files. Notes the line of each.
-fn follow_all(
+fn follow_lines<'a, O: Others>(
     rt: &HostRuntime,
-    file: &str,
-    line: &mut usize,
-    report: &mut Report,
-) -> Result<(), Mistake> {
-    let text = fs::read_to_string(rt, file)?;
-    let lines = lines_of(rt.alloc(), text.as_str())?;
-    let mut session = Session::new(rt.alloc())?;
-    follow_entries(rt, file, &lines, &mut session, line, report)
-}
-
-fn follow_entries<'a>(
-    rt: &HostRuntime,
+    others: &O,
     file: &str,
     lines: &'a [Line<'a>],
-    session: &mut Session,
-    line: &mut usize,
+    number: &mut usize,
     report: &mut Report,
-) -> Result<(), Mistake> {
-    for place in 0..lines.len() {
-        if let Some(entry) = entry_at(lines, place) {
-            *line = entry.line.number;
-            match entry.line.rest.strip_prefix("cases ") {
-                Some(other) if entry.line.word == "$" => {
-                    let found = found_in(rt, other)?;
-                    report.see(
-                        session.sight(rt.alloc(), file, entry),
-                        "this program",
-                        &found,
-                    )?;
+) {
+    let mut session = Session::new(rt.alloc());
+    for (place, line) in lines.iter().enumerate() {
+        // the first line of a file is an entry, whatever it says
+        if place == 0 || !line.word.is_wanted() {
+            *number = line.number;
+            let below = below(lines, place);
+            let entry = Entry { line: *line, below };
+            match other_of(entry) {
+                Some(other) => {
+                    let found = others.found(rt, other);
+                    session.compare(file, entry, "this program", &found, report);
                 }
-                Some(_) | None => session.follow(rt, file, entry, report)?,
+                None => {
+                    let before = lines.get(..place).unwrap_or(&[]);
+                    session.follow(rt, file, before, entry, report);
+                }
+            }
+            if report.text.mistake.is_some() {
+                return;
             }
         }
     }
-    session.end(rt)
+    session.end(rt, report);
 }
 
-/// Follows the entries of a file that runs no others.
-fn follow(
-    rt: &HostRuntime,
-    file: &str,
-    line: &mut usize,
-    report: &mut Report,
-) -> Result<(), Mistake> {
-    let text = fs::read_to_string(rt, file)?;
-    let lines = lines_of(rt.alloc(), text.as_str())?;
-    let mut session = Session::new(rt.alloc())?;
-    follow_plain_entries(rt, file, &lines, &mut session, line, report)
+/// The file that an entry runs, where it runs one.
+fn other_of(entry: Entry<'_>) -> Option<&str> {
+    match entry.line.word {
+        Word::Run => entry.line.rest.strip_prefix("cases "),
+        _ => None,
+    }
 }
 
-fn follow_plain_entries<'a>(
-    rt: &HostRuntime,
-    file: &str,
-    lines: &'a [Line<'a>],
-    session: &mut Session,
-    line: &mut usize,
-    report: &mut Report,
-) -> Result<(), Mistake> {
-    for place in 0..lines.len() {
-        if let Some(entry) = entry_at(lines, place) {
-            *line = entry.line.number;
-            session.follow(rt, file, entry, report)?;
+impl Others for Followed {
+    /// What this program prints for a file alone, and its status.
+    fn found(&self, rt: &HostRuntime, file: &str) -> Answer {
+        let mut report = Report::new(rt.alloc());
+        let mut line = 0;
+        follow_file(rt, &Refused, file, &mut line, &mut report);
+        let mut told = Bytes::new(rt.alloc());
+        let status = match report.text.mistake {
+            None => {
+                report.close();
+                u8::from(report.differ != 0)
+            }
+            Some(mistake) => {
+                told.show(&file, ":");
+                told.show(&line, ": ");
+                told.show(&mistake.text(), "\n");
+                2
+            }
+        };
+        let written = Bytes::of(rt.alloc(), report.text.held);
+        Answer {
+            written,
+            told,
+            status,
         }
     }
-    session.end(rt)
 }
 
-/// `cases FILE`: what this program prints for a file alone, and its status.
-fn found_in(rt: &HostRuntime, file: &str) -> Result<Answer, Mistake> {
-    let mut report = Report::new(rt.alloc());
-    let mut told = String::new(rt.alloc());
-    let mut line = 0;
-    let status = match follow(rt, file, &mut line, &mut report) {
-        Ok(()) => closed(&mut report)?,
-        Err(mistake) => {
-            writeln!(told, "{file}:{line}: {}", mistake.text())?;
-            2
-        }
-    };
-    Ok(Answer {
-        written: report.text.into_bytes(),
-        told: told.into_bytes(),
-        status,
-    })
-}
-
-/// The status where a file was followed to its end.
-fn closed(report: &mut Report) -> Result<u8, Mistake> {
-    report.close()?;
-    Ok(u8::from(report.differ != 0))
+impl Others for Refused {
+    fn found(&self, rt: &HostRuntime, _file: &str) -> Answer {
+        let mut written = Bytes::new(rt.alloc());
+        written.fail(Mistake::Command);
+        Answer::of(rt.alloc(), written, 2)
+    }
 }

@@ -6,35 +6,31 @@ mod answers;
 mod commands;
 mod files;
 mod on_disk;
-mod put;
 mod running;
 mod session;
 mod shelf;
-mod shelf_disk;
 mod stages;
 mod trees;
 mod turns;
+mod world;
 
-use crate::files::{Stopped, run_files};
+use crate::files::{Place, run_files};
 use case_files::Report;
+use std::env;
+use std::io::{self, Write};
 use std::process::ExitCode;
-use std::{env, io};
 
 /// Prints what differs, also on the error output, of which the gate shows the end; or why a file can't be followed.
-fn close(
-    rt: &HostRuntime,
-    report: &Report,
-    stopped: Result<(), Stopped<'_>>,
-) -> io::Result<ExitCode> {
-    print!(rt; "{}", report.text)?;
-    match stopped {
-        Ok(()) if report.differ == 0 => Ok(ExitCode::SUCCESS),
-        Ok(()) => {
-            eprint!(rt; "{}", report.text)?;
+fn close(rt: &HostRuntime, report: &Report, at: Place<'_>) -> io::Result<ExitCode> {
+    rt.stdout().write_all(&report.text.held)?;
+    match report.text.mistake {
+        None if report.differ == 0 => Ok(ExitCode::SUCCESS),
+        None => {
+            rt.stderr().write_all(&report.text.held)?;
             Ok(ExitCode::FAILURE)
         }
-        Err(at) => {
-            eprintln!(rt; "{}:{}: {}", at.file, at.line, at.mistake.text())?;
+        Some(mistake) => {
+            eprintln!(rt; "{}:{}: {}", at.file, at.line, mistake.text())?;
             Ok(ExitCode::from(2))
         }
     }
@@ -43,6 +39,6 @@ fn close(
 fn main(rt: HostRuntime) -> io::Result<ExitCode> {
     let files: Vec<String> = env::args(&rt)?.skip(1).collect(rt.alloc())?;
     let mut report = Report::new(rt.alloc());
-    let stopped = run_files(&rt, &files, &mut report);
-    close(&rt, &report, stopped)
+    let at = run_files(&rt, &files, &mut report);
+    close(&rt, &report, at)
 }

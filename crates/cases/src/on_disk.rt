@@ -1,50 +1,43 @@
-//! Folders on the disk, in the folder that the program runs in.
-use crate::trees::paths_of;
-use bag_store::FileTree;
-use case_files::{Folder, Mistake, Sort, Spot};
+//! What stands on the disk, in the folder in which the program runs.
+use case_files::Word;
+use std::io::{self, ErrorKind};
 use std::os::unix::fs::symlink;
 use std::{fs, str};
+use test_disk::Node;
 
 /// Makes a folder anew.
-pub(crate) fn make(rt: &HostRuntime, folder: &Folder) -> Result<(), Mistake> {
-    let name = folder.name.as_str();
-    remove(rt, name)?;
-    fs::create_dir(rt, name)?;
-    for spot in &folder.spots {
-        put(rt, name, spot)?;
-    }
-    Ok(())
-}
-
-/// Removes a folder, where it is there.
-pub(crate) fn remove(rt: &HostRuntime, name: &str) -> Result<(), Mistake> {
+pub(crate) fn make_folder(rt: &HostRuntime, name: &str) -> io::Result<()> {
     if fs::exists(rt, name)? {
         fs::remove_dir_all(rt, name)?;
     }
-    Ok(())
+    fs::create_dir(rt, name)
 }
 
-/// Puts something below a folder, and makes the folders that it needs.
-pub(crate) fn put(rt: &HostRuntime, base: &str, spot: &Spot) -> Result<(), Mistake> {
-    let place = format!(in rt.alloc(); "{base}/{}", spot.path)?;
-    let place = place.as_str();
-    if let Some((parent, _)) = place.rsplit_once('/') {
+/// Puts something at a path, and makes the folders that it needs.
+pub(crate) fn put(rt: &HostRuntime, word: Word, path: &str, bytes: &[u8]) -> io::Result<()> {
+    if let Some((parent, _)) = path.rsplit_once('/') {
         fs::create_dir_all(rt, parent)?;
     }
-    match spot.sort {
-        Sort::File => fs::write(rt, place, spot.bytes.as_slice())?,
-        Sort::Folder => fs::create_dir_all(rt, place)?,
-        Sort::Link => match str::from_utf8(&spot.bytes) {
-            Ok(target) => symlink(rt, target, place)?,
-            Err(_) => return Err(Mistake::Text),
-        },
-        Sort::Opened => {}
+    match word {
+        Word::Folder => fs::create_dir_all(rt, path),
+        Word::Link => link(rt, path, bytes),
+        Word::Opened => Ok(()),
+        _ => fs::write(rt, path, bytes),
     }
-    Ok(())
 }
 
-/// The paths of the files in a folder, each in a line.
-pub(crate) fn listed(rt: &HostRuntime, name: &str) -> Result<Vec<u8>, Mistake> {
-    let mut tree = FileTree::at(rt.clone()?, rt.alloc(), name)?;
-    paths_of(rt.alloc(), &mut tree)
+/// Makes a link to the path that bytes say.
+fn link(rt: &HostRuntime, path: &str, bytes: &[u8]) -> io::Result<()> {
+    match str::from_utf8(bytes) {
+        Ok(target) => symlink(rt, target, path),
+        Err(_) => Err(io::Error::from(ErrorKind::InvalidData)),
+    }
+}
+
+/// Removes what stands at a path.
+pub(crate) fn remove(rt: &HostRuntime, path: &str, node: &Node) -> io::Result<()> {
+    match node {
+        Node::Folder => fs::remove_dir_all(rt, path),
+        Node::File(_) | Node::Other => fs::remove_file(rt, path),
+    }
 }

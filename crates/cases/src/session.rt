@@ -1,159 +1,279 @@
 //! A session over a file of cases: its entries are followed one after another.
-use crate::{on_disk, put, running};
-use case_files::{Answer, Entry, Folder, Mistake, Report, Sight, Sort, Texts, words_of};
-use case_readers::Reader;
+use crate::running::run;
+use crate::world::World;
+use case_files::{
+    Answer, Bytes, Entry, Line, Mistake, Reader, Report, Sight, Texts, Word, below, words_of,
+};
 use std::alloc::Global;
-use std::fs;
 
 /// What a file has said up to an entry.
 #[derive(Drop)]
 pub(crate) struct Session {
     texts: Texts,
-    /// Bags with a name, which cases begin with.
-    bags: Vec<Folder>,
-    /// Whether what is put goes into the last of them.
+    /// What stands in the folders of the case, and beside them.
+    world: World,
+    /// The last of these folders, with a `/` behind its name.
+    folder: Bytes,
+    /// Whether what is put belongs to a bag: then it goes into each folder that begins with that.
     is_bag: bool,
-    /// The folders of the case.
-    folders: Vec<Folder>,
-    /// Files beside them.
-    beside: Folder,
     /// What reads the rows of the case.
     reader: Option<Reader>,
 }
 
 /// What an entry wants, as texts spell it.
-fn sight_of<'a>(alloc: Global, file: &'a str, texts: &'a Texts, entry: Entry<'a>) -> Sight<'a> {
-    Sight {
-        alloc,
-        file,
-        texts,
-        line: entry.line,
-        part: entry.below,
-    }
+fn sight_of<'a>(file: &'a str, texts: &'a Texts, entry: Entry<'a>) -> Sight<'a> {
+    Sight { file, texts, entry }
 }
 
 impl Session {
-    pub(crate) fn new(alloc: Global) -> Result<Session, Mistake> {
-        Ok(Session {
+    pub(crate) fn new(alloc: Global) -> Session {
+        Session {
             texts: Texts::new(alloc),
-            bags: Vec::new(alloc),
+            world: World::new(alloc),
+            folder: Bytes::new(alloc),
             is_bag: false,
-            folders: Vec::new(alloc),
-            beside: Folder::named(alloc, ".")?,
             reader: None,
-        })
-    }
-
-    /// What an entry wants, as the texts so far spell it.
-    pub(crate) fn sight<'a>(&'a self, alloc: Global, file: &'a str, entry: Entry<'a>) -> Sight<'a> {
-        sight_of(alloc, file, &self.texts, entry)
-    }
-
-    /// Follows an entry.
-    pub(crate) fn follow(
-        &mut self,
-        rt: &HostRuntime,
-        file: &str,
-        entry: Entry<'_>,
-        report: &mut Report,
-    ) -> Result<(), Mistake> {
-        let alloc = rt.alloc();
-        match entry.line.word {
-            "$" => {
-                let sight = sight_of(alloc, file, &self.texts, entry);
-                running::run(rt, sight, &mut self.folders, &self.beside, report)
-            }
-            "text" => put::name_text(alloc, &mut self.texts, entry),
-            "file" => self.put(rt, Sort::File, entry),
-            "folder" => self.put(rt, Sort::Folder, entry),
-            "link" => self.put(rt, Sort::Link, entry),
-            "opened" => self.put(rt, Sort::Opened, entry),
-            "beside" => put::put_beside(rt, &self.texts, &mut self.beside, entry),
-            _ if !entry.below.is_empty() => Err(Mistake::Unasked),
-            "-" => self.read_row(alloc, file, entry, report),
-            word => self.begin(rt, word, entry.line.rest, report),
         }
     }
 
-    /// Begins a bag, a case, a folder or rows.
-    fn begin(
+    /// Compares an answer with the one that an entry wants.
+    pub(crate) fn compare(
+        &self,
+        file: &str,
+        entry: Entry<'_>,
+        side: &str,
+        found: &Answer,
+        report: &mut Report,
+    ) {
+        let sight = sight_of(file, &self.texts, entry);
+        report.see(&sight, side, found);
+    }
+
+    /// Follows an entry, before which these lines stand.
+    pub(crate) fn follow<'a>(
         &mut self,
         rt: &HostRuntime,
-        word: &str,
-        rest: &str,
+        file: &str,
+        lines: &'a [Line<'a>],
+        entry: Entry<'a>,
         report: &mut Report,
-    ) -> Result<(), Mistake> {
-        match word {
-            "case" => {
+    ) {
+        match entry.line.word {
+            Word::Run => {
+                let sight = sight_of(file, &self.texts, entry);
+                run(rt, &sight, &mut self.world, report);
+            }
+            Word::File | Word::Folder | Word::Link | Word::Opened => self.put(rt, entry, report),
+            Word::Beside => put(rt, &self.texts, &[], entry, &mut self.world, report),
+            Word::Text => name_text(&mut self.texts, entry, report),
+            _ if !entry.below.is_empty() => report.text.fail(Mistake::Unasked),
+            Word::Row => self.read_row(file, entry, report),
+            _ => self.begin(rt, lines, entry.line, report),
+        }
+    }
+
+    /// Begins a case, a bag, a folder or rows.
+    fn begin<'a>(
+        &mut self,
+        rt: &HostRuntime,
+        lines: &'a [Line<'a>],
+        line: Line<'a>,
+        report: &mut Report,
+    ) {
+        match line.word {
+            Word::Case => {
                 report.cases = report.cases.saturating_add(1);
-                self.end(rt)
+                self.end(rt, report);
             }
-            "bag" => {
-                self.is_bag = true;
-                self.bags.push(Folder::named(rt.alloc(), rest)?)?;
-                Ok(())
+            Word::Bag => self.is_bag = true,
+            Word::In => {
+                let words = words_of(rt.alloc(), line.rest, &mut report.text);
+                self.begin_folder(rt, lines, &words, report);
             }
-            "in" => put::begin_folder(rt, &self.bags, &mut self.folders, rest),
-            "read" => {
-                self.reader = Some(Reader::of(&words_of(rt.alloc(), rest)?)?);
-                Ok(())
+            Word::Read => {
+                let words = words_of(rt.alloc(), line.rest, &mut report.text);
+                self.read_by(&words, report);
             }
-            _ => Err(Mistake::Entry),
+            _ => report.text.fail(Mistake::Entry),
+        }
+    }
+
+    /// `read READER`: what reads the rows below.
+    fn read_by(&mut self, words: &[&str], report: &mut Report) {
+        self.reader = Reader::of(words);
+        if self.reader.is_none() {
+            report.text.fail(Mistake::Command);
+        }
+    }
+
+    /// `in FOLDER BAG..`: begins a folder, in memory and on the disk, which holds what the named bags do.
+    fn begin_folder<'a>(
+        &mut self,
+        rt: &HostRuntime,
+        lines: &'a [Line<'a>],
+        words: &[&str],
+        report: &mut Report,
+    ) {
+        let Some((name, bags)) = words.split_first() else {
+            report.text.fail(Mistake::Command);
+            return;
+        };
+        self.is_bag = false;
+        self.folder = Bytes::new(rt.alloc());
+        self.folder.put(*name);
+        self.folder.put("/");
+        self.world.make_folder(rt, *name, report);
+        for bag in bags {
+            let folder = &self.folder.held;
+            put_bag(
+                rt,
+                &self.texts,
+                folder,
+                lines,
+                *bag,
+                &mut self.world,
+                report,
+            );
         }
     }
 
     /// Ends the case before, and removes its folders and files.
-    pub(crate) fn end(&mut self, rt: &HostRuntime) -> Result<(), Mistake> {
+    pub(crate) fn end(&mut self, rt: &HostRuntime, report: &mut Report) {
         self.is_bag = false;
         self.reader = None;
-        for folder in &self.folders {
-            on_disk::remove(rt, folder.name.as_str())?;
-        }
-        for spot in &self.beside.spots {
-            fs::remove_file(rt, spot.path.as_str())?;
-        }
-        self.folders.clear();
-        self.beside.spots.clear();
-        Ok(())
+        self.folder.held.clear();
+        self.world.remove(rt, report);
     }
 
-    /// Puts something into the last bag, or into the last folder, also on the disk.
-    fn put(&mut self, rt: &HostRuntime, sort: Sort, entry: Entry<'_>) -> Result<(), Mistake> {
-        let spot = put::spot_of(rt.alloc(), &self.texts, sort, entry)?;
+    /// Puts something into the last folder; of a bag it is only seen whether it can be read.
+    fn put(&mut self, rt: &HostRuntime, entry: Entry<'_>, report: &mut Report) {
         if self.is_bag {
-            return put::put_last(&mut self.bags, spot);
+            let _ = spelled(&self.texts, &[], entry, report);
+        } else if self.folder.held.is_empty() {
+            report.text.fail(Mistake::Place);
+        } else {
+            let folder = &self.folder.held;
+            put(rt, &self.texts, folder, entry, &mut self.world, report);
         }
-        if let Some(folder) = self.folders.last() {
-            on_disk::put(rt, folder.name.as_str(), &spot)?;
-        }
-        put::put_last(&mut self.folders, spot)
     }
 
     /// Reads a row, as `LEFT => RIGHT`, and compares what is read.
-    fn read_row(
-        &self,
-        alloc: Global,
-        file: &str,
-        entry: Entry<'_>,
-        report: &mut Report,
-    ) -> Result<(), Mistake> {
-        let Some(reader) = self.reader else {
-            return Err(Mistake::Row);
-        };
-        let Some((left, right)) = entry.line.rest.split_once("=>") else {
-            return Err(Mistake::Row);
-        };
-        let found = self.read(alloc, reader, left.trim_matches(' '))?;
-        let wanted = self.texts.bytes(alloc, right.trim_matches(' '))?;
-        let wanted = Answer::of(alloc, wanted);
-        report.compare(self.sight(alloc, file, entry), "read", &wanted, &found)
+    fn read_row(&self, file: &str, entry: Entry<'_>, report: &mut Report) {
+        match (self.reader, entry.line.rest.split_once("=>")) {
+            (Some(reader), Some((left, right))) => {
+                let sight = sight_of(file, &self.texts, entry);
+                read(
+                    reader,
+                    left.trim_matches(' '),
+                    right.trim_matches(' '),
+                    &sight,
+                    report,
+                );
+            }
+            _ => report.text.fail(Mistake::Row),
+        }
     }
+}
 
-    /// What a reader reads of what a text spells.
-    fn read(&self, alloc: Global, reader: Reader, text: &str) -> Result<Answer, Mistake> {
-        let bytes = self.texts.bytes(alloc, text)?;
-        let mut found = Answer::of(alloc, Vec::new(alloc));
-        reader.read(alloc, &bytes, &mut found.written)?;
-        Ok(found)
+/// Compares what is read of what one text spells with what another one does.
+fn read(reader: Reader, left: &str, right: &str, sight: &Sight<'_>, report: &mut Report) {
+    let texts = sight.texts;
+    let bytes = texts.bytes(left);
+    report.note(&bytes);
+    let mut found = Bytes::new(texts.alloc);
+    reader.read(texts.alloc, &bytes.held, &mut found);
+    let found = Answer::of(texts.alloc, found, 0);
+    let wanted = Answer::of(texts.alloc, texts.bytes(right), 0);
+    report.compare(sight, "read", &wanted, &found);
+}
+
+/// The name in an entry and its value, as in `NAME = VALUE`.
+fn name_and_value(rest: &str) -> (&str, Option<&str>) {
+    match (rest.split_once(" = "), rest.strip_suffix(" =")) {
+        (Some((name, value)), _) => (name, Some(value)),
+        (None, Some(name)) => (name, Some("")),
+        (None, None) => (rest, None),
+    }
+}
+
+/// The bytes of an entry: those of its value, where it has one, or else of the lines below it.
+fn value_of(texts: &Texts, value: Option<&str>, below: &[Line<'_>]) -> Bytes {
+    match value {
+        Some(value) if below.is_empty() => texts.bytes(value),
+        Some(_) => {
+            let mut bytes = Bytes::new(texts.alloc);
+            bytes.fail(Mistake::Unasked);
+            bytes
+        }
+        None => texts.lines(below),
+    }
+}
+
+/// The path at which an entry puts something, below a folder, and what that holds.
+fn spelled(texts: &Texts, folder: &[u8], entry: Entry<'_>, report: &mut Report) -> (Bytes, Bytes) {
+    let (name, value) = name_and_value(entry.line.rest);
+    let mut path = Bytes::new(texts.alloc);
+    path.put_bytes(folder);
+    texts.add_text(name, &mut path);
+    report.note(&path);
+    let bytes = value_of(texts, value, entry.below);
+    report.note(&bytes);
+    (path, bytes)
+}
+
+/// Puts something below a folder, in memory and on the disk.
+fn put(
+    rt: &HostRuntime,
+    texts: &Texts,
+    folder: &[u8],
+    entry: Entry<'_>,
+    world: &mut World,
+    report: &mut Report,
+) {
+    let (path, bytes) = spelled(texts, folder, entry, report);
+    if report.text.mistake.is_none() {
+        world.put(rt, entry.line.word, &path.held, bytes.held, report);
+    }
+}
+
+/// Puts what stands in the bag of a name into a folder.
+fn put_bag<'a>(
+    rt: &HostRuntime,
+    texts: &Texts,
+    folder: &[u8],
+    lines: &'a [Line<'a>],
+    name: &str,
+    world: &mut World,
+    report: &mut Report,
+) {
+    let mut is_in = false;
+    let mut is_there = false;
+    for (place, line) in lines.iter().enumerate() {
+        match line.word {
+            Word::Bag => {
+                is_in = line.rest == name;
+                is_there |= is_in;
+            }
+            Word::Case | Word::In => is_in = false,
+            Word::File | Word::Folder | Word::Link | Word::Opened if is_in => {
+                let below = below(lines, place);
+                let entry = Entry { line: *line, below };
+                put(rt, texts, folder, entry, world, report);
+            }
+            _ => {}
+        }
+    }
+    if !is_there {
+        report.text.fail(Mistake::Name);
+    }
+}
+
+/// `text NAME = VALUE`: gives a text a name.
+fn name_text(texts: &mut Texts, entry: Entry<'_>, report: &mut Report) {
+    let (name, value) = name_and_value(entry.line.rest);
+    let bytes = value_of(texts, value, entry.below);
+    report.note(&bytes);
+    if !texts.name(name, bytes.held) {
+        report.text.fail(Mistake::Memory);
     }
 }
