@@ -55,7 +55,7 @@ use Rattle.bag_walk.specs.Steps.{left, shown, shown_by, went, GoesOn, LendsNext}
 use Rattle.bag_walk.proofs.Lending.{lends_next, stops_there}
 use Rattle.std.specs.contracts.result.Result.{the_row as result}
 use Rattle.std.proofs.result.Result.TheLaws.{the_row_laws as result_laws}
-use Rattle.bag_tree.specs.contracts.fault.Stop.{the_row as stop_row}
+use Rattle.bag_tree.specs.contracts.tree_fault.Stop.{the_row as stop_row}
 use Rattle.bag_tree.proofs.tree_fault.Stop.TheLaws.{the_row_laws as stop_laws}
 use Rattle.bag_walk.specs.contracts.steps.Steps.{the_row}
 use Rattle.bag_walk.proofs.steps.Steps.TheLaws.{the_row_laws}
