@@ -1,5 +1,5 @@
 -- Checks and their statuses.
-use Rattle.std.proofs.Common.{◌≡◌, inl, inr, ◌≤◌, ◌∷◌, ◌++◌, [], Bool, ℕ, List, Option, refl, sym, subst, arith}
+use Rattle.std.proofs.Common.{◌≡◌, inl, inr, ◌≤◌, ◌∷◌, ◌++◌, [], Bool, ℕ, List, Option, refl, sym, ap, ◌∙◌, subst, arith}
 use Rattle.std.specs.Prelude.{IfSome, MatchOption, MatchResult}
 use Rattle.std.specs.declared.result.Result.{Result}
 use Rattle.std.specs.declared.result.Result.TheVariants.{Ok, Err}
@@ -11,7 +11,7 @@ use Rattle.bag_walk.specs.declared.outcome.Outcome.TheVariants.{Clean, Faults, S
 use Rattle.bag_profile.specs.Profile.{Profile}
 use Rattle.bag_arguments.specs.declared.plan.Plan.{Plan}
 use Rattle.bag_walk.specs.declared.outcome.Request.{Request}
-use Rattle.bag_cli.specs.Checked.{AreChecksOf, IsCheckOf, IsLastCheck, IsRunOver, IsVisitToCheck, IsWholeCheck, request_of, visit_of}
+use Rattle.bag_cli.specs.Checked.{AreChecksOf, HasRunOut, IsCheckOf, IsLastCheck, IsRunOver, IsVisitToCheck, IsWholeCheck, request_of, visit_of}
 use Rattle.bag_cli.specs.InTurn.{HasVisited, Last, Whole}
 use Rattle.bag_cli.specs.Status.{whole_status}
 use Rattle.bag_cli.proofs.Turns.{added, turns_status}
@@ -25,7 +25,7 @@ goes plan profile tree_of = λ name. IsWholeCheck plan profile (tree_of name) na
 
 -- what the status says of a check
 pub next_check : {E : Type 0} (plan : Plan) (profile : Option Profile) (tree : TreeState) (name : List ℕ) (before after : Option (List ℕ)) (refused : Bool) (visits : List Event) (checked : Result Outcome E)
-    → MatchResult checked (λ outcome. IsVisitToCheck plan profile tree name before after refused visits outcome) (λ _. (after ≡ before) × (visits ≡ []))
+    → MatchResult checked (λ outcome. IsVisitToCheck plan profile tree name before after refused visits outcome) (λ _. HasRunOut tree name before after visits)
     → MatchOption (whole_status checked) (IsLastCheck plan profile tree name before after refused visits) (λ n. IsWholeCheck plan profile tree name before after visits n)
 next_check plan profile tree name before after refused visits (Ok Clean) check =
     record { refused = refused; outcome = Clean; check = check; written = refl; status_is = refl }
@@ -40,19 +40,22 @@ next_check plan profile tree name before after refused visits (Ok (Unread n stop
 next_check plan profile tree name before after refused visits (Ok (Unwritten n)) check = inl (n, check)
 next_check plan profile tree name before after refused visits (Err e) nothing = inr nothing
 
--- a run over the tree is a check
-pub check_of_run : (plan : Plan) (profile : Option Profile) (tree old new : TreeState) (name : List ℕ) (request : Request) (before after : Option (List ℕ)) (refused : Bool) (outcome : Outcome)
-    → old ≡ tree → request ≡ request_of plan name → IsRunOver old new profile request before after refused outcome → IsCheckOf plan profile tree new name before after refused outcome
-check_of_run plan profile tree old new name request before after refused outcome same is run =
-    let run_of : TreeState → Type 0 = λ tree. IsRunOver tree new profile (request_of plan name) before after refused outcome in
-    subst run_of same (subst (λ request. IsRunOver old new profile request before after refused outcome) is run)
+-- a run over a tree by the request of a plan is a check
+pub check_of_run : (plan : Plan) (profile : Option Profile) (old new : TreeState) (name : List ℕ) (request : Request) (before after : Option (List ℕ)) (refused : Bool) (outcome : Outcome)
+    → request ≡ request_of plan name → IsRunOver old new profile request before after refused outcome → IsCheckOf plan profile old new name before after refused outcome
+check_of_run plan profile old new name request before after refused outcome is run =
+    subst (λ request. IsRunOver old new profile request before after refused outcome) is run
 
--- and the folder's tree was given for it, and left as it leaves it
-pub visited_run : (plan : Plan) (profile : Option Profile) (tree new : TreeState) (name : List ℕ) (before after : Option (List ℕ)) (refused : Bool) (outcome : Outcome) (start mid visits : List Event)
-    → mid ≡ start ++ Entered name ∷ [] → visits ≡ mid ++ Left new ∷ [] → IsCheckOf plan profile tree new name before after refused outcome
-    → HasVisited start visits (λ visits. IsVisitToCheck plan profile tree name before after refused visits outcome)
-visited_run plan profile tree new name before after refused outcome start mid visits entered left check =
-    (visit_of name new, added start mid visits (Entered name ∷ []) (Left new ∷ []) entered left, (new, refl, check))
+-- The folder's tree was given for it, and left as the check leaves it; or as it was given, where memory ran out.
+pub visited_check : {E : Type 0} (plan : Plan) (profile : Option Profile) (tree old new : TreeState) (name : List ℕ) (before after : Option (List ℕ)) (refused : Bool) (checked : Result Outcome E) (start mid visits : List Event)
+    → mid ≡ start ++ Entered name ∷ [] → visits ≡ mid ++ Left new ∷ [] → old ≡ tree
+    → MatchResult checked (λ outcome. IsCheckOf plan profile old new name before after refused outcome) (λ _. (after ≡ before) × (new ≡ old))
+    → HasVisited start visits (λ visits. MatchResult checked (λ outcome. IsVisitToCheck plan profile tree name before after refused visits outcome) (λ _. HasRunOut tree name before after visits))
+visited_check plan profile tree old new name before after refused (Ok outcome) start mid visits entered left same check =
+    let check_of : TreeState → Type 0 = λ tree. IsCheckOf plan profile tree new name before after refused outcome in
+    (visit_of name new, added start mid visits (Entered name ∷ []) (Left new ∷ []) entered left, (new, refl, subst check_of same check))
+visited_check plan profile tree old new name before after refused (Err e) start mid visits entered left same nothing =
+    (visit_of name new, added start mid visits (Entered name ∷ []) (Left new ∷ []) entered left, (nothing.0, inr (ap (visit_of name) (nothing.1 ∙ same))))
 
 status_in : (outcome : Outcome) → status outcome ≤ 3
 status_in Clean = omega arith

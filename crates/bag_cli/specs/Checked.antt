@@ -1,7 +1,7 @@
 -- What checks write, and the exit status after them.
 use Rattle.std.specs.Prelude.{ℕ, ◌≡◌, ◌⊎◌, Bool, true, false, List, [], ◌∷◌, Option, Some, None, codes, ⊤}
 use Rattle.bag_tree.specs.Tree.{Keeps, TreeState}
-use Rattle.bag_cli.specs.Visits.{Event, Entered, Left, Read}
+use Rattle.bag_cli.specs.Visits.{Event, Entered, NotGiven, Left, Read}
 use Rattle.bag_walk.specs.Closing.{status}
 use Rattle.bag_walk.specs.declared.outcome.Outcome.{Outcome}
 use Rattle.bag_walk.specs.declared.outcome.Outcome.TheVariants.{Clean, Faults, Stopped, Rest, Unread, Unwritten}
@@ -62,10 +62,15 @@ pub record IsWholeCheck (plan : Plan) (profile : Option Profile) (tree : TreeSta
   pub written : is_written outcome ≡ true
   pub status_is : n ≡ status outcome
 
--- a check that is the last: the output refused, or memory ran out before the folder was looked into
+-- Memory ran out for a folder, and nothing was written: it was asked for and couldn't be given, or it was given, and its tree was
+-- left as it was.
+abbrev pub HasRunOut : TreeState → List ℕ → Option (List ℕ) → Option (List ℕ) → List Event → Type 0
+HasRunOut tree name before after visits = (after ≡ before) × ((visits ≡ NotGiven name ∷ []) ⊎ (visits ≡ visit_of name tree))
+
+-- a check that is the last: the output refused, or memory ran out for the folder, which was asked for
 abbrev pub IsLastCheck : Plan → Option Profile → TreeState → List ℕ → Option (List ℕ) → Option (List ℕ) → Bool → List Event → Type 0
 IsLastCheck plan profile tree name before after refused visits =
-    ((count : ℕ) × IsVisitToCheck plan profile tree name before after refused visits (Unwritten count)) ⊎ ((after ≡ before) × (visits ≡ []))
+    ((count : ℕ) × IsVisitToCheck plan profile tree name before after refused visits (Unwritten count)) ⊎ HasRunOut tree name before after visits
 
 -- The checks of the bags of these names in the trees that they name, one after the other, each with the plan's limit. After
 -- one that couldn't be read or has faults comes the next; after one that couldn't be written comes none.
@@ -82,6 +87,7 @@ IsCheckOfSample plan before after refused outcome =
 abbrev pub AreCalm : List Event → Type 0
 AreCalm [] = ⊤
 AreCalm (Entered name ∷ visits) = AreCalm visits
+AreCalm (NotGiven name ∷ visits) = AreCalm visits
 AreCalm (Left state ∷ visits) = (state.failures ≡ 0) × AreCalm visits
 AreCalm (Read path ∷ visits) = AreCalm visits
 

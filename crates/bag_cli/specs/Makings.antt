@@ -1,12 +1,12 @@
 -- What is done where folders are made bags, and the exit status.
-use Rattle.std.specs.Prelude.{ℕ, ◌≡◌, ◌⊎◌, Bool, List, [], Option, Result, Ok, Err, map}
+use Rattle.std.specs.Prelude.{ℕ, ◌≡◌, ◌⊎◌, Bool, List, [], ◌∷◌, Option, Result, Ok, Err, map}
 use Rattle.bag_tree.specs.Tree.{TreeState}
 use Rattle.bag_tree.specs.declared.out.Refused.{Refused}
 use Rattle.bag_tags.specs.Element.{NewElement}
 use Rattle.bag_cli.specs.Making.{IsMaking}
 use Rattle.bag_arguments.specs.declared.plan.InfoItem.{InfoItem}
 use Rattle.bag_arguments.specs.declared.plan.Plan.{Plan}
-use Rattle.bag_cli.specs.Visits.{Event}
+use Rattle.bag_cli.specs.Visits.{Event, NotGiven}
 use Rattle.bag_cli.specs.Checked.{visit_of}
 use Rattle.bag_cli.specs.InTurn.{AreInTurn}
 
@@ -24,9 +24,9 @@ pub record IsTold (plan : Plan) (info : List NewElement) (tree : TreeState) (nam
 abbrev pub IsWholeMaking : Plan → List NewElement → TreeState → List ℕ → Option (List ℕ) → Option (List ℕ) → List Event → ℕ → Type 0
 IsWholeMaking plan info tree name before after visits n = (refused : Bool) × IsTold plan info tree name before after refused visits (Ok n)
 
--- a making that is the last: the output refused its line, or memory ran out before the folder was looked into
+-- a making that is the last: the output refused its line, or memory ran out for the folder, which was asked for and couldn't be given
 abbrev pub IsLastMaking : Plan → List NewElement → TreeState → List ℕ → Option (List ℕ) → Option (List ℕ) → Bool → List Event → Type 0
-IsLastMaking plan info tree name before after refused visits = ((refusal : Refused) × IsTold plan info tree name before after refused visits (Err refusal)) ⊎ ((after ≡ before) × (visits ≡ []))
+IsLastMaking plan info tree name before after refused visits = ((refusal : Refused) × IsTold plan info tree name before after refused visits (Err refusal)) ⊎ ((after ≡ before) × (visits ≡ NotGiven name ∷ []))
 
 -- the makings of the folders of these names in the trees that they name, with the plan's elements, one after the other
 abbrev pub AreMakingsOf : Plan → (List ℕ → TreeState) → List (List ℕ) → Option (List ℕ) → Option (List ℕ) → Bool → List Event → ℕ → Type 0

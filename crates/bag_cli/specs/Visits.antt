@@ -1,4 +1,4 @@
--- Which folders were looked into, as what their trees were left, and which files were read beside them.
+-- Which folders were looked into, as what their trees were left, which couldn't be given, and which files were read beside them.
 use Rattle.std.specs.Prelude.{ℕ, ◌≡◌, ◌⊎◌, Bool, List, Option, refl}
 use mathlib.Core.Logic.{inl, inr}
 use Rattle.std.specs.Coded.{Coded, code_by, coded×, coded⊎, coded_ℕ, coded_bool, coded_list, coded_option}
@@ -10,9 +10,11 @@ use Rattle.bag_tree.specs.Tree.{TreeState}
 use Rattle.bag_tree.specs.declared.answer.Answer.{Answer}
 use Rattle.bag_tree.specs.contracts.answer.Answer.{the_row}
 
--- the tree of the files in the folder of this name was given, a tree was left as this, or the file at this path was read
+-- the tree of the files in the folder of this name was given, or was asked for and couldn't be given, a tree was left as this, or
+-- the file at this path was read
 pub data Event : Type 0 where
   Entered : List ℕ → Event
+  NotGiven : List ℕ → Event
   Left : TreeState → Event
   Read : List ℕ → Event
 
@@ -56,22 +58,25 @@ abbrev coded_state : Coded TreeState
 coded_state = code_by Parts (coded× coded_bag (coded× coded_bool (coded× coded_bool (coded× coded_ℕ (coded× coded_ℕ coded_reads))))) parts_of state_of (λ _. refl)
 
 abbrev Kinds : Type 0
-Kinds = List ℕ ⊎ (TreeState ⊎ List ℕ)
+Kinds = List ℕ ⊎ (List ℕ ⊎ (TreeState ⊎ List ℕ))
 
 abbrev split : Event → Kinds
 split (Entered name) = inl name
-split (Left state) = inr (inl state)
-split (Read path) = inr (inr path)
+split (NotGiven name) = inr (inl name)
+split (Left state) = inr (inr (inl state))
+split (Read path) = inr (inr (inr path))
 
 abbrev join : Kinds → Event
 join (inl name) = Entered name
-join (inr (inl state)) = Left state
-join (inr (inr path)) = Read path
+join (inr (inl name)) = NotGiven name
+join (inr (inr (inl state))) = Left state
+join (inr (inr (inr path))) = Read path
 
 pub join_split : (event : Event) → join (split event) ≡ event
 join_split (Entered name) = refl
+join_split (NotGiven name) = refl
 join_split (Left state) = refl
 join_split (Read path) = refl
 
 abbrev pub coded_event : Coded Event
-coded_event = code_by Kinds (coded⊎ coded_text (coded⊎ coded_state coded_text)) split join join_split
+coded_event = code_by Kinds (coded⊎ coded_text (coded⊎ coded_text (coded⊎ coded_state coded_text))) split join join_split

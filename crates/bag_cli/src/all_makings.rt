@@ -1,10 +1,11 @@
 //! Bags that are made of folders, one after the other.
-ghost use Rattle.std.specs.Prelude.{◌≡◌, [], IfOk, MatchResult, map};
+ghost use Rattle.std.specs.Prelude.{◌≡◌, ◌∷◌, [], IfOk, MatchResult, map};
 ghost use Rattle.bag_cli.specs.Folders.{disks_of, visits_of};
 ghost use Rattle.bag_store.specs.FileTree.{tree_state};
 ghost use Rattle.bag_cli.specs.InTurn.{HasVisited};
 ghost use Rattle.bag_cli.specs.Makings.{IsTold, element_of};
 ghost use Rattle.bag_cli.specs.Performed.{AreMade};
+ghost use Rattle.bag_cli.specs.Visits.{NotGiven};
 
 use crate::in_turn::{Task, do_in_turn};
 use crate::performing::{REFUSED, say_memory, say_refused};
@@ -75,7 +76,7 @@ impl Makings<'_> {
         ensures { HasVisited (visits_of visits.old) (visits_of visits.new) (λ own. MatchResult result
             (λ told. IsTold self.now.plan.now self.now.info.now (tree_state (D.below (disks_of folders.now) directory.now) 0) directory.now
             (O.taken out.old) (O.taken out.new) (O.has_refused out.new) own told)
-            (λ _. (O.taken out.new ≡ O.taken out.old) × (own ≡ []))) }
+            (λ _. (O.taken out.new ≡ O.taken out.old) × (own ≡ NotGiven directory.now ∷ []))) }
     {
         let plan = self.plan;
         let tree = folders.enter(alloc, directory, visits)?;

@@ -1,9 +1,9 @@
 //! One check: the report of one bag.
-ghost use Rattle.std.specs.Prelude.{◌≡◌, [], IfOk, MatchResult};
+ghost use Rattle.std.specs.Prelude.{◌≡◌, IfOk, MatchResult};
 ghost use Rattle.std.specs.Option.{option_copied};
 ghost use Rattle.bag_cli.specs.Folders.{disks_of, visits_of};
 ghost use Rattle.bag_store.specs.FileTree.{tree_state};
-ghost use Rattle.bag_cli.specs.Checked.{IsCheckOfSample, IsVisitToCheck, request_of};
+ghost use Rattle.bag_cli.specs.Checked.{HasRunOut, IsCheckOf, IsCheckOfSample, IsVisitToCheck, request_of};
 ghost use Rattle.bag_cli.specs.InTurn.{HasVisited};
 
 use crate::sample::sample_tree;
@@ -12,11 +12,11 @@ use bag_arguments::Plan;
 use bag_facts::Fault;
 use bag_profile::Profile;
 use bag_text::Text;
-use bag_tree::Out;
+use bag_tree::{Out, Tree};
 use bag_walk::{Outcome, Request, run};
 use std::alloc::{AllocError, Global};
 
-/// Checks the bag in a folder, as a plan says.
+/// Checks the bag in a folder, as a plan says. The folder is asked for before anything else that takes memory.
 pub(crate) fn check_folder<D: Disks, O: Out>(
     alloc: Global,
     folders: &Folders<'_, D>,
@@ -29,13 +29,12 @@ pub(crate) fn check_folder<D: Disks, O: Out>(
     ensures { HasVisited (visits_of visits.old) (visits_of visits.new) (λ own. MatchResult result
         (λ outcome. IsVisitToCheck plan.now (option_copied profile.entry) (tree_state (D.below (disks_of folders.now) directory.now) 0) directory.now
         (O.taken out.old) (O.taken out.new) (O.has_refused out.new) own outcome)
-        (λ _. (O.taken out.new ≡ O.taken out.old) × (own ≡ []))) }
+        (λ _. HasRunOut (tree_state (D.below (disks_of folders.now) directory.now) 0) directory.now (O.taken out.old) (O.taken out.new) own)) }
 {
-    let request = request_for(alloc, plan, directory)?;
     let tree = folders.enter(alloc, directory, visits)?;
-    let (tree, outcome) = run(alloc, tree, profile, request, out);
+    let (tree, checked) = check_tree(alloc, tree, plan, profile, directory, out);
     folders.leave(tree, visits);
-    Ok(outcome)
+    checked
 }
 
 /// Checks the sample bag, as a plan says.
@@ -48,10 +47,32 @@ pub(crate) fn check_sample<O: Out>(
         (λ outcome. IsCheckOfSample plan.now (O.taken out.old) (O.taken out.new) (O.has_refused out.new) outcome)
         (λ _. O.taken out.new ≡ O.taken out.old) }
 {
-    let request = request_for(alloc, plan, "sample")?;
     let tree = sample_tree(alloc)?;
-    let (_tree, outcome) = run(alloc, tree, None, request, out);
-    Ok(outcome)
+    let (_tree, checked) = check_tree(alloc, tree, plan, None, "sample", out);
+    checked
+}
+
+/// Checks the bag of a tree under a name, as a plan says. Where memory for what is asked for runs out, it doesn't look at the tree.
+fn check_tree<T: Tree, O: Out>(
+    alloc: Global,
+    tree: T,
+    plan: &Plan,
+    profile: Option<&Profile>,
+    name: &str,
+    out: &mut O,
+) -> (T, Result<Outcome, AllocError>)
+    ensures { MatchResult result.1
+        (λ outcome. IsCheckOf plan.now (option_copied profile.entry) (T.state tree) (T.state result.0) name.now
+        (O.taken out.old) (O.taken out.new) (O.has_refused out.new) outcome)
+        (λ _. (O.taken out.new ≡ O.taken out.old) × (T.state result.0 ≡ T.state tree)) }
+{
+    match request_for(alloc, plan, name) {
+        Ok(request) => {
+            let (tree, outcome) = run(alloc, tree, profile, request, out);
+            (tree, Ok(outcome))
+        }
+        Err(AllocError) => (tree, Err(AllocError)),
+    }
 }
 
 /// What a plan's check of a bag of this name asks for.

@@ -3,7 +3,7 @@ ghost use Rattle.std.specs.Prelude.{◌≡◌, ◌≤◌, ◌∷◌, ◌++◌, [
 ghost use Rattle.bag_store.specs.FileTree.{disk_of, tree_state};
 ghost use Rattle.bag_cli.specs.SystemFile.{MayBeUnread};
 ghost use Rattle.bag_cli.specs.Folders.{disks_of, visits_of};
-ghost use Rattle.bag_cli.specs.Visits.{Entered, Left, Read};
+ghost use Rattle.bag_cli.specs.Visits.{Entered, NotGiven, Left, Read};
 ghost use Rattle.bag_cli.specs.declared.read_fault.ReadFault.TheVariants.{Unread};
 
 use crate::disks::Disks;
@@ -14,8 +14,8 @@ use std::alloc::{AllocError, Global};
 
 /// The folders that disks reach, and the files beside them.
 ///
-/// Who is lent one, and not the disks, reaches no disk but through it: so each folder that is looked into, as what it is left, and
-/// each file that is read stand in the `Visits` that were made with it.
+/// Who is lent one, and not the disks, reaches no disk but through it: so each folder that is looked into, as what it is left, or
+/// that couldn't be given, and each file that is read stand in the `Visits` that were made with it.
 #[derive(Drop)]
 pub struct Folders<'d, D> {
     disks: &'d D,
@@ -40,11 +40,18 @@ impl<'d, D: Disks> Folders<'d, D> {
         ensures state { IfOk result (λ tree. ⟦<FileTree<D::Disk> as bag_tree::Tree>⟧.state tree ≡ tree_state (D.below (disks_of self.now) name.now) 0) }
         ensures base { IfOk result (λ tree. D.is_below (disk_of tree) name.now) }
         ensures entered { OnOk result (visits_of visits.new ≡ visits_of visits.old ++ Entered name.now ∷ []) }
-        ensures refused { OnErr result (visits_of visits.new ≡ visits_of visits.old) }
+        ensures refused { OnErr result (visits_of visits.new ≡ visits_of visits.old ++ NotGiven name.now ∷ []) }
     {
-        let disk = self.disks.disk(alloc, name)?;
-        visits.note_of(&name);
-        Ok(FileTree::over(alloc, disk))
+        match self.disks.disk(alloc, name) {
+            Ok(disk) => {
+                visits.note_of(&name);
+                Ok(FileTree::over(alloc, disk))
+            }
+            Err(AllocError) => {
+                note_not_given(name, visits);
+                Err(AllocError)
+            }
+        }
     }
 
     /// Drops a tree, which is left as it is now.
@@ -72,4 +79,11 @@ impl<'d, D: Disks> Folders<'d, D> {
         visits.note_of(&path);
         self.disks.read_file(alloc, path, most)
     }
+}
+
+/// Notes that a folder was asked for and couldn't be given.
+fn note_not_given<D>(name: &str, visits: &mut Visits<D>)
+    ensures { visits_of visits.new ≡ visits_of visits.old ++ NotGiven name.now ∷ [] }
+{
+    visits.note_of(&name);
 }

@@ -26,7 +26,8 @@ pub(crate) const REFUSED: u8 = 3;
 /// but for a quiet plan.
 ///
 /// `visits` are those that were made with the folders: each folder of the plan is looked into once at most, in order, and no other;
-/// the profile's file is read once, and no other.
+/// the profile's file is read once, and no other. Whatever a folder's status, the next one is asked for; where memory runs out for
+/// one, it stops, and that one was asked for.
 pub fn perform<D, O, E>(
     alloc: Global,
     folders: &Folders<'_, D>,

@@ -1,24 +1,24 @@
-use Rattle.std.proofs.Common.{rules, ◌≡◌, ℕ, ◌∷◌, [], List, Option, None, Bool, refl, subst, sym}
+use Rattle.std.proofs.Common.{rules, ◌≡◌, inl, ℕ, ◌∷◌, [], List, Option, None, Bool, refl, subst, sym}
 use Rattle.std.specs.Prelude.{MatchResult, codes, unwrap_or}
 use Rattle.std.specs.declared.result.Result.{Result}
 use Rattle.std.specs.declared.result.Result.TheVariants.{Ok, Err}
-use Rattle.bag_cli.specs.Visits.{Event}
+use Rattle.bag_cli.specs.Visits.{Event, NotGiven}
 use Rattle.bag_walk.specs.declared.outcome.Outcome.{Outcome}
 use Rattle.bag_arguments.specs.declared.plan.Plan.{Plan}
-use Rattle.bag_cli.specs.Checked.{AreCalm, AreChecksOf, IsCheckOfSample, IsVisitToCheck, visit_of}
+use Rattle.bag_cli.specs.Checked.{AreCalm, AreChecksOf, HasRunOut, IsCheckOfSample, IsVisitToCheck, visit_of}
 use Rattle.bag_cli.specs.Sample.{sample_state}
 use Rattle.bag_cli.specs.Status.{whole_status}
 use Rattle.bag_cli.proofs.Checks.{ends, goes, next_check}
 use Rattle.bag_cli.proofs.Turns.{only_one}
 use Rattle.bag_cli.proofs.all_checks.report_sample.Goals as goal
 
--- the check of the sample, as a visit to a folder of its name during which no device failed
+-- the check of the sample, as a visit to a folder of its name during which no device failed, or as one that couldn't be given
 as_visit : {E : Type 0} (plan : Plan) (before after : Option (List ℕ)) (refused : Bool) (checked : Result Outcome E)
     → MatchResult checked (λ outcome. IsCheckOfSample plan before after refused outcome) (λ _. after ≡ before)
     → (visits : List Event) × AreCalm visits
-    × MatchResult checked (λ outcome. IsVisitToCheck plan None sample_state (codes "sample") before after refused visits outcome) (λ _. (after ≡ before) × (visits ≡ []))
+    × MatchResult checked (λ outcome. IsVisitToCheck plan None sample_state (codes "sample") before after refused visits outcome) (λ _. HasRunOut sample_state (codes "sample") before after visits)
 as_visit plan before after refused (Ok outcome) check = (visit_of (codes "sample") check.0, (check.1, tt), (check.0, refl, check.2))
-as_visit plan before after refused (Err e) nothing = ([], tt, (nothing, refl))
+as_visit plan before after refused (Err e) nothing = (NotGiven (codes "sample") ∷ [], tt, (nothing, inl refl))
 
 pub returns : goal.returns
 returns g c =

@@ -1,7 +1,15 @@
+use Rattle.std.proofs.Common.{◌∷◌, [], refl}
+use Rattle.std.proofs.lemmas.Result.{err_from_is_err_and}
 use Rattle.bag_cli.specs.Folders.{disks_of, visits_of}
+use Rattle.bag_cli.specs.Visits.{NotGiven}
 use Rattle.bag_store.specs.FileTree.{tree_state}
 use Rattle.bag_cli.proofs.Makings.{visited_making}
 use Rattle.bag_cli.proofs.all_makings.Makings.make_one.Goals as goal
+
+pub returns-in_err-tree : goal.returns-in_err-tree
+returns-in_err-tree g c =
+    let p = err_from_is_err_and c.from_residual.result c.from_residual.ensures.1 in
+    (NotGiven c.args.directory.now ∷ [], c.in_err-tree.ensures.refused, rw p.1 (refl {a = g.O.Out.taken c.args.out.now}, refl {a = NotGiven c.args.directory.now ∷ []}))
 
 pub returns : goal.returns
 returns g c =
