@@ -1,5 +1,5 @@
 -- The files that were opened.
-use Rattle.std.proofs.Common.{◌≡◌, ◌++◌, ◌∷◌, inl, inr, ℕ, List, [], sym, ap, ◌∙◌, subst, append-nil, append_assoc}
+use Rattle.std.proofs.Common.{◌≡◌, ◌++◌, ◌∷◌, ℕ, List, [], sym, ap, ◌∙◌, subst, append-nil}
 use Rattle.std.specs.Prelude.{All}
 use Rattle.std.specs.List.{AllByRecursion}
 use Rattle.std.specs.List.Sorted.{IsStrictlySortedBy}
@@ -7,6 +7,7 @@ use Rattle.std.proofs.lemmas.List.Elements.{All-nil, All-cons}
 use Rattle.bag_text.specs.Text.{text_cmp}
 use Rattle.bag_text.proofs.ListOf.{each_from_members, member_has, contains_front}
 use Rattle.bag_tree.specs.Tree.{TreeState}
+use Rattle.bag_tree.specs.Whole.{IsRefusedAt}
 use Rattle.bag_tree.specs.declared.listing.FileEntry.{FileEntry}
 use Rattle.bag_facts.specs.Wanted.{IsWanted, AreWanted, OpensAll, OpensFirst, OpensUpTo, OpensWanted}
 use Rattle.bag_facts.specs.declared.options.Options.{Options}
@@ -57,11 +58,5 @@ opens_up_to_later options files path old mid new e o = (
   o.0,
   o.1,
   o.2,
-  elim o.3 [ inl before ↦ inl (before ∙ ap (λ all. all ++ o.0) e) | inr too ↦ inr (too ∙ ap (λ all. all ++ (o.0 ++ path ∷ [])) e) ],
+  subst (λ all. IsRefusedAt (all ++ o.0) path new) e o.3,
 )
-
--- the files up to one of them are the first
-pub up_to_first : (options : Options) (files : List FileEntry) (path : List ℕ) (old new : TreeState) → OpensUpTo options files path old new → OpensFirst options files old new
-up_to_first options files path old new (before, after, are, inl e) = (before, path ∷ after, are, e)
-up_to_first options files path old new (before, after, are, inr e) =
-    (before ++ path ∷ [], after, subst (AreWanted options files) (sym (append_assoc before (path ∷ []) after)) are, e)

@@ -9,6 +9,7 @@ use Rattle.bag_text.proofs.ListOf.{contains_either, contains_cases, contains_not
 use Rattle.bag_tree.specs.Bag.{HasFile, file}
 use Rattle.bag_tree.specs.Listing.{IsListingOf, size_at}
 use Rattle.bag_tree.specs.Tree.{TreeState, Keeps, OpensAtMost, IsEntryOf, FailsOver, MayRefuse, CameFromTree}
+use Rattle.bag_tree.specs.Whole.{IsRefusedAt}
 use Rattle.bag_tree.specs.declared.answer.Answer.TheVariants.{Refused}
 use Rattle.bag_tree.specs.declared.listing.FileEntry.{FileEntry}
 use Rattle.bag_tree.specs.declared.listing.Listing.{Listing}
@@ -151,22 +152,29 @@ opens_first options files count old new s e = (
 
 module _ (options : Options) (files : List FileEntry) (i : ℕ) (entry : FileEntry) (old mid new : TreeState) (read : List TagBytes)
     (s : IsStrictlySortedBy text_cmp (paths_of files)) (lt : i < length files) (is : entry ≡ get_or files i entry) (before : ReadsSome options files i old mid read) where
+  up_to_here : IsWanted options entry.path → wanted options (take (i + 1) files) ≡ map read_path read ++ entry.path ∷ []
+  up_to_here w = next_paths options files i entry old mid new read s lt is before ∙ ap (λ paths. map read_path read ++ paths) (one_wanted options entry w)
+
   -- reading stopped at a listed file
-  pub opens_up_to : IsWanted options entry.path → OpensAtMost mid new entry.path → OpensUpTo options files entry.path old new
-  opens_up_to w one = (
+  pub opens_up_to : IsWanted options entry.path → IsRefusedAt mid.openings entry.path new → OpensUpTo options files entry.path old new
+  opens_up_to w refused = (
     map read_path read,
     wanted options (drop (i + 1) files),
     subst (AreWanted options files)
         (ap (wanted options) (sym (take-append-drop (i + 1) files)) ∙ wanted_joined options (take (i + 1) files) (drop (i + 1) files)
-        ∙ ap (λ paths. paths ++ wanted options (drop (i + 1) files))
-        (next_paths options files i entry old mid new read s lt is before ∙ ap (λ paths. map read_path read ++ paths) (one_wanted options entry w))
+        ∙ ap (λ paths. paths ++ wanted options (drop (i + 1) files)) (up_to_here w)
         ∙ append_assoc (map read_path read) (entry.path ∷ []) (wanted options (drop (i + 1) files)))
         (are_wanted options files s),
-    elim one [
-      | inl none ↦ inl (none ∙ before.opened)
-      | inr once ↦ inr (once ∙ ap (λ paths. paths ++ entry.path ∷ []) before.opened ∙ append_assoc old.openings (map read_path read) (entry.path ∷ []))
-    ],
+    subst (λ opened. IsRefusedAt opened entry.path new) before.opened refused,
   )
+
+  -- the file was opened at most
+  pub opens_first_here : IsWanted options entry.path → OpensAtMost mid new entry.path → OpensFirst options files old new
+  opens_first_here w (inl none) = opens_first options files i old new s (none ∙ before.opened ∙ ap (λ paths. old.openings ++ paths) before.paths)
+  opens_first_here w (inr once) =
+      opens_first options files (i + 1) old new s
+      (once ∙ ap (λ paths. paths ++ entry.path ∷ []) before.opened ∙ append_assoc old.openings (map read_path read) (entry.path ∷ [])
+      ∙ ap (λ paths. old.openings ++ paths) (sym (up_to_here w)))
 
   listed_as_is : (IsTrue old.honest → AreListed old.bag files) → IsTrue mid.honest → IsEntryOf mid.bag entry
   listed_as_is are honest =
@@ -197,13 +205,13 @@ listing_refusal old new Memory h last = (tt, tt)
 listing_refusal old new other h last = (h, last)
 
 -- a refused listing stops reading the facts
-pub listing_stop : (options : Options) (old new : TreeState) (cause : TreeFault) (stop : Stop) → stop.cause ≡ cause → stop.path ≡ [] → new.openings ≡ old.openings
+pub listing_stop : (options : Options) (old new : TreeState) (cause : TreeFault) (stop : Stop) → stop.cause ≡ cause → stop.path ≡ [] → new.openings ≡ old.openings → new.rest ≡ old.rest
     → MayRefuse ⊥ ⊥ old new cause → new.last ≡ Refused cause → MayStopReading options old new stop
-listing_stop options old new cause stop same none unopened h last =
+listing_stop options old new cause stop same none unopened left h last =
     let both = listing_refusal old new cause h last in record {
       cause = subst (MayRefuseFacts old new) (sym same) both.0;
       answered = subst (CameFromTree new) (sym same) both.1;
-      path = inr (inl (none, unopened, subst (MayRefuse ⊥ ⊥ old new) (sym same) h));
+      path = inr (inl (none, unopened, left, subst (MayRefuse ⊥ ⊥ old new) (sym same) h));
       memory = λ _. none;
     }
 

@@ -29,9 +29,9 @@ MayRefuseFacts old new NoneOpen = ⊥
 MayRefuseFacts old new Memory = Unit {0}
 MayRefuseFacts old new Exists = ⊥
 
--- the listing was refused: no file is named, and none was opened
+-- the listing was refused: no file is named, none was opened, and what was open is left so
 abbrev pub IsOfListing : TreeState → TreeState → Stop → Type 0
-IsOfListing old new stop = (stop.path ≡ []) × (new.openings ≡ old.openings) × MayRefuse ⊥ ⊥ old new stop.cause
+IsOfListing old new stop = (stop.path ≡ []) × (new.openings ≡ old.openings) × (new.rest ≡ old.rest) × MayRefuse ⊥ ⊥ old new stop.cause
 
 -- a file was refused: one that is wanted, and of an honest tree's bag
 abbrev pub IsOfFile : Options → TreeState → Stop → Type 0

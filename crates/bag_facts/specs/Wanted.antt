@@ -1,5 +1,5 @@
 -- The tag files that are read (RFC 8493, 2.1 and 2.2).
-use Rattle.std.specs.Prelude.{◌≡◌, ◌≢◌, ◌++◌, ◌⊎◌, ◌∷◌, ℕ, List, [], All, Contains, map, IsTrue}
+use Rattle.std.specs.Prelude.{◌≡◌, ◌≢◌, ◌++◌, ◌⊎◌, ◌∷◌, ℕ, List, All, Contains, map, IsTrue}
 use Rattle.std.specs.List.Sorted.{IsStrictlySortedBy}
 use Rattle.bag_text.specs.Text.{text_cmp}
 use Rattle.bag_text.specs.Order.{IsListOf}
@@ -8,6 +8,7 @@ use Rattle.bag_read.specs.declared.tag_name.TagName.{TagName}
 use Rattle.bag_read.specs.declared.tag_name.TagName.TheVariants.{Declaration}
 use Rattle.bag_tree.specs.Listing.{IsOrdered, IsListingOf}
 use Rattle.bag_tree.specs.Tree.{TreeState}
+use Rattle.bag_tree.specs.Whole.{IsRefusedAt}
 use Rattle.bag_tree.specs.declared.listing.FileEntry.{FileEntry}
 use Rattle.bag_tree.specs.declared.listing.Listing.{Listing}
 use Rattle.bag_facts.specs.declared.options.Depth.TheVariants as depth_of
@@ -46,11 +47,11 @@ OpensWanted options old new =
     (paths : List (List ℕ)) × (new.openings ≡ old.openings ++ paths)
     × IsStrictlySortedBy text_cmp paths × All (IsWanted options) paths
 
--- the wanted tag files before this one were opened, each once and in path order, this one once at most, and no other file
+-- the file was refused when the wanted tag files before it had been opened, each once and in path order, and no other file
 abbrev pub OpensUpTo : Options → List FileEntry → List ℕ → TreeState → TreeState → Type 0
 OpensUpTo options files path old new =
     (before : List (List ℕ)) × (after : List (List ℕ)) × AreWanted options files (before ++ path ∷ after)
-    × ((new.openings ≡ old.openings ++ before) ⊎ (new.openings ≡ old.openings ++ (before ++ path ∷ [])))
+    × IsRefusedAt (old.openings ++ before) path new
 
 -- so it is for a listing that the tree gave, in an honest tree that of its bag
 abbrev pub ForListing : TreeState → (List FileEntry → Type 0) → Type 0

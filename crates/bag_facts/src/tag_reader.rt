@@ -3,6 +3,7 @@ ghost use Rattle.std.specs.Prelude.{◌≡◌, ◌≢◌, ◌++◌, [], IsTrue, 
 ghost use Rattle.bag_read.specs.TagName.{tag_path};
 ghost use Rattle.bag_tree.specs.Listing.{IsOrdered};
 ghost use Rattle.bag_tree.specs.Tree.{Keeps, IsEntryOf, OpensAtMost};
+ghost use Rattle.bag_tree.specs.Whole.{IsRefusedAt};
 ghost use Rattle.bag_facts.specs.Stops.{IsStopAt};
 ghost use Rattle.bag_facts.specs.TagReader.{AreBytes, AreListed, AreTexts, IsWhole, ReadsWanted, StopsReading, read_path};
 ghost use Rattle.bag_facts.specs.Wanted.{Wants, IsWanted, AreWanted, OpensFirst, OpensUpTo};
@@ -76,6 +77,7 @@ fn read_wanted<T: Tree>(
     ensures read { IfOk result (ReadsWanted options entry.now (T.state tree.old) (T.state tree.new)) }
     ensures opens { OnErr result (IsWanted options entry.now.path × OpensAtMost (T.state tree.old) (T.state tree.new) entry.now.path) }
     ensures refused { IfErr result (λ stop. stop.path ≢ [] → stop.path ≡ entry.now.path) }
+    ensures refused_at { IfErr result (λ stop. stop.path ≢ [] → IsRefusedAt (T.state tree.old).openings entry.now.path (T.state tree.new)) }
     ensures stop { IfErr result (λ stop. (IsTrue (T.state tree.old).honest → IsEntryOf (T.state tree.old).bag entry.now)
         → StopsReading options (T.state tree.old) (T.state tree.new) stop) }
 {

@@ -14,6 +14,7 @@ pub mod ManifestsRead
 pub mod MetadataReads
 pub mod NoFault
 pub mod OfTheBag
+pub mod OneFile
 pub mod OxumReads
 pub mod PartsAreThere
 pub mod PathOrder

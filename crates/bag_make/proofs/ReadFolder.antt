@@ -1,5 +1,5 @@
 -- Reading the files of a folder.
-use Rattle.std.proofs.Common.{◌≡◌, inl, inr, ℕ, ◌+◌, ◌++◌, List, [], ◌∷◌, true, false, IsTrue, length, map, take, slice_get, All, Contains, Some, refl, sym, ap, ◌∙◌, subst}
+use Rattle.std.proofs.Common.{◌≡◌, inl, inr, ℕ, ◌++◌, List, [], ◌∷◌, true, false, IsTrue, length, map, take, slice_get, All, Contains, Some, refl, sym, ap, ◌∙◌, subst}
 use Rattle.std.specs.FinMap.{get-entries}
 use Rattle.std.specs.Option.{option_map}
 use Rattle.std.proofs.lemmas.List.Elements.{All-contains, All-from_recursion}
@@ -9,6 +9,7 @@ use Rattle.bag_text.proofs.ListOf.{contains_first, contains_behind, each_from_me
 use Rattle.bag_tree.specs.Bag.{Bag, file, files_of}
 use Rattle.bag_tree.specs.Listing.{IsListingOf, IsOrdered}
 use Rattle.bag_tree.specs.Tree.{TreeState, IsEntryOf, Keeps}
+use Rattle.bag_tree.specs.Whole.{IsRefusedAt}
 use Rattle.bag_tree.specs.declared.listing.FileEntry.{FileEntry}
 use Rattle.bag_tree.specs.declared.listing.Listing.{Listing}
 use Rattle.bag_tree.specs.declared.tree_fault.Stop.{Stop}
@@ -101,13 +102,10 @@ module _ (listing : Listing) (ordered : IsOrdered listing.files) where
         ∙ sym ((of (sym keeps.honest ∙ honest)).files entry.path) ∙ own_size listing.files entry ordered.ascending c))
 
     at_file : (path : List ℕ) → IsAtFile (paths_of listing.files) mid new path → IsTrue old.honest → IsAtFile (map (λ (e : File). e.0) (files_of old.bag)) old new path
-    at_file path (k, at, opens) honest = (
+    at_file path (k, at, refused) honest = (
       k,
       subst (λ xs. slice_get xs k ≡ Some path) (paths_are old.bag (of honest)) at,
-      elim opens [
-        | inl before ↦ inl (before ∙ from_old honest k)
-        | inr it ↦ inr (it ∙ from_old honest (k + 1))
-      ],
+      subst (λ all. IsRefusedAt all path new) (from_old honest k) refused,
     )
 
     -- where a file is refused, nothing is planned

@@ -9,7 +9,7 @@ use Rattle.bag_text.specs.declared.alg.Alg.{Alg}
 use Rattle.bag_text.proofs.ListOf.{contains_first}
 use Rattle.bag_tree.specs.Bag.{file}
 use Rattle.bag_tree.specs.Tree.{TreeState, CameFromTree, IsEntryOf, Keeps, OpensAtMost}
-use Rattle.bag_tree.specs.Whole.{MayRefuseWhole}
+use Rattle.bag_tree.specs.Whole.{IsRefusedAt, MayRefuseWhole}
 use Rattle.bag_tree.specs.declared.answer.Answer.TheVariants.{Refused}
 use Rattle.bag_tree.specs.declared.listing.FileEntry.{FileEntry}
 use Rattle.bag_tree.specs.declared.tree_fault.Stop.{Stop}
@@ -63,14 +63,14 @@ one_is P entry all = All-contains P (entry ∷ []) entry all (contains_first ent
 
 -- and so does the refusal of a file
 pub stop_of_refusal : (entry : FileEntry) (old new : TreeState) (cause : TreeFault) (stop : Stop) → MayRefuseWhole old new entry cause → (cause ≢ Changed → new.last ≡ Refused cause)
-    → OpensAtMost old new entry.path → IsRefusalOf cause entry.path stop → StopsSumming (entry ∷ []) old new stop
-stop_of_refusal entry old new cause stop refused answered opens (inl (not, same, at)) = record {
+    → IsRefusedAt old.openings entry.path new → IsRefusalOf cause entry.path stop → StopsSumming (entry ∷ []) old new stop
+stop_of_refusal entry old new cause stop refused answered opened (inl (not, same, at)) = record {
   cause = λ are. subst (MayRefuseFacts old new) (sym same) (refused_file old new entry cause (λ honest. one_is (IsEntryOf old.bag) entry (are honest)) refused);
   answered = subst (CameFromTree new) (sym same) (came_from old new entry cause refused);
-  path = inr (0, ap Some (sym at), elim opens [ inl none ↦ inl (none ∙ sym (append-nil old.openings)) | inr once ↦ inr once ]);
+  path = inr (0, ap Some (sym at), subst (λ all. IsRefusedAt all stop.path new) (sym (append-nil old.openings)) (subst (λ path. IsRefusedAt old.openings path new) (sym at) opened));
   memory = λ m. absurd (not (sym same ∙ m));
 }
-stop_of_refusal entry old new cause stop refused answered opens (inr (is, m)) = record {
+stop_of_refusal entry old new cause stop refused answered opened (inr (is, m)) = record {
   cause = λ are. rw m.0 tt;
   answered = rw m.0 tt;
   path = inl m;
@@ -161,15 +161,14 @@ module _ (files : List FileEntry) (i : ℕ) (entry : FileEntry) (algs : List Alg
   its_path = slice_get-map (λ (e : FileEntry). e.path) files i ∙ ap (option_map (λ (e : FileEntry). e.path)) (slice_get_read files (length files) i entry refl lt is)
 
   at_the_file : (path : List ℕ) → IsAtFile (entry.path ∷ []) mid new path → IsAtFile (paths_of files) old new path
-  at_the_file path (k, at, opens) =
+  at_the_file path (k, at, refused) =
       let first : k ≡ 0 = omega (arith, slice_get_within (entry.path ∷ []) k path at) in
       let same : Some entry.path ≡ Some path = subst (λ n. slice_get (entry.path ∷ []) n ≡ Some path) first at in (
         i,
         its_path ∙ same,
-        elim opens [
-          | inl none ↦ inl (still (none ∙ ap (λ n. mid.openings ++ take n (entry.path ∷ [])) first ∙ append-nil mid.openings))
-          | inr once ↦ inr (opened_next (once ∙ ap (λ n. mid.openings ++ take (n + 1) (entry.path ∷ [])) first))
-        ],
+        subst (λ all. IsRefusedAt all path new)
+            (ap (λ n. mid.openings ++ take n (entry.path ∷ [])) first ∙ append-nil mid.openings ∙ before.opened ∙ ap (λ xs. old.openings ++ xs) (first_paths i))
+            refused,
       )
 
   -- it stopped at a file

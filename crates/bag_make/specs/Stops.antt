@@ -1,8 +1,9 @@
 -- Why the files of a folder can't be read.
-use Rattle.std.specs.Prelude.{ℕ, ◌≡◌, ◌≢◌, ◌⊎◌, ◌≤◌, ◌+◌, ◌++◌, true, false, IsTrue, List, Some, All, length, map, take, slice_get}
+use Rattle.std.specs.Prelude.{ℕ, ◌≡◌, ◌≢◌, ◌⊎◌, ◌≤◌, ◌++◌, true, false, IsTrue, List, Some, All, length, map, take, slice_get}
 use Rattle.bag_text.specs.Path.{is_path}
 use Rattle.bag_tree.specs.Bag.{files_of}
 use Rattle.bag_tree.specs.Tree.{TreeState, CameFromTree, IsEntryOf}
+use Rattle.bag_tree.specs.Whole.{IsRefusedAt}
 use Rattle.bag_tree.specs.declared.answer.Answer.TheVariants.{Refused}
 use Rattle.bag_tree.specs.declared.listing.FileEntry.{FileEntry}
 use Rattle.bag_tree.specs.declared.tree_fault.Stop.{Stop}
@@ -22,10 +23,15 @@ pub record IsCalm (old new : TreeState) : Type 0 where
   pub grows : length old.openings ≤ length new.openings
   pub last : length new.openings ≡ length old.openings → new.last ≡ old.last
 
--- this file was refused when those before it had been opened, in this order, and it once at most
+-- this file was refused when those before it had been opened, in this order
 abbrev pub IsAtFile : List (List ℕ) → TreeState → TreeState → List ℕ → Type 0
 IsAtFile paths old new path =
-    (k : ℕ) × (slice_get paths k ≡ Some path) × ((new.openings ≡ old.openings ++ take k paths) ⊎ (new.openings ≡ old.openings ++ take (k + 1) paths))
+    (k : ℕ) × (slice_get paths k ≡ Some path) × IsRefusedAt (old.openings ++ take k paths) path new
+
+-- the law: a refusal can be told of one file alone
+abbrev pub TellsOneFile : Type 0
+TellsOneFile =
+    (paths : List (List ℕ)) (old new : TreeState) (one other : List ℕ) → IsAtFile paths old new one → IsAtFile paths old new other → one ≡ other
 
 -- Summing listed files stopped at one of them, or for want of memory.
 pub record StopsSumming (files : List FileEntry) (old new : TreeState) (stop : Stop) : Type 0 where

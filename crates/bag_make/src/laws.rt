@@ -1,6 +1,7 @@
 //! Laws of the definitions, each the contract of a function that does nothing.
 ghost use Rattle.bag_make.specs.Plan.{StepsMake};
 ghost use Rattle.bag_make.specs.Contents.{MadeHasTheseFiles, MadeHasTheseFolders, ManifestsAscend, PayloadIsTheFolder};
+ghost use Rattle.bag_make.specs.Stops.{TellsOneFile};
 ghost use Rattle.bag_make.specs.Valid.{MadeIsValid};
 
 /// All steps together make the bag, of each folder in which nothing has the name of the folder that is made for them.
@@ -33,4 +34,9 @@ pub fn manifests_ascend()
 /// written and aren't `Payload-Oxum`, as long as the number of the files and their bytes together stay below 2^64.
 pub fn a_made_bag_has_no_fault()
     ensures { MadeIsValid }
+{}
+
+/// The refusal of a file that was to be read is told of one path alone: no other file can be named for it.
+pub fn a_refusal_tells_one_file()
+    ensures { TellsOneFile }
 {}

@@ -1,7 +1,7 @@
 //! The digests of a listed file.
-ghost use Rattle.std.specs.Prelude.{◌≡◌, ◌≢◌, ◌<◌, ◌∷◌, ◌++◌, [], length, IfOk, IfErr, OnOk};
+ghost use Rattle.std.specs.Prelude.{◌≡◌, ◌≢◌, ◌<◌, ◌∷◌, ◌++◌, [], length, IfOk, IfErr, OnOk, OnErr};
 ghost use Rattle.bag_tree.specs.Tree.{Keeps, OpensAtMost};
-ghost use Rattle.bag_tree.specs.Whole.{MayRefuseWhole};
+ghost use Rattle.bag_tree.specs.Whole.{IsRefusedAt, MayRefuseWhole};
 ghost use Rattle.bag_tree.specs.declared.answer.Answer.TheVariants.{Refused};
 ghost use Rattle.bag_tree.specs.declared.tree_fault.TreeFault.TheVariants.{Changed};
 ghost use Rattle.bag_tree.specs.FileSums.{AreSumsOfFile};
@@ -26,6 +26,7 @@ pub fn digest_file<T: Tree>(
     ensures opened { OnOk result ((T.state tree.new).openings ≡ (T.state tree.old).openings ++ entry.now.path ∷ []) }
     ensures sums { IfOk result (AreSumsOfFile (T.state tree.old) entry.now algs) }
     ensures refused { IfErr result (MayRefuseWhole (T.state tree.old) (T.state tree.new) entry.now) }
+    ensures refused_at { OnErr result (IsRefusedAt (T.state tree.old).openings entry.now.path (T.state tree.new)) }
     ensures answered { IfErr result (λ fault. fault ≢ Changed → (T.state tree.new).last ≡ Refused fault) }
 {
     tree.open_file(entry.path.as_str())?;

@@ -1,8 +1,9 @@
 //! A whole file.
-ghost use Rattle.std.specs.Prelude.{◌≡◌, ◌<◌, ◌∷◌, ◌++◌, [], Some, IsTrue, IfOk, IfErr, OnOk, length, vec_len};
+ghost use Rattle.std.specs.Prelude.{◌≡◌, ◌≢◌, ◌<◌, ◌∷◌, ◌++◌, [], Some, IsTrue, IfOk, IfErr, OnOk, OnErr, length, vec_len};
 ghost use Rattle.bag_tree.specs.Bag.{file};
 ghost use Rattle.bag_tree.specs.Tree.{Keeps, OpensAtMost};
-ghost use Rattle.bag_tree.specs.Whole.{MayRefuseWhole};
+ghost use Rattle.bag_tree.specs.Whole.{IsRefusedAt, MayRefuseWhole};
+ghost use Rattle.bag_tree.specs.declared.tree_fault.TreeFault.TheVariants.{Memory};
 
 use crate::{FileEntry, Tree, TreeFault};
 use std::alloc::Global;
@@ -26,6 +27,7 @@ pub fn read_whole<T: Tree>(
     ensures size { IfOk result (λ bytes. vec_len bytes ≡ entry.now.size) }
     ensures whole { IfOk result (λ bytes. IsTrue (T.state tree.old).honest → file (T.state tree.old).bag entry.now.path ≡ Some bytes.items) }
     ensures refused { IfErr result (MayRefuseWhole (T.state tree.old) (T.state tree.new) entry.now) }
+    ensures refused_at { IfErr result (λ fault. fault ≢ Memory → IsRefusedAt (T.state tree.old).openings entry.now.path (T.state tree.new)) }
 {
     let mut buffer = Vec::new(alloc);
     buffer.resize(piece_len(entry.size), 0)?;
@@ -61,6 +63,7 @@ fn read_pieces<T: Tree>(
     ensures size { IfOk result (λ bytes. vec_len bytes ≡ entry.now.size) }
     ensures whole { IfOk result (λ bytes. IsTrue (T.state tree.old).honest → file (T.state tree.old).bag entry.now.path ≡ Some bytes.items) }
     ensures refused { IfErr result (MayRefuseWhole (T.state tree.old) (T.state tree.new) entry.now) }
+    ensures refused_at { OnErr result (IsRefusedAt (T.state tree.old).openings entry.now.path (T.state tree.new)) }
 {
     tree.open_file(entry.path.as_str())?;
     loop {

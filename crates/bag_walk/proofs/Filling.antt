@@ -5,12 +5,13 @@ use Rattle.std.proofs.lemmas.List.{append_cancel_left}
 use Rattle.bag_text.proofs.ListOf.{contains_behind, contains_first, contains_front, contains_back, contains_either, contains_cases, contains_nothing}
 use Rattle.bag_tree.specs.Bag.{Bag, HasFile}
 use Rattle.bag_tree.specs.Tree.{TreeState, Keeps}
+use Rattle.bag_tree.specs.Whole.{IsRefusedAt}
 use Rattle.bag_tree.specs.declared.tree_fault.Stop.{Stop}
 use Rattle.bag_tree.specs.declared.tree_fault.TreeFault.{TreeFault}
 use Rattle.bag_tree.specs.declared.tree_fault.TreeFault.TheVariants.{Device, Special, Name, NotFound, TooMany, Changed, NoneOpen, Memory, Exists}
 use Rattle.bag_facts.specs.declared.fault.Fault.{Fault}
 use Rattle.bag_facts.proofs.Reading.{later_refusal}
-use Rattle.bag_walk.specs.Openings.{Opens, OpensAgain, OpensNoneBehind, NoneBehind}
+use Rattle.bag_walk.specs.Openings.{IsReached, Opens, OpensAgain, OpensNoneBehind, NoneBehind}
 use Rattle.std.specs.Option.{option_copied}
 use Rattle.bag_walk.specs.Source.{first_of, rest_of, AllBelow, Sees, MayRefuseAnyway, MayStopAnyway, MayStopFilling}
 
@@ -54,6 +55,17 @@ module _ (old mid new : TreeState) (xs ys zs : List (List ℕ)) where
       )
     ];
   }
+
+  pub reached_both : Opens xs [] old mid → (path : List ℕ) → IsReached ys mid new path → IsReached (xs ++ ys) old new path
+  reached_both p path (passed, rest, cut, refused) = (
+    p.opened ++ passed,
+    rest,
+    ap (λ l. l ++ ys) (p.left ∙ append-nil p.opened) ∙ ap (λ l. p.opened ++ l) cut ∙ sym (append_assoc p.opened passed (path ∷ rest)),
+    subst (λ all. IsRefusedAt all path new) (ap (λ o. o ++ passed) p.openings ∙ append_assoc old.openings p.opened passed) refused,
+  )
+
+  pub reached_front : (path : List ℕ) → IsReached xs old new path → IsReached (xs ++ ys) old new path
+  reached_front path (passed, rest, cut, refused) = (passed, rest ++ ys, ap (λ l. l ++ ys) cut ∙ append_assoc passed (path ∷ rest) ys, refused)
 
   pub opens_front : Opens xs zs old new → Opens (xs ++ ys) (zs ++ ys) old new
   opens_front p = record { opened = p.opened; openings = p.openings; left = ap (λ l. l ++ ys) p.left ∙ append_assoc p.opened zs ys }

@@ -9,13 +9,14 @@ use Rattle.bag_tree.specs.Bag.{Bag}
 use Rattle.bag_tree.specs.Tree.{TreeState}
 use Rattle.bag_tree.specs.declared.tree_fault.Stop.{Stop}
 use Rattle.bag_facts.specs.FaultOrder.{fault_cmp}
+use Rattle.bag_facts.specs.Stops.{IsOutOfMemory}
 use Rattle.bag_facts.specs.declared.fault.Fault.{Fault}
 use Rattle.bag_walk.specs.Filled.{is_both}
 use Rattle.bag_walk.specs.declared.merge.Filled.{Filled}
 use Rattle.bag_walk.specs.declared.merge.Filled.TheVariants.{Neither, First, Both}
 use Rattle.bag_walk.specs.Merge.{fronts, least_of, union}
 use Rattle.bag_walk.specs.Openings.{Opens, OpensAgain, OpensNoneBehind}
-use Rattle.bag_walk.specs.Source.{first_of, rest_of, Sees, Where}
+use Rattle.bag_walk.specs.Source.{first_of, rest_of, MayStopAnyway, Sees, Where}
 use Rattle.bag_walk.specs.Union.{rest_alone, rest_equal, rest_greater, rest_less, rest_other}
 use Rattle.bag_walk.proofs.Filling.{append_nothing, sees_first, sees_second}
 
@@ -49,6 +50,10 @@ pub quiet_fill : (old new : TreeState) (xs zs : List (List ℕ)) (P : Type 0) (r
     → P → xs ≡ [] → new.openings ≡ old.openings
 quiet_fill old new xs zs P (Ok x) opens again p none = quiet_opens old new xs zs none (opens p)
 quiet_fill old new xs zs P (Err stop) opens again p none = quiet_again old new xs zs none (again p)
+
+-- it names no file where it stops
+pub quiet_stop : (old new : TreeState) (zs : List (List ℕ)) (stop : Stop) → zs ≡ [] → MayStopAnyway zs old new stop → IsOutOfMemory stop
+quiet_stop old new zs stop none h = elim h.path [ inl m ↦ m | inr (rest, is) ↦ (let clash : [] ≡ stop.path ∷ rest = sym none ∙ is in cc) ]
 
 -- what both may open is seen for each
 pub sees_one : (turned : Bool) (state : TreeState) (xs ys : List (List ℕ)) (bag : Bag) → Sees state (if turned then ys ++ xs else xs ++ ys) bag → Sees state xs bag

@@ -1,5 +1,5 @@
 -- A segment of a report, line after line.
-use Rattle.std.proofs.Common.{◌≡◌, ◌<◌, ◌≤◌, ◌+◌, ◌-◌, ◌++◌, ◌∷◌, inl, inr, ℕ, zero, suc, Bool, true, List, [], Option, None, Some, Contains, length, take, drop, slice_get, IsTrue, refl, sym, ap, ◌∙◌, subst, arith, append-nil, append_assoc}
+use Rattle.std.proofs.Common.{◌≡◌, ◌<◌, ◌≤◌, ◌+◌, ◌-◌, ◌++◌, ◌∷◌, ◌⊎◌, inl, inr, ℕ, zero, suc, Bool, true, List, [], Option, None, Some, Contains, length, take, drop, slice_get, IsTrue, refl, sym, ap, ◌∙◌, subst, arith, append-nil, append_assoc}
 use Rattle.std.specs.Io.KnownBytes.{Appends}
 use Rattle.std.specs.List.{concat}
 use Rattle.std.proofs.lemmas.List.{length-append, map-append, append_cancel_left}
@@ -7,13 +7,15 @@ use Rattle.std.proofs.Math.Seq.{take-append_seam}
 use Rattle.bag_text.proofs.ListOf.{contains_behind, contains_either}
 use Rattle.bag_tree.specs.Bag.{Bag}
 use Rattle.bag_tree.specs.Tree.{TreeState, Keeps}
+use Rattle.bag_tree.specs.Whole.{IsRefusedAt}
 use Rattle.bag_tree.specs.declared.tree_fault.Stop.{Stop}
+use Rattle.bag_facts.specs.Stops.{IsOutOfMemory}
 use Rattle.bag_facts.specs.declared.fault.Fault.{Fault}
 use Rattle.bag_walk.specs.Ending.{written, written_line}
 use Rattle.bag_walk.specs.Write.{IsCut}
 use Rattle.bag_walk.proofs.RunLines.{concat-append_one, cut_at}
 use Rattle.bag_walk.proofs.Writing.{Appends-append}
-use Rattle.bag_walk.specs.Openings.{Opens, OpensAgain, OpensNoneBehind}
+use Rattle.bag_walk.specs.Openings.{IsReached, Opens, OpensAgain, OpensNoneBehind}
 use Rattle.bag_walk.specs.Source.{first_of, rest_of, MayStopFilling, Sees}
 use Rattle.bag_walk.specs.Shown.{front_is, none_is}
 use Rattle.bag_walk.proofs.Filling.{sees_later, sees_second, stop_later}
@@ -45,6 +47,14 @@ module _ (old mid new : TreeState) (xs ys zs : List (List ℕ)) (p : Opens xs ys
       )
     ];
   }
+
+  pub reached_on : (path : List ℕ) → IsReached ys mid new path → IsReached xs old new path
+  reached_on path (passed, rest, cut, refused) = (
+    p.opened ++ passed,
+    rest,
+    p.left ∙ ap (λ l. p.opened ++ l) cut ∙ sym (append_assoc p.opened passed (path ∷ rest)),
+    subst (λ all. IsRefusedAt all path new) (ap (λ o. o ++ passed) p.openings ∙ append_assoc old.openings p.opened passed) refused,
+  )
 
 pub once : (old new : TreeState) (xs zs : List (List ℕ)) → Opens xs zs old new → OpensAgain xs zs old new
 once old new xs zs p = record { passed = p.opened; left = p.left; openings = inl p.openings }
@@ -120,9 +130,11 @@ module _ (limit count : ℕ) (IsOf IsOfNow : Bag → Type 0) (left left_now : Ba
       subst IsOfNow (sym has.keeps.bag) (has.seen old.bag (of h) (inl (h, refl))).0
 
   -- the next step stopped
-  pub stops_now : (todo_new : List (List ℕ)) (stop : Stop) → ((IsTrue now.honest → IsOfNow now.bag) → MayStopFilling todo_new now new stop)
-      → MayStopWalk (IsTrue old.honest → IsOf old.bag) todo_new old new stop
-  stops_now todo_new stop h = inr (λ of. stop_later old now new todo_new stop has.keeps (h (of_now of)))
+  pub stops_now : (todo_new : List (List ℕ)) (stop : Stop) → IsOutOfMemory stop ⊎ IsReached todo_now now new stop.path
+      → ((IsTrue now.honest → IsOfNow now.bag) → MayStopFilling todo_new now new stop) → MayStopWalk (IsTrue old.honest → IsOf old.bag) todo todo_new old new stop
+  stops_now todo_new stop (inl memory) h = inl memory
+  stops_now todo_new stop (inr reached) h =
+      inr (reached_on old now new todo todo_now todo_new has.opens stop.path reached, λ of. stop_later old now new todo_new stop has.keeps (h (of_now of)))
 
   -- so many lines were written
   pub lines_written : (rest : List Fault) → Appends before mid (concat (written (take count (has.given ++ rest))))

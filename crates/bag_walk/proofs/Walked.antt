@@ -1,14 +1,14 @@
 -- A run over a walk, by its segment.
-use Rattle.std.proofs.Common.{◌≡◌, ◌≤◌, ◌++◌, ◌∷◌, ◌-◌, inl, inr, ℕ, Bool, List, [], Option, min, ap, ◌∙◌, subst, arith}
+use Rattle.std.proofs.Common.{◌≡◌, ◌≤◌, ◌-◌, inl, inr, ℕ, Bool, List, Option, min, subst, arith}
 use Rattle.bag_tree.specs.Tree.{TreeState}
 use Rattle.bag_tree.specs.declared.tree_fault.Stop.{Stop}
 use Rattle.bag_facts.specs.declared.fault.Fault.{Fault}
 use Rattle.bag_walk.specs.declared.outcome.Outcome.{Outcome}
 use Rattle.bag_walk.specs.declared.outcome.Outcome.TheVariants as outcome_of
 use Rattle.bag_walk.specs.declared.outcome.Request.{Request}
-use Rattle.bag_walk.specs.Openings.{OpensAgain}
-use Rattle.bag_walk.specs.Source.{IsNext, MayStopFilling}
-use Rattle.bag_walk.specs.Segment.{ClosesSegment, EndsSegment, IfUnread, IsReached, IsRead, MayStopRun, MayStopWalk, StopsAt, StopsWalk, WritesCalmly, looked_past}
+use Rattle.bag_walk.specs.Openings.{IsReached}
+use Rattle.bag_walk.specs.Source.{MayStopFilling}
+use Rattle.bag_walk.specs.Segment.{ClosesSegment, EndsSegment, IfUnread, IsRead, MayStopRun, MayStopWalk, StopsAt, StopsWalk, WritesCalmly, looked_past}
 use Rattle.bag_walk.specs.Stops.{IfStopped}
 use Rattle.bag_walk.specs.declared.segment.Segment.{Segment}
 use Rattle.bag_walk.specs.declared.segment.SegmentEnd.{SegmentEnd}
@@ -27,32 +27,16 @@ within_limit faults limit n AtEnd e = omega (arith, e.0)
 within_limit faults limit n (Unread stop) e = omega (arith, e.0)
 within_limit faults limit n Unwritten e = omega (arith, e.0)
 
-module _ (todo left : List (List ℕ)) (old new : TreeState) (again : OpensAgain todo left old new) where
-  reached : (path : List ℕ) → IsNext left old path → IsReached todo old new path
-  reached path ((rest, is), there) = (
-    again.passed,
-    rest,
-    again.left ∙ ap (λ l. again.passed ++ l) is,
-    elim again.openings [
-      | inl e ↦ inl e
-      | inr (last, more, same, e) ↦ (let one : last ≡ path = cc in inr (e ∙ ap (λ p. old.openings ++ (again.passed ++ p ∷ [])) one))
-    ],
-  )
+module _ (todo left : List (List ℕ)) (old new : TreeState) where
+  stops_at : (stop : Stop) → IsReached todo old new stop.path → MayStopFilling left old new stop → StopsWalk todo old new stop
+  stops_at stop reached h = record { cause = h.cause; answered = h.answered; path = inr reached; memory = h.memory }
 
-  stops_at : (stop : Stop) → MayStopFilling left old new stop → StopsWalk todo old new stop
-  stops_at stop h = record {
-    cause = h.cause;
-    answered = h.answered;
-    path = elim h.path [ inl none ↦ inl none | inr next ↦ inr (reached stop.path next) ];
-    memory = h.memory;
-  }
-
-  stops_run : (IsOf : Type 0) (stop : Stop) → MayStopWalk IsOf left old new stop → MayStopRun IsOf todo old new stop
+  stops_run : (IsOf : Type 0) (stop : Stop) → MayStopWalk IsOf todo left old new stop → MayStopRun IsOf todo old new stop
   stops_run IsOf stop (inl memory) = inl memory
-  stops_run IsOf stop (inr h) = inr (λ of. stops_at stop (h of))
+  stops_run IsOf stop (inr (reached, h)) = inr (λ of. stops_at stop reached (h of))
 
   -- the stop of a segment
-  pub stops_segment : (IsOf : Type 0) (end : SegmentEnd) → IfUnread end (MayStopWalk IsOf left old new) → IfUnread end (MayStopRun IsOf todo old new)
+  pub stops_segment : (IsOf : Type 0) (end : SegmentEnd) → IfUnread end (MayStopWalk IsOf todo left old new) → IfUnread end (MayStopRun IsOf todo old new)
   stops_segment IsOf Full stops = tt
   stops_segment IsOf AtEnd stops = tt
   stops_segment IsOf (Unread stop) stops = stops_run IsOf stop stops
@@ -60,7 +44,7 @@ module _ (todo left : List (List ℕ)) (old new : TreeState) (again : OpensAgain
 
   -- what a segment says of it is so of the run
   pub calmly : (request : Request) (faults : List Fault) (IsOf : Type 0) (segment : Segment) (before after : Option (List ℕ)) (refused : Bool) (outcome : Outcome)
-      → ClosesSegment request faults segment before after refused outcome → IfUnread segment.end (MayStopWalk IsOf left old new) → (IsRead segment.end → new.failures ≡ old.failures)
+      → ClosesSegment request faults segment before after refused outcome → IfUnread segment.end (MayStopWalk IsOf todo left old new) → (IsRead segment.end → new.failures ≡ old.failures)
       → WritesCalmly request faults (MayStopRun IsOf todo old new) old new before after refused outcome
   calmly request faults IsOf segment before after refused outcome (w, read) stops calm = (
     record {
@@ -68,7 +52,7 @@ module _ (todo left : List (List ℕ)) (old new : TreeState) (again : OpensAgain
       ending = w.ending;
       within = w.within;
       may_end = wider_end request w.count _ (MayStopRun IsOf todo old new) w.ending
-          (λ stop is. stops_run IsOf stop (subst (λ end. IfUnread end (MayStopWalk IsOf left old new)) is stops)) w.may_end;
+          (λ stop is. stops_run IsOf stop (subst (λ end. IfUnread end (MayStopWalk IsOf todo left old new)) is stops)) w.may_end;
       all = w.all;
       wrote = w.wrote;
     },
@@ -76,8 +60,8 @@ module _ (todo left : List (List ℕ)) (old new : TreeState) (again : OpensAgain
   )
 
   -- and so is the stop that it is answered with
-  pub stopped_run : (IsOf : Type 0) (segment : Segment) (outcome : Outcome) → IfStopped outcome (StopsAt segment) → IfUnread segment.end (MayStopWalk IsOf left old new) → IfStopped outcome (MayStopRun IsOf todo old new)
-  stopped_run IsOf segment (outcome_of.Unread n stop) is stops = stops_run IsOf stop (subst (λ end. IfUnread end (MayStopWalk IsOf left old new)) is stops)
+  pub stopped_run : (IsOf : Type 0) (segment : Segment) (outcome : Outcome) → IfStopped outcome (StopsAt segment) → IfUnread segment.end (MayStopWalk IsOf todo left old new) → IfStopped outcome (MayStopRun IsOf todo old new)
+  stopped_run IsOf segment (outcome_of.Unread n stop) is stops = stops_run IsOf stop (subst (λ end. IfUnread end (MayStopWalk IsOf todo left old new)) is stops)
   stopped_run IsOf segment outcome_of.Clean is stops = tt
   stopped_run IsOf segment (outcome_of.Faults n) is stops = tt
   stopped_run IsOf segment (outcome_of.Stopped n) is stops = tt

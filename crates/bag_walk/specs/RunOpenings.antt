@@ -9,9 +9,10 @@ use Rattle.bag_text.specs.declared.alg.Alg.{Alg}
 use Rattle.bag_read.specs.declared.kind.Kind.TheVariants.{Payload}
 use Rattle.bag_tree.specs.Bag.{Bag}
 use Rattle.bag_tree.specs.Tree.{TreeState}
+use Rattle.bag_tree.specs.Whole.{IsRefusedAt}
 use Rattle.bag_facts.specs.FaultOrder.{fault_cmp}
 use Rattle.bag_facts.specs.declared.fault.Fault.{Fault}
-use Rattle.bag_facts.specs.Wanted.{ForListing, IsWanted, OpensUpTo, OpensWanted}
+use Rattle.bag_facts.specs.Wanted.{AreWanted, ForListing, IsWanted, OpensUpTo, OpensWanted}
 use Rattle.bag_facts.specs.declared.options.Depth.TheVariants.{Full}
 use Rattle.bag_facts.specs.declared.options.Options.{Options}
 use Rattle.bag_profile.specs.Profile.{Profile}
@@ -73,17 +74,18 @@ OpensInTurn old new profile request outcome =
     × IsStrictlySortedBy text_cmp read × All (IsWanted request.options) read
     × NoneBehind (drop (written_before request outcome) (above request.after report)) summed
 
--- The run stopped at a file whose digests were to be compared: tag files were read, and then of those files the ones before
--- it were opened, each once and in path order, it once at most, and no other.
+-- The run stopped at a file whose digests were to be compared: it was refused when all the tag files that are wanted had been
+-- read, and then of those files the ones before it had been opened, each once and in path order, and no other.
 pub record OpensUpToSummed (old new : TreeState) (profile : Option Profile) (request : Request) (path : List ℕ) : Type 0 where
   pub read : List (List ℕ)
   pub before : List (List ℕ)
   pub behind : List (List ℕ)
   pub read_in_order : IsStrictlySortedBy text_cmp read
   pub wanted : All (IsWanted request.options) read
+  pub all_read : ForListing old (λ files. AreWanted request.options files read)
   pub in_order : IsStrictlySortedBy text_cmp (before ++ path ∷ behind)
   pub to_open : IsTrue old.honest → IsListOf text_cmp (IsToOpen (check_of old.bag profile request) request.after) (before ++ path ∷ behind)
-  pub opened : (new.openings ≡ old.openings ++ (read ++ before)) ⊎ (new.openings ≡ old.openings ++ (read ++ (before ++ path ∷ [])))
+  pub refused : IsRefusedAt (old.openings ++ (read ++ before)) path new
 
 -- A run that is answered with the file at which it stopped has opened those before it: the tag files that are read, or also
 -- those whose digests are compared.

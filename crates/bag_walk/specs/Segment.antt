@@ -1,5 +1,5 @@
 -- A segment of a report: the lines of its first faults.
-use Rattle.std.specs.Prelude.{ℕ, ◌-◌, ◌<◌, ◌≤◌, ◌≡◌, ◌++◌, ◌∷◌, ⊤, ◌⊎◌, Bool, true, List, [], Option, length, take, drop}
+use Rattle.std.specs.Prelude.{ℕ, ◌-◌, ◌<◌, ◌≤◌, ◌≡◌, ⊤, ◌⊎◌, Bool, true, List, [], Option, length, take, drop}
 use Rattle.std.specs.Io.KnownBytes.{Appends}
 use Rattle.std.specs.List.{concat}
 use Rattle.bag_tree.specs.Tree.{TreeState, CameFromTree}
@@ -8,6 +8,7 @@ use Rattle.bag_tree.specs.declared.tree_fault.TreeFault.TheVariants.{Memory}
 use Rattle.bag_facts.specs.declared.fault.Fault.{Fault}
 use Rattle.bag_facts.specs.Stops.{IsOutOfMemory, MayRefuseFacts}
 use Rattle.bag_walk.specs.Ending.{IsAnswered, IsCutAt, written}
+use Rattle.bag_walk.specs.Openings.{IsReached}
 use Rattle.bag_walk.specs.Writer.{WritesReport}
 use Rattle.bag_walk.specs.declared.outcome.Outcome.{Outcome}
 use Rattle.bag_walk.specs.declared.outcome.Request.{Request}
@@ -44,9 +45,10 @@ abbrev pub IfUnread : SegmentEnd → (Stop → Type 0) → Type 0
 IfUnread (Unread stop) Stops = Stops stop
 IfUnread end Stops = ⊤
 
--- Why a walk stops: for want of memory, or where its source is of an honest tree's bag at the next file to be opened.
-abbrev pub MayStopWalk : Type 0 → List (List ℕ) → TreeState → TreeState → Stop → Type 0
-MayStopWalk IsOf todo old new stop = IsOutOfMemory stop ⊎ (IsOf → MayStopFilling todo old new stop)
+-- Why a walk stops: for want of memory, or at the next file to be opened, and more is said where its source is of an honest
+-- tree's bag.
+abbrev pub MayStopWalk : Type 0 → List (List ℕ) → List (List ℕ) → TreeState → TreeState → Stop → Type 0
+MayStopWalk IsOf todo left old new stop = IsOutOfMemory stop ⊎ (IsReached todo old new stop.path × (IsOf → MayStopFilling left old new stop))
 
 -- how many faults are less than the one that was looked for last, where n were written
 abbrev pub looked_past : SegmentEnd → ℕ → ℕ
@@ -67,12 +69,6 @@ abbrev pub ClosesSegment : Request → List Fault → Segment → Option (List �
 ClosesSegment request faults segment before after refused outcome =
     (writes : WritesReport request faults (StopsAt segment) before after refused outcome)
     × (IsAnswered writes.ending → IsRead segment.end)
-
--- the file was to be opened: those before it were opened, each once, and it once at most
-abbrev pub IsReached : List (List ℕ) → TreeState → TreeState → List ℕ → Type 0
-IsReached todo old new path =
-    (passed : List (List ℕ)) × (rest : List (List ℕ)) × (todo ≡ passed ++ path ∷ rest)
-    × ((new.openings ≡ old.openings ++ passed) ⊎ (new.openings ≡ old.openings ++ (passed ++ path ∷ [])))
 
 -- Why a run over a walk stops whose source is of an honest tree's bag: at a file that was to be opened, or for want of
 -- memory.

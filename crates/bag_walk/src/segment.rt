@@ -64,7 +64,7 @@ pub(crate) fn write_faults<T: Tree, S: InOrder<T>, W: Out>(
         → IsLastOf (to_give (shown_by walk.old.is_shown (S.found walk.old.source)) (S.remaining bag walk.old.source)) result.written (string_bytes lines.old.last) (string_bytes lines.new.last) }
     ensures unseen { (faults : List Spoken) × IsSegment faults limit (W.taken out.old) (W.taken out.new) (W.has_refused out.new) result }
     ensures stop { IfUnread result.end (MayStopWalk (IsTrue (T.state walk.old.tree).honest → S.is_of (T.state walk.old.tree).bag walk.old.source)
-        (S.todo walk.new.source) (T.state walk.old.tree) (T.state walk.new.tree)) }
+        (S.todo walk.old.source) (S.todo walk.new.source) (T.state walk.old.tree) (T.state walk.new.tree)) }
 {
     let mut written = 0;
     'given: while written < limit {

@@ -1,7 +1,9 @@
 //! A file whose digests are to be compared.
-ghost use Rattle.std.specs.Prelude.{◌≡◌, ◌<◌, ◌∷◌, ◌++◌, ℕ, List, [], Contains, IsTrue, IfOk, IfErr, OnOk, OnErr, length};
+ghost use Rattle.std.specs.Prelude.{◌≡◌, ◌⊎◌, ◌<◌, ◌∷◌, ◌++◌, ℕ, List, [], Contains, IsTrue, IfOk, IfErr, OnOk, OnErr, length};
 ghost use Rattle.std.specs.Option.{option_copied};
 ghost use Rattle.bag_tree.specs.Tree.{Keeps, IsEntryOf, OpensAtMost};
+ghost use Rattle.bag_tree.specs.Whole.{IsRefusedAt};
+ghost use Rattle.bag_facts.specs.Stops.{IsOutOfMemory};
 ghost use Rattle.bag_stages.specs.SumFaults.{faults_of_bytes, AreSumsBy};
 ghost use Rattle.bag_stages.specs.declared.expected.Expected.{Expected as Given};
 ghost use Rattle.bag_report.specs.Report.{above};
@@ -35,6 +37,8 @@ pub(crate) fn faults_of_file<T: Tree>(
     ensures calm { OnOk result ((T.state tree.new).failures ≡ (T.state tree.old).failures) }
     ensures opened { OnOk result ((T.state tree.new).openings ≡ (T.state tree.old).openings ++ to_sum.now.file.path ∷ []) }
     ensures opens { OnErr result (OpensAtMost (T.state tree.old) (T.state tree.new) to_sum.now.file.path) }
+    ensures refused { IfErr result (λ stop. IsOutOfMemory stop ⊎ ((stop.path ≡ to_sum.now.file.path)
+        × IsRefusedAt (T.state tree.old).openings to_sum.now.file.path (T.state tree.new))) }
     ensures faults { IfOk result (λ faults. IsTrue (T.state tree.old).honest
         → faults.items ≡ above (option_copied after.entry) (faults_in (T.state tree.old).bag to_sum.now)) }
     ensures stop { IfErr result (λ stop. (rest : List (List ℕ)) → (IsTrue (T.state tree.old).honest → IsEntryOf (T.state tree.old).bag to_sum.now.file)

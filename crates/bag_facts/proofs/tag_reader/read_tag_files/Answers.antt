@@ -1,9 +1,8 @@
 use Rattle.std.proofs.Common.{◌≡◌, ◌≢◌, ◌++◌, ◌+◌, ◌∷◌, [], IsTrue, sym, subst, rules}
 use Rattle.bag_facts.specs.TagReader.{AreListed, ReadsWanted, StopsReading}
 use Rattle.bag_facts.specs.Wanted.{OpensFirst, OpensUpTo}
-use Rattle.bag_facts.proofs.Opens.{up_to_first}
 use Rattle.bag_facts.proofs.PassedOn.{passed_on, on_error}
-use Rattle.bag_facts.proofs.Reading.{ReadsSome, reads_none, reads_no_more, reads_one_more, opened_more, opens_first, opens_up_to, stops_at, all_wanted, all_texts}
+use Rattle.bag_facts.proofs.Reading.{ReadsSome, reads_none, reads_no_more, reads_one_more, opened_more, opens_first, opens_first_here, opens_up_to, stops_at, all_wanted, all_texts}
 use Rattle.bag_facts.proofs.tag_reader.read_tag_files.Goals as goal
 
 pub loop-entry-init : goal.loop-entry-init
@@ -17,9 +16,8 @@ returns-in_err-file-clause-opened_first g c =
     let mid = g.T.Tree.state c.loop-entry.tree in
     let new = g.T.Tree.state c.read_wanted.new.tree in
     on_error c.from_residual.result (OpensFirst c.args.options c.args.files.now old new)
-    (up_to_first c.args.options c.args.files.now c.entry-item.result.path old new
-    (opens_up_to c.args.options c.args.files.now c.loop-entry.entry-index c.entry-item.result old mid new c.loop-entry.read.items c.requires.ascending c.loop-entry-test.true c.entry-item.is c.loop-entry.invariant
-    c.in_err-file.ensures.opens.0 c.in_err-file.ensures.opens.1))
+    (opens_first_here c.args.options c.args.files.now c.loop-entry.entry-index c.entry-item.result old mid new c.loop-entry.read.items c.requires.ascending c.loop-entry-test.true c.entry-item.is c.loop-entry.invariant
+    c.in_err-file.ensures.opens.0 c.in_err-file.ensures.opens.1)
 
 pub returns-in_err-file-clause-refused : goal.returns-in_err-file-clause-refused
 returns-in_err-file-clause-refused g c =
@@ -30,7 +28,7 @@ returns-in_err-file-clause-refused g c =
     (λ named.
     subst (λ path. OpensUpTo c.args.options c.args.files.now path old new) (sym (c.in_err-file.ensures.refused named))
     (opens_up_to c.args.options c.args.files.now c.loop-entry.entry-index c.entry-item.result old mid new c.loop-entry.read.items c.requires.ascending c.loop-entry-test.true c.entry-item.is c.loop-entry.invariant
-    c.in_err-file.ensures.opens.0 c.in_err-file.ensures.opens.1))
+    c.in_err-file.ensures.opens.0 (c.in_err-file.ensures.refused_at named)))
 
 pub returns-in_err-file-clause-stop : goal.returns-in_err-file-clause-stop
 returns-in_err-file-clause-stop g c =

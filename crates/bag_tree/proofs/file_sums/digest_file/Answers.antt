@@ -1,6 +1,6 @@
-use Rattle.std.proofs.Common.{rules, inl, inr, ◌∙◌, ◌++◌, take, refl, sym, subst, arith, IsTrue}
+use Rattle.std.proofs.Common.{rules, inl, inr, ap, is_some, ◌∙◌, ◌++◌, take, refl, sym, subst, arith, IsTrue}
 use Rattle.std.proofs.lemmas.Grind.{common_steps}
-use Rattle.bag_tree.proofs.Reading.{read_all, read_more, given_some, longer_than, ended_after}
+use Rattle.bag_tree.proofs.Reading.{on_error, read_all, read_more, given_some, longer_than, ended_after}
 use Rattle.bag_tree.proofs.file_sums.digest_file.Goals as goal
 
 pub loop-count-preserved : goal.loop-count-preserved
@@ -79,3 +79,12 @@ returns-then-left-count-clause-answered g c = λ other. absurd (other refl)
 
 pub returns-else-left-eq0-clause-answered : goal.returns-else-left-eq0-clause-answered
 returns-else-left-eq0-clause-answered g c = λ other. absurd (other refl)
+
+pub returns-in_err-count-clause-refused_at : goal.returns-in_err-count-clause-refused_at
+returns-in_err-count-clause-refused_at g c = on_error c.from_residual-in_err-count.result _ (inr (ap is_some c.in_err-count.ensures.same ∙ c.loop-count.invariant.file_open, c.read.ensures.openings ∙ c.loop-count.invariant.opened))
+
+pub returns-then-left-count-clause-refused_at : goal.returns-then-left-count-clause-refused_at
+returns-then-left-count-clause-refused_at g c = inr (c.in_ok-count.ensures.file_open.1, c.read.ensures.openings ∙ c.loop-count.invariant.opened)
+
+pub returns-else-left-eq0-clause-refused_at : goal.returns-else-left-eq0-clause-refused_at
+returns-else-left-eq0-clause-refused_at g c = inr (c.in_ok-count.ensures.file_open.1, c.read.ensures.openings ∙ c.loop-count.invariant.opened)

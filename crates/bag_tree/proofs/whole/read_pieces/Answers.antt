@@ -1,6 +1,6 @@
-use Rattle.std.proofs.Common.{rules, inl, inr, ◌∙◌, arith, sym, subst, IsTrue}
+use Rattle.std.proofs.Common.{rules, inl, inr, ap, is_some, ◌∙◌, arith, sym, subst, IsTrue}
 use Rattle.std.proofs.lemmas.Grind.{common_steps}
-use Rattle.bag_tree.proofs.Reading.{read_all, read_more, given_some, longer_than, ended_after}
+use Rattle.bag_tree.proofs.Reading.{on_error, read_all, read_more, given_some, longer_than, ended_after}
 use Rattle.bag_tree.proofs.whole.read_pieces.Goals as goal
 
 pub loop-bytes-preserved : goal.loop-bytes-preserved
@@ -54,3 +54,15 @@ returns-else-len-entry-clause-refused g c = (
       let still : IsTrue (g.T.Tree.state c.loop-bytes.tree).honest = subst IsTrue (sym c.loop-bytes.invariant.keeps.honest) h in
       ended_after _ _ _ _ _ _ (c.loop-bytes.invariant.honest h) (rw c.if-count-eq0.true at (c.in_ok-count.ensures.honest still)) (grind (arith, common_steps)),
 )
+
+pub returns-in_err-count-clause-refused_at : goal.returns-in_err-count-clause-refused_at
+returns-in_err-count-clause-refused_at g c = on_error c.from_residual-in_err-count.result _ (inr (ap is_some c.in_err-count.ensures.same ∙ c.loop-bytes.invariant.file_open, c.read.ensures.openings ∙ c.loop-bytes.invariant.opened))
+
+pub returns-then-entry-len-clause-refused_at : goal.returns-then-entry-len-clause-refused_at
+returns-then-entry-len-clause-refused_at g c = inr (c.in_ok-count.ensures.file_open.1, c.read.ensures.openings ∙ c.loop-bytes.invariant.opened)
+
+pub returns-in_err-extend_from_slice-clause-refused_at : goal.returns-in_err-extend_from_slice-clause-refused_at
+returns-in_err-extend_from_slice-clause-refused_at g c = on_error c.from_residual-in_err-extend_from_slice.result _ (inr (c.in_ok-count.ensures.file_open.1, c.read.ensures.openings ∙ c.loop-bytes.invariant.opened))
+
+pub returns-else-len-entry-clause-refused_at : goal.returns-else-len-entry-clause-refused_at
+returns-else-len-entry-clause-refused_at g c = inr (c.in_ok-count.ensures.file_open.1, c.read.ensures.openings ∙ c.loop-bytes.invariant.opened)

@@ -86,7 +86,7 @@ returns-in-Err-clause-seen g c = λ bag h sees.
 
 pub returns-in-Err-clause-stop : goal.returns-in-Err-clause-stop
 returns-in-Err-clause-stop g c =
-    stops_now c.args.limit c.given.written _ _ _ _ _ _ _ _ (g.T.Tree.state c.step.new.self.tree) _ _ _ _ c.given.invariant (g.S.Source.todo c.step.new.self.source) c.in-Err.stop c.in-Err.ensures.stop
+    stops_now c.args.limit c.given.written _ _ _ _ _ _ _ _ (g.T.Tree.state c.step.new.self.tree) _ _ _ _ c.given.invariant (g.S.Source.todo c.step.new.self.source) c.in-Err.stop c.in-Err.ensures.reached c.in-Err.ensures.stop
 
 pub returns-in_default-clause-opens : goal.returns-in_default-clause-opens
 returns-in_default-clause-opens g c =

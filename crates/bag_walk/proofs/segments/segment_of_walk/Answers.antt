@@ -13,7 +13,7 @@ returns-clause-stop g c =
     let walk = c.args.walk in
     let new = c.write_faults-segment.new.walk in
     rw c.into_tree.ensures
-    (stops_segment (g.S.Source.todo walk.source) (g.S.Source.todo new.source) (state walk.tree) (state new.tree) c.write_faults-segment.ensures.opens
+    (stops_segment (g.S.Source.todo walk.source) (g.S.Source.todo new.source) (state walk.tree) (state new.tree)
     (IsTrue (state walk.tree).honest → g.S.Source.is_of (state walk.tree).bag walk.source) c.write_faults-segment.result.end c.write_faults-segment.ensures.stop)
 
 pub returns-clause-behind : goal.returns-clause-behind

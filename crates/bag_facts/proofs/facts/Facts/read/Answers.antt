@@ -15,7 +15,7 @@ returns-in-Err-clause-opens g c = opens_none c.args.options (g.T.Tree.state c.ar
 pub returns-in-Err-clause-stop : goal.returns-in-Err-clause-stop
 returns-in-Err-clause-stop g c =
     listing_stop c.args.options (g.T.Tree.state c.args.tree.now) (g.T.Tree.state c.list.new.self) _ c.without_path.result
-    c.without_path.ensures.cause c.without_path.ensures.path c.list.ensures.openings c.in-Err.ensures.refused c.in-Err.ensures.last
+    c.without_path.ensures.cause c.without_path.ensures.path c.list.ensures.openings c.list.ensures.rest c.in-Err.ensures.refused c.in-Err.ensures.last
 
 pub returns-in_err-read-clause-opens : goal.returns-in_err-read-clause-opens
 returns-in_err-read-clause-opens g c =

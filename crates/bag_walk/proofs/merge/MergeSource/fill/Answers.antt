@@ -1,10 +1,10 @@
-use Rattle.std.proofs.Common.{◌≡◌, ◌∙◌, true, false, sym, subst}
+use Rattle.std.proofs.Common.{◌≡◌, ◌∙◌, inl, true, false, sym, subst}
 use Rattle.bag_walk.specs.Filled.{awaits_second}
 use Rattle.bag_walk.specs.Merge.{least_of, nothing_to_open, union}
 use Rattle.bag_walk.specs.Source.{first_of, Where}
 use Rattle.bag_walk.specs.Union.{first_of_union}
 use Rattle.bag_walk.proofs.Filling.{sees_later, stop_front, stop_later, anyway_front, anyway_later}
-use Rattle.bag_walk.proofs.Merging.{nothing_opened, opens_nothing, opens_nothing_again, quiet_again, quiet_opens, sees_one, sees_other}
+use Rattle.bag_walk.proofs.Merging.{nothing_opened, opens_nothing, opens_nothing_again, quiet_again, quiet_opens, quiet_stop, sees_one, sees_other}
 use Rattle.bag_walk.proofs.merge.MergeSource.fill.Goals as goal
 
 pub returns-in-Err-clause-again : goal.returns-in-Err-clause-again
@@ -153,3 +153,15 @@ returns-in-Err-fill-clause-anyway g c =
     let stop = c.in-Err-fill.stop in
     anyway_front old new (g.B.Source.todo c.fill.new.self) (g.A.Source.todo c.fill_unless.new.source) stop
     (anyway_later old (state c.fill_unless.new.tree) new (g.B.Source.todo c.fill.new.self) stop c.fill_unless.ensures.keeps c.in-Err-fill.ensures.anyway)
+
+pub returns-in-Err-clause-reached : goal.returns-in-Err-clause-reached
+returns-in-Err-clause-reached g c = λ quiet.
+    let state = g.T.Tree.state in
+    let first = c.fill_unless.new.source in
+    inl (quiet_stop (state c.args.tree.now) (state c.fill_unless.new.tree) (g.A.Source.todo first) c.in-Err.stop (quiet.2 first) c.in-Err.ensures.anyway)
+
+pub returns-in-Err-fill-clause-reached : goal.returns-in-Err-fill-clause-reached
+returns-in-Err-fill-clause-reached g c = λ quiet.
+    let state = g.T.Tree.state in
+    let second = c.fill.new.self in
+    inl (quiet_stop (state c.fill_unless.new.tree) (state c.fill.new.tree) (g.B.Source.todo second) c.in-Err-fill.stop (quiet.3 second) c.in-Err-fill.ensures.anyway)

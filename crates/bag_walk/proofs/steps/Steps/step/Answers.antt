@@ -28,3 +28,7 @@ returns-in-Ok-clause-opens g c =
 pub returns-in-Err-clause-again : goal.returns-in-Err-clause-again
 returns-in-Err-clause-again g c =
     rw (c.leave.ensures.tree, c.leave.ensures.todo) at (c.in-Err.ensures.again g.met.S.InOrder.is_in_order)
+
+pub returns-in-Err-clause-reached : goal.returns-in-Err-clause-reached
+returns-in-Err-clause-reached g c =
+    rw (c.leave.ensures.tree, c.leave.ensures.todo) at (c.in-Err.ensures.reached g.met.S.InOrder.is_in_order)

@@ -1,7 +1,7 @@
-use Rattle.std.proofs.Common.{◌++◌, ◌∙◌, [], ap, sym, subst}
-use Rattle.std.proofs.lemmas.Result.{on_ok_weaker, on_err_weaker}
+use Rattle.std.proofs.Common.{◌++◌, ◌∙◌, [], inl, inr, ap, sym, subst}
+use Rattle.std.proofs.lemmas.Result.{on_ok_weaker, on_err_weaker, IfErr-weaker}
 use Rattle.bag_walk.specs.Openings.{Opens}
-use Rattle.bag_walk.proofs.Filling.{again_both, again_within, behind_both, behind_first, below_same, first_front, none_before, none_left, none_shown, opened_by, opens_within, sees_first, sees_later, sees_second, some_shown, stop_front, anyway_front, anyway_in_turn}
+use Rattle.bag_walk.proofs.Filling.{again_both, again_within, behind_both, behind_first, below_same, first_front, none_before, none_left, none_shown, opened_by, opens_within, reached_both, reached_front, sees_first, sees_later, sees_second, some_shown, stop_front, anyway_front, anyway_in_turn}
 use Rattle.bag_walk.proofs.then.ThenSource.fill.Goals as goal
 
 pub returns-in-Err-clause-same : goal.returns-in-Err-clause-same
@@ -145,3 +145,31 @@ returns-clause-behind g c = rw c.if-not-self.false (λ ordered bag h sees.
     (c.fill-3.ensures.behind ordered.1 bag h.1 (sees_later old mid ys bag c.fill-2.ensures.keeps (sees_second old xs ys bag sees)))
     (opened_by mid new ys (g.B.Source.todo c.fill-3.new.self) c.fill-3.result
     (on_ok_weaker c.fill-3.result (λ opens. opens ordered.1) c.fill-3.ensures.opens) (on_err_weaker c.fill-3.result (λ again. again ordered.1) c.fill-3.ensures.again)))
+
+pub returns-then-not-self-clause-reached : goal.returns-then-not-self-clause-reached
+returns-then-not-self-clause-reached g c = rw c.if-not-self.true (IfErr-weaker c.fill.result _ _ (λ stop reached ordered. reached ordered.1) c.fill.ensures.reached)
+
+pub returns-in-Err-clause-reached : goal.returns-in-Err-clause-reached
+returns-in-Err-clause-reached g c = rw c.if-not-self.false (λ ordered.
+    let state = g.T.Tree.state in
+    let xs = g.A.Source.todo c.args.self.now.first in
+    let ys = g.B.Source.todo c.args.self.now.second in
+    elim (c.in-Err.ensures.reached ordered.0) [
+      | inl memory ↦ inl memory
+      | inr reached ↦ inr (reached_front (state c.args.tree.now) (state c.args.tree.now) (state c.fill-2.new.tree) xs ys ys c.in-Err.stop.path reached)
+    ])
+
+pub returns-clause-reached : goal.returns-clause-reached
+returns-clause-reached g c = rw c.if-not-self.false (
+    let state = g.T.Tree.state in
+    let old = state c.args.tree.now in
+    let mid = state c.fill-2.new.tree in
+    let new = state c.fill-3.new.tree in
+    let xs = g.A.Source.todo c.args.self.now.first in
+    let ys = g.B.Source.todo c.args.self.now.second in
+    let none = none_shown c.peek.result (g.A.Source.found c.fill-2.new.self) c.is_some.result c.peek.ensures c.is_some.ensures c.if-is_some.false in
+    IfErr-weaker c.fill-3.result _ _
+    (λ stop reached ordered.
+    let opens : Opens xs [] old mid = subst (λ l. Opens xs l old mid) (c.in-Ok.ensures.ended ordered.0 none) (c.in-Ok.ensures.opens ordered.0) in
+    elim (reached ordered.1) [ inl memory ↦ inl memory | inr at ↦ inr (reached_both old mid new xs ys ys opens stop.path at) ])
+    c.fill-3.ensures.reached)

@@ -38,3 +38,6 @@ returns-in-Err-clause-behind g c = λ ordered bag h sees.
     behind_found self.found (faults_of_files bag self.after self.pending) (state c.args.tree.now) (state c.next_faults.new.tree) none
     (subst (λ (a : Option Fault). OpensNoneBehind (faults_of_files bag a self.pending) (state c.args.tree.now) (state c.next_faults.new.tree)) c.as_ref.ensures.value
     (c.next_faults.ensures.behind bag sees h.files))
+
+pub returns-in-Err-clause-reached : goal.returns-in-Err-clause-reached
+returns-in-Err-clause-reached g c = λ ordered. c.in-Err.ensures.reached
