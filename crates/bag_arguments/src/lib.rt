@@ -23,4 +23,4 @@ pub use check_option::CheckOption;
 pub use label::Label;
 pub use plan::{Action, InfoItem, Plan};
 pub use planning::plan_of;
-pub use usage::{Usage, refuse_words};
+pub use usage::Usage;

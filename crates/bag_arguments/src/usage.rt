@@ -4,31 +4,30 @@ ghost use Rattle.bag_arguments.specs.Plan.{usage_status};
 ghost use Rattle.bag_arguments.specs.declared.usage.Usage.TheVariants.{Memory};
 
 use crate::CheckOption;
-use bag_text::Text;
+use bag_text::{Text, said};
 use std::alloc::{AllocError, AllocFailed};
-use std::io::Write;
 use thiserror::Error;
 
-/// Why the words of a command line are refused.
+/// Why the words of a command line are refused. Its text has no line end behind it.
 #[derive(Debug, Drop, Error)]
 pub enum Usage {
-    /// The program takes no such words. The text, of clap, says what is wrong with them and ends its lines itself.
+    /// The program takes no such words. The text, of clap, says what is wrong with them in some lines.
     #[error("{0}")]
     Refused(Text),
     /// An option is given that needs `--validate`: the first, in the order of `CheckOption`.
-    #[error("bagit: {0} needs --validate")]
+    #[error("{program}{0}{why}", program = said::PROGRAM, why = said::NEEDS_VALIDATE)]
     NeedsValidate(CheckOption),
     /// More than one depth is given.
-    #[error("bagit: more than one of --declaration-only, --fast, --completeness-only")]
+    #[error("{program}{why}", program = said::PROGRAM, why = said::TWO_DEPTHS)]
     TwoDepths,
     /// A cursor is given for several folders.
-    #[error("bagit: --after takes one directory")]
+    #[error("{program}{why}", program = said::PROGRAM, why = said::AFTER_SEVERAL)]
     AfterSeveral,
     /// The cursor is the line of no fault.
-    #[error("bagit: --after is not a fault line")]
+    #[error("{program}{why}", program = said::PROGRAM, why = said::AFTER_NOT_A_LINE)]
     AfterNotALine,
     /// A growth was refused.
-    #[error("bagit: out of memory")]
+    #[error("{program}{why}", program = said::PROGRAM, why = said::OUT_OF_MEMORY)]
     Memory,
 }
 
@@ -46,17 +45,6 @@ impl Usage {
             | Usage::AfterNotALine => 2,
         }
     }
-}
-
-/// Says on `err` why the words are refused, and gives the exit status.
-pub fn refuse_words<E: Write>(usage: &Usage, err: &mut E) -> u8
-    ensures { result ≡ usage_status usage.now }
-{
-    let _ = match usage {
-        Usage::Refused(text) => write!(err, "{text}"),
-        _ => writeln!(err, "{usage}"),
-    };
-    usage.status()
 }
 
 impl From<AllocError> for Usage {

@@ -4,5 +4,6 @@ mod Honest
 pub mod HonestDisks
 mod Lines
 pub mod Makings
+pub mod SaidLines
 pub mod Turns
 pub mod UncheckedLines

@@ -10,9 +10,11 @@ pub mod ProfileFile
 pub mod ProfileRefusal
 pub mod Program
 pub mod Sample
+pub mod Saying
 pub mod Status
 pub mod SystemFile
 pub mod Told
 pub mod UncheckedKeys
 pub mod Visits
 pub mod Words
+pub mod WordsRefusal

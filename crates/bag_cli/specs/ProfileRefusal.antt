@@ -13,13 +13,21 @@ abbrev pub unread_as : ReadFault → ProfileRefusal
 unread_as read.Unread = Unread
 unread_as read.Memory = Refused Memory
 
--- the text, without a line end
-abbrev pub refusal_text : ProfileRefusal → List ℕ
-refusal_text Unread = codes "bagit: profile unread"
-refusal_text (Refused NotJson) = codes "bagit: profile: not JSON"
-refusal_text (Refused NoIdentifier) = codes "bagit: profile: no identifier"
-refusal_text (Refused (WrongShape key)) = codes "bagit: profile: wrong shape: " ++ field (key_name key)
-refusal_text (Refused Memory) = codes "bagit: out of memory"
+-- the line about a profile that is refused for this reason
+abbrev pub refused_profile : List ℕ → List ℕ
+refused_profile reason = codes "bagit: profile: " ++ (reason ++ codes "\n")
+
+-- the line about the value of a key that has a wrong shape
+abbrev pub wrong_shape_line : List ℕ → List ℕ
+wrong_shape_line key = codes "bagit: profile: wrong shape: " ++ (field key ++ codes "\n")
+
+-- the line, with its end
+abbrev pub refusal_line : ProfileRefusal → List ℕ
+refusal_line Unread = codes "bagit: profile unread\n"
+refusal_line (Refused NotJson) = refused_profile (codes "not JSON")
+refusal_line (Refused NoIdentifier) = refused_profile (codes "no identifier")
+refusal_line (Refused (WrongShape key)) = wrong_shape_line (key_name key)
+refusal_line (Refused Memory) = codes "bagit: out of memory\n"
 
 -- bytes that aren't a profile are the fault of who gave them
 abbrev pub refusal_status : ProfileRefusal → ℕ

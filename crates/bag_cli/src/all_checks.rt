@@ -5,20 +5,20 @@ ghost use Rattle.bag_cli.specs.Status.{whole_status};
 
 use crate::check::{check_folder, check_sample};
 use crate::in_turn::Task;
-use crate::performing::{REFUSED, say_memory, say_refused};
+use crate::performing::REFUSED;
+use crate::saying::{say_memory, say_refused};
 use crate::{Disks, Folders, Visits};
 use bag_arguments::Plan;
 use bag_profile::Profile;
 use bag_tree::Out;
 use bag_walk::{Outcome, status};
 use std::alloc::{AllocError, Global};
-use std::io::Write;
 
 /// Checks the sample bag, and says on `err` what was refused beside the report.
 pub(crate) fn report_sample<O, E>(alloc: Global, plan: &Plan, out: &mut O, err: &mut E) -> u8
 where
     O: Out,
-    E: Write,
+    E: Out,
     ensures { IsSampleChecked plan.now (O.taken out.old) (O.taken out.new) (O.has_refused out.new) result }
 {
     let checked = check_sample(alloc, plan, out);
@@ -40,7 +40,7 @@ impl Task for Checks<'_> {
 
     ghost goes = { λ checks. IsWholeCheck checks.plan.now (option_copied checks.profile) };
 
-    fn do_in<D: Disks, O: Out, E: Write>(
+    fn do_in<D: Disks, O: Out, E: Out>(
         &self,
         alloc: Global,
         folders: &Folders<'_, D>,
@@ -63,7 +63,7 @@ impl Task for Checks<'_> {
 }
 
 /// Says on `err` what was refused beside the report, and gives the status where the whole report was written.
-fn status_of_whole<E: Write>(checked: &Result<Outcome, AllocError>, err: &mut E) -> Option<u8>
+fn status_of_whole<E: Out>(checked: &Result<Outcome, AllocError>, err: &mut E) -> Option<u8>
     ensures { result ≡ whole_status checked.now }
 {
     match checked {

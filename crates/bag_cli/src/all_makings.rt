@@ -8,13 +8,13 @@ ghost use Rattle.bag_cli.specs.Performed.{AreMade};
 ghost use Rattle.bag_cli.specs.Visits.{NotGiven};
 
 use crate::in_turn::{Task, do_in_turn};
-use crate::performing::{REFUSED, say_memory, say_refused};
+use crate::performing::REFUSED;
+use crate::saying::{say_memory, say_refused};
 use crate::{Disks, Folders, Visits, make_and_tell};
 use bag_arguments::{InfoItem, Plan};
 use bag_text::Text;
 use bag_tree::{Out, Refused};
 use std::alloc::{AllocError, Global};
-use std::io::Write;
 
 /// Makes the folders of a plan bags in place, one after the other.
 pub(crate) fn make_all<D, O, E>(
@@ -28,7 +28,7 @@ pub(crate) fn make_all<D, O, E>(
 where
     D: Disks,
     O: Out,
-    E: Write,
+    E: Out,
     ensures { HasVisited (visits_of visits.old) (visits_of visits.new)
         (λ own. AreMade (D.below (disks_of folders.now)) plan.now (O.taken out.old) (O.taken out.new) (O.has_refused out.new) own result) }
 {
@@ -95,7 +95,7 @@ impl Task for Makings<'_> {
 
     ghost goes = { λ makings. IsWholeMaking makings.plan.now makings.info.now };
 
-    fn do_in<D: Disks, O: Out, E: Write>(
+    fn do_in<D: Disks, O: Out, E: Out>(
         &self,
         alloc: Global,
         folders: &Folders<'_, D>,

@@ -6,13 +6,13 @@ ghost use Rattle.bag_walk.specs.Write.{Writes};
 
 use crate::all_checks::Checks;
 use crate::in_turn::do_in_turn;
-use crate::performing::{REFUSED, say_refused};
+use crate::performing::REFUSED;
+use crate::saying::say_refused;
 use crate::{Disks, Folders, Visits, read_profile, refuse_profile, write_unchecked};
 use bag_arguments::Plan;
 use bag_profile::Profile;
 use bag_tree::{Out, Refused};
 use std::alloc::Global;
-use std::io::Write;
 
 /// Checks the bags in the folders of a plan, by its profile where it has one, which is read first.
 pub(crate) fn check_by_profile<D, O, E>(
@@ -26,7 +26,7 @@ pub(crate) fn check_by_profile<D, O, E>(
 where
     D: Disks,
     O: Out,
-    E: Write,
+    E: Out,
     ensures { HasVisited (visits_of visits.old) (visits_of visits.new) (λ own. IsChecked (D.below (disks_of folders.now)) (D.file (disks_of folders.now)) plan.now
         plan.now.profile (O.taken out.old) (O.taken out.new) (O.has_refused out.new) own result) }
 {
@@ -57,7 +57,7 @@ fn check_by<D, O, E>(
 where
     D: Disks,
     O: Out,
-    E: Write,
+    E: Out,
     ensures { HasVisited (visits_of visits.old) (visits_of visits.new)
         (λ own. AreCheckedBy (D.below (disks_of folders.now)) plan.now profile.now (O.taken out.old) (O.taken out.new) (O.has_refused out.new) own result) }
 {

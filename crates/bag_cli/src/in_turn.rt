@@ -11,7 +11,6 @@ use crate::{Disks, Folders, Visits};
 use bag_text::Text;
 use bag_tree::Out;
 use std::alloc::Global;
-use std::io::Write;
 
 /// What is done with one folder after the other.
 pub(crate) trait Task {
@@ -24,7 +23,7 @@ pub(crate) trait Task {
 
     /// Does it with a folder, and says on `err` what was refused beside what it writes to `out`. Gives the status where all of that
     /// was written.
-    fn do_in<D: Disks, O: Out, E: Write>(
+    fn do_in<D: Disks, O: Out, E: Out>(
         &self,
         alloc: Global,
         folders: &Folders<'_, D>,
@@ -53,7 +52,7 @@ where
     T: Task,
     D: Disks,
     O: Out,
-    E: Write,
+    E: Out,
     ensures { HasVisited (visits_of visits.old) (visits_of visits.new) (λ own. AreInTurn
         (λ name. T.ends task.now (tree_state (D.below (disks_of folders.now) name) 0) name)
         (λ name. T.goes task.now (tree_state (D.below (disks_of folders.now) name) 0) name)

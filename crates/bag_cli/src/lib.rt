@@ -3,7 +3,8 @@
 //! ```
 //! let (folders, mut visits) = Folders::of(&rt);
 //! let mut out = WriterOut::new(io::writer(&rt));
-//! let status = run_program(&rt, &folders, &mut visits, &mut out, &mut rt.stderr());
+//! let mut err = WriterOut::new(rt.stderr());
+//! let status = run_program(&rt, &folders, &mut visits, &mut out, &mut err);
 //! ```
 //!
 //! `Disks` gives the disks that the program looks at, and the bytes of files elsewhere, as profiles; it is implemented for
@@ -30,13 +31,15 @@ mod profile_refusal;
 mod read_fault;
 mod record;
 mod sample;
+mod saying;
 mod system_file;
 mod unchecked_keys;
 mod visits;
 mod whole_program;
 mod words;
+mod words_refusal;
 
-pub use bag_arguments::{Action, Plan, Usage, plan_of, refuse_words};
+pub use bag_arguments::{Action, Plan, Usage, plan_of};
 pub use bag_tree::WriterOut;
 pub use disks::Disks;
 pub use folders::Folders;
@@ -50,3 +53,4 @@ pub use unchecked_keys::write_unchecked;
 pub use visits::Visits;
 pub use whole_program::{program, run_program};
 pub use words::Words;
+pub use words_refusal::refuse_words;

@@ -4,6 +4,7 @@ ghost use Rattle.bag_cli.specs.MakingLine as spec;
 ghost use Rattle.bag_walk.specs.Write.{Writes};
 
 use bag_make::MakeFault;
+use bag_text::said;
 use bag_tree::{Out, Refused, Stop, TreeFault};
 use bag_walk::put_line;
 use itoa::Buffer;
@@ -23,7 +24,7 @@ pub fn put_making<W: Out>(
             if quiet {
                 Ok(())
             } else {
-                put_line(name, &[" made\n"], out)
+                put_line(name, &[said::MADE, "\n"], out)
             }
         }
         Err(fault) => put_not_made(name, fault, out),
@@ -34,11 +35,11 @@ fn put_not_made<W: Out>(name: &str, fault: &MakeFault, out: &mut W) -> Result<()
     ensures { Writes (W.taken out.old) (W.taken out.new) (W.has_refused out.new) (spec.not_made name.now (spec.reason fault.now)) result }
 {
     match fault {
-        MakeFault::NoAlgorithm => put_reason(name, "no algorithm", out),
-        MakeFault::InTheWay => put_reason(name, ".bagit-new is there", out),
-        MakeFault::BadValue => put_reason(name, "bad value", out),
+        MakeFault::NoAlgorithm => put_reason(name, said::NO_ALGORITHM, out),
+        MakeFault::InTheWay => put_reason(name, said::IN_THE_WAY, out),
+        MakeFault::BadValue => put_reason(name, said::BAD_VALUE, out),
         MakeFault::ReadStopped(stop) => put_unread(name, stop, out),
-        MakeFault::Memory => put_reason(name, "out of memory", out),
+        MakeFault::Memory => put_reason(name, said::OUT_OF_MEMORY, out),
         MakeFault::StepRefused(place, cause) => put_step(name, *place, *cause, out),
     }
 }
@@ -46,13 +47,13 @@ fn put_not_made<W: Out>(name: &str, fault: &MakeFault, out: &mut W) -> Result<()
 fn put_reason<W: Out>(name: &str, reason: &str, out: &mut W) -> Result<(), Refused>
     ensures { Writes (W.taken out.old) (W.taken out.new) (W.has_refused out.new) (spec.not_made name.now reason.now) result }
 {
-    put_line(name, &[" not made: ", reason, "\n"], out)
+    put_line(name, &[said::NOT_MADE, reason, "\n"], out)
 }
 
 fn put_unread<W: Out>(name: &str, stop: &Stop, out: &mut W) -> Result<(), Refused>
     ensures { Writes (W.taken out.old) (W.taken out.new) (W.has_refused out.new) (spec.not_made name.now (spec.unread stop.now)) result }
 {
-    put_line(name, &[" not made: read "], out)?;
+    put_line(name, &[said::NOT_MADE, said::READ], out)?;
     put_cause(stop, out)
 }
 
@@ -69,7 +70,8 @@ fn put_step<W: Out>(name: &str, place: u64, cause: TreeFault, out: &mut W) -> Re
     put_line(
         name,
         &[
-            " not made: step ",
+            said::NOT_MADE,
+            said::STEP,
             digits.format(place),
             " ",
             cause.word(),

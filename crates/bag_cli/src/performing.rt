@@ -7,12 +7,12 @@ ghost use Rattle.bag_cli.specs.Performed.{IsPerformed, IsSaid};
 use crate::all_checks::report_sample;
 use crate::all_makings::make_all;
 use crate::by_profile::check_by_profile;
+use crate::saying::say_refused;
 use crate::{Disks, Folders, Visits};
 use bag_arguments::{Action, Plan};
 use bag_tree::{Out, Refused};
 use bag_walk::put_pieces;
 use std::alloc::Global;
-use std::io::Write;
 
 /// The exit status where a read, a write or a growth was refused.
 pub(crate) const REFUSED: u8 = 3;
@@ -39,7 +39,7 @@ pub fn perform<D, O, E>(
 where
     D: Disks,
     O: Out,
-    E: Write,
+    E: Out,
     ensures status { result ≤ 3 }
     ensures performed { HasVisited (visits_of visits.old) (visits_of visits.new)
         (λ own. IsPerformed (D.below (disks_of folders.now)) (D.file (disks_of folders.now)) plan.now (O.taken out.old) (O.taken out.new) (O.has_refused out.new) own result) }
@@ -53,7 +53,7 @@ where
 }
 
 /// Writes a text.
-fn say<O: Out, E: Write>(text: &str, out: &mut O, err: &mut E) -> u8
+fn say<O: Out, E: Out>(text: &str, out: &mut O, err: &mut E) -> u8
     ensures { IsSaid text.now (O.taken out.old) (O.taken out.new) (O.has_refused out.new) [] result }
 {
     match put_pieces(out, &[text]) {
@@ -63,14 +63,4 @@ fn say<O: Out, E: Write>(text: &str, out: &mut O, err: &mut E) -> u8
             REFUSED
         }
     }
-}
-
-/// Says on `err` that the output refused.
-pub(crate) fn say_refused<E: Write>(err: &mut E) {
-    let _ = err.write_all(b"bagit: output refused\n");
-}
-
-/// Says on `err` that memory ran out.
-pub(crate) fn say_memory<E: Write>(err: &mut E) {
-    let _ = err.write_all(b"bagit: out of memory\n");
 }

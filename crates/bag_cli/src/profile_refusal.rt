@@ -1,15 +1,17 @@
 //! Why there is no profile.
-ghost use Rattle.std.specs.Prelude.{◌≡◌, Some};
+ghost use Rattle.std.specs.Prelude.{◌≡◌};
 ghost use Rattle.bag_profile.specs.declared.fault.ProfileFault.TheVariants.{Memory};
+ghost use Rattle.bag_walk.specs.Write.{Writes};
 ghost use Rattle.bag_cli.specs.ProfileRefusal as spec;
+ghost use Rattle.bag_cli.specs.Saying.{Says};
 ghost use Rattle.bag_cli.specs.declared.profile_refusal.ProfileRefusal.TheVariants.{Refused};
 
 use crate::ReadFault;
-use bag_facts::field_pieces;
+use crate::saying::{say_memory, say_on};
 use bag_profile::ProfileFault;
-use std::error::Error;
-use std::fmt;
-use std::io::Write;
+use bag_text::said;
+use bag_tree::{Out, Refused};
+use bag_walk::{put_line, put_pieces};
 
 /// Why there is no profile.
 #[derive(Clone, Copy, Debug, PartialEq, Eq)]
@@ -34,34 +36,45 @@ impl ProfileRefusal {
     }
 }
 
-/// What the program says of it, without a line end.
-impl fmt::Display for ProfileRefusal {
-    ghost output = { λ refusal. Some (spec.refusal_text refusal) };
+/// Says on `err` why there is no profile, in a line, and gives the exit status. It takes no memory.
+pub fn refuse_profile<E: Out>(refusal: ProfileRefusal, err: &mut E) -> u8
+    ensures status { result ≡ spec.refusal_status refusal }
+    ensures said { Says (E.taken err.old) (E.taken err.new) (E.has_refused err.new) (spec.refusal_line refusal) }
+{
+    match refusal {
+        ProfileRefusal::Unread => say_on(err, &[said::PROGRAM, said::PROFILE_UNREAD, "\n"]),
+        ProfileRefusal::Refused(fault) => say_fault(fault, err),
+    }
+    refusal.status()
+}
 
-    fn fmt<W: fmt::Write>(&self, f: &mut fmt::Formatter<W>) -> fmt::Result {
-        match self {
-            ProfileRefusal::Unread => f.write_str("bagit: profile unread"),
-            ProfileRefusal::Refused(fault) => match fault {
-                ProfileFault::NotJson => f.write_str("bagit: profile: not JSON"),
-                ProfileFault::NoIdentifier => f.write_str("bagit: profile: no identifier"),
-                ProfileFault::WrongShape(key) => {
-                    let field = field_pieces(key.name());
-                    write!(f, "bagit: profile: wrong shape: {field}")
-                }
-                ProfileFault::Memory => f.write_str("bagit: out of memory"),
-            },
+/// Says on `err` why a profile is refused.
+fn say_fault<E: Out>(fault: ProfileFault, err: &mut E)
+    ensures { Says (E.taken err.old) (E.taken err.new) (E.has_refused err.new) (spec.refusal_line (Refused fault)) }
+{
+    match fault {
+        ProfileFault::NotJson => say_reason(said::NOT_JSON, err),
+        ProfileFault::NoIdentifier => say_reason(said::NO_IDENTIFIER, err),
+        ProfileFault::WrongShape(key) => {
+            let _ = put_wrong_shape(key.name(), err);
         }
+        ProfileFault::Memory => say_memory(err),
     }
 }
 
-impl Error for ProfileRefusal {}
-
-/// Says on `err` why there is no profile, and gives the exit status.
-pub fn refuse_profile<E: Write>(refusal: ProfileRefusal, err: &mut E) -> u8
-    ensures { result ≡ spec.refusal_status refusal }
+/// Says on `err` that a profile is refused for this reason.
+fn say_reason<E: Out>(reason: &str, err: &mut E)
+    ensures { Says (E.taken err.old) (E.taken err.new) (E.has_refused err.new) (spec.refused_profile reason.now) }
 {
-    let _ = writeln!(err, "{refusal}");
-    refusal.status()
+    say_on(err, &[said::PROGRAM, said::PROFILE, reason, "\n"]);
+}
+
+/// Hands the line about the key of a profile whose value has a wrong shape to an output.
+fn put_wrong_shape<E: Out>(key: &str, err: &mut E) -> Result<(), Refused>
+    ensures { Writes (E.taken err.old) (E.taken err.new) (E.has_refused err.new) (spec.wrong_shape_line key.now) result }
+{
+    put_pieces(err, &[said::PROGRAM, said::PROFILE, said::WRONG_SHAPE])?;
+    put_line(key, &["\n"], err)
 }
 
 impl From<ReadFault> for ProfileRefusal {

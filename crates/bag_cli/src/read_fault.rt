@@ -4,6 +4,7 @@ ghost use Rattle.std.specs.IoError.{error_kind};
 ghost use Rattle.std.specs.declared.io.ErrorKind.TheVariants.{OutOfMemory};
 ghost use Rattle.bag_cli.specs.declared.read_fault.ReadFault.TheVariants.{Memory, Unread};
 
+use bag_text::said;
 use std::io;
 use std::io::ErrorKind;
 use thiserror::Error;
@@ -12,10 +13,10 @@ use thiserror::Error;
 #[derive(Clone, Copy, Debug, PartialEq, Eq, Error)]
 pub enum ReadFault {
     /// There is no regular file, it can't be read, or it has too many bytes.
-    #[error("unread")]
+    #[error("{why}", why = said::PROFILE_UNREAD)]
     Unread,
     /// A growth was refused.
-    #[error("out of memory")]
+    #[error("{why}", why = said::OUT_OF_MEMORY)]
     Memory,
 }
 

@@ -3,6 +3,7 @@ ghost use Rattle.bag_walk.specs.Write.{Writes};
 ghost use Rattle.bag_cli.specs.UncheckedKeys as spec;
 
 use bag_profile::Profile;
+use bag_text::said;
 use bag_tree::{Out, Refused};
 use bag_walk::{put_line, put_pieces};
 
@@ -20,6 +21,6 @@ pub fn write_unchecked<O: Out>(profile: &Profile, out: &mut O) -> Result<(), Ref
 fn put_unchecked<O: Out>(key: &str, out: &mut O) -> Result<(), Refused>
     ensures { Writes (O.taken out.old) (O.taken out.new) (O.has_refused out.new) (spec.unchecked_line key.now) result }
 {
-    put_pieces(out, &["unchecked "])?;
+    put_pieces(out, &[said::UNCHECKED])?;
     put_line(key, &["\n"], out)
 }

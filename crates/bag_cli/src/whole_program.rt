@@ -7,11 +7,10 @@ ghost use Rattle.bag_cli.specs.Program.{IsProgram, IsProgramOrNone, IsStarted};
 
 use crate::performing::perform;
 use crate::words::{Words, asked_words, texts_of};
-use crate::{Disks, Folders, Visits};
-use bag_arguments::{Usage, plan_of, refuse_words};
+use crate::{Disks, Folders, Visits, refuse_words};
+use bag_arguments::{Usage, plan_of};
 use bag_tree::Out;
 use std::alloc::Global;
-use std::io::Write;
 
 /// Does what the words ask for, without the program's name, and gives the exit status.
 ///
@@ -28,7 +27,7 @@ pub fn program<D, O, E>(
 where
     D: Disks,
     O: Out,
-    E: Write,
+    E: Out,
     ensures { HasVisited (visits_of visits.old) (visits_of visits.new)
         (λ own. IsProgram (D.below (disks_of folders.now)) (D.file (disks_of folders.now)) (texts words.now) (O.taken out.old) (O.taken out.new) (O.has_refused out.new) own result) }
 {
@@ -52,7 +51,7 @@ where
     R: Words + AllocGlobal,
     D: Disks,
     O: Out,
-    E: Write,
+    E: Out,
     ensures { HasVisited (visits_of visits.old) (visits_of visits.new)
         (λ own. IsStarted (R.answers rt.now) (D.below (disks_of folders.now)) (D.file (disks_of folders.now)) (O.taken out.old) (O.taken out.new) (O.has_refused out.new) own result) }
 {
@@ -75,7 +74,7 @@ where
     R: AllocGlobal,
     D: Disks,
     O: Out,
-    E: Write,
+    E: Out,
     ensures { HasVisited (visits_of visits.old) (visits_of visits.new)
         (λ own. IsProgramOrNone (D.below (disks_of folders.now)) (D.file (disks_of folders.now)) (map string_bytes words.now) (O.taken out.old) (O.taken out.new) (O.has_refused out.new) own result) }
 {

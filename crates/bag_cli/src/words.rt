@@ -9,7 +9,7 @@ ghost use Rattle.bag_arguments.specs.declared.usage.Usage.TheVariants.{Memory};
 ghost use Rattle.bag_cli.specs.Words.{IsUnread, MayAnswer, MayHaveAsked, answered};
 
 use bag_arguments::Usage;
-use bag_text::Text;
+use bag_text::{Text, said};
 use std::alloc::{AllocError, Global};
 use std::env::{self, Args};
 use std::io::{self, ErrorKind};
@@ -46,7 +46,7 @@ fn usage_of(alloc: Global, error: &io::Error) -> Usage
     if error.kind() == ErrorKind::OutOfMemory {
         return Usage::Memory;
     }
-    match Text::from_str(alloc, "bagit: a word isn't UTF-8\n") {
+    match Text::from_str(alloc, said::WORD_NOT_UTF8) {
         Ok(text) => Usage::Refused(text),
         Err(AllocError) => Usage::Memory,
     }

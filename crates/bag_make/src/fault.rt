@@ -1,4 +1,5 @@
 //! Why no bag is made.
+use bag_text::said;
 use bag_tree::{Stop, TreeFault};
 use thiserror::Error;
 
@@ -6,21 +7,21 @@ use thiserror::Error;
 #[derive(Debug, Drop, Error)]
 pub enum MakeFault {
     /// No algorithm is given.
-    #[error("no algorithm is given")]
+    #[error("{why}", why = said::NO_ALGORITHM)]
     NoAlgorithm,
     /// A file stands where the files are held while they are moved.
-    #[error("'.bagit-new' is there already")]
+    #[error("{why}", why = said::IN_THE_WAY)]
     InTheWay,
     /// An element that can't be written, or that is computed.
-    #[error("an element that can't be written")]
+    #[error("{why}", why = said::BAD_VALUE)]
     BadValue,
     /// The tree refused to list its files, or to read one. The cause isn't want of memory.
-    #[error("the folder can't be read: {0}")]
+    #[error("{read}{0}", read = said::READ)]
     ReadStopped(Stop),
     /// Memory ran out.
-    #[error("out of memory")]
+    #[error("{why}", why = said::OUT_OF_MEMORY)]
     Memory,
     /// The tree refused a step, which is given by its place from 1. All before it were taken.
-    #[error("step {0}: {1}")]
+    #[error("{step}{0} {1}", step = said::STEP)]
     StepRefused(u64, TreeFault),
 }

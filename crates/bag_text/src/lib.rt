@@ -28,6 +28,7 @@ mod line_cut;
 mod path;
 mod read_text;
 mod rules;
+pub mod said;
 mod sort_key;
 mod spelling;
 mod text;

@@ -3,11 +3,12 @@ ghost use Rattle.std.specs.Prelude.{◌≡◌, ◌<◌, List, ℕ, Option, Bool,
 ghost use Rattle.std.specs.Io.KnownBytes.{Keeps};
 ghost use Rattle.bag_tree.specs.Out.{Takes};
 
+use bag_text::said;
 use thiserror::Error;
 
 /// The bytes weren't taken.
 #[derive(Clone, Copy, Debug, PartialEq, Eq, Error)]
-#[error("the output refused")]
+#[error("{why}", why = said::OUTPUT_REFUSED)]
 pub struct Refused;
 
 /// What takes the output of a run, piece by piece. After a refusal it takes nothing more.

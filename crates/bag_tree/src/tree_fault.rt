@@ -3,7 +3,7 @@ ghost use Rattle.std.specs.Prelude.{◌≡◌, []};
 ghost use Rattle.bag_tree.specs.declared.tree_fault.TreeFault.TheVariants.{Memory};
 ghost use Rattle.bag_tree.specs.Cause as spec;
 
-use bag_text::Text;
+use bag_text::{Text, said};
 use std::alloc::{AllocError, AllocFailed, Global};
 use thiserror::Error;
 
@@ -11,31 +11,31 @@ use thiserror::Error;
 #[derive(Clone, Copy, Debug, PartialEq, Eq, Error)]
 pub enum TreeFault {
     /// The system refused: a folder, a file or a read.
-    #[error("the device refused")]
+    #[error("{word}", word = said::DEVICE)]
     Device,
     /// A symbolic link, a socket, a pipe or a device stands in the tree.
-    #[error("a link or a special file stands in the tree")]
+    #[error("{word}", word = said::SPECIAL)]
     Special,
     /// A name isn't UTF-8.
-    #[error("a name isn't UTF-8")]
+    #[error("{word}", word = said::NAME)]
     Name,
     /// There is no such file.
-    #[error("no such file")]
+    #[error("{word}", word = said::NOT_FOUND)]
     NotFound,
     /// There are more than 16,777,216 files and folders.
-    #[error("too many files and folders")]
+    #[error("{word}", word = said::TOO_MANY)]
     TooMany,
     /// A file has more or fewer bytes than were listed.
-    #[error("a file changed")]
+    #[error("{word}", word = said::CHANGED)]
     Changed,
     /// A read without an open file.
-    #[error("no file is open")]
+    #[error("{word}", word = said::NONE_OPEN)]
     NoneOpen,
     /// A growth was refused.
-    #[error("out of memory")]
+    #[error("{word}", word = said::MEMORY)]
     Memory,
     /// What was to be made is there.
-    #[error("it is there already")]
+    #[error("{word}", word = said::EXISTS)]
     Exists,
 }
 
@@ -45,15 +45,15 @@ impl TreeFault {
         ensures { result.now ≡ spec.word self }
     {
         match self {
-            TreeFault::Device => "device",
-            TreeFault::Special => "special",
-            TreeFault::Name => "name",
-            TreeFault::NotFound => "not-found",
-            TreeFault::TooMany => "too-many",
-            TreeFault::Changed => "changed",
-            TreeFault::NoneOpen => "none-open",
-            TreeFault::Memory => "memory",
-            TreeFault::Exists => "exists",
+            TreeFault::Device => said::DEVICE,
+            TreeFault::Special => said::SPECIAL,
+            TreeFault::Name => said::NAME,
+            TreeFault::NotFound => said::NOT_FOUND,
+            TreeFault::TooMany => said::TOO_MANY,
+            TreeFault::Changed => said::CHANGED,
+            TreeFault::NoneOpen => said::NONE_OPEN,
+            TreeFault::Memory => said::MEMORY,
+            TreeFault::Exists => said::EXISTS,
         }
     }
 }
@@ -76,7 +76,7 @@ impl<T: Drop> From<AllocFailed<T>> for TreeFault {
 
 /// A refusal, and the file that it is about. The path is empty for a listing and for want of memory.
 #[derive(Debug, Drop, Error)]
-#[error("{cause}: '{path}'")]
+#[error("{path} {cause}")]
 pub struct Stop {
     pub cause: TreeFault,
     /// Of the file that was refused; empty where it is none.

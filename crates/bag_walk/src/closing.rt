@@ -7,6 +7,7 @@ ghost use Rattle.bag_walk.specs.Write.{Writes, text_of};
 use crate::write::{put_all, put_pieces};
 use crate::{Outcome, Request};
 use bag_facts::{Depth, field_pieces};
+use bag_text::said;
 use bag_tree::{Out, Refused, Stop};
 use itoa::Buffer;
 
@@ -27,9 +28,9 @@ pub(crate) fn put_closing<W: Out>(
                 put_verdict(name, verdict(request.options.depth), out)
             }
         }
-        Outcome::Faults(count) => put_count(name, " has faults: ", *count, out),
-        Outcome::Stopped(count) => put_count(name, " stopped, faults: ", *count, out),
-        Outcome::Rest(count) => put_count(name, " rest done, faults: ", *count, out),
+        Outcome::Faults(count) => put_count(name, said::HAS_FAULTS, *count, out),
+        Outcome::Stopped(count) => put_count(name, said::STOPPED, *count, out),
+        Outcome::Rest(count) => put_count(name, said::REST_DONE, *count, out),
         Outcome::Unread(count, stop) => put_unread(name, stop, *count, out),
         Outcome::Unwritten(_) => Ok(()),
     }
@@ -40,10 +41,10 @@ fn verdict(depth: Depth) -> &'static str
     ensures { result.now ≡ spec.verdict depth }
 {
     match depth {
-        Depth::Declaration => " has a good declaration",
-        Depth::Fast => " agrees with its oxum",
-        Depth::Complete => " is complete",
-        Depth::Full => " is valid",
+        Depth::Declaration => said::GOOD_DECLARATION,
+        Depth::Fast => said::AGREES_WITH_OXUM,
+        Depth::Complete => said::COMPLETE,
+        Depth::Full => said::VALID,
     }
 }
 
@@ -63,7 +64,7 @@ fn put_count<W: Out>(name: &str, text: &str, count: u64, out: &mut W) -> Result<
 fn put_unread<W: Out>(name: &str, stop: &Stop, count: u64, out: &mut W) -> Result<(), Refused>
     ensures { Writes (W.taken out.old) (W.taken out.new) (W.has_refused out.new) (spec.unread_line name.now stop.now count) result }
 {
-    put_line(name, &[" unread "], out)?;
+    put_line(name, &[said::UNREAD], out)?;
     put_cause(stop, count, out)
 }
 
@@ -76,7 +77,7 @@ fn put_cause<W: Out>(stop: &Stop, count: u64, out: &mut W) -> Result<(), Refused
         &[
             " ",
             stop.cause.word(),
-            ", faults: ",
+            said::FAULTS,
             digits.format(count),
             "\n",
         ],

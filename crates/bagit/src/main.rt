@@ -11,6 +11,7 @@ use std::process::ExitCode;
 fn main(rt: HostRuntime) -> ExitCode {
     let (folders, mut visits) = Folders::of(&rt);
     let mut out = WriterOut::new(io::writer(&rt));
-    let status = run_program(&rt, &folders, &mut visits, &mut out, &mut rt.stderr());
+    let mut err = WriterOut::new(rt.stderr());
+    let status = run_program(&rt, &folders, &mut visits, &mut out, &mut err);
     ExitCode::from(status)
 }

@@ -33,12 +33,12 @@ pub(crate) fn answer_to<D: Disks>(alloc: Global, disks: &D, words: &[&str], room
     let (folders, mut visits) = Folders::of(disks);
     let taken = Vec::new(alloc);
     let mut out = WriterOut::new(Room { taken, room });
-    let mut told = Vec::<u8>::new(alloc);
-    let status = program(alloc, &folders, words, &mut visits, &mut out, &mut told);
+    let mut err = WriterOut::new(Vec::<u8>::new(alloc));
+    let status = program(alloc, &folders, words, &mut visits, &mut out, &mut err);
     let Room { taken, room: _ } = out.into_inner();
     Answer {
         written: Bytes::of(alloc, taken),
-        told: Bytes::of(alloc, told),
+        told: Bytes::of(alloc, err.into_inner()),
         status,
     }
 }

@@ -40,9 +40,14 @@ const REPORTS: &[(&[Place], &str)] = &[
 ];
 
 /// What is written, then what is said beside that, and the status.
-fn shown(stop: &impl Abort, out: WriterOut<Vec<u8>>, said: &[u8], status: u8) -> String {
+fn shown(
+    stop: &impl Abort,
+    out: WriterOut<Vec<u8>>,
+    err: WriterOut<Vec<u8>>,
+    status: u8,
+) -> String {
     let mut text = String::from_utf8(out.into_inner()).expect(stop, "succeeds");
-    let said = str::from_utf8(said).expect(stop, "succeeds");
+    let said = String::from_utf8(err.into_inner()).expect(stop, "succeeds");
     write!(text, "|{said}|{status}").expect(stop, "succeeds");
     text
 }
@@ -53,9 +58,9 @@ fn report(stop: &impl Abort, alloc: Global, places: &[Place]) -> String {
     let words = ["--validate", "--declaration-only", "d"];
     let plan = plan_of(alloc, &words).expect(stop, "succeeds");
     let mut out = WriterOut::new(Vec::<u8>::new(alloc));
-    let mut said = Vec::<u8>::new(alloc);
-    let status = checked(alloc, &disk, &plan, &mut out, &mut said);
-    shown(stop, out, &said, status)
+    let mut err = WriterOut::new(Vec::<u8>::new(alloc));
+    let status = checked(alloc, &disk, &plan, &mut out, &mut err);
+    shown(stop, out, err, status)
 }
 
 #[test]
@@ -98,9 +103,9 @@ fn told(stop: &impl Abort, alloc: Global, words: &[&str]) -> String {
     let disks = ScarceDisks { held: &held };
     let (folders, mut visits) = Folders::of(&disks);
     let mut out = WriterOut::new(Vec::<u8>::new(alloc));
-    let mut said = Vec::<u8>::new(alloc);
-    let status = program(alloc, &folders, words, &mut visits, &mut out, &mut said);
-    shown(stop, out, &said, status)
+    let mut err = WriterOut::new(Vec::<u8>::new(alloc));
+    let status = program(alloc, &folders, words, &mut visits, &mut out, &mut err);
+    shown(stop, out, err, status)
 }
 
 /// Nothing comes after a directory for which there is no memory.
@@ -124,8 +129,8 @@ fn help_ends_well(rt: HostRuntime) {
 
 #[test]
 fn want_of_memory_is_told(rt: HostRuntime) {
-    let mut said = Vec::<u8>::new(rt.alloc());
+    let mut err = WriterOut::new(Vec::<u8>::new(rt.alloc()));
     let refusal = ProfileRefusal::Refused(ProfileFault::Memory);
-    assert!(rt; refuse_profile(refusal, &mut said) == 3);
-    assert!(rt; said.as_slice() == b"bagit: out of memory\n".as_slice());
+    assert!(rt; refuse_profile(refusal, &mut err) == 3);
+    assert!(rt; err.into_inner().as_slice() == b"bagit: out of memory\n".as_slice());
 }

@@ -8,7 +8,6 @@ use bag_cli::laws::honest_disks_are_told;
 use bag_cli::{Disks, Folders, Plan, ReadFault, perform};
 use bag_tree::Out;
 use std::alloc::{AllocError, Global};
-use std::io::Write;
 use test_disk::MemoryDisk;
 
 /// Disks that hold the same below each base folder, and no file beside them.
@@ -37,7 +36,7 @@ impl<'a> Disks for SameDisks<'a> {
 ///
 /// Unless the status is 3, for a plan that checks one directory without a profile the output took the report of the bag that
 /// stands on the disk.
-pub fn checked<O: Out, E: Write>(
+pub fn checked<O: Out, E: Out>(
     alloc: Global,
     held: &MemoryDisk,
     plan: &Plan,

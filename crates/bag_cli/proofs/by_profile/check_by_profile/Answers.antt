@@ -30,5 +30,5 @@ returns-in-Err g c =
       Read path ∷ [],
       entered,
       checked_by_path (g.D.Disks.below (disks_of c.args.folders.now)) file c.args.plan.now c.args.plan.now.profile path (Err c.in-Err.refusal) _ _ (g.O.Out.has_refused c.args.out.now) []
-          c.refuse_profile.result c.in-Some.is read (c.refuse_profile.ensures, refl, refl),
+          c.refuse_profile.result c.in-Some.is read (c.refuse_profile.ensures.status, refl, refl),
     )

@@ -24,6 +24,6 @@ returns-in-Err g c = (
     planned = Err c.in-Err.refused;
     is_planned = c.in-Err.ensures.planned;
     taken = c.in-Err.ensures.taken;
-    done = (c.refuse_words.ensures, refl, refl);
+    done = (c.refuse_words.ensures.status, refl, refl);
   },
 )

@@ -19,5 +19,5 @@ returns-in-Err g c = (
   [],
   sym (append-nil (visits_of c.args.visits.now)),
   not_asked (g.R.Words.answers c.args.rt.now) (g.D.Disks.below (disks_of c.args.folders.now)) (g.D.Disks.file (disks_of c.args.folders.now)) c.in-Err.usage (g.O.Out.taken c.args.out.now)
-      (g.O.Out.has_refused c.args.out.now) c.refuse_words.result c.in-Err.ensures c.refuse_words.ensures,
+      (g.O.Out.has_refused c.args.out.now) c.refuse_words.result c.in-Err.ensures c.refuse_words.ensures.status,
 )

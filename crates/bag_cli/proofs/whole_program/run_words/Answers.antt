@@ -13,4 +13,4 @@ returns-in-Ok g c =
     (done.0, done.1, inr (subst program_of (ap texts c.deref.ensures.value ∙ c.in-Ok.ensures) done.2))
 
 pub returns-in-Err : goal.returns-in-Err
-returns-in-Err g c = ([], sym (append-nil (visits_of c.args.visits.now)), inl (c.refuse_words.ensures, refl, refl))
+returns-in-Err g c = ([], sym (append-nil (visits_of c.args.visits.now)), inl (c.refuse_words.ensures.status, refl, refl))

@@ -1,0 +1,11 @@
+use Rattle.std.proofs.lemmas.Result.{err_from_is_err_and}
+use Rattle.bag_walk.proofs.Writing.{IsCut-append, writes_after}
+use Rattle.bag_cli.proofs.profile_refusal.put_wrong_shape.Goals as goal
+
+pub returns-in_err-put_pieces : goal.returns-in_err-put_pieces
+returns-in_err-put_pieces g c =
+    let p = err_from_is_err_and c.from_residual.result c.from_residual.ensures.1 in
+    rw p.1 (IsCut-append _ _ _ _ c.in_err-put_pieces.ensures.0, c.in_err-put_pieces.ensures.1)
+
+pub returns : goal.returns
+returns g c = writes_after _ _ _ _ _ _ _ c.put_line.ensures c.in_ok-put_pieces.ensures

@@ -1,0 +1,14 @@
+-- What the program says where the words are refused.
+use Rattle.std.specs.Prelude.{ℕ, ◌++◌, List, codes}
+use Rattle.bag_arguments.specs.Given.{check_name}
+use Rattle.bag_arguments.specs.declared.usage.Usage.{Usage}
+use Rattle.bag_arguments.specs.declared.usage.Usage.TheVariants.{Refused, NeedsValidate, TwoDepths, AfterSeveral, AfterNotALine, Memory}
+
+-- the line with its end, of clap some lines
+abbrev pub usage_line : Usage → List ℕ
+usage_line (Refused text) = text ++ codes "\n"
+usage_line (NeedsValidate option) = codes "bagit: " ++ (check_name option ++ codes " needs --validate\n")
+usage_line TwoDepths = codes "bagit: more than one of --declaration-only, --fast, --completeness-only\n"
+usage_line AfterSeveral = codes "bagit: --after takes one directory\n"
+usage_line AfterNotALine = codes "bagit: --after is not a fault line\n"
+usage_line Memory = codes "bagit: out of memory\n"

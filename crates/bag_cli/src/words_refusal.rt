@@ -1,0 +1,29 @@
+//! What is said where the words of a command line are refused.
+ghost use Rattle.std.specs.Prelude.{◌≡◌};
+ghost use Rattle.bag_arguments.specs.Plan.{usage_status};
+ghost use Rattle.bag_cli.specs.Saying.{Says};
+ghost use Rattle.bag_cli.specs.WordsRefusal.{usage_line};
+
+use crate::saying::{say_memory, say_on};
+use bag_arguments::Usage;
+use bag_text::said;
+use bag_tree::Out;
+
+/// Says on `err` why the words are refused, in a line or, of clap, some lines, and gives the exit status. It takes no memory.
+pub fn refuse_words<E: Out>(usage: &Usage, err: &mut E) -> u8
+    ensures status { result ≡ usage_status usage.now }
+    ensures said { Says (E.taken err.old) (E.taken err.new) (E.has_refused err.new) (usage_line usage.now) }
+{
+    match usage {
+        Usage::Refused(text) => say_on(err, &[text.as_str(), "\n"]),
+        Usage::NeedsValidate(option) => {
+            let name = option.name();
+            say_on(err, &[said::PROGRAM, name, said::NEEDS_VALIDATE, "\n"]);
+        }
+        Usage::TwoDepths => say_on(err, &[said::PROGRAM, said::TWO_DEPTHS, "\n"]),
+        Usage::AfterSeveral => say_on(err, &[said::PROGRAM, said::AFTER_SEVERAL, "\n"]),
+        Usage::AfterNotALine => say_on(err, &[said::PROGRAM, said::AFTER_NOT_A_LINE, "\n"]),
+        Usage::Memory => say_memory(err),
+    }
+    usage.status()
+}
