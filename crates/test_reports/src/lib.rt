@@ -16,6 +16,8 @@ mod makings;
 #[cfg(test)]
 mod openings;
 #[cfg(test)]
+mod pieces;
+#[cfg(test)]
 mod profiles;
 #[cfg(test)]
 mod refused_calls;
