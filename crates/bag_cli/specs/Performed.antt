@@ -1,5 +1,5 @@
 -- What the program does by a plan, and which folders it looks into and which files it reads meanwhile.
-use Rattle.std.specs.Prelude.{ℕ, ◌≡◌, ◌⊎◌, Bool, true, List, [], ◌∷◌, Option, Some, None, Result, Ok, Err, if◌then◌else◌}
+use Rattle.std.specs.Prelude.{ℕ, ◌≡◌, ◌≢◌, ◌⊎◌, Bool, true, List, [], ◌∷◌, Option, Some, None, Result, Ok, Err, if◌then◌else◌}
 use Rattle.std.specs.Io.KnownBytes.{Appends}
 use Rattle.bag_disk.specs.Disk.{DiskState}
 use Rattle.bag_cli.specs.Visits.{Event, Read}
@@ -50,10 +50,11 @@ IsChecked below file plan None before after refused visits n = AreChecked below 
 IsChecked below file plan (Some path) before after refused visits n =
     (read : Result Profile ProfileRefusal) × (own : List Event) × (visits ≡ Read path ∷ own) × IsRead (file path) read × IsCheckedFor below plan read before after refused own n
 
--- the folders of a plan were made bags, on disks that hold this below each base folder; or memory for the elements ran out
+-- the folders of a plan were made bags, on disks that hold this below each base folder; or memory for the elements, of which
+-- there are some, ran out
 abbrev pub AreMade : (List ℕ → DiskState) → Plan → Option (List ℕ) → Option (List ℕ) → Bool → List Event → ℕ → Type 0
 AreMade below plan before after refused visits n =
-    ((n ≡ 3) × (after ≡ before) × (visits ≡ [])) ⊎ AreMakingsOf plan (λ name. tree_state (below name) 0) plan.directories before after refused visits n
+    ((n ≡ 3) × (after ≡ before) × (visits ≡ []) × (plan.info ≢ [])) ⊎ AreMakingsOf plan (λ name. tree_state (below name) 0) plan.directories before after refused visits n
 
 -- this was done for a plan, on disks that hold this below each base folder, where files have these bytes
 abbrev pub IsDoneBy : Action → (List ℕ → DiskState) → (List ℕ → Option (List ℕ) → Type 0) → Plan → Option (List ℕ) → Option (List ℕ) → Bool → List Event → ℕ → Type 0

@@ -1,5 +1,5 @@
 //! Bags that are made of folders, one after the other.
-ghost use Rattle.std.specs.Prelude.{◌≡◌, ◌∷◌, [], IfOk, MatchResult, map};
+ghost use Rattle.std.specs.Prelude.{◌≡◌, ◌≢◌, ◌∷◌, [], IfOk, OnErr, MatchResult, map};
 ghost use Rattle.bag_cli.specs.Folders.{disks_of, visits_of};
 ghost use Rattle.bag_store.specs.FileTree.{tree_state};
 ghost use Rattle.bag_cli.specs.InTurn.{HasVisited};
@@ -47,7 +47,8 @@ where
 
 /// The labels and values of elements, which are copied.
 fn elements(alloc: Global, info: &[InfoItem]) -> Result<Vec<(Text, Text)>, AllocError>
-    ensures { IfOk result (λ elements. elements.items ≡ map element_of info.now) }
+    ensures elements { IfOk result (λ elements. elements.items ≡ map element_of info.now) }
+    ensures some { OnErr result (info.now ≢ []) }
 {
     let mut elements = Vec::new(alloc);
     for item in info {

@@ -29,7 +29,7 @@ mod writing;
 pub use bag_disk::{Disk, DiskFault, Entry, SystemDisk, WritableDisk};
 pub use bag_memory::{FailTree, MemoryTree, SkewTree};
 pub use bag_tree::{
-    Digests, FileEntry, HexFault, Listing, Out, Refused, Stop, Sums, Tree, TreeFault, WriteTree,
-    WriterOut, digest_file, read_whole,
+    Answer, Digests, FileEntry, HexFault, Listing, Out, Refused, Stop, Sums, Tree, TreeFault,
+    WriteTree, WriterOut, digest_file, read_whole,
 };
 pub use file_tree::FileTree;
