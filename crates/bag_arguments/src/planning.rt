@@ -48,15 +48,12 @@ fn decline(alloc: Global, error: Error) -> Result<Plan, Usage>
     if kind == ErrorKind::OutOfMemory {
         return Err(Usage::Memory);
     }
-    let mut text = format!(in alloc; "{error}")?;
+    let text = Text::from_string(format!(in alloc; "{error}")?);
     if kind == ErrorKind::DisplayHelp {
-        let action = Action::Help(Text::from_string(text));
-        return Ok(plan_without_words(alloc, action));
+        Ok(plan_without_words(alloc, Action::Help(text)))
+    } else {
+        Err(Usage::Refused(text))
     }
-    if text.as_str().ends_with('\n') {
-        text.pop();
-    }
-    Err(Usage::Refused(Text::from_string(text)))
 }
 
 /// A plan that does nothing with folders.

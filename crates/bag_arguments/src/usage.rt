@@ -8,10 +8,10 @@ use bag_text::{Text, said};
 use std::alloc::{AllocError, AllocFailed};
 use thiserror::Error;
 
-/// Why the words of a command line are refused. Its text has no line end behind it.
+/// Why the words of a command line are refused.
 #[derive(Debug, Drop, Error)]
 pub enum Usage {
-    /// The program takes no such words. The text, of clap, says what is wrong with them in some lines.
+    /// The program takes no such words. The text, of clap, says what is wrong with them and ends its lines itself.
     #[error("{0}")]
     Refused(Text),
     /// An option is given that needs `--validate`: the first, in the order of `CheckOption`.

@@ -13,7 +13,7 @@ answered (Err usage) = Err usage
 
 -- a word isn't UTF-8, or memory ran out
 abbrev pub IsUnread : Usage → Type 0
-IsUnread usage = (usage ≡ Refused (codes "bagit: a word isn't UTF-8")) ⊎ (usage ≡ Memory)
+IsUnread usage = (usage ≡ Refused (codes "bagit: a word isn't UTF-8\n")) ⊎ (usage ≡ Memory)
 
 -- what the system may answer: any words, or one of these reasons why there are none
 abbrev pub MayAnswer : Result (List (List ℕ)) Usage → Type 0

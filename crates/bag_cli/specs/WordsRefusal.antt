@@ -1,12 +1,17 @@
 -- What the program says where the words are refused.
-use Rattle.std.specs.Prelude.{ℕ, ◌++◌, List, codes}
+use Rattle.std.specs.Prelude.{ℕ, ◌==◌, ◌++◌, List, codes, if◌then◌else◌}
+use Rattle.std.specs.List.{ends_with}
 use Rattle.bag_arguments.specs.Given.{check_name}
 use Rattle.bag_arguments.specs.declared.usage.Usage.{Usage}
 use Rattle.bag_arguments.specs.declared.usage.Usage.TheVariants.{Refused, NeedsValidate, TwoDepths, AfterSeveral, AfterNotALine, Memory}
 
+-- a text with a line end at its end: its own, or else one behind it
+abbrev pub ended : List ℕ → List ℕ
+ended text = if ends_with ◌==◌ text (codes "\n") then text else text ++ codes "\n"
+
 -- the line with its end, of clap some lines
 abbrev pub usage_line : Usage → List ℕ
-usage_line (Refused text) = text ++ codes "\n"
+usage_line (Refused text) = ended text
 usage_line (NeedsValidate option) = codes "bagit: " ++ (check_name option ++ codes " needs --validate\n")
 usage_line TwoDepths = codes "bagit: more than one of --declaration-only, --fast, --completeness-only\n"
 usage_line AfterSeveral = codes "bagit: --after takes one directory\n"

@@ -1,8 +1,8 @@
 //! What is said where the words of a command line are refused.
-ghost use Rattle.std.specs.Prelude.{◌≡◌};
+ghost use Rattle.std.specs.Prelude.{◌≡◌, ◌++◌};
 ghost use Rattle.bag_arguments.specs.Plan.{usage_status};
 ghost use Rattle.bag_cli.specs.Saying.{Says};
-ghost use Rattle.bag_cli.specs.WordsRefusal.{usage_line};
+ghost use Rattle.bag_cli.specs.WordsRefusal.{ended, usage_line};
 
 use crate::saying::{say_memory, say_on};
 use bag_arguments::Usage;
@@ -15,7 +15,10 @@ pub fn refuse_words<E: Out>(usage: &Usage, err: &mut E) -> u8
     ensures said { Says (E.taken err.old) (E.taken err.new) (E.has_refused err.new) (usage_line usage.now) }
 {
     match usage {
-        Usage::Refused(text) => say_on(err, &[text.as_str(), "\n"]),
+        Usage::Refused(text) => {
+            let text = text.as_str();
+            say_on(err, &[text, line_end(text)]);
+        }
         Usage::NeedsValidate(option) => {
             let name = option.name();
             say_on(err, &[said::PROGRAM, name, said::NEEDS_VALIDATE, "\n"]);
@@ -26,4 +29,15 @@ pub fn refuse_words<E: Out>(usage: &Usage, err: &mut E) -> u8
         Usage::Memory => say_memory(err),
     }
     usage.status()
+}
+
+/// The line end that a text lacks at its end, if it does.
+fn line_end(text: &str) -> &'static str
+    ensures { text.now ++ result.now ≡ ended text.now }
+{
+    if text.as_bytes().ends_with(b"\n") {
+        ""
+    } else {
+        "\n"
+    }
 }

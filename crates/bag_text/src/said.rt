@@ -10,7 +10,7 @@ pub const OUT_OF_MEMORY: &str = "out of memory";
 pub const OUTPUT_REFUSED: &str = "output refused";
 
 /// A word of the command line isn't UTF-8: the whole line, since it is said as of clap.
-pub const WORD_NOT_UTF8: &str = "bagit: a word isn't UTF-8";
+pub const WORD_NOT_UTF8: &str = "bagit: a word isn't UTF-8\n";
 
 /// Behind an option that is only for checks.
 pub const NEEDS_VALIDATE: &str = " needs --validate";
