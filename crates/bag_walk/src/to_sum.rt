@@ -32,7 +32,7 @@ pub(crate) fn faults_of_file<T: Tree>(
     after: Option<&Fault>,
     buffer: &mut [u8],
 ) -> Result<Vec<Fault>, Stop>
-    requires { 0 < length buffer.old }
+    requires { length buffer.old ≡ 65536 }
     ensures keeps { Keeps (T.state tree.old) (T.state tree.new) }
     ensures calm { OnOk result ((T.state tree.new).failures ≡ (T.state tree.old).failures) }
     ensures opened { OnOk result ((T.state tree.new).openings ≡ (T.state tree.old).openings ++ to_sum.now.file.path ∷ []) }
