@@ -10,8 +10,9 @@ use Rattle.bag_tree.specs.declared.tree_fault.Stop.{Stop}
 use Rattle.bag_tree.specs.declared.tree_fault.TreeFault.{TreeFault}
 use Rattle.bag_tree.specs.declared.tree_fault.TreeFault.TheVariants.{Device, Special, Name, NotFound, TooMany, Changed, NoneOpen, Memory, Exists}
 use Rattle.bag_facts.specs.declared.fault.Fault.{Fault}
+use Rattle.bag_facts.specs.Stops.{IsOutOfMemory}
 use Rattle.bag_facts.proofs.Reading.{later_refusal}
-use Rattle.bag_walk.specs.Openings.{IsReached, Opens, OpensAgain, OpensNoneBehind, NoneBehind}
+use Rattle.bag_walk.specs.Openings.{IsReached, NoneWaits, Opens, OpensAgain, OpensNoneBehind, NoneBehind}
 use Rattle.std.specs.Option.{option_copied}
 use Rattle.bag_walk.specs.Source.{first_of, rest_of, AllBelow, Sees, MayRefuseAnyway, MayStopAnyway, MayStopFilling}
 
@@ -113,6 +114,17 @@ module _ (fs gs : List Fault) (old new : TreeState) (xs : List (List ℕ)) (apar
   behind_first behind within opened e f path c d = elim (contains_either fs gs f c) [
     | inl a ↦ behind opened e f path a d
     | inr b ↦ apart f path b (within opened e path d)
+  ]
+
+  -- and then it stopped
+  pub waits_first : (stop : Stop) → IsOutOfMemory stop ⊎ IsReached xs old new stop.path → NoneWaits fs stop.path → NoneWaits (fs ++ gs) stop.path
+  waits_first stop reached waits some f path c d = elim (contains_either fs gs f c) [
+    | inl a ↦ waits some f path a d
+    | inr b ↦ elim reached [
+      | inl memory ↦ absurd (some memory.1)
+      | inr (passed, rest, cut, refused) ↦ apart f path b
+          (subst (λ l. Contains l path) (sym cut) (contains_back passed (stop.path ∷ rest) path (contains_front (stop.path ∷ []) rest path d)))
+    ]
   ]
 
   -- and then the second

@@ -15,7 +15,7 @@ use Rattle.bag_walk.specs.Ending.{written, written_line}
 use Rattle.bag_walk.specs.Write.{IsCut}
 use Rattle.bag_walk.proofs.RunLines.{concat-append_one, cut_at}
 use Rattle.bag_walk.proofs.Writing.{Appends-append}
-use Rattle.bag_walk.specs.Openings.{IsReached, Opens, OpensAgain, OpensNoneBehind}
+use Rattle.bag_walk.specs.Openings.{IsReached, NoneWaits, Opens, OpensAgain, OpensNoneBehind}
 use Rattle.bag_walk.specs.Source.{first_of, rest_of, MayStopFilling, Sees}
 use Rattle.bag_walk.specs.Shown.{front_is, none_is}
 use Rattle.bag_walk.proofs.Filling.{sees_later, sees_second, stop_later}
@@ -177,6 +177,10 @@ module _ (limit count : ℕ) (IsOf IsOfNow : Bag → Type 0) (left left_now : Ba
 
     to_come : drop count (left bag) ≡ left_now bag
     to_come = ap (drop count) left_is ∙ ap (λ n. drop n (has.given ++ left_now bag)) (sym has.count_is) ∙ behind_given has.given (left_now bag)
+
+    -- it stopped at a file before which nothing stands that is left
+    pub waits_now : (path : List ℕ) → NoneWaits (left_now bag) path → NoneWaits (drop count (left bag)) path
+    waits_now path waits = subst (λ l. NoneWaits l path) (sym to_come) waits
 
     -- one step more opened no file behind what was left
     pub behind_now : OpensNoneBehind (left_now bag) now new → ((opened : List (List ℕ)) × (new.openings ≡ now.openings ++ opened)) → OpensNoneBehind (drop count (left bag)) old new

@@ -1,11 +1,12 @@
 -- A run over a walk, by its segment.
-use Rattle.std.proofs.Common.{◌≡◌, ◌≤◌, ◌-◌, inl, inr, ℕ, Bool, List, Option, min, subst, arith}
+use Rattle.std.proofs.Common.{◌≡◌, ◌≤◌, ◌-◌, inl, inr, ℕ, Bool, List, Option, min, sym, subst, arith}
 use Rattle.bag_tree.specs.Tree.{TreeState}
 use Rattle.bag_tree.specs.declared.tree_fault.Stop.{Stop}
 use Rattle.bag_facts.specs.declared.fault.Fault.{Fault}
 use Rattle.bag_walk.specs.declared.outcome.Outcome.{Outcome}
 use Rattle.bag_walk.specs.declared.outcome.Outcome.TheVariants as outcome_of
 use Rattle.bag_walk.specs.declared.outcome.Request.{Request}
+use Rattle.bag_walk.specs.Closing.{count_of}
 use Rattle.bag_walk.specs.Openings.{IsReached}
 use Rattle.bag_walk.specs.Source.{MayStopFilling}
 use Rattle.bag_walk.specs.Segment.{ClosesSegment, EndsSegment, IfUnread, IsRead, MayStopRun, MayStopWalk, StopsAt, StopsWalk, WritesCalmly, looked_past}
@@ -67,3 +68,14 @@ module _ (todo left : List (List ℕ)) (old new : TreeState) where
   stopped_run IsOf segment (outcome_of.Stopped n) is stops = tt
   stopped_run IsOf segment (outcome_of.Rest n) is stops = tt
   stopped_run IsOf segment (outcome_of.Unwritten n) is stops = tt
+
+-- and what is so of its stop and of how many lines were written
+pub stopped_when : (Waits : ℕ → Stop → Type 0) (segment : Segment) (outcome : Outcome) → count_of outcome ≡ segment.written → IfStopped outcome (StopsAt segment)
+    → IfUnread segment.end (Waits segment.written) → IfStopped outcome (Waits (count_of outcome))
+stopped_when Waits segment (outcome_of.Unread n stop) count is waits =
+    subst (λ m. Waits m stop) (sym count) (subst (λ end. IfUnread end (Waits segment.written)) is waits)
+stopped_when Waits segment outcome_of.Clean count is waits = tt
+stopped_when Waits segment (outcome_of.Faults n) count is waits = tt
+stopped_when Waits segment (outcome_of.Stopped n) count is waits = tt
+stopped_when Waits segment (outcome_of.Rest n) count is waits = tt
+stopped_when Waits segment (outcome_of.Unwritten n) count is waits = tt

@@ -74,9 +74,10 @@ OpensInTurn old new profile request outcome =
     × IsStrictlySortedBy text_cmp read × All (IsWanted request.options) read
     × NoneBehind (drop (written_before request outcome) (above request.after report)) summed
 
--- The run stopped at a file whose digests were to be compared: it was refused when all the tag files that are wanted had been
--- read, and then of those files the ones before it had been opened, each once and in path order, and no other.
-pub record OpensUpToSummed (old new : TreeState) (profile : Option Profile) (request : Request) (path : List ℕ) : Type 0 where
+-- The run stopped at a file whose digests were to be compared, when n faults had been written: it was refused when all the tag
+-- files that are wanted had been read, and then of those files the ones before it had been opened, each once and in path order,
+-- and no other; and each fault that stands before it had been written, as those of earlier stages.
+pub record OpensUpToSummed (old new : TreeState) (profile : Option Profile) (request : Request) (n : ℕ) (path : List ℕ) : Type 0 where
   pub read : List (List ℕ)
   pub before : List (List ℕ)
   pub behind : List (List ℕ)
@@ -86,13 +87,15 @@ pub record OpensUpToSummed (old new : TreeState) (profile : Option Profile) (req
   pub in_order : IsStrictlySortedBy text_cmp (before ++ path ∷ behind)
   pub to_open : IsTrue old.honest → IsListOf text_cmp (IsToOpen (check_of old.bag profile request) request.after) (before ++ path ∷ behind)
   pub refused : IsRefusedAt (old.openings ++ (read ++ before)) path new
+  pub written : IsTrue old.honest → (report : List Fault) → IsReport (check_of old.bag profile request) report
+      → NoneBehind (drop n (above request.after report)) (path ∷ [])
 
 -- A run that is answered with the file at which it stopped has opened those before it: the tag files that are read, or also
 -- those whose digests are compared.
 abbrev pub StopsInTurn : TreeState → TreeState → Option Profile → Request → Outcome → Type 0
 StopsInTurn old new profile request outcome =
     IfStopped outcome (λ stop. stop.path ≢ []
-    → ForListing old (λ files. OpensUpTo request.options files stop.path old new) ⊎ OpensUpToSummed old new profile request stop.path)
+    → ForListing old (λ files. OpensUpTo request.options files stop.path old new) ⊎ OpensUpToSummed old new profile request (count_of outcome) stop.path)
 
 -- the part of what the request asks for below the seventh stage, whose faults need further files
 abbrev pub AreEarly : Bag → Option Profile → Request → List Fault → Type 0

@@ -4,8 +4,9 @@ ghost use Rattle.std.specs.Option.{option_copied};
 ghost use Rattle.bag_tree.specs.Bag.{Bag};
 ghost use Rattle.bag_tree.specs.Tree.{Keeps};
 ghost use Rattle.bag_facts.specs.declared.fault.Fault.{Fault as Spoken};
+ghost use Rattle.bag_walk.specs.Closing.{count_of};
 ghost use Rattle.bag_walk.specs.Ending.{limit_of};
-ghost use Rattle.bag_walk.specs.Openings.{OpensAgain, OpensNoneBehind};
+ghost use Rattle.bag_walk.specs.Openings.{NoneWaits, OpensAgain, OpensNoneBehind};
 ghost use Rattle.bag_walk.specs.Source.{Sees};
 ghost use Rattle.bag_walk.specs.Steps.{shown_by, to_give};
 ghost use Rattle.bag_walk.specs.RunOpenings.{LooksNoFurther, OpensInRun, OpensInTurn, OpensListed, OpensNonePassed, StopsInTurn, written_before};
@@ -100,6 +101,8 @@ fn run_of_walk<T: Tree, S: InOrder<T> + Drop, W: Out>(
     ensures unseen { (faults : List Spoken) × WritesCalmly request.now faults
         (MayStopRun (IsTrue (T.state walk.tree).honest → S.is_of (T.state walk.tree).bag walk.source) (S.todo walk.source) (T.state walk.tree) (T.state result.0))
         (T.state walk.tree) (T.state result.0) (W.taken out.old) (W.taken out.new) (W.has_refused out.new) result.1 }
+    ensures waits { IfStopped result.1 (λ stop. (bag : Bag) → S.is_of bag walk.source → Sees (T.state walk.tree) (S.todo walk.source) bag
+        → NoneWaits (drop (count_of result.1) (to_give (shown_by walk.is_shown (S.found walk.source)) (S.remaining bag walk.source))) stop.path) }
     ensures stop { IfStopped result.1 (MayStopRun (IsTrue (T.state walk.tree).honest → S.is_of (T.state walk.tree).bag walk.source) (S.todo walk.source) (T.state walk.tree) (T.state result.0)) }
 {
     let mut walk = walk;

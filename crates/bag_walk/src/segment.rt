@@ -1,12 +1,12 @@
 //! The lines of a report's faults, each written when its fault is found.
-ghost use Rattle.std.specs.Prelude.{◌≡◌, ℕ, List, Option, IsTrue, string_bytes};
+ghost use Rattle.std.specs.Prelude.{◌≡◌, ℕ, List, Option, IsTrue, drop, string_bytes};
 ghost use Rattle.bag_tree.specs.Bag.{Bag};
 ghost use Rattle.bag_tree.specs.Tree.{Keeps};
 ghost use Rattle.bag_facts.specs.declared.fault.Fault.{Fault as Spoken};
 ghost use Rattle.bag_facts.specs.Stops.{IsOutOfMemory};
 ghost use Rattle.bag_walk.specs.Closing.{count_of};
 ghost use Rattle.bag_walk.specs.Ending.{limit_of};
-ghost use Rattle.bag_walk.specs.Openings.{OpensAgain, OpensNoneBehind};
+ghost use Rattle.bag_walk.specs.Openings.{NoneWaits, OpensAgain, OpensNoneBehind};
 ghost use Rattle.bag_walk.specs.Source.{Sees};
 ghost use Rattle.bag_walk.specs.Steps.{shown_by, to_give};
 ghost use Rattle.bag_walk.specs.Lines.{IsLastOf};
@@ -58,6 +58,8 @@ pub(crate) fn write_faults<T: Tree, S: InOrder<T>, W: Out>(
     ensures opens { OpensAgain (S.todo walk.old.source) (S.todo walk.new.source) (T.state walk.old.tree) (T.state walk.new.tree) }
     ensures behind { (bag : Bag) → S.is_of bag walk.old.source → Sees (T.state walk.old.tree) (S.todo walk.old.source) bag
         → OpensNoneBehind (still_to_come result (to_give (shown_by walk.old.is_shown (S.found walk.old.source)) (S.remaining bag walk.old.source))) (T.state walk.old.tree) (T.state walk.new.tree) }
+    ensures waits { IfUnread result.end (λ stop. (bag : Bag) → S.is_of bag walk.old.source → Sees (T.state walk.old.tree) (S.todo walk.old.source) bag
+        → NoneWaits (drop result.written (to_give (shown_by walk.old.is_shown (S.found walk.old.source)) (S.remaining bag walk.old.source))) stop.path) }
     ensures seen { (bag : Bag) → S.is_of bag walk.old.source → Sees (T.state walk.old.tree) (S.todo walk.old.source) bag
         → IsSegment (to_give (shown_by walk.old.is_shown (S.found walk.old.source)) (S.remaining bag walk.old.source)) limit (W.taken out.old) (W.taken out.new) (W.has_refused out.new) result }
     ensures last { (bag : Bag) → S.is_of bag walk.old.source → Sees (T.state walk.old.tree) (S.todo walk.old.source) bag

@@ -7,7 +7,7 @@ ghost use Rattle.bag_tree.specs.Tree.{Keeps};
 ghost use Rattle.bag_facts.specs.FaultOrder.{fault_cmp};
 ghost use Rattle.bag_facts.specs.Stops.{IsOutOfMemory};
 ghost use Rattle.bag_facts.specs.declared.fault.Fault.{Fault};
-ghost use Rattle.bag_walk.specs.Openings.{IsReached, Opens, OpensAgain, OpensNoneBehind};
+ghost use Rattle.bag_walk.specs.Openings.{IsReached, NoneWaits, Opens, OpensAgain, OpensNoneBehind};
 ghost use Rattle.bag_walk.specs.Source.{first_of, rest_of, Sees, MayStopAnyway, MayStopFilling};
 
 use bag_facts::Fault;
@@ -43,6 +43,8 @@ pub trait Source<T: Tree> {
         ensures opens { OnOk result (in_order → Opens (todo self.old) (todo self.new) (T.state tree.old) (T.state tree.new)) }
         ensures again { OnErr result (in_order → OpensAgain (todo self.old) (todo self.new) (T.state tree.old) (T.state tree.new)) }
         ensures reached { IfErr result (λ stop. in_order → IsOutOfMemory stop ⊎ IsReached (todo self.old) (T.state tree.old) (T.state tree.new) stop.path) }
+        ensures waits { IfErr result (λ stop. in_order → (bag : Bag) → is_of bag self.old → Sees (T.state tree.old) (todo self.old) bag
+            → NoneWaits (remaining bag self.old) stop.path) }
         ensures ended { OnOk result (in_order → found self.new ≡ None → todo self.new ≡ []) }
         ensures same { (bag : Bag) → is_of bag self.old → Sees (T.state tree.old) (todo self.old) bag
             → is_of bag self.new × (remaining bag self.new ≡ remaining bag self.old) }

@@ -4,7 +4,7 @@ ghost use Rattle.std.specs.Option.{option_copied};
 ghost use Rattle.bag_tree.specs.Bag.{Bag};
 ghost use Rattle.bag_tree.specs.Tree.{Keeps};
 ghost use Rattle.bag_facts.specs.Stops.{IsOutOfMemory};
-ghost use Rattle.bag_walk.specs.Openings.{IsReached, Opens, OpensAgain, OpensNoneBehind};
+ghost use Rattle.bag_walk.specs.Openings.{IsReached, NoneWaits, Opens, OpensAgain, OpensNoneBehind};
 ghost use Rattle.bag_walk.specs.Source.{first_of, rest_of, Sees, MayStopAnyway, MayStopFilling};
 ghost use Rattle.bag_walk.specs.Steps.{shown_by, to_give};
 
@@ -39,6 +39,8 @@ impl<T: Tree, S: InOrder<T>> Steps<T, S> {
         ensures opens { OnOk result (Opens (S.todo self.old.source) (S.todo self.new.source) (T.state self.old.tree) (T.state self.new.tree)) }
         ensures again { OnErr result (OpensAgain (S.todo self.old.source) (S.todo self.new.source) (T.state self.old.tree) (T.state self.new.tree)) }
         ensures reached { IfErr result (λ stop. IsOutOfMemory stop ⊎ IsReached (S.todo self.old.source) (T.state self.old.tree) (T.state self.new.tree) stop.path) }
+        ensures waits { IfErr result (λ stop. (bag : Bag) → S.is_of bag self.old.source → Sees (T.state self.old.tree) (S.todo self.old.source) bag
+            → NoneWaits (to_give (shown_by self.old.is_shown (S.found self.old.source)) (S.remaining bag self.old.source)) stop.path) }
         ensures ended { OnOk result (shown_by self.new.is_shown (S.found self.new.source) ≡ None → S.todo self.new.source ≡ []) }
         ensures next { (bag : Bag) → S.is_of bag self.old.source → Sees (T.state self.old.tree) (S.todo self.old.source) bag
             → let left = to_give (shown_by self.old.is_shown (S.found self.old.source)) (S.remaining bag self.old.source) in

@@ -1,9 +1,13 @@
-use Rattle.std.proofs.Common.{◌≡◌, ◌∙◌, ap, IsTrue, min, ◌-◌}
+use Rattle.std.proofs.Common.{◌≡◌, ◌∙◌, ap, drop, List, IsTrue, min, ◌-◌}
+use Rattle.bag_tree.specs.Bag.{Bag}
+use Rattle.bag_facts.specs.declared.fault.Fault.{Fault}
 use Rattle.bag_walk.specs.Ending.{limit_of}
+use Rattle.bag_walk.specs.Openings.{NoneWaits}
+use Rattle.bag_walk.specs.Source.{Sees}
 use Rattle.bag_walk.specs.Steps.{shown_by, to_give}
 use Rattle.bag_walk.specs.RunOpenings.{written_before}
 use Rattle.bag_walk.specs.Segment.{looked_past}
-use Rattle.bag_walk.proofs.Walked.{calmly, looked_before, stopped_run}
+use Rattle.bag_walk.proofs.Walked.{calmly, looked_before, stopped_run, stopped_when}
 use Rattle.bag_walk.proofs.runner.run_of_walk.Goals as goal
 
 pub returns-clause-behind : goal.returns-clause-behind
@@ -45,3 +49,11 @@ returns-clause-stop g c =
     rw c.into_tree.ensures
     (stopped_run (g.S.Source.todo walk.source) (g.S.Source.todo c.write_faults-segment.new.walk.source) (state walk.tree) (state c.write_faults-segment.new.walk.tree)
     (IsTrue (state walk.tree).honest → g.S.Source.is_of (state walk.tree).bag walk.source) c.write_faults-segment.result c.close_segment-outcome.result c.close_segment-outcome.ensures.stop c.write_faults-segment.ensures.stop)
+
+pub returns-clause-waits : goal.returns-clause-waits
+returns-clause-waits g c =
+    let state = g.T.Tree.state in
+    let walk = c.args.walk in
+    let left : Bag → List Fault = λ bag. to_give (shown_by walk.is_shown (g.S.Source.found walk.source)) (g.S.Source.remaining bag walk.source) in
+    stopped_when (λ n stop. (bag : Bag) → g.S.Source.is_of bag walk.source → Sees (state walk.tree) (g.S.Source.todo walk.source) bag → NoneWaits (drop n (left bag)) stop.path)
+    c.write_faults-segment.result c.close_segment-outcome.result c.close_segment-outcome.ensures.count c.close_segment-outcome.ensures.stop c.write_faults-segment.ensures.waits

@@ -9,7 +9,7 @@ use Rattle.bag_walk.specs.Source.{rest_of}
 use Rattle.bag_walk.specs.Steps.{shown_by, to_give}
 use Rattle.bag_walk.proofs.Filling.{some_opened}
 use Rattle.bag_walk.proofs.LastLines.{last_given}
-use Rattle.bag_walk.proofs.SegmentLines.{again_on, behind_now, ends_at_end, ends_unread, ends_unwritten, last_is, left_at, left_at_end, left_is, none_opened, once, one_line_more, opens_nothing, opens_on, sees_now, stops_now}
+use Rattle.bag_walk.proofs.SegmentLines.{again_on, behind_now, ends_at_end, ends_unread, ends_unwritten, last_is, left_at, left_at_end, left_is, none_opened, once, one_line_more, opens_nothing, opens_on, sees_now, stops_now, waits_now}
 use Rattle.bag_walk.proofs.segment.write_faults.Goals as goal
 
 pub given-init : goal.given-init
@@ -191,3 +191,14 @@ returns-in_default-fill-clause-last g c = λ bag h sees.
 pub returns-in-Err-put_all-clause-last : goal.returns-in-Err-put_all-clause-last
 returns-in-Err-put_all-clause-last g c = λ bag h sees.
     last_is c.args.limit c.given.written _ _ _ _ _ _ _ _ (g.T.Tree.state c.step.new.self.tree) _ _ _ _ c.given.invariant bag h sees _ c.fill.ensures.last
+
+pub returns-in-Err-clause-waits : goal.returns-in-Err-clause-waits
+returns-in-Err-clause-waits g c = λ bag h sees.
+    let state = g.T.Tree.state in
+    let has = c.given.invariant in
+    let new = c.step.new.self in
+    waits_now c.args.limit c.given.written _ _ _ _ _ _ _ _ (state new.tree) _ _ _ _ has bag h sees c.in-Err.stop.path
+    (c.in-Err.ensures.waits bag (has.seen bag h sees).0 (sees_now c.args.limit c.given.written _ _ _ _ _ _ _ _ (state new.tree) _ _ _ _ has bag sees))
+
+pub returns-in_default-fill-clause-waits : goal.returns-in_default-fill-clause-waits
+returns-in_default-fill-clause-waits g c = λ bag h sees some. absurd (some c.out_of_memory.ensures.1)

@@ -4,7 +4,7 @@ use Rattle.std.proofs.lemmas.Bool.{eqb-true}
 use Rattle.bag_walk.specs.Shown.{none_is}
 use Rattle.bag_walk.specs.ToSum.{faults_of_files}
 use Rattle.bag_walk.specs.Validity.{AreFilesOf}
-use Rattle.bag_walk.proofs.Summing.{GoneThrough, behind_all, behind_here, found_here, files_behind, files_here, gone_on, no_length, anyway_here, reached_here, stop_here}
+use Rattle.bag_walk.proofs.Summing.{GoneThrough, behind_all, behind_here, found_here, files_behind, files_here, gone_on, no_length, anyway_here, reached_here, stop_here, waits_here}
 use Rattle.bag_walk.proofs.validity.next_faults.Goals as goal
 
 pub returns-in-Err-clause-behind : goal.returns-in-Err-clause-behind
@@ -76,4 +76,10 @@ pub returns-in-Err-clause-reached : goal.returns-in-Err-clause-reached
 returns-in-Err-clause-reached g c =
     let state = g.T.Tree.state in
     reached_here c.args.pending.now c.loop-file.pending (option_copied c.args.after) c.in-Some.file.now (state c.args.tree.now) (state c.loop-file.tree) (state c.faults_of_file.new.tree)
+    (sym c.in-Some.ensures) c.loop-file.invariant c.in-Err.stop c.in-Err.ensures.refused
+
+pub returns-in-Err-clause-waits : goal.returns-in-Err-clause-waits
+returns-in-Err-clause-waits g c =
+    let state = g.T.Tree.state in
+    waits_here c.args.pending.now c.loop-file.pending (option_copied c.args.after) c.in-Some.file.now (state c.args.tree.now) (state c.loop-file.tree) (state c.faults_of_file.new.tree)
     (sym c.in-Some.ensures) c.loop-file.invariant c.in-Err.stop c.in-Err.ensures.refused

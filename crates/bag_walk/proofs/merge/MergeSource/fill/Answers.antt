@@ -165,3 +165,15 @@ returns-in-Err-fill-clause-reached g c = λ quiet.
     let state = g.T.Tree.state in
     let second = c.fill.new.self in
     inl (quiet_stop (state c.fill_unless.new.tree) (state c.fill.new.tree) (g.B.Source.todo second) c.in-Err-fill.stop (quiet.3 second) c.in-Err-fill.ensures.anyway)
+
+pub returns-in-Err-clause-waits : goal.returns-in-Err-clause-waits
+returns-in-Err-clause-waits g c = λ quiet bag h sees some.
+    let state = g.T.Tree.state in
+    let first = c.fill_unless.new.source in
+    absurd (some (quiet_stop (state c.args.tree.now) (state c.fill_unless.new.tree) (g.A.Source.todo first) c.in-Err.stop (quiet.2 first) c.in-Err.ensures.anyway).1)
+
+pub returns-in-Err-fill-clause-waits : goal.returns-in-Err-fill-clause-waits
+returns-in-Err-fill-clause-waits g c = λ quiet bag h sees some.
+    let state = g.T.Tree.state in
+    let second = c.fill.new.self in
+    absurd (some (quiet_stop (state c.fill_unless.new.tree) (state c.fill.new.tree) (g.B.Source.todo second) c.in-Err-fill.stop (quiet.3 second) c.in-Err-fill.ensures.anyway).1)

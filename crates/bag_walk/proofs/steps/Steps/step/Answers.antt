@@ -1,5 +1,5 @@
 use Rattle.std.proofs.Common.{subst}
-use Rattle.bag_walk.specs.Openings.{OpensNoneBehind}
+use Rattle.bag_walk.specs.Openings.{NoneWaits, OpensNoneBehind}
 use Rattle.bag_walk.specs.Source.{Sees}
 use Rattle.bag_walk.proofs.steps.Steps.step.Goals as goal
 
@@ -32,3 +32,10 @@ returns-in-Err-clause-again g c =
 pub returns-in-Err-clause-reached : goal.returns-in-Err-clause-reached
 returns-in-Err-clause-reached g c =
     rw (c.leave.ensures.tree, c.leave.ensures.todo) at (c.in-Err.ensures.reached g.met.S.InOrder.is_in_order)
+
+pub returns-in-Err-clause-waits : goal.returns-in-Err-clause-waits
+returns-in-Err-clause-waits g c = λ bag h sees.
+    let state = g.T.Tree.state in
+    let left = c.leave.ensures.left bag h in
+    let seen : Sees (state c.leave.new.self.tree) (g.S.Source.todo c.leave.new.self.source) bag = rw (c.leave.ensures.tree, c.leave.ensures.todo) sees in
+    subst (λ fs. NoneWaits fs c.in-Err.stop.path) left.1 (c.in-Err.ensures.waits g.met.S.InOrder.is_in_order bag left.0 seen)

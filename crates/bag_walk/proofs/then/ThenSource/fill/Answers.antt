@@ -1,7 +1,8 @@
 use Rattle.std.proofs.Common.{◌++◌, ◌∙◌, [], inl, inr, ap, sym, subst}
 use Rattle.std.proofs.lemmas.Result.{on_ok_weaker, on_err_weaker, IfErr-weaker}
 use Rattle.bag_walk.specs.Openings.{Opens}
-use Rattle.bag_walk.proofs.Filling.{again_both, again_within, behind_both, behind_first, below_same, first_front, none_before, none_left, none_shown, opened_by, opens_within, reached_both, reached_front, sees_first, sees_later, sees_second, some_shown, stop_front, anyway_front, anyway_in_turn}
+use Rattle.bag_walk.proofs.Filling.{again_both, again_within, behind_both, behind_first, below_same, first_front, none_before, none_left, none_shown, opened_by, opens_within, reached_both, reached_front, sees_first, sees_later, sees_second, some_shown, stop_front, anyway_front, anyway_in_turn, waits_first}
+use Rattle.bag_walk.proofs.Summing.{waits_found}
 use Rattle.bag_walk.proofs.then.ThenSource.fill.Goals as goal
 
 pub returns-in-Err-clause-same : goal.returns-in-Err-clause-same
@@ -173,3 +174,34 @@ returns-clause-reached g c = rw c.if-not-self.false (
     let opens : Opens xs [] old mid = subst (λ l. Opens xs l old mid) (c.in-Ok.ensures.ended ordered.0 none) (c.in-Ok.ensures.opens ordered.0) in
     elim (reached ordered.1) [ inl memory ↦ inl memory | inr at ↦ inr (reached_both old mid new xs ys ys opens stop.path at) ])
     c.fill-3.ensures.reached)
+
+pub returns-then-not-self-clause-waits : goal.returns-then-not-self-clause-waits
+returns-then-not-self-clause-waits g c = rw c.if-not-self.true (IfErr-weaker c.fill.result _ _ (λ stop waits ordered bag h sees. waits ordered.1 bag h.1 sees) c.fill.ensures.waits)
+
+pub returns-in-Err-clause-waits : goal.returns-in-Err-clause-waits
+returns-in-Err-clause-waits g c = rw c.if-not-self.false (λ ordered bag h sees.
+    let state = g.T.Tree.state in
+    let first = c.args.self.now.first in
+    let second = c.args.self.now.second in
+    waits_first (g.A.Source.remaining bag first) (g.B.Source.remaining bag second) (state c.args.tree.now) (state c.fill-2.new.tree) (g.A.Source.todo first) (h.0.2 ordered.0) c.in-Err.stop
+    (c.in-Err.ensures.reached ordered.0)
+    (c.in-Err.ensures.waits ordered.0 bag h.0.0 (sees_first (state c.args.tree.now) (g.A.Source.todo first) (g.B.Source.todo second) bag sees)))
+
+pub returns-clause-waits : goal.returns-clause-waits
+returns-clause-waits g c = rw c.if-not-self.false (
+    let state = g.T.Tree.state in
+    let old = state c.args.tree.now in
+    let mid = state c.fill-2.new.tree in
+    let first = c.args.self.now.first in
+    let second = c.args.self.now.second in
+    let xs = g.A.Source.todo first in
+    let ys = g.B.Source.todo second in
+    let none = none_shown c.peek.result (g.A.Source.found c.fill-2.new.self) c.is_some.result c.peek.ensures c.is_some.ensures c.if-is_some.false in
+    IfErr-weaker c.fill-3.result _ _
+    (λ stop waits ordered bag h sees.
+    let seen = sees_first old xs ys bag sees in
+    let a = c.fill-2.ensures.same bag h.0.0 seen in
+    let empty = none_before (g.A.Source.found c.fill-2.new.self) (g.A.Source.remaining bag first) (g.A.Source.remaining bag c.fill-2.new.self) none (c.in-Ok.ensures.first bag h.0.0 seen) a.1 in
+    waits_found (g.A.Source.remaining bag first) (g.B.Source.remaining bag second) stop.path empty
+    (waits ordered.1 bag h.1 (sees_later old mid ys bag c.fill-2.ensures.keeps (sees_second old xs ys bag sees))))
+    c.fill-3.ensures.waits)

@@ -1,8 +1,8 @@
 use Rattle.std.proofs.Common.{◌≡◌, ◌++◌, ◌∙◌, Option, ap, subst}
 use Rattle.bag_facts.specs.declared.fault.Fault.{Fault}
-use Rattle.bag_walk.specs.Openings.{OpensNoneBehind}
+use Rattle.bag_walk.specs.Openings.{NoneWaits, OpensNoneBehind}
 use Rattle.bag_walk.specs.ToSum.{faults_of_files}
-use Rattle.bag_walk.proofs.Summing.{behind_found, refilled, refused}
+use Rattle.bag_walk.proofs.Summing.{behind_found, refilled, refused, waits_found}
 use Rattle.bag_walk.proofs.validity.ValiditySource.fill.Goals as goal
 
 pub returns-in-Ok-clause-same : goal.returns-in-Ok-clause-same
@@ -41,3 +41,10 @@ returns-in-Err-clause-behind g c = λ ordered bag h sees.
 
 pub returns-in-Err-clause-reached : goal.returns-in-Err-clause-reached
 returns-in-Err-clause-reached g c = λ ordered. c.in-Err.ensures.reached
+
+pub returns-in-Err-clause-waits : goal.returns-in-Err-clause-waits
+returns-in-Err-clause-waits g c = λ ordered bag h sees.
+    let self = c.args.self.now in
+    let none = c.is_empty.ensures.0 c.if-not-is_empty.false in
+    waits_found self.found (faults_of_files bag self.after self.pending) c.in-Err.stop.path none
+    (subst (λ (a : Option Fault). NoneWaits (faults_of_files bag a self.pending) c.in-Err.stop.path) c.as_ref.ensures.value (c.in-Err.ensures.waits bag sees h.files))
