@@ -1,3 +1,4 @@
+pub mod Calm
 pub mod HashValues
 pub mod ListingLaw
 pub mod Moving

@@ -1,7 +1,7 @@
 -- A file is read piece by piece.
 use Rattle.std.proofs.Common.{◌≡◌, ◌<◌, ◌≤◌, ◌+◌, ◌++◌, [], Some, Option, List, ℕ, zero, suc, true, is_some, length, length-append, unwrap_or, arith, take, drop, ap, sym, ◌∙◌, refl, Result, Ok, Err, append_assoc, append-nil, take-append-drop}
 use Rattle.std.specs.Option.{option_map}
-use Rattle.std.specs.Result.{OnErr}
+use Rattle.std.specs.Result.{IfErr, OnErr}
 use Rattle.bag_tree.specs.Tree.{ReadsNext, answer_of_read}
 use Rattle.bag_tree.specs.Whole.{HasRead}
 use Rattle.bag_tree.specs.declared.answer.Answer.TheVariants.{Given}
@@ -51,3 +51,8 @@ ended_after content rest after bytes buffer size read piece fewer =
 pub on_error : {T E : Type 0} (r : Result T E) (P : Type 0) → P → OnErr r P
 on_error (Ok y) P p = tt
 on_error (Err e) P p = p
+
+-- whatever the error
+pub any_error : {T E : Type 0} (r : Result T E) (Q : E → Type 0) → ((e : E) → Q e) → IfErr r Q
+any_error (Ok y) Q all = tt
+any_error (Err e) Q all = all e

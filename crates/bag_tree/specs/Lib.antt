@@ -1,4 +1,5 @@
 pub mod Bag
+pub mod Calm
 pub mod Cause
 pub mod Changes
 pub mod Digest

@@ -1,5 +1,6 @@
 //! The digests of a listed file.
 ghost use Rattle.std.specs.Prelude.{◌≡◌, ◌≢◌, ◌<◌, ◌∷◌, ◌++◌, [], length, IfOk, IfErr, OnOk, OnErr};
+ghost use Rattle.bag_tree.specs.Calm.{RefusesNothing};
 ghost use Rattle.bag_tree.specs.Tree.{Keeps, OpensAtMost};
 ghost use Rattle.bag_tree.specs.Whole.{IsRefusedAt, MayRefuseWhole};
 ghost use Rattle.bag_tree.specs.declared.answer.Answer.TheVariants.{Refused};
@@ -21,7 +22,7 @@ pub fn digest_file<T: Tree>(
 ) -> Result<Sums, TreeFault>
     requires { 0 < length buffer.old }
     ensures keeps { Keeps (T.state tree.old) (T.state tree.new) }
-    ensures calm { OnOk result ((T.state tree.new).failures ≡ (T.state tree.old).failures) }
+    ensures calm { OnOk result (RefusesNothing (T.state tree.old) (T.state tree.new)) }
     ensures opens { OpensAtMost (T.state tree.old) (T.state tree.new) entry.now.path }
     ensures opened { OnOk result ((T.state tree.new).openings ≡ (T.state tree.old).openings ++ entry.now.path ∷ []) }
     ensures sums { IfOk result (AreSumsOfFile (T.state tree.old) entry.now algs) }

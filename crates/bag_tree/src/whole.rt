@@ -1,6 +1,7 @@
 //! A whole file.
 ghost use Rattle.std.specs.Prelude.{◌≡◌, ◌≢◌, ◌<◌, ◌∷◌, ◌++◌, [], Some, IsTrue, IfOk, IfErr, OnOk, OnErr, length, vec_len};
 ghost use Rattle.bag_tree.specs.Bag.{file};
+ghost use Rattle.bag_tree.specs.Calm.{MayTellMemory, RefusesNothing};
 ghost use Rattle.bag_tree.specs.Tree.{Keeps, OpensAtMost};
 ghost use Rattle.bag_tree.specs.Whole.{IsRefusedAt, MayRefuseWhole};
 ghost use Rattle.bag_tree.specs.declared.tree_fault.TreeFault.TheVariants.{Memory};
@@ -21,13 +22,14 @@ pub fn read_whole<T: Tree>(
     entry: &FileEntry,
 ) -> Result<Vec<u8>, TreeFault>
     ensures keeps { Keeps (T.state tree.old) (T.state tree.new) }
-    ensures calm { OnOk result ((T.state tree.new).failures ≡ (T.state tree.old).failures) }
+    ensures calm { OnOk result (RefusesNothing (T.state tree.old) (T.state tree.new)) }
     ensures opens { OpensAtMost (T.state tree.old) (T.state tree.new) entry.now.path }
     ensures opened { OnOk result ((T.state tree.new).openings ≡ (T.state tree.old).openings ++ entry.now.path ∷ []) }
     ensures size { IfOk result (λ bytes. vec_len bytes ≡ entry.now.size) }
     ensures whole { IfOk result (λ bytes. IsTrue (T.state tree.old).honest → file (T.state tree.old).bag entry.now.path ≡ Some bytes.items) }
     ensures refused { IfErr result (MayRefuseWhole (T.state tree.old) (T.state tree.new) entry.now) }
     ensures refused_at { IfErr result (λ fault. fault ≢ Memory → IsRefusedAt (T.state tree.old).openings entry.now.path (T.state tree.new)) }
+    ensures wanting { IfErr result (λ fault. fault ≡ Memory → MayTellMemory (T.state tree.old) (T.state tree.new)) }
 {
     let mut buffer = Vec::new(alloc);
     buffer.resize(piece_len(entry.size), 0)?;
@@ -57,13 +59,14 @@ fn read_pieces<T: Tree>(
     requires empty { bytes.items ≡ [] }
     requires buffer { 0 < length buffer.old }
     ensures keeps { Keeps (T.state tree.old) (T.state tree.new) }
-    ensures calm { OnOk result ((T.state tree.new).failures ≡ (T.state tree.old).failures) }
+    ensures calm { OnOk result (RefusesNothing (T.state tree.old) (T.state tree.new)) }
     ensures opens { OpensAtMost (T.state tree.old) (T.state tree.new) entry.now.path }
     ensures opened { OnOk result ((T.state tree.new).openings ≡ (T.state tree.old).openings ++ entry.now.path ∷ []) }
     ensures size { IfOk result (λ bytes. vec_len bytes ≡ entry.now.size) }
     ensures whole { IfOk result (λ bytes. IsTrue (T.state tree.old).honest → file (T.state tree.old).bag entry.now.path ≡ Some bytes.items) }
     ensures refused { IfErr result (MayRefuseWhole (T.state tree.old) (T.state tree.new) entry.now) }
     ensures refused_at { OnErr result (IsRefusedAt (T.state tree.old).openings entry.now.path (T.state tree.new)) }
+    ensures wanting { IfErr result (λ fault. fault ≡ Memory → MayTellMemory (T.state tree.old) (T.state tree.new)) }
 {
     tree.open_file(entry.path.as_str())?;
     loop {

@@ -1,5 +1,6 @@
 use Rattle.std.proofs.Common.{rules, inl, inr, ap, is_some, ◌∙◌, ◌++◌, take, refl, sym, subst, arith, IsTrue}
 use Rattle.std.proofs.lemmas.Grind.{common_steps}
+use Rattle.bag_tree.proofs.Calm.{nothing_read}
 use Rattle.bag_tree.proofs.Reading.{on_error, read_all, read_more, given_some, longer_than, ended_after}
 use Rattle.bag_tree.proofs.file_sums.digest_file.Goals as goal
 
@@ -88,3 +89,8 @@ returns-then-left-count-clause-refused_at g c = inr (c.in_ok-count.ensures.file_
 
 pub returns-else-left-eq0-clause-refused_at : goal.returns-else-left-eq0-clause-refused_at
 returns-else-left-eq0-clause-refused_at g c = inr (c.in_ok-count.ensures.file_open.1, c.read.ensures.openings ∙ c.loop-count.invariant.opened)
+
+pub returns-then-left-eq0-clause-calm : goal.returns-then-left-eq0-clause-calm
+returns-then-left-eq0-clause-calm g c =
+    let state = g.T.Tree.state in
+    nothing_read (state c.args.tree.now) (state c.read.new.self) c.in_ok-count.count (c.in_ok-count.ensures.calm ∙ c.loop-count.invariant.calm) c.in_ok-count.ensures.last

@@ -1,6 +1,7 @@
 use Rattle.std.proofs.Common.{rules, inl, inr, ap, is_some, ◌∙◌, arith, sym, subst, IsTrue}
 use Rattle.std.proofs.lemmas.Grind.{common_steps}
-use Rattle.bag_tree.proofs.Reading.{on_error, read_all, read_more, given_some, longer_than, ended_after}
+use Rattle.bag_tree.proofs.Calm.{nothing_read}
+use Rattle.bag_tree.proofs.Reading.{any_error, on_error, read_all, read_more, given_some, longer_than, ended_after}
 use Rattle.bag_tree.proofs.whole.read_pieces.Goals as goal
 
 pub loop-bytes-preserved : goal.loop-bytes-preserved
@@ -66,3 +67,14 @@ returns-in_err-extend_from_slice-clause-refused_at g c = on_error c.from_residua
 
 pub returns-else-len-entry-clause-refused_at : goal.returns-else-len-entry-clause-refused_at
 returns-else-len-entry-clause-refused_at g c = inr (c.in_ok-count.ensures.file_open.1, c.read.ensures.openings ∙ c.loop-bytes.invariant.opened)
+
+pub returns-then-len-entry-clause-calm : goal.returns-then-len-entry-clause-calm
+returns-then-len-entry-clause-calm g c =
+    let state = g.T.Tree.state in
+    nothing_read (state c.args.tree.now) (state c.read.new.self) c.in_ok-count.count (c.in_ok-count.ensures.calm ∙ c.loop-bytes.invariant.calm) c.in_ok-count.ensures.last
+
+pub returns-in_err-extend_from_slice-clause-wanting : goal.returns-in_err-extend_from_slice-clause-wanting
+returns-in_err-extend_from_slice-clause-wanting g c =
+    let state = g.T.Tree.state in
+    any_error c.from_residual-in_err-extend_from_slice.result _
+    (λ fault is. inr (nothing_read (state c.args.tree.now) (state c.read.new.self) c.in_ok-count.count (c.in_ok-count.ensures.calm ∙ c.loop-bytes.invariant.calm) c.in_ok-count.ensures.last))
