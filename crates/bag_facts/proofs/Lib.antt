@@ -22,6 +22,7 @@ pub mod Parts
 pub mod PassedOn
 pub mod Pieces
 pub mod Reading
+pub mod Refusing
 pub mod RulesRead
 pub mod Seen
 pub mod SeenBag

@@ -7,6 +7,7 @@ use Rattle.std.proofs.lemmas.List.{map-append, take-append-drop, take_all}
 use Rattle.bag_text.specs.Text.{text_cmp}
 use Rattle.bag_text.proofs.ListOf.{contains_either, contains_cases, contains_nothing}
 use Rattle.bag_tree.specs.Bag.{HasFile, file}
+use Rattle.bag_tree.specs.Calm.{RefusesNothing}
 use Rattle.bag_tree.specs.Listing.{IsListingOf, size_at}
 use Rattle.bag_tree.specs.Tree.{TreeState, Keeps, OpensAtMost, IsEntryOf, FailsOver, MayRefuse, CameFromTree}
 use Rattle.bag_tree.specs.Whole.{IsRefusedAt}
@@ -16,6 +17,7 @@ use Rattle.bag_tree.specs.declared.listing.Listing.{Listing}
 use Rattle.bag_tree.specs.declared.tree_fault.Stop.{Stop}
 use Rattle.bag_tree.specs.declared.tree_fault.TreeFault.{TreeFault}
 use Rattle.bag_tree.specs.declared.tree_fault.TreeFault.TheVariants.{Device, Special, Name, NotFound, TooMany, Changed, NoneOpen, Memory, Exists}
+use Rattle.bag_tree.proofs.Calm.{memory_then, nothing_asked, nothing_then}
 use Rattle.bag_facts.specs.Stops.{MayRefuseFacts, MayStopReading}
 use Rattle.bag_facts.specs.TagReader.{AreListed, AreTexts, IsWhole, ReadsWanted, StopsReading, read_path}
 use Rattle.bag_facts.specs.Wanted.{IsWanted, AreWanted, OpensFirst, OpensUpTo, paths_of}
@@ -52,18 +54,19 @@ later_refusal old mid new Memory k h = tt
 later_refusal old mid new Exists k h = h
 
 -- a later stop is one of the whole
-pub later_stop : (options : Options) (old mid new : TreeState) (stop : Stop) → Keeps old mid → StopsReading options mid new stop → StopsReading options old new stop
-later_stop options old mid new stop k h = record {
+pub later_stop : (options : Options) (old mid new : TreeState) (stop : Stop) → Keeps old mid → RefusesNothing old mid → StopsReading options mid new stop → StopsReading options old new stop
+later_stop options old mid new stop k calm h = record {
   cause = later_refusal old mid new stop.cause k h.cause;
   answered = h.answered;
   path = elim h.path [ inl none ↦ inl none | inr there ↦ inr (there.0, λ honest. subst (λ bag. HasFile bag stop.path) k.bag (there.1 (k.honest ∙ honest))) ];
   memory = h.memory;
+  wanting = λ m. memory_then old mid new calm (h.wanting m);
 }
 
 -- the first of the listed files have paths that are texts, and the wanted ones among them were read
 pub record ReadsSome (options : Options) (files : List FileEntry) (count : ℕ) (old new : TreeState) (read : List TagBytes) : Type 0 where
   pub keeps : Keeps old new
-  pub calm : new.failures ≡ old.failures
+  pub calm : RefusesNothing old new
   pub opened : new.openings ≡ old.openings ++ map read_path read
   pub paths : map read_path read ≡ wanted options (take count files)
   pub whole : (one : TagBytes) → Contains read one → IsWhole files old one
@@ -72,7 +75,7 @@ pub record ReadsSome (options : Options) (files : List FileEntry) (count : ℕ) 
 pub reads_none : (options : Options) (files : List FileEntry) (old : TreeState) → ReadsSome options files 0 old old []
 reads_none options files old = record {
   keeps = keeps_itself old;
-  calm = refl;
+  calm = nothing_asked old;
   opened = sym (append-nil old.openings);
   paths = sym (none_wanted options);
   whole = λ one c. absurd (contains_nothing one c);
@@ -93,17 +96,17 @@ module _ (options : Options) (files : List FileEntry) (i : ℕ) (entry : FileEnt
   texts_more text other c = elim (taken_cases files i entry other lt is c) [ inl a ↦ before.texts other a | inr e ↦ subst (λ (x : FileEntry). IsUtf8 x.path) e text ]
 
   -- a listed file isn't wanted
-  pub reads_no_more : Keeps mid new → new.failures ≡ mid.failures → IsUtf8 entry.path → ReadsWanted options entry mid new None → ReadsSome options files (i + 1) old new read
+  pub reads_no_more : Keeps mid new → RefusesNothing mid new → IsUtf8 entry.path → ReadsWanted options entry mid new None → ReadsSome options files (i + 1) old new read
   reads_no_more k calm text h = record {
     keeps = keeps_on old mid new before.keeps k;
-    calm = calm ∙ before.calm;
+    calm = nothing_then old mid new before.calm calm;
     opened = h.1 ∙ before.opened;
     paths = sym (next_paths ∙ ap (λ paths. map read_path read ++ paths) (one_unwanted options entry h.0) ∙ append-nil (map read_path read));
     whole = before.whole;
     texts = texts_more text;
   }
 
-  module _ (one : TagBytes) (k : Keeps mid new) (calm : new.failures ≡ mid.failures) (text : IsUtf8 entry.path) (h : ReadsWanted options entry mid new (Some one)) where
+  module _ (one : TagBytes) (k : Keeps mid new) (calm : RefusesNothing mid new) (text : IsUtf8 entry.path) (h : ReadsWanted options entry mid new (Some one)) where
     entry_wanted : IsWanted options entry.path
     entry_wanted = (one.name, h.at, h.wanted)
 
@@ -129,7 +132,7 @@ module _ (options : Options) (files : List FileEntry) (i : ℕ) (entry : FileEnt
     pub reads_one_more : ReadsSome options files (i + 1) old new (read ++ one ∷ [])
     reads_one_more = record {
       keeps = keeps_on old mid new before.keeps k;
-      calm = calm ∙ before.calm;
+      calm = nothing_then old mid new before.calm calm;
       opened = opened_more ∙ ap (λ paths. old.openings ++ paths) (sym paths_more);
       paths = paths_more;
       whole = λ other c. elim (contains_either read (one ∷ []) other c) [
@@ -185,7 +188,7 @@ module _ (options : Options) (files : List FileEntry) (i : ℕ) (entry : FileEnt
   pub stops_at : (stop : Stop) → ((IsTrue mid.honest → IsEntryOf mid.bag entry) → StopsReading options mid new stop)
       → (IsTrue old.honest → AreListed old.bag files) → StopsReading options old new stop
   stops_at stop at are =
-      later_stop options old mid new stop before.keeps (at (listed_as_is are))
+      later_stop options old mid new stop before.keeps before.calm (at (listed_as_is are))
 
 -- at the end the wanted files are read
 pub all_wanted : (options : Options) (files : List FileEntry) (count : ℕ) (old new : TreeState) (read : List TagBytes) → IsStrictlySortedBy text_cmp (paths_of files) → length files ≤ count
@@ -213,17 +216,19 @@ listing_stop options old new cause stop same none unopened left h last =
       answered = subst (CameFromTree new) (sym same) both.1;
       path = inr (inl (none, unopened, left, subst (MayRefuse ⊥ ⊥ old new) (sym same) h));
       memory = λ _. none;
+      wanting = λ m. inl (last ∙ ap Refused (sym same ∙ m));
     }
 
 -- what stops reading after a listing stops reading the facts
-pub facts_stop : (options : Options) (listing : Listing) (files : List FileEntry) (old mid new : TreeState) (stop : Stop) → Keeps old mid → files ≡ listing.files
+pub facts_stop : (options : Options) (listing : Listing) (files : List FileEntry) (old mid new : TreeState) (stop : Stop) → Keeps old mid → RefusesNothing old mid → files ≡ listing.files
     → (IsTrue old.honest → IsListingOf old.bag listing) → ((IsTrue mid.honest → AreListed mid.bag files) → StopsReading options mid new stop) → MayStopReading options old new stop
-facts_stop options listing files old mid new stop k e listed stops =
+facts_stop options listing files old mid new stop k calm e listed stops =
     let are : IsTrue mid.honest → AreListed mid.bag files =
     λ honest. subst (AreListed mid.bag) (sym e) (subst (λ bag. AreListed bag listing.files) (sym k.bag) (listed (sym k.honest ∙ honest)).files) in
-    let h = later_stop options old mid new stop k (stops are) in record {
+    let h = later_stop options old mid new stop k calm (stops are) in record {
       cause = h.cause;
       answered = h.answered;
       path = elim h.path [ inl none ↦ inl none | inr at ↦ inr (inr at) ];
       memory = h.memory;
+      wanting = h.wanting;
     }

@@ -1,6 +1,7 @@
 -- Why listing a tree and reading its tag files may stop.
-use Rattle.std.specs.Prelude.{◌≡◌, ◌⊎◌, ◌<◌, ℕ, List, [], IsTrue}
+use Rattle.std.specs.Prelude.{◌≡◌, ◌≢◌, ◌⊎◌, ◌<◌, ℕ, List, [], IsTrue}
 use Rattle.bag_tree.specs.Bag.{HasFile}
+use Rattle.bag_tree.specs.Calm.{MayTellMemory}
 use Rattle.bag_tree.specs.Tree.{TreeState, MayRefuse, FailsOver, CameFromTree, most_entries}
 use Rattle.bag_tree.specs.declared.tree_fault.Stop.{Stop}
 use Rattle.bag_tree.specs.declared.tree_fault.TreeFault.{TreeFault}
@@ -12,9 +13,9 @@ use Rattle.bag_facts.specs.declared.options.Options.{Options}
 abbrev pub IsOutOfMemory : Stop → Type 0
 IsOutOfMemory stop = (stop.cause ≡ Memory) × (stop.path ≡ [])
 
--- the stop tells of this refusal of the file, or of want of memory
-abbrev pub IsStopAt : TreeFault → List ℕ → Stop → Type 0
-IsStopAt cause path stop = ((stop.cause ≡ cause) × (stop.path ≡ path) × (cause ≡ Memory → ⊥)) ⊎ IsOutOfMemory stop
+-- The refusal of the file is told so: with its path, or without one where it was for want of memory.
+abbrev pub IsRefusalOf : TreeFault → List ℕ → Stop → Type 0
+IsRefusalOf cause path stop = ((cause ≢ Memory) × (stop.cause ≡ cause) × (stop.path ≡ path)) ⊎ ((cause ≡ Memory) × IsOutOfMemory stop)
 
 -- Why listing a tree and reading its tag files may be refused. Over an honest tree the cause is the device, something in
 -- the tree that is no file and no folder or has a name that isn't UTF-8, the number of its files or want of memory.
@@ -38,9 +39,11 @@ abbrev pub IsOfFile : Options → TreeState → Stop → Type 0
 IsOfFile options old stop = IsWanted options stop.path × (IsTrue old.honest → HasFile old.bag stop.path)
 
 -- A stop tells the cause, which is the tree's own answer but for want of memory, and the file that was refused. It names
--- none for want of memory, and where it was the listing that was refused.
+-- none for want of memory, and where it was the listing that was refused. Want of memory is told only where the tree told it
+-- or refused nothing.
 pub record MayStopReading (options : Options) (old new : TreeState) (stop : Stop) : Type 0 where
   pub cause : MayRefuseFacts old new stop.cause
   pub answered : CameFromTree new stop.cause
   pub path : IsOutOfMemory stop ⊎ IsOfListing old new stop ⊎ IsOfFile options old stop
   pub memory : stop.cause ≡ Memory → stop.path ≡ []
+  pub wanting : stop.cause ≡ Memory → MayTellMemory old new

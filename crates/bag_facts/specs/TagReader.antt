@@ -3,6 +3,7 @@ use Rattle.std.specs.Prelude.{◌≡◌, ◌⊎◌, ◌++◌, ◌∷◌, ◌<◌
 use Rattle.std.specs.Option.{option_map}
 use Rattle.bag_read.specs.TagName.{tag_path}
 use Rattle.bag_tree.specs.Bag as bag
+use Rattle.bag_tree.specs.Calm.{MayTellMemory}
 use Rattle.bag_tree.specs.Listing.{size_at}
 use Rattle.bag_tree.specs.Tree.{TreeState, CameFromTree}
 use Rattle.bag_tree.specs.declared.listing.FileEntry.{FileEntry}
@@ -55,3 +56,4 @@ pub record StopsReading (options : Options) (old new : TreeState) (stop : Stop) 
   pub answered : CameFromTree new stop.cause
   pub path : IsOutOfMemory stop ⊎ IsOfFile options old stop
   pub memory : stop.cause ≡ Memory → stop.path ≡ []
+  pub wanting : stop.cause ≡ Memory → MayTellMemory old new

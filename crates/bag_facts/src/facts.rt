@@ -6,6 +6,7 @@ ghost use Rattle.bag_text.specs.Rules.{rules_of};
 ghost use Rattle.bag_read.specs.TagName.{tag_path};
 ghost use Rattle.bag_read.specs.declared.tag_name.TagName.TheVariants as file_of;
 ghost use Rattle.bag_tree.specs.Bag.{Bag, IsBag, HasFile, file};
+ghost use Rattle.bag_tree.specs.Calm.{RefusesNothing};
 ghost use Rattle.bag_tree.specs.Tree.{Keeps};
 ghost use Rattle.bag_facts.specs.Facts.{rules_in, AreJudged, AreParsed, AreRulesOf};
 ghost use Rattle.bag_facts.specs.TagFacts.{name_of, AreEntriesOf, IsReadOf, IsDeclarationOf, IsMetadataOf, IsFetchListOf, IsManifestNamed, IsNamed};
@@ -39,11 +40,12 @@ impl Facts {
     /// the depths above `Declaration` also `bag-info.txt`, `fetch.txt` and the manifests of supported algorithms.
     ///
     /// The stop of a refusal names the file that was refused; it names none for the listing and for want of memory. Its
-    /// cause is the tree's own answer, but for want of memory. The facts are those of an honest tree's bag. Of any other
-    /// tree they are those of some bag that has the listed files.
+    /// cause is the tree's own answer, but for want of memory, which is told only where the tree told it or refused
+    /// nothing. The facts are those of an honest tree's bag. Of any other tree they are those of some bag that has the
+    /// listed files.
     pub fn read<T: Tree>(alloc: Global, tree: &mut T, options: Options) -> Result<Facts, Stop>
         ensures keeps { Keeps (T.state tree.old) (T.state tree.new) }
-        ensures calm { OnOk result ((T.state tree.new).failures ≡ (T.state tree.old).failures) }
+        ensures calm { OnOk result (RefusesNothing (T.state tree.old) (T.state tree.new)) }
         ensures opens { OpensWanted options (T.state tree.old) (T.state tree.new) }
         ensures opened { IfOk result (λ facts. OpensAll options facts.listing.files (T.state tree.old) (T.state tree.new)) }
         ensures opened_first { OnErr result (((T.state tree.new).openings ≡ (T.state tree.old).openings)

@@ -1,17 +1,16 @@
 //! Reads the tag files of a listing.
 ghost use Rattle.std.specs.Prelude.{◌≡◌, ◌≢◌, ◌++◌, [], IsTrue, IsUtf8, IfOk, IfErr, OnOk, OnErr, MatchOption, Contains, map};
 ghost use Rattle.bag_read.specs.TagName.{tag_path};
+ghost use Rattle.bag_tree.specs.Calm.{RefusesNothing};
 ghost use Rattle.bag_tree.specs.Listing.{IsOrdered};
 ghost use Rattle.bag_tree.specs.Tree.{Keeps, IsEntryOf, OpensAtMost};
 ghost use Rattle.bag_tree.specs.Whole.{IsRefusedAt};
-ghost use Rattle.bag_facts.specs.Stops.{IsStopAt};
 ghost use Rattle.bag_facts.specs.TagReader.{AreBytes, AreListed, AreTexts, IsWhole, ReadsWanted, StopsReading, read_path};
 ghost use Rattle.bag_facts.specs.Wanted.{Wants, IsWanted, AreWanted, OpensFirst, OpensUpTo};
 ghost use Rattle.bag_facts.specs.declared.tag_reader.TagBytes.{TagBytes};
 
-use crate::Options;
+use crate::{Options, refusal_of};
 use bag_read::TagName;
-use bag_text::Text;
 use bag_tree::{FileEntry, Stop, Tree, TreeFault, read_whole};
 use std::alloc::Global;
 
@@ -42,7 +41,7 @@ pub(crate) fn read_tag_files<T: Tree>(
 ) -> Result<Vec<TagBytes>, Stop>
     requires { IsOrdered files.now }
     ensures keeps { Keeps (T.state tree.old) (T.state tree.new) }
-    ensures calm { OnOk result ((T.state tree.new).failures ≡ (T.state tree.old).failures) }
+    ensures calm { OnOk result (RefusesNothing (T.state tree.old) (T.state tree.new)) }
     ensures opened { IfOk result (λ read. (T.state tree.new).openings ≡ (T.state tree.old).openings ++ map read_path read.items) }
     ensures texts { OnOk result (AreTexts files.now) }
     ensures wanted { IfOk result (λ read. AreWanted options files.now (map read_path read.items)) }
@@ -72,7 +71,7 @@ fn read_wanted<T: Tree>(
     options: Options,
 ) -> Result<Option<TagBytes>, Stop>
     ensures keeps { Keeps (T.state tree.old) (T.state tree.new) }
-    ensures calm { OnOk result ((T.state tree.new).failures ≡ (T.state tree.old).failures) }
+    ensures calm { OnOk result (RefusesNothing (T.state tree.old) (T.state tree.new)) }
     ensures text { OnOk result (IsUtf8 entry.now.path) }
     ensures read { IfOk result (ReadsWanted options entry.now (T.state tree.old) (T.state tree.new)) }
     ensures opens { OnErr result (IsWanted options entry.now.path × OpensAtMost (T.state tree.old) (T.state tree.new) entry.now.path) }
@@ -84,9 +83,13 @@ fn read_wanted<T: Tree>(
     let Some(name) = wanted_at(options, entry.path.as_str()) else {
         return Ok(None);
     };
+    // Copied before the file is read, so that its refusal isn't told as want of memory.
+    let Ok(path) = entry.path.copy(alloc) else {
+        return Err(Stop::without_path(alloc, TreeFault::Memory));
+    };
     match read_whole(alloc, tree, entry) {
         Ok(bytes) => Ok(Some(TagBytes::new(name, bytes))),
-        Err(cause) => Err(stop_at(alloc, cause, &entry.path)),
+        Err(cause) => Err(refusal_of(alloc, cause, path)),
     }
 }
 
@@ -101,18 +104,5 @@ fn wanted_at(options: Options, path: &str) -> Option<TagName>
         Some(name)
     } else {
         None
-    }
-}
-
-/// The stop of a refusal of a file. Where there is no memory for its path, that is the cause; want of memory names no file.
-pub fn stop_at(alloc: Global, cause: TreeFault, path: &Text) -> Stop
-    ensures stop { IsStopAt cause path.now result }
-{
-    if cause == TreeFault::Memory {
-        return Stop::without_path(alloc, cause);
-    }
-    match path.copy(alloc) {
-        Ok(path) => Stop { cause, path },
-        Err(_) => Stop::without_path(alloc, TreeFault::Memory),
     }
 }

@@ -1,8 +1,10 @@
 use Rattle.std.proofs.Common.{◌≡◌, ◌≢◌, ◌++◌, ◌+◌, ◌∷◌, [], IsTrue, sym, subst, rules}
+use Rattle.bag_tree.proofs.Calm.{nothing_then}
 use Rattle.bag_facts.specs.TagReader.{AreListed, ReadsWanted, StopsReading}
 use Rattle.bag_facts.specs.Wanted.{OpensFirst, OpensUpTo}
 use Rattle.bag_facts.proofs.PassedOn.{passed_on, on_error}
 use Rattle.bag_facts.proofs.Reading.{ReadsSome, reads_none, reads_no_more, reads_one_more, opened_more, opens_first, opens_first_here, opens_up_to, stops_at, all_wanted, all_texts}
+use Rattle.bag_facts.proofs.Refusing.{stop_of_memory}
 use Rattle.bag_facts.proofs.tag_reader.read_tag_files.Goals as goal
 
 pub loop-entry-init : goal.loop-entry-init
@@ -74,3 +76,10 @@ returns-clause-wanted g c =
 pub returns-clause-texts : goal.returns-clause-texts
 returns-clause-texts g c =
     all_texts c.args.options c.args.files.now c.loop-entry.entry-index (g.T.Tree.state c.args.tree.now) (g.T.Tree.state c.loop-entry.tree) c.loop-entry.read.items c.loop-entry-test.false c.loop-entry.invariant
+
+pub returns-then-is_err-clause-stop : goal.returns-then-is_err-clause-stop
+returns-then-is_err-clause-stop g c = λ are.
+    let old = g.T.Tree.state c.args.tree.now in
+    let mid = g.T.Tree.state c.loop-entry.tree in
+    let new = g.T.Tree.state c.read_wanted.new.tree in
+    stop_of_memory c.args.options old new c.without_path.result (c.without_path.ensures.cause, c.without_path.ensures.path) (nothing_then old mid new c.loop-entry.invariant.calm c.in_ok-file.ensures.calm)

@@ -1,5 +1,6 @@
 use Rattle.std.proofs.Common.{◌≡◌, ◌≢◌, ◌⊎◌, inr, [], map, sym, subst}
 use Rattle.bag_tree.specs.declared.listing.Listing.{Listing}
+use Rattle.bag_tree.proofs.Calm.{nothing_given, nothing_then}
 use Rattle.bag_facts.specs.Stops.{MayStopReading}
 use Rattle.bag_facts.specs.TagReader.{read_path}
 use Rattle.bag_facts.specs.Wanted.{AreWanted, ForListing, OpensAll, OpensFirst, OpensUpTo}
@@ -7,6 +8,7 @@ use Rattle.bag_facts.proofs.Known.{known_honest, known_seen}
 use Rattle.bag_facts.proofs.Opens.{opened_wanted, opens_none, opens_wanted, opens_all_first, opens_later, opens_all_later, opens_up_to_later}
 use Rattle.bag_facts.proofs.PassedOn.{passed_on, on_error}
 use Rattle.bag_facts.proofs.Reading.{facts_stop, listing_stop}
+use Rattle.bag_facts.proofs.Refusing.{facts_stop_of_memory}
 use Rattle.bag_facts.proofs.facts.Facts.read.Goals as goal
 
 pub returns-in-Err-clause-opens : goal.returns-in-Err-clause-opens
@@ -44,7 +46,7 @@ returns-in_err-read-clause-stop g c =
     let mid = g.T.Tree.state c.list.new.self in
     let new = g.T.Tree.state c.read_tag_files.new.tree in
     passed_on c.from_residual.result c.in_err-read.field-0.0 (MayStopReading c.args.options old new) c.from_residual.ensures.1
-    (facts_stop c.args.options c.in-Ok.listing c.as_slice.result.now old mid new c.in_err-read.field-0.0 c.list.ensures.keeps c.as_slice.ensures c.in-Ok.ensures.honest c.in_err-read.ensures.stop)
+    (facts_stop c.args.options c.in-Ok.listing c.as_slice.result.now old mid new c.in_err-read.field-0.0 c.list.ensures.keeps (nothing_given old mid c.in-Ok.ensures.calm c.in-Ok.ensures.last) c.as_slice.ensures c.in-Ok.ensures.honest c.in_err-read.ensures.stop)
 
 pub returns-in-Ok-of-clause-opens : goal.returns-in-Ok-of-clause-opens
 returns-in-Ok-of-clause-opens g c =
@@ -104,3 +106,17 @@ returns-in-Err-of-clause-opened_first g c =
           (opens_all_first c.args.options files old new
           (opens_all_later c.args.options files old mid new (map read_path c.in_ok-read.read.items) c.list.ensures.openings c.in_ok-read.ensures.wanted c.in_ok-read.ensures.opened)),
     )
+
+pub returns-in-Ok-of-clause-calm : goal.returns-in-Ok-of-clause-calm
+returns-in-Ok-of-clause-calm g c =
+    let old = g.T.Tree.state c.args.tree.now in
+    let mid = g.T.Tree.state c.list.new.self in
+    nothing_then old mid (g.T.Tree.state c.read_tag_files.new.tree) (nothing_given old mid c.in-Ok.ensures.calm c.in-Ok.ensures.last) c.in_ok-read.ensures.calm
+
+pub returns-in-Err-of-clause-stop : goal.returns-in-Err-of-clause-stop
+returns-in-Err-of-clause-stop g c =
+    let old = g.T.Tree.state c.args.tree.now in
+    let mid = g.T.Tree.state c.list.new.self in
+    let new = g.T.Tree.state c.read_tag_files.new.tree in
+    facts_stop_of_memory c.args.options old new c.without_path-in-Err-of.result (c.without_path-in-Err-of.ensures.cause, c.without_path-in-Err-of.ensures.path)
+    (nothing_then old mid new (nothing_given old mid c.in-Ok.ensures.calm c.in-Ok.ensures.last) c.in_ok-read.ensures.calm)

@@ -1,0 +1,64 @@
+-- The stop of a file that was refused, and for want of memory.
+use Rattle.std.proofs.Common.{◌≡◌, ◌∙◌, inl, inr, ℕ, List, length, Option, None, Some, true, is_some, IsTrue, refl, sym, ap, subst}
+use Rattle.std.specs.Option.{option_map}
+use Rattle.bag_tree.specs.Bag.{HasFile, file}
+use Rattle.bag_tree.specs.Calm.{MayTellMemory, RefusesNothing}
+use Rattle.bag_tree.specs.Tree.{TreeState, CameFromTree, IsEntryOf}
+use Rattle.bag_tree.specs.Whole.{MayRefuseWhole}
+use Rattle.bag_tree.specs.declared.listing.FileEntry.{FileEntry}
+use Rattle.bag_tree.specs.declared.tree_fault.Stop.{Stop}
+use Rattle.bag_tree.specs.declared.tree_fault.TreeFault.{TreeFault}
+use Rattle.bag_tree.specs.declared.tree_fault.TreeFault.TheVariants.{NotFound, Changed, NoneOpen, Memory}
+use Rattle.bag_facts.specs.Stops.{IsOutOfMemory, IsRefusalOf, MayRefuseFacts, MayStopReading}
+use Rattle.bag_facts.specs.TagReader.{StopsReading}
+use Rattle.bag_facts.specs.Wanted.{IsWanted}
+use Rattle.bag_facts.specs.declared.options.Options.{Options}
+
+-- what may refuse a listed file of an honest tree
+pub refused_file : (old new : TreeState) (entry : FileEntry) (cause : TreeFault) → (IsTrue old.honest → IsEntryOf old.bag entry) → MayRefuseWhole old new entry cause
+    → MayRefuseFacts old new cause
+refused_file old new entry Changed is (size, other) = λ honest. (other honest).1 (is honest)
+refused_file old new entry NotFound is (absent, came) = λ honest. let clash : None ≡ Some entry.size = sym (ap (option_map length) (absent honest)) ∙ is honest in cc
+refused_file old new entry NoneOpen is (closed, came) = absurd closed
+refused_file old new entry Memory is h = tt
+refused_file old new entry other is h = h.0
+
+pub came_from : (old new : TreeState) (entry : FileEntry) (cause : TreeFault) → MayRefuseWhole old new entry cause → CameFromTree new cause
+came_from old new entry Changed (size, other) = (entry.size, size)
+came_from old new entry Memory h = tt
+came_from old new entry other h = h.1
+
+-- a listed file of a bag is there
+is_there : (content : Option (List ℕ)) (size : ℕ) → option_map length content ≡ Some size → is_some content ≡ true
+is_there None size e = let clash : None ≡ Some size = e in cc
+is_there (Some bytes) size e = refl
+
+pub has_entry : (old : TreeState) (entry : FileEntry) → (IsTrue old.honest → IsEntryOf old.bag entry) → IsTrue old.honest → HasFile old.bag entry.path
+has_entry old entry is honest = is_there (file old.bag entry.path) entry.size (is honest)
+
+-- want of memory stops reading files
+pub stop_of_memory : (options : Options) (old new : TreeState) (stop : Stop) → IsOutOfMemory stop → RefusesNothing old new → StopsReading options old new stop
+stop_of_memory options old new stop m calm = record { cause = rw m.0 tt; answered = rw m.0 tt; path = inl m; memory = λ _. m.1; wanting = λ _. inr calm }
+
+-- and reading the facts
+pub facts_stop_of_memory : (options : Options) (old new : TreeState) (stop : Stop) → IsOutOfMemory stop → RefusesNothing old new → MayStopReading options old new stop
+facts_stop_of_memory options old new stop m calm = record { cause = rw m.0 tt; answered = rw m.0 tt; path = inl m; memory = λ _. m.1; wanting = λ _. inr calm }
+
+-- the refusal of a wanted file stops reading files
+pub stop_of_refusal : (options : Options) (entry : FileEntry) (old new : TreeState) (cause : TreeFault) (stop : Stop) → IsWanted options entry.path
+    → MayRefuseWhole old new entry cause → (cause ≡ Memory → MayTellMemory old new) → IsRefusalOf cause entry.path stop → (IsTrue old.honest → IsEntryOf old.bag entry)
+    → StopsReading options old new stop
+stop_of_refusal options entry old new cause stop w refused wanting (inl (not, same, at)) is = record {
+  cause = subst (MayRefuseFacts old new) (sym same) (refused_file old new entry cause is refused);
+  answered = subst (CameFromTree new) (sym same) (came_from old new entry cause refused);
+  path = inr (subst (IsWanted options) (sym at) w, λ honest. subst (HasFile old.bag) (sym at) (has_entry old entry is honest));
+  memory = λ m. absurd (not (sym same ∙ m));
+  wanting = λ m. absurd (not (sym same ∙ m));
+}
+stop_of_refusal options entry old new cause stop w refused wanting (inr (memory, m)) is = record {
+  cause = rw m.0 tt;
+  answered = rw m.0 tt;
+  path = inl m;
+  memory = λ _. m.1;
+  wanting = λ _. wanting memory;
+}

@@ -1,0 +1,31 @@
+use Rattle.std.proofs.Common.{◌∙◌, subst}
+use Rattle.bag_tree.proofs.Calm.{nothing_asked}
+use Rattle.bag_facts.specs.Stops.{IsRefusalOf}
+use Rattle.bag_facts.proofs.Refusing.{stop_of_memory, stop_of_refusal}
+use Rattle.bag_facts.proofs.tag_reader.read_wanted.Goals as goal
+
+pub returns-in_default-copy-clause-stop : goal.returns-in_default-copy-clause-stop
+returns-in_default-copy-clause-stop g c = λ is.
+    let state = g.T.Tree.state c.args.tree.now in
+    stop_of_memory c.args.options state state c.without_path.result (c.without_path.ensures.cause, c.without_path.ensures.path) (nothing_asked state)
+
+pub returns-in-Err-clause-stop : goal.returns-in-Err-clause-stop
+returns-in-Err-clause-stop g c =
+    let state = g.T.Tree.state in
+    let named = subst (λ path. IsRefusalOf c.in-Err.cause path c.refusal_of.result) c.in-Ok.ensures c.refusal_of.ensures in
+    stop_of_refusal c.args.options c.args.entry.now (state c.args.tree.now) (state c.read_whole.new.tree) c.in-Err.cause c.refusal_of.result
+    (c.in-Some.name, c.in-Some.ensures.0 ∙ c.as_str.ensures, c.in-Some.ensures.1) c.in-Err.ensures.refused c.in-Err.ensures.wanting named
+
+pub returns-in-Err-clause-refused : goal.returns-in-Err-clause-refused
+returns-in-Err-clause-refused g c = λ some.
+    elim (subst (λ path. IsRefusalOf c.in-Err.cause path c.refusal_of.result) c.in-Ok.ensures c.refusal_of.ensures) [
+      | inl (not, same, at) ↦ at
+      | inr (is, m) ↦ absurd (some m.1)
+    ]
+
+pub returns-in-Err-clause-refused_at : goal.returns-in-Err-clause-refused_at
+returns-in-Err-clause-refused_at g c = λ some.
+    elim c.refusal_of.ensures [
+      | inl (not, same, at) ↦ c.in-Err.ensures.refused_at not
+      | inr (is, m) ↦ absurd (some m.1)
+    ]
