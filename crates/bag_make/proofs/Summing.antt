@@ -14,29 +14,16 @@ use Rattle.bag_tree.specs.declared.answer.Answer.TheVariants.{Refused}
 use Rattle.bag_tree.specs.declared.listing.FileEntry.{FileEntry}
 use Rattle.bag_tree.specs.declared.tree_fault.Stop.{Stop}
 use Rattle.bag_tree.specs.declared.tree_fault.TreeFault.{TreeFault}
-use Rattle.bag_tree.specs.declared.tree_fault.TreeFault.TheVariants.{NotFound, Changed, NoneOpen, Memory}
-use Rattle.bag_facts.specs.Stops.{IsOutOfMemory, MayRefuseFacts}
+use Rattle.bag_tree.specs.declared.tree_fault.TreeFault.TheVariants.{Changed, Memory}
+use Rattle.bag_facts.specs.Stops.{IsOutOfMemory, IsRefusalOf, MayRefuseFacts}
 use Rattle.bag_facts.specs.Wanted.{paths_of}
 use Rattle.bag_facts.proofs.Mapped.{take_one_more}
 use Rattle.bag_facts.proofs.Reading.{keeps_itself, keeps_on, later_refusal}
+use Rattle.bag_facts.proofs.Refusing.{came_from, refused_file}
 use Rattle.bag_make.specs.Made.{File, data_folder, new_payload}
-use Rattle.bag_make.specs.Stops.{IsAtFile, IsCalm, IsRefusalOf, StopsSumming}
+use Rattle.bag_make.specs.Stops.{IsAtFile, IsCalm, StopsSumming}
 use Rattle.bag_make.specs.Summed.{IsSummed, AreSummed, IsSummedEntry, AreSummedFiles, OpensFirstOf, entry_of}
 use Rattle.bag_make.specs.declared.summed.SummedFile.{SummedFile}
-
--- what may refuse a listed file of an honest tree
-refused_file : (old new : TreeState) (entry : FileEntry) (cause : TreeFault) → (IsTrue old.honest → IsEntryOf old.bag entry) → MayRefuseWhole old new entry cause
-    → MayRefuseFacts old new cause
-refused_file old new entry Changed is (size, other) = λ honest. (other honest).1 (is honest)
-refused_file old new entry NotFound is (absent, came) = λ honest. let clash : None ≡ Some entry.size = sym (ap (option_map length) (absent honest)) ∙ is honest in cc
-refused_file old new entry NoneOpen is (closed, came) = absurd closed
-refused_file old new entry Memory is h = tt
-refused_file old new entry other is h = h.0
-
-came_from : (old new : TreeState) (entry : FileEntry) (cause : TreeFault) → MayRefuseWhole old new entry cause → CameFromTree new cause
-came_from old new entry Changed (size, other) = (entry.size, size)
-came_from old new entry Memory h = tt
-came_from old new entry other h = h.1
 
 pub calm_itself : (state : TreeState) → IsCalm state state
 calm_itself state = record { failures = refl; grows = omega arith; last = λ _. refl }

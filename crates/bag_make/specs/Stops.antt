@@ -13,10 +13,6 @@ use Rattle.bag_facts.specs.Stops.{IsOfListing, IsOutOfMemory, MayRefuseFacts}
 use Rattle.bag_facts.specs.Wanted.{paths_of}
 use Rattle.bag_make.specs.Plan.{is_in_the_way}
 
--- The refusal of a file is told so: with its path, or without one where it was for want of memory.
-abbrev pub IsRefusalOf : TreeFault → List ℕ → Stop → Type 0
-IsRefusalOf cause path stop = ((cause ≢ Memory) × (stop.cause ≡ cause) × (stop.path ≡ path)) ⊎ ((cause ≡ Memory) × IsOutOfMemory stop)
-
 -- Nothing was refused: the device didn't fail, and where no file was opened, nothing was asked.
 pub record IsCalm (old new : TreeState) : Type 0 where
   pub failures : new.failures ≡ old.failures

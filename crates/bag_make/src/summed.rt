@@ -5,10 +5,11 @@ ghost use Rattle.bag_tree.specs.Tree.{Keeps, OpensAtMost};
 ghost use Rattle.bag_tree.specs.Digest.{AreSumsOf};
 ghost use Rattle.bag_facts.specs.Wanted.{paths_of};
 ghost use Rattle.bag_make.specs.Made.{data_folder};
-ghost use Rattle.bag_make.specs.Stops.{IsCalm, IsRefusalOf, StopsSumming};
+ghost use Rattle.bag_make.specs.Stops.{IsCalm, StopsSumming};
 ghost use Rattle.bag_make.specs.Summed.{AreSummed, AreSummedFiles, IsSummedEntry, OpensFirstOf};
 ghost use Rattle.bag_make.specs.declared.summed.SummedFile.{SummedFile as Digested};
 
+use bag_facts::refusal_of;
 use bag_text::{AlgSet, Items, Text};
 use bag_tree::{Digests, FileEntry, Stop, Sums, Tree, TreeFault, digest_file};
 use std::alloc::{AllocError, Global};
@@ -99,17 +100,6 @@ fn append_summed<T: Tree>(
     match push_summed(alloc, summed, entry.path.as_str(), sums) {
         Ok(()) => Ok(()),
         Err(AllocError) => Err(Stop::without_path(alloc, TreeFault::Memory)),
-    }
-}
-
-/// The stop of a refusal of a file. Want of memory names no file.
-fn refusal_of(alloc: Global, cause: TreeFault, path: Text) -> Stop
-    ensures { IsRefusalOf cause path result }
-{
-    if cause == TreeFault::Memory {
-        Stop::without_path(alloc, cause)
-    } else {
-        Stop { cause, path }
     }
 }
 

@@ -4,6 +4,7 @@ use Rattle.std.specs.Prelude.{Result, Ok, Err, IfErr, OnOk, OnErr}
 use Rattle.std.proofs.lemmas.List.{append_cancel_left}
 use Rattle.bag_text.proofs.ListOf.{contains_behind, contains_first, contains_front, contains_back, contains_either, contains_cases, contains_nothing}
 use Rattle.bag_tree.specs.Bag.{Bag, HasFile}
+use Rattle.bag_tree.specs.Calm.{RefusesNothing}
 use Rattle.bag_tree.specs.Tree.{TreeState, Keeps}
 use Rattle.bag_tree.specs.Whole.{IsRefusedAt}
 use Rattle.bag_tree.specs.declared.tree_fault.Stop.{Stop}
@@ -11,6 +12,7 @@ use Rattle.bag_tree.specs.declared.tree_fault.TreeFault.{TreeFault}
 use Rattle.bag_tree.specs.declared.tree_fault.TreeFault.TheVariants.{Device, Special, Name, NotFound, TooMany, Changed, NoneOpen, Memory, Exists}
 use Rattle.bag_facts.specs.declared.fault.Fault.{Fault}
 use Rattle.bag_facts.specs.Stops.{IsOutOfMemory}
+use Rattle.bag_tree.proofs.Calm.{memory_then}
 use Rattle.bag_facts.proofs.Reading.{later_refusal}
 use Rattle.bag_walk.specs.Openings.{IsReached, NoneWaits, Opens, OpensAgain, OpensNoneBehind, NoneBehind}
 use Rattle.std.specs.Option.{option_copied}
@@ -148,15 +150,17 @@ stop_front old new zs ys stop h = record {
   answered = h.answered;
   path = elim h.path [ inl m ↦ inl m | inr ((rest, is), there) ↦ inr ((rest ++ ys, ap (λ l. l ++ ys) is), there) ];
   memory = h.memory;
+  wanting = h.wanting;
 }
 
 -- and what refused the second
-pub stop_later : (old mid new : TreeState) (zs : List (List ℕ)) (stop : Stop) → Keeps old mid → MayStopFilling zs mid new stop → MayStopFilling zs old new stop
-stop_later old mid new zs stop k h = record {
+pub stop_later : (old mid new : TreeState) (zs : List (List ℕ)) (stop : Stop) → Keeps old mid → RefusesNothing old mid → MayStopFilling zs mid new stop → MayStopFilling zs old new stop
+stop_later old mid new zs stop k calm h = record {
   cause = later_refusal old mid new stop.cause k h.cause;
   answered = h.answered;
   path = elim h.path [ inl m ↦ inl m | inr (next, there) ↦ inr (next, λ honest. subst (λ bag. HasFile bag stop.path) k.bag (there (k.honest ∙ honest))) ];
   memory = h.memory;
+  wanting = λ m. memory_then old mid new calm (h.wanting m);
 }
 
 -- the same whatever the tree
@@ -166,6 +170,7 @@ anyway_front old new zs ys stop h = record {
   answered = h.answered;
   path = elim h.path [ inl m ↦ inl m | inr (rest, is) ↦ inr (rest ++ ys, ap (λ l. l ++ ys) is) ];
   memory = h.memory;
+  wanting = h.wanting;
 }
 
 later_anyway : (old mid new : TreeState) (cause : TreeFault) → Keeps old mid → MayRefuseAnyway mid new cause → MayRefuseAnyway old new cause
@@ -179,17 +184,18 @@ later_anyway old mid new NoneOpen k h = later_refusal old mid new NoneOpen k h
 later_anyway old mid new Memory k h = later_refusal old mid new Memory k h
 later_anyway old mid new Exists k h = later_refusal old mid new Exists k h
 
-pub anyway_later : (old mid new : TreeState) (zs : List (List ℕ)) (stop : Stop) → Keeps old mid → MayStopAnyway zs mid new stop → MayStopAnyway zs old new stop
-anyway_later old mid new zs stop k h = record {
+pub anyway_later : (old mid new : TreeState) (zs : List (List ℕ)) (stop : Stop) → Keeps old mid → RefusesNothing old mid → MayStopAnyway zs mid new stop → MayStopAnyway zs old new stop
+anyway_later old mid new zs stop k calm h = record {
   cause = later_anyway old mid new stop.cause k h.cause;
   answered = h.answered;
   path = h.path;
   memory = h.memory;
+  wanting = λ m. memory_then old mid new calm (h.wanting m);
 }
 
-pub anyway_in_turn : {A : Type 0} (old mid new : TreeState) (zs : List (List ℕ)) (r : Result A Stop) → Keeps old mid → IfErr r (MayStopAnyway zs mid new) → IfErr r (MayStopAnyway zs old new)
-anyway_in_turn old mid new zs (Ok x) k h = tt
-anyway_in_turn old mid new zs (Err stop) k h = anyway_later old mid new zs stop k h
+pub anyway_in_turn : {A : Type 0} (old mid new : TreeState) (zs : List (List ℕ)) (r : Result A Stop) → Keeps old mid → RefusesNothing old mid → IfErr r (MayStopAnyway zs mid new) → IfErr r (MayStopAnyway zs old new)
+anyway_in_turn old mid new zs (Ok x) k calm h = tt
+anyway_in_turn old mid new zs (Err stop) k calm h = anyway_later old mid new zs stop k calm h
 
 -- what the first source has left
 pub below_same : (fs gs more : List Fault) → more ≡ fs → AllBelow fs gs → AllBelow more gs

@@ -14,6 +14,7 @@ pub mod Openings
 pub mod Passed
 pub mod Places
 pub mod Positions
+pub mod Refusing
 pub mod Rest
 pub mod Running
 pub mod SegmentLines

@@ -6,9 +6,12 @@ use Rattle.std.proofs.lemmas.List.{length-append, map-append, append_cancel_left
 use Rattle.std.proofs.Math.Seq.{take-append_seam}
 use Rattle.bag_text.proofs.ListOf.{contains_behind, contains_either}
 use Rattle.bag_tree.specs.Bag.{Bag}
+use Rattle.bag_tree.specs.Calm.{MayTellMemory, RefusesNothing}
 use Rattle.bag_tree.specs.Tree.{TreeState, Keeps}
 use Rattle.bag_tree.specs.Whole.{IsRefusedAt}
 use Rattle.bag_tree.specs.declared.tree_fault.Stop.{Stop}
+use Rattle.bag_tree.specs.declared.tree_fault.TreeFault.TheVariants.{Memory}
+use Rattle.bag_tree.proofs.Calm.{memory_then}
 use Rattle.bag_facts.specs.Stops.{IsOutOfMemory}
 use Rattle.bag_facts.specs.declared.fault.Fault.{Fault}
 use Rattle.bag_walk.specs.Ending.{written, written_line}
@@ -109,7 +112,7 @@ one_line_more given f old mid new t more =
 -- so many faults were given and written; of a bag that is seen they are the first
 pub record HasWritten (limit count : ℕ) (IsOf IsOfNow : Bag → Type 0) (left left_now : Bag → List Fault) (todo todo_now : List (List ℕ)) (old now : TreeState) (before after : Option (List ℕ)) (line line_now : List ℕ) : Type 0 where
   pub keeps : Keeps old now
-  pub calm : now.failures ≡ old.failures
+  pub calm : RefusesNothing old now
   pub within : count ≤ limit
   pub given : List Fault
   pub count_is : length given ≡ count
@@ -130,11 +133,11 @@ module _ (limit count : ℕ) (IsOf IsOfNow : Bag → Type 0) (left left_now : Ba
       subst IsOfNow (sym has.keeps.bag) (has.seen old.bag (of h) (inl (h, refl))).0
 
   -- the next step stopped
-  pub stops_now : (todo_new : List (List ℕ)) (stop : Stop) → IsOutOfMemory stop ⊎ IsReached todo_now now new stop.path
+  pub stops_now : (todo_new : List (List ℕ)) (stop : Stop) → IsOutOfMemory stop ⊎ IsReached todo_now now new stop.path → (stop.cause ≡ Memory → MayTellMemory now new)
       → ((IsTrue now.honest → IsOfNow now.bag) → MayStopFilling todo_new now new stop) → MayStopWalk (IsTrue old.honest → IsOf old.bag) todo todo_new old new stop
-  stops_now todo_new stop (inl memory) h = inl memory
-  stops_now todo_new stop (inr reached) h =
-      inr (reached_on old now new todo todo_now todo_new has.opens stop.path reached, λ of. stop_later old now new todo_new stop has.keeps (h (of_now of)))
+  stops_now todo_new stop (inl memory) tells h = inl (memory, memory_then old now new has.calm (tells memory.0))
+  stops_now todo_new stop (inr reached) tells h =
+      inr (reached_on old now new todo todo_now todo_new has.opens stop.path reached, λ of. stop_later old now new todo_new stop has.keeps has.calm (h (of_now of)))
 
   -- so many lines were written
   pub lines_written : (rest : List Fault) → Appends before mid (concat (written (take count (has.given ++ rest))))

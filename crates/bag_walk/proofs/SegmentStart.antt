@@ -5,6 +5,7 @@ use Rattle.bag_text.specs.Path.{is_payload_path}
 use Rattle.bag_text.specs.Text.{text_cmp}
 use Rattle.bag_text.proofs.ListOf.{one_list}
 use Rattle.bag_tree.specs.Bag.{Bag}
+use Rattle.bag_tree.specs.Calm.{RefusesNothing}
 use Rattle.bag_tree.specs.Tree.{TreeState, Keeps}
 use Rattle.bag_facts.specs.FaultOrder.{fault_cmp}
 use Rattle.bag_facts.specs.declared.fault.Fault.{Fault}
@@ -37,11 +38,11 @@ asking_of options after = record { options = options; after = after; limit = Non
 
 module _ (old mid new : TreeState) (profile : Option Profile) (options : Options) (after : Option Fault) (IsOf : Bag → Type 0) (left : Bag → List Fault) (todo : List (List ℕ))
     (started : IsStarted old profile options after IsOf left todo) (k : Keeps old mid) where
-  pub stop_of_started : (end : SegmentEnd) → IfUnread end (MayStopRun (IsTrue mid.honest → IsOf mid.bag) todo mid new) → IfUnread end (MayStop options old new)
-  stop_of_started Full stops = tt
-  stop_of_started AtEnd stops = tt
-  stop_of_started (Unread stop) stops = stop_of_walk old mid new profile (asking_of options after) IsOf left todo started k stop stops
-  stop_of_started Unwritten stops = tt
+  pub stop_of_started : RefusesNothing old mid → (end : SegmentEnd) → IfUnread end (MayStopRun (IsTrue mid.honest → IsOf mid.bag) todo mid new) → IfUnread end (MayStop options old new)
+  stop_of_started calm Full stops = tt
+  stop_of_started calm AtEnd stops = tt
+  stop_of_started calm (Unread stop) stops = stop_of_walk old mid new profile (asking_of options after) IsOf left todo started k calm stop stops
+  stop_of_started calm Unwritten stops = tt
 
   module _ (honest : IsTrue old.honest) (report : List Fault) (is : IsReport (record { bag = old.bag; profile = profile; options = options }) report) (n : ℕ) (within : n ≤ length report)
       (behind : after ≡ cursor_behind n report) where

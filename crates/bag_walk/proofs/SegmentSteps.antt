@@ -1,10 +1,11 @@
 -- Segment after segment of a report.
 use Rattle.std.proofs.Common.{◌≡◌, ◌<◌, ◌≤◌, ◌+◌, ◌-◌, ◌++◌, ◌∷◌, inl, inr, ℕ, zero, suc, Bool, true, false, List, [], length, take, drop, get_or, slice_get, None, Some, Option, refl, sym, ap, ◌∙◌, subst, arith, true≢false, append_assoc}
-use Rattle.std.specs.List.{concat}
+use Rattle.std.specs.List.{concat, sum}
 use Rattle.std.specs.List.Sorted.{IsStrictlySortedBy}
 use Rattle.std.specs.Io.KnownBytes.{Appends}
 use Rattle.std.proofs.lemmas.List.{append_cancel_left, drop_more, drop_all, map-append, take-append-drop, length-drop}
 use Rattle.bag_tree.specs.Bag.{HasFile}
+use Rattle.bag_tree.specs.Calm.{MayTellMemory}
 use Rattle.bag_tree.specs.Tree.{TreeState, Keeps}
 use Rattle.bag_tree.specs.declared.tree_fault.Stop.{Stop}
 use Rattle.bag_tree.specs.declared.tree_fault.TreeFault.{TreeFault}
@@ -168,15 +169,24 @@ module _ (options : Options) (old mid next new : TreeState) (k : Keeps old mid) 
     memory = h.memory;
   }
 
-ended_is_no_stop : (options : Options) (old new : TreeState) (n : ℕ) → IsStopped options old new (ended None n)
-ended_is_no_stop options old new zero = tt
-ended_is_no_stop options old new (suc n) = tt
+ended_is_no_stop : (options : Options) (limits : List ℕ) (old new : TreeState) (n : ℕ) → IsStopped options limits old new (ended None n)
+ended_is_no_stop options limits old new zero = tt
+ended_is_no_stop options limits old new (suc n) = tt
 
-pub stopped_at_last : (options : Options) (old mid new : TreeState) (n : ℕ) (end : SegmentEnd) → Keeps old mid → IfUnread end (MayStop options mid new) → IsStopped options old new (outcome_at n end)
-stopped_at_last options old mid new n end_of.Full k h = tt
-stopped_at_last options old mid new n end_of.AtEnd k h = ended_is_no_stop options old new n
-stopped_at_last options old mid new n (end_of.Unread stop) k h = (may_lose options old mid new new k (keeps_itself new) stop h, h.answered)
-stopped_at_last options old mid new n end_of.Unwritten k h = tt
+pub stopped_at_last : (options : Options) (limits : List ℕ) (old mid new : TreeState) (n : ℕ) (end : SegmentEnd) → Keeps old mid → (sum limits ≡ 0 → mid ≡ old) → IfUnread end (MayStop options mid new)
+    → IsStopped options limits old new (outcome_at n end)
+stopped_at_last options limits old mid new n end_of.Full k same h = tt
+stopped_at_last options limits old mid new n end_of.AtEnd k same h = ended_is_no_stop options limits old new n
+stopped_at_last options limits old mid new n (end_of.Unread stop) k same h =
+    (may_lose options old mid new new k (keeps_itself new) stop h, h.answered, λ none is. subst (λ state. MayTellMemory state new) (same none) (h.wanting is))
+stopped_at_last options limits old mid new n end_of.Unwritten k same h = tt
+
+-- behind which none follows
+pub last_is_no_stop : (options : Options) (limits : List ℕ) (old new : TreeState) (n : ℕ) (end : SegmentEnd) → is_last end ≡ true → IsStopped options limits old new (outcome_at n end)
+last_is_no_stop options limits old new n end_of.Full last = absurd (true≢false (sym last))
+last_is_no_stop options limits old new n end_of.AtEnd last = ended_is_no_stop options limits old new n
+last_is_no_stop options limits old new n (end_of.Unread stop) last = absurd (true≢false (sym last))
+last_is_no_stop options limits old new n end_of.Unwritten last = tt
 
 -- ---- segment after segment
 

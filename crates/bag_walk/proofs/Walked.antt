@@ -1,5 +1,6 @@
 -- A run over a walk, by its segment.
 use Rattle.std.proofs.Common.{◌≡◌, ◌≤◌, ◌-◌, inl, inr, ℕ, Bool, List, Option, min, sym, subst, arith}
+use Rattle.bag_tree.specs.Calm.{RefusesNothing}
 use Rattle.bag_tree.specs.Tree.{TreeState}
 use Rattle.bag_tree.specs.declared.tree_fault.Stop.{Stop}
 use Rattle.bag_facts.specs.declared.fault.Fault.{Fault}
@@ -30,7 +31,7 @@ within_limit faults limit n Unwritten e = omega (arith, e.0)
 
 module _ (todo left : List (List ℕ)) (old new : TreeState) where
   stops_at : (stop : Stop) → IsReached todo old new stop.path → MayStopFilling left old new stop → StopsWalk todo old new stop
-  stops_at stop reached h = record { cause = h.cause; answered = h.answered; path = inr reached; memory = h.memory }
+  stops_at stop reached h = record { cause = h.cause; answered = h.answered; path = inr reached; memory = h.memory; wanting = h.wanting }
 
   stops_run : (IsOf : Type 0) (stop : Stop) → MayStopWalk IsOf todo left old new stop → MayStopRun IsOf todo old new stop
   stops_run IsOf stop (inl memory) = inl memory
@@ -45,7 +46,7 @@ module _ (todo left : List (List ℕ)) (old new : TreeState) where
 
   -- what a segment says of it is so of the run
   pub calmly : (request : Request) (faults : List Fault) (IsOf : Type 0) (segment : Segment) (before after : Option (List ℕ)) (refused : Bool) (outcome : Outcome)
-      → ClosesSegment request faults segment before after refused outcome → IfUnread segment.end (MayStopWalk IsOf todo left old new) → (IsRead segment.end → new.failures ≡ old.failures)
+      → ClosesSegment request faults segment before after refused outcome → IfUnread segment.end (MayStopWalk IsOf todo left old new) → (IsRead segment.end → RefusesNothing old new)
       → WritesCalmly request faults (MayStopRun IsOf todo old new) old new before after refused outcome
   calmly request faults IsOf segment before after refused outcome (w, read) stops calm = (
     record {

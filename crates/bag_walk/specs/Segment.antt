@@ -2,6 +2,7 @@
 use Rattle.std.specs.Prelude.{ℕ, ◌-◌, ◌<◌, ◌≤◌, ◌≡◌, ⊤, ◌⊎◌, Bool, true, List, [], Option, length, take, drop}
 use Rattle.std.specs.Io.KnownBytes.{Appends}
 use Rattle.std.specs.List.{concat}
+use Rattle.bag_tree.specs.Calm.{MayTellMemory, RefusesNothing}
 use Rattle.bag_tree.specs.Tree.{TreeState, CameFromTree}
 use Rattle.bag_tree.specs.declared.tree_fault.Stop.{Stop}
 use Rattle.bag_tree.specs.declared.tree_fault.TreeFault.TheVariants.{Memory}
@@ -45,10 +46,14 @@ abbrev pub IfUnread : SegmentEnd → (Stop → Type 0) → Type 0
 IfUnread (Unread stop) Stops = Stops stop
 IfUnread end Stops = ⊤
 
+-- memory ran out: no file is named, and the tree told it or refused nothing
+abbrev pub RunsOut : TreeState → TreeState → Stop → Type 0
+RunsOut old new stop = IsOutOfMemory stop × MayTellMemory old new
+
 -- Why a walk stops: for want of memory, or at the next file to be opened, and more is said where its source is of an honest
 -- tree's bag.
 abbrev pub MayStopWalk : Type 0 → List (List ℕ) → List (List ℕ) → TreeState → TreeState → Stop → Type 0
-MayStopWalk IsOf todo left old new stop = IsOutOfMemory stop ⊎ (IsReached todo old new stop.path × (IsOf → MayStopFilling left old new stop))
+MayStopWalk IsOf todo left old new stop = RunsOut old new stop ⊎ (IsReached todo old new stop.path × (IsOf → MayStopFilling left old new stop))
 
 -- how many faults are less than the one that was looked for last, where n were written
 abbrev pub looked_past : SegmentEnd → ℕ → ℕ
@@ -77,11 +82,12 @@ pub record StopsWalk (todo : List (List ℕ)) (old new : TreeState) (stop : Stop
   pub answered : CameFromTree new stop.cause
   pub path : IsOutOfMemory stop ⊎ IsReached todo old new stop.path
   pub memory : stop.cause ≡ Memory → stop.path ≡ []
+  pub wanting : stop.cause ≡ Memory → MayTellMemory old new
 
 abbrev pub MayStopRun : Type 0 → List (List ℕ) → TreeState → TreeState → Stop → Type 0
-MayStopRun IsOf todo old new stop = IsOutOfMemory stop ⊎ (IsOf → StopsWalk todo old new stop)
+MayStopRun IsOf todo old new stop = RunsOut old new stop ⊎ (IsOf → StopsWalk todo old new stop)
 
--- the lines of the first of these faults and a closing line were written, and no device failed where the run was answered
+-- the lines of the first of these faults and a closing line were written, and nothing was refused where the run was answered
 abbrev pub WritesCalmly : Request → List Fault → (Stop → Type 0) → TreeState → TreeState → Option (List ℕ) → Option (List ℕ) → Bool → Outcome → Type 0
 WritesCalmly request faults Stops old new before after refused outcome =
-    (writes : WritesReport request faults Stops before after refused outcome) × (IsAnswered writes.ending → new.failures ≡ old.failures)
+    (writes : WritesReport request faults Stops before after refused outcome) × (IsAnswered writes.ending → RefusesNothing old new)

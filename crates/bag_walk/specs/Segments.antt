@@ -1,8 +1,9 @@
 -- A report in segments, each with a limit of its own.
-use Rattle.std.specs.Prelude.{zero, suc, ℕ, ◌+◌, ◌-◌, ◌<◌, ◌≤◌, ◌≡◌, ◌⊎◌, ◌++◌, Bool, true, false, IsTrue, List, [], ◌∷◌, Option, None, length, drop, slice_get}
+use Rattle.std.specs.Prelude.{zero, suc, ℕ, ◌+◌, ◌-◌, ◌<◌, ◌≤◌, ◌≡◌, ◌⊎◌, ◌++◌, Bool, true, false, IsTrue, List, [], ◌∷◌, Option, None, length, drop, slice_get, sum}
 use Rattle.std.specs.List.{concat}
 use Rattle.std.specs.List.Sorted.{IsStrictlySortedBy}
 use Rattle.std.specs.Io.KnownBytes.{Appends}
+use Rattle.bag_tree.specs.Calm.{MayTellMemory}
 use Rattle.bag_tree.specs.Tree.{TreeState, CameFromTree}
 use Rattle.bag_tree.specs.declared.tree_fault.Stop.{Stop}
 use Rattle.bag_tree.specs.declared.tree_fault.TreeFault.{TreeFault}
@@ -74,9 +75,11 @@ pub record MayLose (options : Options) (old new : TreeState) (stop : Stop) : Typ
   pub path : (stop.path ≡ []) ⊎ IsOfFile options old stop ⊎ IsOfSummed options old stop
   pub memory : stop.cause ≡ Memory → stop.path ≡ []
 
--- the stop of the last segment, whatever the tree; its cause is the tree's own answer, but for want of memory
-abbrev pub IsStopped : Options → TreeState → TreeState → Outcome → Type 0
-IsStopped options old new outcome = IfStopped outcome (λ stop. MayLose options old new stop × CameFromTree new stop.cause)
+-- The stop of the last segment, whatever the tree, behind those of the limits before it. Its cause is the tree's own answer,
+-- but for want of memory; where these limits are all 0 want of memory is told only where the tree told it or refused nothing.
+abbrev pub IsStopped : Options → List ℕ → TreeState → TreeState → Outcome → Type 0
+IsStopped options before old new outcome =
+    IfStopped outcome (λ stop. MayLose options old new stop × CameFromTree new stop.cause × (sum before ≡ 0 → stop.cause ≡ Memory → MayTellMemory old new))
 
 -- What the segments of these limits write of a report, how the last ends, and which payload files they open. Each failure of
 -- the device costs one limit at most.

@@ -2,6 +2,7 @@
 use Rattle.std.specs.Prelude.{ℕ, ⊤, ◌≡◌, ◌⊎◌, ◌∷◌, Bool, true, false, List, [], Option, None, Some, IsTrue, Contains}
 use Rattle.std.specs.declared.cmp.Ordering.TheVariants.{Less}
 use Rattle.bag_tree.specs.Bag.{Bag, HasFile}
+use Rattle.bag_tree.specs.Calm.{MayTellMemory}
 use Rattle.bag_tree.specs.Tree.{TreeState, CameFromTree}
 use Rattle.bag_tree.specs.declared.tree_fault.Stop.{Stop}
 use Rattle.bag_tree.specs.declared.tree_fault.TreeFault.{TreeFault}
@@ -37,12 +38,13 @@ abbrev pub IsNext : List (List ℕ) → TreeState → List ℕ → Type 0
 IsNext todo old path = ((rest : List (List ℕ)) × (todo ≡ path ∷ rest)) × (IsTrue old.honest → HasFile old.bag path)
 
 -- Finding the first fault stopped: at the next file, or for want of memory. The cause is the tree's own answer, but for want
--- of memory.
+-- of memory, which is told only where the tree told it or refused nothing.
 pub record MayStopFilling (todo : List (List ℕ)) (old new : TreeState) (stop : Stop) : Type 0 where
   pub cause : MayRefuseFacts old new stop.cause
   pub answered : CameFromTree new stop.cause
   pub path : IsOutOfMemory stop ⊎ IsNext todo old stop.path
   pub memory : stop.cause ≡ Memory → stop.path ≡ []
+  pub wanting : stop.cause ≡ Memory → MayTellMemory old new
 
 -- Why a file may be refused, whatever the tree and whatever files are asked for: one may not be there or have another size.
 abbrev pub MayRefuseAnyway : TreeState → TreeState → TreeFault → Type 0
@@ -56,3 +58,4 @@ pub record MayStopAnyway (todo : List (List ℕ)) (old new : TreeState) (stop : 
   pub answered : CameFromTree new stop.cause
   pub path : IsOutOfMemory stop ⊎ ((rest : List (List ℕ)) × (todo ≡ stop.path ∷ rest))
   pub memory : stop.cause ≡ Memory → stop.path ≡ []
+  pub wanting : stop.cause ≡ Memory → MayTellMemory old new

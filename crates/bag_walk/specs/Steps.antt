@@ -5,6 +5,7 @@ use Rattle.std.specs.Option.{option_copied}
 use Rattle.std.specs.declared.cmp.Ordering.TheVariants.{Less}
 use Rattle.bag_text.specs.Order.{IsListOf}
 use Rattle.bag_tree.specs.Bag.{Bag}
+use Rattle.bag_tree.specs.Calm.{RefusesNothing}
 use Rattle.bag_tree.specs.Tree.{TreeState, Keeps}
 use Rattle.bag_tree.specs.declared.tree_fault.Stop.{Stop}
 use Rattle.bag_facts.specs.FaultOrder.{fault_cmp}
@@ -79,7 +80,7 @@ module _ {T S : Type 0} (state : T → TreeState) (is_of : Bag → S → Type 0)
   -- refusal the last may be left too. A file before which a fault stands that was to be given waits on.
   pub record GoesOn (old new : Steps T S) (answer : Result (Unit {0}) Stop) : Type 0 where
     pub keeps : Keeps (state old.tree) (state new.tree)
-    pub calm : OnOk answer ((state new.tree).failures ≡ (state old.tree).failures)
+    pub calm : OnOk answer (RefusesNothing (state old.tree) (state new.tree))
     pub over : (bag : Bag) → IsOver bag old → is_of bag new.source
     pub position : (check : Check) (position : Option Fault) → IsOver check.bag old → StandsAt check position (left check.bag old)
         → MatchResult answer (λ _. Gives check position (shown new) (left check.bag new)) (λ _. StandsAt check position (left check.bag new))

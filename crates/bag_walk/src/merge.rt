@@ -2,6 +2,7 @@
 ghost use Rattle.std.specs.Prelude.{◌≡◌, ◌++◌, [], None, false, IsTrue, IfErr, OnOk, OnErr, if◌then◌else◌};
 ghost use Rattle.std.specs.Option.{option_copied};
 ghost use Rattle.bag_tree.specs.Bag.{Bag};
+ghost use Rattle.bag_tree.specs.Calm.{RefusesNothing};
 ghost use Rattle.bag_tree.specs.Tree.{Keeps};
 ghost use Rattle.bag_walk.specs.Filled.{awaits_second, is_both};
 ghost use Rattle.bag_walk.specs.declared.merge.Filled.TheVariants.{Neither};
@@ -123,7 +124,7 @@ fn fill_unless<T: Tree, S: Source<T>>(
     tree: &mut T,
 ) -> Result<(), Stop>
     ensures keeps { Keeps (T.state tree.old) (T.state tree.new) }
-    ensures calm { OnOk result ((T.state tree.new).failures ≡ (T.state tree.old).failures) }
+    ensures calm { OnOk result (RefusesNothing (T.state tree.old) (T.state tree.new)) }
     ensures quiet { S.in_order → S.todo source.old ≡ [] → ((T.state tree.new).openings ≡ (T.state tree.old).openings) }
     ensures same { (bag : Bag) → S.is_of bag source.old → Sees (T.state tree.old) (S.todo source.old) bag
         → S.is_of bag source.new × (S.remaining bag source.new ≡ S.remaining bag source.old) }

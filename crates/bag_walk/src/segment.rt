@@ -1,6 +1,7 @@
 //! The lines of a report's faults, each written when its fault is found.
 ghost use Rattle.std.specs.Prelude.{◌≡◌, ℕ, List, Option, IsTrue, drop, string_bytes};
 ghost use Rattle.bag_tree.specs.Bag.{Bag};
+ghost use Rattle.bag_tree.specs.Calm.{RefusesNothing};
 ghost use Rattle.bag_tree.specs.Tree.{Keeps};
 ghost use Rattle.bag_facts.specs.declared.fault.Fault.{Fault as Spoken};
 ghost use Rattle.bag_facts.specs.Stops.{IsOutOfMemory};
@@ -54,7 +55,7 @@ pub(crate) fn write_faults<T: Tree, S: InOrder<T>, W: Out>(
     out: &mut W,
 ) -> Segment
     ensures keeps { Keeps (T.state walk.old.tree) (T.state walk.new.tree) }
-    ensures calm { IsRead result.end → (T.state walk.new.tree).failures ≡ (T.state walk.old.tree).failures }
+    ensures calm { IsRead result.end → RefusesNothing (T.state walk.old.tree) (T.state walk.new.tree) }
     ensures opens { OpensAgain (S.todo walk.old.source) (S.todo walk.new.source) (T.state walk.old.tree) (T.state walk.new.tree) }
     ensures behind { (bag : Bag) → S.is_of bag walk.old.source → Sees (T.state walk.old.tree) (S.todo walk.old.source) bag
         → OpensNoneBehind (still_to_come result (to_give (shown_by walk.old.is_shown (S.found walk.old.source)) (S.remaining bag walk.old.source))) (T.state walk.old.tree) (T.state walk.new.tree) }

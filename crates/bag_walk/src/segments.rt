@@ -1,5 +1,5 @@
 //! A report in segments, each with a limit of its own.
-ghost use Rattle.std.specs.Prelude.{◌≡◌, ◌<◌, ◌≤◌, ◌+◌, ◌^◌, ℕ, List, length, sum, IsTrue, string_bytes};
+ghost use Rattle.std.specs.Prelude.{◌≡◌, ◌<◌, ◌≤◌, ◌+◌, ◌-◌, ◌^◌, ℕ, List, length, sum, take, IsTrue, string_bytes};
 ghost use Rattle.std.specs.Option.{option_copied};
 ghost use Rattle.bag_tree.specs.Bag.{Bag};
 ghost use Rattle.bag_tree.specs.Tree.{Keeps};
@@ -67,7 +67,7 @@ pub fn run_segments<T: Tree, W: Out>(
     requires { sum limits.now < 2 ^ 64 }
     ensures keeps { Keeps (T.state tree) (T.state result.0) }
     ensures untouched { sum limits.now ≡ 0 → result.0 ≡ tree }
-    ensures stop { spec.IsStopped options (T.state tree) (T.state result.0) result.1 }
+    ensures stop { spec.IsStopped options (take (length limits.now - 1) limits.now) (T.state tree) (T.state result.0) result.1 }
     ensures segments { spec.RunsInSegments (T.state tree) (T.state result.0) (option_copied profile.entry) options limits.now (W.taken out.old) (W.taken out.new) (W.has_refused out.new) result.1 }
 {
     let mut tree = tree;

@@ -3,6 +3,7 @@ ghost use Rattle.std.specs.Prelude.{ℕ, ◌≡◌, ◌⊎◌, [], List, Option,
 ghost use Rattle.std.specs.List.Sorted.{IsStrictlySortedBy};
 ghost use Rattle.std.specs.Option.{option_copied};
 ghost use Rattle.bag_tree.specs.Bag.{Bag};
+ghost use Rattle.bag_tree.specs.Calm.{RefusesNothing};
 ghost use Rattle.bag_tree.specs.Tree.{Keeps};
 ghost use Rattle.bag_facts.specs.FaultOrder.{fault_cmp};
 ghost use Rattle.bag_facts.specs.Stops.{IsOutOfMemory};
@@ -39,7 +40,7 @@ pub trait Source<T: Tree> {
     /// A source that has no file to open does so over any tree, for each bag that it is of.
     fn fill(&mut self, tree: &mut T) -> Result<(), Stop>
         ensures keeps { Keeps (T.state tree.old) (T.state tree.new) }
-        ensures calm { OnOk result ((T.state tree.new).failures ≡ (T.state tree.old).failures) }
+        ensures calm { OnOk result (RefusesNothing (T.state tree.old) (T.state tree.new)) }
         ensures opens { OnOk result (in_order → Opens (todo self.old) (todo self.new) (T.state tree.old) (T.state tree.new)) }
         ensures again { OnErr result (in_order → OpensAgain (todo self.old) (todo self.new) (T.state tree.old) (T.state tree.new)) }
         ensures reached { IfErr result (λ stop. in_order → IsOutOfMemory stop ⊎ IsReached (todo self.old) (T.state tree.old) (T.state tree.new) stop.path) }

@@ -4,6 +4,7 @@ ghost use Rattle.std.specs.Option.{option_copied};
 ghost use Rattle.bag_text.specs.Order.{IsListOf};
 ghost use Rattle.bag_text.specs.Text.{text_cmp};
 ghost use Rattle.bag_tree.specs.Bag.{Bag};
+ghost use Rattle.bag_tree.specs.Calm.{RefusesNothing};
 ghost use Rattle.bag_tree.specs.Tree.{Keeps};
 ghost use Rattle.bag_facts.specs.Facts.{IsFactsOf};
 ghost use Rattle.bag_facts.specs.Stops.{MayStopReading};
@@ -41,7 +42,7 @@ impl<T: Tree> Walk<T> {
         after: Option<Fault>,
     ) -> Result<Walk<T>, (T, Stop)>
         ensures keeps { MatchResult result (λ walk. Keeps (T.state tree) (T.state walk.tree)) (λ refused. Keeps (T.state tree) (T.state refused.0)) }
-        ensures calm { IfOk result (λ walk. (T.state walk.tree).failures ≡ (T.state tree).failures) }
+        ensures calm { IfOk result (λ walk. RefusesNothing (T.state tree) (T.state walk.tree)) }
         ensures plain { OnOk result (IsTrue (T.state tree).honest → IsTrue (T.state tree).plain) }
         ensures opens { MatchResult result (λ walk. OpensWanted options (T.state tree) (T.state walk.tree)) (λ refused. OpensWanted options (T.state tree) (T.state refused.0)) }
         ensures opened { IfOk result (λ walk. ForListing (T.state tree) (λ files. OpensAll options files (T.state tree) (T.state walk.tree))) }
@@ -72,7 +73,7 @@ impl<T: Tree> Walk<T> {
         after: Option<&Fault>,
     ) -> Result<Sources, Stop>
         ensures keeps { Keeps (T.state tree.old) (T.state tree.new) }
-        ensures calm { OnOk result ((T.state tree.new).failures ≡ (T.state tree.old).failures) }
+        ensures calm { OnOk result (RefusesNothing (T.state tree.old) (T.state tree.new)) }
         ensures plain { OnOk result (IsTrue (T.state tree.old).honest → IsTrue (T.state tree.old).plain) }
         ensures opens { OpensWanted options (T.state tree.old) (T.state tree.new) }
         ensures opened { OnOk result (ForListing (T.state tree.old) (λ files. OpensAll options files (T.state tree.old) (T.state tree.new))) }

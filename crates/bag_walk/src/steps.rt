@@ -2,6 +2,7 @@
 ghost use Rattle.std.specs.Prelude.{◌≡◌, ◌⊎◌, [], None, IsTrue, IfErr, OnOk, OnErr, MatchResult, false, if◌then◌else◌};
 ghost use Rattle.std.specs.Option.{option_copied};
 ghost use Rattle.bag_tree.specs.Bag.{Bag};
+ghost use Rattle.bag_tree.specs.Calm.{RefusesNothing};
 ghost use Rattle.bag_tree.specs.Tree.{Keeps};
 ghost use Rattle.bag_facts.specs.Stops.{IsOutOfMemory};
 ghost use Rattle.bag_walk.specs.Openings.{IsReached, NoneWaits, Opens, OpensAgain, OpensNoneBehind};
@@ -35,7 +36,7 @@ impl<T: Tree, S: InOrder<T>> Steps<T, S> {
     /// Goes to the next fault. After a refusal it shows none, and the next step gives what this one would have given.
     pub fn step(&mut self) -> Result<(), Stop>
         ensures keeps { Keeps (T.state self.old.tree) (T.state self.new.tree) }
-        ensures calm { OnOk result ((T.state self.new.tree).failures ≡ (T.state self.old.tree).failures) }
+        ensures calm { OnOk result (RefusesNothing (T.state self.old.tree) (T.state self.new.tree)) }
         ensures opens { OnOk result (Opens (S.todo self.old.source) (S.todo self.new.source) (T.state self.old.tree) (T.state self.new.tree)) }
         ensures again { OnErr result (OpensAgain (S.todo self.old.source) (S.todo self.new.source) (T.state self.old.tree) (T.state self.new.tree)) }
         ensures reached { IfErr result (λ stop. IsOutOfMemory stop ⊎ IsReached (S.todo self.old.source) (T.state self.old.tree) (T.state self.new.tree) stop.path) }

@@ -1,6 +1,7 @@
 //! A file whose digests are to be compared.
 ghost use Rattle.std.specs.Prelude.{◌≡◌, ◌⊎◌, ◌<◌, ◌∷◌, ◌++◌, ℕ, List, [], Contains, IsTrue, IfOk, IfErr, OnOk, OnErr, length};
 ghost use Rattle.std.specs.Option.{option_copied};
+ghost use Rattle.bag_tree.specs.Calm.{RefusesNothing};
 ghost use Rattle.bag_tree.specs.Tree.{Keeps, IsEntryOf, OpensAtMost};
 ghost use Rattle.bag_tree.specs.Whole.{IsRefusedAt};
 ghost use Rattle.bag_facts.specs.Stops.{IsOutOfMemory};
@@ -11,7 +12,7 @@ ghost use Rattle.bag_walk.specs.Source.{MayStopAnyway, MayStopFilling};
 ghost use Rattle.bag_walk.specs.ToSum.{faults_in};
 
 use crate::ascending::above;
-use bag_facts::{Fault, stop_at};
+use bag_facts::{Fault, refusal_of};
 use bag_stages::{Expected, faults_by};
 use bag_text::{AlgSet, Items};
 use bag_tree::{FileEntry, Stop, Sums, Tree, TreeFault, digest_file};
@@ -34,7 +35,7 @@ pub(crate) fn faults_of_file<T: Tree>(
 ) -> Result<Vec<Fault>, Stop>
     requires { length buffer.old ≡ 65536 }
     ensures keeps { Keeps (T.state tree.old) (T.state tree.new) }
-    ensures calm { OnOk result ((T.state tree.new).failures ≡ (T.state tree.old).failures) }
+    ensures calm { OnOk result (RefusesNothing (T.state tree.old) (T.state tree.new)) }
     ensures opened { OnOk result ((T.state tree.new).openings ≡ (T.state tree.old).openings ++ to_sum.now.file.path ∷ []) }
     ensures opens { OnErr result (OpensAtMost (T.state tree.old) (T.state tree.new) to_sum.now.file.path) }
     ensures refused { IfErr result (λ stop. IsOutOfMemory stop ⊎ ((stop.path ≡ to_sum.now.file.path)
@@ -45,10 +46,14 @@ pub(crate) fn faults_of_file<T: Tree>(
         → MayStopFilling (to_sum.now.file.path ∷ rest) (T.state tree.old) (T.state tree.new) stop) }
     ensures anyway { IfErr result (λ stop. (rest : List (List ℕ)) → MayStopAnyway (to_sum.now.file.path ∷ rest) (T.state tree.old) (T.state tree.new) stop) }
 {
+    // Copied before the file is read, so that its refusal isn't told as want of memory.
+    let Ok(path) = to_sum.file.path.copy(alloc) else {
+        return Err(Stop::without_path(alloc, TreeFault::Memory));
+    };
     let algs = algs_of(to_sum.expected.as_slice());
     let sums = match digest_file(tree, &to_sum.file, algs, buffer) {
         Ok(sums) => sums,
-        Err(cause) => return Err(stop_at(alloc, cause, &to_sum.file.path)),
+        Err(cause) => return Err(refusal_of(alloc, cause, path)),
     };
     match faults_above(alloc, to_sum, &sums, after) {
         Ok(faults) => Ok(faults),

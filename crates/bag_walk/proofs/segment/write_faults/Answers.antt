@@ -1,7 +1,8 @@
-use Rattle.std.proofs.Common.{◌≡◌, ◌++◌, ◌∙◌, ◌+◌, ◌-◌, ◌∷◌, ℕ, List, [], refl, sym, ap, subst, arith, append_assoc}
+use Rattle.std.proofs.Common.{◌≡◌, ◌++◌, ◌∙◌, ◌+◌, ◌-◌, ◌∷◌, ℕ, List, [], inl, inr, refl, sym, ap, subst, arith, append_assoc}
 use Rattle.std.proofs.lemmas.List.{length-append}
 use Rattle.std.specs.Io.KnownBytes.{Appends}
 use Rattle.std.specs.Option.{option_copied}
+use Rattle.bag_tree.proofs.Calm.{nothing_asked, nothing_then}
 use Rattle.bag_facts.proofs.Reading.{keeps_itself, keeps_on}
 use Rattle.bag_walk.specs.Write.{IsCut}
 use Rattle.bag_walk.proofs.Writing.{Appends-nil}
@@ -17,7 +18,7 @@ given-init g c =
     let state = g.T.Tree.state c.args.walk.now.tree in
     record {
       keeps = keeps_itself state;
-      calm = refl;
+      calm = nothing_asked state;
       within = omega arith;
       given = [];
       count_is = refl;
@@ -41,7 +42,7 @@ given-preserved g c =
     subst (λ (text : List ℕ). Appends (g.W.Out.taken c.given.out) (g.W.Out.taken c.put_all.new.out) text) (c.as_bytes.ensures.value ∙ c.in-Ok-fill.ensures.next) c.in_default-put_all.ensures in
     record {
       keeps = keeps_on (state start.tree) (state c.given.walk.tree) (state new.tree) has.keeps c.step.ensures.keeps;
-      calm = c.in-Ok.ensures.calm ∙ has.calm;
+      calm = nothing_then (state start.tree) (state c.given.walk.tree) (state new.tree) has.calm c.in-Ok.ensures.calm;
       within = omega (arith, c.given-test.true);
       given = has.given ++ f ∷ [];
       count_is = length-append has.given (f ∷ []) ∙ ap (λ n. n + 1) has.count_is;
@@ -86,7 +87,7 @@ returns-in-Err-clause-seen g c = λ bag h sees.
 
 pub returns-in-Err-clause-stop : goal.returns-in-Err-clause-stop
 returns-in-Err-clause-stop g c =
-    stops_now c.args.limit c.given.written _ _ _ _ _ _ _ _ (g.T.Tree.state c.step.new.self.tree) _ _ _ _ c.given.invariant (g.S.Source.todo c.step.new.self.source) c.in-Err.stop c.in-Err.ensures.reached c.in-Err.ensures.stop
+    stops_now c.args.limit c.given.written _ _ _ _ _ _ _ _ (g.T.Tree.state c.step.new.self.tree) _ _ _ _ c.given.invariant (g.S.Source.todo c.step.new.self.source) c.in-Err.stop c.in-Err.ensures.reached c.in-Err.ensures.anyway.wanting c.in-Err.ensures.stop
 
 pub returns-in_default-clause-opens : goal.returns-in_default-clause-opens
 returns-in_default-clause-opens g c =
@@ -202,3 +203,18 @@ returns-in-Err-clause-waits g c = λ bag h sees.
 
 pub returns-in_default-fill-clause-waits : goal.returns-in_default-fill-clause-waits
 returns-in_default-fill-clause-waits g c = λ bag h sees some. absurd (some c.out_of_memory.ensures.1)
+
+pub returns-in_default-clause-calm : goal.returns-in_default-clause-calm
+returns-in_default-clause-calm g c = λ read.
+    let state = g.T.Tree.state in
+    nothing_then (state c.args.walk.now.tree) (state c.given.walk.tree) (state c.step.new.self.tree) c.given.invariant.calm c.in-Ok.ensures.calm
+
+pub returns-in-Err-put_all-clause-calm : goal.returns-in-Err-put_all-clause-calm
+returns-in-Err-put_all-clause-calm g c = λ read.
+    let state = g.T.Tree.state in
+    nothing_then (state c.args.walk.now.tree) (state c.given.walk.tree) (state c.step.new.self.tree) c.given.invariant.calm c.in-Ok.ensures.calm
+
+pub returns-in_default-fill-clause-stop : goal.returns-in_default-fill-clause-stop
+returns-in_default-fill-clause-stop g c =
+    let state = g.T.Tree.state in
+    inl (c.out_of_memory.ensures, inr (nothing_then (state c.args.walk.now.tree) (state c.given.walk.tree) (state c.step.new.self.tree) c.given.invariant.calm c.in-Ok.ensures.calm))

@@ -1,11 +1,11 @@
-use Rattle.std.proofs.Common.{ℕ, ◌+◌, ◌∙◌, sym, subst, arith, refl}
+use Rattle.std.proofs.Common.{◌≡◌, ℕ, ◌+◌, ◌-◌, ◌∙◌, length, take, ap, sym, subst, arith, refl}
 use Rattle.std.specs.Option.{option_copied}
 use Rattle.std.proofs.lemmas.List.Sums.{sum_by-take-le, sum_by_more}
 use Rattle.bag_facts.proofs.Reading.{keeps_itself, keeps_on}
 use Rattle.bag_report.specs.Report.{IsReport}
 use Rattle.bag_walk.specs.SegmentOpenings.{AreListed}
 use Rattle.bag_walk.specs.Segments.{IsStopped, RunsOfSegments}
-use Rattle.bag_walk.proofs.SegmentSteps.{SoFar, all_segments, last_segment, one_segment_more, so_far_none, stopped_at_last}
+use Rattle.bag_walk.proofs.SegmentSteps.{SoFar, all_segments, last_segment, last_is_no_stop, one_segment_more, so_far_none, stopped_at_last}
 use Rattle.bag_walk.proofs.segments.run_segments.Goals as goal
 
 pub returns-then-last-clause-segments : goal.returns-then-last-clause-segments
@@ -32,15 +32,19 @@ loop-limit-preserved g c =
     let step = c.write_segment-left in
     let i = c.loop-limit.limit-index in
     let n = c.loop-limit.written in
+    let one_back : i + 1 - 1 ≡ i = omega arith in
     record {
       keeps = keeps_on (state c.args.tree) (state c.loop-limit.tree) (state step.result.0) has.keeps step.ensures.keeps;
       bounded = omega (arith, step.ensures.bounded, has.bounded, sum_by_more (λ (x : ℕ). x) c.args.limits.now i 0 c.loop-limit-test.true);
       untouched = λ none.
           step.ensures.untouched (omega (arith, none, sum_by_more (λ (x : ℕ). x) c.args.limits.now i 0 c.loop-limit-test.true))
           ∙ has.untouched (omega (arith, none, sum_by_more (λ (x : ℕ). x) c.args.limits.now i 0 c.loop-limit-test.true));
+      gone = omega (arith, c.loop-limit-test.true);
       stop =
-          subst (IsStopped c.args.options (state c.args.tree) (state step.result.0)) (sym c.outcome-outcome.ensures)
-          (stopped_at_last c.args.options (state c.args.tree) (state c.loop-limit.tree) (state step.result.0) _ step.result.1.end has.keeps step.ensures.stop);
+          subst (IsStopped c.args.options (take (i + 1 - 1) c.args.limits.now) (state c.args.tree) (state step.result.0)) (sym c.outcome-outcome.ensures)
+          (rw one_back
+          (stopped_at_last c.args.options (take i c.args.limits.now) (state c.args.tree) (state c.loop-limit.tree) (state step.result.0) _ step.result.1.end has.keeps
+          (λ none. ap state (has.untouched none)) step.ensures.stop));
       so_far = λ honest report is.
           let so = has.so_far honest report is in
           let is_now = subst (λ bag. IsReport (record { bag = bag; profile = option_copied c.args.profile; options = c.args.options }) report) (sym has.keeps.bag) is in
@@ -65,6 +69,7 @@ loop-limit-init g c =
       keeps = keeps_itself state;
       bounded = omega arith;
       untouched = λ none. refl;
+      gone = omega arith;
       stop = tt;
       so_far = λ honest report is. so_far_none c.args.options report c.args.limits.now state _ (g.W.Out.taken c.args.out.now) c.new-lines.ensures;
     }
@@ -74,3 +79,18 @@ overflow_add-written g c =
     let i = c.loop-limit.limit-index in
     let limits = c.args.limits.now in
     omega (arith, c.requires, c.write_segment-left.ensures.bounded, c.loop-limit.invariant.bounded, sum_by_more (λ (x : ℕ). x) limits i 0 c.loop-limit-test.true, sum_by-take-le (λ (x : ℕ). x) limits (i + 1))
+
+pub returns-then-last-clause-stop : goal.returns-then-last-clause-stop
+returns-then-last-clause-stop g c =
+    let state = g.T.Tree.state in
+    let has = c.loop-limit.invariant in
+    let step = c.write_segment-left in
+    subst (IsStopped c.args.options (take (length c.args.limits.now - 1) c.args.limits.now) (state c.args.tree) (state step.result.0)) (sym c.outcome-outcome.ensures)
+    (last_is_no_stop c.args.options (take (length c.args.limits.now - 1) c.args.limits.now) (state c.args.tree) (state step.result.0) _ step.result.1.end (sym c.is_last-last.ensures ∙ c.if-last.true))
+
+pub returns-clause-stop : goal.returns-clause-stop
+returns-clause-stop g c =
+    let state = g.T.Tree.state in
+    let limits = c.args.limits.now in
+    let all : c.loop-limit.limit-index ≡ length limits = omega (arith, c.loop-limit-test.false, c.loop-limit.invariant.gone) in
+    subst (λ i. IsStopped c.args.options (take (i - 1) limits) (state c.args.tree) (state c.loop-limit.tree) c.loop-limit.outcome) all c.loop-limit.invariant.stop

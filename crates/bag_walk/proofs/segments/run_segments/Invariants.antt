@@ -1,4 +1,4 @@
-use Rattle.std.proofs.Common.{◌≡◌, ◌≤◌, List, take, IsTrue, string_bytes}
+use Rattle.std.proofs.Common.{◌≡◌, ◌≤◌, ◌-◌, List, length, take, IsTrue, string_bytes}
 use Rattle.std.specs.List.{sum}
 use Rattle.std.specs.Option.{option_copied}
 use Rattle.bag_tree.specs.Tree.{Keeps}
@@ -13,7 +13,8 @@ invariant-loop-limit g l = record {
   keeps : Keeps (g.T.Tree.state l.fn.tree) (g.T.Tree.state l.tree);
   bounded : l.written ≤ sum (take l.limit-index l.limits);
   untouched : sum (take l.limit-index l.limits) ≡ 0 → l.tree ≡ l.fn.tree;
-  stop : IsStopped l.fn.options (g.T.Tree.state l.fn.tree) (g.T.Tree.state l.tree) l.outcome;
+  gone : l.limit-index ≤ length l.limits;
+  stop : IsStopped l.fn.options (take (l.limit-index - 1) l.limits) (g.T.Tree.state l.fn.tree) (g.T.Tree.state l.tree) l.outcome;
   so_far : IsTrue (g.T.Tree.state l.fn.tree).honest → (report : List Fault)
       → IsReport (record { bag = (g.T.Tree.state l.fn.tree).bag; profile = option_copied l.profile; options = l.fn.options }) report
       → SoFar l.fn.options report l.limits l.limit-index (g.T.Tree.state l.fn.tree) (g.T.Tree.state l.tree) l.written (string_bytes l.lines.last) (g.W.Out.taken l.fn.out) (g.W.Out.taken l.out) l.outcome;

@@ -1,8 +1,9 @@
-use Rattle.std.proofs.Common.{◌+◌, refl, arith}
+use Rattle.std.proofs.Common.{◌+◌, inr, refl, arith}
 use Rattle.std.specs.Option.{option_copied}
+use Rattle.bag_tree.proofs.Calm.{nothing_asked}
 use Rattle.bag_facts.proofs.Opens.{opens_none as reads_none}
 use Rattle.bag_walk.specs.Segments.{cursor_behind}
-use Rattle.bag_walk.proofs.Running.{stop_of_reading}
+use Rattle.bag_walk.proofs.Running.{memory_may_stop, stop_of_reading}
 use Rattle.bag_walk.proofs.SegmentOpenings.{opens_no_payload}
 use Rattle.bag_walk.proofs.SegmentStart.{goes_on, opens_behind, stop_of_started}
 use Rattle.bag_walk.proofs.segments.write_segment.Goals as goal
@@ -12,7 +13,7 @@ returns-in-Ok-start-clause-stop g c =
     let state = g.T.Tree.state in
     let begun = c.in-Ok-start.ensures in
     stop_of_started (state c.args.tree) (state c.in-Ok-start.walk.tree) (state c.segment_of_walk.result.0) (option_copied c.args.profile) c.args.options c.in-Ok.after _ _ _ begun.started begun.keeps
-    c.segment_of_walk.result.1.end c.segment_of_walk.ensures.stop
+    begun.calm c.segment_of_walk.result.1.end c.segment_of_walk.ensures.stop
 
 pub returns-in-Ok-start-clause-segment : goal.returns-in-Ok-start-clause-segment
 returns-in-Ok-start-clause-segment g c = λ honest report is n within was.
@@ -45,3 +46,7 @@ pub returns-then-limit-eq0-clause-opens : goal.returns-then-limit-eq0-clause-ope
 returns-then-limit-eq0-clause-opens g c = λ honest report is n within was listed are.
     let state = g.T.Tree.state c.args.tree in
     opens_no_payload c.args.options listed (cursor_behind n report) (cursor_behind (n + 0) report) state state _ (reads_none c.args.options state state refl)
+
+pub returns-in_default-clause-stop : goal.returns-in_default-clause-stop
+returns-in_default-clause-stop g c =
+    let state = g.T.Tree.state c.args.tree in memory_may_stop c.args.options state state c.out_of_memory.result c.out_of_memory.ensures (inr (nothing_asked state))

@@ -1,14 +1,17 @@
-use Rattle.std.proofs.Common.{◌∙◌, sym, ap, subst}
+use Rattle.std.proofs.Common.{◌∙◌, ◌∷◌, inr, sym, ap, subst}
 use Rattle.std.specs.Prelude.{Contains}
 use Rattle.std.specs.Option.{option_copied}
+use Rattle.bag_tree.proofs.Calm.{nothing_asked}
+use Rattle.bag_facts.specs.Stops.{IsRefusalOf}
 use Rattle.bag_report.specs.Report.{above}
 use Rattle.bag_walk.specs.ToSum.{faults_at}
+use Rattle.bag_walk.proofs.Refusing.{anyway_of_memory, anyway_of_refusal, filling_of_memory, filling_of_refusal}
 use Rattle.bag_walk.proofs.Summing.{named_at}
 use Rattle.bag_walk.proofs.to_sum.faults_of_file.Goals as goal
 
 pub returns-in-Ok-faults_above-clause-faults : goal.returns-in-Ok-faults_above-clause-faults
 returns-in-Ok-faults_above-clause-faults g c = λ honest.
-    let sums = c.in-Ok.ensures.sums in
+    let sums = c.in-Ok-digest_file.ensures.sums in
     c.in-Ok-faults_above.ensures sums.content
     (λ one d. sums.sums_of.each one.alg (c.algs_of-algs.ensures one (subst (λ l. Contains l one) (sym c.as_slice.ensures) d)))
     ∙ ap (λ o. above (option_copied c.args.after) (faults_at c.args.to_sum.now o)) (sym (sums.honest honest))
@@ -16,4 +19,27 @@ returns-in-Ok-faults_above-clause-faults g c = λ honest.
 pub returns-in-Err-clause-refused : goal.returns-in-Err-clause-refused
 returns-in-Err-clause-refused g c =
     let state = g.T.Tree.state in
-    named_at (state c.args.tree.now).openings c.in-Err.cause c.args.to_sum.now.file.path (state c.digest_file.new.tree) c.stop_at.result c.stop_at.ensures.stop c.in-Err.ensures.refused_at
+    named_at (state c.args.tree.now).openings c.in-Err.cause c.args.to_sum.now.file.path (state c.digest_file.new.tree) c.refusal_of.result
+    (subst (λ path. IsRefusalOf c.in-Err.cause path c.refusal_of.result) c.in-Ok.ensures c.refusal_of.ensures) c.in-Err.ensures.refused_at
+
+pub returns-in_default-clause-stop : goal.returns-in_default-clause-stop
+returns-in_default-clause-stop g c = λ rest is.
+    let state = g.T.Tree.state c.args.tree.now in
+    filling_of_memory (c.args.to_sum.now.file.path ∷ rest) state state c.without_path.result (c.without_path.ensures.cause, c.without_path.ensures.path) (inr (nothing_asked state))
+
+pub returns-in_default-clause-anyway : goal.returns-in_default-clause-anyway
+returns-in_default-clause-anyway g c = λ rest.
+    let state = g.T.Tree.state c.args.tree.now in
+    anyway_of_memory (c.args.to_sum.now.file.path ∷ rest) state state c.without_path.result (c.without_path.ensures.cause, c.without_path.ensures.path) (inr (nothing_asked state))
+
+pub returns-in-Err-clause-stop : goal.returns-in-Err-clause-stop
+returns-in-Err-clause-stop g c = λ rest.
+    let state = g.T.Tree.state in
+    filling_of_refusal c.args.to_sum.now.file rest (state c.args.tree.now) (state c.digest_file.new.tree) c.in-Err.cause c.refusal_of.result c.in-Err.ensures.refused c.in-Err.ensures.answered
+    (subst (λ path. IsRefusalOf c.in-Err.cause path c.refusal_of.result) c.in-Ok.ensures c.refusal_of.ensures)
+
+pub returns-in-Err-clause-anyway : goal.returns-in-Err-clause-anyway
+returns-in-Err-clause-anyway g c = λ rest.
+    let state = g.T.Tree.state in
+    anyway_of_refusal c.args.to_sum.now.file rest (state c.args.tree.now) (state c.digest_file.new.tree) c.in-Err.cause c.refusal_of.result c.in-Err.ensures.refused c.in-Err.ensures.answered
+    (subst (λ path. IsRefusalOf c.in-Err.cause path c.refusal_of.result) c.in-Ok.ensures c.refusal_of.ensures)

@@ -1,6 +1,7 @@
 use Rattle.std.proofs.Common.{◌≡◌, ◌∙◌, ◌++◌, ap, [], inr, length, vec_len, sym, subst, arith}
 use Rattle.std.specs.Option.{option_copied}
 use Rattle.std.proofs.lemmas.Bool.{eqb-true}
+use Rattle.bag_tree.proofs.Calm.{nothing_then}
 use Rattle.bag_walk.specs.Shown.{none_is}
 use Rattle.bag_walk.specs.ToSum.{faults_of_files}
 use Rattle.bag_walk.specs.Validity.{AreFilesOf}
@@ -83,3 +84,8 @@ returns-in-Err-clause-waits g c =
     let state = g.T.Tree.state in
     waits_here c.args.pending.now c.loop-file.pending (option_copied c.args.after) c.in-Some.file.now (state c.args.tree.now) (state c.loop-file.tree) (state c.faults_of_file.new.tree)
     (sym c.in-Some.ensures) c.loop-file.invariant c.in-Err.stop c.in-Err.ensures.refused
+
+pub returns-then-not-is_empty-clause-calm : goal.returns-then-not-is_empty-clause-calm
+returns-then-not-is_empty-clause-calm g c =
+    let state = g.T.Tree.state in
+    nothing_then (state c.args.tree.now) (state c.loop-file.tree) (state c.faults_of_file.new.tree) c.loop-file.invariant.calm c.in-Ok.ensures.calm

@@ -1,4 +1,5 @@
 use Rattle.std.proofs.Common.{◌≡◌, ◌∙◌, inl, true, false, sym, subst}
+use Rattle.bag_tree.proofs.Calm.{nothing_then}
 use Rattle.bag_walk.specs.Filled.{awaits_second}
 use Rattle.bag_walk.specs.Merge.{least_of, nothing_to_open, union}
 use Rattle.bag_walk.specs.Source.{first_of, Where}
@@ -137,7 +138,7 @@ returns-in-Err-fill-clause-stop g c = λ of.
     let second = c.args.self.now.second in
     let stop = c.in-Err-fill.stop in
     stop_front old new (g.B.Source.todo c.fill.new.self) (g.A.Source.todo c.fill_unless.new.source) stop
-    (stop_later old mid new (g.B.Source.todo c.fill.new.self) stop c.fill_unless.ensures.keeps
+    (stop_later old mid new (g.B.Source.todo c.fill.new.self) stop c.fill_unless.ensures.keeps c.in-Ok.ensures.calm
     (c.in-Err-fill.ensures.stop (λ honest. subst (λ bag. g.B.Source.is_of bag second) (sym c.fill_unless.ensures.keeps.bag) (of (sym c.fill_unless.ensures.keeps.honest ∙ honest)).1)))
 
 pub returns-in-Err-clause-anyway : goal.returns-in-Err-clause-anyway
@@ -152,7 +153,7 @@ returns-in-Err-fill-clause-anyway g c =
     let new = state c.fill.new.tree in
     let stop = c.in-Err-fill.stop in
     anyway_front old new (g.B.Source.todo c.fill.new.self) (g.A.Source.todo c.fill_unless.new.source) stop
-    (anyway_later old (state c.fill_unless.new.tree) new (g.B.Source.todo c.fill.new.self) stop c.fill_unless.ensures.keeps c.in-Err-fill.ensures.anyway)
+    (anyway_later old (state c.fill_unless.new.tree) new (g.B.Source.todo c.fill.new.self) stop c.fill_unless.ensures.keeps c.in-Ok.ensures.calm c.in-Err-fill.ensures.anyway)
 
 pub returns-in-Err-clause-reached : goal.returns-in-Err-clause-reached
 returns-in-Err-clause-reached g c = λ quiet.
@@ -177,3 +178,8 @@ returns-in-Err-fill-clause-waits g c = λ quiet bag h sees some.
     let state = g.T.Tree.state in
     let second = c.fill.new.self in
     absurd (some (quiet_stop (state c.fill_unless.new.tree) (state c.fill.new.tree) (g.B.Source.todo second) c.in-Err-fill.stop (quiet.3 second) c.in-Err-fill.ensures.anyway).1)
+
+pub returns-in-Ok-fill-clause-calm : goal.returns-in-Ok-fill-clause-calm
+returns-in-Ok-fill-clause-calm g c =
+    let state = g.T.Tree.state in
+    nothing_then (state c.args.tree.now) (state c.fill_unless.new.tree) (state c.fill.new.tree) c.in-Ok.ensures.calm c.in-Ok-fill.ensures.calm

@@ -39,3 +39,6 @@ returns-in-Err-clause-waits g c = λ bag h sees.
     let left = c.leave.ensures.left bag h in
     let seen : Sees (state c.leave.new.self.tree) (g.S.Source.todo c.leave.new.self.source) bag = rw (c.leave.ensures.tree, c.leave.ensures.todo) sees in
     subst (λ fs. NoneWaits fs c.in-Err.stop.path) left.1 (c.in-Err.ensures.waits g.met.S.InOrder.is_in_order bag left.0 seen)
+
+pub returns-in-Ok-clause-calm : goal.returns-in-Ok-clause-calm
+returns-in-Ok-clause-calm g c = rw c.leave.ensures.tree at c.in-Ok.ensures.calm

@@ -1,7 +1,8 @@
 use Rattle.std.proofs.Common.{◌++◌, ◌∙◌, [], inl, inr, ap, sym, subst}
 use Rattle.std.proofs.lemmas.Result.{on_ok_weaker, on_err_weaker, IfErr-weaker}
+use Rattle.bag_tree.proofs.Calm.{nothing_then}
 use Rattle.bag_walk.specs.Openings.{Opens}
-use Rattle.bag_walk.proofs.Filling.{again_both, again_within, behind_both, behind_first, below_same, first_front, none_before, none_left, none_shown, opened_by, opens_within, reached_both, reached_front, sees_first, sees_later, sees_second, some_shown, stop_front, anyway_front, anyway_in_turn, waits_first}
+use Rattle.bag_walk.proofs.Filling.{again_both, again_within, behind_both, behind_first, below_same, first_front, none_before, none_left, none_shown, opened_by, opens_within, reached_both, reached_front, sees_first, sees_later, sees_second, some_shown, stop_front, stop_later, anyway_front, anyway_in_turn, waits_first}
 use Rattle.bag_walk.proofs.Summing.{waits_found}
 use Rattle.bag_walk.proofs.then.ThenSource.fill.Goals as goal
 
@@ -46,7 +47,7 @@ returns-in-Err-clause-anyway g c = rw c.if-not-self.false (
 pub returns-clause-anyway : goal.returns-clause-anyway
 returns-clause-anyway g c =
     let state = g.T.Tree.state in
-    anyway_in_turn (state c.args.tree.now) (state c.fill-2.new.tree) (state c.fill-3.new.tree) (g.B.Source.todo c.fill-3.new.self) c.fill-3.result c.fill-2.ensures.keeps c.fill-3.ensures.anyway
+    anyway_in_turn (state c.args.tree.now) (state c.fill-2.new.tree) (state c.fill-3.new.tree) (g.B.Source.todo c.fill-3.new.self) c.fill-3.result c.fill-2.ensures.keeps c.in-Ok.ensures.calm c.fill-3.ensures.anyway
 
 pub returns-then-is_some-clause-same : goal.returns-then-is_some-clause-same
 returns-then-is_some-clause-same g c = rw c.if-not-self.false (λ bag h sees.
@@ -205,3 +206,19 @@ returns-clause-waits g c = rw c.if-not-self.false (
     waits_found (g.A.Source.remaining bag first) (g.B.Source.remaining bag second) stop.path empty
     (waits ordered.1 bag h.1 (sees_later old mid ys bag c.fill-2.ensures.keeps (sees_second old xs ys bag sees))))
     c.fill-3.ensures.waits)
+
+pub returns-clause-calm : goal.returns-clause-calm
+returns-clause-calm g c =
+    let state = g.T.Tree.state in
+    on_ok_weaker c.fill-3.result (λ calm. nothing_then (state c.args.tree.now) (state c.fill-2.new.tree) (state c.fill-3.new.tree) c.in-Ok.ensures.calm calm) c.fill-3.ensures.calm
+
+pub returns-clause-stop : goal.returns-clause-stop
+returns-clause-stop g c = rw c.if-not-self.false (
+    let state = g.T.Tree.state in
+    let second = c.args.self.now.second in
+    let keeps = c.fill-2.ensures.keeps in
+    IfErr-weaker c.fill-3.result _ _
+    (λ stop stops of.
+    stop_later (state c.args.tree.now) (state c.fill-2.new.tree) (state c.fill-3.new.tree) (g.B.Source.todo c.fill-3.new.self) stop keeps c.in-Ok.ensures.calm
+    (stops (λ honest. subst (λ bag. g.B.Source.is_of bag second) (sym keeps.bag) (of (sym keeps.honest ∙ honest)).1)))
+    c.fill-3.ensures.stop)
