@@ -1,10 +1,11 @@
 -- The stop of a file that was refused, and for want of memory.
-use Rattle.std.proofs.Common.{◌≡◌, ◌∙◌, inl, inr, ℕ, List, length, Option, None, Some, true, is_some, IsTrue, refl, sym, ap, subst}
+use Rattle.std.proofs.Common.{◌≡◌, ◌≢◌, ◌∙◌, inl, inr, ℕ, List, length, Option, None, Some, true, is_some, IsTrue, refl, sym, ap, subst}
 use Rattle.std.specs.Option.{option_map}
 use Rattle.bag_tree.specs.Bag.{HasFile, file}
 use Rattle.bag_tree.specs.Calm.{MayTellMemory, RefusesNothing}
 use Rattle.bag_tree.specs.Tree.{TreeState, CameFromTree, IsEntryOf}
 use Rattle.bag_tree.specs.Whole.{MayRefuseWhole}
+use Rattle.bag_tree.specs.declared.answer.Answer.TheVariants.{Refused}
 use Rattle.bag_tree.specs.declared.listing.FileEntry.{FileEntry}
 use Rattle.bag_tree.specs.declared.tree_fault.Stop.{Stop}
 use Rattle.bag_tree.specs.declared.tree_fault.TreeFault.{TreeFault}
@@ -27,6 +28,10 @@ pub came_from : (old new : TreeState) (entry : FileEntry) (cause : TreeFault) �
 came_from old new entry Changed (size, other) = (entry.size, size)
 came_from old new entry Memory h = tt
 came_from old new entry other h = h.1
+
+-- want of memory was the tree's own
+pub told_memory : (old new : TreeState) (cause : TreeFault) → (cause ≢ Changed → new.last ≡ Refused cause) → cause ≡ Memory → MayTellMemory old new
+told_memory old new cause answered is = inl (answered (λ changed. let clash : Memory ≡ Changed = sym is ∙ changed in cc) ∙ ap Refused is)
 
 -- a listed file of a bag is there
 is_there : (content : Option (List ℕ)) (size : ℕ) → option_map length content ≡ Some size → is_some content ≡ true

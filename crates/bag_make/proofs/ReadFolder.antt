@@ -8,8 +8,10 @@ use Rattle.bag_text.specs.declared.alg.Alg.{Alg}
 use Rattle.bag_text.proofs.ListOf.{contains_first, contains_behind, each_from_members}
 use Rattle.bag_tree.specs.Bag.{Bag, file, files_of}
 use Rattle.bag_tree.specs.Listing.{IsListingOf, IsOrdered}
+use Rattle.bag_tree.specs.Calm.{RefusesNothing}
 use Rattle.bag_tree.specs.Tree.{TreeState, IsEntryOf, Keeps}
 use Rattle.bag_tree.specs.Whole.{IsRefusedAt}
+use Rattle.bag_tree.specs.declared.answer.Answer.TheVariants.{Given, Refused}
 use Rattle.bag_tree.specs.declared.listing.FileEntry.{FileEntry}
 use Rattle.bag_tree.specs.declared.listing.Listing.{Listing}
 use Rattle.bag_tree.specs.declared.tree_fault.Stop.{Stop}
@@ -23,7 +25,7 @@ use Rattle.bag_make.proofs.Entries.{at_place}
 use Rattle.bag_make.proofs.Held.{found, has_listed, one_file, content_of}
 use Rattle.bag_make.specs.Plan.{is_in_the_way}
 use Rattle.bag_make.specs.Reading.{HasListed, HasRefusedNothing, IsStopped, MayRefuseReading, OpensFolder}
-use Rattle.bag_make.specs.Stops.{IsAtFile, IsCalm, MayStopMaking, StopsSumming}
+use Rattle.bag_make.specs.Stops.{IsAtFile, MayStopMaking, StopsSumming}
 use Rattle.bag_make.specs.Summed.{AreSummed, AreSummedFiles, OpensFirstOf, entry_of}
 use Rattle.bag_make.specs.declared.fault.MakeFault.{MakeFault}
 use Rattle.bag_make.specs.declared.fault.MakeFault.TheVariants as fault_of
@@ -61,11 +63,14 @@ paths_listed [] = refl
 paths_listed (e ∷ es) = ap (λ xs. e.0 ∷ xs) (paths_listed es)
 
 -- where nothing was refused behind the listing either
-pub nothing_refused : (old mid new : TreeState) → HasListed old mid → IsCalm mid new → HasRefusedNothing old new
+pub nothing_refused : (old mid new : TreeState) → HasListed old mid → RefusesNothing mid new → HasRefusedNothing old new
 nothing_refused old mid new listed calm = record {
   failures = calm.failures ∙ listed.failures;
   plain = listed.plain;
-  last = λ same. calm.last (ap length (same ∙ sym listed.openings)) ∙ listed.last;
+  last = elim calm.last [
+    | inl same ↦ (λ fault is. let clash : Given ≡ Refused fault = sym listed.last ∙ sym (ap (λ (state : TreeState). state.last) same) ∙ is in cc)
+    | inr none ↦ none
+  ];
 }
 
 module _ (listing : Listing) (ordered : IsOrdered listing.files) where
@@ -125,7 +130,7 @@ module _ (listing : Listing) (ordered : IsOrdered listing.files) where
             )
       ];
     })
-    files_refused listed stop fault_of.Memory free h is = elim (h.memory is) [
+    files_refused listed stop fault_of.Memory free h is = elim (h.wanting is) [
       | inl last ↦ inl last
       | inr calm ↦ inr (nothing_refused old mid new listed calm)
     ]

@@ -8,6 +8,7 @@ use Rattle.bag_text.specs.Path.{under}
 use Rattle.bag_text.specs.declared.alg.Alg.{Alg}
 use Rattle.bag_text.proofs.ListOf.{contains_first}
 use Rattle.bag_tree.specs.Bag.{file}
+use Rattle.bag_tree.specs.Calm.{RefusesNothing}
 use Rattle.bag_tree.specs.Tree.{TreeState, CameFromTree, IsEntryOf, Keeps, OpensAtMost}
 use Rattle.bag_tree.specs.Whole.{IsRefusedAt, MayRefuseWhole}
 use Rattle.bag_tree.specs.declared.answer.Answer.TheVariants.{Refused}
@@ -15,35 +16,20 @@ use Rattle.bag_tree.specs.declared.listing.FileEntry.{FileEntry}
 use Rattle.bag_tree.specs.declared.tree_fault.Stop.{Stop}
 use Rattle.bag_tree.specs.declared.tree_fault.TreeFault.{TreeFault}
 use Rattle.bag_tree.specs.declared.tree_fault.TreeFault.TheVariants.{Changed, Memory}
+use Rattle.bag_tree.proofs.Calm.{memory_then, nothing_asked, nothing_then}
 use Rattle.bag_facts.specs.Stops.{IsOutOfMemory, IsRefusalOf, MayRefuseFacts}
 use Rattle.bag_facts.specs.Wanted.{paths_of}
 use Rattle.bag_facts.proofs.Mapped.{take_one_more}
 use Rattle.bag_facts.proofs.Reading.{keeps_itself, keeps_on, later_refusal}
-use Rattle.bag_facts.proofs.Refusing.{came_from, refused_file}
+use Rattle.bag_facts.proofs.Refusing.{came_from, refused_file, told_memory}
 use Rattle.bag_make.specs.Made.{File, data_folder, new_payload}
-use Rattle.bag_make.specs.Stops.{IsAtFile, IsCalm, StopsSumming}
+use Rattle.bag_make.specs.Stops.{IsAtFile, StopsSumming}
 use Rattle.bag_make.specs.Summed.{IsSummed, AreSummed, IsSummedEntry, AreSummedFiles, OpensFirstOf, entry_of}
 use Rattle.bag_make.specs.declared.summed.SummedFile.{SummedFile}
 
-pub calm_itself : (state : TreeState) → IsCalm state state
-calm_itself state = record { failures = refl; grows = omega arith; last = λ _. refl }
-
-pub calm_on : (old mid new : TreeState) → IsCalm old mid → IsCalm mid new → IsCalm old new
-calm_on old mid new a b = record {
-  failures = b.failures ∙ a.failures;
-  grows = omega (arith, a.grows, b.grows);
-  last = λ same. b.last (omega (arith, same, a.grows, b.grows)) ∙ a.last (omega (arith, same, a.grows, b.grows));
-}
-
--- a file was opened, and nothing was refused
-pub calm_opened : (old new : TreeState) (path : List ℕ) → new.failures ≡ old.failures → new.openings ≡ old.openings ++ path ∷ [] → IsCalm old new
-calm_opened old new path calm once =
-    let longer : length new.openings ≡ length old.openings + 1 = ap length once ∙ length-append old.openings (path ∷ []) in
-    record { failures = calm; grows = omega (arith, longer); last = λ same. absurd (omega (arith, same, longer)) }
-
 -- want of memory stops it
-pub stop_of_memory : (files : List FileEntry) (old new : TreeState) (stop : Stop) → IsOutOfMemory stop → IsCalm old new → StopsSumming files old new stop
-stop_of_memory files old new stop m calm = record { cause = λ are. rw m.0 tt; answered = rw m.0 tt; path = inl m; memory = λ _. inr calm }
+pub stop_of_memory : (files : List FileEntry) (old new : TreeState) (stop : Stop) → IsOutOfMemory stop → RefusesNothing old new → StopsSumming files old new stop
+stop_of_memory files old new stop m calm = record { cause = λ are. rw m.0 tt; answered = rw m.0 tt; path = inl m; wanting = λ _. inr calm }
 
 one_is : (P : FileEntry → Type 0) (entry : FileEntry) → All P (entry ∷ []) → P entry
 one_is P entry all = All-contains P (entry ∷ []) entry all (contains_first entry [])
@@ -55,13 +41,13 @@ stop_of_refusal entry old new cause stop refused answered opened (inl (not, same
   cause = λ are. subst (MayRefuseFacts old new) (sym same) (refused_file old new entry cause (λ honest. one_is (IsEntryOf old.bag) entry (are honest)) refused);
   answered = subst (CameFromTree new) (sym same) (came_from old new entry cause refused);
   path = inr (0, ap Some (sym at), subst (λ all. IsRefusedAt all stop.path new) (sym (append-nil old.openings)) (subst (λ path. IsRefusedAt old.openings path new) (sym at) opened));
-  memory = λ m. absurd (not (sym same ∙ m));
+  wanting = λ m. absurd (not (sym same ∙ m));
 }
 stop_of_refusal entry old new cause stop refused answered opened (inr (is, m)) = record {
   cause = λ are. rw m.0 tt;
   answered = rw m.0 tt;
   path = inl m;
-  memory = λ _. inl (answered (λ changed. let clash : Memory ≡ Changed = sym is ∙ changed in cc) ∙ ap Refused is);
+  wanting = λ _. told_memory old new cause answered is;
 }
 
 abbrev moved : File → File
@@ -83,14 +69,14 @@ sums_more algs files i e summed one lt is h s =
 -- the first of the listed files were summed
 pub record SumsFirst (files : List FileEntry) (count : ℕ) (algs : List Alg) (old new : TreeState) (sums : List SummedFile) : Type 0 where
   pub keeps : Keeps old new
-  pub calm : IsCalm old new
+  pub calm : RefusesNothing old new
   pub opened : new.openings ≡ old.openings ++ paths_of (take count files)
   pub summed : AreSummedFiles old (take count files) algs sums
 
 pub sums_none : (files : List FileEntry) (algs : List Alg) (old : TreeState) → SumsFirst files 0 algs old old []
 sums_none files algs old = record {
   keeps = keeps_itself old;
-  calm = calm_itself old;
+  calm = nothing_asked old;
   opened = sym (append-nil old.openings);
   summed = record { files = []; listed = refl; are = tt; honest = λ _. All-nil (λ (e : File). file old.bag e.0 ≡ Some e.1) };
 }
@@ -126,11 +112,11 @@ module _ (files : List FileEntry) (i : ℕ) (entry : FileEntry) (algs : List Alg
       ∙ ap (λ xs. old.openings ++ xs) (sym (ap paths_of next ∙ map-append (λ (e : FileEntry). e.path) (take i files) (entry ∷ [])))
 
   -- one more was summed
-  pub sums_one_more : (after : List SummedFile) (one : SummedFile) → after ≡ summed ++ one ∷ [] → Keeps mid new → IsCalm mid new
+  pub sums_one_more : (after : List SummedFile) (one : SummedFile) → after ≡ summed ++ one ∷ [] → Keeps mid new → RefusesNothing mid new
       → new.openings ≡ mid.openings ++ entry.path ∷ [] → IsSummedEntry mid entry algs one → SumsFirst files (i + 1) algs old new after
   sums_one_more after one e k calm once s = record {
     keeps = keeps_on old mid new before.keeps k;
-    calm = calm_on old mid new before.calm calm;
+    calm = nothing_then old mid new before.calm calm;
     opened = opened_more once;
     summed = subst (AreSummedFiles old (take (i + 1) files) algs) (sym e) (added one s);
   }
@@ -177,10 +163,7 @@ module _ (files : List FileEntry) (i : ℕ) (entry : FileEntry) (algs : List Alg
       | inl m ↦ inl m
       | inr at ↦ inr (at_the_file stop.path at)
     ];
-    memory = λ m. elim (h.memory m) [
-      | inl last ↦ inl last
-      | inr calm ↦ inr (calm_on old mid new before.calm calm)
-    ];
+    wanting = λ m. memory_then old mid new before.calm (h.wanting m);
   }
 
 -- all were gone through

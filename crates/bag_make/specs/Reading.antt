@@ -1,9 +1,10 @@
 -- How the files of a folder are read before a bag is made of them.
-use Rattle.std.specs.Prelude.{ℕ, ◌≡◌, ◌⊎◌, ◌++◌, true, IsTrue, map, take}
+use Rattle.std.specs.Prelude.{ℕ, ◌≡◌, ◌≢◌, ◌⊎◌, ◌++◌, true, IsTrue, map, take}
 use Rattle.bag_tree.specs.Bag.{files_of}
 use Rattle.bag_tree.specs.Tree.{TreeState, Keeps}
 use Rattle.bag_tree.specs.declared.answer.Answer.TheVariants.{Given, Refused}
 use Rattle.bag_tree.specs.declared.tree_fault.Stop.{Stop}
+use Rattle.bag_tree.specs.declared.tree_fault.TreeFault.{TreeFault}
 use Rattle.bag_tree.specs.declared.tree_fault.TreeFault.TheVariants as cause_of
 use Rattle.bag_make.specs.Plan.{is_in_the_way}
 use Rattle.bag_make.specs.Stops.{MayStopMaking}
@@ -22,12 +23,14 @@ pub record HasListed (old new : TreeState) : Type 0 where
   pub openings : new.openings ≡ old.openings
   pub last : new.last ≡ Given
 
--- The tree refused for want of memory; or it refused nothing, and there was no memory for what was read.
+-- Nothing was refused: the device didn't fail, of an honest tree only files and folders stand there, and the last answer is no
+-- refusal.
 pub record HasRefusedNothing (old new : TreeState) : Type 0 where
   pub failures : new.failures ≡ old.failures
   pub plain : IsTrue old.honest → IsTrue old.plain
-  pub last : new.openings ≡ old.openings → new.last ≡ Given
+  pub last : (fault : TreeFault) → new.last ≢ Refused fault
 
+-- the tree refused for want of memory; or it refused nothing, and there was no memory for what was read
 abbrev pub IsWantOfMemory : TreeState → TreeState → Type 0
 IsWantOfMemory old new = (new.last ≡ Refused cause_of.Memory) ⊎ HasRefusedNothing old new
 

@@ -1,23 +1,16 @@
 -- Why the files of a folder can't be read.
-use Rattle.std.specs.Prelude.{ℕ, ◌≡◌, ◌≢◌, ◌⊎◌, ◌≤◌, ◌++◌, true, false, IsTrue, List, Some, All, length, map, take, slice_get}
+use Rattle.std.specs.Prelude.{ℕ, ◌≡◌, ◌≢◌, ◌⊎◌, ◌++◌, true, false, IsTrue, List, Some, All, map, take, slice_get}
 use Rattle.bag_text.specs.Path.{is_path}
 use Rattle.bag_tree.specs.Bag.{files_of}
+use Rattle.bag_tree.specs.Calm.{MayTellMemory}
 use Rattle.bag_tree.specs.Tree.{TreeState, CameFromTree, IsEntryOf}
 use Rattle.bag_tree.specs.Whole.{IsRefusedAt}
-use Rattle.bag_tree.specs.declared.answer.Answer.TheVariants.{Refused}
 use Rattle.bag_tree.specs.declared.listing.FileEntry.{FileEntry}
 use Rattle.bag_tree.specs.declared.tree_fault.Stop.{Stop}
-use Rattle.bag_tree.specs.declared.tree_fault.TreeFault.{TreeFault}
 use Rattle.bag_tree.specs.declared.tree_fault.TreeFault.TheVariants.{Memory}
 use Rattle.bag_facts.specs.Stops.{IsOfListing, IsOutOfMemory, MayRefuseFacts}
 use Rattle.bag_facts.specs.Wanted.{paths_of}
 use Rattle.bag_make.specs.Plan.{is_in_the_way}
-
--- Nothing was refused: the device didn't fail, and where no file was opened, nothing was asked.
-pub record IsCalm (old new : TreeState) : Type 0 where
-  pub failures : new.failures ≡ old.failures
-  pub grows : length old.openings ≤ length new.openings
-  pub last : length new.openings ≡ length old.openings → new.last ≡ old.last
 
 -- this file was refused when those before it had been opened, in this order
 abbrev pub IsAtFile : List (List ℕ) → TreeState → TreeState → List ℕ → Type 0
@@ -34,7 +27,7 @@ pub record StopsSumming (files : List FileEntry) (old new : TreeState) (stop : S
   pub cause : (IsTrue old.honest → All (IsEntryOf old.bag) files) → MayRefuseFacts old new stop.cause
   pub answered : CameFromTree new stop.cause
   pub path : IsOutOfMemory stop ⊎ IsAtFile (paths_of files) old new stop.path
-  pub memory : stop.cause ≡ Memory → (new.last ≡ Refused Memory) ⊎ IsCalm old new
+  pub wanting : stop.cause ≡ Memory → MayTellMemory old new
 
 -- A file was refused. Of an honest tree it is the one of its bag at which reading had come, and nothing is in the way.
 abbrev pub IsOfFolder : TreeState → TreeState → Stop → Type 0

@@ -1,11 +1,12 @@
 //! The digests that manifests are to give.
 ghost use Rattle.std.specs.Prelude.{◌≡◌, ◌<◌, ◌++◌, ◌∷◌, [], length, IfOk, IfErr, OnOk, OnErr};
 ghost use Rattle.bag_text.specs.Path.{under};
+ghost use Rattle.bag_tree.specs.Calm.{RefusesNothing};
 ghost use Rattle.bag_tree.specs.Tree.{Keeps, OpensAtMost};
 ghost use Rattle.bag_tree.specs.Digest.{AreSumsOf};
 ghost use Rattle.bag_facts.specs.Wanted.{paths_of};
 ghost use Rattle.bag_make.specs.Made.{data_folder};
-ghost use Rattle.bag_make.specs.Stops.{IsCalm, StopsSumming};
+ghost use Rattle.bag_make.specs.Stops.{StopsSumming};
 ghost use Rattle.bag_make.specs.Summed.{AreSummed, AreSummedFiles, IsSummedEntry, OpensFirstOf};
 ghost use Rattle.bag_make.specs.declared.summed.SummedFile.{SummedFile as Digested};
 
@@ -37,7 +38,7 @@ pub fn sum_files<T: Tree>(
     algs: AlgSet,
 ) -> Result<Vec<SummedFile>, Stop>
     ensures keeps { Keeps (T.state tree.old) (T.state tree.new) }
-    ensures calm { OnOk result (IsCalm (T.state tree.old) (T.state tree.new)) }
+    ensures calm { OnOk result (RefusesNothing (T.state tree.old) (T.state tree.new)) }
     ensures opens { OpensFirstOf (paths_of files.now) (T.state tree.old) (T.state tree.new) }
     ensures opened { OnOk result ((T.state tree.new).openings ≡ (T.state tree.old).openings ++ paths_of files.now) }
     ensures summed { IfOk result (λ summed. AreSummedFiles (T.state tree.old) files.now algs summed.items) }
@@ -59,7 +60,7 @@ fn sum_each<T: Tree>(
 ) -> Result<Vec<SummedFile>, Stop>
     requires { 0 < length buffer.old }
     ensures keeps { Keeps (T.state tree.old) (T.state tree.new) }
-    ensures calm { OnOk result (IsCalm (T.state tree.old) (T.state tree.new)) }
+    ensures calm { OnOk result (RefusesNothing (T.state tree.old) (T.state tree.new)) }
     ensures opens { OpensFirstOf (paths_of files.now) (T.state tree.old) (T.state tree.new) }
     ensures opened { OnOk result ((T.state tree.new).openings ≡ (T.state tree.old).openings ++ paths_of files.now) }
     ensures summed { IfOk result (λ summed. AreSummedFiles (T.state tree.old) files.now algs summed.items) }
@@ -83,7 +84,7 @@ fn append_summed<T: Tree>(
 ) -> Result<(), Stop>
     requires { 0 < length buffer.old }
     ensures keeps { Keeps (T.state tree.old) (T.state tree.new) }
-    ensures calm { OnOk result (IsCalm (T.state tree.old) (T.state tree.new)) }
+    ensures calm { OnOk result (RefusesNothing (T.state tree.old) (T.state tree.new)) }
     ensures opened { OnOk result ((T.state tree.new).openings ≡ (T.state tree.old).openings ++ entry.now.path ∷ []) }
     ensures opens { OnErr result (OpensAtMost (T.state tree.old) (T.state tree.new) entry.now.path) }
     ensures summed { OnOk result ((one : Digested) × (summed.new.items ≡ summed.old.items ++ one ∷ []) × IsSummedEntry (T.state tree.old) entry.now algs one) }

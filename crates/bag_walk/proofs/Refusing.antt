@@ -10,7 +10,7 @@ use Rattle.bag_tree.specs.declared.tree_fault.Stop.{Stop}
 use Rattle.bag_tree.specs.declared.tree_fault.TreeFault.{TreeFault}
 use Rattle.bag_tree.specs.declared.tree_fault.TreeFault.TheVariants.{NotFound, Changed, NoneOpen, Memory}
 use Rattle.bag_facts.specs.Stops.{IsOutOfMemory, IsRefusalOf, MayRefuseFacts}
-use Rattle.bag_facts.proofs.Refusing.{came_from, has_entry, refused_file}
+use Rattle.bag_facts.proofs.Refusing.{came_from, has_entry, refused_file, told_memory}
 use Rattle.bag_walk.specs.Source.{MayRefuseAnyway, MayStopAnyway, MayStopFilling}
 
 refused_anyway : (old new : TreeState) (entry : FileEntry) (cause : TreeFault) → MayRefuseWhole old new entry cause → MayRefuseAnyway old new cause
@@ -19,10 +19,6 @@ refused_anyway old new entry Changed h = tt
 refused_anyway old new entry NoneOpen (closed, came) = absurd closed
 refused_anyway old new entry Memory h = tt
 refused_anyway old new entry other h = h.0
-
--- want of memory was the tree's own
-told_memory : (old new : TreeState) (cause : TreeFault) → (cause ≢ Changed → new.last ≡ Refused cause) → cause ≡ Memory → MayTellMemory old new
-told_memory old new cause answered is = inl (answered (λ changed. let clash : Memory ≡ Changed = sym is ∙ changed in cc) ∙ ap Refused is)
 
 module _ (todo : List (List ℕ)) (old new : TreeState) (stop : Stop) (m : IsOutOfMemory stop) (tells : MayTellMemory old new) where
   pub filling_of_memory : MayStopFilling todo old new stop

@@ -1,11 +1,11 @@
-use Rattle.std.proofs.Common.{◌∙◌, ◌++◌, ap, sym, subst}
+use Rattle.std.proofs.Common.{◌∙◌, ◌++◌, inr, ap, sym, subst}
 use Rattle.bag_tree.specs.Bag.{files_of}
 use Rattle.bag_tree.specs.Listing.{IsListingOf}
 use Rattle.bag_facts.specs.Wanted.{paths_of}
 use Rattle.bag_make.specs.Made.{new_payload}
 use Rattle.bag_make.specs.Stops.{StopsSumming}
 use Rattle.bag_make.specs.Summed.{AreSummed, AreSummedFiles, OpensFirstOf}
-use Rattle.bag_make.proofs.ReadFolder.{files_are, opens_folder, opened_folder, files_refused}
+use Rattle.bag_make.proofs.ReadFolder.{nothing_refused, files_are, opens_folder, opened_folder, files_refused}
 use Rattle.bag_make.proofs.making.read_and_plan.Goals as goal
 
 pub returns-in-Err-sum_files-clause-opens : goal.returns-in-Err-sum_files-clause-opens
@@ -57,3 +57,10 @@ returns-clause-opens g c =
     let state = g.T.Tree.state in
     opens_folder c.in-Ok.listing c.in-Ok.ensures.ordered (state c.args.tree.now) (state c.list.new.self) (state c.sum_files.new.tree) c.list.ensures.keeps c.list.ensures.openings c.in-Ok.ensures.honest
     (subst (λ xs. OpensFirstOf (paths_of xs) (state c.list.new.self) (state c.sum_files.new.tree)) c.as_slice.ensures c.sum_files.ensures.opens)
+
+pub returns-clause-refused : goal.returns-clause-refused
+returns-clause-refused g c =
+    let state = g.T.Tree.state in
+    inr (nothing_refused (state c.args.tree.now) (state c.list.new.self) (state c.sum_files.new.tree)
+    (record { keeps = c.list.ensures.keeps; failures = c.in-Ok.ensures.calm; plain = c.in-Ok.ensures.plain; openings = c.list.ensures.openings; last = c.in-Ok.ensures.last })
+    c.in-Ok-sum_files.ensures.calm)
