@@ -64,23 +64,23 @@ fn declared_version(facts: &Facts) -> Option<&Text>
 fn version_fault(alloc: Global, version: &Text) -> Result<Fault, AllocError>
     ensures { IfOk result (λ fault. fault ≡ other_version version.now) }
 {
-    Ok(Fault {
-        code: Code::VersionNotAccepted,
-        path: TagName::Declaration.path(alloc)?,
-        alg: None,
-        line: 1,
-        detail: version.copy(alloc)?,
-    })
+    let path = TagName::Declaration.path(alloc)?;
+    Ok(Fault::of_line(
+        Code::VersionNotAccepted,
+        path,
+        None,
+        1,
+        version.copy(alloc)?,
+    ))
 }
 
 fn serialization_fault(alloc: Global) -> Fault
     ensures { result ≡ of_bag SerializationRequired }
 {
-    Fault {
-        code: Code::SerializationRequired,
-        path: Text::empty(alloc),
-        alg: None,
-        line: 0,
-        detail: Text::empty(alloc),
-    }
+    Fault::of_path(
+        Code::SerializationRequired,
+        Text::empty(alloc),
+        None,
+        Text::empty(alloc),
+    )
 }

@@ -1,5 +1,5 @@
 -- Every bag has a list of the faults of its completeness and of its names.
-use Rattle.std.proofs.Common.{◌≡◌, ◌⊎◌, ℕ, List, Option, None, Some, true, refl, sym, subst}
+use Rattle.std.proofs.Common.{◌≡◌, ◌⊎◌, ℕ, List, [], Option, None, Some, true, refl, sym, subst}
 use Rattle.bag_text.specs.Path.{is_payload_path}
 use Rattle.bag_text.specs.declared.rules.Rules.TheVariants.{V10, V097}
 use Rattle.bag_text.specs.declared.alg.Alg.{Alg}
@@ -8,6 +8,7 @@ use Rattle.bag_text.specs.declared.code.Code.TheVariants.{PayloadFileNotListed}
 use Rattle.bag_read.specs.declared.kind.Kind.{Kind}
 use Rattle.bag_read.specs.declared.kind.Kind.TheVariants.{Payload, Tag}
 use Rattle.bag_tree.specs.Bag.{Bag, has_file, HasFile, LacksFile}
+use Rattle.bag_facts.specs.FaultAt.{of_path}
 use Rattle.bag_facts.specs.declared.fault.Fault.{Fault}
 use Rattle.bag_facts.specs.Facts.{rules_in}
 use Rattle.bag_stages.specs.HasList.{HasList}
@@ -18,7 +19,7 @@ use Rattle.bag_stages.proofs.HasLists.{Decided, true_or_not, false_or_not, both_
 use Rattle.bag_stages.proofs.LeftOut.{v097_or_not, v10_or_not}
 use Rattle.bag_stages.proofs.LeftOutDecided.{by_all_or_not, by_one_or_not}
 use Rattle.bag_stages.specs.ClashStage.{IsClashFault}
-use Rattle.bag_stages.specs.CompletenessFaults.{of_file, missing_code, IsIncomplete, IsLeftByAll, IsLeftByOne, IsMissing, IsMissingFromSome, IsNotListed, IsOfPath, IsUnlisted, IsUnlistedInAll, IsUnlistedInSome}
+use Rattle.bag_stages.specs.CompletenessFaults.{missing_code, IsIncomplete, IsLeftByAll, IsLeftByOne, IsMissing, IsMissingFromSome, IsNotListed, IsOfPath, IsUnlisted, IsUnlistedInAll, IsUnlistedInSome}
 use Rattle.bag_stages.specs.CompletenessStage.{CompletenessFaultsAreListed, IsOfCompleteness, IsPayloadFile}
 use Rattle.bag_stages.proofs.ClashList.{clash_faults_are_listed}
 use Rattle.bag_stages.proofs.CompletenessFaults.{either_is, is_either}
@@ -26,14 +27,14 @@ use Rattle.bag_stages.proofs.CompletenessFaults.{either_is, is_either}
 -- the faults of those of some paths of which this holds
 module _ (code : Code) (alg : Option Alg) (IsPath D IsWrong : List ℕ → Type 0) (to : (path : List ℕ) → IsPath path → D path → IsWrong path) (from : (path : List ℕ) → IsWrong path → IsPath path × D path) where
   abbrev FoundAt : List ℕ → Fault → Type 0
-  FoundAt path f = D path × (f ≡ of_file code alg path)
+  FoundAt path f = D path × (f ≡ of_path code path alg [])
 
   of_paths : HasList IsPath → ((path : List ℕ) → Decided (D path)) → HasList (IsOfPath code alg IsWrong)
   of_paths paths decided =
       same_set (λ f. (path : List ℕ) × IsPath path × FoundAt path f) (IsOfPath code alg IsWrong)
       (λ f h. subst (IsOfPath code alg IsWrong) (sym h.2.1) (refl, to h.0 h.1 h.2.0))
       (λ f h. let parts = from f.path h.1 in (f.path, parts.0, (parts.1, h.0)))
-      (for_each FoundAt (λ path. one_where (of_file code alg path) (D path) (decided path)) IsPath paths)
+      (for_each FoundAt (λ path. one_where (of_path code path alg []) (D path) (decided path)) IsPath paths)
 
 module _ (bag : Bag) where
   missing : (kind : Kind) (alg : Alg) → HasList (IsMissing bag kind alg)

@@ -27,6 +27,7 @@ use Rattle.bag_read.specs.Manifest.{IsEntry}
 use Rattle.bag_read.specs.declared.kind.Kind.TheVariants.{Payload}
 use Rattle.bag_read.specs.declared.manifest.ManifestEntry.{ManifestEntry}
 use Rattle.bag_tree.specs.Bag.{Bag, file}
+use Rattle.bag_facts.specs.FaultAt.{of_path}
 use Rattle.bag_facts.specs.declared.fault.Fault.{Fault}
 use Rattle.bag_facts.specs.FaultOrder.{fault_cmp}
 use Rattle.bag_facts.proofs.Ordered.{fault_cmp_total, fault_cmp_same}
@@ -34,11 +35,12 @@ use Rattle.bag_facts.specs.Facts.{rules_in}
 use Rattle.bag_facts.specs.TagFacts.{entry_paths, AreByPath, IsFetchListOf, IsManifestNamed, IsReadOf}
 use Rattle.bag_facts.specs.declared.fetch_list.FetchList.{FetchList}
 use Rattle.bag_facts.specs.declared.manifest.Manifest.{Manifest}
-use Rattle.bag_stages.specs.FaultFields.{in_file, in_line, of_whole, At}
+use Rattle.bag_stages.specs.FaultFields.{in_file, in_line, At}
 use Rattle.bag_stages.specs.FetchFaults.{AreByLine, AreFetched, IsNotNamed, IsNotNamedAmong, IsNotInAny, IsNotInManifest, IsNotInSome, IsNotListed, not_in_manifest}
 use Rattle.bag_stages.specs.FetchStage.{fetch_txt, FetchFaultsAreOfStageFour, FetchHolds, HasFetch, InFetch, IsOfFetch}
 use Rattle.bag_stages.specs.LeftOut.{IsLeftOut}
 use Rattle.bag_stages.specs.TagFiles.{lines_or_none, manifest_of}
+use Rattle.bag_stages.proofs.FaultFields.{made_of}
 use Rattle.bag_stages.proofs.ByItem.{OfSome, one_item_more}
 use Rattle.bag_stages.proofs.InFile.{less_by_alg, less_of_file, listed_in_file}
 use Rattle.bag_stages.proofs.LeftOut.{by_all, by_one, left_out_by, not_both}
@@ -169,7 +171,7 @@ module _ (bag : Bag) (alg : Alg) (bytes : List ℕ) (named : List ManifestEntry)
     e,
     (fetched.members e).1 has,
     (
-      (λ i. record { code = code i; path = at.path_is i; alg = at.alg_is i; line = at.line_is i; detail = at.detail_is i }),
+      made_of f FetchNotInManifest fetch_txt (Some alg) e.line e.path code at,
       (λ c. lacks (entry_names bag Payload alg bytes named there list e.path c)),
     ),
   )
@@ -252,7 +254,7 @@ module _ (bag : Bag) where
       → IsPermutation (of_lines ++ of_manifests) all → IsSortedBy (λ x y. is_lt (fault_cmp x y)) all → IsListOf fault_cmp (IsOfFetch bag) all
   fetch_listed of_lines of_manifests all lines manifests perm sorted =
       same_members fault_cmp _ _ all (some_is bag) (of_some bag)
-      (sorted_together fault_cmp_total fault_cmp_same (IsOfLine bag) (IsNotListed bag) of_lines of_manifests all (of_whole NotUtf8 [] []) lines_apart lines manifests perm sorted)
+      (sorted_together fault_cmp_total fault_cmp_same (IsOfLine bag) (IsNotListed bag) of_lines of_manifests all (of_path NotUtf8 [] None []) lines_apart lines manifests perm sorted)
 
   -- bytes that aren't UTF-8 have none
   pub no_line_fault : (f : Fault) → ((bytes : List ℕ) → file bag fetch_txt ≡ Some bytes → IsNoText bytes) → ¬ (IsOfLine bag f)

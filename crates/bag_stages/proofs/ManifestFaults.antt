@@ -48,6 +48,7 @@ use Rattle.bag_stages.specs.ManifestFaults.{unnamed, IsUnnamedFault, IsUnnamedAm
 use Rattle.bag_stages.specs.ManifestsStage.{ManifestHolds, IsOfManifests, InManifest, ManifestFaultsAreOfStageFive}
 use Rattle.bag_stages.specs.FaultFields.{in_file, in_line}
 use Rattle.bag_stages.specs.TagFiles.{manifest_of, Names}
+use Rattle.bag_stages.proofs.FaultFields.{made_of}
 use Rattle.bag_stages.proofs.ByPath.{one_item_more, take_whole}
 use Rattle.bag_stages.proofs.InFile.{less_by_path, less_of_file, listed_in_file}
 
@@ -146,7 +147,7 @@ module _ (bag : Bag) (files : List FileEntry) (alg : Alg) (bytes : List ℕ) (al
     (
       subst (Contains (paths_of files)) (sym at.detail_is) (file_listed bag files (manifest_name Payload other) listed there_too.1),
       (
-        (λ i. record { code = code i; path = at.path_is i; alg = at.alg_is i; line = at.line_is i; detail = f.detail }),
+        made_of f PayloadManifestNotListed (manifest_of Tag alg) (Some alg) 0 f.detail code (record { path_is = at.path_is; alg_is = at.alg_is; line_is = at.line_is; detail_is = refl }),
         (
           (other, there_too.0, at.detail_is),
           (λ c. lacks (entry_names bag Tag alg bytes all there entries (manifest_name Payload other) (subst (Contains (entry_paths all)) at.detail_is c))),

@@ -12,6 +12,7 @@ use Rattle.bag_text.specs.Text.{text_cmp}
 use Rattle.bag_text.specs.declared.rules.Rules.{Rules}
 use Rattle.bag_text.specs.declared.rules.Rules.TheVariants.{V10}
 use Rattle.bag_text.specs.declared.alg.Alg.{Alg}
+use Rattle.bag_text.specs.declared.code.Code.TheVariants.{PayloadManifestNotListed}
 use Rattle.bag_read.specs.Judged.{judged_and_marked, fault_of}
 use Rattle.bag_read.specs.LineFault.{AreFaults, not_utf8}
 use Rattle.bag_read.specs.Manifest.{IsManifestFault}
@@ -31,6 +32,7 @@ use Rattle.bag_stages.specs.HasList.{HasList}
 use Rattle.bag_stages.specs.ManifestFaults.{unnamed, IsUnlisted, IsLineFault}
 use Rattle.bag_stages.specs.ManifestsStage.{IsOfManifests, ManifestFaultsAreListed}
 use Rattle.bag_stages.specs.TagFiles.{manifest_of, named_in, HasManifest, HasSupported, Names}
+use Rattle.bag_stages.proofs.FaultFields.{made_of}
 use Rattle.bag_stages.proofs.BagLists.{manifests_listed, over_names}
 use Rattle.bag_stages.proofs.HasLists.{Decided, true_or_not, both_decided, not_decided, nothing, one_where, same_set, either, for_each}
 use Rattle.bag_stages.proofs.LeftOut.{v10_or_not}
@@ -84,7 +86,7 @@ module _ (bag : Bag) where
   from_unlisted alg f (by, code, (other, at, there, has, lacks)) = (
     other,
     has,
-    ((by, (there, lacks)), (λ i. record { code = code i; path = at.path_is i; alg = at.alg_is i; line = at.line_is i; detail = at.detail_is i })),
+    ((by, (there, lacks)), made_of f PayloadManifestNotListed (manifest_of Tag alg) (Some alg) 0 (manifest_name Payload other) code at),
   )
 
   unlisted : (kind : Kind) (alg : Alg) → HasList (IsUnlisted bag kind alg)

@@ -21,6 +21,7 @@ use Rattle.bag_read.proofs.ManifestEntries.{entry_named, entry_of_path_once, nam
 use Rattle.bag_tree.specs.Bag.{Bag, file}
 use Rattle.bag_tree.specs.Digest.{digest}
 use Rattle.bag_facts.specs.FaultOrder.{fault_cmp}
+use Rattle.bag_facts.specs.FaultAt.{of_path}
 use Rattle.bag_facts.specs.declared.fault.Fault.{Fault}
 use Rattle.bag_facts.specs.Facts.{rules_in}
 use Rattle.bag_facts.specs.TagFacts.{entry_paths, AreEntriesOf}
@@ -82,13 +83,7 @@ module _ (bag : Bag) (path content : List ℕ) (there : file bag path ≡ Some c
   same_content f h = let both : Some h.1 ≡ Some content = sym h.4 ∙ there in cc
 
   same_fault : sum_differs path one found ≡ fault_of_sum kind one.alg given.entry found
-  same_fault = λ i. record {
-    code = differing_code (sym right i);
-    path = sym given.path_is i;
-    alg = Some one.alg;
-    line = 0;
-    detail = expected_and_found (sym given.digest_is i) found;
-  }
+  same_fault = λ i. of_path (differing_code (sym right i)) (sym given.path_is i) (Some one.alg) (expected_and_found (sym given.digest_is i) found)
 
   differing_by : (same : Bool) → bytes_eq (encode_lower one.digest) found ≡ same → IsOnly (IsOfAlg bag path kind one.alg) (cond same None (Some (sum_differs path one found)))
   differing_by true e = λ f h.

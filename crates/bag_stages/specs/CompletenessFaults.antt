@@ -11,6 +11,7 @@ use Rattle.bag_read.specs.declared.kind.Kind.{Kind}
 use Rattle.bag_read.specs.declared.kind.Kind.TheVariants.{Payload, Tag}
 use Rattle.bag_read.specs.declared.manifest.ManifestEntry.{ManifestEntry}
 use Rattle.bag_tree.specs.Bag.{Bag, LacksFile}
+use Rattle.bag_facts.specs.FaultAt.{of_path}
 use Rattle.bag_facts.specs.FaultOrder.{fault_cmp}
 use Rattle.bag_facts.specs.declared.fault.Fault.{Fault}
 use Rattle.bag_facts.specs.Facts.{rules_in}
@@ -24,13 +25,9 @@ pub record HasEachOnce (IsMember : Fault → Type 0) (faults : List Fault) : Typ
   pub once : IsDistinct (eq_by_cmp fault_cmp) faults
   pub members : (f : Fault) → Contains faults f ↔ IsMember f
 
--- the fault of a file, by the manifest of an algorithm, or by all where no algorithm is told
-abbrev pub of_file : Code → Option Alg → List ℕ → Fault
-of_file code alg path = record { code = code; path = path; alg = alg; line = 0; detail = [] }
-
--- that fault of a path of which this holds
+-- the fault of a path of which this holds, by the manifest of an algorithm, or by all where no algorithm is told
 abbrev pub IsOfPath : Code → Option Alg → (List ℕ → Type 0) → Fault → Type 0
-IsOfPath code alg IsWrong f = (f ≡ of_file code alg f.path) × IsWrong f.path
+IsOfPath code alg IsWrong f = (f ≡ of_path code f.path alg []) × IsWrong f.path
 
 -- that fault of such a path among these
 abbrev pub IsOfPathAmong : Code → Option Alg → (List ℕ → Type 0) → List (List ℕ) → Fault → Type 0

@@ -9,6 +9,7 @@ use Rattle.bag_text.specs.declared.code.Code.TheVariants.{FetchNotInManifest}
 use Rattle.bag_read.specs.declared.fetch.FetchEntry.{FetchEntry}
 use Rattle.bag_read.specs.declared.manifest.ManifestEntry.{ManifestEntry}
 use Rattle.bag_tree.specs.Bag.{Bag}
+use Rattle.bag_facts.specs.FaultAt.{of_line}
 use Rattle.bag_facts.specs.declared.fault.Fault.{Fault}
 use Rattle.bag_facts.specs.Facts.{rules_in}
 use Rattle.bag_facts.specs.TagFacts.{entry_paths}
@@ -26,7 +27,7 @@ AreFetched bag entries = IsListOf (on (λ e. e.line) nat_cmp) (HasFetch bag) ent
 
 -- the fault that payload manifests leave a file to fetch out; with an algorithm, its manifest does
 abbrev pub not_in_manifest : List ℕ → Option Alg → FetchEntry → Fault
-not_in_manifest path alg e = record { code = FetchNotInManifest; path = path; alg = alg; line = e.line; detail = e.path }
+not_in_manifest path alg e = of_line FetchNotInManifest path alg e.line e.path
 
 -- that fault of a file that is at the path of none of the manifest's entries
 abbrev pub IsNotNamed : List ℕ → Alg → List ManifestEntry → FetchEntry → Fault → Type 0

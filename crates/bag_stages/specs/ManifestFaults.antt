@@ -11,6 +11,7 @@ use Rattle.bag_read.specs.declared.kind.Kind.{Kind}
 use Rattle.bag_read.specs.declared.kind.Kind.TheVariants.{Payload, Tag}
 use Rattle.bag_read.specs.declared.manifest.ManifestEntry.{ManifestEntry}
 use Rattle.bag_tree.specs.Bag.{Bag}
+use Rattle.bag_facts.specs.FaultAt.{of_path}
 use Rattle.bag_facts.specs.declared.fault.Fault.{Fault}
 use Rattle.bag_facts.specs.Facts.{rules_in}
 use Rattle.bag_facts.specs.TagFacts.{entry_paths}
@@ -19,7 +20,7 @@ use Rattle.bag_stages.specs.TagFiles.{manifest_of, HasManifest, HasSupported, Na
 
 -- the fault that the tag manifest at a path doesn't name a payload manifest
 abbrev pub unnamed : List ℕ → Alg → List ℕ → Fault
-unnamed path alg file = record { code = PayloadManifestNotListed; path = path; alg = Some alg; line = 0; detail = file }
+unnamed path alg file = of_path PayloadManifestNotListed path (Some alg) file
 
 -- a payload manifest, of any algorithm's name, that is at no entry's path
 abbrev pub IsUnnamed : List ManifestEntry → List ℕ → Type 0

@@ -92,11 +92,6 @@ fn nfc_form(alloc: Global, name: &str) -> Result<String, AllocError>
 fn clash_fault(alloc: Global, name: &str, least: &str) -> Result<Fault, AllocError>
     ensures { IfOk result (λ fault. fault ≡ name_clash name.now least.now) }
 {
-    Ok(Fault {
-        code: Code::NameClash,
-        path: Text::from_str(alloc, name)?,
-        alg: None,
-        line: 0,
-        detail: Text::from_str(alloc, least)?,
-    })
+    let detail = Text::from_str(alloc, least)?;
+    Ok(Fault::of_path(Code::NameClash, Text::from_str(alloc, name)?, None, detail))
 }

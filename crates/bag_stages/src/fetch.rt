@@ -150,11 +150,7 @@ fn unnamed_fault(
 ) -> Result<Fault, AllocError>
     ensures { IfOk result (λ fault. fault ≡ not_in_manifest path.now alg entry.now) }
 {
-    Ok(Fault {
-        code: Code::FetchNotInManifest,
-        path: path.copy(alloc)?,
-        alg,
-        line: entry.line,
-        detail: entry.path.copy(alloc)?,
-    })
+    let detail = entry.path.copy(alloc)?;
+    let code = Code::FetchNotInManifest;
+    Ok(Fault::of_line(code, path.copy(alloc)?, alg, entry.line, detail))
 }

@@ -128,11 +128,11 @@ fn not_listed(
 ) -> Result<Fault, AllocError>
     ensures { IfOk result (λ fault. fault ≡ unnamed path.now manifest.now.alg file.now) }
 {
-    Ok(Fault {
-        code: Code::PayloadManifestNotListed,
-        path: path.copy(alloc)?,
-        alg: Some(manifest.alg),
-        line: 0,
-        detail: file.copy(alloc)?,
-    })
+    let code = Code::PayloadManifestNotListed;
+    Ok(Fault::of_path(
+        code,
+        path.copy(alloc)?,
+        Some(manifest.alg),
+        file.copy(alloc)?,
+    ))
 }

@@ -59,13 +59,7 @@ fn missing_parts(
 fn missing_part(alloc: Global, code: Code) -> Fault
     ensures { result ≡ of_bag code }
 {
-    Fault {
-        code,
-        path: Text::empty(alloc),
-        alg: None,
-        line: 0,
-        detail: Text::empty(alloc),
-    }
+    Fault::of_path(code, Text::empty(alloc), None, Text::empty(alloc))
 }
 
 /// Whether a payload manifest is listed, of any algorithm.
