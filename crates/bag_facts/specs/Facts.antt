@@ -1,5 +1,5 @@
 -- What is read of a bag.
-use Rattle.std.specs.Prelude.{◌≡◌, ◌⊎◌, ℕ, List, [], ◌∷◌, Some, Any, Contains, map, option_and_then}
+use Rattle.std.specs.Prelude.{◌≡◌, ◌≢◌, ◌⊎◌, ℕ, List, [], ◌∷◌, Some, Any, Contains, map, option_and_then}
 use Rattle.bag_text.specs.Text.{text_cmp}
 use Rattle.bag_text.specs.Order.{IsListOf}
 use Rattle.bag_text.specs.Rules.{rules_of}
@@ -13,6 +13,7 @@ use Rattle.bag_tree.specs.Listing.{IsOrdered, IsListingOf}
 use Rattle.bag_facts.specs.TagFacts.{path_of, Says, IsParsed}
 use Rattle.bag_facts.specs.Wanted.{IsWanted}
 use Rattle.bag_facts.specs.declared.facts.Facts.{Facts}
+use Rattle.bag_facts.specs.declared.options.Depth.TheVariants as depth_of
 use Rattle.bag_facts.specs.declared.tag_facts.TagFacts.{TagFacts}
 use Rattle.bag_facts.specs.declared.tag_reader.TagBytes.{TagBytes}
 
@@ -32,6 +33,10 @@ pub record IsFactsOf (bag : Bag) (facts : Facts) : Type 0 where
   pub listing : IsListingOf bag facts.listing
   pub tags : IsListOf text_cmp (λ path. IsWanted facts.options path × HasFile bag path) (map path_of facts.tags)
   pub said : (tag : TagFacts) → Contains facts.tags tag → IsSaid bag tag
+
+-- of facts that were read beyond the declaration: this holds of each bag whose facts they are
+abbrev pub OfBag : Facts → (Bag → Type 0) → Type 0
+OfBag facts IsSo = (bag : Bag) → IsFactsOf bag facts → facts.options.depth ≢ depth_of.Declaration → IsSo bag
 
 -- the rules that the declaration among files that were read tells, and those of 1.0 where it isn't among them
 abbrev pub AreRulesOf : List TagBytes → Rules → Type 0

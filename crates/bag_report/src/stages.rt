@@ -4,7 +4,7 @@ ghost use Rattle.std.specs.Option.{option_copied};
 ghost use Rattle.bag_text.specs.Order.{IsListOf};
 ghost use Rattle.bag_tree.specs.Bag.{Bag};
 ghost use Rattle.bag_facts.specs.FaultOrder.{fault_cmp};
-ghost use Rattle.bag_facts.specs.Facts.{IsFactsOf};
+ghost use Rattle.bag_facts.specs.Facts.{IsFactsOf, OfBag};
 ghost use Rattle.bag_facts.specs.declared.options.Depth.TheVariants.{Declaration};
 ghost use Rattle.bag_conformance.specs.ConformanceStage.{IsOfConformance};
 ghost use Rattle.bag_report.specs.Report.{asks, IsStageOf};
@@ -72,8 +72,7 @@ fn profile_faults(
     facts: &Facts,
     profile: Option<&Profile>,
 ) -> Result<Vec<Fault>, AllocError>
-    ensures { IfOk result (λ faults. (bag : Bag) → IsFactsOf bag facts.now → facts.now.options.depth ≢ Declaration
-        → IsListOf fault_cmp (IsOfConformance bag (option_copied profile.entry)) faults.items) }
+    ensures { IfOk result (λ faults. OfBag facts.now (λ bag. IsListOf fault_cmp (IsOfConformance bag (option_copied profile.entry)) faults.items)) }
 {
     match profile {
         Some(profile) => conformance_faults(alloc, facts, profile),

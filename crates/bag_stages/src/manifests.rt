@@ -1,15 +1,14 @@
 //! Stage 5: manifests.
-ghost use Rattle.std.specs.Prelude.{◌≡◌, ◌≢◌, IfOk};
+ghost use Rattle.std.specs.Prelude.{◌≡◌, IfOk};
 ghost use Rattle.std.specs.List.Sorted.{IsStrictlySortedBy};
 ghost use Rattle.bag_text.specs.Order.{IsListOf, IsOnly};
 ghost use Rattle.bag_text.specs.Text.{text_cmp};
 ghost use Rattle.bag_tree.specs.Bag.{Bag};
 ghost use Rattle.bag_facts.specs.FaultOrder.{fault_cmp};
-ghost use Rattle.bag_facts.specs.Facts.{rules_in, IsFactsOf, IsSaid};
+ghost use Rattle.bag_facts.specs.Facts.{rules_in, OfBag, IsSaid};
 ghost use Rattle.bag_facts.specs.TagFacts.{AreByPath};
 ghost use Rattle.bag_facts.specs.TagReader.{AreListed};
 ghost use Rattle.bag_facts.specs.Wanted.{paths_of};
-ghost use Rattle.bag_facts.specs.declared.options.Depth.TheVariants.{Declaration};
 ghost use Rattle.bag_facts.specs.declared.tag_facts.TagFacts.TheVariants as known;
 ghost use Rattle.bag_stages.specs.ManifestFaults.{unnamed, IsUnnamedFault, IsUnnamedAmong, IsUnnamedBy, IsOfManifest};
 ghost use Rattle.bag_stages.specs.ManifestsStage.{IsOfManifests};
@@ -24,8 +23,7 @@ use std::alloc::{AllocError, Global};
 /// The faults of manifests (RFC 8493, 2.1.3 and 2.2.1), of facts read for more than the declaration. Fails only where
 /// memory runs out.
 pub fn manifest_faults(alloc: Global, facts: &Facts) -> Result<Vec<Fault>, AllocError>
-    ensures { IfOk result (λ faults. (bag : Bag) → IsFactsOf bag facts.now → facts.now.options.depth ≢ Declaration
-        → IsListOf fault_cmp (IsOfManifests bag) faults.items) }
+    ensures { IfOk result (λ faults. OfBag facts.now (λ bag. IsListOf fault_cmp (IsOfManifests bag) faults.items)) }
 {
     let rules = facts.rules();
     let files = facts.listing.files.as_slice();
