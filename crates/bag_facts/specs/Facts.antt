@@ -4,7 +4,7 @@ use Rattle.bag_text.specs.Text.{text_cmp}
 use Rattle.bag_text.specs.Order.{IsListOf}
 use Rattle.bag_text.specs.Rules.{rules_of}
 use Rattle.bag_text.specs.declared.rules.Rules.{Rules}
-use Rattle.bag_text.specs.declared.rules.Rules.TheVariants.{V10}
+use Rattle.bag_text.specs.declared.rules.Rules.TheVariants.{V10, V097}
 use Rattle.bag_read.specs.Declaration.{declared_version}
 use Rattle.bag_read.specs.TagName.{tag_path}
 use Rattle.bag_read.specs.declared.tag_name.TagName.TheVariants.{Declaration}
@@ -21,6 +21,13 @@ use Rattle.bag_facts.specs.declared.tag_reader.TagBytes.{TagBytes}
 -- declares none
 unfoldable pub rules_in : Bag → Rules
 rules_in bag = rules_of (option_and_then declared_version (file bag (tag_path Declaration)))
+
+-- those of 1.0, and those of 0.97
+abbrev pub IsByV10 : Bag → Type 0
+IsByV10 bag = rules_in bag ≡ V10
+
+abbrev pub IsByV097 : Bag → Type 0
+IsByV097 bag = rules_in bag ≡ V097
 
 -- what is known of a tag file is what its bytes in the bag say, by the bag's rules
 abbrev pub IsSaid : Bag → TagFacts → Type 0

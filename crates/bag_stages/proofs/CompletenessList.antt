@@ -1,7 +1,6 @@
 -- Every bag has a list of the faults of its completeness and of its names.
 use Rattle.std.proofs.Common.{◌≡◌, ◌⊎◌, ℕ, List, [], Option, None, Some, true, refl, sym, subst}
 use Rattle.bag_text.specs.Path.{is_payload_path}
-use Rattle.bag_text.specs.declared.rules.Rules.TheVariants.{V10, V097}
 use Rattle.bag_text.specs.declared.alg.Alg.{Alg}
 use Rattle.bag_text.specs.declared.code.Code.{Code}
 use Rattle.bag_text.specs.declared.code.Code.TheVariants.{PayloadFileNotListed}
@@ -10,7 +9,7 @@ use Rattle.bag_read.specs.declared.kind.Kind.TheVariants.{Payload, Tag}
 use Rattle.bag_tree.specs.Bag.{Bag, has_file, HasFile, LacksFile}
 use Rattle.bag_facts.specs.FaultAt.{of_path}
 use Rattle.bag_facts.specs.declared.fault.Fault.{Fault}
-use Rattle.bag_facts.specs.Facts.{rules_in}
+use Rattle.bag_facts.specs.Facts.{rules_in, IsByV10, IsByV097}
 use Rattle.bag_stages.specs.HasList.{HasList}
 use Rattle.bag_stages.specs.LeftOut.{IsLeftOutByAll, IsLeftOutByOne}
 use Rattle.bag_stages.specs.TagFiles.{named_in, Names}
@@ -49,10 +48,10 @@ module _ (bag : Bag) where
       (files_listed bag) (λ path. both_decided _ _ (true_or_not (is_payload_path path)) (decided path))
 
   unlisted : (alg : Alg) → HasList (IsUnlisted bag alg)
-  unlisted alg = where_so (rules_in bag ≡ V10) (IsLeftByOne bag alg) (v10_or_not (rules_in bag)) (left_out (Some alg) (IsLeftOutByOne bag alg) (λ path. by_one_or_not bag path alg))
+  unlisted alg = where_so (IsByV10 bag) (IsLeftByOne bag alg) (v10_or_not (rules_in bag)) (left_out (Some alg) (IsLeftOutByOne bag alg) (λ path. by_one_or_not bag path alg))
 
   in_all : HasList (IsUnlistedInAll bag)
-  in_all = where_so (rules_in bag ≡ V097) (IsLeftByAll bag) (v097_or_not (rules_in bag)) (left_out None (IsLeftOutByAll bag) (by_all_or_not bag))
+  in_all = where_so (IsByV097 bag) (IsLeftByAll bag) (v097_or_not (rules_in bag)) (left_out None (IsLeftOutByAll bag) (by_all_or_not bag))
 
   incomplete : HasList (IsIncomplete bag)
   incomplete =

@@ -10,8 +10,6 @@ use Rattle.bag_text.specs.Code.{stage}
 use Rattle.bag_text.specs.Lines.{lines_of_file}
 use Rattle.bag_text.specs.Order.{IsListOf}
 use Rattle.bag_text.specs.Text.{text_cmp, IsNoText}
-use Rattle.bag_text.specs.declared.rules.Rules.{Rules}
-use Rattle.bag_text.specs.declared.rules.Rules.TheVariants.{V10, V097}
 use Rattle.bag_text.specs.declared.alg.Alg.{Alg}
 use Rattle.bag_text.specs.declared.code.Code.{Code}
 use Rattle.bag_text.specs.declared.code.Code.TheVariants.{NotUtf8, FetchLine, FetchEscape, FetchUnsafePath, FetchOutsidePayload, FetchNotInManifest}
@@ -31,7 +29,7 @@ use Rattle.bag_facts.specs.FaultAt.{of_path}
 use Rattle.bag_facts.specs.declared.fault.Fault.{Fault}
 use Rattle.bag_facts.specs.FaultOrder.{fault_cmp}
 use Rattle.bag_facts.proofs.Ordered.{fault_cmp_total, fault_cmp_same}
-use Rattle.bag_facts.specs.Facts.{rules_in}
+use Rattle.bag_facts.specs.Facts.{rules_in, IsByV10, IsByV097}
 use Rattle.bag_facts.specs.TagFacts.{entry_paths, AreByPath, IsFetchListOf, IsManifestNamed, IsReadOf}
 use Rattle.bag_facts.specs.declared.fetch_list.FetchList.{FetchList}
 use Rattle.bag_facts.specs.declared.manifest.Manifest.{Manifest}
@@ -47,25 +45,25 @@ use Rattle.bag_stages.proofs.LeftOut.{by_all, by_one, left_out_by, not_both}
 use Rattle.bag_stages.proofs.ManifestFaults.{names_entry, entry_names}
 use Rattle.bag_stages.proofs.Sorted.{sorted_together}
 
-reason_stage : (rules : Rules) (c : Code) → IsReasonCode rules c → stage c ≡ 4
-reason_stage rules FetchLine is = refl
-reason_stage rules FetchEscape is = refl
-reason_stage rules FetchUnsafePath is = refl
-reason_stage rules FetchOutsidePayload is = refl
-reason_stage rules other is = absurd is
+reason_stage : (bag : Bag) (c : Code) → IsReasonCode (rules_in bag) c → stage c ≡ 4
+reason_stage bag FetchLine is = refl
+reason_stage bag FetchEscape is = refl
+reason_stage bag FetchUnsafePath is = refl
+reason_stage bag FetchOutsidePayload is = refl
+reason_stage bag other is = absurd is
 
 -- what is wrong with a text is found at the fourth stage
-text_stage : (rules : Rules) (c : Code) (bytes : List ℕ) (x : LineFault) → is_utf8 bytes ≡ true → FetchFault rules c bytes x → stage c ≡ 4
-text_stage rules NotUtf8 bytes x text h = let clash : true ≡ false = sym text ∙ h.2 in cc
-text_stage rules c bytes x text h = reason_stage rules c (reason_code rules h.0 (c, x.detail) h.2.1)
+text_stage : (bag : Bag) (c : Code) (bytes : List ℕ) (x : LineFault) → is_utf8 bytes ≡ true → FetchFault (rules_in bag) c bytes x → stage c ≡ 4
+text_stage bag NotUtf8 bytes x text h = let clash : true ≡ false = sym text ∙ h.2 in cc
+text_stage bag c bytes x text h = reason_stage bag c (reason_code (rules_in bag) h.0 (c, x.detail) h.2.1)
 
 -- bytes that aren't UTF-8 are of the second stage
 other_stage : stage NotUtf8 ≡ 4 → ⊥
 other_stage e = omega (arith, e)
 
-line_code : (rules : Rules) (c : Code) (bytes : List ℕ) (x : LineFault) → stage c ≡ 4 → FetchFault rules c bytes x → IsReasonCode rules c
-line_code rules NotUtf8 bytes x s h = absurd (other_stage s)
-line_code rules c bytes x s h = reason_code rules h.0 (c, x.detail) h.2.1
+line_code : (bag : Bag) (c : Code) (bytes : List ℕ) (x : LineFault) → stage c ≡ 4 → FetchFault (rules_in bag) c bytes x → IsReasonCode (rules_in bag) c
+line_code bag NotUtf8 bytes x s h = absurd (other_stage s)
+line_code bag c bytes x s h = reason_code (rules_in bag) h.0 (c, x.detail) h.2.1
 
 -- what the codes of the stage say
 module _ (bag : Bag) (f : Fault) where
@@ -128,7 +126,7 @@ module _ (bag : Bag) (f : Fault) where
 
   pub some_is : IsOfLine ⊎ IsNotListed bag f → IsOfFetch bag f
   unfolding IsOfFetch FetchHolds
-  some_is (inl h) = line_row f.code (line_code (rules_in bag) f.code h.0.2.0 (in_line f) h.1 h.0.2.2) h.0
+  some_is (inl h) = line_row f.code (line_code bag f.code h.0.2.0 (in_line f) h.1 h.0.2.2) h.0
   some_is (inr h) = subst (FetchHolds bag f) (sym (listed_code h)) (listed_holds h)
 
 pub fetch_of_stage_four : FetchFaultsAreOfStageFour
@@ -229,7 +227,7 @@ module _ (bag : Bag) where
   pub lines_listed : (bytes : List ℕ) (lines : List LineFault) → file bag fetch_txt ≡ Some bytes → is_utf8 bytes ≡ true → AreFaults (IsFetchFault (rules_in bag) bytes) lines
       → IsListOf fault_cmp (IsOfLine bag) (map (in_file fetch_txt None) lines)
   lines_listed bytes lines there text list =
-      let stages : (x : LineFault) → IsFetchFault (rules_in bag) bytes x → stage x.code ≡ 4 = λ x h. text_stage (rules_in bag) x.code bytes x text h in
+      let stages : (x : LineFault) → IsFetchFault (rules_in bag) bytes x → stage x.code ≡ 4 = λ x h. text_stage bag x.code bytes x text h in
       same_members fault_cmp _ _ (map (in_file fetch_txt None) lines)
       (λ f h. ((h.0, h.1, (bytes, there, h.2)), stages (in_line f) h.2))
       (λ f h.
@@ -238,16 +236,16 @@ module _ (bag : Bag) where
       (listed_in_file fetch_txt None 4 (IsFetchFault (rules_in bag) bytes) lines stages list)
 
   -- by the rules of the bag one manifest's faults are asked for, or those of all
-  pub listed_by_one : (faults : List Fault) → rules_in bag ≡ V10 → IsListOf fault_cmp (IsNotInSome bag) faults → IsListOf fault_cmp (IsNotListed bag) faults
+  pub listed_by_one : (faults : List Fault) → IsByV10 bag → IsListOf fault_cmp (IsNotInSome bag) faults → IsListOf fault_cmp (IsNotListed bag) faults
   listed_by_one faults by list =
       same_members fault_cmp _ _ faults (λ f h. inl (by, h)) (λ f h. elim h [ inl one ↦ one.1 | inr all ↦ absurd (not_both (rules_in bag) by all.0) ]) list
 
-  pub listed_by_all : (faults : List Fault) → rules_in bag ≡ V097 → IsListOf fault_cmp (IsNotInAny bag) faults → IsListOf fault_cmp (IsNotListed bag) faults
+  pub listed_by_all : (faults : List Fault) → IsByV097 bag → IsListOf fault_cmp (IsNotInAny bag) faults → IsListOf fault_cmp (IsNotListed bag) faults
   listed_by_all faults by list =
       same_members fault_cmp _ _ faults (λ f h. inr (by, h)) (λ f h. elim h [ inl one ↦ absurd (not_both (rules_in bag) one.0 by) | inr all ↦ all.1 ]) list
 
   lines_apart : (f : Fault) → IsOfLine bag f → IsNotListed bag f → ⊥
-  lines_apart f h k = subst (IsReasonCode (rules_in bag)) (listed_code bag f k) (line_code (rules_in bag) f.code h.0.2.0 (in_line f) h.1 h.0.2.2)
+  lines_apart f h k = subst (IsReasonCode (rules_in bag)) (listed_code bag f k) (line_code bag f.code h.0.2.0 (in_line f) h.1 h.0.2.2)
 
   -- the faults of the lines and those of the manifests, sorted
   pub fetch_listed : (of_lines of_manifests all : List Fault) → IsListOf fault_cmp (IsOfLine bag) of_lines → IsListOf fault_cmp (IsNotListed bag) of_manifests

@@ -3,7 +3,6 @@ use Rattle.std.proofs.Common.{◌≡◌, ◌⊎◌, ℕ, List, Bool, true, false
 use Rattle.std.specs.List.{enumerate_from}
 use Rattle.std.specs.Str.{is_utf8}
 use Rattle.bag_text.specs.Lines.{lines_of_file}
-use Rattle.bag_text.specs.declared.rules.Rules.TheVariants.{V10, V097}
 use Rattle.bag_text.specs.declared.alg.Alg.{Alg}
 use Rattle.bag_text.specs.declared.code.Code.TheVariants.{FetchNotInManifest}
 use Rattle.bag_read.specs.FetchVerdict.{entries, faults}
@@ -12,7 +11,7 @@ use Rattle.bag_read.specs.declared.fetch.FetchEntry.{FetchEntry}
 use Rattle.bag_read.proofs.FetchFaults.{entries_of_lines, faults_of_text}
 use Rattle.bag_tree.specs.Bag.{Bag, file}
 use Rattle.bag_facts.specs.declared.fault.Fault.{Fault}
-use Rattle.bag_facts.specs.Facts.{rules_in}
+use Rattle.bag_facts.specs.Facts.{rules_in, IsByV10, IsByV097}
 use Rattle.bag_stages.specs.FaultFields.{in_file}
 use Rattle.bag_stages.specs.FetchFaults.{IsNotInAny, IsNotInManifest, IsNotInSome, IsNotListed, not_in_manifest}
 use Rattle.bag_stages.specs.FetchStage.{fetch_txt, FetchFaultsAreListed, HasFetch, IsOfFetch}
@@ -93,8 +92,8 @@ module _ (bag : Bag) where
 
   not_listed : HasList (IsNotListed bag)
   not_listed =
-      either _ _ (where_so (rules_in bag ≡ V10) (IsNotInSome bag) (v10_or_not (rules_in bag)) (over_algs (IsNotInManifest bag) of_alg))
-      (where_so (rules_in bag ≡ V097) (IsNotInAny bag) (v097_or_not (rules_in bag)) in_any)
+      either _ _ (where_so (IsByV10 bag) (IsNotInSome bag) (v10_or_not (rules_in bag)) (over_algs (IsNotInManifest bag) of_alg))
+      (where_so (IsByV097 bag) (IsNotInAny bag) (v097_or_not (rules_in bag)) in_any)
 
 pub fetch_faults_are_listed : FetchFaultsAreListed
 fetch_faults_are_listed bag =

@@ -10,7 +10,6 @@ use Rattle.bag_text.specs.Alg.{algs, rank_cmp}
 use Rattle.bag_text.specs.Code.{stage}
 use Rattle.bag_text.specs.Order.{IsListOf, IsOnly}
 use Rattle.bag_text.specs.Text.{text_cmp}
-use Rattle.bag_text.specs.declared.rules.Rules.{Rules}
 use Rattle.bag_text.specs.declared.alg.Alg.{Alg}
 use Rattle.bag_text.proofs.AlgSets.{each_is_listed, list_ascends}
 use Rattle.bag_text.proofs.ListOf.{nothing_listed, only_listed, same_members}
@@ -43,18 +42,18 @@ IsOfAlg bag path kind alg f =
     (entry : ManifestEntry) × (content : List ℕ) × IsEntryIn bag kind alg entry × (entry.path ≡ path) × (file bag path ≡ Some content)
     × (entry.digest ≢ digest alg content) × (f ≡ fault_of_sum kind alg entry (digest alg content))
 
-entries_by : (rules : Rules) (kind : Kind) (alg : Alg) (content : Option (List ℕ)) (entries : List ManifestEntry) → AreEntriesOf rules kind alg content entries
-    → IsListOf (on (λ e. e.path) text_cmp) (IsEntry rules kind alg (lines_or_none content)) entries
-entries_by rules kind alg None entries none =
-    subst (IsListOf (on (λ e. e.path) text_cmp) (IsEntry rules kind alg (lines_or_none None))) (sym none)
-    (nothing_listed _ (IsEntry rules kind alg (lines_or_none None)) (λ e h. let clash : None ≡ Some h.0 = h.1.1 in cc))
-entries_by rules kind alg (Some bytes) entries list = list
+entries_by : (bag : Bag) (kind : Kind) (alg : Alg) (content : Option (List ℕ)) (entries : List ManifestEntry) → AreEntriesOf (rules_in bag) kind alg content entries
+    → IsListOf (on (λ e. e.path) text_cmp) (IsEntry (rules_in bag) kind alg (lines_or_none content)) entries
+entries_by bag kind alg None entries none =
+    subst (IsListOf (on (λ e. e.path) text_cmp) (IsEntry (rules_in bag) kind alg (lines_or_none None))) (sym none)
+    (nothing_listed _ (IsEntry (rules_in bag) kind alg (lines_or_none None)) (λ e h. let clash : None ≡ Some h.0 = h.1.1 in cc))
+entries_by bag kind alg (Some bytes) entries list = list
 
 -- one manifest
 module _ (bag : Bag) (path : List ℕ) (kind : Kind) (alg : Alg) where
   module _ (entries : List ManifestEntry) (are : AreEntriesOf (rules_in bag) kind alg (file bag (manifest_of kind alg)) entries) where
     pub listed : IsListOf (on (λ e. e.path) text_cmp) (IsEntryIn bag kind alg) entries
-    listed = entries_by (rules_in bag) kind alg (file bag (manifest_of kind alg)) entries are
+    listed = entries_by bag kind alg (file bag (manifest_of kind alg)) entries are
 
     -- it doesn't name a path that no entry has
     pub not_named : ¬ (Contains (entry_paths entries) path) → ¬ (Names bag kind alg path)

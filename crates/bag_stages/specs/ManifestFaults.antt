@@ -13,7 +13,7 @@ use Rattle.bag_read.specs.declared.manifest.ManifestEntry.{ManifestEntry}
 use Rattle.bag_tree.specs.Bag.{Bag}
 use Rattle.bag_facts.specs.FaultAt.{of_path}
 use Rattle.bag_facts.specs.declared.fault.Fault.{Fault}
-use Rattle.bag_facts.specs.Facts.{rules_in}
+use Rattle.bag_facts.specs.Facts.{rules_in, IsByV10}
 use Rattle.bag_facts.specs.TagFacts.{entry_paths}
 use Rattle.bag_stages.specs.FaultFields.{At, InFile}
 use Rattle.bag_stages.specs.TagFiles.{manifest_of, HasManifest, HasSupported, Names}
@@ -44,7 +44,7 @@ IsUnnamedBy rules path alg entries files f = (rules ≡ V10) × IsUnnamedAmong p
 abbrev pub IsUnlisted : Bag → Kind → Alg → Fault → Type 0
 IsUnlisted bag Payload alg f = ⊥
 IsUnlisted bag Tag alg f =
-    (rules_in bag ≡ V10) × (f.code ≡ PayloadManifestNotListed)
+    IsByV10 bag × (f.code ≡ PayloadManifestNotListed)
     × ((other : List ℕ) × At f (manifest_of Tag alg) (Some alg) 0 (manifest_name Payload other)
     × HasSupported bag Tag alg × HasManifest bag Payload other × ¬ (Names bag Tag alg (manifest_name Payload other)))
 
