@@ -1,8 +1,6 @@
 -- The faults of manifests, one manifest at a time.
 use Rattle.std.specs.Prelude.{ℕ, ◌≡◌, ◌⊎◌, true, List, Some, Contains}
 use Rattle.bag_text.specs.Code.{stage}
-use Rattle.bag_text.specs.declared.rules.Rules.{Rules}
-use Rattle.bag_text.specs.declared.rules.Rules.TheVariants.{V10}
 use Rattle.bag_text.specs.declared.alg.Alg.{Alg}
 use Rattle.bag_text.specs.declared.code.Code.TheVariants.{PayloadManifestNotListed}
 use Rattle.bag_read.specs.Manifest.{IsManifestFault}
@@ -35,9 +33,9 @@ IsUnnamedFault path alg entries f = (f ≡ unnamed path alg f.detail) × IsUnnam
 abbrev pub IsUnnamedAmong : List ℕ → Alg → List ManifestEntry → List (List ℕ) → Fault → Type 0
 IsUnnamedAmong path alg entries files f = Contains files f.detail × IsUnnamedFault path alg entries f
 
--- those faults by the rules: those of 0.97 ask for no name
-abbrev pub IsUnnamedBy : Rules → List ℕ → Alg → List ManifestEntry → List (List ℕ) → Fault → Type 0
-IsUnnamedBy rules path alg entries files f = (rules ≡ V10) × IsUnnamedAmong path alg entries files f
+-- those faults that the bag's rules ask for: those of 0.97 ask for no name
+abbrev pub IsAskedUnnamed : Bag → List ℕ → Alg → List ManifestEntry → List (List ℕ) → Fault → Type 0
+IsAskedUnnamed bag path alg entries files f = IsByV10 bag × IsUnnamedAmong path alg entries files f
 
 -- a tag manifest names the payload manifests that are there, by the rules of 1.0 alone, and a payload manifest needs to name
 -- none
