@@ -19,7 +19,7 @@ use Rattle.bag_profile.specs.declared.terms.Serialization.TheVariants.{Required}
 use Rattle.bag_stages.specs.FaultFields.{At}
 use Rattle.bag_facts.specs.Facts.{rules_in}
 use Rattle.bag_stages.specs.HasList.{HasList}
-use Rattle.bag_stages.specs.Metadata.{bag_info_txt, HasElement, HasLater, IsElementOf}
+use Rattle.bag_stages.specs.Metadata.{bag_info_txt, HasElement, HasLater}
 use Rattle.bag_stages.specs.MetadataStage.{pair}
 use Rattle.bag_stages.specs.TagFiles.{bagit_txt, lines_in, HasManifest}
 use Rattle.bag_stages.proofs.BagLists.{files_listed, manifests_listed}
@@ -46,7 +46,7 @@ module _ (bag : Bag) where
   IsBefore label line d = HasElement bag label d × (d.line < line)
 
   abbrev HasBefore : List ℕ → ℕ → Type 0
-  HasBefore label line = (d : Element) × IsElementOf (rules_in bag) label (lines_in bag bag_info_txt) d × (d.line < line)
+  HasBefore label line = (d : Element) × HasElement bag label d × (d.line < line)
 
   before_or_not : (label : List ℕ) (line : ℕ) → Decided (HasBefore label line)
   before_or_not label line =

@@ -21,11 +21,12 @@ use Rattle.bag_profile.specs.Profile.{Profile}
 use Rattle.bag_profile.specs.declared.label.LabelRule.{LabelRule}
 use Rattle.bag_stages.specs.Metadata.{bag_info_txt}
 use Rattle.bag_stages.specs.TagFiles.{lines_in, lines_or_none}
+use Rattle.bag_stages.proofs.FaultFields.{made_of}
 use Rattle.bag_stages.proofs.OxumFaults.{by_line}
 use Rattle.bag_conformance.specs.ConformanceFaults.{AreAll, IsOfElements}
 use Rattle.bag_conformance.specs.ConformanceStage.{LacksIdentifier, LacksLabel, RepeatsLabel, HasOtherValue, identifier_label}
 use Rattle.bag_conformance.specs.ElementFaults.{lent, labelled, in_info, has_value, identifier_faults, rule_faults, rules_faults, element_faults}
-use Rattle.bag_conformance.proofs.LabelRule.{AreOf, IsOfRule, fields, with_fields, the_one, rule_faults_are}
+use Rattle.bag_conformance.proofs.LabelRule.{AreOf, IsOfRule, fields, the_one, rule_faults_are}
 
 -- the members of lists that are joined
 module _ {X A : Type 0} (g : X → List A) where
@@ -95,7 +96,7 @@ module _ (bag : Bag) where
           λ d h is. let clash : false ≡ true = sym e ∙ any_from (has_value profile.identifier) naming d ((list.members d).1 h) ((bytes_eq-Decides d.value profile.identifier).1 is) in cc,
         ),
       ),
-      λ h. subst (Contains (in_info ProfileIdentifier 0 profile.identifier ∷ [])) (sym (with_fields f ProfileIdentifier 0 profile.identifier h.0 h.1.0))
+      λ h. subst (Contains (in_info ProfileIdentifier 0 profile.identifier ∷ [])) (sym (made_of f ProfileIdentifier bag_info_txt None 0 profile.identifier h.0 h.1.0))
           (contains_first (in_info ProfileIdentifier 0 profile.identifier) []),
     )
 

@@ -4,9 +4,10 @@ use Rattle.std.specs.List.Sorted.{IsPermutation}
 use Rattle.std.proofs.lemmas.List.Sorted.{IsPermutation-sym, Contains-permutation}
 use Rattle.bag_text.specs.declared.code.Code.{Code}
 use Rattle.bag_text.proofs.ListOf.{contains_back, contains_cases, contains_either, contains_first, contains_front, contains_nothing}
+use Rattle.bag_facts.specs.FaultAt.{of_path}
 use Rattle.bag_facts.specs.declared.fault.Fault.{Fault}
 use Rattle.bag_facts.proofs.Mapped.{take_one_more, taken_cases}
-use Rattle.bag_stages.specs.FaultFields.{At, of_whole}
+use Rattle.bag_stages.specs.FaultFields.{At}
 use Rattle.bag_stages.proofs.ByPath.{take_whole}
 use Rattle.bag_stages.proofs.Sorted.{either_listed}
 use Rattle.bag_conformance.specs.ConformanceFaults.{AreAll}
@@ -36,8 +37,8 @@ one_all P faults x made is only f =
       (λ p. subst (Contains (x ∷ [])) (sym (only f p)) (contains_first x [])),
     )
 
--- a fault of a whole file has these fields, and one with these fields is that
-pub whole_at : (f : Fault) (code : Code) (path : List ℕ) → f ≡ of_whole code path [] → At f path None 0 []
+-- a fault of a path has these fields
+pub whole_at : (f : Fault) (code : Code) (path : List ℕ) → f ≡ of_path code path None [] → At f path None 0 []
 whole_at f code path e = record {
   path_is = ap (λ (x : Fault). x.path) e;
   alg_is = ap (λ (x : Fault). x.alg) e;
@@ -45,11 +46,8 @@ whole_at f code path e = record {
   detail_is = ap (λ (x : Fault). x.detail) e;
 }
 
-pub code_at : (f : Fault) (code : Code) (path : List ℕ) → f ≡ of_whole code path [] → f.code ≡ code
+pub code_at : (f : Fault) (code : Code) (path : List ℕ) → f ≡ of_path code path None [] → f.code ≡ code
 code_at f code path e = ap (λ (x : Fault). x.code) e
-
-pub at_whole : (f : Fault) (code : Code) (path : List ℕ) → f.code ≡ code → At f path None 0 [] → f ≡ of_whole code path []
-at_whole f code path e at = λ i. record { code = e i; path = at.path_is i; alg = at.alg_is i; line = at.line_is i; detail = at.detail_is i }
 
 module _ {I : Type 0} (fault_of : I → Fault) (Holds : I → Type 0) where
   -- the faults of those of these items of which it holds

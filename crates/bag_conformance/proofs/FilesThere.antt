@@ -1,13 +1,13 @@
 -- Faults that files are there: of listed files, they are those of the bag's files.
-use Rattle.std.proofs.Common.{◌≡◌, ℕ, List, [], sym, ap, ◌∙◌, subst}
+use Rattle.std.proofs.Common.{None, ◌≡◌, ℕ, List, [], sym, ap, ◌∙◌, subst}
 use Rattle.bag_text.specs.declared.code.Code.{Code}
 use Rattle.bag_tree.specs.Bag.{Bag, HasFile}
 use Rattle.bag_tree.specs.declared.listing.FileEntry.{FileEntry}
+use Rattle.bag_facts.specs.FaultAt.{of_path}
 use Rattle.bag_facts.specs.declared.fault.Fault.{Fault}
 use Rattle.bag_facts.specs.TagReader.{AreListed}
 use Rattle.bag_facts.proofs.ListedFiles.{file_listed, listed_file}
 use Rattle.bag_facts.proofs.Mapped.{contains_mapped, mapped_contains}
-use Rattle.bag_stages.specs.FaultFields.{of_whole}
 use Rattle.bag_conformance.specs.ConformanceFaults.{AreAll}
 use Rattle.bag_conformance.proofs.FaultSets.{FaultsOf, same_all}
 
@@ -16,14 +16,14 @@ path_of entry = entry.path
 
 module _ (code : Code) (Holds : List ℕ → Type 0) where
   abbrev pub fault_of : FileEntry → Fault
-  fault_of entry = of_whole code entry.path []
+  fault_of entry = of_path code entry.path None []
 
   abbrev pub HoldsOf : FileEntry → Type 0
   HoldsOf entry = Holds entry.path
 
   -- the fault of a file of the bag of which it holds
   abbrev pub IsOfFile : Bag → Fault → Type 0
-  IsOfFile bag f = (path : List ℕ) × HasFile bag path × (f ≡ of_whole code path []) × Holds path
+  IsOfFile bag f = (path : List ℕ) × HasFile bag path × (f ≡ of_path code path None []) × Holds path
 
   module _ (bag : Bag) (files : List FileEntry) (listed : AreListed bag files) where
     to_file : (f : Fault) → FaultsOf fault_of HoldsOf files f → IsOfFile bag f
@@ -32,7 +32,7 @@ module _ (code : Code) (Holds : List ℕ → Type 0) where
     from_file : (f : Fault) → IsOfFile bag f → FaultsOf fault_of HoldsOf files f
     from_file f h =
         let there = contains_mapped path_of files h.0 (file_listed bag files h.0 listed h.1) in
-        (there.0, there.1, h.2 ∙ ap (λ path. of_whole code path []) (sym there.2), subst Holds (sym there.2) h.3)
+        (there.0, there.1, h.2 ∙ ap (λ path. of_path code path None []) (sym there.2), subst Holds (sym there.2) h.3)
 
     pub files_all : (faults : List Fault) → AreAll (FaultsOf fault_of HoldsOf files) faults → AreAll (IsOfFile bag) faults
     files_all faults all = same_all (FaultsOf fault_of HoldsOf files) (IsOfFile bag) faults to_file from_file all

@@ -1,24 +1,23 @@
 -- The faults of one code, of those items of a set of which something holds.
 use Rattle.std.proofs.Common.{◌≡◌, ℕ, List, None, refl, sym, subst}
 use Rattle.bag_text.specs.declared.code.Code.{Code}
+use Rattle.bag_facts.specs.FaultAt.{of_line}
 use Rattle.bag_facts.specs.declared.fault.Fault.{Fault}
 use Rattle.bag_stages.specs.FaultFields.{At}
+use Rattle.bag_stages.proofs.FaultFields.{made_of}
 use Rattle.bag_stages.specs.HasList.{HasList}
 use Rattle.bag_stages.proofs.HasLists.{Decided, only, one_where, same_set, for_each}
 
 module _ (code : Code) where
   abbrev fault : List ℕ → ℕ → List ℕ → Fault
-  fault path line detail = record { code = code; path = path; alg = None; line = line; detail = detail }
-
-  is_fault : (f : Fault) (path detail : List ℕ) (line : ℕ) → f.code ≡ code → At f path None line detail → f ≡ fault path line detail
-  is_fault f path detail line e at = λ i. record { code = e i; path = at.path_is i; alg = at.alg_is i; line = at.line_is i; detail = at.detail_is i }
+  fault path line detail = of_line code path None line detail
 
   -- one fault, where this holds
   pub of_one : (path : List ℕ) (line : ℕ) (detail : List ℕ) (D : Type 0) → Decided D → HasList (λ f. (f.code ≡ code) × (At f path None line detail × D))
   of_one path line detail D decided =
       same_set (λ f. D × (f ≡ fault path line detail)) (λ f. (f.code ≡ code) × (At f path None line detail × D))
       (λ f h. subst (λ g. (g.code ≡ code) × (At g path None line detail × D)) (sym h.1) (refl, (record { path_is = refl; alg_is = refl; line_is = refl; detail_is = refl }, h.0)))
-      (λ f h. (h.1.1, is_fault f path detail line h.0 h.1.0))
+      (λ f h. (h.1.1, made_of f code path None line detail h.0 h.1.0))
       (one_where (fault path line detail) D decided)
 
   module _ {I : Type 0} (path : I → List ℕ) (line : I → ℕ) (detail : I → List ℕ) where
@@ -28,5 +27,5 @@ module _ (code : Code) where
         same_set (λ f. (i : I) × Q i × (f ≡ fault (path i) (line i) (detail i))) (λ f. (f.code ≡ code) × ((i : I) × At f (path i) None (line i) (detail i) × Q i))
         (λ f h. subst (λ g. (g.code ≡ code) × ((i : I) × At g (path i) None (line i) (detail i) × Q i)) (sym h.2)
         (refl, (h.0, record { path_is = refl; alg_is = refl; line_is = refl; detail_is = refl }, h.1)))
-        (λ f h. (h.1.0, h.1.2, is_fault f (path h.1.0) (detail h.1.0) (line h.1.0) h.0 h.1.1))
+        (λ f h. (h.1.0, h.1.2, made_of f code (path h.1.0) None (line h.1.0) (detail h.1.0) h.0 h.1.1))
         (for_each (λ i f. f ≡ fault (path i) (line i) (detail i)) (λ i. only _ (fault (path i) (line i) (detail i)) refl (λ g e. e)) Q items)

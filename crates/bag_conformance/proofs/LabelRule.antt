@@ -21,15 +21,13 @@ use Rattle.bag_profile.specs.declared.label.LabelRule.{LabelRule}
 use Rattle.bag_stages.specs.FaultFields.{At}
 use Rattle.bag_stages.specs.Metadata.{bag_info_txt, HasElement, HasLater}
 use Rattle.bag_stages.specs.MetadataStage.{pair}
+use Rattle.bag_stages.proofs.FaultFields.{made_of}
 use Rattle.bag_stages.proofs.OxumFaults.{by_line}
 use Rattle.bag_conformance.specs.ElementFaults.{in_info, later_fault, allows, required_faults, repeated_faults, has_other, value_fault, value_faults, rule_faults}
 
--- the fields of a fault of the file, and the fault that has them
+-- the fields of a fault of the file
 pub fields : (code : Code) (line : ℕ) (detail : List ℕ) → At (in_info code line detail) bag_info_txt None line detail
 fields code line detail = record { path_is = refl; alg_is = refl; line_is = refl; detail_is = refl }
-
-pub with_fields : (f : Fault) (code : Code) (line : ℕ) (detail : List ℕ) → f.code ≡ code → At f bag_info_txt None line detail → f ≡ in_info code line detail
-with_fields f code line detail e at = λ i. record { code = e i; path = at.path_is i; alg = at.alg_is i; line = at.line_is i; detail = at.detail_is i }
 
 pub the_one : {A : Type 0} (x y : A) → Contains (x ∷ []) y → x ≡ y
 the_one x y c = elim (contains_cases x [] y c) [ inl e ↦ e | inr d ↦ absurd (contains_nothing y d) ]
@@ -108,7 +106,7 @@ module _ (bag : Bag) where
     lacking_by : (b : Bool) → rule.required ≡ b → ((e : Element) → ¬ (HasElement bag rule.label e)) → (f : Fault) → Contains (cond b (in_info LabelRequired 0 rule.label ∷ []) []) f ↔ Lacks f
     lacking_by true e none f = (
       λ c. subst Lacks (the_one _ f c) (refl, fields LabelRequired 0 rule.label, e, none),
-      λ h. subst (Contains (in_info LabelRequired 0 rule.label ∷ [])) (sym (with_fields f LabelRequired 0 rule.label h.0 h.1)) (contains_first (in_info LabelRequired 0 rule.label) []),
+      λ h. subst (Contains (in_info LabelRequired 0 rule.label ∷ [])) (sym (made_of f LabelRequired bag_info_txt None 0 rule.label h.0 h.1)) (contains_first (in_info LabelRequired 0 rule.label) []),
     )
     lacking_by false e none f = (λ c. absurd (contains_nothing f c), λ h. let clash : false ≡ true = sym e ∙ h.2 in cc)
 
@@ -122,7 +120,7 @@ module _ (bag : Bag) where
     repeated_by false (first ∷ later) e list f = (
       λ c. let at = contains_mapped (later_fault rule.label) later f c in
           subst Repeats at.2 (refl, (at.0, fields LabelRepeated at.0.line rule.label, e, later_is rule.label first later list at.0 at.1)),
-      λ h. subst (Contains (map (later_fault rule.label) later)) (sym (with_fields f LabelRepeated h.1.0.line rule.label h.0 h.1.1))
+      λ h. subst (Contains (map (later_fault rule.label) later)) (sym (made_of f LabelRepeated bag_info_txt None h.1.0.line rule.label h.0 h.1.1))
           (mapped_contains (later_fault rule.label) later h.1.0 (behind_first rule.label first later list h.1.0 h.1.3)),
     )
 
@@ -133,7 +131,7 @@ module _ (bag : Bag) where
           let other = forbidden rule.values at.0.value (negated (allows rule.values at.0.value) is.0) in
           subst Differs at.2 (refl, (at.0, fields ValueNotAllowed at.0.line (pair rule.label at.0.value), other.0, (list.members at.0).0 is.1, other.1)),
       λ h. let e : Element = h.1.0 in
-          subst (Contains (value_faults rule found)) (sym (with_fields f ValueNotAllowed e.line (pair rule.label e.value) h.0 h.1.1))
+          subst (Contains (value_faults rule found)) (sym (made_of f ValueNotAllowed bag_info_txt None e.line (pair rule.label e.value) h.0 h.1.1))
           (mapped_contains (value_fault rule) (filter (has_other rule) found) e
           (passed (has_other rule) found e (ap not (not_allowed rule.values e.value h.1.2 h.1.4)) ((list.members e).1 h.1.3))),
     )

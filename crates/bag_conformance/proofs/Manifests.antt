@@ -7,18 +7,19 @@ use Rattle.bag_read.specs.ManifestName.{is_alg_text, manifest_name}
 use Rattle.bag_read.specs.declared.kind.Kind.{Kind}
 use Rattle.bag_tree.specs.Bag.{Bag, HasFile}
 use Rattle.bag_tree.specs.declared.listing.FileEntry.{FileEntry}
+use Rattle.bag_facts.specs.FaultAt.{of_path}
 use Rattle.bag_facts.specs.declared.fault.Fault.{Fault}
 use Rattle.bag_facts.specs.TagReader.{AreListed}
 use Rattle.bag_profile.specs.Profile.{Profile}
 use Rattle.bag_profile.specs.declared.rule.ListRule.{ListRule}
-use Rattle.bag_stages.specs.FaultFields.{of_whole}
+use Rattle.bag_stages.proofs.FaultFields.{made_of}
 use Rattle.bag_stages.specs.TagFiles.{HasManifest}
 use Rattle.bag_stages.proofs.PartFaults.{one_alg}
 use Rattle.bag_conformance.specs.ConformanceFaults.{AreAll, required_code, other_code}
 use Rattle.bag_conformance.specs.ConformanceStage.{allowed_manifests, required_manifests, LacksManifest, HasOtherManifest}
 use Rattle.bag_conformance.specs.NotAllowed.{IsOtherManifest}
 use Rattle.bag_conformance.specs.ProfileRules.{Excludes, Lists}
-use Rattle.bag_conformance.proofs.FaultSets.{FaultsOf, same_all, whole_at, code_at, at_whole}
+use Rattle.bag_conformance.proofs.FaultSets.{FaultsOf, same_all, whole_at, code_at}
 use Rattle.bag_conformance.proofs.FilesThere.{fault_of, HoldsOf, IsOfFile, files_all}
 
 -- the names of the list of a kind
@@ -28,7 +29,7 @@ listed_as profile kind required rule is are = subst (λ r. (name : List ℕ) →
 
 module _ (bag : Bag) (profile : Profile) (kind : Kind) where
   abbrev pub lacking_fault : List ℕ → Fault
-  lacking_fault name = of_whole (required_code kind) (manifest_name kind name) []
+  lacking_fault name = of_path (required_code kind) (manifest_name kind name) None []
 
   abbrev pub IsLacking : List ℕ → Type 0
   IsLacking name = ¬ (HasManifest bag kind name)
@@ -46,7 +47,7 @@ module _ (bag : Bag) (profile : Profile) (kind : Kind) where
       (code_at f (required_code kind) path h.2, (h.0, whole_at f (required_code kind) path h.2, (are h.0).0 h.1, h.3)))
       (λ f h.
       let name = h.1.0 in
-      (name, (are name).1 h.1.2, at_whole f (required_code kind) (manifest_name kind name) h.0 h.1.1, h.1.3))
+      (name, (are name).1 h.1.2, made_of f (required_code kind) (manifest_name kind name) None 0 [] h.0 h.1.1, h.1.3))
       all
 
   abbrev pub HasOther : Fault → Type 0
@@ -62,7 +63,7 @@ module _ (bag : Bag) (profile : Profile) (kind : Kind) where
         code_at f (other_code kind) h.0 h.2,
         (
           alg,
-          whole_at f (other_code kind) (manifest_name kind alg) (h.2 ∙ ap (λ p. of_whole (other_code kind) p []) other.2),
+          whole_at f (other_code kind) (manifest_name kind alg) (h.2 ∙ ap (λ p. of_path (other_code kind) p None []) other.2),
           (other.1, subst (HasFile bag) other.2 h.1),
           other.3,
         ),
@@ -72,7 +73,7 @@ module _ (bag : Bag) (profile : Profile) (kind : Kind) where
   from_other f h =
       let alg = h.1.0 in
       let path = manifest_name kind alg in
-      (path, h.1.2.1, at_whole f (other_code kind) path h.0 h.1.1, (alg, h.1.2.0, refl, h.1.3))
+      (path, h.1.2.1, made_of f (other_code kind) path None 0 [] h.0 h.1.1, (alg, h.1.2.0, refl, h.1.3))
 
   -- the files that may not be there
   pub other_all : (files : List FileEntry) (faults : List Fault) → AreListed bag files

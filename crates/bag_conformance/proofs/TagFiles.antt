@@ -1,23 +1,24 @@
 -- The faults of other tag files that are lacking, or may not be there.
-use Rattle.std.proofs.Common.{◌≡◌, ◌↔◌, ◌⊎◌, inl, inr, ℕ, List, [], ◌++◌, Contains, refl, sym, ap, subst}
+use Rattle.std.proofs.Common.{None, ◌≡◌, ◌↔◌, ◌⊎◌, inl, inr, ℕ, List, [], ◌++◌, Contains, refl, sym, ap, subst}
 use Rattle.bag_text.specs.declared.code.Code.TheVariants.{TagFileRequired, TagFileNotAllowed, FetchNotAllowed}
 use Rattle.bag_tree.specs.Bag.{Bag, HasFile}
 use Rattle.bag_tree.specs.declared.listing.FileEntry.{FileEntry}
+use Rattle.bag_facts.specs.FaultAt.{of_path}
 use Rattle.bag_facts.specs.declared.fault.Fault.{Fault}
 use Rattle.bag_facts.specs.TagReader.{AreListed}
 use Rattle.bag_profile.specs.Profile.{Profile}
 use Rattle.bag_profile.specs.declared.rule.ListRule.TheVariants.{TagFilesRequired}
-use Rattle.bag_stages.specs.FaultFields.{of_whole}
+use Rattle.bag_stages.proofs.FaultFields.{made_of}
 use Rattle.bag_conformance.specs.ConformanceFaults.{AreAll, IsOfTagFiles}
 use Rattle.bag_conformance.specs.ConformanceStage.{LacksTagFile, HasOtherTagFile, HasFetchFile}
 use Rattle.bag_conformance.specs.NotAllowed.{IsOtherTagFile}
 use Rattle.bag_conformance.specs.ProfileRules.{Lists}
-use Rattle.bag_conformance.proofs.FaultSets.{FaultsOf, same_all, both_all, whole_at, code_at, at_whole}
+use Rattle.bag_conformance.proofs.FaultSets.{FaultsOf, same_all, both_all, whole_at, code_at}
 use Rattle.bag_conformance.proofs.FilesThere.{fault_of, HoldsOf, IsOfFile, files_all}
 
 module _ (bag : Bag) (profile : Profile) where
   abbrev pub lacking_fault : List ℕ → Fault
-  lacking_fault path = of_whole TagFileRequired path []
+  lacking_fault path = of_path TagFileRequired path None []
 
   abbrev pub IsLacking : List ℕ → Type 0
   IsLacking path = ¬ (HasFile bag path)
@@ -43,7 +44,7 @@ module _ (bag : Bag) (profile : Profile) where
       → AreAll (FaultsOf lacking_fault IsLacking required) faults → AreAll Lacks faults
   lacking_all required faults are all =
       same_all (FaultsOf lacking_fault IsLacking required) Lacks faults (to_lacking required are)
-      (λ f h. (f.path, (are f.path).1 h.1.1, at_whole f TagFileRequired f.path h.0 h.1.0, h.1.2))
+      (λ f h. (f.path, (are f.path).1 h.1.1, made_of f TagFileRequired f.path None 0 [] h.0 h.1.0, h.1.2))
       all
 
   abbrev pub HasOther : Fault → Type 0
@@ -67,7 +68,7 @@ module _ (bag : Bag) (profile : Profile) where
       )
 
   from_other : (f : Fault) → HasOther f → IsOther f
-  from_other f h = (f.path, h.1.1, at_whole f TagFileNotAllowed f.path h.0 h.1.0, (h.1.2, h.1.3))
+  from_other f h = (f.path, h.1.1, made_of f TagFileNotAllowed f.path None 0 [] h.0 h.1.0, (h.1.2, h.1.3))
 
   -- the files that may not be there
   pub other_all : (files : List FileEntry) (faults : List Fault) → AreListed bag files

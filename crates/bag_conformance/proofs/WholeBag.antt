@@ -10,11 +10,12 @@ use Rattle.bag_profile.specs.declared.rule.ListRule.TheVariants.{AcceptBagItVers
 use Rattle.bag_profile.specs.declared.terms.Serialization.TheVariants.{Required}
 use Rattle.bag_stages.specs.FaultFields.{of_bag}
 use Rattle.bag_stages.specs.TagFiles.{bagit_txt}
+use Rattle.bag_stages.proofs.FaultFields.{made_of}
 use Rattle.bag_conformance.specs.ConformanceFaults.{AreAll, IsOfWhole}
 use Rattle.bag_conformance.specs.ConformanceStage.{HasOtherVersion, IsToBeSerialized}
 use Rattle.bag_conformance.specs.NotAllowed.{other_version}
 use Rattle.bag_conformance.specs.ProfileRules.{Excludes}
-use Rattle.bag_conformance.proofs.FaultSets.{same_all, both_all, none_all, one_all, whole_at, code_at, at_whole}
+use Rattle.bag_conformance.proofs.FaultSets.{same_all, both_all, none_all, one_all, whole_at, code_at}
 
 -- the version that a bag declares
 abbrev pub version_in : Option (List ℕ) → Option (List ℕ)
@@ -70,7 +71,7 @@ module _ (bag : Bag) (profile : Profile) where
     only_other : (x f : Fault) → x ≡ other_version version → HasOther f → f ≡ x
     only_other x f e h =
         let at = h.1.2 in
-        let one : f ≡ other_version h.1.1 = λ i. record { code = h.0 i; path = at.path_is i; alg = at.alg_is i; line = at.line_is i; detail = at.detail_is i } in
+        let one : f ≡ other_version h.1.1 = made_of f VersionNotAccepted bagit_txt None 1 h.1.1 h.0 at in
         one ∙ ap other_version (same_version f h) ∙ sym e
 
     -- that isn't
@@ -86,7 +87,7 @@ module _ (bag : Bag) (profile : Profile) where
   serialized_all of_version faults x of_others is made asks =
       both_all HasOther IsSerialized of_version (x ∷ []) faults made of_others
       (one_all IsSerialized (x ∷ []) x refl (code_at x SerializationRequired [] is, (whole_at x SerializationRequired [] is, asks))
-      (λ f h. at_whole f SerializationRequired [] h.0 h.1.0 ∙ sym is))
+      (λ f h. made_of f SerializationRequired [] None 0 [] h.0 h.1.0 ∙ sym is))
 
   -- and it doesn't
   pub folder_all : (of_version faults : List Fault) → AreAll HasOther of_version → faults ≡ of_version → profile.terms.serialization ≢ Required → AreAll (IsOfWhole bag profile) faults

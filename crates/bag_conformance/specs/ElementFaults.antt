@@ -6,6 +6,7 @@ use Rattle.bag_text.specs.Text.{same_label}
 use Rattle.bag_text.specs.declared.code.Code.{Code}
 use Rattle.bag_text.specs.declared.code.Code.TheVariants.{ProfileIdentifier, LabelRequired, LabelRepeated, ValueNotAllowed}
 use Rattle.bag_read.specs.declared.info.Element.{Element}
+use Rattle.bag_facts.specs.FaultAt.{of_line}
 use Rattle.bag_facts.specs.declared.fault.Fault.{Fault}
 use Rattle.bag_profile.specs.declared.label.LabelRule.{LabelRule}
 use Rattle.bag_stages.specs.Metadata.{bag_info_txt}
@@ -22,7 +23,7 @@ labelled label elements = filter (λ e. same_label e.label label) elements
 
 -- a fault in the file
 abbrev pub in_info : Code → ℕ → List ℕ → Fault
-in_info code line detail = record { code = code; path = bag_info_txt; alg = None; line = line; detail = detail }
+in_info code line detail = of_line code bag_info_txt None line detail
 
 abbrev pub has_value : List ℕ → Element → Bool
 has_value value e = bytes_eq e.value value

@@ -3,6 +3,7 @@ use Rattle.std.specs.Prelude.{ℕ, ◌≡◌, true, List, None}
 use Rattle.bag_text.specs.declared.code.Code.TheVariants.{VersionNotAccepted}
 use Rattle.bag_read.specs.ManifestName.{manifest_name, is_alg_text}
 use Rattle.bag_read.specs.declared.kind.Kind.{Kind}
+use Rattle.bag_facts.specs.FaultAt.{of_line}
 use Rattle.bag_facts.specs.declared.fault.Fault.{Fault}
 use Rattle.bag_profile.specs.Profile.{Profile}
 use Rattle.bag_profile.specs.declared.rule.ListRule.TheVariants.{TagFilesAllowed}
@@ -21,4 +22,4 @@ IsOtherTagFile profile path = IsFreeTagFile path × MatchesNone profile TagFiles
 
 -- the fault that a version isn't accepted
 abbrev pub other_version : List ℕ → Fault
-other_version version = record { code = VersionNotAccepted; path = bagit_txt; alg = None; line = 1; detail = version }
+other_version version = of_line VersionNotAccepted bagit_txt None 1 version

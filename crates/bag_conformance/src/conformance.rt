@@ -1,11 +1,9 @@
 //! Stage 8: what a profile asks of a bag.
-ghost use Rattle.std.specs.Prelude.{◌≡◌, ◌≢◌, ◌⊎◌, IfOk};
+ghost use Rattle.std.specs.Prelude.{◌≡◌, ◌⊎◌, IfOk};
 ghost use Rattle.bag_text.specs.Order.{IsListOf};
 ghost use Rattle.bag_read.specs.declared.kind.Kind.TheVariants.{Payload, Tag};
-ghost use Rattle.bag_tree.specs.Bag.{Bag};
 ghost use Rattle.bag_facts.specs.FaultOrder.{fault_cmp};
-ghost use Rattle.bag_facts.specs.Facts.{IsFactsOf};
-ghost use Rattle.bag_facts.specs.declared.options.Depth.TheVariants.{Declaration};
+ghost use Rattle.bag_facts.specs.Facts.{OfBag};
 ghost use Rattle.bag_conformance.specs.ConformanceFaults.{AreAll, IsOfKind};
 ghost use Rattle.bag_conformance.specs.ConformanceStage.{IsOfProfile};
 
@@ -25,8 +23,7 @@ pub fn conformance_faults(
     facts: &Facts,
     profile: &Profile,
 ) -> Result<Vec<Fault>, AllocError>
-    ensures { IfOk result (λ faults. (bag : Bag) → IsFactsOf bag facts.now → facts.now.options.depth ≢ Declaration
-        → IsListOf fault_cmp (IsOfProfile bag profile.now) faults.items) }
+    ensures { IfOk result (λ faults. OfBag facts.now (λ bag. IsListOf fault_cmp (IsOfProfile bag profile.now) faults.items)) }
 {
     let mut faults = faults_of_parts(alloc, facts, profile)?;
     // The faults of elements ascend already: a stable sort keeps such runs.
@@ -41,8 +38,7 @@ fn faults_of_parts(
     facts: &Facts,
     profile: &Profile,
 ) -> Result<Vec<Fault>, AllocError>
-    ensures { IfOk result (λ faults. (bag : Bag) → IsFactsOf bag facts.now → facts.now.options.depth ≢ Declaration
-        → AreAll (IsOfProfile bag profile.now) faults.items) }
+    ensures { IfOk result (λ faults. OfBag facts.now (λ bag. AreAll (IsOfProfile bag profile.now) faults.items)) }
 {
     let of_elements = element_faults(alloc, facts, profile)?;
     let of_manifests = faults_of_manifests(alloc, facts, profile)?;
@@ -59,8 +55,7 @@ fn faults_of_manifests(
     facts: &Facts,
     profile: &Profile,
 ) -> Result<Vec<Fault>, AllocError>
-    ensures { IfOk result (λ faults. (bag : Bag) → IsFactsOf bag facts.now → facts.now.options.depth ≢ Declaration
-        → AreAll (λ f. IsOfKind bag profile.now f Payload ⊎ IsOfKind bag profile.now f Tag) faults.items) }
+    ensures { IfOk result (λ faults. OfBag facts.now (λ bag. AreAll (λ f. IsOfKind bag profile.now f Payload ⊎ IsOfKind bag profile.now f Tag) faults.items)) }
 {
     let of_manifests = manifest_faults(alloc, facts, profile, Kind::Payload)?;
     let of_tag_manifests = manifest_faults(alloc, facts, profile, Kind::Tag)?;

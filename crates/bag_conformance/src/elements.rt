@@ -1,12 +1,10 @@
 //! What a profile asks of the elements of `bag-info.txt`.
-ghost use Rattle.std.specs.Prelude.{◌≡◌, ◌≢◌, IfOk};
+ghost use Rattle.std.specs.Prelude.{◌≡◌, IfOk};
 ghost use Rattle.std.specs.List.{AllByRecursion, list_any};
 ghost use Rattle.std.specs.Ordering.{nat_cmp, on};
 ghost use Rattle.bag_text.specs.Order.{IsListOf};
 ghost use Rattle.bag_read.specs.Info.{IsElement};
-ghost use Rattle.bag_tree.specs.Bag.{Bag};
-ghost use Rattle.bag_facts.specs.Facts.{rules_in, IsFactsOf};
-ghost use Rattle.bag_facts.specs.declared.options.Depth.TheVariants.{Declaration};
+ghost use Rattle.bag_facts.specs.Facts.{rules_in, OfBag};
 ghost use Rattle.bag_profile.specs.TextSet.{IsAscending};
 ghost use Rattle.bag_stages.specs.Metadata.{bag_info_txt};
 ghost use Rattle.bag_stages.specs.TagFiles.{lines_in};
@@ -31,8 +29,7 @@ pub(crate) fn element_faults(
     facts: &Facts,
     profile: &Profile,
 ) -> Result<Vec<Fault>, AllocError>
-    ensures { IfOk result (λ faults. (bag : Bag) → IsFactsOf bag facts.now → facts.now.options.depth ≢ Declaration
-        → AreAll (IsOfElements bag profile.now) faults.items) }
+    ensures { IfOk result (λ faults. OfBag facts.now (λ bag. AreAll (IsOfElements bag profile.now) faults.items)) }
 {
     let sorted = by_label(alloc, elements_of(facts))?;
     let naming = labelled(sorted.as_slice(), "BagIt-Profile-Identifier");
@@ -45,8 +42,7 @@ pub(crate) fn element_faults(
 
 /// The elements in line order; none where the file isn't there.
 fn elements_of(facts: &Facts) -> &[Element]
-    ensures { (bag : Bag) → IsFactsOf bag facts.now → facts.now.options.depth ≢ Declaration
-        → IsListOf (on (λ e. e.line) nat_cmp) (IsElement (rules_in bag) (lines_in bag bag_info_txt)) result.now }
+    ensures { OfBag facts.now (λ bag. IsListOf (on (λ e. e.line) nat_cmp) (IsElement (rules_in bag) (lines_in bag bag_info_txt)) result.now) }
 {
     match facts.metadata() {
         Some(metadata) => metadata.elements.as_slice(),

@@ -16,11 +16,5 @@ pub(crate) fn info_fault(
 ) -> Result<Fault, AllocError>
     ensures { IfOk result (λ fault. fault ≡ told.in_info code line detail) }
 {
-    Ok(Fault {
-        code,
-        path: TagName::Info.path(alloc)?,
-        alg: None,
-        line,
-        detail,
-    })
+    Ok(Fault::of_line(code, TagName::Info.path(alloc)?, None, line, detail))
 }

@@ -1,9 +1,8 @@
 //! What a profile asks of manifests, of any algorithm.
-ghost use Rattle.std.specs.Prelude.{◌≡◌, ◌≢◌, ◌↔◌, ℕ, List, IsTrue, IfOk};
+ghost use Rattle.std.specs.Prelude.{◌≡◌, ◌↔◌, ℕ, List, IsTrue, IfOk};
 ghost use Rattle.bag_read.specs.ManifestName.{manifest_name};
 ghost use Rattle.bag_tree.specs.Bag.{Bag};
-ghost use Rattle.bag_facts.specs.Facts.{IsFactsOf};
-ghost use Rattle.bag_facts.specs.declared.options.Depth.TheVariants.{Declaration};
+ghost use Rattle.bag_facts.specs.Facts.{IsFactsOf, OfBag};
 ghost use Rattle.bag_stages.specs.TagFiles.{HasManifest};
 ghost use Rattle.bag_conformance.specs.ConformanceFaults as kinds;
 ghost use Rattle.bag_conformance.specs.ConformanceFaults.{AreAll, IsOfKind};
@@ -28,8 +27,7 @@ pub(crate) fn manifest_faults(
     profile: &Profile,
     kind: Kind,
 ) -> Result<Vec<Fault>, AllocError>
-    ensures { IfOk result (λ faults. (bag : Bag) → IsFactsOf bag facts.now → facts.now.options.depth ≢ Declaration
-        → AreAll (λ f. IsOfKind bag profile.now f kind) faults.items) }
+    ensures { IfOk result (λ faults. OfBag facts.now (λ bag. AreAll (λ f. IsOfKind bag profile.now f kind) faults.items)) }
 {
     let lacking = lacking_manifests(alloc, facts, profile, kind)?;
     let others = other_manifests(alloc, facts, profile, kind)?;

@@ -1,9 +1,8 @@
 //! What a profile asks of tag files that are no manifests.
-ghost use Rattle.std.specs.Prelude.{◌≡◌, ◌≢◌, ◌↔◌, IsTrue, IfOk};
+ghost use Rattle.std.specs.Prelude.{◌≡◌, ◌↔◌, IsTrue, IfOk};
 ghost use Rattle.bag_text.specs.declared.code.Code.TheVariants.{TagFileRequired, TagFileNotAllowed, FetchNotAllowed};
 ghost use Rattle.bag_tree.specs.Bag.{Bag};
-ghost use Rattle.bag_facts.specs.Facts.{IsFactsOf};
-ghost use Rattle.bag_facts.specs.declared.options.Depth.TheVariants.{Declaration};
+ghost use Rattle.bag_facts.specs.Facts.{IsFactsOf, OfBag};
 ghost use Rattle.bag_conformance.specs.ConformanceFaults.{AreAll, IsOfTagFiles};
 ghost use Rattle.bag_conformance.specs.ConformanceStage.{LacksTagFile, HasOtherTagFile, HasFetchFile};
 ghost use Rattle.bag_conformance.specs.NotAllowed.{IsOtherTagFile};
@@ -25,8 +24,7 @@ pub(crate) fn tag_file_faults(
     facts: &Facts,
     profile: &Profile,
 ) -> Result<Vec<Fault>, AllocError>
-    ensures { IfOk result (λ faults. (bag : Bag) → IsFactsOf bag facts.now → facts.now.options.depth ≢ Declaration
-        → AreAll (IsOfTagFiles bag profile.now) faults.items) }
+    ensures { IfOk result (λ faults. OfBag facts.now (λ bag. AreAll (IsOfTagFiles bag profile.now) faults.items)) }
 {
     let lacking = lacking_tag_files(alloc, facts, profile)?;
     let others = other_tag_files(alloc, facts, profile)?;

@@ -1,11 +1,10 @@
 //! What a profile asks of a bag as a whole.
-ghost use Rattle.std.specs.Prelude.{◌≡◌, ◌≢◌, IfOk, option_and_then};
+ghost use Rattle.std.specs.Prelude.{◌≡◌, IfOk, option_and_then};
 ghost use Rattle.std.specs.Option.{option_copied};
 ghost use Rattle.bag_text.specs.declared.code.Code.TheVariants.{VersionNotAccepted, SerializationRequired};
 ghost use Rattle.bag_read.specs.Declaration as declared;
 ghost use Rattle.bag_tree.specs.Bag.{Bag, file};
-ghost use Rattle.bag_facts.specs.Facts.{IsFactsOf};
-ghost use Rattle.bag_facts.specs.declared.options.Depth.TheVariants.{Declaration};
+ghost use Rattle.bag_facts.specs.Facts.{IsFactsOf, OfBag};
 ghost use Rattle.bag_stages.specs.FaultFields.{of_bag};
 ghost use Rattle.bag_stages.specs.TagFiles.{bagit_txt};
 ghost use Rattle.bag_conformance.specs.ConformanceFaults.{AreAll, IsOfWhole};
@@ -26,8 +25,7 @@ pub(crate) fn whole_faults(
     facts: &Facts,
     profile: &Profile,
 ) -> Result<Vec<Fault>, AllocError>
-    ensures { IfOk result (λ faults. (bag : Bag) → IsFactsOf bag facts.now → facts.now.options.depth ≢ Declaration
-        → AreAll (IsOfWhole bag profile.now) faults.items) }
+    ensures { IfOk result (λ faults. OfBag facts.now (λ bag. AreAll (IsOfWhole bag profile.now) faults.items)) }
 {
     let mut faults = version_faults(alloc, facts, profile)?;
     if profile.serialization() == Serialization::Required {
@@ -64,23 +62,23 @@ fn declared_version(facts: &Facts) -> Option<&Text>
 fn version_fault(alloc: Global, version: &Text) -> Result<Fault, AllocError>
     ensures { IfOk result (λ fault. fault ≡ other_version version.now) }
 {
-    Ok(Fault {
-        code: Code::VersionNotAccepted,
-        path: TagName::Declaration.path(alloc)?,
-        alg: None,
-        line: 1,
-        detail: version.copy(alloc)?,
-    })
+    let path = TagName::Declaration.path(alloc)?;
+    Ok(Fault::of_line(
+        Code::VersionNotAccepted,
+        path,
+        None,
+        1,
+        version.copy(alloc)?,
+    ))
 }
 
 fn serialization_fault(alloc: Global) -> Fault
     ensures { result ≡ of_bag SerializationRequired }
 {
-    Fault {
-        code: Code::SerializationRequired,
-        path: Text::empty(alloc),
-        alg: None,
-        line: 0,
-        detail: Text::empty(alloc),
-    }
+    Fault::of_path(
+        Code::SerializationRequired,
+        Text::empty(alloc),
+        None,
+        Text::empty(alloc),
+    )
 }

@@ -1,10 +1,10 @@
 -- What is read of a bag.
-use Rattle.std.specs.Prelude.{◌≡◌, ◌⊎◌, ℕ, List, [], ◌∷◌, Some, Any, Contains, map, option_and_then}
+use Rattle.std.specs.Prelude.{◌≡◌, ◌≢◌, ◌⊎◌, ℕ, List, [], ◌∷◌, Some, Any, Contains, map, option_and_then}
 use Rattle.bag_text.specs.Text.{text_cmp}
 use Rattle.bag_text.specs.Order.{IsListOf}
 use Rattle.bag_text.specs.Rules.{rules_of}
 use Rattle.bag_text.specs.declared.rules.Rules.{Rules}
-use Rattle.bag_text.specs.declared.rules.Rules.TheVariants.{V10}
+use Rattle.bag_text.specs.declared.rules.Rules.TheVariants.{V10, V097}
 use Rattle.bag_read.specs.Declaration.{declared_version}
 use Rattle.bag_read.specs.TagName.{tag_path}
 use Rattle.bag_read.specs.declared.tag_name.TagName.TheVariants.{Declaration}
@@ -13,6 +13,7 @@ use Rattle.bag_tree.specs.Listing.{IsOrdered, IsListingOf}
 use Rattle.bag_facts.specs.TagFacts.{path_of, Says, IsParsed}
 use Rattle.bag_facts.specs.Wanted.{IsWanted}
 use Rattle.bag_facts.specs.declared.facts.Facts.{Facts}
+use Rattle.bag_facts.specs.declared.options.Depth.TheVariants as depth_of
 use Rattle.bag_facts.specs.declared.tag_facts.TagFacts.{TagFacts}
 use Rattle.bag_facts.specs.declared.tag_reader.TagBytes.{TagBytes}
 
@@ -20,6 +21,13 @@ use Rattle.bag_facts.specs.declared.tag_reader.TagBytes.{TagBytes}
 -- declares none
 unfoldable pub rules_in : Bag → Rules
 rules_in bag = rules_of (option_and_then declared_version (file bag (tag_path Declaration)))
+
+-- those of 1.0, and those of 0.97
+abbrev pub IsByV10 : Bag → Type 0
+IsByV10 bag = rules_in bag ≡ V10
+
+abbrev pub IsByV097 : Bag → Type 0
+IsByV097 bag = rules_in bag ≡ V097
 
 -- what is known of a tag file is what its bytes in the bag say, by the bag's rules
 abbrev pub IsSaid : Bag → TagFacts → Type 0
@@ -32,6 +40,10 @@ pub record IsFactsOf (bag : Bag) (facts : Facts) : Type 0 where
   pub listing : IsListingOf bag facts.listing
   pub tags : IsListOf text_cmp (λ path. IsWanted facts.options path × HasFile bag path) (map path_of facts.tags)
   pub said : (tag : TagFacts) → Contains facts.tags tag → IsSaid bag tag
+
+-- of facts that were read beyond the declaration: this holds of each bag whose facts they are
+abbrev pub OfBag : Facts → (Bag → Type 0) → Type 0
+OfBag facts IsSo = (bag : Bag) → IsFactsOf bag facts → facts.options.depth ≢ depth_of.Declaration → IsSo bag
 
 -- the rules that the declaration among files that were read tells, and those of 1.0 where it isn't among them
 abbrev pub AreRulesOf : List TagBytes → Rules → Type 0

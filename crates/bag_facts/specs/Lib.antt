@@ -1,5 +1,6 @@
 pub mod EarlierReports
 pub mod Facts
+pub mod FaultAt
 pub mod FaultLine
 pub mod FaultOrder
 pub mod LineFields

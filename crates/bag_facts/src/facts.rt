@@ -34,7 +34,7 @@ pub struct Facts {
 }
 
 impl Facts {
-    ghost use Rattle.bag_facts.specs.Facts.{IsFactsOf};
+    ghost use Rattle.bag_facts.specs.Facts.{IsFactsOf, OfBag};
 
     /// Lists the tree, and reads its tag files whole, in path order and each once: at every depth `bagit.txt`, and at
     /// the depths above `Declaration` also `bag-info.txt`, `fetch.txt` and the manifests of supported algorithms.
@@ -110,8 +110,7 @@ impl Facts {
 
     /// What is known of `bag-info.txt`, where it is there and the facts were read for more than the declaration.
     pub fn metadata(&self) -> Option<&Metadata>
-        ensures { (bag : Bag) → IsFactsOf bag self.now → self.now.options.depth ≢ depth_of.Declaration
-            → IsReadOf (IsMetadataOf (rules_in bag)) (file bag (tag_path file_of.Info)) (option_copied result) }
+        ensures { OfBag self.now (λ bag. IsReadOf (IsMetadataOf (rules_in bag)) (file bag (tag_path file_of.Info)) (option_copied result)) }
     {
         let Some(TagFacts::Info(metadata)) = self.tag(TagName::Info) else {
             return None;
@@ -121,8 +120,7 @@ impl Facts {
 
     /// What is known of `fetch.txt`, where it is there and the facts were read for more than the declaration.
     pub fn fetch_list(&self) -> Option<&FetchList>
-        ensures { (bag : Bag) → IsFactsOf bag self.now → self.now.options.depth ≢ depth_of.Declaration
-            → IsReadOf (IsFetchListOf (rules_in bag)) (file bag (tag_path file_of.Fetch)) (option_copied result) }
+        ensures { OfBag self.now (λ bag. IsReadOf (IsFetchListOf (rules_in bag)) (file bag (tag_path file_of.Fetch)) (option_copied result)) }
     {
         let Some(TagFacts::Fetch(list)) = self.tag(TagName::Fetch) else {
             return None;
@@ -132,8 +130,8 @@ impl Facts {
 
     /// What is known of a manifest, where it is there and the facts were read for more than the declaration.
     pub fn manifest(&self, kind: Kind, alg: Alg) -> Option<&Manifest>
-        ensures { (bag : Bag) → IsFactsOf bag self.now → self.now.options.depth ≢ depth_of.Declaration
-            → IsReadOf (IsManifestNamed (rules_in bag) kind alg) (file bag (tag_path (file_of.Manifest kind alg))) (option_copied result) }
+        ensures { OfBag self.now (λ bag.
+            IsReadOf (IsManifestNamed (rules_in bag) kind alg) (file bag (tag_path (file_of.Manifest kind alg))) (option_copied result)) }
     {
         let Some(TagFacts::Manifest(manifest)) = self.tag(TagName::Manifest(kind, alg)) else {
             return None;
@@ -174,8 +172,7 @@ impl Facts {
     /// The entries of a manifest, in the order of their paths by bytes: none where it isn't there, or the facts were read
     /// for the declaration alone.
     pub fn entries(&self, kind: Kind, alg: Alg) -> &[ManifestEntry]
-        ensures entries { (bag : Bag) → IsFactsOf bag self.now → self.now.options.depth ≢ depth_of.Declaration
-            → AreEntriesOf (rules_in bag) kind alg (file bag (tag_path (file_of.Manifest kind alg))) result.now }
+        ensures entries { OfBag self.now (λ bag. AreEntriesOf (rules_in bag) kind alg (file bag (tag_path (file_of.Manifest kind alg))) result.now) }
         ensures none { (bag : Bag) → IsFactsOf bag self.now → self.now.options.depth ≡ depth_of.Declaration → result.now ≡ [] }
     {
         if self.options.depth == Depth::Declaration {

@@ -2,6 +2,7 @@
 ghost use Rattle.std.specs.Prelude.{◌≡◌, IfOk};
 ghost use Rattle.bag_text.specs.Alg.{rank_or_zero};
 ghost use Rattle.bag_text.specs.Code as spec;
+ghost use Rattle.bag_facts.specs.FaultAt as made;
 
 use bag_text::{Alg, Code, Text};
 use std::alloc::{AllocError, Global};
@@ -24,6 +25,26 @@ pub struct Fault {
 }
 
 impl Fault {
+    /// The fault of a line of the file at a path, from 1; with an algorithm, that of its manifest.
+    pub fn of_line(code: Code, path: Text, alg: Option<Alg>, line: u64, detail: Text) -> Fault
+        ensures { result ≡ made.of_line code path alg line detail }
+    {
+        Fault {
+            code,
+            path,
+            alg,
+            line,
+            detail,
+        }
+    }
+
+    /// The fault of a path, about no single line: of the file there, of a name, and of the whole bag where it is empty.
+    pub fn of_path(code: Code, path: Text, alg: Option<Alg>, detail: Text) -> Fault
+        ensures { result ≡ made.of_path code path alg detail }
+    {
+        Fault::of_line(code, path, alg, 0, detail)
+    }
+
     /// The stage of the check that finds it, from 1 to 8: the first digit of the code's number.
     pub fn stage(&self) -> u8
         ensures { result ≡ spec.stage self.now.code }

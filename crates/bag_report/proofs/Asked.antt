@@ -1,5 +1,5 @@
 -- The faults of a stage that are asked for.
-use Rattle.std.proofs.Common.{◌≡◌, ◌≢◌, ◌<◌, ◌&&◌, ℕ, List, [], true, false, refl, ap, sym, subst, ◌∙◌, filter, arith}
+use Rattle.std.proofs.Common.{◌≡◌, ◌≢◌, ◌<◌, ℕ, List, [], true, false, refl, sym, subst, ◌∙◌, filter, arith}
 use Rattle.std.proofs.lemmas.Bool.{and_parts}
 use Rattle.std.proofs.lemmas.Bool.Decides.{nat_tests}
 use Rattle.bag_text.specs.Code.{stage}
@@ -14,7 +14,7 @@ use Rattle.bag_facts.specs.declared.options.Depth.{Depth}
 use Rattle.bag_facts.specs.declared.options.Depth.TheVariants.{Declaration, Fast, Complete, Full}
 use Rattle.bag_facts.specs.declared.options.Options.{Options}
 use Rattle.bag_report.specs.Report.{Check, asks, is_fast, IsStageOf}
-use Rattle.bag_report.specs.Stages.{is_chosen, IsFoundAt}
+use Rattle.bag_report.specs.Stages.{IsFoundAt}
 use Rattle.bag_report.proofs.Filtered.{filtered_list}
 
 fast_reaches : (d : Depth) → is_fast d ≡ true → reaches d 3 ≡ true
@@ -45,16 +45,9 @@ seven_not_reached Complete below = refl
 seven_not_reached Full below = absurd (below refl)
 
 -- a clash of names is asked for only where clashes are
-asked_clash : (options : Options) (c : Code) → asks options c ≡ true → c ≡ NameClash → options.clashes ≡ true
+pub asked_clash : (options : Options) (c : Code) → asks options c ≡ true → c ≡ NameClash → options.clashes ≡ true
 unfolding asks
 asked_clash options c e is = (and_parts _ _ (subst (λ d. asks options d ≡ true) is e)).0
-
--- and where the depth reaches the stage, what is chosen of what is looked for is asked for
-chosen_is_asked : (options : Options) (c : Code) → (c ≡ NameClash → options.clashes ≡ true) → reaches options.depth (stage c) ≡ true → asks options c ≡ is_chosen options.depth c
-unfolding asks
-chosen_is_asked options NoOxum sought reach = refl
-chosen_is_asked options NameClash sought reach = ap (λ b. b && reaches options.depth 6) (sought refl) ∙ reach
-chosen_is_asked options other sought reach = reach
 
 module _ (check : Check) (k : ℕ) (faults : List Fault) where
   -- nothing is asked for of a stage that the depth doesn't reach
@@ -63,16 +56,15 @@ module _ (check : Check) (k : ℕ) (faults : List Fault) where
       (λ f h. let reach : reaches check.options.depth k ≡ true = subst (λ n. reaches check.options.depth n ≡ true) h.1 (asked_is_reached check.options f.code h.0.1) in
       let clash : true ≡ false = sym reach ∙ beyond in cc))
 
-  -- the chosen ones of the faults that a stage finds which the depth reaches
-  pub chosen_of_stage : reaches check.options.depth k ≡ true → IsListOf fault_cmp (IsFoundAt check.options.clashes check.bag check.profile k) faults
-      → IsStageOf check k (filter (λ f. is_chosen check.options.depth f.code) faults)
-  chosen_of_stage reach list =
+  -- those of the faults that a stage finds which are asked for
+  pub asked_of_stage : IsListOf fault_cmp (IsFoundAt check.options.clashes check.bag check.profile k) faults
+      → IsStageOf check k (filter (λ f. asks check.options f.code) faults)
+  asked_of_stage list =
       let IsFound : Fault → Type 0 = IsFoundAt check.options.clashes check.bag check.profile k in
-      let asked = λ (f : Fault) (h : IsFound f). chosen_is_asked check.options f.code h.2 (subst (λ n. reaches check.options.depth n ≡ true) (sym h.1) reach) in
-      same_members fault_cmp (λ f. IsFound f × (is_chosen check.options.depth f.code ≡ true)) _ _
-      (λ f h. ((h.0.0, asked f h.0 ∙ h.1), h.0.1))
-      (λ f h. let found : IsFound f = (h.0.0, h.1, asked_clash check.options f.code h.0.1) in (found, sym (asked f found) ∙ h.0.1))
-      (filtered_list fault_cmp IsFound (λ f. is_chosen check.options.depth f.code) faults list)
+      same_members fault_cmp (λ f. IsFound f × (asks check.options f.code ≡ true)) _ _
+      (λ f h. ((h.0.0, h.1), h.0.1))
+      (λ f h. ((h.0.0, h.1, asked_clash check.options f.code h.0.1), h.0.1))
+      (filtered_list fault_cmp IsFound (λ f. asks check.options f.code) faults list)
 
 -- a depth that reaches a stage above the first reads more than the declaration
 pub reads_more : (d : Depth) (k : ℕ) → reaches d k ≡ true → 1 < k → d ≢ Declaration

@@ -4,14 +4,14 @@ ghost use Rattle.std.specs.Option.{option_copied};
 ghost use Rattle.bag_text.specs.Order.{IsListOf};
 ghost use Rattle.bag_tree.specs.Bag.{Bag};
 ghost use Rattle.bag_facts.specs.FaultOrder.{fault_cmp};
-ghost use Rattle.bag_facts.specs.Facts.{IsFactsOf};
+ghost use Rattle.bag_facts.specs.Facts.{IsFactsOf, OfBag};
 ghost use Rattle.bag_facts.specs.declared.options.Depth.TheVariants.{Declaration};
 ghost use Rattle.bag_conformance.specs.ConformanceStage.{IsOfConformance};
-ghost use Rattle.bag_report.specs.Report.{IsStageOf};
-ghost use Rattle.bag_report.specs.Stages.{is_chosen, IsFoundAt};
+ghost use Rattle.bag_report.specs.Report.{asks, IsStageOf};
+ghost use Rattle.bag_report.specs.Stages.{IsFoundAt};
 
 use bag_conformance::conformance_faults;
-use bag_facts::{Depth, Facts, Fault};
+use bag_facts::{Depth, Facts, Fault, Options};
 use bag_profile::Profile;
 use bag_stages::{
     completeness_faults, declaration_faults, fetch_faults, manifest_faults, metadata_faults,
@@ -33,12 +33,12 @@ pub fn stage_faults(
         → IsStageOf (record { bag = bag; profile = option_copied profile.entry; options = facts.now.options }) stage faults.items) }
     ensures seventh { IfOk result (λ faults. stage ≡ 7 → faults.items ≡ []) }
 {
-    let depth = facts.options.depth;
-    if !depth.has_stage(stage) {
+    let options = facts.options;
+    if !options.depth.has_stage(stage) {
         return Ok(Vec::new(alloc));
     }
     let mut faults = found_faults(alloc, facts, profile, stage)?;
-    faults.retain(|fault| is_chosen(depth, fault.code));
+    faults.retain(|fault| asks(options, fault));
     Ok(faults)
 }
 
@@ -72,8 +72,7 @@ fn profile_faults(
     facts: &Facts,
     profile: Option<&Profile>,
 ) -> Result<Vec<Fault>, AllocError>
-    ensures { IfOk result (λ faults. (bag : Bag) → IsFactsOf bag facts.now → facts.now.options.depth ≢ Declaration
-        → IsListOf fault_cmp (IsOfConformance bag (option_copied profile.entry)) faults.items) }
+    ensures { IfOk result (λ faults. OfBag facts.now (λ bag. IsListOf fault_cmp (IsOfConformance bag (option_copied profile.entry)) faults.items)) }
 {
     match profile {
         Some(profile) => conformance_faults(alloc, facts, profile),
@@ -81,13 +80,15 @@ fn profile_faults(
     }
 }
 
-/// Whether faults of a code are asked for at a depth that has their stage: that there is no `Payload-Oxum`
-/// (RFC 8493, 2.2.2) is a fault at the depth `Fast` alone.
-fn is_chosen(depth: Depth, code: Code) -> bool
-    ensures { result ≡ is_chosen depth code }
+/// Whether a fault is asked for, as one of a stage that the depth has: that there is no `Payload-Oxum` (RFC 8493, 2.2.2) at the
+/// depth `Fast` alone, and clashes of names where they are looked for.
+#[tactic(auto, unfolding(crate::specs::Report::asks))]
+fn asks(options: Options, fault: &Fault) -> bool
+    ensures { result ≡ asks options fault.now.code }
 {
-    match code {
-        Code::NoOxum => depth == Depth::Fast,
-        _ => true,
+    match fault.code {
+        Code::NoOxum => options.depth == Depth::Fast,
+        Code::NameClash => options.clashes && options.depth.has_stage(fault.stage()),
+        _ => options.depth.has_stage(fault.stage()),
     }
 }

@@ -17,6 +17,7 @@ use Rattle.bag_facts.proofs.Ascending.{not_less_than_itself}
 use Rattle.bag_facts.specs.FaultOrder.{fault_cmp}
 use Rattle.bag_facts.specs.declared.fault.Fault.{Fault}
 use Rattle.bag_facts.proofs.Mapped.{take_one_more, taken_cases}
+use Rattle.bag_stages.proofs.FaultFields.{made_of}
 use Rattle.bag_stages.proofs.ByItem.{OfSome, before_next, one_item_more}
 use Rattle.bag_stages.proofs.InFile.{less_by_path}
 use Rattle.bag_stages.specs.ClashFaults.{first_with, name_clash, IsClashAmong, IsClashOf}
@@ -211,7 +212,7 @@ module _ (bag : Bag) where
   fault_is_clash f (h, code) =
       let holds : CompletenessHolds bag f NameClash = subst (CompletenessHolds bag f) code h in
       let at = holds.1 in
-      (f.path, (holds.0, (λ i. record { code = code i; path = f.path; alg = at.alg_is i; line = at.line_is i; detail = at.detail_is i }), holds.2))
+      (f.path, (holds.0, made_of f NameClash f.path None 0 _ code at, holds.2))
 
   pub clash_faults_listed : (names : List (List ℕ)) → ((path : List ℕ) → Contains names path ↔ IsPayloadName bag path) → (faults : List Fault)
       → IsListOf fault_cmp (IsClashAmong (Contains names)) faults → IsListOf fault_cmp (IsClashFault bag) faults

@@ -10,6 +10,7 @@ use Rattle.bag_text.proofs.ListOf.{nothing_listed, same_members}
 use Rattle.bag_read.specs.declared.kind.Kind.{Kind}
 use Rattle.bag_read.specs.declared.kind.Kind.TheVariants.{Payload, Tag}
 use Rattle.bag_tree.specs.Bag.{Bag}
+use Rattle.bag_facts.specs.FaultAt.{of_path}
 use Rattle.bag_facts.specs.FaultOrder.{fault_cmp}
 use Rattle.bag_facts.specs.declared.fault.Fault.{Fault}
 use Rattle.bag_facts.specs.Facts.{rules_in}
@@ -17,17 +18,14 @@ use Rattle.bag_stages.specs.FaultFields.{At}
 use Rattle.bag_stages.specs.LeftOut.{IsLeftOut}
 use Rattle.bag_stages.proofs.LeftOut.{by_all, by_one, left_out_by, not_both}
 use Rattle.bag_stages.specs.ClashStage.{IsClashFault, IsSoughtClash}
-use Rattle.bag_stages.specs.CompletenessFaults.{of_file, missing_code, HasEachOnce, IsIncomplete, IsMissingFromSome, IsNotListed, IsUnlistedInAll, IsWrongOfSome}
+use Rattle.bag_stages.specs.CompletenessFaults.{missing_code, HasEachOnce, IsIncomplete, IsMissingFromSome, IsNotListed, IsUnlistedInAll, IsWrongOfSome}
 use Rattle.bag_stages.specs.CompletenessStage.{CompletenessFaultsAreOfStageSix, CompletenessHolds, IsOfCompleteness, IsPayloadFile, IsSoughtInStageSix}
+use Rattle.bag_stages.proofs.FaultFields.{made_of}
 use Rattle.bag_stages.proofs.EachOnce.{both_once, once_listed, same_once, sorted_once}
 
 -- what a fault of a file says in its fields
-module _ (f : Fault) (code : Code) (alg : Option Alg) where
-  fields : f ≡ of_file code alg f.path → At f f.path alg 0 []
-  fields is = record { path_is = refl; alg_is = ap (λ (x : Fault). x.alg) is; line_is = ap (λ (x : Fault). x.line) is; detail_is = ap (λ (x : Fault). x.detail) is }
-
-  from_fields : f.code ≡ code → At f f.path alg 0 [] → f ≡ of_file code alg f.path
-  from_fields e at = λ i. record { code = e i; path = f.path; alg = at.alg_is i; line = at.line_is i; detail = at.detail_is i }
+fields : (f : Fault) (code : Code) (alg : Option Alg) → f ≡ of_path code f.path alg [] → At f f.path alg 0 []
+fields f code alg is = record { path_is = refl; alg_is = ap (λ (x : Fault). x.alg) is; line_is = ap (λ (x : Fault). x.line) is; detail_is = ap (λ (x : Fault). x.detail) is }
 
 -- what the codes of the stage say
 module _ (bag : Bag) (f : Fault) where
@@ -52,10 +50,10 @@ module _ (bag : Bag) (f : Fault) where
   missing_holds Tag (alg, (is, (named, lacks))) = (alg, fields f TagFileMissing (Some alg) is, named, lacks)
 
   -- the fields with the fault's own algorithm
-  own_fields : (alg : Option Alg) → f ≡ of_file PayloadFileNotListed alg f.path → At f f.path f.alg 0 []
+  own_fields : (alg : Option Alg) → f ≡ of_path PayloadFileNotListed f.path alg [] → At f f.path f.alg 0 []
   own_fields alg is = let at = fields f PayloadFileNotListed alg is in record { path_is = refl; alg_is = refl; line_is = at.line_is; detail_is = at.detail_is }
 
-  own_alg : (alg : Option Alg) → f ≡ of_file PayloadFileNotListed alg f.path → IsLeftOut (rules_in bag) bag alg f.path → IsLeftOut (rules_in bag) bag f.alg f.path
+  own_alg : (alg : Option Alg) → f ≡ of_path PayloadFileNotListed f.path alg [] → IsLeftOut (rules_in bag) bag alg f.path → IsLeftOut (rules_in bag) bag f.alg f.path
   own_alg alg is out = subst (λ a. IsLeftOut (rules_in bag) bag a f.path) (sym (ap (λ (x : Fault). x.alg) is)) out
 
   unlisted_holds : IsNotListed bag f → CompletenessHolds bag f PayloadFileNotListed
@@ -65,7 +63,7 @@ module _ (bag : Bag) (f : Fault) where
 
   not_listed : f.code ≡ PayloadFileNotListed → At f f.path f.alg 0 [] → IsPayloadFile bag f.path → IsLeftOut (rules_in bag) bag f.alg f.path → IsNotListed bag f
   not_listed e at here out =
-      let told : (alg : Option Alg) → f.alg ≡ alg → f ≡ of_file PayloadFileNotListed alg f.path = λ alg is. from_fields f PayloadFileNotListed alg e (subst (λ a. At f f.path a 0 []) is at) in
+      let told : (alg : Option Alg) → f.alg ≡ alg → f ≡ of_path PayloadFileNotListed f.path alg [] = λ alg is. made_of f PayloadFileNotListed f.path alg 0 [] e (subst (λ a. At f f.path a 0 []) is at) in
       elim (left_out_by bag f.path (rules_in bag) f.alg out) [
         | inl one ↦ inl (one.1.0, (one.0, (told (Some one.1.0) one.1.1, (here, one.1.2))))
         | inr all ↦ inr (all.0, (told None all.1, (here, all.2)))
@@ -84,8 +82,8 @@ module _ (bag : Bag) (f : Fault) where
 
   of_holds : (c : Code) → f.code ≡ c → CompletenessHolds bag f c → IsIncomplete bag f ⊎ (f.code ≡ NameClash)
   unfolding CompletenessHolds
-  of_holds PayloadFileMissing e (alg, at, named, lacks) = inl (inl (inl (alg, (from_fields f PayloadFileMissing (Some alg) e at, (named, lacks)))))
-  of_holds TagFileMissing e (alg, at, named, lacks) = inl (inl (inr (alg, (from_fields f TagFileMissing (Some alg) e at, (named, lacks)))))
+  of_holds PayloadFileMissing e (alg, at, named, lacks) = inl (inl (inl (alg, (made_of f PayloadFileMissing f.path (Some alg) 0 [] e at, (named, lacks)))))
+  of_holds TagFileMissing e (alg, at, named, lacks) = inl (inl (inr (alg, (made_of f TagFileMissing f.path (Some alg) 0 [] e at, (named, lacks)))))
   of_holds PayloadFileNotListed e (at, here, out) = inl (inr (not_listed e at here out))
   of_holds NameClash e h = inr e
   of_holds other e h = absurd h
@@ -113,7 +111,7 @@ unfolding IsOfCompleteness
 completeness_of_stage_six bag f h = holds_stage bag f f.code h
 
 any_fault : Fault
-any_fault = of_file PayloadFileMissing None []
+any_fault = of_path PayloadFileMissing [] None []
 
 module _ (bag : Bag) where
   abbrev OfOne : Fault → Type 0

@@ -1,15 +1,15 @@
 -- Every bag has a list of the faults of its completeness and of its names.
-use Rattle.std.proofs.Common.{◌≡◌, ◌⊎◌, ℕ, List, Option, None, Some, true, refl, sym, subst}
+use Rattle.std.proofs.Common.{◌≡◌, ◌⊎◌, ℕ, List, [], Option, None, Some, true, refl, sym, subst}
 use Rattle.bag_text.specs.Path.{is_payload_path}
-use Rattle.bag_text.specs.declared.rules.Rules.TheVariants.{V10, V097}
 use Rattle.bag_text.specs.declared.alg.Alg.{Alg}
 use Rattle.bag_text.specs.declared.code.Code.{Code}
 use Rattle.bag_text.specs.declared.code.Code.TheVariants.{PayloadFileNotListed}
 use Rattle.bag_read.specs.declared.kind.Kind.{Kind}
 use Rattle.bag_read.specs.declared.kind.Kind.TheVariants.{Payload, Tag}
 use Rattle.bag_tree.specs.Bag.{Bag, has_file, HasFile, LacksFile}
+use Rattle.bag_facts.specs.FaultAt.{of_path}
 use Rattle.bag_facts.specs.declared.fault.Fault.{Fault}
-use Rattle.bag_facts.specs.Facts.{rules_in}
+use Rattle.bag_facts.specs.Facts.{rules_in, IsByV10, IsByV097}
 use Rattle.bag_stages.specs.HasList.{HasList}
 use Rattle.bag_stages.specs.LeftOut.{IsLeftOutByAll, IsLeftOutByOne}
 use Rattle.bag_stages.specs.TagFiles.{named_in, Names}
@@ -18,7 +18,7 @@ use Rattle.bag_stages.proofs.HasLists.{Decided, true_or_not, false_or_not, both_
 use Rattle.bag_stages.proofs.LeftOut.{v097_or_not, v10_or_not}
 use Rattle.bag_stages.proofs.LeftOutDecided.{by_all_or_not, by_one_or_not}
 use Rattle.bag_stages.specs.ClashStage.{IsClashFault}
-use Rattle.bag_stages.specs.CompletenessFaults.{of_file, missing_code, IsIncomplete, IsLeftByAll, IsLeftByOne, IsMissing, IsMissingFromSome, IsNotListed, IsOfPath, IsUnlisted, IsUnlistedInAll, IsUnlistedInSome}
+use Rattle.bag_stages.specs.CompletenessFaults.{missing_code, IsIncomplete, IsLeftByAll, IsLeftByOne, IsMissing, IsMissingFromSome, IsNotListed, IsOfPath, IsUnlisted, IsUnlistedInAll, IsUnlistedInSome}
 use Rattle.bag_stages.specs.CompletenessStage.{CompletenessFaultsAreListed, IsOfCompleteness, IsPayloadFile}
 use Rattle.bag_stages.proofs.ClashList.{clash_faults_are_listed}
 use Rattle.bag_stages.proofs.CompletenessFaults.{either_is, is_either}
@@ -26,14 +26,14 @@ use Rattle.bag_stages.proofs.CompletenessFaults.{either_is, is_either}
 -- the faults of those of some paths of which this holds
 module _ (code : Code) (alg : Option Alg) (IsPath D IsWrong : List ℕ → Type 0) (to : (path : List ℕ) → IsPath path → D path → IsWrong path) (from : (path : List ℕ) → IsWrong path → IsPath path × D path) where
   abbrev FoundAt : List ℕ → Fault → Type 0
-  FoundAt path f = D path × (f ≡ of_file code alg path)
+  FoundAt path f = D path × (f ≡ of_path code path alg [])
 
   of_paths : HasList IsPath → ((path : List ℕ) → Decided (D path)) → HasList (IsOfPath code alg IsWrong)
   of_paths paths decided =
       same_set (λ f. (path : List ℕ) × IsPath path × FoundAt path f) (IsOfPath code alg IsWrong)
       (λ f h. subst (IsOfPath code alg IsWrong) (sym h.2.1) (refl, to h.0 h.1 h.2.0))
       (λ f h. let parts = from f.path h.1 in (f.path, parts.0, (parts.1, h.0)))
-      (for_each FoundAt (λ path. one_where (of_file code alg path) (D path) (decided path)) IsPath paths)
+      (for_each FoundAt (λ path. one_where (of_path code path alg []) (D path) (decided path)) IsPath paths)
 
 module _ (bag : Bag) where
   missing : (kind : Kind) (alg : Alg) → HasList (IsMissing bag kind alg)
@@ -48,10 +48,10 @@ module _ (bag : Bag) where
       (files_listed bag) (λ path. both_decided _ _ (true_or_not (is_payload_path path)) (decided path))
 
   unlisted : (alg : Alg) → HasList (IsUnlisted bag alg)
-  unlisted alg = where_so (rules_in bag ≡ V10) (IsLeftByOne bag alg) (v10_or_not (rules_in bag)) (left_out (Some alg) (IsLeftOutByOne bag alg) (λ path. by_one_or_not bag path alg))
+  unlisted alg = where_so (IsByV10 bag) (IsLeftByOne bag alg) (v10_or_not (rules_in bag)) (left_out (Some alg) (IsLeftOutByOne bag alg) (λ path. by_one_or_not bag path alg))
 
   in_all : HasList (IsUnlistedInAll bag)
-  in_all = where_so (rules_in bag ≡ V097) (IsLeftByAll bag) (v097_or_not (rules_in bag)) (left_out None (IsLeftOutByAll bag) (by_all_or_not bag))
+  in_all = where_so (IsByV097 bag) (IsLeftByAll bag) (v097_or_not (rules_in bag)) (left_out None (IsLeftOutByAll bag) (by_all_or_not bag))
 
   incomplete : HasList (IsIncomplete bag)
   incomplete =

@@ -9,12 +9,14 @@ use Rattle.bag_tree.specs.Bag.{Bag, file}
 use Rattle.bag_read.specs.declared.declaration.Declaration.{Declaration}
 use Rattle.bag_read.specs.declared.line_fault.LineFault.{LineFault}
 use Rattle.bag_read.specs.Declaration.{DeclarationFault, IsDeclarationFault}
+use Rattle.bag_facts.specs.FaultAt.{of_path}
 use Rattle.bag_facts.specs.declared.fault.Fault.{Fault}
 use Rattle.bag_facts.specs.FaultOrder.{fault_cmp}
 use Rattle.bag_facts.specs.TagFacts.{IsReadOf, IsDeclarationOf}
 use Rattle.bag_stages.specs.DeclarationStage.{DeclarationHolds, IsOfDeclaration, InDeclaration, DeclarationFaultsAreOfStageOne}
-use Rattle.bag_stages.specs.FaultFields.{in_file, in_line, of_whole}
+use Rattle.bag_stages.specs.FaultFields.{in_file, in_line}
 use Rattle.bag_stages.specs.TagFiles.{bagit_txt}
+use Rattle.bag_stages.proofs.FaultFields.{made_of}
 use Rattle.bag_stages.proofs.InFile.{listed_in_file}
 
 -- what is wrong with a declaration is found at the first stage
@@ -27,7 +29,7 @@ declaration_stage EncodingUnsupported bytes f h = refl
 declaration_stage other bytes f h = absurd h
 
 abbrev pub no_declaration : Fault
-no_declaration = of_whole NoDeclaration bagit_txt []
+no_declaration = of_path NoDeclaration bagit_txt None []
 
 module _ (bag : Bag) where
   holds_stage : (f : Fault) (c : Code) → DeclarationHolds bag f c → stage c ≡ 1
@@ -73,7 +75,7 @@ module _ (bag : Bag) where
 
   only_missing : (f : Fault) (c : Code) → f.code ≡ c → file bag bagit_txt ≡ None → DeclarationHolds bag f c → f ≡ no_declaration
   unfolding DeclarationHolds
-  only_missing f NoDeclaration e none h = λ i. record { code = e i; path = h.0.path_is i; alg = h.0.alg_is i; line = h.0.line_is i; detail = h.0.detail_is i }
+  only_missing f NoDeclaration e none h = made_of f NoDeclaration bagit_txt None 0 [] e h.0
   only_missing f DeclarationNotUtf8 e none h = let clash : None ≡ Some h.2.0 = sym none ∙ h.2.1 in cc
   only_missing f DeclarationLineCount e none h = let clash : None ≡ Some h.2.0 = sym none ∙ h.2.1 in cc
   only_missing f DeclarationLine e none h = let clash : None ≡ Some h.2.0 = sym none ∙ h.2.1 in cc

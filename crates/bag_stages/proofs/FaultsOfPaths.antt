@@ -8,11 +8,12 @@ use Rattle.bag_text.specs.Text.{text_cmp}
 use Rattle.bag_text.specs.declared.alg.Alg.{Alg}
 use Rattle.bag_text.specs.declared.code.Code.{Code}
 use Rattle.bag_text.proofs.ListOf.{contains_nothing, nothing_listed, one_listed, same_members}
+use Rattle.bag_facts.specs.FaultAt.{of_path}
 use Rattle.bag_facts.specs.FaultOrder.{fault_cmp}
 use Rattle.bag_facts.specs.declared.fault.Fault.{Fault}
 use Rattle.bag_stages.proofs.ByPath.{one_item_more, take_whole}
 use Rattle.bag_stages.proofs.InFile.{less_by_path}
-use Rattle.bag_stages.specs.CompletenessFaults.{of_file, IsOfPath, IsOfPathAmong}
+use Rattle.bag_stages.specs.CompletenessFaults.{IsOfPath, IsOfPathAmong}
 
 module _ (code : Code) (alg : Option Alg) (IsWrong : List ℕ → Type 0) where
   abbrev Found : Fault → Type 0
@@ -27,9 +28,9 @@ module _ (code : Code) (alg : Option Alg) (IsWrong : List ℕ → Type 0) where
   right_listed : (path : List ℕ) → ¬ (IsWrong path) → IsListOf fault_cmp (FoundAt path) []
   right_listed path right = nothing_listed fault_cmp (FoundAt path) (λ f h. right (subst IsWrong h.0 h.1.1))
 
-  wrong_listed : (path : List ℕ) → IsWrong path → IsListOf fault_cmp (FoundAt path) (of_file code alg path ∷ [])
+  wrong_listed : (path : List ℕ) → IsWrong path → IsListOf fault_cmp (FoundAt path) (of_path code path alg [] ∷ [])
   wrong_listed path wrong =
-      one_listed fault_cmp (FoundAt path) (of_file code alg path) (refl, (refl, wrong)) (λ f h. h.1.0 ∙ ap (of_file code alg) h.0)
+      one_listed fault_cmp (FoundAt path) (of_path code path alg []) (refl, (refl, wrong)) (λ f h. h.1.0 ∙ ap (λ p. of_path code p alg []) h.0)
 
   pub no_path_yet : IsListOf fault_cmp (IsOfPathAmong code alg IsWrong []) []
   no_path_yet = nothing_listed fault_cmp (IsOfPathAmong code alg IsWrong []) (λ f h. contains_nothing f.path h.0)
@@ -38,9 +39,9 @@ module _ (code : Code) (alg : Option Alg) (IsWrong : List ℕ → Type 0) where
     module _ (items : List I) (i : ℕ) (item : I) (faults : List Fault) (ascending : IsStrictlySortedBy text_cmp (map path_of items))
         (within : i < length items) (here : item ≡ get_or items i item) (list : IsListOf fault_cmp (IsOfPathAmong code alg IsWrong (map path_of (take i items))) faults) where
       -- one path more, of which this holds, or doesn't
-      pub wrong_path_more : IsWrong (path_of item) → IsListOf fault_cmp (IsOfPathAmong code alg IsWrong (map path_of (take (i + 1) items))) (faults ++ of_file code alg (path_of item) ∷ [])
+      pub wrong_path_more : IsWrong (path_of item) → IsListOf fault_cmp (IsOfPathAmong code alg IsWrong (map path_of (take (i + 1) items))) (faults ++ of_path code (path_of item) alg [] ∷ [])
       wrong_path_more wrong =
-          one_item_more path_of (λ f. f.path) Found less_found items i item faults (of_file code alg (path_of item) ∷ []) ascending within here list (wrong_listed (path_of item) wrong)
+          one_item_more path_of (λ f. f.path) Found less_found items i item faults (of_path code (path_of item) alg [] ∷ []) ascending within here list (wrong_listed (path_of item) wrong)
 
       pub right_path_more : ¬ (IsWrong (path_of item)) → IsListOf fault_cmp (IsOfPathAmong code alg IsWrong (map path_of (take (i + 1) items))) faults
       right_path_more right =

@@ -10,8 +10,6 @@ use Rattle.bag_text.specs.Code.{stage}
 use Rattle.bag_text.specs.Lines.{lines_of_file}
 use Rattle.bag_text.specs.Order.{IsListOf}
 use Rattle.bag_text.specs.Text.{text_cmp, IsNoText}
-use Rattle.bag_text.specs.declared.rules.Rules.{Rules}
-use Rattle.bag_text.specs.declared.rules.Rules.TheVariants.{V10, V097}
 use Rattle.bag_text.specs.declared.alg.Alg.{Alg}
 use Rattle.bag_text.specs.declared.code.Code.{Code}
 use Rattle.bag_text.specs.declared.code.Code.TheVariants.{NotUtf8, FetchLine, FetchEscape, FetchUnsafePath, FetchOutsidePayload, FetchNotInManifest}
@@ -27,43 +25,45 @@ use Rattle.bag_read.specs.Manifest.{IsEntry}
 use Rattle.bag_read.specs.declared.kind.Kind.TheVariants.{Payload}
 use Rattle.bag_read.specs.declared.manifest.ManifestEntry.{ManifestEntry}
 use Rattle.bag_tree.specs.Bag.{Bag, file}
+use Rattle.bag_facts.specs.FaultAt.{of_path}
 use Rattle.bag_facts.specs.declared.fault.Fault.{Fault}
 use Rattle.bag_facts.specs.FaultOrder.{fault_cmp}
 use Rattle.bag_facts.proofs.Ordered.{fault_cmp_total, fault_cmp_same}
-use Rattle.bag_facts.specs.Facts.{rules_in}
+use Rattle.bag_facts.specs.Facts.{rules_in, IsByV10, IsByV097}
 use Rattle.bag_facts.specs.TagFacts.{entry_paths, AreByPath, IsFetchListOf, IsManifestNamed, IsReadOf}
 use Rattle.bag_facts.specs.declared.fetch_list.FetchList.{FetchList}
 use Rattle.bag_facts.specs.declared.manifest.Manifest.{Manifest}
-use Rattle.bag_stages.specs.FaultFields.{in_file, in_line, of_whole, At}
+use Rattle.bag_stages.specs.FaultFields.{in_file, in_line, At}
 use Rattle.bag_stages.specs.FetchFaults.{AreByLine, AreFetched, IsNotNamed, IsNotNamedAmong, IsNotInAny, IsNotInManifest, IsNotInSome, IsNotListed, not_in_manifest}
 use Rattle.bag_stages.specs.FetchStage.{fetch_txt, FetchFaultsAreOfStageFour, FetchHolds, HasFetch, InFetch, IsOfFetch}
 use Rattle.bag_stages.specs.LeftOut.{IsLeftOut}
 use Rattle.bag_stages.specs.TagFiles.{lines_or_none, manifest_of}
+use Rattle.bag_stages.proofs.FaultFields.{made_of}
 use Rattle.bag_stages.proofs.ByItem.{OfSome, one_item_more}
 use Rattle.bag_stages.proofs.InFile.{less_by_alg, less_of_file, listed_in_file}
 use Rattle.bag_stages.proofs.LeftOut.{by_all, by_one, left_out_by, not_both}
 use Rattle.bag_stages.proofs.ManifestFaults.{names_entry, entry_names}
 use Rattle.bag_stages.proofs.Sorted.{sorted_together}
 
-reason_stage : (rules : Rules) (c : Code) → IsReasonCode rules c → stage c ≡ 4
-reason_stage rules FetchLine is = refl
-reason_stage rules FetchEscape is = refl
-reason_stage rules FetchUnsafePath is = refl
-reason_stage rules FetchOutsidePayload is = refl
-reason_stage rules other is = absurd is
+reason_stage : (bag : Bag) (c : Code) → IsReasonCode (rules_in bag) c → stage c ≡ 4
+reason_stage bag FetchLine is = refl
+reason_stage bag FetchEscape is = refl
+reason_stage bag FetchUnsafePath is = refl
+reason_stage bag FetchOutsidePayload is = refl
+reason_stage bag other is = absurd is
 
 -- what is wrong with a text is found at the fourth stage
-text_stage : (rules : Rules) (c : Code) (bytes : List ℕ) (x : LineFault) → is_utf8 bytes ≡ true → FetchFault rules c bytes x → stage c ≡ 4
-text_stage rules NotUtf8 bytes x text h = let clash : true ≡ false = sym text ∙ h.2 in cc
-text_stage rules c bytes x text h = reason_stage rules c (reason_code rules h.0 (c, x.detail) h.2.1)
+text_stage : (bag : Bag) (c : Code) (bytes : List ℕ) (x : LineFault) → is_utf8 bytes ≡ true → FetchFault (rules_in bag) c bytes x → stage c ≡ 4
+text_stage bag NotUtf8 bytes x text h = let clash : true ≡ false = sym text ∙ h.2 in cc
+text_stage bag c bytes x text h = reason_stage bag c (reason_code (rules_in bag) h.0 (c, x.detail) h.2.1)
 
 -- bytes that aren't UTF-8 are of the second stage
 other_stage : stage NotUtf8 ≡ 4 → ⊥
 other_stage e = omega (arith, e)
 
-line_code : (rules : Rules) (c : Code) (bytes : List ℕ) (x : LineFault) → stage c ≡ 4 → FetchFault rules c bytes x → IsReasonCode rules c
-line_code rules NotUtf8 bytes x s h = absurd (other_stage s)
-line_code rules c bytes x s h = reason_code rules h.0 (c, x.detail) h.2.1
+line_code : (bag : Bag) (c : Code) (bytes : List ℕ) (x : LineFault) → stage c ≡ 4 → FetchFault (rules_in bag) c bytes x → IsReasonCode (rules_in bag) c
+line_code bag NotUtf8 bytes x s h = absurd (other_stage s)
+line_code bag c bytes x s h = reason_code (rules_in bag) h.0 (c, x.detail) h.2.1
 
 -- what the codes of the stage say
 module _ (bag : Bag) (f : Fault) where
@@ -126,7 +126,7 @@ module _ (bag : Bag) (f : Fault) where
 
   pub some_is : IsOfLine ⊎ IsNotListed bag f → IsOfFetch bag f
   unfolding IsOfFetch FetchHolds
-  some_is (inl h) = line_row f.code (line_code (rules_in bag) f.code h.0.2.0 (in_line f) h.1 h.0.2.2) h.0
+  some_is (inl h) = line_row f.code (line_code bag f.code h.0.2.0 (in_line f) h.1 h.0.2.2) h.0
   some_is (inr h) = subst (FetchHolds bag f) (sym (listed_code h)) (listed_holds h)
 
 pub fetch_of_stage_four : FetchFaultsAreOfStageFour
@@ -169,7 +169,7 @@ module _ (bag : Bag) (alg : Alg) (bytes : List ℕ) (named : List ManifestEntry)
     e,
     (fetched.members e).1 has,
     (
-      (λ i. record { code = code i; path = at.path_is i; alg = at.alg_is i; line = at.line_is i; detail = at.detail_is i }),
+      made_of f FetchNotInManifest fetch_txt (Some alg) e.line e.path code at,
       (λ c. lacks (entry_names bag Payload alg bytes named there list e.path c)),
     ),
   )
@@ -227,7 +227,7 @@ module _ (bag : Bag) where
   pub lines_listed : (bytes : List ℕ) (lines : List LineFault) → file bag fetch_txt ≡ Some bytes → is_utf8 bytes ≡ true → AreFaults (IsFetchFault (rules_in bag) bytes) lines
       → IsListOf fault_cmp (IsOfLine bag) (map (in_file fetch_txt None) lines)
   lines_listed bytes lines there text list =
-      let stages : (x : LineFault) → IsFetchFault (rules_in bag) bytes x → stage x.code ≡ 4 = λ x h. text_stage (rules_in bag) x.code bytes x text h in
+      let stages : (x : LineFault) → IsFetchFault (rules_in bag) bytes x → stage x.code ≡ 4 = λ x h. text_stage bag x.code bytes x text h in
       same_members fault_cmp _ _ (map (in_file fetch_txt None) lines)
       (λ f h. ((h.0, h.1, (bytes, there, h.2)), stages (in_line f) h.2))
       (λ f h.
@@ -236,23 +236,23 @@ module _ (bag : Bag) where
       (listed_in_file fetch_txt None 4 (IsFetchFault (rules_in bag) bytes) lines stages list)
 
   -- by the rules of the bag one manifest's faults are asked for, or those of all
-  pub listed_by_one : (faults : List Fault) → rules_in bag ≡ V10 → IsListOf fault_cmp (IsNotInSome bag) faults → IsListOf fault_cmp (IsNotListed bag) faults
+  pub listed_by_one : (faults : List Fault) → IsByV10 bag → IsListOf fault_cmp (IsNotInSome bag) faults → IsListOf fault_cmp (IsNotListed bag) faults
   listed_by_one faults by list =
       same_members fault_cmp _ _ faults (λ f h. inl (by, h)) (λ f h. elim h [ inl one ↦ one.1 | inr all ↦ absurd (not_both (rules_in bag) by all.0) ]) list
 
-  pub listed_by_all : (faults : List Fault) → rules_in bag ≡ V097 → IsListOf fault_cmp (IsNotInAny bag) faults → IsListOf fault_cmp (IsNotListed bag) faults
+  pub listed_by_all : (faults : List Fault) → IsByV097 bag → IsListOf fault_cmp (IsNotInAny bag) faults → IsListOf fault_cmp (IsNotListed bag) faults
   listed_by_all faults by list =
       same_members fault_cmp _ _ faults (λ f h. inr (by, h)) (λ f h. elim h [ inl one ↦ absurd (not_both (rules_in bag) one.0 by) | inr all ↦ all.1 ]) list
 
   lines_apart : (f : Fault) → IsOfLine bag f → IsNotListed bag f → ⊥
-  lines_apart f h k = subst (IsReasonCode (rules_in bag)) (listed_code bag f k) (line_code (rules_in bag) f.code h.0.2.0 (in_line f) h.1 h.0.2.2)
+  lines_apart f h k = subst (IsReasonCode (rules_in bag)) (listed_code bag f k) (line_code bag f.code h.0.2.0 (in_line f) h.1 h.0.2.2)
 
   -- the faults of the lines and those of the manifests, sorted
   pub fetch_listed : (of_lines of_manifests all : List Fault) → IsListOf fault_cmp (IsOfLine bag) of_lines → IsListOf fault_cmp (IsNotListed bag) of_manifests
       → IsPermutation (of_lines ++ of_manifests) all → IsSortedBy (λ x y. is_lt (fault_cmp x y)) all → IsListOf fault_cmp (IsOfFetch bag) all
   fetch_listed of_lines of_manifests all lines manifests perm sorted =
       same_members fault_cmp _ _ all (some_is bag) (of_some bag)
-      (sorted_together fault_cmp_total fault_cmp_same (IsOfLine bag) (IsNotListed bag) of_lines of_manifests all (of_whole NotUtf8 [] []) lines_apart lines manifests perm sorted)
+      (sorted_together fault_cmp_total fault_cmp_same (IsOfLine bag) (IsNotListed bag) of_lines of_manifests all (of_path NotUtf8 [] None []) lines_apart lines manifests perm sorted)
 
   -- bytes that aren't UTF-8 have none
   pub no_line_fault : (f : Fault) → ((bytes : List ℕ) → file bag fetch_txt ≡ Some bytes → IsNoText bytes) → ¬ (IsOfLine bag f)

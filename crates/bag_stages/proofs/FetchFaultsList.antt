@@ -3,15 +3,15 @@ use Rattle.std.proofs.Common.{◌≡◌, ◌⊎◌, ℕ, List, Bool, true, false
 use Rattle.std.specs.List.{enumerate_from}
 use Rattle.std.specs.Str.{is_utf8}
 use Rattle.bag_text.specs.Lines.{lines_of_file}
-use Rattle.bag_text.specs.declared.rules.Rules.TheVariants.{V10, V097}
 use Rattle.bag_text.specs.declared.alg.Alg.{Alg}
+use Rattle.bag_text.specs.declared.code.Code.TheVariants.{FetchNotInManifest}
 use Rattle.bag_read.specs.FetchVerdict.{entries, faults}
 use Rattle.bag_read.specs.declared.line_fault.LineFault.{LineFault}
 use Rattle.bag_read.specs.declared.fetch.FetchEntry.{FetchEntry}
 use Rattle.bag_read.proofs.FetchFaults.{entries_of_lines, faults_of_text}
 use Rattle.bag_tree.specs.Bag.{Bag, file}
 use Rattle.bag_facts.specs.declared.fault.Fault.{Fault}
-use Rattle.bag_facts.specs.Facts.{rules_in}
+use Rattle.bag_facts.specs.Facts.{rules_in, IsByV10, IsByV097}
 use Rattle.bag_stages.specs.FaultFields.{in_file}
 use Rattle.bag_stages.specs.FetchFaults.{IsNotInAny, IsNotInManifest, IsNotInSome, IsNotListed, not_in_manifest}
 use Rattle.bag_stages.specs.FetchStage.{fetch_txt, FetchFaultsAreListed, HasFetch, IsOfFetch}
@@ -19,6 +19,7 @@ use Rattle.bag_stages.specs.HasList.{HasList}
 use Rattle.bag_stages.specs.LeftOut.{IsLeftOutByAll, IsLeftOutByOne}
 use Rattle.bag_stages.specs.TagFiles.{lines_in}
 use Rattle.bag_stages.proofs.BagLists.{over_algs}
+use Rattle.bag_stages.proofs.FaultFields.{made_of}
 use Rattle.bag_stages.proofs.FetchFaults.{IsOfLine, lines_listed, no_line_fault, of_some, some_is}
 use Rattle.bag_stages.proofs.HasLists.{Decided, nothing, one_where, same_set, either, for_each, where_so}
 use Rattle.bag_stages.proofs.LeftOut.{v097_or_not, v10_or_not}
@@ -61,7 +62,7 @@ module _ (bag : Bag) where
   from_not_in alg f (code, (e, at, has, out)) = (
     e,
     has,
-    (out, (λ i. record { code = code i; path = at.path_is i; alg = at.alg_is i; line = at.line_is i; detail = at.detail_is i })),
+    (out, made_of f FetchNotInManifest fetch_txt (Some alg) e.line e.path code at),
   )
 
   of_alg : (alg : Alg) → HasList (IsNotInManifest bag alg)
@@ -81,7 +82,7 @@ module _ (bag : Bag) where
   from_not_in_any f (code, (e, at, has, out)) = (
     e,
     has,
-    (out, (λ i. record { code = code i; path = at.path_is i; alg = at.alg_is i; line = at.line_is i; detail = at.detail_is i })),
+    (out, made_of f FetchNotInManifest fetch_txt None e.line e.path code at),
   )
 
   in_any : HasList (IsNotInAny bag)
@@ -91,8 +92,8 @@ module _ (bag : Bag) where
 
   not_listed : HasList (IsNotListed bag)
   not_listed =
-      either _ _ (where_so (rules_in bag ≡ V10) (IsNotInSome bag) (v10_or_not (rules_in bag)) (over_algs (IsNotInManifest bag) of_alg))
-      (where_so (rules_in bag ≡ V097) (IsNotInAny bag) (v097_or_not (rules_in bag)) in_any)
+      either _ _ (where_so (IsByV10 bag) (IsNotInSome bag) (v10_or_not (rules_in bag)) (over_algs (IsNotInManifest bag) of_alg))
+      (where_so (IsByV097 bag) (IsNotInAny bag) (v097_or_not (rules_in bag)) in_any)
 
 pub fetch_faults_are_listed : FetchFaultsAreListed
 fetch_faults_are_listed bag =

@@ -3,6 +3,7 @@ use Rattle.std.proofs.Common.{◌≡◌, ◌∷◌, ℕ, List, [], None, refl, s
 use Rattle.bag_text.specs.Order.{IsListOf}
 use Rattle.bag_text.proofs.ListOf.{contains_first, contains_nothing, nothing_listed, one_listed, same_members}
 use Rattle.bag_text.specs.declared.alg.Alg.{Alg}
+use Rattle.bag_text.specs.declared.code.Code.TheVariants.{FetchNotInManifest}
 use Rattle.bag_read.specs.declared.fetch.FetchEntry.{FetchEntry}
 use Rattle.bag_read.specs.declared.kind.Kind.TheVariants.{Payload}
 use Rattle.bag_tree.specs.Bag.{Bag}
@@ -12,6 +13,7 @@ use Rattle.bag_stages.specs.FetchFaults.{AreFetched, IsNamedByNone, IsNamedByNon
 use Rattle.bag_stages.specs.FetchStage.{fetch_txt}
 use Rattle.bag_stages.specs.LeftOut.{IsNamedBySome}
 use Rattle.bag_stages.specs.TagFiles.{HasSupported}
+use Rattle.bag_stages.proofs.FaultFields.{made_of}
 
 module _ (bag : Bag) where
   -- one file, that some manifest names or none does
@@ -38,7 +40,7 @@ module _ (bag : Bag) where
     from_not_in_any f (code, (e, at, has, (some, none))) = (
       e,
       (fetched.members e).1 has,
-      ((λ i. record { code = code i; path = at.path_is i; alg = at.alg_is i; line = at.line_is i; detail = at.detail_is i }), none),
+      (made_of f FetchNotInManifest fetch_txt None e.line e.path code at, none),
     )
 
     -- where there is a payload manifest, these are the faults

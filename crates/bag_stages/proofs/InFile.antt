@@ -19,6 +19,7 @@ use Rattle.bag_facts.specs.FaultOrder.{fault_cmp}
 use Rattle.bag_stages.specs.FaultFields.{in_file, in_line}
 use Rattle.bag_facts.proofs.Mapped.{mapped_contains, contains_mapped}
 use Rattle.bag_facts.proofs.Ascending.{self_ties}
+use Rattle.bag_stages.proofs.FaultFields.{made_of}
 
 -- faults of one stage are ordered by their paths first
 pub less_by_path : (x y : Fault) → stage x.code ≡ stage y.code → text_cmp x.path y.path ≡ Less → fault_cmp x y ≡ Less
@@ -73,7 +74,7 @@ module _ (path : List ℕ) (alg : Option Alg) where
 
   -- a fault of the file is what it says of its line
   pub again_in_file : (f : Fault) → f.path ≡ path → f.alg ≡ alg → in_file path alg (in_line f) ≡ f
-  again_in_file f p a = λ i. record { code = f.code; path = sym p i; alg = sym a i; line = f.line; detail = f.detail }
+  again_in_file f p a = sym (made_of f f.code path alg f.line f.detail refl (record { path_is = p; alg_is = a; line_is = refl; detail_is = refl }))
 
   -- the faults of the file's lines are those of the bag that are of the file
   pub listed_in_file : (k : ℕ) (IsWrong : LineFault → Type 0) (lines : List LineFault) → ((x : LineFault) → IsWrong x → stage x.code ≡ k) → IsListOf line_fault_cmp IsWrong lines

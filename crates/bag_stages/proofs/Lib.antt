@@ -9,6 +9,7 @@ pub mod CompletenessList
 pub mod DeclarationFaults
 pub mod DeclarationList
 pub mod EachOnce
+pub mod FaultFields
 pub mod FaultsOfPaths
 pub mod FetchFaults
 pub mod FetchFaultsList

@@ -9,8 +9,6 @@ use Rattle.bag_text.specs.Text.{text_cmp, IsNoText}
 use Rattle.bag_text.specs.Code.{stage}
 use Rattle.bag_text.specs.Lines.{IsLine, lines_of_file}
 use Rattle.bag_text.specs.Order.{IsListOf}
-use Rattle.bag_text.specs.declared.rules.Rules.{Rules}
-use Rattle.bag_text.specs.declared.rules.Rules.TheVariants.{V10, V097}
 use Rattle.bag_text.specs.declared.alg.Alg.{Alg}
 use Rattle.bag_text.specs.declared.code.Code.{Code}
 use Rattle.bag_text.specs.declared.code.Code.TheVariants.{NotUtf8, ManifestLine, DigestLength, ManifestEscape, ManifestUnsafePath, ManifestOutsidePayload, TagmanifestNamesPayload, TagmanifestNamesTagmanifest, NamedAgain, PayloadManifestNotListed}
@@ -33,7 +31,7 @@ use Rattle.bag_read.proofs.ManifestEntries.{entry_named, named_has_entry}
 use Rattle.bag_read.proofs.TagPaths.{paths_differ}
 use Rattle.bag_facts.specs.declared.fault.Fault.{Fault}
 use Rattle.bag_facts.specs.FaultOrder.{fault_cmp}
-use Rattle.bag_facts.specs.Facts.{rules_in, IsFactsOf, IsSaid}
+use Rattle.bag_facts.specs.Facts.{rules_in, IsByV10, IsByV097, IsFactsOf, IsSaid}
 use Rattle.bag_facts.specs.TagFacts.{name_of, path_of, entry_paths, AreByPath}
 use Rattle.bag_facts.specs.TagReader.{AreListed}
 use Rattle.bag_facts.specs.Wanted.{paths_of}
@@ -44,20 +42,22 @@ use Rattle.bag_facts.specs.declared.tag_facts.TagFacts.{TagFacts}
 use Rattle.bag_facts.specs.declared.tag_facts.TagFacts.TheVariants as facts
 use Rattle.bag_facts.proofs.ListedFiles.{file_listed, listed_file}
 use Rattle.bag_facts.proofs.Mapped.{mapped_contains, contains_mapped}
-use Rattle.bag_stages.specs.ManifestFaults.{unnamed, IsUnnamedFault, IsUnnamedAmong, IsUnnamedBy, IsUnlisted, IsLineFault, IsOfManifest}
+use Rattle.bag_stages.specs.ManifestFaults.{unnamed, IsAskedUnnamed, IsUnnamedFault, IsUnnamedAmong, IsUnlisted, IsLineFault, IsOfManifest}
 use Rattle.bag_stages.specs.ManifestsStage.{ManifestHolds, IsOfManifests, InManifest, ManifestFaultsAreOfStageFive}
 use Rattle.bag_stages.specs.FaultFields.{in_file, in_line}
 use Rattle.bag_stages.specs.TagFiles.{manifest_of, Names}
+use Rattle.bag_stages.proofs.FaultFields.{made_of}
 use Rattle.bag_stages.proofs.ByPath.{one_item_more, take_whole}
+use Rattle.bag_stages.proofs.LeftOut.{not_both}
 use Rattle.bag_stages.proofs.InFile.{less_by_path, less_of_file, listed_in_file}
 
 -- the rules of 1.0 ask for these faults, and those of 0.97 for none
-pub asked_unnamed : (rules : Rules) (path : List ℕ) (alg : Alg) (entries : List ManifestEntry) (files : List (List ℕ)) (faults : List Fault) → rules ≡ V10
-    → IsListOf fault_cmp (IsUnnamedAmong path alg entries files) faults → IsListOf fault_cmp (IsUnnamedBy rules path alg entries files) faults
-asked_unnamed rules path alg entries files faults by list = same_members fault_cmp _ _ faults (λ f h. (by, h)) (λ f h. h.1) list
+pub asked_unnamed : (bag : Bag) (path : List ℕ) (alg : Alg) (entries : List ManifestEntry) (files : List (List ℕ)) (faults : List Fault) → IsByV10 bag
+    → IsListOf fault_cmp (IsUnnamedAmong path alg entries files) faults → IsListOf fault_cmp (IsAskedUnnamed bag path alg entries files) faults
+asked_unnamed bag path alg entries files faults by list = same_members fault_cmp _ _ faults (λ f h. (by, h)) (λ f h. h.1) list
 
-pub unasked_unnamed : (rules : Rules) (path : List ℕ) (alg : Alg) (entries : List ManifestEntry) (files : List (List ℕ)) → rules ≡ V097 → IsListOf fault_cmp (IsUnnamedBy rules path alg entries files) []
-unasked_unnamed rules path alg entries files by = nothing_listed fault_cmp _ (λ f h. let clash : V097 ≡ V10 = sym by ∙ h.0 in cc)
+pub unasked_unnamed : (bag : Bag) (path : List ℕ) (alg : Alg) (entries : List ManifestEntry) (files : List (List ℕ)) → IsByV097 bag → IsListOf fault_cmp (IsAskedUnnamed bag path alg entries files) []
+unasked_unnamed bag path alg entries files by = nothing_listed fault_cmp _ (λ f h. not_both (rules_in bag) h.0 by)
 
 -- the same fault of two files is ordered as these
 pub less_unnamed : (path : List ℕ) (alg : Alg) (entries : List ManifestEntry) (x y : Fault) → IsUnnamedFault path alg entries x → IsUnnamedFault path alg entries y
@@ -127,7 +127,7 @@ module _ (bag : Bag) (kind : Kind) (alg : Alg) where
 -- a tag manifest that is there: what it doesn't name, and then the faults of its lines
 module _ (bag : Bag) (files : List FileEntry) (alg : Alg) (bytes : List ℕ) (all : List ManifestEntry) (listed : AreListed bag files) (there : file bag (manifest_of Tag alg) ≡ Some bytes)
     (entries : IsListOf (on (λ e. e.path) text_cmp) (IsEntry (rules_in bag) Tag alg (lines_of_file bytes)) all) where
-  unlisted_from : (f : Fault) → IsUnnamedBy (rules_in bag) (manifest_of Tag alg) alg all (paths_of files) f → IsUnlisted bag Tag alg f
+  unlisted_from : (f : Fault) → IsAskedUnnamed bag (manifest_of Tag alg) alg all (paths_of files) f → IsUnlisted bag Tag alg f
   unlisted_from f (by, (c, (is, ((other, text, at), lacks)))) = (
     by,
     ap (λ (x : Fault). x.code) is,
@@ -140,13 +140,13 @@ module _ (bag : Bag) (files : List FileEntry) (alg : Alg) (bytes : List ℕ) (al
     ),
   )
 
-  from_unlisted : (f : Fault) → IsUnlisted bag Tag alg f → IsUnnamedBy (rules_in bag) (manifest_of Tag alg) alg all (paths_of files) f
+  from_unlisted : (f : Fault) → IsUnlisted bag Tag alg f → IsAskedUnnamed bag (manifest_of Tag alg) alg all (paths_of files) f
   from_unlisted f (by, code, (other, at, has, there_too, lacks)) = (
     by,
     (
       subst (Contains (paths_of files)) (sym at.detail_is) (file_listed bag files (manifest_name Payload other) listed there_too.1),
       (
-        (λ i. record { code = code i; path = at.path_is i; alg = at.alg_is i; line = at.line_is i; detail = f.detail }),
+        made_of f PayloadManifestNotListed (manifest_of Tag alg) (Some alg) 0 f.detail code (record { path_is = at.path_is; alg_is = at.alg_is; line_is = at.line_is; detail_is = refl }),
         (
           (other, there_too.0, at.detail_is),
           (λ c. lacks (entry_names bag Tag alg bytes all there entries (manifest_name Payload other) (subst (Contains (entry_paths all)) at.detail_is c))),
@@ -162,7 +162,7 @@ module _ (bag : Bag) (files : List FileEntry) (alg : Alg) (bytes : List ℕ) (al
       less_of_file (manifest_of Tag alg) (Some alg) x y at.path_is at.alg_is b.0.0 b.0.1 (ap stage a.1 ∙ sym b.1)
       (line_below (in_line x) (in_line y) (subst (λ n. n < y.line) (sym at.line_is) line))
 
-  tag_manifest_listed : (of_names of_lines : List Fault) → IsListOf fault_cmp (IsUnnamedBy (rules_in bag) (manifest_of Tag alg) alg all (paths_of files)) of_names
+  tag_manifest_listed : (of_names of_lines : List Fault) → IsListOf fault_cmp (IsAskedUnnamed bag (manifest_of Tag alg) alg all (paths_of files)) of_names
       → IsListOf fault_cmp (IsLineFault bag Tag alg) of_lines → IsListOf fault_cmp (IsOfManifest bag Tag alg) (of_names ++ of_lines)
   tag_manifest_listed of_names of_lines names lines =
       joined fault_cmp (IsUnlisted bag Tag alg) (IsLineFault bag Tag alg) of_names of_lines (same_members fault_cmp _ _ of_names unlisted_from from_unlisted names) lines before_lines
@@ -170,7 +170,7 @@ module _ (bag : Bag) (files : List FileEntry) (alg : Alg) (bytes : List ℕ) (al
 -- the faults of a tag manifest: what it doesn't name, and then those of its lines
 pub read_tag_manifest : (bag : Bag) (files : List FileEntry) (kind : Kind) (alg : Alg) (bytes path : List ℕ) (all : List ManifestEntry) (of_names of_lines faults : List Fault) → kind ≡ Tag
     → AreListed bag files → file bag (manifest_of kind alg) ≡ Some bytes → IsListOf (on (λ e. e.path) text_cmp) (IsEntry (rules_in bag) kind alg (lines_of_file bytes)) all → path ≡ manifest_of kind alg
-    → (AreByPath all → IsListOf fault_cmp (IsUnnamedBy (rules_in bag) path alg all (paths_of files)) of_names) → IsListOf fault_cmp (IsLineFault bag kind alg) of_lines
+    → (AreByPath all → IsListOf fault_cmp (IsAskedUnnamed bag path alg all (paths_of files)) of_names) → IsListOf fault_cmp (IsLineFault bag kind alg) of_lines
     → faults ≡ of_names ++ of_lines → IsListOf fault_cmp (IsOfManifest bag kind alg) faults
 read_tag_manifest bag files Payload alg bytes path all of_names of_lines faults is listed there entries at names lines made = cc
 read_tag_manifest bag files Tag alg bytes path all of_names of_lines faults is listed there entries at names lines made =

@@ -9,9 +9,8 @@ use Rattle.std.specs.Str.{is_utf8}
 use Rattle.std.proofs.lemmas.Map.Views.{Contains-from_any, list_any-from_Contains}
 use Rattle.bag_text.specs.Lines.{lines_of_file}
 use Rattle.bag_text.specs.Text.{text_cmp}
-use Rattle.bag_text.specs.declared.rules.Rules.{Rules}
-use Rattle.bag_text.specs.declared.rules.Rules.TheVariants.{V10}
 use Rattle.bag_text.specs.declared.alg.Alg.{Alg}
+use Rattle.bag_text.specs.declared.code.Code.TheVariants.{PayloadManifestNotListed}
 use Rattle.bag_read.specs.Judged.{judged_and_marked, fault_of}
 use Rattle.bag_read.specs.LineFault.{AreFaults, not_utf8}
 use Rattle.bag_read.specs.Manifest.{IsManifestFault}
@@ -25,12 +24,13 @@ use Rattle.bag_read.proofs.ManifestFaults.{faults_of_text, faults_of_no_text}
 use Rattle.bag_tree.specs.Bag.{Bag, file, has_file}
 use Rattle.bag_tree.proofs.SameText.{one_text}
 use Rattle.bag_facts.specs.declared.fault.Fault.{Fault}
-use Rattle.bag_facts.specs.Facts.{rules_in}
+use Rattle.bag_facts.specs.Facts.{rules_in, IsByV10}
 use Rattle.bag_stages.specs.FaultFields.{in_file}
 use Rattle.bag_stages.specs.HasList.{HasList}
 use Rattle.bag_stages.specs.ManifestFaults.{unnamed, IsUnlisted, IsLineFault}
 use Rattle.bag_stages.specs.ManifestsStage.{IsOfManifests, ManifestFaultsAreListed}
 use Rattle.bag_stages.specs.TagFiles.{manifest_of, named_in, HasManifest, HasSupported, Names}
+use Rattle.bag_stages.proofs.FaultFields.{made_of}
 use Rattle.bag_stages.proofs.BagLists.{manifests_listed, over_names}
 use Rattle.bag_stages.proofs.HasLists.{Decided, true_or_not, both_decided, not_decided, nothing, one_where, same_set, either, for_each}
 use Rattle.bag_stages.proofs.LeftOut.{v10_or_not}
@@ -47,22 +47,22 @@ pub missing_or_not : (paths : List (List ℕ)) (path : List ℕ) → Decided (¬
 missing_or_not paths path = not_decided (Contains paths path) (there_or_not paths path)
 
 -- the faults of the lines of any bytes
-line_faults : (rules : Rules) (kind : Kind) (alg : Alg) (bytes : List ℕ) (b : Bool) → is_utf8 bytes ≡ b → (faults : List LineFault) × AreFaults (IsManifestFault rules kind alg bytes) faults
-line_faults rules kind alg bytes true e = (filter_map fault_of (judged_and_marked rules kind alg (lines_of_file bytes)), faults_of_text rules kind alg bytes e)
-line_faults rules kind alg bytes false e = (not_utf8 ∷ [], faults_of_no_text rules kind alg bytes e)
+line_faults : (bag : Bag) (kind : Kind) (alg : Alg) (bytes : List ℕ) (b : Bool) → is_utf8 bytes ≡ b → (faults : List LineFault) × AreFaults (IsManifestFault (rules_in bag) kind alg bytes) faults
+line_faults bag kind alg bytes true e = (filter_map fault_of (judged_and_marked (rules_in bag) kind alg (lines_of_file bytes)), faults_of_text (rules_in bag) kind alg bytes e)
+line_faults bag kind alg bytes false e = (not_utf8 ∷ [], faults_of_no_text (rules_in bag) kind alg bytes e)
 
 module _ (bag : Bag) where
   lines_of : (kind : Kind) (alg : Alg) (content : Option (List ℕ)) → file bag (manifest_of kind alg) ≡ content → HasList (IsLineFault bag kind alg)
   lines_of kind alg None e = nothing (IsLineFault bag kind alg) (λ f h. let clash : None ≡ Some h.0.2.0 = sym e ∙ h.0.2.1 in cc)
   lines_of kind alg (Some bytes) e =
-      let lines = line_faults (rules_in bag) kind alg bytes (is_utf8 bytes) refl in
+      let lines = line_faults bag kind alg bytes (is_utf8 bytes) refl in
       let path = manifest_of kind alg in
       let faults : List Fault = if is_utf8 bytes then map (in_file path (Some alg)) lines.0 else [] in
       (faults, (lines_listed bag kind alg bytes path (is_utf8 bytes) lines.0 faults e refl lines.1 refl refl).members)
 
   -- the tag manifest that is there doesn't name the payload manifest of this text
   abbrev Lacks : Alg → List ℕ → Type 0
-  Lacks alg other = (rules_in bag ≡ V10) × (HasSupported bag Tag alg × ¬ (Names bag Tag alg (manifest_name Payload other)))
+  Lacks alg other = IsByV10 bag × (HasSupported bag Tag alg × ¬ (Names bag Tag alg (manifest_name Payload other)))
 
   abbrev IsLacking : Alg → List ℕ → Fault → Type 0
   IsLacking alg other f = Lacks alg other × (f ≡ unnamed (manifest_of Tag alg) alg (manifest_name Payload other))
@@ -84,7 +84,7 @@ module _ (bag : Bag) where
   from_unlisted alg f (by, code, (other, at, there, has, lacks)) = (
     other,
     has,
-    ((by, (there, lacks)), (λ i. record { code = code i; path = at.path_is i; alg = at.alg_is i; line = at.line_is i; detail = at.detail_is i })),
+    ((by, (there, lacks)), made_of f PayloadManifestNotListed (manifest_of Tag alg) (Some alg) 0 (manifest_name Payload other) code at),
   )
 
   unlisted : (kind : Kind) (alg : Alg) → HasList (IsUnlisted bag kind alg)

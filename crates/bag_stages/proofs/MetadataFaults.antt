@@ -6,7 +6,6 @@ use Rattle.std.specs.Str.{is_utf8}
 use Rattle.bag_text.specs.Code.{stage}
 use Rattle.bag_text.specs.Lines.{IsLine, lines_of_file}
 use Rattle.bag_text.specs.Order.{IsListOf}
-use Rattle.bag_text.specs.declared.rules.Rules.{Rules}
 use Rattle.bag_text.specs.declared.code.Code.{Code}
 use Rattle.bag_text.specs.declared.code.Code.TheVariants.{NotUtf8, InfoLine, OxumMalformed, OxumAgain, OxumDiffers, NoOxum}
 use Rattle.bag_text.proofs.ListOf.{nothing_listed, same_members}
@@ -33,17 +32,17 @@ use Rattle.bag_stages.proofs.OxumFaults.{by_line, IsOfOxum, oxum_listed}
 use Rattle.bag_stages.proofs.Sorted.{sorted_together}
 
 -- what is wrong with a line of a text
-line_code : (rules : Rules) (c : Code) (bytes : List ℕ) (x : LineFault) → is_utf8 bytes ≡ true → InfoFault rules c bytes x → c ≡ InfoLine
-line_code rules NotUtf8 bytes x text h = let clash : true ≡ false = sym text ∙ h.2 in cc
-line_code rules InfoLine bytes x text h = refl
-line_code rules c bytes x text h = absurd h
+line_code : (bag : Bag) (c : Code) (bytes : List ℕ) (x : LineFault) → is_utf8 bytes ≡ true → InfoFault (rules_in bag) c bytes x → c ≡ InfoLine
+line_code bag NotUtf8 bytes x text h = let clash : true ≡ false = sym text ∙ h.2 in cc
+line_code bag InfoLine bytes x text h = refl
+line_code bag c bytes x text h = absurd h
 
 no_lines : (bytes line : List ℕ) (k : ℕ) → is_utf8 bytes ≡ false → IsLine (lines_of_file bytes) k line → ⊥
 no_lines bytes line k e h = let none : IsLine [] k line = rw e at h in let clash : None ≡ Some line = none.1 in cc
 
-no_line_fault : (rules : Rules) (c : Code) (bytes : List ℕ) (x : LineFault) → is_utf8 bytes ≡ false → c ≡ InfoLine → InfoFault rules c bytes x → ⊥
-no_line_fault rules InfoLine bytes x lacks e h = no_lines bytes h.0 x.line lacks h.2
-no_line_fault rules c bytes x lacks e h = no_lines bytes (subst (λ d. InfoFault rules d bytes x) e h).0 x.line lacks (subst (λ d. InfoFault rules d bytes x) e h).2
+no_line_fault : (bag : Bag) (c : Code) (bytes : List ℕ) (x : LineFault) → is_utf8 bytes ≡ false → c ≡ InfoLine → InfoFault (rules_in bag) c bytes x → ⊥
+no_line_fault bag InfoLine bytes x lacks e h = no_lines bytes h.0 x.line lacks h.2
+no_line_fault bag c bytes x lacks e h = no_lines bytes (subst (λ d. InfoFault (rules_in bag) d bytes x) e h).0 x.line lacks (subst (λ d. InfoFault (rules_in bag) d bytes x) e h).2
 
 line_or_other : (c : Code) → (c ≡ InfoLine) ⊎ (c ≢ InfoLine)
 line_or_other InfoLine = inl refl
@@ -72,13 +71,13 @@ module _ (bag : Bag) where
       → IsListOf fault_cmp IsOfLine (map (in_file bag_info_txt None) lines)
   text_lines_listed bytes lines there text list =
       same_members fault_cmp _ _ (map (in_file bag_info_txt None) lines)
-      (λ f h. of_info f (line_code (rules_in bag) f.code bytes (in_line f) text h.2) (h.0, h.1, (bytes, there, h.2)))
+      (λ f h. of_info f (line_code bag f.code bytes (in_line f) text h.2) (h.0, h.1, (bytes, there, h.2)))
       (λ f h. let i = in_info f h in (i.0, i.1, wrong_line bytes f there i))
-      (listed_in_file bag_info_txt None 3 (IsInfoFault (rules_in bag) bytes) lines (λ x h. ap stage (line_code (rules_in bag) x.code bytes x text h)) list)
+      (listed_in_file bag_info_txt None 3 (IsInfoFault (rules_in bag) bytes) lines (λ x h. ap stage (line_code bag x.code bytes x text h)) list)
 
   no_lines_listed : (bytes : List ℕ) → file bag bag_info_txt ≡ Some bytes → is_utf8 bytes ≡ false → IsListOf fault_cmp IsOfLine []
   no_lines_listed bytes there lacks =
-      nothing_listed fault_cmp _ (λ f h. no_line_fault (rules_in bag) f.code bytes (in_line f) lacks h.1 (wrong_line bytes f there (in_info f h)))
+      nothing_listed fault_cmp _ (λ f h. no_line_fault bag f.code bytes (in_line f) lacks h.1 (wrong_line bytes f there (in_info f h)))
 
   -- the faults of the lines, where the file is there
   pub lines_listed : (bytes : List ℕ) (is_text : Bool) (lines : List LineFault) → file bag bag_info_txt ≡ Some bytes → is_text ≡ is_utf8 bytes → AreFaults (IsInfoFault (rules_in bag) bytes) lines

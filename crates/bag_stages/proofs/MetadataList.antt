@@ -4,7 +4,6 @@ use Rattle.std.specs.List.{enumerate_from}
 use Rattle.std.specs.Prelude.{if◌then◌else◌}
 use Rattle.std.specs.Str.{is_utf8}
 use Rattle.bag_text.specs.Lines.{lines_of_file}
-use Rattle.bag_text.specs.declared.rules.Rules.{Rules}
 use Rattle.bag_read.specs.Info.{IsInfoFault}
 use Rattle.bag_read.specs.InfoReader as reading
 use Rattle.bag_read.specs.LineFault.{AreFaults, not_utf8}
@@ -27,15 +26,15 @@ use Rattle.bag_stages.proofs.MetadataFaults.{IsOfLine, lines_listed, unread_line
 use Rattle.bag_stages.proofs.OxumFaults.{IsOfOxum, oxum_listed}
 
 -- the faults of the lines of any bytes
-line_faults : (rules : Rules) (bytes : List ℕ) (b : Bool) → is_utf8 bytes ≡ b → (faults : List LineFault) × AreFaults (IsInfoFault rules bytes) faults
-line_faults rules bytes true e = (reading.faults rules false (enumerate_from 1 (lines_of_file bytes)), faults_of_text rules bytes e)
-line_faults rules bytes false e = (not_utf8 ∷ [], faults_of_no_text rules bytes e)
+line_faults : (bag : Bag) (bytes : List ℕ) (b : Bool) → is_utf8 bytes ≡ b → (faults : List LineFault) × AreFaults (IsInfoFault (rules_in bag) bytes) faults
+line_faults bag bytes true e = (reading.faults (rules_in bag) false (enumerate_from 1 (lines_of_file bytes)), faults_of_text (rules_in bag) bytes e)
+line_faults bag bytes false e = (not_utf8 ∷ [], faults_of_no_text (rules_in bag) bytes e)
 
 module _ (bag : Bag) where
   of_lines : (content : Option (List ℕ)) → file bag bag_info_txt ≡ content → HasList (IsOfLine bag)
   of_lines None none = nothing (IsOfLine bag) (unread_lines bag none)
   of_lines (Some bytes) there =
-      let lines = line_faults (rules_in bag) bytes (is_utf8 bytes) refl in
+      let lines = line_faults bag bytes (is_utf8 bytes) refl in
       let faults : List Fault = if is_utf8 bytes then map (in_file bag_info_txt None) lines.0 else [] in
       (faults, (lines_listed bag bytes (is_utf8 bytes) lines.0 there refl lines.1).members)
 

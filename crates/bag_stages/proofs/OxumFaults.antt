@@ -23,12 +23,13 @@ use Rattle.bag_facts.specs.declared.fault.Fault.{Fault}
 use Rattle.bag_facts.specs.FaultOrder.{fault_cmp}
 use Rattle.bag_facts.specs.Facts.{rules_in}
 use Rattle.bag_facts.proofs.Mapped.{mapped_contains, contains_mapped, kept, passed}
-use Rattle.bag_stages.specs.FaultFields.{At, in_file}
+use Rattle.bag_stages.specs.FaultFields.{At}
 use Rattle.bag_stages.specs.Metadata.{bag_info_txt, HasElement, HasFirst, HasLater}
 use Rattle.bag_stages.specs.MetadataStage.{oxum_label, MetadataHolds, IsOfMetadata, pair}
 use Rattle.bag_stages.specs.OxumFaults.{same_oxum, of_element, again, no_oxum, is_oxum, oxums, differs, told_faults, first_faults, oxum_faults}
 use Rattle.bag_stages.specs.Payload.{oxum, oxum_text}
 use Rattle.bag_stages.specs.TagFiles.{lines_in}
+use Rattle.bag_stages.proofs.FaultFields.{made_of}
 use Rattle.bag_stages.proofs.InFile.{less_in_file}
 
 abbrev pub by_line : Element → Element → Ordering
@@ -48,12 +49,9 @@ itself a = rw ((Decides-eqb a.octets a.octets).1 refl, (Decides-eqb a.streams a.
 other_size : (a b : Oxum) → same_oxum a b ≡ false → a ≢ b
 other_size a b e same = let clash : false ≡ true = sym e ∙ ap (same_oxum a) (sym same) ∙ itself a in cc
 
--- the fields of a fault of an element, and the fault that has them
+-- the fields of a fault of an element
 of_fields : (code : Code) (e : Element) (detail : List ℕ) → At (of_element bag_info_txt code e detail) bag_info_txt None e.line detail
 of_fields code e detail = record { path_is = refl; alg_is = refl; line_is = refl; detail_is = refl }
-
-fields_of : (f : Fault) (code : Code) (line : ℕ) (detail : List ℕ) → f.code ≡ code → At f bag_info_txt None line detail → f ≡ in_file bag_info_txt None (line_fault line code detail)
-fields_of f code line detail e at = λ i. record { code = e i; path = at.path_is i; alg = at.alg_is i; line = at.line_is i; detail = at.detail_is i }
 
 -- faults of two elements stand in the order of these
 less_of_elements : (c d : Code) (x y : Element) (s t : List ℕ) → nat_cmp x.line y.line ≡ Less → stage c ≡ stage d
@@ -154,7 +152,7 @@ module _ (bag : Bag) where
   malformed_in e f code at none =
       let made : Fault = of_element bag_info_txt OxumMalformed e e.value in
       subst (λ o. Contains (told_faults bag_info_txt (oxum bag) e o) f) (sym none)
-      (subst (Contains (made ∷ [])) (sym (fields_of f OxumMalformed e.line e.value code at)) (contains_first made []))
+      (subst (Contains (made ∷ [])) (sym (made_of f OxumMalformed bag_info_txt None e.line e.value code at)) (contains_first made []))
 
   found_other : (told : Oxum) (b : Bool) → same_oxum told (oxum bag) ≡ b → told ≢ oxum bag → b ≡ false
   found_other told true e other = absurd (other (same_sizes told (oxum bag) e))
@@ -166,11 +164,11 @@ module _ (bag : Bag) where
       let made : Fault = differs bag_info_txt (oxum bag) e in
       subst (λ o. Contains (told_faults bag_info_txt (oxum bag) e o) f) (sym is)
       (subst (λ b. Contains (cond b [] (made ∷ [])) f) (sym (found_other told (same_oxum told (oxum bag)) refl other))
-      (subst (Contains (made ∷ [])) (sym (fields_of f OxumDiffers e.line (pair e.value (oxum_text (oxum bag))) code at)) (contains_first made [])))
+      (subst (Contains (made ∷ [])) (sym (made_of f OxumDiffers bag_info_txt None e.line (pair e.value (oxum_text (oxum bag))) code at)) (contains_first made [])))
 
   again_in : (e : Element) (later : List Element) (f : Fault) → f.code ≡ OxumAgain → At f bag_info_txt None e.line e.value → Contains later e → Contains (map (again bag_info_txt) later) f
   again_in e later f code at c =
-      subst (Contains (map (again bag_info_txt) later)) (sym (fields_of f OxumAgain e.line e.value code at)) (mapped_contains (again bag_info_txt) later e c)
+      subst (Contains (map (again bag_info_txt) later)) (sym (made_of f OxumAgain bag_info_txt None e.line e.value code at)) (mapped_contains (again bag_info_txt) later e c)
 
   -- no element tells the size
   module _ (list : IsListOf by_line (HasElement bag oxum_label) []) where
@@ -183,7 +181,7 @@ module _ (bag : Bag) where
     none_by f OxumMalformed e other (d, at, first, none) = absurd (lacks d first.0)
     none_by f OxumAgain e other (d, at, later) = absurd (lacks d later.0)
     none_by f OxumDiffers e other (d, told, at, first, is, differs) = absurd (lacks d first.0)
-    none_by f NoOxum e other (at, none) = fields_of f NoOxum 0 [] e at
+    none_by f NoOxum e other (at, none) = made_of f NoOxum bag_info_txt None 0 [] e at
     none_by f c e other h = absurd h
 
   -- the first element and the later ones

@@ -25,6 +25,7 @@ use Rattle.bag_read.specs.declared.tag_name.TagName.{TagName}
 use Rattle.bag_read.specs.declared.tag_name.TagName.TheVariants as tag_name
 use Rattle.bag_read.proofs.ManifestName.{same_alg}
 use Rattle.bag_read.proofs.TagPaths.{name_named, paths_differ}
+use Rattle.bag_facts.specs.FaultAt.{of_path}
 use Rattle.bag_facts.specs.declared.fault.Fault.{Fault}
 use Rattle.bag_facts.specs.FaultOrder.{fault_cmp}
 use Rattle.bag_facts.specs.Facts.{rules_in, IsFactsOf, IsSaid}
@@ -41,6 +42,7 @@ use Rattle.bag_stages.specs.FileFaults.{AreTagsOf, HasListed, HasTextless, IsUns
 use Rattle.bag_stages.specs.PartsStage.{PartHolds, IsOfParts, PartFaultsAreOfStageTwo}
 use Rattle.bag_stages.specs.FaultFields.{At, of_bag}
 use Rattle.bag_stages.specs.TagFiles.{HasManifest, HasNoText}
+use Rattle.bag_stages.proofs.FaultFields.{made_of}
 use Rattle.bag_stages.proofs.ByPath.{take_whole}
 use Rattle.bag_stages.proofs.InFile.{less_by_path}
 
@@ -108,12 +110,12 @@ file_fault_stage bag f (inl h) = ap stage h.0
 file_fault_stage bag f (inr h) = ap stage h.0
 
 abbrev pub unsupported_fault : List ℕ → List ℕ → Fault
-unsupported_fault path alg = record { code = AlgorithmUnsupported; path = path; alg = None; line = 0; detail = alg }
+unsupported_fault path alg = of_path AlgorithmUnsupported path None alg
 
 same_fault : (bag : Bag) (path alg : List ℕ) → IsUnsupported path alg → (y : Fault) → y.path ≡ path → IsFileFault bag y → y ≡ unsupported_fault path alg
 same_fault bag path alg h y at (inl (e, fields, k)) =
     let detail : y.detail ≡ alg = unsupported_once path y.detail alg (subst (λ p. IsUnsupported p y.detail) at k) h in
-    λ i. record { code = e i; path = at i; alg = fields.alg_is i; line = fields.line_is i; detail = detail i }
+    made_of y AlgorithmUnsupported path None 0 alg e (record { path_is = at; alg_is = fields.alg_is; line_is = fields.line_is; detail_is = detail })
 same_fault bag path alg h y at (inr (e, fields, k)) = absurd (unsupported_unread path alg k.0.0 h k.0.1 (k.0.2 ∙ at))
 
 -- a manifest whose algorithm isn't supported has that fault alone
@@ -125,12 +127,12 @@ only_unsupported bag path shown alg f as_shown unsupported is =
     ((refl, inl (refl, record { path_is = refl; alg_is = refl; line_is = refl; detail_is = refl }, h)), λ y k. same_fault bag path alg h y k.0 k.1)
 
 abbrev pub textless_fault : List ℕ → Fault
-textless_fault path = record { code = NotUtf8; path = path; alg = None; line = 0; detail = [] }
+textless_fault path = of_path NotUtf8 path None []
 
 same_textless : (bag : Bag) (path : List ℕ) → ((alg : List ℕ) → ¬ (IsUnsupported path alg)) → (y : Fault) → y.path ≡ path → IsFileFault bag y → y ≡ textless_fault path
 same_textless bag path supported y at (inl k) = absurd (supported y.detail (subst (λ p. IsUnsupported p y.detail) at k.2))
 same_textless bag path supported y at (inr (e, fields, k)) =
-    λ i. record { code = e i; path = at i; alg = fields.alg_is i; line = fields.line_is i; detail = fields.detail_is i }
+    made_of y NotUtf8 path None 0 [] e (record { path_is = at; alg_is = fields.alg_is; line_is = fields.line_is; detail_is = fields.detail_is })
 
 -- a tag file that isn't UTF-8 has that fault alone
 pub only_textless : (bag : Bag) (path one two : List ℕ) (f : Fault) → one ≡ path → two ≡ path → ((alg : List ℕ) → ¬ (IsUnsupported one alg)) → HasNoText bag two → f ≡ textless_fault path
@@ -223,9 +225,9 @@ module _ (bag : Bag) (files : List FileEntry) (has_data has_manifest : Bool) (li
   part_of_holds : (found : has_manifest ≡ true → HasListed files) (f : Fault) (c : Code) → f.code ≡ c → PartHolds bag f c → IsPart files has_data has_manifest bag f
   unfolding PartHolds
   part_of_holds found f NoPayloadFolder e h =
-      inl (inl ((λ i. record { code = e i; path = h.0.path_is i; alg = h.0.alg_is i; line = h.0.line_is i; detail = h.0.detail_is i }), same ∙ h.1))
+      inl (inl (made_of f NoPayloadFolder [] None 0 [] e h.0, same ∙ h.1))
   part_of_holds found f NoPayloadManifest e h =
-      inl (inr ((λ i. record { code = e i; path = h.0.path_is i; alg = h.0.alg_is i; line = h.0.line_is i; detail = h.0.detail_is i }), none_by bag files has_manifest listed found h.1))
+      inl (inr (made_of f NoPayloadManifest [] None 0 [] e h.0, none_by bag files has_manifest listed found h.1))
   part_of_holds found f AlgorithmUnsupported e (kind, alg, at, m, none) =
       inr (
         file_listed bag files f.path listed (subst (HasFile bag) (sym at.path_is) m.1),

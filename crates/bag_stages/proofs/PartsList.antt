@@ -13,20 +13,19 @@ use Rattle.bag_read.specs.declared.kind.Kind.TheVariants.{Payload}
 use Rattle.bag_read.specs.declared.tag_name.TagName.{TagName}
 use Rattle.bag_read.specs.declared.tag_name.TagName.TheVariants.{Declaration}
 use Rattle.bag_tree.specs.Bag.{Bag, file, has_folder}
+use Rattle.bag_facts.specs.FaultAt.{of_path}
 use Rattle.bag_facts.specs.declared.fault.Fault.{Fault}
-use Rattle.bag_stages.specs.FaultFields.{At, of_bag, of_whole}
+use Rattle.bag_stages.specs.FaultFields.{At, of_bag}
 use Rattle.bag_stages.specs.HasList.{HasList}
 use Rattle.bag_stages.specs.PartsStage.{PartHolds, IsOfParts, PartFaultsAreListed}
 use Rattle.bag_stages.specs.TagFiles.{HasManifest}
+use Rattle.bag_stages.proofs.FaultFields.{made_of}
 use Rattle.bag_stages.proofs.BagLists.{manifests_listed, over_kinds, over_names}
 use Rattle.bag_stages.proofs.HasLists.{Decided, false_or_not, both_decided, none_decided, one_where, same_set, either, for_each}
 
--- a fault of a whole file has the fields that it is made of, and no other has
-has_fields : (code : Code) (path detail : List ℕ) → At (of_whole code path detail) path None 0 detail
+-- a fault of a path has the fields that it is made of
+has_fields : (code : Code) (path detail : List ℕ) → At (of_path code path None detail) path None 0 detail
 has_fields code path detail = record { path_is = refl; alg_is = refl; line_is = refl; detail_is = refl }
-
-is_whole : (f : Fault) (code : Code) (path detail : List ℕ) → f.code ≡ code → At f path None 0 detail → f ≡ of_whole code path detail
-is_whole f code path detail e at = λ i. record { code = e i; path = at.path_is i; alg = at.alg_is i; line = at.line_is i; detail = at.detail_is i }
 
 unnamed_or_not : (o : Option Alg) → Decided (o ≡ None)
 unnamed_or_not None = inl refl
@@ -59,23 +58,23 @@ module _ (bag : Bag) where
   OfPayload f = ((alg : List ℕ) → ¬ (HasManifest bag Payload alg)) × (f ≡ of_bag NoPayloadManifest)
 
   abbrev OfKind : Kind → Fault → Type 0
-  OfKind kind f = (alg : List ℕ) × HasManifest bag kind alg × ((alg_named alg ≡ None) × (f ≡ of_whole AlgorithmUnsupported (manifest_name kind alg) alg))
+  OfKind kind f = (alg : List ℕ) × HasManifest bag kind alg × ((alg_named alg ≡ None) × (f ≡ of_path AlgorithmUnsupported (manifest_name kind alg) None alg))
 
   abbrev OfName : TagName → Fault → Type 0
-  OfName name f = ((name ≢ Declaration) × HasOther (tag_path name)) × (f ≡ of_whole NotUtf8 (tag_path name) [])
+  OfName name f = ((name ≢ Declaration) × HasOther (tag_path name)) × (f ≡ of_path NotUtf8 (tag_path name) None [])
 
   abbrev OfPart : Fault → Type 0
   OfPart f = OfFolder f ⊎ (OfPayload f ⊎ (((kind : Kind) × OfKind kind f) ⊎ ((name : TagName) × OfName name f)))
 
   kind_listed : (kind : Kind) → HasList (OfKind kind)
   kind_listed kind =
-      for_each (λ alg f. (alg_named alg ≡ None) × (f ≡ of_whole AlgorithmUnsupported (manifest_name kind alg) alg))
-      (λ alg. one_where (of_whole AlgorithmUnsupported (manifest_name kind alg) alg) (alg_named alg ≡ None) (unnamed_or_not (alg_named alg)))
+      for_each (λ alg f. (alg_named alg ≡ None) × (f ≡ of_path AlgorithmUnsupported (manifest_name kind alg) None alg))
+      (λ alg. one_where (of_path AlgorithmUnsupported (manifest_name kind alg) None alg) (alg_named alg ≡ None) (unnamed_or_not (alg_named alg)))
       (HasManifest bag kind) (manifests_listed bag kind)
 
   name_listed : (name : TagName) → HasList (OfName name)
   name_listed name =
-      one_where (of_whole NotUtf8 (tag_path name) []) ((name ≢ Declaration) × HasOther (tag_path name))
+      one_where (of_path NotUtf8 (tag_path name) None []) ((name ≢ Declaration) × HasOther (tag_path name))
       (both_decided _ _ (declaration_or_not name) (content_or_not (tag_path name) (file bag (tag_path name)) refl))
 
   each_listed : HasList OfPart
@@ -95,12 +94,12 @@ module _ (bag : Bag) where
 
   from_code : (f : Fault) (c : Code) → f.code ≡ c → PartHolds bag f c → OfPart f
   unfolding PartHolds
-  from_code f NoPayloadFolder e (at, lacks) = inl (lacks, is_whole f NoPayloadFolder [] [] e at)
-  from_code f NoPayloadManifest e (at, lacks) = inr (inl (lacks, is_whole f NoPayloadManifest [] [] e at))
+  from_code f NoPayloadFolder e (at, lacks) = inl (lacks, made_of f NoPayloadFolder [] None 0 [] e at)
+  from_code f NoPayloadManifest e (at, lacks) = inr (inl (lacks, made_of f NoPayloadManifest [] None 0 [] e at))
   from_code f AlgorithmUnsupported e (kind, alg, at, has, none) =
-      inr (inr (inl (kind, (alg, has, (none, is_whole f AlgorithmUnsupported (manifest_name kind alg) alg e at)))))
+      inr (inr (inl (kind, (alg, has, (none, made_of f AlgorithmUnsupported (manifest_name kind alg) None 0 alg e at)))))
   from_code f NotUtf8 e (at, ((name, other, here), text)) =
-      inr (inr (inr (name, ((other, subst HasOther (sym here) text), is_whole f NotUtf8 (tag_path name) [] e (subst (λ p. At f p None 0 []) (sym here) at)))))
+      inr (inr (inr (name, ((other, subst HasOther (sym here) text), made_of f NotUtf8 (tag_path name) None 0 [] e (subst (λ p. At f p None 0 []) (sym here) at)))))
   from_code f other e h = absurd h
 
   from_part : (f : Fault) → IsOfParts bag f → OfPart f

@@ -10,7 +10,6 @@ use Rattle.bag_text.specs.Alg.{algs, rank_cmp}
 use Rattle.bag_text.specs.Code.{stage}
 use Rattle.bag_text.specs.Order.{IsListOf, IsOnly}
 use Rattle.bag_text.specs.Text.{text_cmp}
-use Rattle.bag_text.specs.declared.rules.Rules.{Rules}
 use Rattle.bag_text.specs.declared.alg.Alg.{Alg}
 use Rattle.bag_text.proofs.AlgSets.{each_is_listed, list_ascends}
 use Rattle.bag_text.proofs.ListOf.{nothing_listed, only_listed, same_members}
@@ -21,6 +20,7 @@ use Rattle.bag_read.proofs.ManifestEntries.{entry_named, entry_of_path_once, nam
 use Rattle.bag_tree.specs.Bag.{Bag, file}
 use Rattle.bag_tree.specs.Digest.{digest}
 use Rattle.bag_facts.specs.FaultOrder.{fault_cmp}
+use Rattle.bag_facts.specs.FaultAt.{of_path}
 use Rattle.bag_facts.specs.declared.fault.Fault.{Fault}
 use Rattle.bag_facts.specs.Facts.{rules_in}
 use Rattle.bag_facts.specs.TagFacts.{entry_paths, AreEntriesOf}
@@ -42,18 +42,18 @@ IsOfAlg bag path kind alg f =
     (entry : ManifestEntry) × (content : List ℕ) × IsEntryIn bag kind alg entry × (entry.path ≡ path) × (file bag path ≡ Some content)
     × (entry.digest ≢ digest alg content) × (f ≡ fault_of_sum kind alg entry (digest alg content))
 
-entries_by : (rules : Rules) (kind : Kind) (alg : Alg) (content : Option (List ℕ)) (entries : List ManifestEntry) → AreEntriesOf rules kind alg content entries
-    → IsListOf (on (λ e. e.path) text_cmp) (IsEntry rules kind alg (lines_or_none content)) entries
-entries_by rules kind alg None entries none =
-    subst (IsListOf (on (λ e. e.path) text_cmp) (IsEntry rules kind alg (lines_or_none None))) (sym none)
-    (nothing_listed _ (IsEntry rules kind alg (lines_or_none None)) (λ e h. let clash : None ≡ Some h.0 = h.1.1 in cc))
-entries_by rules kind alg (Some bytes) entries list = list
+entries_by : (bag : Bag) (kind : Kind) (alg : Alg) (content : Option (List ℕ)) (entries : List ManifestEntry) → AreEntriesOf (rules_in bag) kind alg content entries
+    → IsListOf (on (λ e. e.path) text_cmp) (IsEntry (rules_in bag) kind alg (lines_or_none content)) entries
+entries_by bag kind alg None entries none =
+    subst (IsListOf (on (λ e. e.path) text_cmp) (IsEntry (rules_in bag) kind alg (lines_or_none None))) (sym none)
+    (nothing_listed _ (IsEntry (rules_in bag) kind alg (lines_or_none None)) (λ e h. let clash : None ≡ Some h.0 = h.1.1 in cc))
+entries_by bag kind alg (Some bytes) entries list = list
 
 -- one manifest
 module _ (bag : Bag) (path : List ℕ) (kind : Kind) (alg : Alg) where
   module _ (entries : List ManifestEntry) (are : AreEntriesOf (rules_in bag) kind alg (file bag (manifest_of kind alg)) entries) where
     pub listed : IsListOf (on (λ e. e.path) text_cmp) (IsEntryIn bag kind alg) entries
-    listed = entries_by (rules_in bag) kind alg (file bag (manifest_of kind alg)) entries are
+    listed = entries_by bag kind alg (file bag (manifest_of kind alg)) entries are
 
     -- it doesn't name a path that no entry has
     pub not_named : ¬ (Contains (entry_paths entries) path) → ¬ (Names bag kind alg path)
@@ -82,13 +82,7 @@ module _ (bag : Bag) (path content : List ℕ) (there : file bag path ≡ Some c
   same_content f h = let both : Some h.1 ≡ Some content = sym h.4 ∙ there in cc
 
   same_fault : sum_differs path one found ≡ fault_of_sum kind one.alg given.entry found
-  same_fault = λ i. record {
-    code = differing_code (sym right i);
-    path = sym given.path_is i;
-    alg = Some one.alg;
-    line = 0;
-    detail = expected_and_found (sym given.digest_is i) found;
-  }
+  same_fault = λ i. of_path (differing_code (sym right i)) (sym given.path_is i) (Some one.alg) (expected_and_found (sym given.digest_is i) found)
 
   differing_by : (same : Bool) → bytes_eq (encode_lower one.digest) found ≡ same → IsOnly (IsOfAlg bag path kind one.alg) (cond same None (Some (sum_differs path one found)))
   differing_by true e = λ f h.

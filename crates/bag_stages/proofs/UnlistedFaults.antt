@@ -1,7 +1,6 @@
 -- The faults that payload manifests don't name payload files.
 use Rattle.std.proofs.Common.{◌≡◌, List, [], None, Some, ap, subst}
 use Rattle.bag_text.specs.Order.{IsListOf}
-use Rattle.bag_text.specs.declared.rules.Rules.TheVariants.{V10}
 use Rattle.bag_text.specs.declared.alg.Alg.{Alg}
 use Rattle.bag_text.specs.declared.code.Code.TheVariants.{PayloadFileNotListed}
 use Rattle.bag_text.proofs.ListOf.{nothing_listed, same_members}
@@ -10,7 +9,7 @@ use Rattle.bag_tree.specs.Bag.{Bag, file}
 use Rattle.bag_tree.specs.declared.listing.FileEntry.{FileEntry}
 use Rattle.bag_facts.specs.FaultOrder.{fault_cmp}
 use Rattle.bag_facts.specs.declared.fault.Fault.{Fault}
-use Rattle.bag_facts.specs.Facts.{rules_in}
+use Rattle.bag_facts.specs.Facts.{rules_in, IsByV10}
 use Rattle.bag_facts.specs.TagFacts.{AreByPath, IsManifestNamed, IsReadOf}
 use Rattle.bag_facts.specs.TagReader.{AreListed}
 use Rattle.bag_facts.specs.Wanted.{paths_of}
@@ -39,8 +38,8 @@ module _ (bag : Bag) (alg : Alg) where
   no_unlisted read = nothing_listed fault_cmp (IsLeftByOne bag alg) (λ f h. is_absent bag Payload alg read h.1.1.0)
 
   -- the rules of 1.0 ask for these faults, and those of 0.97 for none
-  pub asked_of_one : (faults : List Fault) → rules_in bag ≡ V10 → IsListOf fault_cmp (IsLeftByOne bag alg) faults → IsListOf fault_cmp (IsUnlisted bag alg) faults
+  pub asked_of_one : (faults : List Fault) → IsByV10 bag → IsListOf fault_cmp (IsLeftByOne bag alg) faults → IsListOf fault_cmp (IsUnlisted bag alg) faults
   asked_of_one faults by list = same_members fault_cmp _ _ faults (λ f h. (by, h)) (λ f h. h.1) list
 
-  pub unasked_of_one : ¬ (rules_in bag ≡ V10) → IsListOf fault_cmp (IsUnlisted bag alg) []
+  pub unasked_of_one : ¬ (IsByV10 bag) → IsListOf fault_cmp (IsUnlisted bag alg) []
   unasked_of_one not = nothing_listed fault_cmp (IsUnlisted bag alg) (λ f h. not h.0)

@@ -2,7 +2,6 @@
 use Rattle.std.proofs.Common.{◌≡◌, ◌∷◌, ℕ, List, [], None, refl, subst, Contains}
 use Rattle.bag_text.specs.Order.{IsListOf}
 use Rattle.bag_text.proofs.ListOf.{contains_first, contains_nothing, nothing_listed, same_members}
-use Rattle.bag_text.specs.declared.rules.Rules.TheVariants.{V097}
 use Rattle.bag_text.specs.declared.alg.Alg.{Alg}
 use Rattle.bag_text.specs.declared.code.Code.TheVariants.{PayloadFileNotListed}
 use Rattle.bag_read.specs.declared.kind.Kind.TheVariants.{Payload}
@@ -10,7 +9,7 @@ use Rattle.bag_tree.specs.Bag.{Bag}
 use Rattle.bag_tree.specs.declared.listing.FileEntry.{FileEntry}
 use Rattle.bag_facts.specs.FaultOrder.{fault_cmp}
 use Rattle.bag_facts.specs.declared.fault.Fault.{Fault}
-use Rattle.bag_facts.specs.Facts.{rules_in}
+use Rattle.bag_facts.specs.Facts.{IsByV097}
 use Rattle.bag_facts.specs.TagReader.{AreListed}
 use Rattle.bag_facts.specs.Wanted.{paths_of}
 use Rattle.bag_facts.proofs.ListedFiles.{file_listed, listed_file}
@@ -42,8 +41,8 @@ module _ (bag : Bag) where
   nothing_left none = nothing_listed fault_cmp (IsLeftByAll bag) (λ f h. let some = h.1.1.0 in none some.0 some.1)
 
   -- the rules of 0.97 ask for these faults, and those of 1.0 for none
-  pub asked_of_all : (faults : List Fault) → rules_in bag ≡ V097 → IsListOf fault_cmp (IsLeftByAll bag) faults → IsListOf fault_cmp (IsUnlistedInAll bag) faults
+  pub asked_of_all : (faults : List Fault) → IsByV097 bag → IsListOf fault_cmp (IsLeftByAll bag) faults → IsListOf fault_cmp (IsUnlistedInAll bag) faults
   asked_of_all faults by list = same_members fault_cmp _ _ faults (λ f h. (by, h)) (λ f h. h.1) list
 
-  pub unasked_of_all : ¬ (rules_in bag ≡ V097) → IsListOf fault_cmp (IsUnlistedInAll bag) []
+  pub unasked_of_all : ¬ (IsByV097 bag) → IsListOf fault_cmp (IsUnlistedInAll bag) []
   unasked_of_all not = nothing_listed fault_cmp (IsUnlistedInAll bag) (λ f h. not h.0)

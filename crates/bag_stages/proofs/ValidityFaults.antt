@@ -9,19 +9,15 @@ use Rattle.bag_read.specs.declared.kind.Kind.TheVariants.{Payload, Tag}
 use Rattle.bag_read.specs.declared.manifest.ManifestEntry.{ManifestEntry}
 use Rattle.bag_tree.specs.Bag.{Bag, file}
 use Rattle.bag_tree.specs.Digest.{digest}
+use Rattle.bag_facts.specs.FaultAt.{of_path}
 use Rattle.bag_facts.specs.declared.fault.Fault.{Fault}
 use Rattle.bag_stages.specs.SumFaults.{differing_code}
 use Rattle.bag_stages.specs.ValidityStage.{expected_and_found, Differs, IsEntryIn, IsOfValidity, ValidityFaultsAreOfStageSeven, ValidityHolds}
+use Rattle.bag_stages.proofs.FaultFields.{made_of}
 
 -- the fault of an entry's file that has this digest
 abbrev pub fault_of_sum : Kind → Alg → ManifestEntry → List ℕ → Fault
-fault_of_sum kind alg entry found = record {
-  code = differing_code kind;
-  path = entry.path;
-  alg = Some alg;
-  line = 0;
-  detail = expected_and_found entry.digest found;
-}
+fault_of_sum kind alg entry found = of_path (differing_code kind) entry.path (Some alg) (expected_and_found entry.digest found)
 
 -- the fault of a file of these bytes whose digest isn't the one that an entry gives
 abbrev pub sum_fault : Kind → Alg → ManifestEntry → List ℕ → Fault
@@ -53,8 +49,7 @@ module _ (bag : Bag) (f : Fault) where
 
   from_fields : (kind : Kind) → f.code ≡ differing_code kind → Differs bag f kind → IsOfSomeEntry bag f
   from_fields kind e (alg, entry, content, listed, there, differ, at) =
-      let is : f ≡ sum_fault kind alg entry content =
-      λ i. record { code = e i; path = at.path_is i; alg = at.alg_is i; line = at.line_is i; detail = at.detail_is i } in
+      let is : f ≡ sum_fault kind alg entry content = made_of f (differing_code kind) entry.path (Some alg) 0 (expected_and_found entry.digest (digest alg content)) e at in
       (kind, (alg, (entry, listed, (content, there, differ, is))))
 
   of_holds : (c : Code) → f.code ≡ c → ValidityHolds bag f c → IsOfSomeEntry bag f

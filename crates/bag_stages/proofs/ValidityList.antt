@@ -3,7 +3,6 @@ use Rattle.std.proofs.Common.{◌≡◌, ◌≢◌, inl, inr, ℕ, List, [], Boo
 use Rattle.std.specs.Str.{is_utf8}
 use Rattle.std.proofs.lemmas.Slice.Eq.{bytes_eq-Decides}
 use Rattle.bag_text.specs.Lines.{lines_of_file}
-use Rattle.bag_text.specs.declared.rules.Rules.{Rules}
 use Rattle.bag_text.specs.declared.alg.Alg.{Alg}
 use Rattle.bag_read.specs.Judged.{entry_of, judged_and_marked}
 use Rattle.bag_read.specs.Manifest.{IsEntry}
@@ -27,18 +26,18 @@ differ_by a b false e = inl (λ is. let clash : false ≡ true = sym e ∙ (byte
 differ_or_not : (a b : List ℕ) → Decided (a ≢ b)
 differ_or_not a b = differ_by a b (bytes_eq a b) refl
 
-entries_by : (rules : Rules) (kind : Kind) (alg : Alg) (bytes : List ℕ) (b : Bool) → is_utf8 bytes ≡ b → HasList (IsEntry rules kind alg (lines_of_file bytes))
-entries_by rules kind alg bytes true e = (filter_map entry_of (judged_and_marked rules kind alg (lines_of_file bytes)), (entries_of_text rules kind alg bytes e).members)
-entries_by rules kind alg bytes false e = ([], (entries_of_no_text rules kind alg bytes e).members)
+entries_by : (bag : Bag) (kind : Kind) (alg : Alg) (bytes : List ℕ) (b : Bool) → is_utf8 bytes ≡ b → HasList (IsEntry (rules_in bag) kind alg (lines_of_file bytes))
+entries_by bag kind alg bytes true e = (filter_map entry_of (judged_and_marked (rules_in bag) kind alg (lines_of_file bytes)), (entries_of_text (rules_in bag) kind alg bytes e).members)
+entries_by bag kind alg bytes false e = ([], (entries_of_no_text (rules_in bag) kind alg bytes e).members)
 
 -- the entries of what is at the place of a manifest
-entries_or_none : (rules : Rules) (kind : Kind) (alg : Alg) (content : Option (List ℕ)) → HasList (IsEntry rules kind alg (lines_or_none content))
-entries_or_none rules kind alg None = nothing _ (λ e h. let clash : None ≡ Some h.0 = h.1.1 in cc)
-entries_or_none rules kind alg (Some bytes) = entries_by rules kind alg bytes (is_utf8 bytes) refl
+entries_or_none : (bag : Bag) (kind : Kind) (alg : Alg) (content : Option (List ℕ)) → HasList (IsEntry (rules_in bag) kind alg (lines_or_none content))
+entries_or_none bag kind alg None = nothing _ (λ e h. let clash : None ≡ Some h.0 = h.1.1 in cc)
+entries_or_none bag kind alg (Some bytes) = entries_by bag kind alg bytes (is_utf8 bytes) refl
 
 module _ (bag : Bag) where
   pub entries_listed : (kind : Kind) (alg : Alg) → HasList (IsEntryIn bag kind alg)
-  entries_listed kind alg = entries_or_none (rules_in bag) kind alg (file bag (manifest_of kind alg))
+  entries_listed kind alg = entries_or_none bag kind alg (file bag (manifest_of kind alg))
 
   -- the fault of an entry's file, where it is there and has another digest
   of_file : (kind : Kind) (alg : Alg) (entry : ManifestEntry) (content : Option (List ℕ)) → file bag entry.path ≡ content → HasList (IsOfEntry bag kind alg entry)

@@ -4,13 +4,13 @@ use Rattle.std.specs.Borrow.{Bor}
 use Rattle.std.specs.HashMap.{HashMap, get_by_text}
 use Rattle.std.specs.Option.{option_map}
 use Rattle.bag_text.specs.declared.code.Code.TheVariants.{NameClash}
+use Rattle.bag_facts.specs.FaultAt.{of_path}
 use Rattle.bag_facts.specs.declared.fault.Fault.{Fault}
-use Rattle.bag_stages.specs.FaultFields.{of_whole}
 use Rattle.bag_stages.specs.Clashes.{nfc_of, Clashes}
 
 -- the fault that a name isn't the least of its class
 abbrev pub name_clash : List ℕ → List ℕ → Fault
-name_clash name least = of_whole NameClash name least
+name_clash name least = of_path NameClash name None least
 
 -- that fault of this name, which isn't the least of its class among the names of a set
 abbrev pub IsClashOf : (List ℕ → Type 0) → List ℕ → Fault → Type 0

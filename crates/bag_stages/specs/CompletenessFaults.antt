@@ -3,7 +3,6 @@ use Rattle.std.specs.Prelude.{ℕ, ◌≡◌, ◌↔◌, ◌⊎◌, true, List, 
 use Rattle.std.specs.List.{IsDistinct}
 use Rattle.std.specs.Ordering.{eq_by_cmp}
 use Rattle.bag_text.specs.Path.{is_payload_path}
-use Rattle.bag_text.specs.declared.rules.Rules.TheVariants.{V10, V097}
 use Rattle.bag_text.specs.declared.alg.Alg.{Alg}
 use Rattle.bag_text.specs.declared.code.Code.{Code}
 use Rattle.bag_text.specs.declared.code.Code.TheVariants.{PayloadFileMissing, TagFileMissing, PayloadFileNotListed}
@@ -11,9 +10,10 @@ use Rattle.bag_read.specs.declared.kind.Kind.{Kind}
 use Rattle.bag_read.specs.declared.kind.Kind.TheVariants.{Payload, Tag}
 use Rattle.bag_read.specs.declared.manifest.ManifestEntry.{ManifestEntry}
 use Rattle.bag_tree.specs.Bag.{Bag, LacksFile}
+use Rattle.bag_facts.specs.FaultAt.{of_path}
 use Rattle.bag_facts.specs.FaultOrder.{fault_cmp}
 use Rattle.bag_facts.specs.declared.fault.Fault.{Fault}
-use Rattle.bag_facts.specs.Facts.{rules_in}
+use Rattle.bag_facts.specs.Facts.{IsByV10, IsByV097}
 use Rattle.bag_facts.specs.TagFacts.{entry_paths}
 use Rattle.bag_stages.specs.LeftOut.{IsLeftOutByAll, IsLeftOutByOne, IsNamedBySome}
 use Rattle.bag_stages.specs.TagFiles.{Names}
@@ -24,13 +24,9 @@ pub record HasEachOnce (IsMember : Fault → Type 0) (faults : List Fault) : Typ
   pub once : IsDistinct (eq_by_cmp fault_cmp) faults
   pub members : (f : Fault) → Contains faults f ↔ IsMember f
 
--- the fault of a file, by the manifest of an algorithm, or by all where no algorithm is told
-abbrev pub of_file : Code → Option Alg → List ℕ → Fault
-of_file code alg path = record { code = code; path = path; alg = alg; line = 0; detail = [] }
-
--- that fault of a path of which this holds
+-- the fault of a path of which this holds, by the manifest of an algorithm, or by all where no algorithm is told
 abbrev pub IsOfPath : Code → Option Alg → (List ℕ → Type 0) → Fault → Type 0
-IsOfPath code alg IsWrong f = (f ≡ of_file code alg f.path) × IsWrong f.path
+IsOfPath code alg IsWrong f = (f ≡ of_path code f.path alg []) × IsWrong f.path
 
 -- that fault of such a path among these
 abbrev pub IsOfPathAmong : Code → Option Alg → (List ℕ → Type 0) → List (List ℕ) → Fault → Type 0
@@ -59,14 +55,14 @@ IsLeftByAll bag = IsOfPath PayloadFileNotListed None (λ path. IsPayloadFile bag
 
 -- one manifest leaves a file out, which is a fault by the rules of 1.0
 abbrev pub IsUnlisted : Bag → Alg → Fault → Type 0
-IsUnlisted bag alg f = (rules_in bag ≡ V10) × IsLeftByOne bag alg f
+IsUnlisted bag alg f = IsByV10 bag × IsLeftByOne bag alg f
 
 abbrev pub IsUnlistedInSome : Bag → Fault → Type 0
 IsUnlistedInSome bag f = (alg : Alg) × IsUnlisted bag alg f
 
 -- all leave it out, which is a fault by the rules of 0.97
 abbrev pub IsUnlistedInAll : Bag → Fault → Type 0
-IsUnlistedInAll bag f = (rules_in bag ≡ V097) × IsLeftByAll bag f
+IsUnlistedInAll bag f = IsByV097 bag × IsLeftByAll bag f
 
 -- payload manifests leave a payload file out, by the bag's rules
 abbrev pub IsNotListed : Bag → Fault → Type 0

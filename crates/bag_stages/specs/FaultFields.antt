@@ -4,6 +4,7 @@ use Rattle.bag_text.specs.declared.alg.Alg.{Alg}
 use Rattle.bag_text.specs.declared.code.Code.{Code}
 use Rattle.bag_read.specs.declared.line_fault.LineFault.{LineFault}
 use Rattle.bag_tree.specs.Bag.{Bag, file}
+use Rattle.bag_facts.specs.FaultAt.{of_line, of_path}
 use Rattle.bag_facts.specs.declared.fault.Fault.{Fault}
 
 -- the fields of a fault beside its code
@@ -24,12 +25,8 @@ InFile bag f path alg IsWrong =
 
 -- the fault of a line of the file at a path
 abbrev pub in_file : List ℕ → Option Alg → LineFault → Fault
-in_file path alg f = record { code = f.code; path = path; alg = alg; line = f.line; detail = f.detail }
-
--- a fault of a whole file
-abbrev pub of_whole : Code → List ℕ → List ℕ → Fault
-of_whole code path detail = record { code = code; path = path; alg = None; line = 0; detail = detail }
+in_file path alg f = of_line f.code path alg f.line f.detail
 
 -- a fault that is about no file
 abbrev pub of_bag : Code → Fault
-of_bag code = of_whole code [] []
+of_bag code = of_path code [] None []

@@ -3,14 +3,14 @@ use Rattle.std.specs.Prelude.{ℕ, ◌≡◌, ◌⊎◌, List, Option, None, Som
 use Rattle.std.specs.List.Sorted.{IsStrictlySortedBy}
 use Rattle.std.specs.Ordering.{nat_cmp, on}
 use Rattle.bag_text.specs.Order.{IsListOf}
-use Rattle.bag_text.specs.declared.rules.Rules.TheVariants.{V10, V097}
 use Rattle.bag_text.specs.declared.alg.Alg.{Alg}
 use Rattle.bag_text.specs.declared.code.Code.TheVariants.{FetchNotInManifest}
 use Rattle.bag_read.specs.declared.fetch.FetchEntry.{FetchEntry}
 use Rattle.bag_read.specs.declared.manifest.ManifestEntry.{ManifestEntry}
 use Rattle.bag_tree.specs.Bag.{Bag}
+use Rattle.bag_facts.specs.FaultAt.{of_line}
 use Rattle.bag_facts.specs.declared.fault.Fault.{Fault}
-use Rattle.bag_facts.specs.Facts.{rules_in}
+use Rattle.bag_facts.specs.Facts.{IsByV10, IsByV097}
 use Rattle.bag_facts.specs.TagFacts.{entry_paths}
 use Rattle.bag_stages.specs.FaultFields.{At}
 use Rattle.bag_stages.specs.FetchStage.{fetch_txt, HasFetch}
@@ -26,7 +26,7 @@ AreFetched bag entries = IsListOf (on (λ e. e.line) nat_cmp) (HasFetch bag) ent
 
 -- the fault that payload manifests leave a file to fetch out; with an algorithm, its manifest does
 abbrev pub not_in_manifest : List ℕ → Option Alg → FetchEntry → Fault
-not_in_manifest path alg e = record { code = FetchNotInManifest; path = path; alg = alg; line = e.line; detail = e.path }
+not_in_manifest path alg e = of_line FetchNotInManifest path alg e.line e.path
 
 -- that fault of a file that is at the path of none of the manifest's entries
 abbrev pub IsNotNamed : List ℕ → Alg → List ManifestEntry → FetchEntry → Fault → Type 0
@@ -62,4 +62,4 @@ IsNotInAny bag f =
 
 -- payload manifests leave a file to fetch out, by the bag's rules
 abbrev pub IsNotListed : Bag → Fault → Type 0
-IsNotListed bag f = ((rules_in bag ≡ V10) × IsNotInSome bag f) ⊎ ((rules_in bag ≡ V097) × IsNotInAny bag f)
+IsNotListed bag f = (IsByV10 bag × IsNotInSome bag f) ⊎ (IsByV097 bag × IsNotInAny bag f)

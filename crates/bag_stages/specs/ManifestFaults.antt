@@ -1,8 +1,6 @@
 -- The faults of manifests, one manifest at a time.
 use Rattle.std.specs.Prelude.{ℕ, ◌≡◌, ◌⊎◌, true, List, Some, Contains}
 use Rattle.bag_text.specs.Code.{stage}
-use Rattle.bag_text.specs.declared.rules.Rules.{Rules}
-use Rattle.bag_text.specs.declared.rules.Rules.TheVariants.{V10}
 use Rattle.bag_text.specs.declared.alg.Alg.{Alg}
 use Rattle.bag_text.specs.declared.code.Code.TheVariants.{PayloadManifestNotListed}
 use Rattle.bag_read.specs.Manifest.{IsManifestFault}
@@ -11,15 +9,16 @@ use Rattle.bag_read.specs.declared.kind.Kind.{Kind}
 use Rattle.bag_read.specs.declared.kind.Kind.TheVariants.{Payload, Tag}
 use Rattle.bag_read.specs.declared.manifest.ManifestEntry.{ManifestEntry}
 use Rattle.bag_tree.specs.Bag.{Bag}
+use Rattle.bag_facts.specs.FaultAt.{of_path}
 use Rattle.bag_facts.specs.declared.fault.Fault.{Fault}
-use Rattle.bag_facts.specs.Facts.{rules_in}
+use Rattle.bag_facts.specs.Facts.{rules_in, IsByV10}
 use Rattle.bag_facts.specs.TagFacts.{entry_paths}
 use Rattle.bag_stages.specs.FaultFields.{At, InFile}
 use Rattle.bag_stages.specs.TagFiles.{manifest_of, HasManifest, HasSupported, Names}
 
 -- the fault that the tag manifest at a path doesn't name a payload manifest
 abbrev pub unnamed : List ℕ → Alg → List ℕ → Fault
-unnamed path alg file = record { code = PayloadManifestNotListed; path = path; alg = Some alg; line = 0; detail = file }
+unnamed path alg file = of_path PayloadManifestNotListed path (Some alg) file
 
 -- a payload manifest, of any algorithm's name, that is at no entry's path
 abbrev pub IsUnnamed : List ManifestEntry → List ℕ → Type 0
@@ -34,16 +33,16 @@ IsUnnamedFault path alg entries f = (f ≡ unnamed path alg f.detail) × IsUnnam
 abbrev pub IsUnnamedAmong : List ℕ → Alg → List ManifestEntry → List (List ℕ) → Fault → Type 0
 IsUnnamedAmong path alg entries files f = Contains files f.detail × IsUnnamedFault path alg entries f
 
--- those faults by the rules: those of 0.97 ask for no name
-abbrev pub IsUnnamedBy : Rules → List ℕ → Alg → List ManifestEntry → List (List ℕ) → Fault → Type 0
-IsUnnamedBy rules path alg entries files f = (rules ≡ V10) × IsUnnamedAmong path alg entries files f
+-- those faults that the bag's rules ask for: those of 0.97 ask for no name
+abbrev pub IsAskedUnnamed : Bag → List ℕ → Alg → List ManifestEntry → List (List ℕ) → Fault → Type 0
+IsAskedUnnamed bag path alg entries files f = IsByV10 bag × IsUnnamedAmong path alg entries files f
 
 -- a tag manifest names the payload manifests that are there, by the rules of 1.0 alone, and a payload manifest needs to name
 -- none
 abbrev pub IsUnlisted : Bag → Kind → Alg → Fault → Type 0
 IsUnlisted bag Payload alg f = ⊥
 IsUnlisted bag Tag alg f =
-    (rules_in bag ≡ V10) × (f.code ≡ PayloadManifestNotListed)
+    IsByV10 bag × (f.code ≡ PayloadManifestNotListed)
     × ((other : List ℕ) × At f (manifest_of Tag alg) (Some alg) 0 (manifest_name Payload other)
     × HasSupported bag Tag alg × HasManifest bag Payload other × ¬ (Names bag Tag alg (manifest_name Payload other)))
 

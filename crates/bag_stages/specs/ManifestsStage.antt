@@ -1,7 +1,6 @@
 -- Stage 5: what is a fault of the manifests (RFC 8493, 2.1.3 and 2.2.1), where all but the digests is looked at.
 use Rattle.std.specs.Prelude.{ℕ, ◌≡◌, List, Some}
 use Rattle.bag_text.specs.Code.{stage}
-use Rattle.bag_text.specs.declared.rules.Rules.TheVariants.{V10}
 use Rattle.bag_text.specs.declared.alg.Alg.{Alg}
 use Rattle.bag_text.specs.declared.code.Code.{Code}
 use Rattle.bag_text.specs.declared.code.Code.TheVariants.{ManifestLine, DigestLength, ManifestEscape, ManifestUnsafePath, ManifestOutsidePayload, TagmanifestNamesPayload, TagmanifestNamesTagmanifest, NamedAgain, PayloadManifestNotListed}
@@ -11,7 +10,7 @@ use Rattle.bag_read.specs.declared.kind.Kind.{Kind}
 use Rattle.bag_read.specs.declared.kind.Kind.TheVariants.{Payload, Tag}
 use Rattle.bag_tree.specs.Bag.{Bag}
 use Rattle.bag_facts.specs.declared.fault.Fault.{Fault}
-use Rattle.bag_facts.specs.Facts.{rules_in}
+use Rattle.bag_facts.specs.Facts.{rules_in, IsByV10}
 use Rattle.bag_stages.specs.FaultFields.{At, InFile}
 use Rattle.bag_stages.specs.HasList.{HasList}
 use Rattle.bag_stages.specs.TagFiles.{manifest_of, HasManifest, HasSupported, Names}
@@ -35,7 +34,7 @@ module _ (bag : Bag) (f : Fault) where
   ManifestHolds NamedAgain = InManifest
   -- a tag manifest names the payload manifests that are there (2.2.1); the rules of 0.97 don't ask it
   ManifestHolds PayloadManifestNotListed =
-      (rules_in bag ≡ V10) × (alg : Alg) × (other : List ℕ) × At f (manifest_of Tag alg) (Some alg) 0 (manifest_name Payload other)
+      IsByV10 bag × (alg : Alg) × (other : List ℕ) × At f (manifest_of Tag alg) (Some alg) 0 (manifest_name Payload other)
       × HasSupported bag Tag alg × HasManifest bag Payload other × ¬ (Names bag Tag alg (manifest_name Payload other))
   -- codes of other stages
   ManifestHolds other = ⊥

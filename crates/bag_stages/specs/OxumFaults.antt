@@ -3,12 +3,11 @@ use Rattle.std.specs.Prelude.{ℕ, ◌==◌, ◌&&◌, Bool, List, [], ◌∷◌
 use Rattle.bag_text.specs.Text.{same_label}
 use Rattle.bag_text.specs.declared.code.Code.{Code}
 use Rattle.bag_text.specs.declared.code.Code.TheVariants.{OxumMalformed, OxumAgain, OxumDiffers, NoOxum}
-use Rattle.bag_read.specs.LineFault.{line_fault}
 use Rattle.bag_read.specs.Oxum.{oxum_of}
 use Rattle.bag_read.specs.declared.info.Element.{Element}
 use Rattle.bag_read.specs.declared.oxum.Oxum.{Oxum}
+use Rattle.bag_facts.specs.FaultAt.{of_line, of_path}
 use Rattle.bag_facts.specs.declared.fault.Fault.{Fault}
-use Rattle.bag_stages.specs.FaultFields.{in_file, of_whole}
 use Rattle.bag_stages.specs.MetadataStage.{oxum_label, pair}
 use Rattle.bag_stages.specs.Payload.{oxum_text}
 
@@ -25,14 +24,14 @@ same_oxum a b = a.octets == b.octets && a.streams == b.streams
 module _ (path : List ℕ) where
   -- a fault of an element
   abbrev pub of_element : Code → Element → List ℕ → Fault
-  of_element code e detail = in_file path None (line_fault e.line code detail)
+  of_element code e detail = of_line code path None e.line detail
 
   abbrev pub again : Element → Fault
   again e = of_element OxumAgain e e.value
 
   -- that there is no such element
   abbrev pub no_oxum : Fault
-  no_oxum = of_whole NoOxum path []
+  no_oxum = of_path NoOxum path None []
 
   module _ (found : Oxum) where
     abbrev pub differs : Element → Fault

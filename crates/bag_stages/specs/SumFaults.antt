@@ -6,6 +6,7 @@ use Rattle.bag_text.specs.declared.code.Code.TheVariants.{PayloadSumDiffers, Tag
 use Rattle.bag_read.specs.declared.kind.Kind.{Kind}
 use Rattle.bag_read.specs.declared.kind.Kind.TheVariants.{Payload, Tag}
 use Rattle.bag_tree.specs.Digest.{digest, sum_at}
+use Rattle.bag_facts.specs.FaultAt.{of_path}
 use Rattle.bag_facts.specs.declared.fault.Fault.{Fault}
 use Rattle.bag_stages.specs.SummedFiles.{kind_of}
 use Rattle.bag_stages.specs.ValidityStage.{expected_and_found}
@@ -18,13 +19,8 @@ differing_code Tag = TagSumDiffers
 
 -- the fault that a file's digest is this one, and not the expected one
 abbrev pub sum_differs : List ℕ → Expected → List ℕ → Fault
-sum_differs path expected found = record {
-  code = differing_code (kind_of path);
-  path = path;
-  alg = Some expected.alg;
-  line = 0;
-  detail = expected_and_found (encode_lower expected.digest) found;
-}
+sum_differs path expected found =
+    of_path (differing_code (kind_of path)) path (Some expected.alg) (expected_and_found (encode_lower expected.digest) found)
 
 -- that fault of a file with these bytes, where its digest differs
 abbrev pub differing : List ℕ → List ℕ → Expected → Option Fault

@@ -1,14 +1,12 @@
 //! Names that differ by normal form alone (Unicode Standard Annex 15).
-ghost use Rattle.std.specs.Prelude.{◌≡◌, ◌≢◌, ◌↔◌, ℕ, List, Contains, IfOk, IsTrue, OnOk, string_bytes};
+ghost use Rattle.std.specs.Prelude.{◌≡◌, ◌↔◌, ℕ, List, Contains, IfOk, IsTrue, OnOk, string_bytes};
 ghost use Rattle.std.specs.List.Sorted.{IsStrictlySortedBy};
 ghost use Rattle.std.specs.Option.{option_map};
 ghost use Rattle.std.specs.Str.{IsAscii};
 ghost use Rattle.bag_text.specs.Order.{IsListOf};
 ghost use Rattle.bag_text.specs.Text.{text_cmp};
-ghost use Rattle.bag_tree.specs.Bag.{Bag};
 ghost use Rattle.bag_facts.specs.FaultOrder.{fault_cmp};
-ghost use Rattle.bag_facts.specs.Facts.{IsFactsOf};
-ghost use Rattle.bag_facts.specs.declared.options.Depth.TheVariants.{Declaration};
+ghost use Rattle.bag_facts.specs.Facts.{OfBag};
 ghost use Rattle.bag_stages.specs.Clashes.{nfc_of};
 ghost use Rattle.bag_stages.specs.ClashFaults.{first_of, first_with, name_clash, IsClashAmong};
 ghost use Rattle.bag_stages.specs.ClashStage.{IsClashFault};
@@ -23,8 +21,7 @@ use unicode_normalization::to_nfc;
 
 /// The faults that names of the payload aren't the least of those with their NFC form.
 pub(crate) fn clash_faults(alloc: Global, facts: &Facts) -> Result<Vec<Fault>, AllocError>
-    ensures { IfOk result (λ faults. (bag : Bag) → IsFactsOf bag facts.now → facts.now.options.depth ≢ Declaration
-        → IsListOf fault_cmp (IsClashFault bag) faults.items) }
+    ensures { IfOk result (λ faults. OfBag facts.now (λ bag. IsListOf fault_cmp (IsClashFault bag) faults.items)) }
 {
     let names = payload_names(alloc, facts)?;
     if are_ascii(names.as_slice()) {
@@ -92,11 +89,6 @@ fn nfc_form(alloc: Global, name: &str) -> Result<String, AllocError>
 fn clash_fault(alloc: Global, name: &str, least: &str) -> Result<Fault, AllocError>
     ensures { IfOk result (λ fault. fault ≡ name_clash name.now least.now) }
 {
-    Ok(Fault {
-        code: Code::NameClash,
-        path: Text::from_str(alloc, name)?,
-        alg: None,
-        line: 0,
-        detail: Text::from_str(alloc, least)?,
-    })
+    let detail = Text::from_str(alloc, least)?;
+    Ok(Fault::of_path(Code::NameClash, Text::from_str(alloc, name)?, None, detail))
 }

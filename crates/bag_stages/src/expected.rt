@@ -1,12 +1,11 @@
 //! What manifests give for a file.
-ghost use Rattle.std.specs.Prelude.{◌≡◌, ◌≢◌, ℕ, List, Some, IfOk, Contains, MatchOption, length, map};
+ghost use Rattle.std.specs.Prelude.{◌≡◌, ℕ, List, Some, IfOk, Contains, MatchOption, length, map};
 ghost use Rattle.std.specs.Option.{option_copied};
 ghost use Rattle.bag_text.specs.Order.{IsListOf};
-ghost use Rattle.bag_tree.specs.Bag.{Bag, file};
+ghost use Rattle.bag_tree.specs.Bag.{file};
 ghost use Rattle.bag_facts.specs.FaultOrder.{fault_cmp};
-ghost use Rattle.bag_facts.specs.Facts.{IsFactsOf};
+ghost use Rattle.bag_facts.specs.Facts.{OfBag};
 ghost use Rattle.bag_facts.specs.TagFacts.{entry_paths, AreByPath};
-ghost use Rattle.bag_facts.specs.declared.options.Depth.TheVariants.{Declaration};
 ghost use Rattle.bag_stages.specs.Given.{AreNaming, IsGivenBy};
 ghost use Rattle.bag_stages.specs.SumFaults.{faults_of_bytes};
 ghost use Rattle.bag_stages.specs.SummedFiles.{kind_of};
@@ -37,10 +36,9 @@ pub fn expected_of(
     path: &Text,
     places: &mut Places,
 ) -> Result<Items<Expected>, AllocError>
-    ensures algs { IfOk result (λ expected. (bag : Bag) → IsFactsOf bag facts.now → facts.now.options.depth ≢ Declaration
-        → AreNaming bag path.now (map (λ one. one.alg) expected)) }
-    ensures faults { IfOk result (λ expected. (bag : Bag) (content : List ℕ) → IsFactsOf bag facts.now → facts.now.options.depth ≢ Declaration
-        → file bag path.now ≡ Some content → IsListOf fault_cmp (IsOfFile bag path.now) (faults_of_bytes path.now content expected)) }
+    ensures algs { IfOk result (λ expected. OfBag facts.now (λ bag. AreNaming bag path.now (map (λ one. one.alg) expected))) }
+    ensures faults { IfOk result (λ expected. OfBag facts.now (λ bag. (content : List ℕ) → file bag path.now ≡ Some content
+        → IsListOf fault_cmp (IsOfFile bag path.now) (faults_of_bytes path.now content expected))) }
     ensures count { IfOk result (λ expected. places.new.count ≡ length expected) }
 {
     let kind = kind_of(path.as_str());
@@ -64,8 +62,7 @@ fn expected_by(
     alg: Alg,
     place: &mut usize,
 ) -> Option<Expected>
-    ensures { (bag : Bag) → IsFactsOf bag facts.now → facts.now.options.depth ≢ Declaration
-        → IsGivenBy bag path.now kind alg result }
+    ensures { OfBag facts.now (λ bag. IsGivenBy bag path.now kind alg result) }
 {
     let Some(entry) = entry_near(facts.entries(kind, alg), path, place) else {
         return None;

@@ -1,11 +1,9 @@
 //! Stage 4: the list of files to fetch.
-ghost use Rattle.std.specs.Prelude.{◌≡◌, ◌≢◌, IfOk};
+ghost use Rattle.std.specs.Prelude.{◌≡◌, IfOk};
 ghost use Rattle.bag_text.specs.Order.{IsListOf};
-ghost use Rattle.bag_tree.specs.Bag.{Bag};
 ghost use Rattle.bag_facts.specs.FaultOrder.{fault_cmp};
-ghost use Rattle.bag_facts.specs.Facts.{IsFactsOf};
+ghost use Rattle.bag_facts.specs.Facts.{OfBag};
 ghost use Rattle.bag_facts.specs.TagFacts.{AreByPath};
-ghost use Rattle.bag_facts.specs.declared.options.Depth.TheVariants.{Declaration};
 ghost use Rattle.bag_stages.specs.FetchFaults.{not_in_manifest, AreByLine, AreFetched, IsNamedByNoneAmong, IsNotInAny, IsNotInManifest, IsNotInSome, IsNotListed, IsNotNamedAmong};
 ghost use Rattle.bag_stages.specs.FetchStage.{fetch_txt, IsOfFetch};
 
@@ -19,8 +17,7 @@ use std::alloc::{AllocError, Global};
 /// The faults of `fetch.txt` (RFC 8493, 2.2.3), of facts read for more than the declaration: those of its lines, and the files
 /// that payload manifests leave out. Bytes that aren't UTF-8 have none. Fails only where memory runs out.
 pub fn fetch_faults(alloc: Global, facts: &Facts) -> Result<Vec<Fault>, AllocError>
-    ensures { IfOk result (λ faults. (bag : Bag) → IsFactsOf bag facts.now → facts.now.options.depth ≢ Declaration
-        → IsListOf fault_cmp (IsOfFetch bag) faults.items) }
+    ensures { IfOk result (λ faults. OfBag facts.now (λ bag. IsListOf fault_cmp (IsOfFetch bag) faults.items)) }
 {
     let Some(list) = facts.fetch_list() else {
         return Ok(Vec::new(alloc));
@@ -43,8 +40,8 @@ fn left_out_faults(
     path: &Text,
     entries: &[FetchEntry],
 ) -> Result<Vec<Fault>, AllocError>
-    ensures { IfOk result (λ faults. (bag : Bag) → IsFactsOf bag facts.now → facts.now.options.depth ≢ Declaration
-        → path.now ≡ fetch_txt → AreFetched bag entries.now → IsListOf fault_cmp (IsNotListed bag) faults.items) }
+    ensures { IfOk result (λ faults. OfBag facts.now (λ bag.
+        path.now ≡ fetch_txt → AreFetched bag entries.now → IsListOf fault_cmp (IsNotListed bag) faults.items)) }
 {
     match facts.rules() {
         Rules::V10 => unnamed_in_all(alloc, facts, path, entries),
@@ -59,8 +56,8 @@ fn unnamed_in_all(
     path: &Text,
     entries: &[FetchEntry],
 ) -> Result<Vec<Fault>, AllocError>
-    ensures { IfOk result (λ faults. (bag : Bag) → IsFactsOf bag facts.now → facts.now.options.depth ≢ Declaration
-        → path.now ≡ fetch_txt → AreFetched bag entries.now → IsListOf fault_cmp (IsNotInSome bag) faults.items) }
+    ensures { IfOk result (λ faults. OfBag facts.now (λ bag.
+        path.now ≡ fetch_txt → AreFetched bag entries.now → IsListOf fault_cmp (IsNotInSome bag) faults.items)) }
 {
     let mut faults = Vec::new(alloc);
     for alg in Alg::ALL {
@@ -78,8 +75,8 @@ fn unnamed_in(
     entries: &[FetchEntry],
     alg: Alg,
 ) -> Result<Vec<Fault>, AllocError>
-    ensures { IfOk result (λ faults. (bag : Bag) → IsFactsOf bag facts.now → facts.now.options.depth ≢ Declaration
-        → path.now ≡ fetch_txt → AreFetched bag entries.now → IsListOf fault_cmp (IsNotInManifest bag alg) faults.items) }
+    ensures { IfOk result (λ faults. OfBag facts.now (λ bag.
+        path.now ≡ fetch_txt → AreFetched bag entries.now → IsListOf fault_cmp (IsNotInManifest bag alg) faults.items)) }
 {
     match facts.manifest(Kind::Payload, alg) {
         Some(manifest) => unnamed_faults(alloc, path, manifest, entries),
@@ -113,8 +110,7 @@ fn unnamed_by_all(
     path: &Text,
     entries: &[FetchEntry],
 ) -> Result<Vec<Fault>, AllocError>
-    ensures { IfOk result (λ faults. (bag : Bag) → IsFactsOf bag facts.now → facts.now.options.depth ≢ Declaration
-        → path.now ≡ fetch_txt → AreFetched bag entries.now → IsListOf fault_cmp (IsNotInAny bag) faults.items) }
+    ensures { IfOk result (λ faults. OfBag facts.now (λ bag. path.now ≡ fetch_txt → AreFetched bag entries.now → IsListOf fault_cmp (IsNotInAny bag) faults.items)) }
 {
     if facts.algs(Kind::Payload).is_empty() {
         return Ok(Vec::new(alloc));
@@ -129,8 +125,8 @@ fn named_by_none(
     path: &Text,
     entries: &[FetchEntry],
 ) -> Result<Vec<Fault>, AllocError>
-    ensures { IfOk result (λ faults. (bag : Bag) → IsFactsOf bag facts.now → facts.now.options.depth ≢ Declaration
-        → AreByLine entries.now → IsListOf fault_cmp (IsNamedByNoneAmong bag path.now entries.now) faults.items) }
+    ensures { IfOk result (λ faults. OfBag facts.now (λ bag.
+        AreByLine entries.now → IsListOf fault_cmp (IsNamedByNoneAmong bag path.now entries.now) faults.items)) }
 {
     let mut faults = Vec::new(alloc);
     for entry in entries {
@@ -150,11 +146,7 @@ fn unnamed_fault(
 ) -> Result<Fault, AllocError>
     ensures { IfOk result (λ fault. fault ≡ not_in_manifest path.now alg entry.now) }
 {
-    Ok(Fault {
-        code: Code::FetchNotInManifest,
-        path: path.copy(alloc)?,
-        alg,
-        line: entry.line,
-        detail: entry.path.copy(alloc)?,
-    })
+    let detail = entry.path.copy(alloc)?;
+    let code = Code::FetchNotInManifest;
+    Ok(Fault::of_line(code, path.copy(alloc)?, alg, entry.line, detail))
 }

@@ -1,6 +1,6 @@
 //! Faults of one file.
-ghost use Rattle.std.specs.Prelude.{◌≡◌, IfOk};
-ghost use Rattle.bag_stages.specs.CompletenessFaults.{of_file};
+ghost use Rattle.std.specs.Prelude.{◌≡◌, [], IfOk};
+ghost use Rattle.bag_facts.specs.FaultAt.{of_path};
 
 use bag_facts::Fault;
 use bag_text::{Alg, Code, Text};
@@ -13,13 +13,7 @@ pub(crate) fn file_fault(
     alg: Option<Alg>,
     path: &Text,
 ) -> Result<Fault, AllocError>
-    ensures { IfOk result (λ fault. fault ≡ of_file code alg path.now) }
+    ensures { IfOk result (λ fault. fault ≡ of_path code path.now alg []) }
 {
-    Ok(Fault {
-        code,
-        path: path.copy(alloc)?,
-        alg,
-        line: 0,
-        detail: Text::empty(alloc),
-    })
+    Ok(Fault::of_path(code, path.copy(alloc)?, alg, Text::empty(alloc)))
 }

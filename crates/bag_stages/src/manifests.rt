@@ -1,17 +1,15 @@
 //! Stage 5: manifests.
-ghost use Rattle.std.specs.Prelude.{◌≡◌, ◌≢◌, IfOk};
+ghost use Rattle.std.specs.Prelude.{◌≡◌, IfOk};
 ghost use Rattle.std.specs.List.Sorted.{IsStrictlySortedBy};
 ghost use Rattle.bag_text.specs.Order.{IsListOf, IsOnly};
 ghost use Rattle.bag_text.specs.Text.{text_cmp};
 ghost use Rattle.bag_tree.specs.Bag.{Bag};
 ghost use Rattle.bag_facts.specs.FaultOrder.{fault_cmp};
-ghost use Rattle.bag_facts.specs.Facts.{rules_in, IsFactsOf, IsSaid};
+ghost use Rattle.bag_facts.specs.Facts.{IsFactsOf, IsSaid, OfBag};
 ghost use Rattle.bag_facts.specs.TagFacts.{AreByPath};
-ghost use Rattle.bag_facts.specs.TagReader.{AreListed};
 ghost use Rattle.bag_facts.specs.Wanted.{paths_of};
-ghost use Rattle.bag_facts.specs.declared.options.Depth.TheVariants.{Declaration};
 ghost use Rattle.bag_facts.specs.declared.tag_facts.TagFacts.TheVariants as known;
-ghost use Rattle.bag_stages.specs.ManifestFaults.{unnamed, IsUnnamedFault, IsUnnamedAmong, IsUnnamedBy, IsOfManifest};
+ghost use Rattle.bag_stages.specs.ManifestFaults.{unnamed, IsAskedUnnamed, IsUnnamedFault, IsUnnamedAmong, IsOfManifest};
 ghost use Rattle.bag_stages.specs.ManifestsStage.{IsOfManifests};
 
 use crate::tag_file::line_faults;
@@ -24,15 +22,12 @@ use std::alloc::{AllocError, Global};
 /// The faults of manifests (RFC 8493, 2.1.3 and 2.2.1), of facts read for more than the declaration. Fails only where
 /// memory runs out.
 pub fn manifest_faults(alloc: Global, facts: &Facts) -> Result<Vec<Fault>, AllocError>
-    ensures { IfOk result (λ faults. (bag : Bag) → IsFactsOf bag facts.now → facts.now.options.depth ≢ Declaration
-        → IsListOf fault_cmp (IsOfManifests bag) faults.items) }
+    ensures { IfOk result (λ faults. OfBag facts.now (λ bag. IsListOf fault_cmp (IsOfManifests bag) faults.items)) }
 {
-    let rules = facts.rules();
-    let files = facts.listing.files.as_slice();
     let mut faults = Vec::new(alloc);
     for tag in facts.tags.as_slice() {
         if let TagFacts::Manifest(manifest) = tag {
-            let mut of_manifest = faults_of(alloc, rules, files, manifest)?;
+            let mut of_manifest = faults_of(alloc, facts, manifest)?;
             faults.append(&mut of_manifest)?;
         }
     }
@@ -40,14 +35,9 @@ pub fn manifest_faults(alloc: Global, facts: &Facts) -> Result<Vec<Fault>, Alloc
 }
 
 /// The faults of one manifest: what it doesn't name stands before the faults of its lines.
-fn faults_of(
-    alloc: Global,
-    rules: Rules,
-    files: &[FileEntry],
-    manifest: &Manifest,
-) -> Result<Vec<Fault>, AllocError>
-    ensures { IfOk result (λ faults. (bag : Bag) → rules ≡ rules_in bag → AreListed bag files.now → IsStrictlySortedBy text_cmp (paths_of files.now)
-        → IsSaid bag (known.Manifest manifest.now) → IsListOf fault_cmp (IsOfManifest bag manifest.now.kind manifest.now.alg) faults.items) }
+fn faults_of(alloc: Global, facts: &Facts, manifest: &Manifest) -> Result<Vec<Fault>, AllocError>
+    ensures { IfOk result (λ faults. (bag : Bag) → IsFactsOf bag facts.now → IsSaid bag (known.Manifest manifest.now)
+        → IsListOf fault_cmp (IsOfManifest bag manifest.now.kind manifest.now.alg) faults.items) }
 {
     let path = TagName::Manifest(manifest.kind, manifest.alg).path(alloc)?;
     let mut of_lines = line_faults(
@@ -60,7 +50,7 @@ fn faults_of(
     match manifest.kind {
         Kind::Payload => Ok(of_lines),
         Kind::Tag => {
-            let mut faults = asked_unnamed(alloc, rules, files, &path, manifest)?;
+            let mut faults = asked_unnamed(alloc, facts, &path, manifest)?;
             faults.append(&mut of_lines)?;
             Ok(faults)
         }
@@ -70,16 +60,15 @@ fn faults_of(
 /// The listed payload manifests that the rules ask a tag manifest to name, and that it doesn't: those of 0.97 ask for none.
 fn asked_unnamed(
     alloc: Global,
-    rules: Rules,
-    files: &[FileEntry],
+    facts: &Facts,
     path: &Text,
     manifest: &Manifest,
 ) -> Result<Vec<Fault>, AllocError>
-    ensures { IfOk result (λ faults. AreByPath manifest.now.entries → IsStrictlySortedBy text_cmp (paths_of files.now)
-        → IsListOf fault_cmp (IsUnnamedBy rules path.now manifest.now.alg manifest.now.entries (paths_of files.now)) faults.items) }
+    ensures { IfOk result (λ faults. (bag : Bag) → IsFactsOf bag facts.now → AreByPath manifest.now.entries
+        → IsListOf fault_cmp (IsAskedUnnamed bag path.now manifest.now.alg manifest.now.entries (paths_of facts.now.listing.files)) faults.items) }
 {
-    match rules {
-        Rules::V10 => unnamed_faults(alloc, files, path, manifest),
+    match facts.rules() {
+        Rules::V10 => unnamed_faults(alloc, facts.files(), path, manifest),
         Rules::V097 => Ok(Vec::new(alloc)),
     }
 }
@@ -128,11 +117,11 @@ fn not_listed(
 ) -> Result<Fault, AllocError>
     ensures { IfOk result (λ fault. fault ≡ unnamed path.now manifest.now.alg file.now) }
 {
-    Ok(Fault {
-        code: Code::PayloadManifestNotListed,
-        path: path.copy(alloc)?,
-        alg: Some(manifest.alg),
-        line: 0,
-        detail: file.copy(alloc)?,
-    })
+    let code = Code::PayloadManifestNotListed;
+    Ok(Fault::of_path(
+        code,
+        path.copy(alloc)?,
+        Some(manifest.alg),
+        file.copy(alloc)?,
+    ))
 }

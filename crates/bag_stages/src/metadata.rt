@@ -1,10 +1,9 @@
 //! Stage 3: the metadata.
-ghost use Rattle.std.specs.Prelude.{◌≡◌, ◌≢◌, IfOk};
+ghost use Rattle.std.specs.Prelude.{◌≡◌, IfOk};
 ghost use Rattle.bag_text.specs.Order.{IsListOf};
 ghost use Rattle.bag_tree.specs.Bag.{Bag};
 ghost use Rattle.bag_facts.specs.FaultOrder.{fault_cmp};
-ghost use Rattle.bag_facts.specs.Facts.{IsFactsOf, IsSaid};
-ghost use Rattle.bag_facts.specs.declared.options.Depth.TheVariants.{Declaration};
+ghost use Rattle.bag_facts.specs.Facts.{OfBag, IsSaid};
 ghost use Rattle.bag_facts.specs.declared.tag_facts.TagFacts.TheVariants as known;
 ghost use Rattle.bag_stages.specs.Metadata.{bag_info_txt};
 ghost use Rattle.bag_stages.specs.MetadataStage.{IsOfMetadata};
@@ -22,8 +21,7 @@ use std::alloc::{AllocError, Global};
 /// The faults of `bag-info.txt` and of the payload's size in it (RFC 8493, 2.2.2), of facts read for more than the
 /// declaration. That no `Payload-Oxum` is there is one of them. Fails only where memory runs out.
 pub fn metadata_faults(alloc: Global, facts: &Facts) -> Result<Vec<Fault>, AllocError>
-    ensures { IfOk result (λ faults. (bag : Bag) → IsFactsOf bag facts.now → facts.now.options.depth ≢ Declaration
-        → IsListOf fault_cmp (IsOfMetadata bag) faults.items) }
+    ensures { IfOk result (λ faults. OfBag facts.now (λ bag. IsListOf fault_cmp (IsOfMetadata bag) faults.items)) }
 {
     let path = TagName::Info.path(alloc)?;
     match facts.metadata() {

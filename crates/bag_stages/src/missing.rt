@@ -1,15 +1,13 @@
 //! Files that manifests name and that aren't there.
-ghost use Rattle.std.specs.Prelude.{◌≡◌, ◌≢◌, IfOk, Contains, Some};
+ghost use Rattle.std.specs.Prelude.{◌≡◌, IfOk, Contains, Some};
 ghost use Rattle.std.specs.List.Sorted.{IsStrictlySortedBy};
 ghost use Rattle.bag_text.specs.Order.{IsListOf};
 ghost use Rattle.bag_text.specs.Text.{text_cmp};
 ghost use Rattle.bag_read.specs.declared.kind.Kind.TheVariants.{Tag};
-ghost use Rattle.bag_tree.specs.Bag.{Bag};
 ghost use Rattle.bag_facts.specs.FaultOrder.{fault_cmp};
-ghost use Rattle.bag_facts.specs.Facts.{IsFactsOf};
+ghost use Rattle.bag_facts.specs.Facts.{OfBag};
 ghost use Rattle.bag_facts.specs.TagFacts.{entry_paths, AreByPath};
 ghost use Rattle.bag_facts.specs.Wanted.{paths_of};
-ghost use Rattle.bag_facts.specs.declared.options.Depth.TheVariants.{Declaration};
 ghost use Rattle.bag_stages.specs.CompletenessFaults.{missing_code, HasEachOnce, IsMissing, IsMissingFromSome, IsOfPathAmong};
 
 use crate::file_fault::file_fault;
@@ -22,8 +20,7 @@ use std::alloc::{AllocError, Global};
 
 /// The faults that tag manifests name files that aren't there, one manifest after another.
 pub(crate) fn missing_tag_files(alloc: Global, facts: &Facts) -> Result<Vec<Fault>, AllocError>
-    ensures { IfOk result (λ faults. (bag : Bag) → IsFactsOf bag facts.now → facts.now.options.depth ≢ Declaration
-        → HasEachOnce (IsMissingFromSome bag Tag) faults.items) }
+    ensures { IfOk result (λ faults. OfBag facts.now (λ bag. HasEachOnce (IsMissingFromSome bag Tag) faults.items)) }
 {
     let mut faults = Vec::new(alloc);
     for alg in Alg::ALL {
@@ -41,8 +38,7 @@ pub fn missing_of(
     kind: Kind,
     alg: Alg,
 ) -> Result<Vec<Fault>, AllocError>
-    ensures { IfOk result (λ faults. (bag : Bag) → IsFactsOf bag facts.now → facts.now.options.depth ≢ Declaration
-        → IsListOf fault_cmp (IsMissing bag kind alg) faults.items) }
+    ensures { IfOk result (λ faults. OfBag facts.now (λ bag. IsListOf fault_cmp (IsMissing bag kind alg) faults.items)) }
 {
     let code = missing_code(kind);
     let files = facts.listing.files.as_slice();

@@ -1,9 +1,7 @@
 //! Whether payload manifests name a path.
-ghost use Rattle.std.specs.Prelude.{◌≢◌, ◌↔◌, IsTrue};
+ghost use Rattle.std.specs.Prelude.{◌↔◌, IsTrue};
 ghost use Rattle.bag_read.specs.declared.kind.Kind.TheVariants.{Payload};
-ghost use Rattle.bag_tree.specs.Bag.{Bag};
-ghost use Rattle.bag_facts.specs.Facts.{IsFactsOf};
-ghost use Rattle.bag_facts.specs.declared.options.Depth.TheVariants.{Declaration};
+ghost use Rattle.bag_facts.specs.Facts.{OfBag};
 ghost use Rattle.bag_stages.specs.LeftOut.{IsNamedBySome};
 ghost use Rattle.bag_stages.specs.TagFiles.{Names};
 
@@ -13,8 +11,8 @@ use bag_text::{Alg, Text};
 
 /// Whether some payload manifest names a path, of facts read for more than the declaration. Takes no memory.
 pub(crate) fn is_named(facts: &Facts, path: &Text) -> bool
-    ensures named { (bag : Bag) → IsFactsOf bag facts.now → facts.now.options.depth ≢ Declaration → IsTrue result → IsNamedBySome bag path.now }
-    ensures unnamed { (bag : Bag) → IsFactsOf bag facts.now → facts.now.options.depth ≢ Declaration → IsNamedBySome bag path.now → IsTrue result }
+    ensures named { OfBag facts.now (λ bag. IsTrue result → IsNamedBySome bag path.now) }
+    ensures unnamed { OfBag facts.now (λ bag. IsNamedBySome bag path.now → IsTrue result) }
 {
     for alg in Alg::ALL {
         if is_named_by(facts, alg, path) {
@@ -26,8 +24,7 @@ pub(crate) fn is_named(facts: &Facts, path: &Text) -> bool
 
 /// Whether the payload manifest of an algorithm names a path.
 fn is_named_by(facts: &Facts, alg: Alg, path: &Text) -> bool
-    ensures { (bag : Bag) → IsFactsOf bag facts.now → facts.now.options.depth ≢ Declaration
-        → IsTrue result ↔ Names bag Payload alg path.now }
+    ensures { OfBag facts.now (λ bag. IsTrue result ↔ Names bag Payload alg path.now) }
 {
     match facts.manifest(Kind::Payload, alg) {
         Some(manifest) => manifest.names(path),

@@ -1,15 +1,13 @@
 //! The names of a bag's payload.
-ghost use Rattle.std.specs.Prelude.{◌≡◌, ◌≢◌, ◌⊎◌, ◌↔◌, ◌++◌, ℕ, List, Contains, IfOk, OnOk};
+ghost use Rattle.std.specs.Prelude.{◌≡◌, ◌⊎◌, ◌↔◌, ◌++◌, ℕ, List, Contains, IfOk, OnOk};
 ghost use Rattle.std.specs.List.{filter};
 ghost use Rattle.bag_text.specs.Order.{IsListOf};
 ghost use Rattle.bag_text.specs.Path.{is_payload_path};
 ghost use Rattle.bag_text.specs.Text.{text_cmp};
 ghost use Rattle.bag_read.specs.declared.kind.Kind.TheVariants.{Payload};
-ghost use Rattle.bag_tree.specs.Bag.{Bag};
-ghost use Rattle.bag_facts.specs.Facts.{IsFactsOf};
+ghost use Rattle.bag_facts.specs.Facts.{OfBag};
 ghost use Rattle.bag_facts.specs.TagFacts.{entry_paths};
 ghost use Rattle.bag_facts.specs.Wanted.{paths_of};
-ghost use Rattle.bag_facts.specs.declared.options.Depth.TheVariants.{Declaration};
 ghost use Rattle.bag_stages.specs.TagFiles.{Names};
 ghost use Rattle.bag_stages.specs.CompletenessStage.{IsPayloadName};
 ghost use Rattle.bag_stages.specs.Names.{texts_of};
@@ -22,8 +20,7 @@ use std::alloc::{AllocError, Global};
 
 /// The paths of the payload's files, and those that payload manifests name, in no order, and some of them more than once.
 pub(crate) fn payload_names(alloc: Global, facts: &Facts) -> Result<Vec<&str>, AllocError>
-    ensures { IfOk result (λ names. (bag : Bag) → IsFactsOf bag facts.now → facts.now.options.depth ≢ Declaration
-        → (path : List ℕ) → Contains (texts_of names.items) path ↔ IsPayloadName bag path) }
+    ensures { IfOk result (λ names. OfBag facts.now (λ bag. (path : List ℕ) → Contains (texts_of names.items) path ↔ IsPayloadName bag path)) }
 {
     let mut names = payload_files(alloc, facts.listing.files.as_slice())?;
     for alg in Alg::ALL {
@@ -57,8 +54,8 @@ fn payload_files(alloc: Global, files: &[FileEntry]) -> Result<Vec<&str>, AllocE
 
 /// Adds the paths that the payload manifest of an algorithm names, where it is there.
 fn push_named<'a>(names: &mut Vec<&'a str>, facts: &'a Facts, alg: Alg) -> Result<(), AllocError>
-    ensures { OnOk result ((bag : Bag) → IsFactsOf bag facts.now → facts.now.options.depth ≢ Declaration
-        → (path : List ℕ) → Contains (texts_of names.new.items) path ↔ (Contains (texts_of names.old.items) path ⊎ Names bag Payload alg path)) }
+    ensures { OnOk result (OfBag facts.now (λ bag.
+        (path : List ℕ) → Contains (texts_of names.new.items) path ↔ (Contains (texts_of names.old.items) path ⊎ Names bag Payload alg path))) }
 {
     match facts.manifest(Kind::Payload, alg) {
         Some(manifest) => push_paths(names, manifest.entries.as_slice()),

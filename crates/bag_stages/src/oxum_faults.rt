@@ -92,13 +92,8 @@ fn value_fault(
 ) -> Result<Fault, AllocError>
     ensures { IfOk result (λ fault. fault ≡ told.of_element path.now code element.now element.now.value) }
 {
-    Ok(Fault {
-        code,
-        path: path.copy(alloc)?,
-        alg: None,
-        line: element.line,
-        detail: element.value.copy(alloc)?,
-    })
+    let detail = element.value.copy(alloc)?;
+    Ok(Fault::of_line(code, path.copy(alloc)?, None, element.line, detail))
 }
 
 /// The fault of an element that tells another size than the payload has.
@@ -112,11 +107,12 @@ fn size_fault(
 {
     let PayloadSize { octets, streams } = found;
     let detail = format!(in alloc; "{}:{octets}.{streams}", element.value)?;
-    Ok(Fault {
-        code: Code::OxumDiffers,
-        path: path.copy(alloc)?,
-        alg: None,
-        line: element.line,
-        detail: Text::from_string(detail),
-    })
+    let detail = Text::from_string(detail);
+    Ok(Fault::of_line(
+        Code::OxumDiffers,
+        path.copy(alloc)?,
+        None,
+        element.line,
+        detail,
+    ))
 }

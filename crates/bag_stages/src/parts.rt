@@ -8,9 +8,8 @@ ghost use Rattle.bag_read.specs.ManifestName.{is_alg_text, manifest_name};
 ghost use Rattle.bag_read.specs.declared.kind.Kind.{Kind};
 ghost use Rattle.bag_tree.specs.Bag.{Bag};
 ghost use Rattle.bag_facts.specs.FaultOrder.{fault_cmp};
-ghost use Rattle.bag_facts.specs.Facts.{IsFactsOf};
+ghost use Rattle.bag_facts.specs.Facts.{OfBag};
 ghost use Rattle.bag_facts.specs.Wanted.{paths_of};
-ghost use Rattle.bag_facts.specs.declared.options.Depth.TheVariants.{Declaration};
 ghost use Rattle.bag_stages.specs.FileFaults.{AreTagsOf, HasListed, HasTextless, IsUnsupported, IsFileFault, IsFaultAmong};
 ghost use Rattle.bag_stages.specs.PartsStage.{IsOfParts};
 ghost use Rattle.bag_stages.specs.FaultFields.{of_bag};
@@ -26,8 +25,7 @@ use std::alloc::{AllocError, Global};
 /// The faults of the bag's parts (RFC 8493, 2.1, 2.3 and 2.4), of facts read for more than the declaration. Fails only
 /// where memory runs out.
 pub fn parts_faults(alloc: Global, facts: &Facts) -> Result<Vec<Fault>, AllocError>
-    ensures { IfOk result (λ faults. (bag : Bag) → IsFactsOf bag facts.now → facts.now.options.depth ≢ Declaration
-        → IsListOf fault_cmp (IsOfParts bag) faults.items) }
+    ensures { IfOk result (λ faults. OfBag facts.now (λ bag. IsListOf fault_cmp (IsOfParts bag) faults.items)) }
 {
     let files = facts.listing.files.as_slice();
     let mut faults = missing_parts(alloc, facts.listing.has_data, has_payload_manifest(files))?;
@@ -59,13 +57,7 @@ fn missing_parts(
 fn missing_part(alloc: Global, code: Code) -> Fault
     ensures { result ≡ of_bag code }
 {
-    Fault {
-        code,
-        path: Text::empty(alloc),
-        alg: None,
-        line: 0,
-        detail: Text::empty(alloc),
-    }
+    Fault::of_path(code, Text::empty(alloc), None, Text::empty(alloc))
 }
 
 /// Whether a payload manifest is listed, of any algorithm.

@@ -1,10 +1,8 @@
 //! What payload manifests say of the payload's files that isn't so.
-ghost use Rattle.std.specs.Prelude.{◌≢◌, IfOk, IfSome, IsTrue};
-ghost use Rattle.bag_tree.specs.Bag.{Bag};
-ghost use Rattle.bag_facts.specs.Facts.{IsFactsOf};
+ghost use Rattle.std.specs.Prelude.{IfOk, IfSome, IsTrue};
+ghost use Rattle.bag_facts.specs.Facts.{OfBag};
 ghost use Rattle.bag_facts.specs.TagFacts.{entry_paths};
 ghost use Rattle.bag_facts.specs.Wanted.{paths_of};
-ghost use Rattle.bag_facts.specs.declared.options.Depth.TheVariants.{Declaration};
 ghost use Rattle.bag_stages.specs.CompletenessFaults.{HasEachOnce, IsWrong, IsWrongOfSome};
 ghost use Rattle.bag_stages.specs.PayloadNamed.{AreNamed, GoesOn, IsNamedExactly};
 
@@ -19,8 +17,7 @@ use std::alloc::{AllocError, Global};
 /// The faults that payload manifests name files that aren't there, and that they don't name payload files, one manifest
 /// after another.
 pub(crate) fn payload_faults(alloc: Global, facts: &Facts) -> Result<Vec<Fault>, AllocError>
-    ensures { IfOk result (λ faults. (bag : Bag) → IsFactsOf bag facts.now → facts.now.options.depth ≢ Declaration
-        → HasEachOnce (IsWrongOfSome bag) faults.items) }
+    ensures { IfOk result (λ faults. OfBag facts.now (λ bag. HasEachOnce (IsWrongOfSome bag) faults.items)) }
 {
     let mut faults = Vec::new(alloc);
     for alg in Alg::ALL {
@@ -32,8 +29,7 @@ pub(crate) fn payload_faults(alloc: Global, facts: &Facts) -> Result<Vec<Fault>,
 
 /// These faults of the manifest of an algorithm. Most manifests have none, which one look at both lists shows.
 fn faults_of(alloc: Global, facts: &Facts, alg: Alg) -> Result<Vec<Fault>, AllocError>
-    ensures { IfOk result (λ faults. (bag : Bag) → IsFactsOf bag facts.now → facts.now.options.depth ≢ Declaration
-        → HasEachOnce (IsWrong bag alg) faults.items) }
+    ensures { IfOk result (λ faults. OfBag facts.now (λ bag. HasEachOnce (IsWrong bag alg) faults.items)) }
 {
     if is_exact(facts, alg) {
         return Ok(Vec::new(alloc));
@@ -47,7 +43,7 @@ fn faults_of(alloc: Global, facts: &Facts, alg: Alg) -> Result<Vec<Fault>, Alloc
 /// Whether the payload manifest of an algorithm is there and names the payload's files and no other, so that it has no fault
 /// of completeness. The facts are read for more than the declaration.
 pub fn is_exact(facts: &Facts, alg: Alg) -> bool
-    ensures { (bag : Bag) → IsFactsOf bag facts.now → facts.now.options.depth ≢ Declaration → IsTrue result → IsNamedExactly bag alg }
+    ensures { OfBag facts.now (λ bag. IsTrue result → IsNamedExactly bag alg) }
 {
     match facts.manifest(Kind::Payload, alg) {
         Some(manifest) => are_named(manifest.entries.as_slice(), facts.listing.files.as_slice()),

@@ -64,13 +64,9 @@ fn sum_differs(
     ensures { IfOk result (λ fault. fault ≡ sum_differs path.now expected.now found.now) }
 {
     let given = hex::encode(alloc, expected.digest.as_slice())?;
-    Ok(Fault {
-        code: differing_code(kind_of(path.as_str())),
-        path: path.copy(alloc)?,
-        alg: Some(expected.alg),
-        line: 0,
-        detail: expected_and_found(alloc, given.as_str(), found)?,
-    })
+    let code = differing_code(kind_of(path.as_str()));
+    let detail = expected_and_found(alloc, given.as_str(), found)?;
+    Ok(Fault::of_path(code, path.copy(alloc)?, Some(expected.alg), detail))
 }
 
 /// What a file is whose digest isn't the one that a manifest of a kind gives.

@@ -1,6 +1,7 @@
 //! Faults of one tag file: of its lines, and of it as a whole.
 ghost use Rattle.std.specs.Prelude.{◌≡◌, [], IfOk, map, if◌then◌else◌};
-ghost use Rattle.bag_stages.specs.FaultFields.{in_file, of_whole};
+ghost use Rattle.bag_facts.specs.FaultAt.{of_path};
+ghost use Rattle.bag_stages.specs.FaultFields.{in_file};
 
 use bag_facts::Fault;
 use bag_read::LineFault;
@@ -48,13 +49,8 @@ fn fault_in_file(
 ) -> Result<Fault, AllocError>
     ensures { IfOk result (λ one. one ≡ in_file path.now alg fault.now) }
 {
-    Ok(Fault {
-        code: fault.code,
-        path: path.copy(alloc)?,
-        alg,
-        line: fault.line,
-        detail: fault.detail.copy(alloc)?,
-    })
+    let detail = fault.detail.copy(alloc)?;
+    Ok(Fault::of_line(fault.code, path.copy(alloc)?, alg, fault.line, detail))
 }
 
 /// A fault of a whole file.
@@ -64,13 +60,8 @@ pub(crate) fn whole_file(
     path: &Text,
     detail: &str,
 ) -> Result<Fault, AllocError>
-    ensures { IfOk result (λ fault. fault ≡ of_whole code path.now detail.now) }
+    ensures { IfOk result (λ fault. fault ≡ of_path code path.now None detail.now) }
 {
-    Ok(Fault {
-        code,
-        path: path.copy(alloc)?,
-        alg: None,
-        line: 0,
-        detail: Text::from_str(alloc, detail)?,
-    })
+    let detail = Text::from_str(alloc, detail)?;
+    Ok(Fault::of_path(code, path.copy(alloc)?, None, detail))
 }

@@ -1,15 +1,13 @@
 //! Payload files that payload manifests don't name.
-ghost use Rattle.std.specs.Prelude.{◌≡◌, ◌≢◌, ◌↔◌, true, false, IsTrue, IfOk};
+ghost use Rattle.std.specs.Prelude.{◌≡◌, ◌↔◌, true, false, IsTrue, IfOk};
 ghost use Rattle.std.specs.List.Sorted.{IsStrictlySortedBy};
 ghost use Rattle.bag_text.specs.Order.{IsListOf};
 ghost use Rattle.bag_text.specs.Path.{is_payload_path};
 ghost use Rattle.bag_text.specs.Text.{text_cmp};
-ghost use Rattle.bag_tree.specs.Bag.{Bag};
 ghost use Rattle.bag_facts.specs.FaultOrder.{fault_cmp};
-ghost use Rattle.bag_facts.specs.Facts.{IsFactsOf};
+ghost use Rattle.bag_facts.specs.Facts.{OfBag};
 ghost use Rattle.bag_facts.specs.TagFacts.{AreByPath};
 ghost use Rattle.bag_facts.specs.Wanted.{paths_of};
-ghost use Rattle.bag_facts.specs.declared.options.Depth.TheVariants.{Declaration};
 ghost use Rattle.bag_stages.specs.CompletenessFaults.{IsLeftByOne, IsUnlisted, IsUnlistedAmong};
 
 use crate::file_fault::file_fault;
@@ -24,8 +22,7 @@ use std::alloc::{AllocError, Global};
 /// paths; none by the rules of 0.97, which don't ask each manifest for each file. The facts are read for more than the
 /// declaration. Fails only where memory runs out.
 pub fn unlisted_of(alloc: Global, facts: &Facts, alg: Alg) -> Result<Vec<Fault>, AllocError>
-    ensures { IfOk result (λ faults. (bag : Bag) → IsFactsOf bag facts.now → facts.now.options.depth ≢ Declaration
-        → IsListOf fault_cmp (IsUnlisted bag alg) faults.items) }
+    ensures { IfOk result (λ faults. OfBag facts.now (λ bag. IsListOf fault_cmp (IsUnlisted bag alg) faults.items)) }
 {
     let is_asked = facts.rules() == Rules::V10;
     if is_asked {
@@ -37,8 +34,7 @@ pub fn unlisted_of(alloc: Global, facts: &Facts, alg: Alg) -> Result<Vec<Fault>,
 
 /// The faults that the payload manifest of an algorithm doesn't name payload files, where it is there.
 fn left_by_one(alloc: Global, facts: &Facts, alg: Alg) -> Result<Vec<Fault>, AllocError>
-    ensures { IfOk result (λ faults. (bag : Bag) → IsFactsOf bag facts.now → facts.now.options.depth ≢ Declaration
-        → IsListOf fault_cmp (IsLeftByOne bag alg) faults.items) }
+    ensures { IfOk result (λ faults. OfBag facts.now (λ bag. IsListOf fault_cmp (IsLeftByOne bag alg) faults.items)) }
 {
     let files = facts.listing.files.as_slice();
     match facts.manifest(Kind::Payload, alg) {

@@ -1,11 +1,9 @@
 //! Payload files that no payload manifest names.
-ghost use Rattle.std.specs.Prelude.{◌≡◌, ◌≢◌, true, IsTrue, IfOk};
+ghost use Rattle.std.specs.Prelude.{◌≡◌, true, IsTrue, IfOk};
 ghost use Rattle.bag_text.specs.Order.{IsListOf};
 ghost use Rattle.bag_text.specs.declared.alg.Alg.{Alg as Named};
-ghost use Rattle.bag_tree.specs.Bag.{Bag};
 ghost use Rattle.bag_facts.specs.FaultOrder.{fault_cmp};
-ghost use Rattle.bag_facts.specs.Facts.{IsFactsOf};
-ghost use Rattle.bag_facts.specs.declared.options.Depth.TheVariants.{Declaration};
+ghost use Rattle.bag_facts.specs.Facts.{OfBag};
 ghost use Rattle.bag_stages.specs.CompletenessFaults.{IsLeftByAll, IsUnlistedInAll, IsUnnamed, IsUnnamedPath};
 ghost use Rattle.bag_stages.specs.PayloadNamed.{IsNamedExactly};
 
@@ -20,8 +18,7 @@ use std::alloc::{AllocError, Global};
 /// The faults that no payload manifest names payload files, where there is one, in the order of their paths: what the rules of
 /// 0.97 ask, and none by those of 1.0. The facts are read for more than the declaration. Fails only where memory runs out.
 pub fn unlisted_in_all(alloc: Global, facts: &Facts) -> Result<Vec<Fault>, AllocError>
-    ensures { IfOk result (λ faults. (bag : Bag) → IsFactsOf bag facts.now → facts.now.options.depth ≢ Declaration
-        → IsListOf fault_cmp (IsUnlistedInAll bag) faults.items) }
+    ensures { IfOk result (λ faults. OfBag facts.now (λ bag. IsListOf fault_cmp (IsUnlistedInAll bag) faults.items)) }
 {
     let is_asked = facts.rules() == Rules::V097;
     if is_asked {
@@ -33,8 +30,7 @@ pub fn unlisted_in_all(alloc: Global, facts: &Facts) -> Result<Vec<Fault>, Alloc
 
 /// The faults that no payload manifest names payload files, where there is one.
 fn left_by_all(alloc: Global, facts: &Facts) -> Result<Vec<Fault>, AllocError>
-    ensures { IfOk result (λ faults. (bag : Bag) → IsFactsOf bag facts.now → facts.now.options.depth ≢ Declaration
-        → IsListOf fault_cmp (IsLeftByAll bag) faults.items) }
+    ensures { IfOk result (λ faults. OfBag facts.now (λ bag. IsListOf fault_cmp (IsLeftByAll bag) faults.items)) }
 {
     if facts.algs(Kind::Payload).is_empty() {
         return Ok(Vec::new(alloc));
@@ -45,8 +41,7 @@ fn left_by_all(alloc: Global, facts: &Facts) -> Result<Vec<Fault>, AllocError>
 /// The faults of payload files that no payload manifest names, in the order of their paths. Mostly there are none, which one
 /// look at a manifest and the files shows.
 fn unnamed_files(alloc: Global, facts: &Facts) -> Result<Vec<Fault>, AllocError>
-    ensures { IfOk result (λ faults. (bag : Bag) → IsFactsOf bag facts.now → facts.now.options.depth ≢ Declaration
-        → IsListOf fault_cmp (IsUnnamed bag) faults.items) }
+    ensures { IfOk result (λ faults. OfBag facts.now (λ bag. IsListOf fault_cmp (IsUnnamed bag) faults.items)) }
 {
     if is_some_exact(facts) {
         return Ok(Vec::new(alloc));
@@ -56,8 +51,8 @@ fn unnamed_files(alloc: Global, facts: &Facts) -> Result<Vec<Fault>, AllocError>
 
 /// Whether some payload manifest names the payload's files and no other.
 fn is_some_exact(facts: &Facts) -> bool
-    ensures { (bag : Bag) → IsFactsOf bag facts.now → facts.now.options.depth ≢ Declaration → IsTrue result
-        → (alg : Named) × IsNamedExactly bag alg }
+    ensures { OfBag facts.now (λ bag. IsTrue result
+        → (alg : Named) × IsNamedExactly bag alg) }
 {
     for alg in Alg::ALL {
         if is_exact(facts, alg) {
@@ -69,8 +64,7 @@ fn is_some_exact(facts: &Facts) -> bool
 
 /// The faults of those of the bag's files that are of the payload, and that no payload manifest names.
 fn unnamed_among(alloc: Global, facts: &Facts) -> Result<Vec<Fault>, AllocError>
-    ensures { IfOk result (λ faults. (bag : Bag) → IsFactsOf bag facts.now → facts.now.options.depth ≢ Declaration
-        → IsListOf fault_cmp (IsUnnamed bag) faults.items) }
+    ensures { IfOk result (λ faults. OfBag facts.now (λ bag. IsListOf fault_cmp (IsUnnamed bag) faults.items)) }
 {
     let mut faults = Vec::new(alloc);
     for entry in facts.files() {
@@ -84,8 +78,8 @@ fn unnamed_among(alloc: Global, facts: &Facts) -> Result<Vec<Fault>, AllocError>
 
 /// Whether a path is that of a payload file that no payload manifest names.
 fn is_unnamed(facts: &Facts, path: &Text) -> bool
-    ensures yes { (bag : Bag) → IsFactsOf bag facts.now → facts.now.options.depth ≢ Declaration → IsTrue result → IsUnnamedPath bag path.now }
-    ensures no { (bag : Bag) → IsFactsOf bag facts.now → facts.now.options.depth ≢ Declaration → IsUnnamedPath bag path.now → IsTrue result }
+    ensures yes { OfBag facts.now (λ bag. IsTrue result → IsUnnamedPath bag path.now) }
+    ensures no { OfBag facts.now (λ bag. IsUnnamedPath bag path.now → IsTrue result) }
 {
     is_payload(path.as_str()) && !is_named(facts, path)
 }

@@ -1,6 +1,5 @@
 -- The faults of completeness and of names above a cursor.
 use Rattle.std.proofs.Common.{◌≡◌, ◌⊎◌, inl, inr, ◌<◌, ◌≤◌, ◌&&◌, ◌+◌, ◌++◌, ◌∷◌, ℕ, List, [], length, take, get_or, Bool, true, false, Option, arith, refl, ap, sym, ◌∙◌, subst}
-use Rattle.std.proofs.lemmas.Bool.{and_parts}
 use Rattle.std.proofs.lemmas.List.{get_or_default}
 use Rattle.bag_text.specs.Alg.{algs}
 use Rattle.bag_text.specs.Code.{stage}
@@ -25,7 +24,7 @@ use Rattle.bag_stages.specs.PayloadNamed.{IsNamedExactly}
 use Rattle.bag_stages.proofs.CompletenessFaults.{completeness_of_stage_six, is_sought, sought_is}
 use Rattle.bag_stages.proofs.PayloadNamed.{nothing_wrong}
 use Rattle.bag_report.specs.Report.{Check, asks, is_above, IsReported}
-use Rattle.bag_report.proofs.Asked.{not_reached}
+use Rattle.bag_report.proofs.Asked.{asked_clash, not_reached}
 use Rattle.bag_report.proofs.Filtered.{filtered_list}
 use Rattle.bag_report.proofs.Found.{is_of_completeness, of_completeness}
 use Rattle.bag_walk.specs.Completeness.{IsAbove, IsOfAlg, IsOfSomeAlg, IsSoughtAbove, IsStageAbove}
@@ -97,10 +96,6 @@ unfolding asks
 asked_at_six options NoOxum reach at sought = absurd (omega (arith, at))
 asked_at_six options NameClash reach at sought = ap (λ b. b && reaches options.depth 6) (sought refl) ∙ reach
 asked_at_six options other reach at sought = subst (λ n. reaches options.depth n ≡ true) (sym at) reach
-
-asked_clash : (options : Options) (c : Code) → asks options c ≡ true → c ≡ NameClash → options.clashes ≡ true
-unfolding asks
-asked_clash options c e is = (and_parts _ _ (subst (λ d. asks options d ≡ true) is e)).0
 
 module _ (check : Check) (after : Option Fault) (faults : List Fault) where
   pub reached_part : reaches check.options.depth 6 ≡ true → IsListOf fault_cmp (IsSoughtAbove check.options.clashes check.bag after) faults → IsStageAbove check 6 after faults

@@ -1,13 +1,12 @@
 //! Faults of completeness, and clashes of names.
-ghost use Rattle.std.specs.Prelude.{◌≡◌, ◌≢◌, ⊤, [], true, false, Option, IfOk};
+ghost use Rattle.std.specs.Prelude.{◌≡◌, ⊤, [], true, false, Option, IfOk};
 ghost use Rattle.std.specs.List.Sorted.{IsStrictlySortedBy};
 ghost use Rattle.std.specs.Option.{option_copied};
 ghost use Rattle.bag_text.specs.Order.{IsListOf};
 ghost use Rattle.bag_tree.specs.Bag.{Bag};
 ghost use Rattle.bag_facts.specs.FaultOrder.{fault_cmp};
-ghost use Rattle.bag_facts.specs.Facts.{IsFactsOf};
+ghost use Rattle.bag_facts.specs.Facts.{IsFactsOf, OfBag};
 ghost use Rattle.bag_facts.specs.Options.{reaches};
-ghost use Rattle.bag_facts.specs.declared.options.Depth.TheVariants.{Declaration};
 ghost use Rattle.bag_stages.specs.CompletenessFaults.{IsIncomplete, IsWrong};
 ghost use Rattle.bag_profile.specs.Profile.{Profile};
 ghost use Rattle.bag_walk.specs.Completeness.{IsAbove, IsOfAlg, IsOfSomeAlg, IsSoughtAbove, IsStageAbove};
@@ -66,8 +65,8 @@ fn asked(alloc: Global, facts: &Facts, after: Option<&Fault>) -> Result<Vec<Faul
 /// The faults of completeness above a cursor, of facts read for more than the declaration, and where the options ask for them
 /// the clashes of names.
 fn sought(alloc: Global, facts: &Facts, after: Option<&Fault>) -> Result<Vec<Fault>, AllocError>
-    ensures { IfOk result (λ faults. (bag : Bag) → IsFactsOf bag facts.now → facts.now.options.depth ≢ Declaration
-        → IsListOf fault_cmp (IsSoughtAbove facts.now.options.clashes bag (option_copied after.entry)) faults.items) }
+    ensures { IfOk result (λ faults. OfBag facts.now (λ bag.
+        IsListOf fault_cmp (IsSoughtAbove facts.now.options.clashes bag (option_copied after.entry)) faults.items)) }
 {
     let of_files = of_files(alloc, facts, after)?;
     let of_names = above(clashes_asked(alloc, facts)?, after);
@@ -77,8 +76,7 @@ fn sought(alloc: Global, facts: &Facts, after: Option<&Fault>) -> Result<Vec<Fau
 /// The faults above a cursor that files are missing or aren't listed: those of each manifest, and those of all payload
 /// manifests at once, which a bag has by the rules of 0.97.
 fn of_files(alloc: Global, facts: &Facts, after: Option<&Fault>) -> Result<Vec<Fault>, AllocError>
-    ensures { IfOk result (λ faults. (bag : Bag) → IsFactsOf bag facts.now → facts.now.options.depth ≢ Declaration
-        → IsListOf fault_cmp (IsAbove (option_copied after.entry) (IsIncomplete bag)) faults.items) }
+    ensures { IfOk result (λ faults. OfBag facts.now (λ bag. IsListOf fault_cmp (IsAbove (option_copied after.entry) (IsIncomplete bag)) faults.items)) }
 {
     let of_algs = of_algs(alloc, facts, after)?;
     let of_all = above(unlisted_in_all(alloc, facts)?, after);
@@ -87,8 +85,7 @@ fn of_files(alloc: Global, facts: &Facts, after: Option<&Fault>) -> Result<Vec<F
 
 /// Those of the manifests of each algorithm.
 fn of_algs(alloc: Global, facts: &Facts, after: Option<&Fault>) -> Result<Vec<Fault>, AllocError>
-    ensures { IfOk result (λ faults. (bag : Bag) → IsFactsOf bag facts.now → facts.now.options.depth ≢ Declaration
-        → IsListOf fault_cmp (IsAbove (option_copied after.entry) (IsOfSomeAlg bag)) faults.items) }
+    ensures { IfOk result (λ faults. OfBag facts.now (λ bag. IsListOf fault_cmp (IsAbove (option_copied after.entry) (IsOfSomeAlg bag)) faults.items)) }
 {
     let mut faults = Vec::new(alloc);
     for alg in Alg::ALL {
@@ -105,8 +102,7 @@ fn of_alg(
     alg: Alg,
     after: Option<&Fault>,
 ) -> Result<Vec<Fault>, AllocError>
-    ensures { IfOk result (λ faults. (bag : Bag) → IsFactsOf bag facts.now → facts.now.options.depth ≢ Declaration
-        → IsListOf fault_cmp (IsAbove (option_copied after.entry) (IsOfAlg bag alg)) faults.items) }
+    ensures { IfOk result (λ faults. OfBag facts.now (λ bag. IsListOf fault_cmp (IsAbove (option_copied after.entry) (IsOfAlg bag alg)) faults.items)) }
 {
     let of_payload = of_payload(alloc, facts, alg, after)?;
     let of_tags = above(missing_of(alloc, facts, Kind::Tag, alg)?, after);
@@ -120,8 +116,7 @@ fn of_payload(
     alg: Alg,
     after: Option<&Fault>,
 ) -> Result<Vec<Fault>, AllocError>
-    ensures { IfOk result (λ faults. (bag : Bag) → IsFactsOf bag facts.now → facts.now.options.depth ≢ Declaration
-        → IsListOf fault_cmp (IsAbove (option_copied after.entry) (IsWrong bag alg)) faults.items) }
+    ensures { IfOk result (λ faults. OfBag facts.now (λ bag. IsListOf fault_cmp (IsAbove (option_copied after.entry) (IsWrong bag alg)) faults.items)) }
 {
     if is_exact(facts, alg) {
         return Ok(Vec::new(alloc));

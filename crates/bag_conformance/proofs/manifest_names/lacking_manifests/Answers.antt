@@ -1,6 +1,6 @@
-use Rattle.std.proofs.Common.{◌≡◌, ◌++◌, ◌∷◌, [], true, false, refl, sym, ap, ◌∙◌}
+use Rattle.std.proofs.Common.{None, ◌≡◌, ◌++◌, ◌∷◌, [], true, false, refl, sym, ap, ◌∙◌}
 use Rattle.bag_read.specs.ManifestName.{manifest_name}
-use Rattle.bag_stages.specs.FaultFields.{of_whole}
+use Rattle.bag_facts.specs.FaultAt.{of_path}
 use Rattle.bag_conformance.proofs.FaultSets.{all_items, one_more, one_other}
 use Rattle.bag_conformance.proofs.Manifests.{lacking_all, lacking_fault, listed_as, IsLacking}
 use Rattle.bag_conformance.proofs.manifest_names.lacking_manifests.Goals as goal
@@ -19,8 +19,8 @@ loop-name-preserved c = λ bag facts.
     elim c.if-not-has_manifest.branch [
       | then-not-has_manifest+in_ok-file_fault+in_ok-push w ↦ (
           let made : c.if-not-has_manifest.faults.items ≡ before ++ w.in_ok-file_fault.field-0 ∷ [] = rw w.faults-is w.in_ok-push.ensures.items in
-          let is : w.in_ok-file_fault.field-0 ≡ lacking_fault bag profile kind name = w.in_ok-file_fault.ensures ∙ ap (λ path. of_whole c.required_code-code.result path []) c.in_ok-path.ensures
-          ∙ ap (λ code. of_whole code (manifest_name kind name) []) c.required_code-code.ensures in
+          let is : w.in_ok-file_fault.field-0 ≡ lacking_fault bag profile kind name = w.in_ok-file_fault.ensures ∙ ap (λ path. of_path c.required_code-code.result path None []) c.in_ok-path.ensures
+          ∙ ap (λ code. of_path code (manifest_name kind name) None []) c.required_code-code.ensures in
           one_more (lacking_fault bag profile kind) (IsLacking bag profile kind) required i name before c.loop-name-test.true c.name-item.is so_far w.in_ok-file_fault.field-0 c.if-not-has_manifest.faults.items made is
           (λ has. let clash : false ≡ true = sym w.if-not-has_manifest.true ∙ tells.1 has in cc))
       | else-not-has_manifest w ↦ (

@@ -1,6 +1,6 @@
-use Rattle.std.proofs.Common.{◌≡◌, ◌++◌, ◌∷◌, [], true, false, refl, sym, ap, ◌∙◌}
+use Rattle.std.proofs.Common.{None, ◌≡◌, ◌++◌, ◌∷◌, [], true, false, refl, sym, ap, ◌∙◌}
 use Rattle.bag_facts.specs.TagReader.{AreListed}
-use Rattle.bag_stages.specs.FaultFields.{of_whole}
+use Rattle.bag_facts.specs.FaultAt.{of_path}
 use Rattle.bag_conformance.specs.ConformanceFaults.{other_code}
 use Rattle.bag_conformance.specs.NotAllowed.{IsOtherManifest}
 use Rattle.bag_conformance.proofs.FaultSets.{all_items, one_more, one_other}
@@ -23,7 +23,7 @@ loop-entry-preserved c =
     elim c.if-is_other_manifest.branch [
       | then-is_other_manifest+in_ok-file_fault+in_ok-push w ↦ (
           let made : c.if-is_other_manifest.faults.items ≡ before ++ w.in_ok-file_fault.field-0 ∷ [] = rw w.faults-is w.in_ok-push.ensures.items in
-          let is : w.in_ok-file_fault.field-0 ≡ told entry = w.in_ok-file_fault.ensures ∙ ap (λ code. of_whole code entry.path []) c.other_code-code.ensures in
+          let is : w.in_ok-file_fault.field-0 ≡ told entry = w.in_ok-file_fault.ensures ∙ ap (λ code. of_path code entry.path None []) c.other_code-code.ensures in
           one_more told holds files i entry before c.loop-entry-test.true c.entry-item.is c.loop-entry.invariant w.in_ok-file_fault.field-0 c.if-is_other_manifest.faults.items made is
           (tells.0 w.if-is_other_manifest.true))
       | else-is_other_manifest w ↦ (

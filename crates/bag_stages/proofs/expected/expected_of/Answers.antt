@@ -33,7 +33,7 @@ returns-clause-algs c = λ bag facts deep.
     (c.loop-alg.invariant bag facts deep))
 
 pub returns-clause-faults : goal.returns-clause-faults
-returns-clause-faults c = λ bag content facts deep there.
+returns-clause-faults c = λ bag facts deep content there.
     rw (c.from_vec.ensures, c.shrink_to_fit.ensures.items)
     (all_faults bag c.args.path.now c.kind_of-kind.result (c.kind_of-kind.ensures ∙ ap kind_of c.as_str.ensures) c.loop-alg.alg-index c.loop-alg.expected.items c.loop-alg-test.false
     (c.loop-alg.invariant bag facts deep) content there)

@@ -1,7 +1,5 @@
 use Rattle.std.proofs.Common.{[], sym, Contains, append-nil}
-use Rattle.bag_tree.specs.Listing.{IsOrdered}
 use Rattle.bag_facts.specs.Facts.{IsSaid}
-use Rattle.bag_facts.specs.TagReader.{AreListed}
 use Rattle.bag_stages.proofs.ManifestFaults.{no_tags_listed, one_tag_more, of_manifest_listed, no_manifest_listed, all_tags_listed}
 use Rattle.bag_stages.proofs.manifests.manifest_faults.Goals as goal
 use Rattle.bag_stages.proofs.manifests.manifest_faults.Goals.{in-Manifest+in_ok-of_manifest+in_ok-append, in_default}
@@ -15,14 +13,12 @@ loop-tag-preserved c = λ bag facts.
     let tags = c.as_slice-tag-items.result.now in
     let tag = c.tag-item.result in
     let before = c.loop-tag.faults.items in
-    let files : AreListed bag c.as_slice-files.result.now = rw c.as_slice-files.ensures facts.listing.files in
-    let ordered : IsOrdered c.as_slice-files.result.now = rw c.as_slice-files.ensures facts.ordered in
     let here : Contains tags tag = (c.loop-tag.tag-index, c.loop-tag-test.true, sym c.tag-item.is) in
     let said : IsSaid bag tag = facts.said tag (rw c.as_slice-tag-items.ensures at here) in
     let more = one_tag_more bag all tags c.loop-tag.tag-index tag before in
     elim c.match-tag.branch [
       | in-Manifest+in_ok-of_manifest+in_ok-append w ↦ rw (w.faults-is, w.in_ok-append.ensures.items) (more w.in_ok-of_manifest.of_manifest.items facts c.as_slice-tag-items.ensures c.loop-tag-test.true c.tag-item.is
-          (c.loop-tag.invariant bag facts) (of_manifest_listed bag tag w.in-Manifest.manifest w.in_ok-of_manifest.of_manifest.items w.in-Manifest.is said (λ of. w.in_ok-of_manifest.ensures bag (c.rules-rules.ensures bag facts) files ordered.ascending of)))
+          (c.loop-tag.invariant bag facts) (of_manifest_listed bag tag w.in-Manifest.manifest w.in_ok-of_manifest.of_manifest.items w.in-Manifest.is said (λ of. w.in_ok-of_manifest.ensures bag facts of)))
       | in_default w ↦ rw (w.faults-is, sym (append-nil before)) (more [] facts c.as_slice-tag-items.ensures c.loop-tag-test.true c.tag-item.is
           (c.loop-tag.invariant bag facts) (no_manifest_listed bag tag w.in_default.not-Manifest))
     ]

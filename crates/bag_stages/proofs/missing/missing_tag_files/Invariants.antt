@@ -1,13 +1,10 @@
 use Rattle.bag_read.specs.declared.kind.Kind.TheVariants.{Tag}
-use Rattle.std.proofs.Common.{◌≢◌, take}
-use Rattle.bag_tree.specs.Bag.{Bag}
-use Rattle.bag_facts.specs.Facts.{IsFactsOf}
-use Rattle.bag_facts.specs.declared.options.Depth.TheVariants.{Declaration}
+use Rattle.std.proofs.Common.{take}
+use Rattle.bag_facts.specs.Facts.{OfBag}
 use Rattle.bag_stages.proofs.ByItem.{OfSome}
 use Rattle.bag_stages.specs.CompletenessFaults.{HasEachOnce, IsMissing}
 use Rattle.bag_stages.proofs.missing.missing_tag_files.Given as goal
 
 abbrev pub invariant-loop-alg : goal.invariant-loop-alg
 invariant-loop-alg l =
-    (bag : Bag) → IsFactsOf bag l.facts → l.facts.options.depth ≢ Declaration
-    → HasEachOnce (OfSome (IsMissing bag Tag) (take l.alg-index l.alg-items)) l.faults.items
+    OfBag l.facts (λ bag. HasEachOnce (OfSome (IsMissing bag Tag) (take l.alg-index l.alg-items)) l.faults.items)

@@ -1,12 +1,10 @@
 use Rattle.std.proofs.Common.{◌≢◌}
 use Rattle.bag_read.specs.declared.kind.Kind.TheVariants.{Payload}
-use Rattle.bag_tree.specs.Bag.{Bag}
-use Rattle.bag_facts.specs.Facts.{IsFactsOf}
-use Rattle.bag_facts.specs.declared.options.Depth.TheVariants.{Declaration}
+use Rattle.bag_facts.specs.Facts.{OfBag}
 use Rattle.bag_stages.specs.TagFiles.{Names}
 use Rattle.bag_stages.proofs.NamedBy.{NoneOfFirst}
 use Rattle.bag_stages.proofs.named.is_named.Given as goal
 
 abbrev pub invariant-loop-alg : goal.invariant-loop-alg
 invariant-loop-alg l =
-    (bag : Bag) → IsFactsOf bag l.facts → l.facts.options.depth ≢ Declaration → NoneOfFirst (λ alg. Names bag Payload alg l.path) l.alg-index
+    OfBag l.facts (λ bag. NoneOfFirst (λ alg. Names bag Payload alg l.path) l.alg-index)

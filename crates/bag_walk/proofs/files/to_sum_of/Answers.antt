@@ -19,5 +19,5 @@ returns c = λ bag of full.
       c.in_ok-copy_of_file.ensures,
       (named_by bag path expected (c.in_ok-expected.ensures.algs bag of deep) some, ahead),
       rw c.in_ok-copy_of_file.ensures
-          (tells bag (record { file = c.args.file.now; expected = expected }) (λ bytes there. c.in_ok-expected.ensures.faults bag bytes of deep there)),
+          (tells bag (record { file = c.args.file.now; expected = expected }) (λ bytes there. c.in_ok-expected.ensures.faults bag of deep bytes there)),
     )
