@@ -1,7 +1,7 @@
 -- When a refusal of the disk is due.
 use Rattle.std.proofs.Common.{◌≡◌, ◌⊎◌, ℕ, ◌+◌, Bool, true, false, Result, Ok, Err, IfErr, MatchResult, refl, subst, sym, ap, ◌∙◌, inl, inr}
 use Rattle.bag_disk.specs.Disk.{DiskState}
-use Rattle.bag_disk.specs.Refusal.{IsCounted, IsDue, IsDueInListing, IsDueInStep, IsNoFailure, failures_after, is_device, of_path, of_name}
+use Rattle.bag_disk.specs.Refusal.{IsCounted, IsDue, IsDueInListing, IsDueInMove, IsDueInStep, IsNoFailure, at_known, failures_after, is_device, of_path, of_name}
 use Rattle.bag_disk.specs.declared.disk.DiskFault.{DiskFault}
 use Rattle.bag_disk.specs.declared.disk.DiskFault.TheVariants as disk
 use Rattle.bag_disk.specs.declared.refusal.Refusal.{Refusal}
@@ -33,6 +33,17 @@ due_of_path special unnamed absent many f r is none = subst (IsDue special unnam
     due disk.Name none = tt
     due disk.Memory none = tt
     due disk.Device none = tt
+
+-- where something is known to be there
+pub due_at_known : (special unnamed absent many : Type 0) (f : DiskFault) (r : Refusal) → r ≡ at_known f → IsDue special unnamed absent many r
+due_at_known special unnamed absent many f r is = subst (IsDue special unnamed absent many) (sym is) (due f)
+  where
+    due : (f : DiskFault) → IsDue special unnamed absent many (at_known f)
+    due disk.NotFound = tt
+    due disk.Exists = tt
+    due disk.Name = tt
+    due disk.Memory = tt
+    due disk.Device = tt
 
 -- in place of a name
 pub due_of_name : (special unnamed absent many : Type 0) (f : DiskFault) (r : Refusal) → r ≡ of_name f → (f ≡ disk.Name → unnamed) → IsDue special unnamed absent many r
@@ -67,6 +78,30 @@ step_due_for special absent taken special' absent' taken' Memory f g h due = tt
 step_due_for special absent taken special' absent' taken' Exists f g h due = h due
 step_due_for special absent taken special' absent' taken' Contradicts f g h due = absurd due
 step_due_for special absent taken special' absent' taken' InTheWay f g h due = absurd due
+
+-- a move is refused where a step is
+pub due_in_move : (special absent taken folder : Type 0) (r : Refusal) → IsDueInStep special absent taken r → IsDueInMove special absent taken folder r
+due_in_move special absent taken folder Device due = due
+due_in_move special absent taken folder Special due = due
+due_in_move special absent taken folder Name due = due
+due_in_move special absent taken folder NotFound due = due
+due_in_move special absent taken folder TooMany due = due
+due_in_move special absent taken folder Memory due = due
+due_in_move special absent taken folder Exists due = due
+due_in_move special absent taken folder Contradicts due = due
+due_in_move special absent taken folder InTheWay due = absurd due
+
+pub move_due_for : (special absent taken folder special' absent' taken' folder' : Type 0) (r : Refusal) → (special → special') → (absent → absent') → (taken → taken') → (folder → folder') → IsDueInMove special absent taken folder r
+    → IsDueInMove special' absent' taken' folder' r
+move_due_for special absent taken folder special' absent' taken' folder' Device f g h i due = due
+move_due_for special absent taken folder special' absent' taken' folder' Special f g h i due = f due
+move_due_for special absent taken folder special' absent' taken' folder' Name f g h i due = due
+move_due_for special absent taken folder special' absent' taken' folder' NotFound f g h i due = g due
+move_due_for special absent taken folder special' absent' taken' folder' TooMany f g h i due = due
+move_due_for special absent taken folder special' absent' taken' folder' Memory f g h i due = due
+move_due_for special absent taken folder special' absent' taken' folder' Exists f g h i due = h due
+move_due_for special absent taken folder special' absent' taken' folder' Contradicts f g h i due = due
+move_due_for special absent taken folder special' absent' taken' folder' InTheWay f g h i due = i due
 
 -- a listing is refused where the walk before it is
 pub due_in_listing : (special unnamed many contradiction : Type 0) (r : Refusal) → IsDue special unnamed ⊥ many r → IsDueInListing special unnamed many contradiction r

@@ -106,7 +106,7 @@ impl Failures {
     }
 
     /// Counts a refusal, where it is one by the device.
-    fn refuse(&mut self, refusal: Refusal)
+    pub fn refuse(&mut self, refusal: Refusal)
         ensures { self.new.count ≡ failures_after refusal self.old.count }
     {
         match refusal {

@@ -1,5 +1,5 @@
 //! The system's disk.
-ghost use Rattle.std.specs.Prelude.{◌≡◌, ◌<◌, ◌++◌, ◌∷◌, [], IfOk, None, Ok, OnErr, OnOk, is_some, false, length};
+ghost use Rattle.std.specs.Prelude.{◌≡◌, ◌<◌, ◌++◌, ◌∷◌, [], IfOk, IsTrue, None, Ok, OnErr, OnOk, is_some, false, length};
 ghost use Rattle.std.specs.Fs.{dir_entry_name};
 ghost use Rattle.bag_disk.specs.SystemDisk.{base_of, system_state, written_state};
 ghost use Rattle.bag_disk.specs.Disk.{empty_disk};
@@ -45,15 +45,22 @@ fn written_of(answer: Result<usize, DiskFault>, bytes: &[u8]) -> Result<usize, D
     ensures some { IfOk result (λ count. 0 < length bytes.now → 0 < count) }
 {
     match answer {
-        Ok(0) => {
-            if bytes.is_empty() {
-                Ok(0)
+        Ok(count) => {
+            if has_written(count, bytes) {
+                Ok(count)
             } else {
                 Err(DiskFault::Device)
             }
         }
-        answer => answer,
+        Err(fault) => Err(fault),
     }
+}
+
+/// Whether so many bytes are some of those that were to be written, where there were any.
+fn has_written(count: usize, bytes: &[u8]) -> bool
+    ensures { IsTrue result → 0 < length bytes.now → 0 < count }
+{
+    count > 0 || bytes.is_empty()
 }
 
 impl<R: Files> SystemDisk<R> {

@@ -1,49 +1,160 @@
 -- How a tree answers what its disk refuses.
-use Rattle.std.proofs.Common.{◌≡◌, ℕ, ◌+◌, ◌<◌, ◌==◌, true, false, cond, IsTrue, sym, subst, arith}
+use Rattle.std.proofs.Common.{◌≡◌, ◌≢◌, ◌⊎◌, ℕ, ◌+◌, ◌<◌, ◌==◌, true, false, cond, IsTrue, inl, inr, sym, subst, ◌∙◌, refl, arith}
 use Rattle.bag_tree.specs.Changes.{MayRefuseChange}
 use Rattle.bag_tree.specs.Tree.{TreeState, MayRefuse, most_entries}
 use Rattle.bag_tree.specs.declared.tree_fault.TreeFault.{TreeFault}
 use Rattle.bag_tree.specs.declared.tree_fault.TreeFault.TheVariants as fault
-use Rattle.bag_disk.specs.Refusal.{IsDue, IsDueInStep}
+use Rattle.bag_disk.specs.Refusal.{IsDue, IsDueInListing, IsDueInMove, IsDueInStep, failures_after}
 use Rattle.bag_disk.specs.declared.refusal.Refusal.{Refusal}
-use Rattle.bag_disk.specs.declared.refusal.Refusal.TheVariants.{Device, Special, Name, NotFound, TooMany, Memory, Exists}
+use Rattle.bag_disk.specs.declared.refusal.Refusal.TheVariants.{Device, Special, Name, NotFound, TooMany, Memory, Exists, Contradicts, InTheWay}
 use Rattle.bag_store.specs.Answered.{count_after, failure_or_memory, fault_of, last_count, one_more_failure}
 
 -- a failure is counted, or else answered by Memory
-counted : (answer : TreeFault → Type 0) (failure : TreeFault) (before after : ℕ) → answer fault.Memory → (before < after → answer failure) → after ≡ one_more_failure before → answer (failure_or_memory failure before)
-counted answer failure before after memory failed is = elim (before == last_count) as (λ b. after ≡ cond b before (before + 1) → answer (cond b fault.Memory failure)) [
+counted : (answer : TreeFault → Type 0) (failure : TreeFault) (own own_then : ℕ) → answer fault.Memory → (own < own_then → answer failure) → own_then ≡ one_more_failure own → answer (failure_or_memory failure own)
+counted answer failure own own_then memory failed is = elim (own == last_count) as (λ b. own_then ≡ cond b own (own + 1) → answer (cond b fault.Memory failure)) [
   | true ↦ λ _. memory
   | false ↦ λ more. failed (omega (arith, more))
 ] is
 
--- what answers a refusal that is due
-pub answered_so : (absent closed : Type 0) (old new : TreeState) (special unnamed gone many : Type 0) (r : Refusal) (answer : TreeFault) → answer ≡ fault_of r old.failures → new.failures ≡ count_after r old.failures
-    → (special → IsTrue old.honest → old.plain ≡ false) → (unnamed → IsTrue old.honest → old.plain ≡ false) → (gone → IsTrue old.honest → absent) → (many → IsTrue old.honest → most_entries < old.entries)
-    → IsDue special unnamed gone many r → MayRefuse absent closed old new answer
-answered_so absent closed old new special unnamed gone many r answer is count over wrong none full due =
-    subst (MayRefuse absent closed old new) (sym is) (answered r count due)
-  where
-    answered : (r : Refusal) → new.failures ≡ count_after r old.failures → IsDue special unnamed gone many r → MayRefuse absent closed old new (fault_of r old.failures)
-    answered Device count due = counted (MayRefuse absent closed old new) fault.Device old.failures new.failures tt (λ grew. grew) count
-    answered Special count due = counted (MayRefuse absent closed old new) fault.Special old.failures new.failures tt (λ grew. (grew, over due)) count
-    answered Name count due = counted (MayRefuse absent closed old new) fault.Name old.failures new.failures tt (λ grew. (grew, wrong due)) count
-    answered NotFound count due = none due
-    answered TooMany count due = full due
-    answered Memory count due = tt
-    answered Exists count due = absurd due
+-- how often a tree has failed, before and after a refusal: what its disk counted, and what it counted itself
+pub record Counts (old new : TreeState) (before after own own_then : ℕ) (r : Refusal) : Type 0 where
+  pub old_is : old.failures ≡ before + own
+  pub new_is : new.failures ≡ after + own_then
+  pub disk_is : after ≡ failures_after r before
+  pub own_is : own_then ≡ count_after r own
 
--- what answers a step's refusal that is due
-pub step_answered_so : (absent taken : Type 0) (old new : TreeState) (special gone there : Type 0) (r : Refusal) (answer : TreeFault) → answer ≡ fault_of r old.failures → new.failures ≡ count_after r old.failures
-    → (special → IsTrue old.honest → old.plain ≡ false) → (gone → IsTrue old.honest → absent) → (there → IsTrue old.honest → taken)
-    → IsDueInStep special gone there r → MayRefuseChange absent taken old new answer
-step_answered_so absent taken old new special gone there r answer is count over none blocked due =
-    subst (MayRefuseChange absent taken old new) (sym is) (answered r count due)
+-- a failure that the tree counted itself makes its count rise
+own_rose : (old new : TreeState) (before after own own_then : ℕ) → old.failures ≡ before + own → new.failures ≡ after + own_then → after ≡ before → own < own_then → old.failures < new.failures
+own_rose old new before after own own_then old_is new_is same more = omega (arith, old_is, new_is, same, more)
+
+-- and so does one that its disk counted
+disk_rose : (old new : TreeState) (before after own own_then : ℕ) → old.failures ≡ before + own → new.failures ≡ after + own_then → after ≡ before + 1 → own_then ≡ own → old.failures < new.failures
+disk_rose old new before after own own_then old_is new_is more same = omega (arith, old_is, new_is, same, more)
+
+module _ (old new : TreeState) (before after own own_then : ℕ) where
+  -- what answers a refusal that is due
+  pub answered_so : (absent closed special unnamed gone many : Type 0) (r : Refusal) (answer : TreeFault) → Counts old new before after own own_then r → answer ≡ fault_of r own
+      → (special → IsTrue old.honest → old.plain ≡ false) → (unnamed → IsTrue old.honest → old.plain ≡ false) → (gone → IsTrue old.honest → absent) → (many → IsTrue old.honest → most_entries < old.entries)
+      → IsDue special unnamed gone many r → MayRefuse absent closed old new answer
+  answered_so absent closed special unnamed gone many r answer counts is over wrong none full due =
+      subst (MayRefuse absent closed old new) (sym is) (answered r counts due)
+    where
+      rose : after ≡ before → own < own_then → old.failures ≡ before + own → new.failures ≡ after + own_then → old.failures < new.failures
+      rose same more old_is new_is = own_rose old new before after own own_then old_is new_is same more
+
+      answered : (r : Refusal) → Counts old new before after own own_then r → IsDue special unnamed gone many r → MayRefuse absent closed old new (fault_of r own)
+      answered Device n due = disk_rose old new before after own own_then n.old_is n.new_is n.disk_is n.own_is
+      answered Special n due = counted (MayRefuse absent closed old new) fault.Special own own_then tt (λ more. (rose n.disk_is more n.old_is n.new_is, over due)) n.own_is
+      answered Name n due = counted (MayRefuse absent closed old new) fault.Name own own_then tt (λ more. (rose n.disk_is more n.old_is n.new_is, wrong due)) n.own_is
+      answered NotFound n due = none due
+      answered TooMany n due = full due
+      answered Memory n due = tt
+      answered Exists n due = absurd due
+      answered Contradicts n due = absurd due
+      answered InTheWay n due = absurd due
+
+  -- what answers a listing's refusal that is due
+  pub listing_answered_so : (special unnamed many contradiction : Type 0) (r : Refusal) (answer : TreeFault) → Counts old new before after own own_then r → answer ≡ fault_of r own
+      → (special → IsTrue old.honest → old.plain ≡ false) → (unnamed → IsTrue old.honest → old.plain ≡ false) → (many → IsTrue old.honest → most_entries < old.entries)
+      → IsDueInListing special unnamed many contradiction r → MayRefuse ⊥ ⊥ old new answer
+  listing_answered_so special unnamed many contradiction r answer counts is over wrong full due =
+      subst (MayRefuse ⊥ ⊥ old new) (sym is) (answered r counts due)
+    where
+      as_due : (r : Refusal) → Counts old new before after own own_then r → IsDue special unnamed ⊥ many r → MayRefuse ⊥ ⊥ old new (fault_of r own)
+      as_due r n due = answered_so ⊥ ⊥ special unnamed ⊥ many r (fault_of r own) n refl over wrong (λ never. absurd never) full due
+
+      answered : (r : Refusal) → Counts old new before after own own_then r → IsDueInListing special unnamed many contradiction r → MayRefuse ⊥ ⊥ old new (fault_of r own)
+      answered Device n due = as_due Device n due
+      answered Special n due = as_due Special n due
+      answered Name n due = as_due Name n due
+      answered NotFound n due = absurd due
+      answered TooMany n due = as_due TooMany n due
+      answered Memory n due = tt
+      answered Exists n due = absurd due
+      answered Contradicts n due = counted (MayRefuse ⊥ ⊥ old new) fault.Device own own_then tt (λ more. own_rose old new before after own own_then n.old_is n.new_is n.disk_is more) n.own_is
+      answered InTheWay n due = absurd due
+
+  -- what answers a step's refusal that is due
+  pub step_answered_so : (absent taken special gone there : Type 0) (r : Refusal) (answer : TreeFault) → Counts old new before after own own_then r → answer ≡ fault_of r own
+      → (special → IsTrue old.honest → old.plain ≡ false) → (gone → IsTrue old.honest → absent) → (there → IsTrue old.honest → taken)
+      → IsDueInStep special gone there r → MayRefuseChange absent taken old new answer
+  step_answered_so absent taken special gone there r answer counts is over none blocked due =
+      subst (MayRefuseChange absent taken old new) (sym is) (answered r counts due)
+    where
+      answered : (r : Refusal) → Counts old new before after own own_then r → IsDueInStep special gone there r → MayRefuseChange absent taken old new (fault_of r own)
+      answered Device n due = disk_rose old new before after own own_then n.old_is n.new_is n.disk_is n.own_is
+      answered Special n due = counted (MayRefuseChange absent taken old new) fault.Special own own_then tt
+          (λ more. (own_rose old new before after own own_then n.old_is n.new_is n.disk_is more, over due)) n.own_is
+      answered Name n due = absurd due
+      answered NotFound n due = none due
+      answered TooMany n due = absurd due
+      answered Memory n due = tt
+      answered Exists n due = blocked due
+      answered Contradicts n due = absurd due
+      answered InTheWay n due = absurd due
+
+  -- what answers a move's refusal that is due
+  pub move_answered_so : (absent taken special gone there folder : Type 0) (r : Refusal) (answer : TreeFault) → Counts old new before after own own_then r → answer ≡ fault_of r own
+      → (special → IsTrue old.honest → old.plain ≡ false) → (gone → IsTrue old.honest → absent) → (there → IsTrue old.honest → taken)
+      → IsDueInMove special gone there folder r → MayRefuseChange absent taken old new answer
+  move_answered_so absent taken special gone there folder r answer counts is over none blocked due =
+      subst (MayRefuseChange absent taken old new) (sym is) (answered r counts due)
+    where
+      as_step : (r : Refusal) → Counts old new before after own own_then r → IsDueInStep special gone there r → MayRefuseChange absent taken old new (fault_of r own)
+      as_step r n due = step_answered_so absent taken special gone there r (fault_of r own) n refl over none blocked due
+
+      answered : (r : Refusal) → Counts old new before after own own_then r → IsDueInMove special gone there folder r → MayRefuseChange absent taken old new (fault_of r own)
+      answered Device n due = as_step Device n due
+      answered Special n due = as_step Special n due
+      answered Name n due = as_step Name n due
+      answered NotFound n due = as_step NotFound n due
+      answered TooMany n due = as_step TooMany n due
+      answered Memory n due = as_step Memory n due
+      answered Exists n due = as_step Exists n due
+      answered Contradicts n due = as_step Contradicts n due
+      answered InTheWay n due = counted (MayRefuseChange absent taken old new) fault.Device own own_then tt (λ more. own_rose old new before after own own_then n.old_is n.new_is n.disk_is more) n.own_is
+
+-- a failure that the tree counts itself is answered as Device where it is one
+not_device : (failure : TreeFault) (own : ℕ) → failure ≢ fault.Device → failure_or_memory failure own ≡ fault.Device → ⊥
+not_device failure own other is = elim (own == last_count) as (λ b. cond b fault.Memory failure ≡ fault.Device → ⊥) [
+  | true ↦ λ same. cc
+  | false ↦ other
+] is
+
+-- where Device is answered, the disk's device refused, or for the tree's own reasons
+pub device_for : (r : Refusal) (answer : TreeFault) (own before after : ℕ) (reason : Type 0) → answer ≡ fault_of r own → after ≡ failures_after r before → (r ≡ Contradicts → reason) → (r ≡ InTheWay → reason)
+    → answer ≡ fault.Device → (before < after) ⊎ reason
+device_for r answer own before after reason is counts odd blocked device = told r (sym is ∙ device) counts odd blocked
   where
-    answered : (r : Refusal) → new.failures ≡ count_after r old.failures → IsDueInStep special gone there r → MayRefuseChange absent taken old new (fault_of r old.failures)
-    answered Device count due = counted (MayRefuseChange absent taken old new) fault.Device old.failures new.failures tt (λ grew. grew) count
-    answered Special count due = counted (MayRefuseChange absent taken old new) fault.Special old.failures new.failures tt (λ grew. (grew, over due)) count
-    answered Name count due = absurd due
-    answered NotFound count due = none due
-    answered TooMany count due = absurd due
-    answered Memory count due = tt
-    answered Exists count due = blocked due
+    told : (r : Refusal) → fault_of r own ≡ fault.Device → after ≡ failures_after r before → (r ≡ Contradicts → reason) → (r ≡ InTheWay → reason) → (before < after) ⊎ reason
+    told Device is more odd blocked = inl (omega (arith, more))
+    told Special is same odd blocked = absurd (not_device fault.Special own (λ e. cc) is)
+    told Name is same odd blocked = absurd (not_device fault.Name own (λ e. cc) is)
+    told NotFound is same odd blocked = cc
+    told TooMany is same odd blocked = cc
+    told Memory is same odd blocked = cc
+    told Exists is same odd blocked = cc
+    told Contradicts is same odd blocked = inr (odd refl)
+    told InTheWay is same odd blocked = inr (blocked refl)
+
+no_reason : (P : Type 0) → P ⊎ ⊥ → P
+no_reason P (inl p) = p
+no_reason P (inr none) = absurd none
+
+module _ (r : Refusal) (answer : TreeFault) (own before after : ℕ) where
+  pub device_of_due : (special unnamed gone many : Type 0) → answer ≡ fault_of r own → after ≡ failures_after r before → IsDue special unnamed gone many r → answer ≡ fault.Device → before < after
+  device_of_due special unnamed gone many is counts due device =
+      no_reason _ (device_for r answer own before after ⊥ is counts (λ odd. subst (IsDue special unnamed gone many) odd due) (λ blocked. subst (IsDue special unnamed gone many) blocked due) device)
+
+  pub device_of_listing : (special unnamed many contradiction : Type 0) → answer ≡ fault_of r own → after ≡ failures_after r before → IsDueInListing special unnamed many contradiction r → answer ≡ fault.Device
+      → (before < after) ⊎ contradiction
+  device_of_listing special unnamed many contradiction is counts due =
+      device_for r answer own before after contradiction is counts (λ odd. subst (IsDueInListing special unnamed many contradiction) odd due) (λ blocked. absurd (subst (IsDueInListing special unnamed many contradiction) blocked due))
+
+  pub device_of_step : (special gone there : Type 0) → answer ≡ fault_of r own → after ≡ failures_after r before → IsDueInStep special gone there r → answer ≡ fault.Device → before < after
+  device_of_step special gone there is counts due device =
+      no_reason _ (device_for r answer own before after ⊥ is counts (λ odd. subst (IsDueInStep special gone there) odd due) (λ blocked. subst (IsDueInStep special gone there) blocked due) device)
+
+  pub device_of_move : (special gone there folder : Type 0) → answer ≡ fault_of r own → after ≡ failures_after r before → IsDueInMove special gone there folder r → answer ≡ fault.Device → (before < after) ⊎ folder
+  device_of_move special gone there folder is counts due =
+      device_for r answer own before after folder is counts (λ odd. absurd (subst (IsDueInMove special gone there folder) odd due)) (λ blocked. subst (IsDueInMove special gone there folder) blocked due)

@@ -1,5 +1,5 @@
 -- What a tree of the files on a disk means.
-use Rattle.std.specs.Prelude.{ℕ}
+use Rattle.std.specs.Prelude.{ℕ, ◌+◌, ◌<◌}
 use Rattle.bag_tree.specs.Tree.{TreeState}
 use Rattle.bag_tree.specs.declared.answer.Answer.{Answer}
 use Rattle.bag_tree.specs.declared.answer.Answer.TheVariants.{Given}
@@ -11,21 +11,29 @@ use Rattle.bag_disk.specs.DiskBag.{bag_of}
 abbrev pub disk_of : {D : Type 0} → FileTree D → D
 disk_of tree = tree.disk
 
--- what a tree of the files on a disk means, after so many failures, where its reads of the open file have given so many
--- bytes, and its last call answered so
+-- what a tree of the files on a disk means, after so many failures beside those of the device, which the disk counts, where its
+-- reads of the open file have given so many bytes, and its last call answered so
 abbrev pub state_after : DiskState → ℕ → ℕ → Answer → TreeState
-state_after disk failures given last = record {
+state_after disk own given last = record {
   bag = bag_of disk.nodes;
   plain = is_plain disk.nodes;
   honest = disk.honest;
   entries = entry_count disk.nodes;
-  failures = failures;
+  failures = disk.failures + own;
   openings = disk.openings;
   rest = disk.rest;
   given = given;
   last = last;
 }
 
--- what a tree of the files on a disk means at which it hasn't looked yet, after so many failures
+-- what a tree of the files on a disk means at which it hasn't looked yet, after so many failures beside those of the device
 abbrev pub tree_state : DiskState → ℕ → TreeState
-tree_state disk failures = state_after disk failures 0 Given
+tree_state disk own = state_after disk own 0 Given
+
+-- what a tree means whose disk means this
+abbrev pub state_of : {D : Type 0} → (D → DiskState) → FileTree D → TreeState
+state_of state tree = state_after (state tree.disk) tree.answered.failures tree.answered.given tree.answered.last
+
+-- the device of a disk refused
+abbrev pub HasFailed : DiskState → DiskState → Type 0
+HasFailed old new = old.failures < new.failures

@@ -1,4 +1,5 @@
 //! Trees that list what isn't there, and sizes that add up to more than 64 bits can hold.
+ghost use Rattle.std.specs.Prelude.{IsErrOf, IsOk, MatchResult};
 ghost use Rattle.test_disk.specs.MemoryDisk.{not_honest};
 
 use crate::checks::{DECLARED, Files, checked, request_of, tree_of};
@@ -58,16 +59,27 @@ struct Enlarged<D> {
     disk: D,
 }
 
+/// What is said of a path of which this was said.
+fn enlarged(path: &str, answer: Result<Entry, DiskFault>) -> Result<Entry, DiskFault>
+    ensures { MatchResult answer (λ _. IsOk result) (λ fault. IsErrOf result fault) }
+{
+    match answer {
+        Ok(Entry::File(_)) if is_payload(path) => Ok(Entry::File(u64::MAX)),
+        answer => answer,
+    }
+}
+
 impl<D: Disk + Drop> Disk for Enlarged<D> {
     ghost state = { λ enlarged. not_honest (D.state enlarged.disk) };
 
     ghost is_disk = { λ enlarged. D.is_disk enlarged.disk };
 
-    fn entry_at(&self, path: &str) -> Result<Entry, DiskFault> {
-        match self.disk.entry_at(path) {
-            Ok(Entry::File(_)) if is_payload(path) => Ok(Entry::File(u64::MAX)),
-            answer => answer,
-        }
+    fn entry_at(&mut self, path: &str) -> Result<Entry, DiskFault> {
+        enlarged(path, self.disk.entry_at(path))
+    }
+
+    fn named_entry(&mut self, path: &str) -> Result<Entry, DiskFault> {
+        enlarged(path, self.disk.named_entry(path))
     }
 
     fn enter(&mut self, folder: &str) -> Result<(), DiskFault> {
