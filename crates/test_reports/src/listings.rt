@@ -1,5 +1,4 @@
 //! Trees that list what isn't there, and sizes that add up to more than 64 bits can hold.
-ghost use Rattle.std.specs.Prelude.{IsErrOf, IsOk, MatchResult};
 ghost use Rattle.test_disk.specs.MemoryDisk.{not_honest};
 
 use crate::checks::{DECLARED, Files, checked, request_of, tree_of};
@@ -60,12 +59,10 @@ struct Enlarged<D> {
 }
 
 /// What is said of a path of which this was said.
-fn enlarged(path: &str, answer: Result<Entry, DiskFault>) -> Result<Entry, DiskFault>
-    ensures { MatchResult answer (λ _. IsOk result) (λ fault. IsErrOf result fault) }
-{
-    match answer {
-        Ok(Entry::File(_)) if is_payload(path) => Ok(Entry::File(u64::MAX)),
-        answer => answer,
+fn enlarged(path: &str, entry: Entry) -> Entry {
+    match entry {
+        Entry::File(_) if is_payload(path) => Entry::File(u64::MAX),
+        entry => entry,
     }
 }
 
@@ -75,11 +72,17 @@ impl<D: Disk + Drop> Disk for Enlarged<D> {
     ghost is_disk = { λ enlarged. D.is_disk enlarged.disk };
 
     fn entry_at(&mut self, path: &str) -> Result<Entry, DiskFault> {
-        enlarged(path, self.disk.entry_at(path))
+        match self.disk.entry_at(path) {
+            Ok(entry) => Ok(enlarged(path, entry)),
+            Err(fault) => Err(fault),
+        }
     }
 
     fn named_entry(&mut self, path: &str) -> Result<Entry, DiskFault> {
-        enlarged(path, self.disk.named_entry(path))
+        match self.disk.named_entry(path) {
+            Ok(entry) => Ok(enlarged(path, entry)),
+            Err(fault) => Err(fault),
+        }
     }
 
     fn enter(&mut self, folder: &str) -> Result<(), DiskFault> {

@@ -46,6 +46,15 @@ impl MadeUp {
         };
         FileTree::over(alloc, disk)
     }
+
+    /// What it says of a path.
+    fn entry_of(&self, path: &str) -> Entry {
+        if path == self.folder {
+            Entry::Folder
+        } else {
+            Entry::File(0)
+        }
+    }
 }
 
 impl Disk for MadeUp {
@@ -54,15 +63,11 @@ impl Disk for MadeUp {
     ghost is_disk = { λ _. empty_disk };
 
     fn entry_at(&mut self, path: &str) -> Result<Entry, DiskFault> {
-        self.named_entry(path)
+        Ok(self.entry_of(path))
     }
 
     fn named_entry(&mut self, path: &str) -> Result<Entry, DiskFault> {
-        if path == self.folder {
-            Ok(Entry::Folder)
-        } else {
-            Ok(Entry::File(0))
-        }
+        Ok(self.entry_of(path))
     }
 
     fn enter(&mut self, folder: &str) -> Result<(), DiskFault> {
