@@ -77,7 +77,7 @@ impl<D: Disk + Drop> Tree for FileTree<D> {
                 self.answered.give();
                 Ok(listing)
             }
-            Err(refusal) => Err(self.answered.refuse(refusal)),
+            Err(unlisted) => Err(self.answered.refuse(unlisted)),
         }
     }
 
