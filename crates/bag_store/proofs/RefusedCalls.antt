@@ -1,12 +1,14 @@
 -- How a tree answers what its disk refuses.
-use Rattle.std.proofs.Common.{◌≡◌, ◌≢◌, ◌⊎◌, ℕ, ◌+◌, ◌<◌, ◌==◌, true, false, cond, IsTrue, inl, inr, sym, subst, ◌∙◌, refl, arith}
+use Rattle.std.proofs.Common.{◌≡◌, ℕ, ◌+◌, ◌<◌, ◌==◌, true, false, cond, IsTrue, inl, inr, sym, subst, refl, arith}
 use Rattle.bag_tree.specs.Changes.{MayRefuseChange}
 use Rattle.bag_tree.specs.Tree.{TreeState, MayRefuse, most_entries}
 use Rattle.bag_tree.specs.declared.tree_fault.TreeFault.{TreeFault}
 use Rattle.bag_tree.specs.declared.tree_fault.TreeFault.TheVariants as fault
-use Rattle.bag_disk.specs.Refusal.{IsDue, IsDueInListing, IsDueInMove, IsDueInStep, failures_after}
+use Rattle.bag_disk.specs.Disk.{DiskState}
+use Rattle.bag_disk.specs.Refusal.{MeetsSpecial, MeetsUnnamed, IsDue, IsDueInListing, IsDueInMove, IsDueInStep, failures_after}
 use Rattle.bag_disk.specs.declared.refusal.Refusal.{Refusal}
 use Rattle.bag_disk.specs.declared.refusal.Refusal.TheVariants.{Device, Special, Name, NotFound, TooMany, Memory, Exists, Contradicts, InTheWay}
+use Rattle.bag_store.specs.FileTree.{Tells}
 use Rattle.bag_store.specs.Answered.{count_after, failure_or_memory, fault_of, last_count, one_more_failure}
 
 -- a failure is counted, or else answered by Memory
@@ -114,47 +116,55 @@ module _ (old new : TreeState) (before after own own_then : ℕ) where
       answered Contradicts n due = as_step Contradicts n due
       answered InTheWay n due = counted (MayRefuseChange absent taken old new) fault.Device own own_then tt (λ more. own_rose old new before after own own_then n.old_is n.new_is n.disk_is more) n.own_is
 
--- a failure that the tree counts itself is answered as Device where it is one
-not_device : (failure : TreeFault) (own : ℕ) → failure ≢ fault.Device → failure_or_memory failure own ≡ fault.Device → ⊥
-not_device failure own other is = elim (own == last_count) as (λ b. cond b fault.Memory failure ≡ fault.Device → ⊥) [
-  | true ↦ λ same. cc
-  | false ↦ other
-] is
+-- what is told of a disk by a failure, or Memory in its place
+told_or_memory : (answer : TreeFault → Type 0) (failure : TreeFault) (own : ℕ) → answer fault.Memory → answer failure → answer (failure_or_memory failure own)
+told_or_memory answer failure own memory told = elim (own == last_count) as (λ b. answer (cond b fault.Memory failure)) [
+  | true ↦ memory
+  | false ↦ told
+]
 
--- where Device is answered, the disk's device refused, or for the tree's own reasons
-pub device_for : (r : Refusal) (answer : TreeFault) (own before after : ℕ) (reason : Type 0) → answer ≡ fault_of r own → after ≡ failures_after r before → (r ≡ Contradicts → reason) → (r ≡ InTheWay → reason)
-    → answer ≡ fault.Device → (before < after) ⊎ reason
-device_for r answer own before after reason is counts odd blocked device = told r (sym is ∙ device) counts odd blocked
-  where
-    told : (r : Refusal) → fault_of r own ≡ fault.Device → after ≡ failures_after r before → (r ≡ Contradicts → reason) → (r ≡ InTheWay → reason) → (before < after) ⊎ reason
-    told Device is more odd blocked = inl (omega (arith, more))
-    told Special is same odd blocked = absurd (not_device fault.Special own (λ e. cc) is)
-    told Name is same odd blocked = absurd (not_device fault.Name own (λ e. cc) is)
-    told NotFound is same odd blocked = cc
-    told TooMany is same odd blocked = cc
-    told Memory is same odd blocked = cc
-    told Exists is same odd blocked = cc
-    told Contradicts is same odd blocked = inr (odd refl)
-    told InTheWay is same odd blocked = inr (blocked refl)
+module _ (r : Refusal) (answer : TreeFault) (own : ℕ) (old new : DiskState) where
+  -- what the answer to a refusal tells of the disk
+  tells_for : (reason : Type 0) → answer ≡ fault_of r own → new.failures ≡ failures_after r old.failures → (r ≡ Special → MeetsSpecial old) → (r ≡ Name → MeetsUnnamed old) → (r ≡ Contradicts → reason) → (r ≡ InTheWay → reason)
+      → Tells reason old new answer
+  tells_for reason is counts special unnamed odd blocked = subst (Tells reason old new) (sym is) (told r counts special unnamed odd blocked)
+    where
+      told : (r : Refusal) → new.failures ≡ failures_after r old.failures → (r ≡ Special → MeetsSpecial old) → (r ≡ Name → MeetsUnnamed old) → (r ≡ Contradicts → reason) → (r ≡ InTheWay → reason) → Tells reason old new (fault_of r own)
+      told Device more special unnamed odd blocked = inl (omega (arith, more))
+      told Special same special unnamed odd blocked = told_or_memory (Tells reason old new) fault.Special own tt (special refl)
+      told Name same special unnamed odd blocked = told_or_memory (Tells reason old new) fault.Name own tt (unnamed refl)
+      told NotFound same special unnamed odd blocked = tt
+      told TooMany same special unnamed odd blocked = tt
+      told Memory same special unnamed odd blocked = tt
+      told Exists same special unnamed odd blocked = tt
+      told Contradicts same special unnamed odd blocked = told_or_memory (Tells reason old new) fault.Device own tt (inr (odd refl))
+      told InTheWay same special unnamed odd blocked = told_or_memory (Tells reason old new) fault.Device own tt (inr (blocked refl))
 
-no_reason : (P : Type 0) → P ⊎ ⊥ → P
-no_reason P (inl p) = p
-no_reason P (inr none) = absurd none
+  pub tells_due : (special unnamed gone many : Type 0) → answer ≡ fault_of r own → new.failures ≡ failures_after r old.failures → (special → MeetsSpecial old) → (unnamed → MeetsUnnamed old) → IsDue special unnamed gone many r → Tells ⊥ old new answer
+  tells_due special unnamed gone many is counts over wrong due = tells_for ⊥ is counts
+      (λ e. over (subst (IsDue special unnamed gone many) e due))
+      (λ e. wrong (subst (IsDue special unnamed gone many) e due))
+      (λ e. subst (IsDue special unnamed gone many) e due)
+      (λ e. subst (IsDue special unnamed gone many) e due)
 
-module _ (r : Refusal) (answer : TreeFault) (own before after : ℕ) where
-  pub device_of_due : (special unnamed gone many : Type 0) → answer ≡ fault_of r own → after ≡ failures_after r before → IsDue special unnamed gone many r → answer ≡ fault.Device → before < after
-  device_of_due special unnamed gone many is counts due device =
-      no_reason _ (device_for r answer own before after ⊥ is counts (λ odd. subst (IsDue special unnamed gone many) odd due) (λ blocked. subst (IsDue special unnamed gone many) blocked due) device)
+  pub tells_listing : (special unnamed many contradiction : Type 0) → answer ≡ fault_of r own → new.failures ≡ failures_after r old.failures → (special → MeetsSpecial old) → (unnamed → MeetsUnnamed old)
+      → IsDueInListing special unnamed many contradiction r → Tells contradiction old new answer
+  tells_listing special unnamed many contradiction is counts over wrong due = tells_for contradiction is counts
+      (λ e. over (subst (IsDueInListing special unnamed many contradiction) e due))
+      (λ e. wrong (subst (IsDueInListing special unnamed many contradiction) e due))
+      (λ e. subst (IsDueInListing special unnamed many contradiction) e due)
+      (λ e. absurd (subst (IsDueInListing special unnamed many contradiction) e due))
 
-  pub device_of_listing : (special unnamed many contradiction : Type 0) → answer ≡ fault_of r own → after ≡ failures_after r before → IsDueInListing special unnamed many contradiction r → answer ≡ fault.Device
-      → (before < after) ⊎ contradiction
-  device_of_listing special unnamed many contradiction is counts due =
-      device_for r answer own before after contradiction is counts (λ odd. subst (IsDueInListing special unnamed many contradiction) odd due) (λ blocked. absurd (subst (IsDueInListing special unnamed many contradiction) blocked due))
+  pub tells_step : (special gone there : Type 0) → answer ≡ fault_of r own → new.failures ≡ failures_after r old.failures → (special → MeetsSpecial old) → IsDueInStep special gone there r → Tells ⊥ old new answer
+  tells_step special gone there is counts over due = tells_for ⊥ is counts
+      (λ e. over (subst (IsDueInStep special gone there) e due))
+      (λ e. absurd (subst (IsDueInStep special gone there) e due))
+      (λ e. subst (IsDueInStep special gone there) e due)
+      (λ e. subst (IsDueInStep special gone there) e due)
 
-  pub device_of_step : (special gone there : Type 0) → answer ≡ fault_of r own → after ≡ failures_after r before → IsDueInStep special gone there r → answer ≡ fault.Device → before < after
-  device_of_step special gone there is counts due device =
-      no_reason _ (device_for r answer own before after ⊥ is counts (λ odd. subst (IsDueInStep special gone there) odd due) (λ blocked. subst (IsDueInStep special gone there) blocked due) device)
-
-  pub device_of_move : (special gone there folder : Type 0) → answer ≡ fault_of r own → after ≡ failures_after r before → IsDueInMove special gone there folder r → answer ≡ fault.Device → (before < after) ⊎ folder
-  device_of_move special gone there folder is counts due =
-      device_for r answer own before after folder is counts (λ odd. absurd (subst (IsDueInMove special gone there folder) odd due)) (λ blocked. subst (IsDueInMove special gone there folder) blocked due)
+  pub tells_move : (special gone there folder : Type 0) → answer ≡ fault_of r own → new.failures ≡ failures_after r old.failures → (special → MeetsSpecial old) → IsDueInMove special gone there folder r → Tells folder old new answer
+  tells_move special gone there folder is counts over due = tells_for folder is counts
+      (λ e. over (subst (IsDueInMove special gone there folder) e due))
+      (λ e. absurd (subst (IsDueInMove special gone there folder) e due))
+      (λ e. absurd (subst (IsDueInMove special gone there folder) e due))
+      (λ e. subst (IsDueInMove special gone there folder) e due)

@@ -1,11 +1,14 @@
 -- What a tree of the files on a disk means.
-use Rattle.std.specs.Prelude.{ℕ, ◌+◌, ◌<◌}
+use Rattle.std.specs.Prelude.{ℕ, ◌+◌, ◌<◌, ◌⊎◌}
 use Rattle.bag_tree.specs.Tree.{TreeState}
 use Rattle.bag_tree.specs.declared.answer.Answer.{Answer}
 use Rattle.bag_tree.specs.declared.answer.Answer.TheVariants.{Given}
+use Rattle.bag_tree.specs.declared.tree_fault.TreeFault.{TreeFault}
+use Rattle.bag_tree.specs.declared.tree_fault.TreeFault.TheVariants.{Device, Special, Name, NotFound, TooMany, Changed, NoneOpen, Memory, Exists}
 use Rattle.bag_store.specs.declared.file_tree.FileTree.{FileTree}
 use Rattle.bag_disk.specs.Disk.{DiskState, entry_count, is_plain}
 use Rattle.bag_disk.specs.DiskBag.{bag_of}
+use Rattle.bag_disk.specs.Refusal.{MeetsSpecial, MeetsUnnamed}
 
 -- the disk of a tree
 abbrev pub disk_of : {D : Type 0} → FileTree D → D
@@ -37,3 +40,17 @@ state_of state tree = state_after (state tree.disk) tree.answered.failures tree.
 -- the device of a disk refused
 abbrev pub HasFailed : DiskState → DiskState → Type 0
 HasFailed old new = old.failures < new.failures
+
+-- What a tree's refusal tells of its disk, as it was before the call and after it: that its device refused in this call, that
+-- something stands there that is no file and no folder, or that something has a name that isn't UTF-8. `reason` says when the
+-- tree tells of a failure for itself.
+abbrev pub Tells : Type 0 → DiskState → DiskState → TreeFault → Type 0
+Tells reason old new Device = HasFailed old new ⊎ reason
+Tells reason old new Special = MeetsSpecial old
+Tells reason old new Name = MeetsUnnamed old
+Tells reason old new NotFound = Unit {0}
+Tells reason old new TooMany = Unit {0}
+Tells reason old new Changed = Unit {0}
+Tells reason old new NoneOpen = Unit {0}
+Tells reason old new Memory = Unit {0}
+Tells reason old new Exists = Unit {0}

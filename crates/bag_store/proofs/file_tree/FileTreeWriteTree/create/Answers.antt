@@ -3,10 +3,9 @@ use Rattle.std.proofs.lemmas.Bool.{false≢true}
 use Rattle.bag_store.proofs.BagSteps.{free_not_taken}
 use Rattle.bag_store.proofs.ChangedTree.{count_grows, file_changed, kept_count, step_begun}
 use Rattle.bag_disk.proofs.Plain.{special_not_plain}
-use Rattle.bag_tree.specs.declared.tree_fault.TreeFault.TheVariants as fault
 use Rattle.bag_tree.specs.Steps.{is_taken}
 use Rattle.bag_store.specs.FileTree.{state_after}
-use Rattle.bag_store.proofs.RefusedCalls.{device_of_step, step_answered_so}
+use Rattle.bag_store.proofs.RefusedCalls.{step_answered_so, tells_step}
 use Rattle.bag_store.proofs.file_tree.FileTreeWriteTree.create.Goals as goal
 
 pub returns-in-Ok-clause-changed : goal.returns-in-Ok-clause-changed
@@ -41,12 +40,8 @@ returns-in-Err-clause-refused g c =
     step_answered_so old new at.failures then.failures before.failures after.failures ⊥ (is_taken old.bag c.args.name.now ≡ true) _ _ _ c.in-Err.refusal _
     (record { old_is = refl; new_is = refl; disk_is = c.in-Err.ensures.failures; own_is = c.refuse.ensures.failures }) c.refuse.ensures.fault (λ special honest. special_not_plain at.nodes (special honest)) (λ never. absurd never) (λ there. there) c.in-Err.ensures.refused
 
-pub returns-in-Err-clause-device : goal.returns-in-Err-clause-device
-returns-in-Err-clause-device g c = λ is.
-    let disk = c.args.self.now.disk in
-    let before = c.args.self.now.answered in
-    let after = c.refuse.new.self in
-    let at = g.D.Disk.state disk in
+pub returns-in-Err-clause-cause : goal.returns-in-Err-clause-cause
+returns-in-Err-clause-cause g c =
+    let at = g.D.Disk.state c.args.self.now.disk in
     let then = g.D.Disk.state c.create.new.disk in
-    let same : c.refuse.result ≡ fault.Device = cc in
-    device_of_step c.in-Err.refusal c.refuse.result before.failures at.failures then.failures _ _ _ c.refuse.ensures.fault c.in-Err.ensures.failures c.in-Err.ensures.refused same
+    tells_step c.in-Err.refusal c.refuse.result c.args.self.now.answered.failures at then _ _ _ c.refuse.ensures.fault c.in-Err.ensures.failures (λ special. special) c.in-Err.ensures.refused

@@ -3,10 +3,9 @@ use Rattle.bag_text.specs.Path.{under}
 use Rattle.bag_store.proofs.BagSteps.{free_not_within, has_both}
 use Rattle.bag_store.proofs.ChangedTree.{count_grows, kept_count, moved_changed, step_same}
 use Rattle.bag_disk.proofs.Plain.{special_not_plain}
-use Rattle.bag_tree.specs.declared.tree_fault.TreeFault.TheVariants as fault
 use Rattle.bag_tree.specs.Steps.{has_within, lacks_source}
 use Rattle.bag_store.specs.FileTree.{state_after}
-use Rattle.bag_store.proofs.RefusedCalls.{device_of_move, move_answered_so}
+use Rattle.bag_store.proofs.RefusedCalls.{move_answered_so, tells_move}
 use Rattle.bag_store.proofs.file_tree.FileTreeWriteTree.move_in.Goals as goal
 
 pub returns-in-Ok-clause-changed : goal.returns-in-Ok-clause-changed
@@ -40,12 +39,8 @@ returns-in-Err-clause-refused g c =
     move_answered_so old new at.failures then.failures before.failures after.failures (lacks_source old.bag c.args.top.now c.args.folder.now ≡ true) (has_within old.bag (under c.args.folder.now c.args.top.now) ≡ true) _ _ _ _ c.in-Err.refusal _
     (record { old_is = refl; new_is = refl; disk_is = c.in-Err.ensures.failures; own_is = c.refuse.ensures.failures }) c.refuse.ensures.fault (λ special honest. special_not_plain at.nodes (special honest)) (λ none. none) (λ there. there) c.in-Err.ensures.refused
 
-pub returns-in-Err-clause-device : goal.returns-in-Err-clause-device
-returns-in-Err-clause-device g c = λ is.
-    let disk = c.args.self.now.disk in
-    let before = c.args.self.now.answered in
-    let after = c.refuse.new.self in
-    let at = g.D.Disk.state disk in
+pub returns-in-Err-clause-cause : goal.returns-in-Err-clause-cause
+returns-in-Err-clause-cause g c =
+    let at = g.D.Disk.state c.args.self.now.disk in
     let then = g.D.Disk.state c.move_in.new.disk in
-    let same : c.refuse.result ≡ fault.Device = cc in
-    device_of_move c.in-Err.refusal c.refuse.result before.failures at.failures then.failures _ _ _ _ c.refuse.ensures.fault c.in-Err.ensures.failures c.in-Err.ensures.refused same
+    tells_move c.in-Err.refusal c.refuse.result c.args.self.now.answered.failures at then _ _ _ _ c.refuse.ensures.fault c.in-Err.ensures.failures (λ special. special) c.in-Err.ensures.refused
