@@ -1,7 +1,7 @@
 use Rattle.std.proofs.Common.{◌∙◌, refl}
 use Rattle.bag_disk.proofs.DiskSteps.{looks_at_first, walk_begun}
 use Rattle.bag_disk.proofs.FoundPaths.{base_folder_alone, is_folder_path}
-use Rattle.bag_disk.proofs.Refusals.{counted_since, not_counted}
+use Rattle.bag_disk.proofs.Refusals.{not_counted}
 use Rattle.bag_disk.proofs.listing.walk.Goals as goal
 
 pub loop-folder-init : goal.loop-folder-init

@@ -2,20 +2,20 @@ use Rattle.std.proofs.Common.{◌∙◌, ◌++◌, ◌∷◌, [], ap, refl, subs
 use Rattle.bag_disk.specs.Disk.{HasSpecial, HasUnnamedPath}
 use Rattle.bag_disk.specs.FolderWalk.{Walked, AllStand}
 use Rattle.bag_disk.proofs.DiskSteps.{fewer_stand, folder_done}
-use Rattle.bag_disk.proofs.Refusals.{counted_since, due_for}
+use Rattle.bag_disk.proofs.Refusals.{due_for}
 use Rattle.bag_disk.proofs.folder_walk.FolderWalk.list_folder.Goals as goal
 
-pub returns-in-Ok-list_names-clause-walked : goal.returns-in-Ok-list_names-clause-walked
-returns-in-Ok-list_names-clause-walked g c =
+pub returns-in_ok-push-in-Ok-list_names-clause-walked : goal.returns-in_ok-push-in-Ok-list_names-clause-walked
+returns-in_ok-push-in-Ok-list_names-clause-walked g c =
     folder_done (g.D.Disk.state c.args.disk.now) (g.D.Disk.state c.enter.new.self) c.args.self.now.files.items c.args.self.now.folders.items c.args.self.now.listed.items c.args.folder c.as_str.result.now c.as_str-2.result.now c.push.new.self.items
     (λ nodes listed. Walked nodes c.list_names.new.self.files.items c.list_names.new.self.folders.items listed [])
-    (g.met.D.Disk.is_disk c.args.disk.now) c.in-Ok.ensures.looks c.as_str.ensures c.as_str-2.ensures (c.in_ok-push.ensures.items ∙ ap (λ xs. xs ++ c.args.folder ∷ []) c.in-Ok-list_names.ensures.listed) c.in-Ok.ensures.honest c.in-Ok-list_names.ensures.walked
+    (g.met.D.Disk.is_disk c.args.disk.now) c.in-Ok.ensures.looks c.as_str.ensures c.as_str-2.ensures (c.in_ok-push-in-Ok-list_names.ensures.items ∙ ap (λ xs. xs ++ c.args.folder ∷ []) c.in-Ok-list_names.ensures.listed) c.in-Ok.ensures.honest c.in-Ok-list_names.ensures.walked
 
-pub returns-in-Err-TooMany-clause-refused : goal.returns-in-Err-TooMany-clause-refused
-returns-in-Err-TooMany-clause-refused g c =
-    folder_done (g.D.Disk.state c.args.disk.now) (g.D.Disk.state c.enter.new.self) c.args.self.now.files.items c.args.self.now.folders.items c.args.self.now.listed.items c.args.folder c.as_str.result.now c.as_str-2.result.now c.push-2.new.self.items
+pub returns-in_ok-push-in-Err-TooMany-clause-refused : goal.returns-in_ok-push-in-Err-TooMany-clause-refused
+returns-in_ok-push-in-Err-TooMany-clause-refused g c =
+    folder_done (g.D.Disk.state c.args.disk.now) (g.D.Disk.state c.enter.new.self) c.args.self.now.files.items c.args.self.now.folders.items c.args.self.now.listed.items c.args.folder c.as_str.result.now c.as_str-2.result.now c.push-in-Err-TooMany.new.self.items
     (λ nodes listed. AllStand nodes c.list_names.new.self.files.items c.list_names.new.self.folders.items listed)
-    (g.met.D.Disk.is_disk c.args.disk.now) c.in-Ok.ensures.looks c.as_str.ensures c.as_str-2.ensures (c.in_ok-push-2.ensures.items ∙ ap (λ xs. xs ++ c.args.folder ∷ []) c.in-Err-TooMany.ensures.listed) c.in-Ok.ensures.honest
+    (g.met.D.Disk.is_disk c.args.disk.now) c.in-Ok.ensures.looks c.as_str.ensures c.as_str-2.ensures (c.in_ok-push-in-Err-TooMany.ensures.items ∙ ap (λ xs. xs ++ c.args.folder ∷ []) c.in-Err-TooMany.ensures.listed) c.in-Ok.ensures.honest
     (rw c.in-Err-TooMany.field-0-is at c.in-Err-TooMany.ensures.refused)
 
 pub returns-in-Err-list_names-clause-refused : goal.returns-in-Err-list_names-clause-refused
