@@ -1,15 +1,15 @@
 -- What the changes of a disk make of the bag below its base folder.
-use Rattle.std.proofs.Common.{◌≡◌, ◌≢◌, ◌⊎◌, ◌++◌, MatchBool, nat_eq, ℕ, ◌||◌, ◌&&◌, Bool, true, false, not, cond, List, [], ◌∷◌, Any, IsTrue, length, map as list_map, Option, Some, None, is_some, inl, inr, refl, ap, sym, subst, ◌∙◌}
+use Rattle.std.proofs.Common.{◌≡◌, ℕ, ◌||◌, ◌&&◌, Bool, true, false, not, cond, List, [], ◌∷◌, Any, IsTrue, length, map as list_map, Option, Some, None, is_some, inl, inr, refl, ap, sym, subst, ◌∙◌}
 use Rattle.std.proofs.lemmas.Bool.{and_from, false≢true, or_left, or_right}
 use Rattle.std.proofs.lemmas.List.Folds.{list_any-from_Any}
 use Rattle.std.specs.FinMap as map
 use Rattle.std.specs.FinMap.{find, get-entries, get-insert}
 use Rattle.std.specs.FinSet as set
-use Rattle.std.specs.List.{list_any, starts_with}
+use Rattle.std.specs.List.{list_any}
 use Rattle.std.specs.Ordering.{eq_by_cmp}
 use Rattle.std.specs.Cmp.Lexicographic.{nat_list_cmp_total}
 use Rattle.bag_text.specs.Text.{text_cmp}
-use Rattle.bag_text.specs.Path.{is_base_name, slash, under}
+use Rattle.bag_text.specs.Path.{is_base_name, under}
 use Rattle.bag_tree.proofs.SameText.{exact_texts, one_text, text_itself}
 use Rattle.bag_tree.proofs.ListingLaw.{listings_are_of_the_bag}
 use Rattle.bag_tree.specs.Bag.{Bag, file, files_of, has_file, has_folder}
@@ -20,7 +20,7 @@ use Rattle.bag_tree.specs.Steps.{has_within, is_taken, lacks_folder, lacks_sourc
 use Rattle.bag_tree.specs.Moved.{MovesAll, is_within, moved}
 use Rattle.bag_tree.specs.Steps as step
 use Rattle.bag_tree.proofs.Moving.{moves_all}
-use Rattle.bag_tree.proofs.Within.{within_after, within_cases, itself_within, not_after, not_within}
+use Rattle.bag_tree.proofs.Within.{within_cases, itself_within, not_within}
 use Rattle.bag_disk.specs.Disk.{Nodes, Node, node, IsDisk, IsReached, bytes_of, is_folder_node}
 use Rattle.bag_disk.specs.Location.{path_in}
 use Rattle.bag_disk.specs.Disk.Node.{File, Folder, Other}

@@ -1,5 +1,6 @@
 use Rattle.std.proofs.Common.{◌∙◌}
 use Rattle.std.proofs.lemmas.Result.{IfErr-weaker, on_ok_weaker}
+use Rattle.bag_disk.proofs.Refusals.{counted_since}
 use Rattle.bag_store.proofs.WrittenFiles.{all_written, written_same, written_synced}
 use Rattle.bag_store.proofs.writing.fill.Goals as goal
 
