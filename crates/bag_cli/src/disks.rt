@@ -43,7 +43,7 @@ pub trait Disks {
 impl<R: Files + AllocGlobal + Clone + Drop> Disks for R {
     type Disk = SystemDisk<R>;
 
-    ghost below = { λ _ _. system_state [] false };
+    ghost below = { λ _ _. system_state [] false 0 };
 
     ghost is_below = { λ disk base. base_of disk ≡ base };
 

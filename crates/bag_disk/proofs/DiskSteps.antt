@@ -275,6 +275,14 @@ all_stand nodes files folders listed pending walked = record {
   were_folders = walked.were_folders;
 }
 
+-- what was found without one of the folders stands there, too
+pub fewer_stand : (nodes : Nodes) (files : List FileEntry) (folders listed : List (List ℕ)) (folder : List ℕ) → AllStand nodes files folders (listed ++ folder ∷ []) → AllStand nodes files folders listed
+fewer_stand nodes files folders listed folder stand = record {
+  are_there = stand.are_there;
+  are_folders = stand.are_folders;
+  were_folders = λ f h. stand.were_folders f (Contains-append_left listed (folder ∷ []) f h);
+}
+
 -- at first the base folder is to be listed
 pub walk_begun : (nodes : Nodes) → Walked nodes [] ([] ∷ []) [] []
 walk_begun nodes = record {

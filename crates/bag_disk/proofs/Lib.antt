@@ -4,6 +4,7 @@ pub mod DiskPaths
 pub mod DiskSteps
 pub mod FilesAndFolders
 pub mod FoundPaths
+pub mod Looked
 pub mod Moving
 pub mod PathOrder
 pub mod Plain

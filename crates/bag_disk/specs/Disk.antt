@@ -55,6 +55,8 @@ pub record DiskState : Type 0 where
   pub rest : Option (List ℕ)
   -- the names that are left of the folder that was entered
   pub names : List (List ℕ)
+  -- how often the device has refused
+  pub failures : ℕ
 
 -- a call leaves what stands there, and its honesty
 pub record SameDisk (old new : DiskState) : Type 0 where

@@ -1,8 +1,10 @@
 -- What a walk over the folders of a disk has found.
-use Rattle.std.specs.Prelude.{ℕ, ◌≡◌, ◌⊎◌, true, List, [], ◌∷◌, ◌++◌, map, Some, length, All, Contains, IsTrue}
-use Rattle.bag_text.specs.Path.{is_path, under}
+use Rattle.std.specs.Prelude.{ℕ, ◌≡◌, ◌⊎◌, true, List, [], ◌∷◌, ◌++◌, map, Some, length, All, Any, Contains, IsTrue, codes}
+use Rattle.std.specs.List.Sorted.{IsPermutation, IsSortedByKey, IsStrictlySortedBy}
+use Rattle.bag_text.specs.Text.{text_cmp}
+use Rattle.bag_text.specs.Path.{is_path, is_payload_path, under}
 use Rattle.bag_disk.specs.Location.{path_in}
-use Rattle.bag_disk.specs.Disk.{Nodes, node, Has, IsFolder, is_plain_found}
+use Rattle.bag_disk.specs.Disk.{DiskState, Nodes, node, Has, IsFolder, is_plain_found}
 use Rattle.bag_disk.specs.Disk.Node.{File}
 use Rattle.bag_disk.specs.declared.disk.Entry.{Entry}
 use Rattle.bag_disk.specs.declared.disk.Entry.TheVariants as entry
@@ -76,3 +78,19 @@ ArePaths files = All (λ file. IsTrue (is_path file.path)) files
 -- and each of these folders has one or is the base folder
 abbrev pub AllArePaths : List FileEntry → List (List ℕ) → Type 0
 AllArePaths files folders = ArePaths files × All IsFolderPath folders
+
+-- No listing is to be had of what was found: two files have one path, or a file is in the payload folder and that wasn't
+-- listed.
+pub record IsUnlistable (files : List FileEntry) (listed : List (List ℕ)) : Type 0 where
+  pub sorted : List FileEntry
+  pub same : IsPermutation files sorted
+  pub in_order : IsSortedByKey (λ file. file.path) text_cmp sorted
+  pub odd : (¬ (IsStrictlySortedBy text_cmp (paths_of sorted)))
+      ⊎ ((Any (λ file. IsTrue (is_payload_path file.path)) sorted) × (¬ (Any (λ folder. folder ≡ codes "data") listed)))
+
+-- the disk's answers contradict one another: a whole walk found what can't be listed
+pub record Contradiction (disk : DiskState) : Type 0 where
+  pub files : List FileEntry
+  pub listed : List (List ℕ)
+  pub walked : IsTrue disk.honest → Walked disk.nodes files [] listed []
+  pub unlistable : IsUnlistable files listed

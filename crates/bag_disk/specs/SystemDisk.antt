@@ -8,10 +8,17 @@ use Rattle.bag_disk.specs.declared.system_disk.SystemDisk.{SystemDisk}
 abbrev pub base_of : {R F D : Type 0} → SystemDisk R F D → List ℕ
 base_of disk = disk.base.path
 
--- Nothing is promised of what the system's disk holds: it isn't honest. What was opened and whether a file is open is
--- known.
-abbrev pub system_state : List (List ℕ) → Bool → DiskState
-system_state openings opened = record { nodes = map.empty; honest = false; openings = openings; rest = if opened then Some [] else None; names = [] }
+-- Nothing is promised of what the system's disk holds: it isn't honest. What was opened, whether a file is open and how often
+-- the device has refused is known.
+abbrev pub system_state : List (List ℕ) → Bool → ℕ → DiskState
+system_state openings opened failures = record {
+  nodes = map.empty;
+  honest = false;
+  openings = openings;
+  rest = if opened then Some [] else None;
+  names = [];
+  failures = failures;
+}
 
 -- whether a file is being written is known, and not which
 abbrev pub written_state : Bool → Option (List ℕ)

@@ -4,9 +4,9 @@ ghost use Rattle.bag_disk.specs.Disk.{Has, HasSpecial, HasUnnamedPath, OnlyLooks
 ghost use Rattle.bag_disk.specs.FolderWalk.{Walked, AllArePaths, AllStand, IsFolderPath, Listing, files_with, folders_with};
 ghost use Rattle.bag_disk.specs.Location.{path_in};
 ghost use Rattle.bag_disk.specs.declared.disk.Entry.TheVariants.{Other};
-ghost use Rattle.bag_disk.specs.Refusal.{IsDue};
+ghost use Rattle.bag_disk.specs.Refusal.{IsCounted, IsDue, IsNoFailure};
+ghost use Rattle.bag_text.specs.Path.{is_path};
 
-use crate::path::is_path;
 use crate::refusal::Refusal;
 use crate::{Disk, Entry, path_in};
 use bag_text::Text;
@@ -66,14 +66,23 @@ impl FolderWalk {
             → Walked (D.state disk.old).nodes self.old.files.items (self.old.folders.items ++ folder ∷ []) self.old.listed.items []
             → AllStand (D.state disk.old).nodes self.new.files.items self.new.folders.items self.new.listed.items)) }
         ensures left { OnOk result (vec_len self.new.folders + self.new.room ≤ vec_len self.old.folders + self.old.room) }
+        ensures failures { IsCounted result (D.state disk.old) (D.state disk.new) }
     {
         match disk.enter(folder.as_str()) {
             Ok(()) => {}
             Err(fault) => return Err(Refusal::at_known(fault)),
         }
-        let listed = self.list_names(disk, folder.as_str());
-        self.listed.push(folder)?;
-        listed
+        match self.list_names(disk, folder.as_str()) {
+            Ok(()) => {
+                self.listed.push(folder)?;
+                Ok(())
+            }
+            Err(Refusal::TooMany) => {
+                self.listed.push(folder)?;
+                Err(Refusal::TooMany)
+            }
+            Err(refusal) => Err(refusal),
+        }
     }
 
     /// Adds what stands at each name that is left of a folder.
@@ -97,6 +106,7 @@ impl FolderWalk {
             → AllStand (D.state disk.old).nodes self.new.files.items self.new.folders.items (listed ++ folder.now ∷ []))) }
         ensures listed { self.new.listed.items ≡ self.old.listed.items }
         ensures left { OnOk result (vec_len self.new.folders + self.new.room ≤ vec_len self.old.folders + self.old.room) }
+        ensures failures { IsCounted result (D.state disk.old) (D.state disk.new) }
     {
         while self.room > 0 {
             match disk.next_name() {
@@ -109,27 +119,28 @@ impl FolderWalk {
     }
 
     /// Adds what stands at a name of a folder.
-    fn add<D: Disk>(&mut self, disk: &D, folder: &str, name: &str) -> Result<(), Refusal>
+    fn add<D: Disk>(&mut self, disk: &mut D, folder: &str, name: &str) -> Result<(), Refusal>
         requires has_room { 0 < self.old.room }
         requires folder { IsFolderPath folder.now }
+        requires name { IsTrue (is_path name.now) }
         ensures paths { OnOk result (AllArePaths self.old.files.items self.old.folders.items → AllArePaths self.new.files.items self.new.folders.items) }
-        ensures walked { OnOk result (IsTrue (D.state disk.now).honest → Has (D.state disk.now).nodes (path_in folder.now name.now)
+        ensures looks { OnlyLooks (D.state disk.old) (D.state disk.new) }
+        ensures names { (D.state disk.new).names ≡ (D.state disk.old).names }
+        ensures walked { OnOk result (IsTrue (D.state disk.old).honest → Has (D.state disk.old).nodes (path_in folder.now name.now)
             → (listed pending : List (List ℕ))
-            → Walked (D.state disk.now).nodes self.old.files.items self.old.folders.items listed (path_in folder.now name.now ∷ pending)
-            → Walked (D.state disk.now).nodes self.new.files.items self.new.folders.items listed pending) }
+            → Walked (D.state disk.old).nodes self.old.files.items self.old.folders.items listed (path_in folder.now name.now ∷ pending)
+            → Walked (D.state disk.old).nodes self.new.files.items self.new.folders.items listed pending) }
         ensures listed { self.new.listed.items ≡ self.old.listed.items }
         ensures refused { IfErr result (IsDue
-            (IsTrue (D.state disk.now).honest → Has (D.state disk.now).nodes (path_in folder.now name.now) → HasSpecial (D.state disk.now).nodes)
+            (IsTrue (D.state disk.old).honest → Has (D.state disk.old).nodes (path_in folder.now name.now) → HasSpecial (D.state disk.old).nodes)
             ⊥ ⊥ ⊥) }
         ensures left { OnOk result (vec_len self.new.folders + self.new.room ≤ vec_len self.old.folders + self.old.room) }
         ensures room { OnOk result (self.new.room + 1 ≡ self.old.room) }
+        ensures failures { IsCounted result (D.state disk.old) (D.state disk.new) }
     {
         self.room -= 1;
-        if !is_path(name) {
-            return Err(Refusal::Device);
-        }
         let path = path_in(self.alloc, folder, name)?;
-        match disk.entry_at(path.as_str()) {
+        match disk.named_entry(path.as_str()) {
             Ok(entry) => self.put(path, entry),
             Err(fault) => Err(Refusal::at_known(fault)),
         }
@@ -142,6 +153,7 @@ impl FolderWalk {
         ensures listed { self.new.listed.items ≡ self.old.listed.items }
         ensures other { OnOk result (entry ≡ Other → ⊥) }
         ensures refused { IfErr result (IsDue (entry ≡ Other) ⊥ ⊥ ⊥) }
+        ensures quiet { IsNoFailure result }
         ensures left { OnOk result (vec_len self.new.folders ≤ vec_len self.old.folders + 1) }
         ensures room { self.new.room ≡ self.old.room }
     {

@@ -18,6 +18,7 @@
 
 mod base_folder;
 mod disk;
+mod failures;
 mod folder_walk;
 pub mod laws;
 mod limit;
@@ -32,6 +33,7 @@ mod system_fault;
 mod writable_disk;
 
 pub use disk::{Disk, DiskFault, Entry};
+pub use failures::Failures;
 pub use listing::list_below;
 pub use location::path_in;
 pub use opening::{check_is_folder, open_at};

@@ -1,9 +1,9 @@
 //! When a tree has too many files and folders.
-ghost use Rattle.std.specs.Prelude.{◌<◌, IfOk, IsTrue};
+ghost use Rattle.std.specs.Prelude.{◌≡◌, ◌<◌, IfOk, IsTrue, false};
 ghost use Rattle.bag_tree.specs.Tree.{most_entries};
 ghost use Rattle.bag_disk.specs.Disk.{Nodes, entry_count};
 ghost use Rattle.bag_disk.specs.FolderWalk.{AllStand, AreFolders, AreThere};
-ghost use Rattle.bag_disk.specs.Refusal.{IsDue};
+ghost use Rattle.bag_disk.specs.Refusal.{IsDue, is_device};
 
 use crate::folder_walk::{FolderWalk, MOST_ENTRIES};
 use crate::path_order::{all_differ, sort_by_path};
@@ -12,16 +12,17 @@ use bag_text::Text;
 use bag_tree::FileEntry;
 use std::alloc::AllocError;
 
-/// Why a walk has no room for what it found: there is too much, or the disk named something twice.
+/// Why a walk has no room for what it found: there is too much, or, where the disk named something twice, want of memory.
 pub(crate) fn no_room(walk: FolderWalk) -> Refusal
-    ensures { IsDue ⊥ ⊥ ⊥ ((nodes : Nodes) → AllStand nodes walk.files.items walk.folders.items walk.listed.items → most_entries < entry_count nodes) result }
+    ensures quiet { is_device result ≡ false }
+    ensures due { IsDue ⊥ ⊥ ⊥ ((nodes : Nodes) → AllStand nodes walk.files.items walk.folders.items walk.listed.items → most_entries < entry_count nodes) result }
 {
     match all_found(walk) {
         Ok(found) => {
             if are_too_many(found) {
                 Refusal::TooMany
             } else {
-                Refusal::Device
+                Refusal::Memory
             }
         }
         Err(_) => Refusal::Memory,

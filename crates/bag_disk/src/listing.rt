@@ -6,8 +6,8 @@ ghost use Rattle.bag_tree.specs.Listing.{IsOrdered, HasItsFolder, IsListingOf};
 ghost use Rattle.bag_tree.specs.Tree.{most_entries};
 ghost use Rattle.bag_disk.specs.Disk.{OnlyLooks, entry_count, is_plain};
 ghost use Rattle.bag_disk.specs.DiskBag.{bag_of};
-ghost use Rattle.bag_disk.specs.FolderWalk.{ArePaths, Walked};
-ghost use Rattle.bag_disk.specs.Refusal.{IsDue, MeetsSpecial, MeetsUnnamed};
+ghost use Rattle.bag_disk.specs.FolderWalk.{ArePaths, Contradiction, IsUnlistable, Walked};
+ghost use Rattle.bag_disk.specs.Refusal.{IsCounted, IsDue, IsDueInListing, IsNoFailure, MeetsSpecial, MeetsUnnamed};
 
 use crate::Disk;
 use crate::folder_walk::FolderWalk;
@@ -25,8 +25,9 @@ pub fn list_below<D: Disk>(disk: &mut D, alloc: Global) -> Result<Listing, Refus
     ensures data { IfOk result HasItsFolder }
     ensures plain { OnOk result (IsTrue (D.state disk.old).honest → IsTrue (is_plain (D.state disk.old).nodes)) }
     ensures honest { IfOk result (λ listing. IsTrue (D.state disk.old).honest → IsListingOf (bag_of (D.state disk.old).nodes) listing) }
-    ensures refused { IfErr result (IsDue (MeetsSpecial (D.state disk.old)) (MeetsUnnamed (D.state disk.old))
-        ⊥ (IsTrue (D.state disk.old).honest → most_entries < entry_count (D.state disk.old).nodes)) }
+    ensures refused { IfErr result (IsDueInListing (MeetsSpecial (D.state disk.old)) (MeetsUnnamed (D.state disk.old))
+        (IsTrue (D.state disk.old).honest → most_entries < entry_count (D.state disk.old).nodes) (Contradiction (D.state disk.old))) }
+    ensures failures { IsCounted result (D.state disk.old) (D.state disk.new) }
 {
     match walk(disk, alloc) {
         Ok(walk) => listing_of(walk),
@@ -42,6 +43,7 @@ fn walk<D: Disk>(disk: &mut D, alloc: Global) -> Result<FolderWalk, Refusal>
         → Walked (D.state disk.old).nodes walk.files.items [] walk.listed.items []) }
     ensures refused { IfErr result (IsDue (MeetsSpecial (D.state disk.old)) (MeetsUnnamed (D.state disk.old))
         ⊥ (IsTrue (D.state disk.old).honest → most_entries < entry_count (D.state disk.old).nodes)) }
+    ensures failures { IsCounted result (D.state disk.old) (D.state disk.new) }
 {
     let mut walk = FolderWalk::new(alloc)?;
     while let Some(folder) = walk.folders.pop() {
@@ -61,7 +63,8 @@ fn listing_of(walk: FolderWalk) -> Result<Listing, Refusal>
     ensures ordered { IfOk result (λ listing. IsOrdered listing.files) }
     ensures files { IfOk result (λ listing. IsPermutation walk.files.items listing.files) }
     ensures data { IfOk result HasItsFolder }
-    ensures refused { IfErr result (IsDue ⊥ ⊥ ⊥ ⊥) }
+    ensures refused { IfErr result (IsDueInListing ⊥ ⊥ ⊥ (IsUnlistable walk.files.items walk.listed.items)) }
+    ensures quiet { IsNoFailure result }
     ensures has_data { IfOk result (λ listing. IsTrue listing.has_data ↔ Any (λ folder. folder ≡ codes "data") walk.listed.items) }
 {
     let FolderWalk { files, listed, .. } = walk;
@@ -70,10 +73,10 @@ fn listing_of(walk: FolderWalk) -> Result<Listing, Refusal>
     sort_by_key(&mut files)?;
     sort_by_path(&mut files);
     if !all_differ(files.as_slice()) {
-        return Err(Refusal::Device);
+        return Err(Refusal::Contradicts);
     }
     if !has_data && has_payload(files.as_slice()) {
-        return Err(Refusal::Device);
+        return Err(Refusal::Contradicts);
     }
     Ok(Listing {
         files: Items::from_vec(files),

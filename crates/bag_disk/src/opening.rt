@@ -3,10 +3,10 @@ ghost use Rattle.std.specs.Prelude.{◌≡◌, ◌++◌, ◌∷◌, [], None, On
 ghost use Rattle.bag_text.specs.Path.{is_path};
 ghost use Rattle.bag_tree.specs.Bag.{file};
 ghost use Rattle.bag_tree.specs.Tree.{IsOpen};
-ghost use Rattle.bag_disk.specs.Disk.{HasSpecial, SameDisk, IsReached, node};
+ghost use Rattle.bag_disk.specs.Disk.{HasSpecial, OnlyLooks, SameDisk, IsReached, node};
 ghost use Rattle.bag_disk.specs.DiskBag.{bag_of};
 ghost use Rattle.bag_disk.specs.Disk.Node.{Folder};
-ghost use Rattle.bag_disk.specs.Refusal.{IsDue, MeetsSpecial};
+ghost use Rattle.bag_disk.specs.Refusal.{IsCounted, IsDue, MeetsSpecial};
 
 use crate::path::is_path;
 use crate::refusal::Refusal;
@@ -24,6 +24,7 @@ pub fn open_at<D: Disk>(disk: &mut D, path: &str) -> Result<(), Refusal>
         (IsTrue (D.state disk.old).honest → file (bag_of (D.state disk.old).nodes) path.now ≡ None) ⊥) }
     ensures closed { (D.state disk.old).rest ≡ None → OnErr result ((D.state disk.new).rest ≡ None) }
     ensures not_opened { OnErr result ((D.state disk.new).openings ≡ (D.state disk.old).openings) }
+    ensures failures { IsCounted result (D.state disk.old) (D.state disk.new) }
 {
     if !is_path(path) {
         return Err(Refusal::NotFound);
@@ -45,17 +46,16 @@ pub fn open_at<D: Disk>(disk: &mut D, path: &str) -> Result<(), Refusal>
 }
 
 /// Refuses a path that doesn't lead through folders alone.
-fn check_folders<D: Disk>(disk: &D, path: &str) -> Result<(), Refusal>
-    ensures reached { OnOk result (IsTrue (D.state disk.now).honest → IsReached (D.state disk.now).nodes path.now) }
-    ensures refused { IfErr result (IsDue (MeetsSpecial (D.state disk.now)) ⊥
-        (IsTrue (D.state disk.now).honest → node (D.state disk.now).nodes path.now ≡ None) ⊥) }
+fn check_folders<D: Disk>(disk: &mut D, path: &str) -> Result<(), Refusal>
+    ensures looks { OnlyLooks (D.state disk.old) (D.state disk.new) }
+    ensures reached { OnOk result (IsTrue (D.state disk.old).honest → IsReached (D.state disk.old).nodes path.now) }
+    ensures refused { IfErr result (IsDue (MeetsSpecial (D.state disk.old)) ⊥
+        (IsTrue (D.state disk.old).honest → node (D.state disk.old).nodes path.now ≡ None) ⊥) }
+    ensures failures { IsCounted result (D.state disk.old) (D.state disk.new) }
 {
     for (end, byte) in path.as_bytes().iter().enumerate() {
         if *byte == b'/' {
-            let Some(folder) = path.get(..end) else {
-                return Err(Refusal::Device);
-            };
-            match check_is_folder(disk, folder) {
+            match check_is_folder(disk, &path[..end]) {
                 Ok(()) => {}
                 Err(refusal) => return Err(refusal),
             }
@@ -64,14 +64,16 @@ fn check_folders<D: Disk>(disk: &D, path: &str) -> Result<(), Refusal>
     Ok(())
 }
 
-/// Refuses what is no folder.
-pub fn check_is_folder<D: Disk>(disk: &D, folder: &str) -> Result<(), Refusal>
-    ensures folder { OnOk result (IsTrue (D.state disk.now).honest → IsReached (D.state disk.now).nodes folder.now → node (D.state disk.now).nodes folder.now ≡ Some Folder) }
-    ensures refused { IfErr result (IsDue (IsTrue (D.state disk.now).honest → IsReached (D.state disk.now).nodes folder.now → HasSpecial (D.state disk.now).nodes) ⊥
-        (IsTrue (D.state disk.now).honest → IsReached (D.state disk.now).nodes folder.now → node (D.state disk.now).nodes folder.now ≡ Some Folder → ⊥) ⊥) }
+/// Refuses what is no folder. A text that isn't a path has none.
+pub fn check_is_folder<D: Disk>(disk: &mut D, folder: &str) -> Result<(), Refusal>
+    ensures looks { OnlyLooks (D.state disk.old) (D.state disk.new) }
+    ensures folder { OnOk result (IsTrue (D.state disk.old).honest → IsReached (D.state disk.old).nodes folder.now → node (D.state disk.old).nodes folder.now ≡ Some Folder) }
+    ensures refused { IfErr result (IsDue (IsTrue (D.state disk.old).honest → IsReached (D.state disk.old).nodes folder.now → HasSpecial (D.state disk.old).nodes) ⊥
+        (IsTrue (D.state disk.old).honest → IsReached (D.state disk.old).nodes folder.now → node (D.state disk.old).nodes folder.now ≡ Some Folder → ⊥) ⊥) }
+    ensures failures { IsCounted result (D.state disk.old) (D.state disk.new) }
 {
     if !is_path(folder) {
-        return Err(Refusal::Device);
+        return Err(Refusal::NotFound);
     }
     match disk.entry_at(folder) {
         Ok(Entry::Folder) => Ok(()),

@@ -1,6 +1,6 @@
 //! Why the disk refused.
 ghost use Rattle.std.specs.Prelude.{◌≡◌};
-ghost use Rattle.bag_disk.specs.Refusal.{at_known, of_name, of_path};
+ghost use Rattle.bag_disk.specs.Refusal.{at_known, is_device, of_making, of_name, of_path};
 ghost use Rattle.bag_disk.specs.declared.refusal.Refusal.TheVariants.{Memory};
 
 use crate::DiskFault;
@@ -23,6 +23,10 @@ pub enum Refusal {
     Memory,
     /// What was to be made is there.
     Exists,
+    /// The disk's answers contradict one another: what it named twice, or in a folder that it didn't name, can't be listed.
+    Contradicts,
+    /// A folder in which no file was found stands where something is to be moved.
+    InTheWay,
 }
 
 impl From<AllocError> for Refusal {
@@ -73,6 +77,34 @@ impl Refusal {
             DiskFault::Name => Refusal::Name,
             DiskFault::NotFound | DiskFault::Exists | DiskFault::Device => Refusal::Device,
             DiskFault::Memory => Refusal::Memory,
+        }
+    }
+
+    /// What a fault of the disk means where something is to be made.
+    pub fn of_making(fault: DiskFault) -> Refusal
+        ensures { result ≡ of_making fault }
+    {
+        match fault {
+            DiskFault::Exists => Refusal::Exists,
+            DiskFault::NotFound | DiskFault::Name | DiskFault::Device => Refusal::Device,
+            DiskFault::Memory => Refusal::Memory,
+        }
+    }
+
+    /// Whether the device refused.
+    pub fn is_device(self) -> bool
+        ensures { result ≡ is_device self }
+    {
+        match self {
+            Refusal::Device => true,
+            Refusal::Special
+            | Refusal::Name
+            | Refusal::NotFound
+            | Refusal::TooMany
+            | Refusal::Memory
+            | Refusal::Exists
+            | Refusal::Contradicts
+            | Refusal::InTheWay => false,
         }
     }
 }

@@ -1,11 +1,12 @@
 //! The system's disk.
-ghost use Rattle.std.specs.Prelude.{◌≡◌, ◌++◌, ◌∷◌, [], IfOk, None, OnErr, OnOk, Some, is_some, false};
+ghost use Rattle.std.specs.Prelude.{◌≡◌, ◌<◌, ◌++◌, ◌∷◌, [], IfOk, IsTrue, None, Ok, OnErr, OnOk, is_some, false, length};
 ghost use Rattle.std.specs.Fs.{dir_entry_name};
 ghost use Rattle.bag_disk.specs.SystemDisk.{base_of, system_state, written_state};
 ghost use Rattle.bag_disk.specs.Disk.{empty_disk};
 
 use crate::base_folder::BaseFolder;
 use crate::disk::{Disk, DiskFault, Entry};
+use crate::failures::Failures;
 use crate::system_fault::answer_of;
 use crate::writable_disk::WritableDisk;
 use bag_text::{Items, Text};
@@ -28,13 +29,38 @@ pub struct SystemDisk<R: Files> {
     entered: Option<ReadDir<R, Global>>,
     /// What was named last.
     named: Option<DirEntry<R, Global>>,
+    failures: Failures,
 }
 
 /// The name of what stands in a folder.
-fn name_of<R: Files>(alloc: Global, entry: &DirEntry<R, Global>) -> Result<Option<Text>, DiskFault>
-    ensures { IfOk result (λ name. name ≡ Some (dir_entry_name entry.now)) }
+fn name_of<R: Files>(alloc: Global, entry: &DirEntry<R, Global>) -> Result<Text, AllocError>
+    ensures { IfOk result (λ name. name ≡ dir_entry_name entry.now) }
 {
-    Ok(Some(Text::from_str(alloc, entry.file_name())?))
+    Text::from_str(alloc, entry.file_name())
+}
+
+/// What a write of bytes answered: one that took none of some is refused.
+fn written_of(answer: Result<usize, DiskFault>, bytes: &[u8]) -> Result<usize, DiskFault>
+    ensures same { IfOk result (λ count. answer ≡ Ok count) }
+    ensures some { IfOk result (λ count. 0 < length bytes.now → 0 < count) }
+{
+    match answer {
+        Ok(count) => {
+            if has_written(count, bytes) {
+                Ok(count)
+            } else {
+                Err(DiskFault::Device)
+            }
+        }
+        Err(fault) => Err(fault),
+    }
+}
+
+/// Whether so many bytes are some of those that were to be written, where there were any.
+fn has_written(count: usize, bytes: &[u8]) -> bool
+    ensures { IsTrue result → 0 < length bytes.now → 0 < count }
+{
+    count > 0 || bytes.is_empty()
 }
 
 impl<R: Files> SystemDisk<R> {
@@ -44,6 +70,7 @@ impl<R: Files> SystemDisk<R> {
         ensures opened { self.new.opened ≡ None }
         ensures written { self.new.written ≡ None }
         ensures names { self.new.is_kept ≡ self.old.is_kept }
+        ensures failures { self.new.failures ≡ self.old.failures }
     {
         self.opened = None;
         self.written = None;
@@ -54,44 +81,53 @@ impl<R: Files> SystemDisk<R> {
         ensures noted { OnOk result (self.new.openings ≡ self.old.openings ++ path.now ∷ []) }
         ensures refused { OnErr result (self.new.openings ≡ self.old.openings) }
         ensures same { self.new.opened ≡ self.old.opened }
+        ensures failures { self.new.failures ≡ self.old.failures }
     {
         self.openings.push(Text::from_str(self.alloc, path)?)
     }
 }
 
 impl<R: Files + AllocGlobal + Clone + Drop> Disk for SystemDisk<R> {
-    ghost state = { λ disk. system_state disk.openings (is_some disk.opened) };
+    ghost state = { λ disk. system_state disk.openings (is_some disk.opened) disk.failures.count };
 
-    fn entry_at(&self, path: &str) -> Result<Entry, DiskFault> {
-        match &self.named {
+    fn entry_at(&mut self, path: &str) -> Result<Entry, DiskFault> {
+        let found = self.base.entry(&self.rt, path);
+        self.failures.of_path(found)
+    }
+
+    fn named_entry(&mut self, path: &str) -> Result<Entry, DiskFault> {
+        let found = match &self.named {
             Some(named) => self.base.entry_beside(&self.rt, named, path),
             None => self.base.entry(&self.rt, path),
-        }
+        };
+        self.failures.at_known(found)
     }
 
     fn enter(&mut self, folder: &str) -> Result<(), DiskFault> {
-        self.entered = Some(self.base.entries(&self.rt, folder)?);
+        let entries = self.base.entries(&self.rt, folder);
+        self.entered = Some(self.failures.at_known(entries)?);
         Ok(())
     }
 
     fn next_name(&mut self) -> Result<Option<Text>, DiskFault> {
         let Some(entered) = &mut self.entered else {
-            return Err(DiskFault::Device);
+            return self.failures.of_name(Err(DiskFault::Device));
         };
         match entered.next() {
             None => Ok(None),
             Some(Ok(entry)) => {
                 let name = name_of(self.alloc, &entry);
                 self.named = Some(entry);
-                name
+                self.failures.name(name?)
             }
-            Some(Err(error)) => Err(DiskFault::of(&error)),
+            Some(Err(error)) => self.failures.of_name(Err(DiskFault::of(&error))),
         }
     }
 
     fn open(&mut self, path: &str) -> Result<(), DiskFault> {
         self.opened = None;
-        let file = self.base.open(&self.rt, path)?;
+        let file = self.base.open(&self.rt, path);
+        let file = self.failures.of_path(file)?;
         self.note(path)?;
         self.opened = Some(file);
         Ok(())
@@ -107,9 +143,10 @@ impl<R: Files + AllocGlobal + Clone + Drop> Disk for SystemDisk<R> {
 
     fn read(&mut self, buffer: &mut [u8]) -> Result<usize, DiskFault> {
         let Some(file) = &mut self.opened else {
-            return Err(DiskFault::Device);
+            return self.failures.at_known(Err(DiskFault::Device));
         };
-        answer_of(file.read(buffer))
+        let count = answer_of(file.read(buffer));
+        self.failures.at_known(count)
     }
 
     ghost is_disk = { λ _. empty_disk };
@@ -121,21 +158,24 @@ impl<R: Files + AllocGlobal + Clone + Drop> WritableDisk for SystemDisk<R> {
     ghost is_kept = { λ disk. disk.is_kept };
 
     fn make_folder(&mut self, path: &str) -> Result<(), DiskFault> {
-        self.base.make_folder(&self.rt, path)?;
+        let made = self.base.make_folder(&self.rt, path);
+        self.failures.of_making(made)?;
         self.is_kept = false;
         self.close_all();
         Ok(())
     }
 
     fn rename(&mut self, from: &str, to: &str) -> Result<(), DiskFault> {
-        self.base.rename(&self.rt, from, to)?;
+        let renamed = self.base.rename(&self.rt, from, to);
+        self.failures.at_known(renamed)?;
         self.is_kept = false;
         self.close_all();
         Ok(())
     }
 
     fn create(&mut self, path: &str) -> Result<(), DiskFault> {
-        let file = self.base.create(&self.rt, path)?;
+        let file = self.base.create(&self.rt, path);
+        let file = self.failures.of_making(file)?;
         self.is_kept = false;
         self.opened = None;
         self.written = Some(file);
@@ -144,24 +184,27 @@ impl<R: Files + AllocGlobal + Clone + Drop> WritableDisk for SystemDisk<R> {
 
     fn write(&mut self, bytes: &[u8]) -> Result<usize, DiskFault> {
         let Some(file) = &mut self.written else {
-            return Err(DiskFault::Device);
+            return self.failures.at_known(Err(DiskFault::Device));
         };
-        let count = answer_of(file.write(bytes))?;
+        let count = written_of(answer_of(file.write(bytes)), bytes);
+        let count = self.failures.at_known(count)?;
         self.opened = None;
         Ok(count)
     }
 
     fn sync(&mut self) -> Result<(), DiskFault> {
         let Some(file) = &self.written else {
-            return Err(DiskFault::Device);
+            return self.failures.at_known(Err(DiskFault::Device));
         };
-        answer_of(file.sync_all())?;
+        let synced = answer_of(file.sync_all());
+        self.failures.at_known(synced)?;
         self.close_all();
         Ok(())
     }
 
     fn sync_folder(&mut self, folder: &str) -> Result<(), DiskFault> {
-        self.base.sync(&self.rt, folder)?;
+        let synced = self.base.sync(&self.rt, folder);
+        self.failures.at_known(synced)?;
         self.is_kept = folder.is_empty() || self.is_kept;
         Ok(())
     }
@@ -171,7 +214,7 @@ impl<R: Files + AllocGlobal + Clone + Drop> SystemDisk<R> {
     /// The system's disk below a base folder, at which it doesn't look yet.
     pub fn new(rt: R, alloc: Global, base: &str) -> Result<SystemDisk<R>, AllocError>
         ensures base { IfOk result (λ disk. base_of disk ≡ base.now) }
-        ensures state { IfOk result (λ disk. ⟦<SystemDisk<R> as Disk>⟧.state disk ≡ system_state [] false) }
+        ensures state { IfOk result (λ disk. ⟦<SystemDisk<R> as Disk>⟧.state disk ≡ system_state [] false 0) }
     {
         Ok(SystemDisk {
             rt,
@@ -183,6 +226,7 @@ impl<R: Files + AllocGlobal + Clone + Drop> SystemDisk<R> {
             is_kept: false,
             entered: None,
             named: None,
+            failures: Failures::none(),
         })
     }
 }

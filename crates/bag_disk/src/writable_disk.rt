@@ -1,7 +1,8 @@
 //! The calls of a disk that change what stands on it.
-ghost use Rattle.std.specs.Prelude.{◌≡◌, ◌≤◌, ◌==◌, ◌||◌, List, ℕ, Bool, false, IfOk, OnOk, OnErr, MatchResult, IsErrOf, IsTrue, Option, None, Some, is_some, length, take};
+ghost use Rattle.std.specs.Prelude.{◌≡◌, ◌<◌, ◌≤◌, ◌==◌, ◌||◌, List, ℕ, Bool, false, IfOk, OnOk, OnErr, MatchResult, IsErrOf, IsTrue, Option, None, Some, is_some, length, take};
 ghost use Rattle.bag_text.specs.Path.{is_path};
 ghost use Rattle.bag_disk.specs.Disk.{Has, IsFolder, IsReached, OnlyLooks, node};
+ghost use Rattle.bag_disk.specs.Refusal.{IsCountedAs, at_known, of_making};
 ghost use Rattle.bag_disk.specs.WritableDisk.{Appends, Closes, HasFile, MakesFile, MakesFolder, Moves};
 ghost use Rattle.bag_tree.specs.Moved.{KeepsOthers};
 ghost use Rattle.bag_disk.specs.declared.disk.DiskFault.TheVariants.{Exists, Name, NotFound};
@@ -12,7 +13,8 @@ use crate::disk::{Disk, DiskFault};
 ///
 /// An honest disk stays honest: what stands there is then what its own calls made of it. A call that is answered closes the
 /// file that is open for reading; one that is refused changes nothing. Of a path that leads through a link nothing is said.
-/// What a call made may be lost where the system stops; `sync` and `sync_folder` alone ask for more.
+/// What a call made may be lost where the system stops; `sync` and `sync_folder` alone ask for more. All faults are counted but
+/// `Memory`, and `Exists` where something is to be made.
 pub trait WritableDisk: Disk {
     /// The path of the file that is being written.
     ghost written: { Self → Option (List ℕ) };
@@ -32,7 +34,8 @@ pub trait WritableDisk: Disk {
         ensures absent { IsErrOf result NotFound → IsTrue (Self.state self.old).honest → IsReached (Self.state self.old).nodes path.now → ⊥ }
         ensures same { OnErr result (OnlyLooks (Self.state self.old) (Self.state self.new)) }
         ensures unkept { MatchResult result (λ _. is_kept self.new ≡ false) (λ _. is_kept self.new ≡ is_kept self.old) }
-        ensures same_file { OnErr result (written self.new ≡ written self.old) };
+        ensures same_file { OnErr result (written self.new ≡ written self.old) }
+        ensures failures { IsCountedAs of_making result (Self.state self.old).failures (Self.state self.new).failures };
 
     /// Moves what stands at one path, with all that is below it, to another, without a copy. Then no file is being written.
     /// A caller looks first whether something stands at the other: it might be replaced, and then nothing is said of what is
@@ -55,7 +58,8 @@ pub trait WritableDisk: Disk {
             → node (Self.state self.old).nodes from.now ≡ None }
         ensures same { OnErr result (OnlyLooks (Self.state self.old) (Self.state self.new)) }
         ensures unkept { MatchResult result (λ _. is_kept self.new ≡ false) (λ _. is_kept self.new ≡ is_kept self.old) }
-        ensures same_file { OnErr result (written self.new ≡ written self.old) };
+        ensures same_file { OnErr result (written self.new ≡ written self.old) }
+        ensures failures { IsCountedAs at_known result (Self.state self.old).failures (Self.state self.new).failures };
 
     /// Makes an empty file where nothing stands, which is then being written in place of any other.
     fn create(&mut self, path: &str) -> Result<(), DiskFault>
@@ -70,10 +74,11 @@ pub trait WritableDisk: Disk {
         ensures absent { IsErrOf result NotFound → IsTrue (Self.state self.old).honest → IsReached (Self.state self.old).nodes path.now → ⊥ }
         ensures same { OnErr result (OnlyLooks (Self.state self.old) (Self.state self.new)) }
         ensures unkept { MatchResult result (λ _. is_kept self.new ≡ false) (λ _. is_kept self.new ≡ is_kept self.old) }
-        ensures same_file { OnErr result (written self.new ≡ written self.old) };
+        ensures same_file { OnErr result (written self.new ≡ written self.old) }
+        ensures failures { IsCountedAs of_making result (Self.state self.old).failures (Self.state self.new).failures };
 
-    /// Puts some first bytes, as many as it answers, behind those of the file that is being written. An honest disk refuses
-    /// it by `Memory` or `Device` alone.
+    /// Puts some first bytes, as many as it answers, behind those of the file that is being written; one at least, where there
+    /// are any. An honest disk refuses it by `Memory` or `Device` alone.
     fn write(&mut self, bytes: &[u8]) -> Result<usize, DiskFault>
         requires { IsTrue (is_some (written self.old)) }
         ensures within { IfOk result (λ n. n ≤ length bytes.now) }
@@ -85,7 +90,9 @@ pub trait WritableDisk: Disk {
         ensures unnamed { IsErrOf result Name → IsTrue (Self.state self.old).honest → ⊥ }
         ensures same { OnErr result (OnlyLooks (Self.state self.old) (Self.state self.new)) }
         ensures same_file { written self.new ≡ written self.old }
-        ensures same_names { is_kept self.new ≡ is_kept self.old };
+        ensures same_names { is_kept self.new ≡ is_kept self.old }
+        ensures some { IfOk result (λ n. 0 < length bytes.now → 0 < n) }
+        ensures failures { IsCountedAs at_known result (Self.state self.old).failures (Self.state self.new).failures };
 
     /// Has the device keep the file that was written, and ends its writing. What is kept is the system's word: no contract
     /// says what outlasts a stop of the system. An honest disk refuses it by `Memory` or `Device` alone.
@@ -99,7 +106,8 @@ pub trait WritableDisk: Disk {
         ensures unnamed { IsErrOf result Name → IsTrue (Self.state self.old).honest → ⊥ }
         ensures same { OnErr result (OnlyLooks (Self.state self.old) (Self.state self.new)) }
         ensures same_file { OnErr result (written self.new ≡ written self.old) }
-        ensures same_names { is_kept self.new ≡ is_kept self.old };
+        ensures same_names { is_kept self.new ≡ is_kept self.old }
+        ensures failures { IsCountedAs at_known result (Self.state self.old).failures (Self.state self.new).failures };
 
     /// Has the device keep the names of what stands in a folder: without that what was made in it, moved into it or moved
     /// away may be lost, or be where it was. The empty path is the base folder. What is kept is the system's word here too. An
@@ -110,5 +118,6 @@ pub trait WritableDisk: Disk {
         ensures kept { MatchResult result (λ _. is_kept self.new ≡ (length folder.now == 0 || is_kept self.old)) (λ _. is_kept self.new ≡ is_kept self.old) }
         ensures taken { IsErrOf result Exists → IsTrue (Self.state self.old).honest → ⊥ }
         ensures absent { IsErrOf result NotFound → IsTrue (Self.state self.old).honest → IsFolder (Self.state self.old).nodes folder.now → ⊥ }
-        ensures unnamed { IsErrOf result Name → IsTrue (Self.state self.old).honest → ⊥ };
+        ensures unnamed { IsErrOf result Name → IsTrue (Self.state self.old).honest → ⊥ }
+        ensures failures { IsCountedAs at_known result (Self.state self.old).failures (Self.state self.new).failures };
 }

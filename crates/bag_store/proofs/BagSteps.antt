@@ -1,15 +1,15 @@
 -- What the changes of a disk make of the bag below its base folder.
-use Rattle.std.proofs.Common.{◌≡◌, ◌≢◌, ◌⊎◌, ◌++◌, MatchBool, nat_eq, ℕ, ◌||◌, ◌&&◌, Bool, true, false, not, cond, List, [], ◌∷◌, Any, IsTrue, length, map as list_map, Option, Some, None, is_some, inl, inr, refl, ap, sym, subst, ◌∙◌}
+use Rattle.std.proofs.Common.{◌≡◌, ℕ, ◌||◌, ◌&&◌, Bool, true, false, not, cond, List, [], ◌∷◌, Any, IsTrue, length, map as list_map, Option, Some, None, is_some, inl, inr, refl, ap, sym, subst, ◌∙◌}
 use Rattle.std.proofs.lemmas.Bool.{and_from, false≢true, or_left, or_right}
 use Rattle.std.proofs.lemmas.List.Folds.{list_any-from_Any}
 use Rattle.std.specs.FinMap as map
 use Rattle.std.specs.FinMap.{find, get-entries, get-insert}
 use Rattle.std.specs.FinSet as set
-use Rattle.std.specs.List.{list_any, starts_with}
+use Rattle.std.specs.List.{list_any}
 use Rattle.std.specs.Ordering.{eq_by_cmp}
 use Rattle.std.specs.Cmp.Lexicographic.{nat_list_cmp_total}
 use Rattle.bag_text.specs.Text.{text_cmp}
-use Rattle.bag_text.specs.Path.{is_base_name, slash, under}
+use Rattle.bag_text.specs.Path.{is_base_name, under}
 use Rattle.bag_tree.proofs.SameText.{exact_texts, one_text, text_itself}
 use Rattle.bag_tree.proofs.ListingLaw.{listings_are_of_the_bag}
 use Rattle.bag_tree.specs.Bag.{Bag, file, files_of, has_file, has_folder}
@@ -20,8 +20,8 @@ use Rattle.bag_tree.specs.Steps.{has_within, is_taken, lacks_folder, lacks_sourc
 use Rattle.bag_tree.specs.Moved.{MovesAll, is_within, moved}
 use Rattle.bag_tree.specs.Steps as step
 use Rattle.bag_tree.proofs.Moving.{moves_all}
-use Rattle.bag_tree.proofs.Within.{within_after, within_cases, itself_within, not_after, not_within}
-use Rattle.bag_disk.specs.Disk.{HasSpecial, Nodes, Node, node, IsDisk, IsReached, bytes_of, is_folder_node}
+use Rattle.bag_tree.proofs.Within.{within_cases, itself_within, not_within}
+use Rattle.bag_disk.specs.Disk.{Nodes, Node, node, IsDisk, IsReached, bytes_of, is_folder_node}
 use Rattle.bag_disk.specs.Location.{path_in}
 use Rattle.bag_disk.specs.Disk.Node.{File, Folder, Other}
 use Rattle.bag_disk.specs.WritableDisk.{HasFile, Moves, with_file, with_folder}
@@ -30,13 +30,10 @@ use Rattle.bag_disk.proofs.Moving.{nodes_move}
 use Rattle.bag_disk.specs.BagBelow.{bag_of_disk, file_of_disk, folder_of_disk}
 use Rattle.bag_store.specs.Changing.{MovesInto}
 use Rattle.bag_disk.specs.DiskBag.{bag_of}
-use Rattle.bag_disk.specs.Refusal.{IsDue, IsDueInStep}
 use Rattle.bag_store.specs.Standing.{IsStanding}
 use Rattle.bag_store.specs.declared.standing.Standing.{Standing}
 use Rattle.bag_store.specs.declared.standing.Standing.TheVariants as standing
-use Rattle.bag_disk.specs.declared.refusal.Refusal.{Refusal}
 use Rattle.bag_store.proofs.BaseNames.{base_not_under, path_in_is_under, target_reached}
-use Rattle.bag_disk.proofs.Refusals.{due_in_step, step_due_for}
 
 same_bag : (a b : Bag) → ((path : List ℕ) → file a path ≡ file b path) → ((name : List ℕ) → has_folder a name ≡ has_folder b name) → a ≡ b
 same_bag a b files folders =
@@ -289,6 +286,13 @@ lacks_it nodes name is none = ap not (folder_of_disk nodes name is ∙ no_folder
 pub lacks_place : (nodes : Nodes) (top folder : List ℕ) → is_base_name folder ≡ true → (node nodes folder ≡ Some Folder → ⊥) → lacks_source (bag_of nodes) top folder ≡ true
 lacks_place nodes top folder is none = ap (λ b. not (b && is_taken (bag_of nodes) top)) (folder_of_disk nodes folder is ∙ no_folder_there (node nodes folder) none)
 
+not_both : (b : Bool) → not (b && false) ≡ true
+not_both true = refl
+not_both false = refl
+
+pub lacks_top : (nodes : Nodes) (top folder : List ℕ) → is_taken (bag_of nodes) top ≡ false → lacks_source (bag_of nodes) top folder ≡ true
+lacks_top nodes top folder none = ap (λ b. not (has_folder (bag_of nodes) folder && b)) none ∙ not_both (has_folder (bag_of nodes) folder)
+
 -- where a folder stands, and what is to be moved, neither is lacking
 pub has_it : (nodes : Nodes) (name : List ℕ) → is_base_name name ≡ true → node nodes name ≡ Some Folder → lacks_folder (bag_of nodes) name ≡ true → ⊥
 has_it nodes name is there lacks = false≢true (sym (ap not (folder_of_disk nodes name is ∙ ap is_folder_node there)) ∙ lacks)
@@ -304,28 +308,26 @@ none_standing nodes path o is = subst (λ o. IsStanding nodes path o → node no
 pub file_standing : (nodes : Nodes) (path : List ℕ) (o : Option Standing) (seen : Standing) → o ≡ Some seen → seen ≡ standing.File → IsStanding nodes path o → HasFile nodes path
 file_standing nodes path o seen is file = subst (λ o. IsStanding nodes path o → HasFile nodes path) (sym (is ∙ ap Some file)) (λ has. has)
 
+pub folder_standing : (nodes : Nodes) (path : List ℕ) (o : Option Standing) (seen : Standing) → o ≡ Some seen → seen ≡ standing.Folder → IsStanding nodes path o → node nodes path ≡ Some Folder
+folder_standing nodes path o seen is folder = subst (λ o. IsStanding nodes path o → node nodes path ≡ Some Folder) (sym (is ∙ ap Some folder)) (λ there. there)
+
 -- the path to which something is moved leads through a folder
-to_target : (nodes : Nodes) (folder top target : List ℕ) → is_base_name folder ≡ true → is_base_name top ≡ true → target ≡ path_in folder top → node nodes folder ≡ Some Folder → IsReached nodes target
+pub to_target : (nodes : Nodes) (folder top target : List ℕ) → is_base_name folder ≡ true → is_base_name top ≡ true → target ≡ path_in folder top → node nodes folder ≡ Some Folder → IsReached nodes target
 to_target nodes folder top target is named at there =
     subst (IsReached nodes) (sym (at ∙ path_in_is_under folder top is)) (target_reached nodes folder top is named there)
 
--- where something is in the way of what is moved into a folder
-pub target_seen : (nodes : Nodes) (honest : Type 0) (folder top target : List ℕ) (absent taken : Type 0) (r : Refusal) → is_base_name folder ≡ true → is_base_name top ≡ true → target ≡ path_in folder top
-    → (honest → node nodes folder ≡ Some Folder)
-    → IsDue (honest → IsReached nodes target → HasSpecial nodes) ⊥ ⊥ ⊥ r → IsDueInStep (honest → HasSpecial nodes) absent taken r
-target_seen nodes honest folder top target absent taken r is named at there due =
-    due_in_step _ _ _ _ _ r (λ special h. special h (to_target nodes folder top target is named at (there h))) (λ never. absurd never) due
-
+-- where a file or a folder stands at the target
 pub file_in_target : (nodes : Nodes) (folder top target : List ℕ) (o : Option Standing) (seen : Standing) → is_base_name folder ≡ true → is_base_name top ≡ true → target ≡ path_in folder top
     → node nodes folder ≡ Some Folder → o ≡ Some seen → seen ≡ standing.File → (IsReached nodes target → IsStanding nodes target o) → has_within (bag_of nodes) (under folder top) ≡ true
 file_in_target nodes folder top target o seen is named at there some file stands =
     ap (has_within (bag_of nodes)) (sym (at ∙ path_in_is_under folder top is))
     ∙ file_within nodes target (file_standing nodes target o seen some file (stands (to_target nodes folder top target is named at there)))
 
-pub folder_in_target : (nodes : Nodes) (honest : Type 0) (folder top target : List ℕ) (over absent : Type 0) (r : Refusal) → is_base_name folder ≡ true → target ≡ path_in folder top
-    → IsDueInStep ⊥ ⊥ (honest → has_within (bag_of nodes) target ≡ true) r → IsDueInStep over absent (honest → has_within (bag_of nodes) (under folder top) ≡ true) r
-folder_in_target nodes honest folder top target over absent r is at due =
-    step_due_for _ _ _ _ _ _ r (λ never. absurd never) (λ never. absurd never) (λ taken h. ap (has_within (bag_of nodes)) (sym (at ∙ path_in_is_under folder top is)) ∙ taken h) due
+pub folder_in_target : (nodes : Nodes) (folder top target : List ℕ) (o : Option Standing) (seen : Standing) → is_base_name folder ≡ true → is_base_name top ≡ true → target ≡ path_in folder top
+    → node nodes folder ≡ Some Folder → o ≡ Some seen → seen ≡ standing.Folder → (IsReached nodes target → IsStanding nodes target o) → node nodes (under folder top) ≡ Some Folder
+folder_in_target nodes folder top target o seen is named at there some folder_seen stands =
+    ap (node nodes) (sym (at ∙ path_in_is_under folder top is))
+    ∙ folder_standing nodes target o seen some folder_seen (stands (to_target nodes folder top target is named at there))
 
 any_entry : (top : List ℕ) (es : Entries) → list_any (λ (entry : FileEntry). is_within top entry.path) (list_map (λ e. record { path = e.0; size = length e.1 }) es) ≡ list_any (λ e. is_within top e.0) es
 any_entry top [] = refl

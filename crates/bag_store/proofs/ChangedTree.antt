@@ -1,5 +1,5 @@
 -- What a step makes of a tree of the files on a disk.
-use Rattle.std.proofs.Common.{◌≡◌, ℕ, ◌+◌, ◌≤◌, ◌==◌, Bool, true, false, cond, IsTrue, List, [], ◌∷◌, length, take, Some, None, is_some, inl, inr, ◌⊎◌, refl, ap, sym, subst, ◌∙◌, arith}
+use Rattle.std.proofs.Common.{◌≡◌, ℕ, ◌+◌, ◌≤◌, ◌==◌, true, false, cond, IsTrue, List, take, Some, None, is_some, inl, inr, ◌⊎◌, refl, ap, sym, subst, ◌∙◌, arith}
 use Rattle.std.proofs.lemmas.Bool.{false≢true}
 use Rattle.std.specs.FinMap as map
 use Rattle.std.specs.FinMap.{get-insert}
@@ -10,6 +10,7 @@ use Rattle.bag_text.specs.Path.{is_base_name, under}
 use Rattle.bag_tree.specs.Bag.{Bag}
 use Rattle.bag_tree.specs.declared.answer.Answer.{Answer}
 use Rattle.bag_tree.specs.Changes.{HasBegun, HasChanged, IsSame}
+use Rattle.bag_tree.specs.Tree.{Keeps}
 use Rattle.bag_tree.specs.Steps as step
 use Rattle.bag_tree.proofs.Within.{within_cases}
 use Rattle.bag_disk.specs.Disk.{DiskState, Nodes, Node, node, IsDisk, OnlyLooks, entry_count, is_plain, is_plain_node}
@@ -22,8 +23,9 @@ use Rattle.bag_disk.specs.DiskBag.{bag_of}
 use Rattle.bag_store.specs.FileTree.{state_after}
 use Rattle.bag_store.specs.Answered.{count_after, last_count, one_more_failure}
 use Rattle.bag_store.specs.Writing.{Begins, Makes, MakesFileOf}
+use Rattle.bag_disk.specs.Refusal.{failures_after}
 use Rattle.bag_disk.specs.declared.refusal.Refusal.{Refusal}
-use Rattle.bag_disk.specs.declared.refusal.Refusal.TheVariants.{Device, Special, Name, NotFound, TooMany, Memory, Exists}
+use Rattle.bag_disk.specs.declared.refusal.Refusal.TheVariants.{Device, Special, Name, NotFound, TooMany, Memory, Exists, Contradicts, InTheWay}
 use Rattle.bag_store.proofs.EntryCounts.{as_many_moved, more_put}
 use Rattle.bag_store.proofs.BagSteps.{bag_moved_in, bag_renamed, file_made, folder_made, free_not_taken}
 use Rattle.bag_disk.proofs.Plain.{all_plain, other_not_plain}
@@ -98,9 +100,9 @@ renamed_steps old new from to disk disk_then from_is to_is moves = subst (Steps 
   entries = as_many_moved from to old;
 })
 
-module _ (old new : DiskState) (failures failures_then given given_then : ℕ) (last last_then : Answer) where
-  changed : (change : Bag → Bag) (more : ℕ) → Closes old new → failures ≤ failures_then → (IsTrue old.honest → Steps change more old.nodes new.nodes)
-      → HasChanged change more (state_after old failures given last) (state_after new failures_then given_then last_then)
+module _ (old new : DiskState) (own own_then given given_then : ℕ) (last last_then : Answer) where
+  changed : (change : Bag → Bag) (more : ℕ) → Closes old new → old.failures + own ≤ new.failures + own_then → (IsTrue old.honest → Steps change more old.nodes new.nodes)
+      → HasChanged change more (state_after old own given last) (state_after new own_then given_then last_then)
   changed change more closes grows steps = record {
     bag = λ honest. (steps honest).bag;
     plain = λ honest. (steps honest).plain;
@@ -111,39 +113,38 @@ module _ (old new : DiskState) (failures failures_then given given_then : ℕ) (
     rest = closes.rest;
   }
 
-  pub folder_changed : (name : List ℕ) → IsDisk old.nodes → IsDisk new.nodes → is_base_name name ≡ true → failures ≤ failures_then → Closes old new → (IsTrue old.honest → MakesFolder old.nodes new.nodes name)
-      → HasChanged (step.make_folder name) 1 (state_after old failures given last) (state_after new failures_then given_then last_then)
+  pub folder_changed : (name : List ℕ) → IsDisk old.nodes → IsDisk new.nodes → is_base_name name ≡ true → old.failures + own ≤ new.failures + own_then → Closes old new → (IsTrue old.honest → MakesFolder old.nodes new.nodes name)
+      → HasChanged (step.make_folder name) 1 (state_after old own given last) (state_after new own_then given_then last_then)
   folder_changed name disk disk_then is grows closes makes =
       changed (step.make_folder name) 1 closes grows (λ honest. folder_steps old.nodes new.nodes name disk disk_then is (makes honest))
 
-  pub file_changed : (name bytes : List ℕ) → IsDisk old.nodes → IsDisk new.nodes → failures ≤ failures_then → Makes old new name bytes
-      → HasChanged (step.create name bytes) 1 (state_after old failures given last) (state_after new failures_then given_then last_then)
+  pub file_changed : (name bytes : List ℕ) → IsDisk old.nodes → IsDisk new.nodes → old.failures + own ≤ new.failures + own_then → Makes old new name bytes
+      → HasChanged (step.create name bytes) 1 (state_after old own given last) (state_after new own_then given_then last_then)
   file_changed name bytes disk disk_then grows makes =
       changed (step.create name bytes) 1 makes.closed grows (λ honest. file_steps old.nodes new.nodes name bytes disk disk_then (makes.file honest))
 
-  pub moved_changed : (top folder : List ℕ) → IsDisk old.nodes → IsDisk new.nodes → is_base_name top ≡ true → failures ≤ failures_then → Closes old new → IsMovedIn old new top folder
-      → HasChanged (step.move_in top folder) 0 (state_after old failures given last) (state_after new failures_then given_then last_then)
+  pub moved_changed : (top folder : List ℕ) → IsDisk old.nodes → IsDisk new.nodes → is_base_name top ≡ true → old.failures + own ≤ new.failures + own_then → Closes old new → IsMovedIn old new top folder
+      → HasChanged (step.move_in top folder) 0 (state_after old own given last) (state_after new own_then given_then last_then)
   moved_changed top folder disk disk_then is grows closes moves =
       changed (step.move_in top folder) 0 closes grows (λ honest. moved_steps old.nodes new.nodes top folder disk disk_then is (moves honest))
 
-  pub renamed_changed : (from to : List ℕ) → IsDisk old.nodes → IsDisk new.nodes → is_base_name from ≡ true → is_base_name to ≡ true → failures ≤ failures_then → Closes old new → IsRenamed old new from to
-      → HasChanged (step.rename_folder from to) 0 (state_after old failures given last) (state_after new failures_then given_then last_then)
+  pub renamed_changed : (from to : List ℕ) → IsDisk old.nodes → IsDisk new.nodes → is_base_name from ≡ true → is_base_name to ≡ true → old.failures + own ≤ new.failures + own_then → Closes old new → IsRenamed old new from to
+      → HasChanged (step.rename_folder from to) 0 (state_after old own given last) (state_after new own_then given_then last_then)
   renamed_changed from to disk disk_then from_is to_is grows closes moves =
       changed (step.rename_folder from to) 0 closes grows (λ honest. renamed_steps old.nodes new.nodes from to disk disk_then from_is to_is (moves honest))
 
+  -- a call that changes nothing that stands there keeps the tree
+  pub tree_keeps : new.nodes ≡ old.nodes → new.honest ≡ old.honest → old.failures + own ≤ new.failures + own_then → Keeps (state_after old own given last) (state_after new own_then given_then last_then)
+  tree_keeps nodes honest grows = record { bag = ap bag_of nodes; plain = ap is_plain nodes; honest = honest; entries = ap entry_count nodes; failures = grows }
+
   -- a refused step left all
-  pub step_same : OnlyLooks old new → failures ≤ failures_then → given_then ≡ given → IsSame (state_after old failures given last) (state_after new failures_then given_then last_then)
-  step_same looks grows same = record {
-    keeps = record { bag = ap bag_of looks.nodes; plain = ap is_plain looks.nodes; honest = looks.honest; entries = ap entry_count looks.nodes; failures = grows };
-    openings = looks.openings;
-    rest = looks.rest;
-    given = same;
-  }
+  pub step_same : OnlyLooks old new → old.failures + own ≤ new.failures + own_then → given_then ≡ given → IsSame (state_after old own given last) (state_after new own_then given_then last_then)
+  step_same looks grows same = record { keeps = tree_keeps looks.nodes looks.honest grows; openings = looks.openings; rest = looks.rest; given = same }
 
   -- a refused step left all, or a file of some first bytes
-  pub step_begun : (name bytes : List ℕ) → IsDisk old.nodes → IsDisk new.nodes → is_base_name name ≡ true → failures ≤ failures_then → given_then ≡ given → OnlyLooks old new ⊎ Begins old new name bytes
-      → IsSame (state_after old failures given last) (state_after new failures_then given_then last_then)
-      ⊎ HasBegun name bytes (state_after old failures given last) (state_after new failures_then given_then last_then)
+  pub step_begun : (name bytes : List ℕ) → IsDisk old.nodes → IsDisk new.nodes → is_base_name name ≡ true → old.failures + own ≤ new.failures + own_then → given_then ≡ given → OnlyLooks old new ⊎ Begins old new name bytes
+      → IsSame (state_after old own given last) (state_after new own_then given_then last_then)
+      ⊎ HasBegun name bytes (state_after old own given last) (state_after new own_then given_then last_then)
   step_begun name bytes disk disk_then is grows same (inl looks) = inl (step_same looks grows same)
   step_begun name bytes disk disk_then is grows same (inr begins) = inr (record {
     count = begins.count;
@@ -151,21 +152,40 @@ module _ (old new : DiskState) (failures failures_then given given_then : ℕ) (
     free = λ honest. free_not_taken old.nodes name is (begins.first.file honest).free;
   })
 
-one_grows : (failures : ℕ) → failures ≤ one_more_failure failures
-one_grows failures = elim (failures == last_count) as (λ b. failures ≤ cond b failures (failures + 1)) [
+one_grows : (own : ℕ) → own ≤ one_more_failure own
+one_grows own = elim (own == last_count) as (λ b. own ≤ cond b own (own + 1)) [
   | true ↦ omega arith
   | false ↦ omega arith
 ]
 
-pub kept_count : (before after : ℕ) → after ≡ before → before ≤ after
-kept_count before after same = omega (arith, same)
+pub kept_count : (before after own own_then : ℕ) → after ≡ before → own_then ≡ own → before + own ≤ after + own_then
+kept_count before after own own_then same own_same = omega (arith, same, own_same)
 
 -- a refusal forgets no failure
-pub count_grows : (refusal : Refusal) (failures : ℕ) → failures ≤ count_after refusal failures
-count_grows Device failures = one_grows failures
-count_grows Special failures = one_grows failures
-count_grows Name failures = one_grows failures
-count_grows NotFound failures = omega arith
-count_grows TooMany failures = omega arith
-count_grows Memory failures = omega arith
-count_grows Exists failures = omega arith
+pub count_grows : (r : Refusal) (before after own own_then : ℕ) → after ≡ failures_after r before → own_then ≡ count_after r own → before + own ≤ after + own_then
+count_grows r before after own own_then disk tree =
+    let one : before ≤ failures_after r before = disk_grows r in
+    let other : own ≤ count_after r own = own_grows r in
+    omega (arith, one, other, disk, tree)
+  where
+    disk_grows : (r : Refusal) → before ≤ failures_after r before
+    disk_grows Device = omega arith
+    disk_grows Special = omega arith
+    disk_grows Name = omega arith
+    disk_grows NotFound = omega arith
+    disk_grows TooMany = omega arith
+    disk_grows Memory = omega arith
+    disk_grows Exists = omega arith
+    disk_grows Contradicts = omega arith
+    disk_grows InTheWay = omega arith
+
+    own_grows : (r : Refusal) → own ≤ count_after r own
+    own_grows Device = omega arith
+    own_grows Special = one_grows own
+    own_grows Name = one_grows own
+    own_grows NotFound = omega arith
+    own_grows TooMany = omega arith
+    own_grows Memory = omega arith
+    own_grows Exists = omega arith
+    own_grows Contradicts = one_grows own
+    own_grows InTheWay = one_grows own

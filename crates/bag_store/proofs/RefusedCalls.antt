@@ -1,49 +1,170 @@
 -- How a tree answers what its disk refuses.
-use Rattle.std.proofs.Common.{◌≡◌, ℕ, ◌+◌, ◌<◌, ◌==◌, true, false, cond, IsTrue, sym, subst, arith}
+use Rattle.std.proofs.Common.{◌≡◌, ℕ, ◌+◌, ◌<◌, ◌==◌, true, false, cond, IsTrue, inl, inr, sym, subst, refl, arith}
 use Rattle.bag_tree.specs.Changes.{MayRefuseChange}
 use Rattle.bag_tree.specs.Tree.{TreeState, MayRefuse, most_entries}
 use Rattle.bag_tree.specs.declared.tree_fault.TreeFault.{TreeFault}
 use Rattle.bag_tree.specs.declared.tree_fault.TreeFault.TheVariants as fault
-use Rattle.bag_disk.specs.Refusal.{IsDue, IsDueInStep}
+use Rattle.bag_disk.specs.Disk.{DiskState}
+use Rattle.bag_disk.specs.Refusal.{MeetsSpecial, MeetsUnnamed, IsDue, IsDueInListing, IsDueInMove, IsDueInStep, failures_after}
 use Rattle.bag_disk.specs.declared.refusal.Refusal.{Refusal}
-use Rattle.bag_disk.specs.declared.refusal.Refusal.TheVariants.{Device, Special, Name, NotFound, TooMany, Memory, Exists}
+use Rattle.bag_disk.specs.declared.refusal.Refusal.TheVariants.{Device, Special, Name, NotFound, TooMany, Memory, Exists, Contradicts, InTheWay}
+use Rattle.bag_store.specs.FileTree.{Tells}
 use Rattle.bag_store.specs.Answered.{count_after, failure_or_memory, fault_of, last_count, one_more_failure}
 
 -- a failure is counted, or else answered by Memory
-counted : (answer : TreeFault → Type 0) (failure : TreeFault) (before after : ℕ) → answer fault.Memory → (before < after → answer failure) → after ≡ one_more_failure before → answer (failure_or_memory failure before)
-counted answer failure before after memory failed is = elim (before == last_count) as (λ b. after ≡ cond b before (before + 1) → answer (cond b fault.Memory failure)) [
+counted : (answer : TreeFault → Type 0) (failure : TreeFault) (own own_then : ℕ) → answer fault.Memory → (own < own_then → answer failure) → own_then ≡ one_more_failure own → answer (failure_or_memory failure own)
+counted answer failure own own_then memory failed is = elim (own == last_count) as (λ b. own_then ≡ cond b own (own + 1) → answer (cond b fault.Memory failure)) [
   | true ↦ λ _. memory
   | false ↦ λ more. failed (omega (arith, more))
 ] is
 
--- what answers a refusal that is due
-pub answered_so : (absent closed : Type 0) (old new : TreeState) (special unnamed gone many : Type 0) (r : Refusal) (answer : TreeFault) → answer ≡ fault_of r old.failures → new.failures ≡ count_after r old.failures
-    → (special → IsTrue old.honest → old.plain ≡ false) → (unnamed → IsTrue old.honest → old.plain ≡ false) → (gone → IsTrue old.honest → absent) → (many → IsTrue old.honest → most_entries < old.entries)
-    → IsDue special unnamed gone many r → MayRefuse absent closed old new answer
-answered_so absent closed old new special unnamed gone many r answer is count over wrong none full due =
-    subst (MayRefuse absent closed old new) (sym is) (answered r count due)
-  where
-    answered : (r : Refusal) → new.failures ≡ count_after r old.failures → IsDue special unnamed gone many r → MayRefuse absent closed old new (fault_of r old.failures)
-    answered Device count due = counted (MayRefuse absent closed old new) fault.Device old.failures new.failures tt (λ grew. grew) count
-    answered Special count due = counted (MayRefuse absent closed old new) fault.Special old.failures new.failures tt (λ grew. (grew, over due)) count
-    answered Name count due = counted (MayRefuse absent closed old new) fault.Name old.failures new.failures tt (λ grew. (grew, wrong due)) count
-    answered NotFound count due = none due
-    answered TooMany count due = full due
-    answered Memory count due = tt
-    answered Exists count due = absurd due
+-- how often a tree has failed, before and after a refusal: what its disk counted, and what it counted itself
+pub record Counts (old new : TreeState) (before after own own_then : ℕ) (r : Refusal) : Type 0 where
+  pub old_is : old.failures ≡ before + own
+  pub new_is : new.failures ≡ after + own_then
+  pub disk_is : after ≡ failures_after r before
+  pub own_is : own_then ≡ count_after r own
 
--- what answers a step's refusal that is due
-pub step_answered_so : (absent taken : Type 0) (old new : TreeState) (special gone there : Type 0) (r : Refusal) (answer : TreeFault) → answer ≡ fault_of r old.failures → new.failures ≡ count_after r old.failures
-    → (special → IsTrue old.honest → old.plain ≡ false) → (gone → IsTrue old.honest → absent) → (there → IsTrue old.honest → taken)
-    → IsDueInStep special gone there r → MayRefuseChange absent taken old new answer
-step_answered_so absent taken old new special gone there r answer is count over none blocked due =
-    subst (MayRefuseChange absent taken old new) (sym is) (answered r count due)
-  where
-    answered : (r : Refusal) → new.failures ≡ count_after r old.failures → IsDueInStep special gone there r → MayRefuseChange absent taken old new (fault_of r old.failures)
-    answered Device count due = counted (MayRefuseChange absent taken old new) fault.Device old.failures new.failures tt (λ grew. grew) count
-    answered Special count due = counted (MayRefuseChange absent taken old new) fault.Special old.failures new.failures tt (λ grew. (grew, over due)) count
-    answered Name count due = absurd due
-    answered NotFound count due = none due
-    answered TooMany count due = absurd due
-    answered Memory count due = tt
-    answered Exists count due = blocked due
+-- a failure that the tree counted itself makes its count rise
+own_rose : (old new : TreeState) (before after own own_then : ℕ) → old.failures ≡ before + own → new.failures ≡ after + own_then → after ≡ before → own < own_then → old.failures < new.failures
+own_rose old new before after own own_then old_is new_is same more = omega (arith, old_is, new_is, same, more)
+
+-- and so does one that its disk counted
+disk_rose : (old new : TreeState) (before after own own_then : ℕ) → old.failures ≡ before + own → new.failures ≡ after + own_then → after ≡ before + 1 → own_then ≡ own → old.failures < new.failures
+disk_rose old new before after own own_then old_is new_is more same = omega (arith, old_is, new_is, same, more)
+
+module _ (old new : TreeState) (before after own own_then : ℕ) where
+  -- what answers a refusal that is due
+  pub answered_so : (absent closed special unnamed gone many : Type 0) (r : Refusal) (answer : TreeFault) → Counts old new before after own own_then r → answer ≡ fault_of r own
+      → (special → IsTrue old.honest → old.plain ≡ false) → (unnamed → IsTrue old.honest → old.plain ≡ false) → (gone → IsTrue old.honest → absent) → (many → IsTrue old.honest → most_entries < old.entries)
+      → IsDue special unnamed gone many r → MayRefuse absent closed old new answer
+  answered_so absent closed special unnamed gone many r answer counts is over wrong none full due =
+      subst (MayRefuse absent closed old new) (sym is) (answered r counts due)
+    where
+      rose : after ≡ before → own < own_then → old.failures ≡ before + own → new.failures ≡ after + own_then → old.failures < new.failures
+      rose same more old_is new_is = own_rose old new before after own own_then old_is new_is same more
+
+      answered : (r : Refusal) → Counts old new before after own own_then r → IsDue special unnamed gone many r → MayRefuse absent closed old new (fault_of r own)
+      answered Device n due = disk_rose old new before after own own_then n.old_is n.new_is n.disk_is n.own_is
+      answered Special n due = counted (MayRefuse absent closed old new) fault.Special own own_then tt (λ more. (rose n.disk_is more n.old_is n.new_is, over due)) n.own_is
+      answered Name n due = counted (MayRefuse absent closed old new) fault.Name own own_then tt (λ more. (rose n.disk_is more n.old_is n.new_is, wrong due)) n.own_is
+      answered NotFound n due = none due
+      answered TooMany n due = full due
+      answered Memory n due = tt
+      answered Exists n due = absurd due
+      answered Contradicts n due = absurd due
+      answered InTheWay n due = absurd due
+
+  -- what answers a listing's refusal that is due
+  pub listing_answered_so : (special unnamed many contradiction : Type 0) (r : Refusal) (answer : TreeFault) → Counts old new before after own own_then r → answer ≡ fault_of r own
+      → (special → IsTrue old.honest → old.plain ≡ false) → (unnamed → IsTrue old.honest → old.plain ≡ false) → (many → IsTrue old.honest → most_entries < old.entries)
+      → IsDueInListing special unnamed many contradiction r → MayRefuse ⊥ ⊥ old new answer
+  listing_answered_so special unnamed many contradiction r answer counts is over wrong full due =
+      subst (MayRefuse ⊥ ⊥ old new) (sym is) (answered r counts due)
+    where
+      as_due : (r : Refusal) → Counts old new before after own own_then r → IsDue special unnamed ⊥ many r → MayRefuse ⊥ ⊥ old new (fault_of r own)
+      as_due r n due = answered_so ⊥ ⊥ special unnamed ⊥ many r (fault_of r own) n refl over wrong (λ never. absurd never) full due
+
+      answered : (r : Refusal) → Counts old new before after own own_then r → IsDueInListing special unnamed many contradiction r → MayRefuse ⊥ ⊥ old new (fault_of r own)
+      answered Device n due = as_due Device n due
+      answered Special n due = as_due Special n due
+      answered Name n due = as_due Name n due
+      answered NotFound n due = absurd due
+      answered TooMany n due = as_due TooMany n due
+      answered Memory n due = tt
+      answered Exists n due = absurd due
+      answered Contradicts n due = counted (MayRefuse ⊥ ⊥ old new) fault.Device own own_then tt (λ more. own_rose old new before after own own_then n.old_is n.new_is n.disk_is more) n.own_is
+      answered InTheWay n due = absurd due
+
+  -- what answers a step's refusal that is due
+  pub step_answered_so : (absent taken special gone there : Type 0) (r : Refusal) (answer : TreeFault) → Counts old new before after own own_then r → answer ≡ fault_of r own
+      → (special → IsTrue old.honest → old.plain ≡ false) → (gone → IsTrue old.honest → absent) → (there → IsTrue old.honest → taken)
+      → IsDueInStep special gone there r → MayRefuseChange absent taken old new answer
+  step_answered_so absent taken special gone there r answer counts is over none blocked due =
+      subst (MayRefuseChange absent taken old new) (sym is) (answered r counts due)
+    where
+      answered : (r : Refusal) → Counts old new before after own own_then r → IsDueInStep special gone there r → MayRefuseChange absent taken old new (fault_of r own)
+      answered Device n due = disk_rose old new before after own own_then n.old_is n.new_is n.disk_is n.own_is
+      answered Special n due = counted (MayRefuseChange absent taken old new) fault.Special own own_then tt
+          (λ more. (own_rose old new before after own own_then n.old_is n.new_is n.disk_is more, over due)) n.own_is
+      answered Name n due = absurd due
+      answered NotFound n due = none due
+      answered TooMany n due = absurd due
+      answered Memory n due = tt
+      answered Exists n due = blocked due
+      answered Contradicts n due = absurd due
+      answered InTheWay n due = absurd due
+
+  -- what answers a move's refusal that is due
+  pub move_answered_so : (absent taken special gone there folder : Type 0) (r : Refusal) (answer : TreeFault) → Counts old new before after own own_then r → answer ≡ fault_of r own
+      → (special → IsTrue old.honest → old.plain ≡ false) → (gone → IsTrue old.honest → absent) → (there → IsTrue old.honest → taken)
+      → IsDueInMove special gone there folder r → MayRefuseChange absent taken old new answer
+  move_answered_so absent taken special gone there folder r answer counts is over none blocked due =
+      subst (MayRefuseChange absent taken old new) (sym is) (answered r counts due)
+    where
+      as_step : (r : Refusal) → Counts old new before after own own_then r → IsDueInStep special gone there r → MayRefuseChange absent taken old new (fault_of r own)
+      as_step r n due = step_answered_so absent taken special gone there r (fault_of r own) n refl over none blocked due
+
+      answered : (r : Refusal) → Counts old new before after own own_then r → IsDueInMove special gone there folder r → MayRefuseChange absent taken old new (fault_of r own)
+      answered Device n due = as_step Device n due
+      answered Special n due = as_step Special n due
+      answered Name n due = as_step Name n due
+      answered NotFound n due = as_step NotFound n due
+      answered TooMany n due = as_step TooMany n due
+      answered Memory n due = as_step Memory n due
+      answered Exists n due = as_step Exists n due
+      answered Contradicts n due = as_step Contradicts n due
+      answered InTheWay n due = counted (MayRefuseChange absent taken old new) fault.Device own own_then tt (λ more. own_rose old new before after own own_then n.old_is n.new_is n.disk_is more) n.own_is
+
+-- what is told of a disk by a failure, or Memory in its place
+told_or_memory : (answer : TreeFault → Type 0) (failure : TreeFault) (own : ℕ) → answer fault.Memory → answer failure → answer (failure_or_memory failure own)
+told_or_memory answer failure own memory told = elim (own == last_count) as (λ b. answer (cond b fault.Memory failure)) [
+  | true ↦ memory
+  | false ↦ told
+]
+
+module _ (r : Refusal) (answer : TreeFault) (own : ℕ) (old new : DiskState) where
+  -- what the answer to a refusal tells of the disk
+  tells_for : (reason : Type 0) → answer ≡ fault_of r own → new.failures ≡ failures_after r old.failures → (r ≡ Special → MeetsSpecial old) → (r ≡ Name → MeetsUnnamed old) → (r ≡ Contradicts → reason) → (r ≡ InTheWay → reason)
+      → Tells reason old new answer
+  tells_for reason is counts special unnamed odd blocked = subst (Tells reason old new) (sym is) (told r counts special unnamed odd blocked)
+    where
+      told : (r : Refusal) → new.failures ≡ failures_after r old.failures → (r ≡ Special → MeetsSpecial old) → (r ≡ Name → MeetsUnnamed old) → (r ≡ Contradicts → reason) → (r ≡ InTheWay → reason) → Tells reason old new (fault_of r own)
+      told Device more special unnamed odd blocked = inl (omega (arith, more))
+      told Special same special unnamed odd blocked = told_or_memory (Tells reason old new) fault.Special own tt (special refl)
+      told Name same special unnamed odd blocked = told_or_memory (Tells reason old new) fault.Name own tt (unnamed refl)
+      told NotFound same special unnamed odd blocked = tt
+      told TooMany same special unnamed odd blocked = tt
+      told Memory same special unnamed odd blocked = tt
+      told Exists same special unnamed odd blocked = tt
+      told Contradicts same special unnamed odd blocked = told_or_memory (Tells reason old new) fault.Device own tt (inr (odd refl))
+      told InTheWay same special unnamed odd blocked = told_or_memory (Tells reason old new) fault.Device own tt (inr (blocked refl))
+
+  pub tells_due : (special unnamed gone many : Type 0) → answer ≡ fault_of r own → new.failures ≡ failures_after r old.failures → (special → MeetsSpecial old) → (unnamed → MeetsUnnamed old) → IsDue special unnamed gone many r → Tells ⊥ old new answer
+  tells_due special unnamed gone many is counts over wrong due = tells_for ⊥ is counts
+      (λ e. over (subst (IsDue special unnamed gone many) e due))
+      (λ e. wrong (subst (IsDue special unnamed gone many) e due))
+      (λ e. subst (IsDue special unnamed gone many) e due)
+      (λ e. subst (IsDue special unnamed gone many) e due)
+
+  pub tells_listing : (special unnamed many contradiction : Type 0) → answer ≡ fault_of r own → new.failures ≡ failures_after r old.failures → (special → MeetsSpecial old) → (unnamed → MeetsUnnamed old)
+      → IsDueInListing special unnamed many contradiction r → Tells contradiction old new answer
+  tells_listing special unnamed many contradiction is counts over wrong due = tells_for contradiction is counts
+      (λ e. over (subst (IsDueInListing special unnamed many contradiction) e due))
+      (λ e. wrong (subst (IsDueInListing special unnamed many contradiction) e due))
+      (λ e. subst (IsDueInListing special unnamed many contradiction) e due)
+      (λ e. absurd (subst (IsDueInListing special unnamed many contradiction) e due))
+
+  pub tells_step : (special gone there : Type 0) → answer ≡ fault_of r own → new.failures ≡ failures_after r old.failures → (special → MeetsSpecial old) → IsDueInStep special gone there r → Tells ⊥ old new answer
+  tells_step special gone there is counts over due = tells_for ⊥ is counts
+      (λ e. over (subst (IsDueInStep special gone there) e due))
+      (λ e. absurd (subst (IsDueInStep special gone there) e due))
+      (λ e. subst (IsDueInStep special gone there) e due)
+      (λ e. subst (IsDueInStep special gone there) e due)
+
+  pub tells_move : (special gone there folder : Type 0) → answer ≡ fault_of r own → new.failures ≡ failures_after r old.failures → (special → MeetsSpecial old) → IsDueInMove special gone there folder r → Tells folder old new answer
+  tells_move special gone there folder is counts over due = tells_for folder is counts
+      (λ e. over (subst (IsDueInMove special gone there folder) e due))
+      (λ e. absurd (subst (IsDueInMove special gone there folder) e due))
+      (λ e. absurd (subst (IsDueInMove special gone there folder) e due))
+      (λ e. subst (IsDueInMove special gone there folder) e due)

@@ -1,9 +1,9 @@
--- How a refusal of the disk is answered and counted.
+-- How a refusal is answered, and counted where the disk doesn't count it.
 use Rattle.std.specs.Prelude.{ℕ, ◌+◌, ◌==◌, if◌then◌else◌}
 use Rattle.bag_tree.specs.declared.tree_fault.TreeFault.{TreeFault}
 use Rattle.bag_tree.specs.declared.tree_fault.TreeFault.TheVariants as fault
 use Rattle.bag_disk.specs.declared.refusal.Refusal.{Refusal}
-use Rattle.bag_disk.specs.declared.refusal.Refusal.TheVariants.{Device, Special, Name, NotFound, TooMany, Memory, Exists}
+use Rattle.bag_disk.specs.declared.refusal.Refusal.TheVariants.{Device, Special, Name, NotFound, TooMany, Memory, Exists, Contradicts, InTheWay}
 
 -- the count that has no successor
 abbrev pub last_count : ℕ
@@ -16,22 +16,26 @@ failure_or_memory failure count = if count == last_count then fault.Memory else 
 abbrev pub one_more_failure : ℕ → ℕ
 one_more_failure count = if count == last_count then count else count + 1
 
--- the fault that answers a refusal, after so many failures
+-- the fault that answers a refusal, after so many failures that the disk didn't count
 abbrev pub fault_of : Refusal → ℕ → TreeFault
-fault_of Device count = failure_or_memory fault.Device count
+fault_of Device count = fault.Device
 fault_of Special count = failure_or_memory fault.Special count
 fault_of Name count = failure_or_memory fault.Name count
 fault_of NotFound count = fault.NotFound
 fault_of TooMany count = fault.TooMany
 fault_of Memory count = fault.Memory
 fault_of Exists count = fault.Exists
+fault_of Contradicts count = failure_or_memory fault.Device count
+fault_of InTheWay count = failure_or_memory fault.Device count
 
--- how many failures there are then
+-- how many of these failures there are then
 abbrev pub count_after : Refusal → ℕ → ℕ
-count_after Device count = one_more_failure count
+count_after Device count = count
 count_after Special count = one_more_failure count
 count_after Name count = one_more_failure count
 count_after NotFound count = count
 count_after TooMany count = count
 count_after Memory count = count
 count_after Exists count = count
+count_after Contradicts count = one_more_failure count
+count_after InTheWay count = one_more_failure count

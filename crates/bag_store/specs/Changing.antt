@@ -23,6 +23,10 @@ LacksFolder disk name = IsTrue disk.honest → lacks_folder (bag_of disk.nodes) 
 abbrev pub HasTarget : DiskState → List ℕ → List ℕ → Type 0
 HasTarget disk top folder = IsTrue disk.honest → has_within (bag_of disk.nodes) (under folder top) ≡ true
 
+-- a folder stands where something is to be moved to
+abbrev pub HasFolderInTheWay : DiskState → List ℕ → List ℕ → Type 0
+HasFolderInTheWay disk top folder = IsTrue disk.honest → node disk.nodes (under folder top) ≡ Some Folder
+
 -- of an honest disk, what had a name was moved into a folder that is there, where nothing stood
 pub record MovesInto (old new : Nodes) (top folder : List ℕ) : Type 0 where
   pub folder_is : node old folder ≡ Some Folder

@@ -1,31 +1,56 @@
 -- What a tree of the files on a disk means.
-use Rattle.std.specs.Prelude.{ℕ}
+use Rattle.std.specs.Prelude.{ℕ, ◌+◌, ◌<◌, ◌⊎◌}
 use Rattle.bag_tree.specs.Tree.{TreeState}
 use Rattle.bag_tree.specs.declared.answer.Answer.{Answer}
 use Rattle.bag_tree.specs.declared.answer.Answer.TheVariants.{Given}
+use Rattle.bag_tree.specs.declared.tree_fault.TreeFault.{TreeFault}
+use Rattle.bag_tree.specs.declared.tree_fault.TreeFault.TheVariants.{Device, Special, Name, NotFound, TooMany, Changed, NoneOpen, Memory, Exists}
 use Rattle.bag_store.specs.declared.file_tree.FileTree.{FileTree}
 use Rattle.bag_disk.specs.Disk.{DiskState, entry_count, is_plain}
 use Rattle.bag_disk.specs.DiskBag.{bag_of}
+use Rattle.bag_disk.specs.Refusal.{MeetsSpecial, MeetsUnnamed}
 
 -- the disk of a tree
 abbrev pub disk_of : {D : Type 0} → FileTree D → D
 disk_of tree = tree.disk
 
--- what a tree of the files on a disk means, after so many failures, where its reads of the open file have given so many
--- bytes, and its last call answered so
+-- what a tree of the files on a disk means, after so many failures beside those of the device, which the disk counts, where its
+-- reads of the open file have given so many bytes, and its last call answered so
 abbrev pub state_after : DiskState → ℕ → ℕ → Answer → TreeState
-state_after disk failures given last = record {
+state_after disk own given last = record {
   bag = bag_of disk.nodes;
   plain = is_plain disk.nodes;
   honest = disk.honest;
   entries = entry_count disk.nodes;
-  failures = failures;
+  failures = disk.failures + own;
   openings = disk.openings;
   rest = disk.rest;
   given = given;
   last = last;
 }
 
--- what a tree of the files on a disk means at which it hasn't looked yet, after so many failures
+-- what a tree of the files on a disk means at which it hasn't looked yet, after so many failures beside those of the device
 abbrev pub tree_state : DiskState → ℕ → TreeState
-tree_state disk failures = state_after disk failures 0 Given
+tree_state disk own = state_after disk own 0 Given
+
+-- what a tree means whose disk means this
+abbrev pub state_of : {D : Type 0} → (D → DiskState) → FileTree D → TreeState
+state_of state tree = state_after (state tree.disk) tree.answered.failures tree.answered.given tree.answered.last
+
+-- the device of a disk refused
+abbrev pub HasFailed : DiskState → DiskState → Type 0
+HasFailed old new = old.failures < new.failures
+
+-- What a tree's refusal tells of its disk, as it was before the call and after it: that its device refused in this call, that
+-- something stands there that is no file and no folder, or that something has a name that isn't UTF-8. `reason` says when the
+-- tree tells of a failure for itself.
+abbrev pub Tells : Type 0 → DiskState → DiskState → TreeFault → Type 0
+Tells reason old new Device = HasFailed old new ⊎ reason
+Tells reason old new Special = MeetsSpecial old
+Tells reason old new Name = MeetsUnnamed old
+Tells reason old new NotFound = Unit {0}
+Tells reason old new TooMany = Unit {0}
+Tells reason old new Changed = Unit {0}
+Tells reason old new NoneOpen = Unit {0}
+Tells reason old new Memory = Unit {0}
+Tells reason old new Exists = Unit {0}

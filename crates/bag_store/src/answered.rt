@@ -7,7 +7,8 @@ ghost use Rattle.bag_store.specs.Answered.{fault_of, count_after, failure_or_mem
 use bag_disk::Refusal;
 use bag_tree::{Answer, TreeFault};
 
-/// What a tree has answered: how often its device failed, how many bytes the open file gave, and the last answer.
+/// What a tree has answered: how often it failed over what its disk gave, how many bytes the open file gave, and the last
+/// answer. What the disk's device refused is counted by the disk.
 #[derive(Clone, Copy)]
 pub(crate) struct Answered {
     failures: u64,
@@ -27,13 +28,6 @@ impl Answered {
             given: 0,
             last: Answer::Given,
         }
-    }
-
-    /// How often the device failed.
-    pub(crate) fn failures(&self) -> u64
-        ensures { result ≡ self.now.failures }
-    {
-        self.failures
     }
 
     /// Notes that a call gave what was asked for.
@@ -75,8 +69,8 @@ impl Answered {
         count
     }
 
-    /// Notes a refusal, and gives the fault that answers it. A failure of the device is counted; where no more can be
-    /// counted, the fault is `Memory`.
+    /// Notes a refusal, and gives the fault that answers it. A failure that isn't the device's is counted; where no more can
+    /// be counted, the fault is `Memory`.
     pub(crate) fn refuse(&mut self, refusal: Refusal) -> TreeFault
         ensures fault { result ≡ fault_of refusal self.old.failures }
         ensures failures { self.new.failures ≡ count_after refusal self.old.failures }
@@ -98,20 +92,21 @@ impl Answered {
         fault
     }
 
-    /// The fault that answers a refusal, where a failure of the device is counted.
+    /// The fault that answers a refusal, where a failure that isn't the device's is counted.
     fn fault_of(&mut self, refusal: Refusal) -> TreeFault
         ensures fault { result ≡ fault_of refusal self.old.failures }
         ensures failures { self.new.failures ≡ count_after refusal self.old.failures }
         ensures given { self.new.given ≡ self.old.given }
     {
         match refusal {
-            Refusal::Device => self.failure(TreeFault::Device),
+            Refusal::Device => TreeFault::Device,
             Refusal::Special => self.failure(TreeFault::Special),
             Refusal::Name => self.failure(TreeFault::Name),
             Refusal::NotFound => TreeFault::NotFound,
             Refusal::TooMany => TreeFault::TooMany,
             Refusal::Memory => TreeFault::Memory,
             Refusal::Exists => TreeFault::Exists,
+            Refusal::Contradicts | Refusal::InTheWay => self.failure(TreeFault::Device),
         }
     }
 

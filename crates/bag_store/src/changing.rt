@@ -1,11 +1,12 @@
 //! The steps that change what stands below a base folder.
-ghost use Rattle.std.specs.Prelude.{◌≡◌, ◌≢◌, IfErr, IsTrue, None, OnErr, OnOk};
+ghost use Rattle.std.specs.Prelude.{◌≡◌, ◌≢◌, IfErr, IsTrue, None, OnErr, OnOk, ℕ};
 ghost use Rattle.bag_text.specs.Path.{is_base_name, under};
 ghost use Rattle.bag_tree.specs.Steps.{lacks_folder, lacks_source};
-ghost use Rattle.bag_disk.specs.Disk.{OnlyLooks};
+ghost use Rattle.bag_disk.specs.Disk.{Has, OnlyLooks};
 ghost use Rattle.bag_disk.specs.WritableDisk.{Closes, MakesFolder, Moves};
-ghost use Rattle.bag_store.specs.Changing.{HasTarget, IsRenamed, IsMovedIn, IsTaken, LacksFolder, LacksSource};
-ghost use Rattle.bag_disk.specs.Refusal.{IsDueInStep, MeetsSpecial};
+ghost use Rattle.bag_store.specs.Changing.{HasFolderInTheWay, HasTarget, IsRenamed, IsMovedIn, IsTaken, LacksFolder, LacksSource};
+ghost use Rattle.bag_disk.specs.Refusal.{IsCounted, IsDueInMove, IsDueInStep, MeetsSpecial, failures_after, of_making};
+ghost use Rattle.bag_disk.specs.declared.disk.DiskFault.TheVariants.{Exists};
 
 use crate::keeping::{BASE, keep_names, keep_with_base};
 use crate::standing::{Standing, check_free, check_taken, standing_at};
@@ -22,6 +23,7 @@ pub(crate) fn make_folder<D: WritableDisk>(disk: &mut D, name: &str) -> Result<(
     ensures closed { OnOk result (Closes (D.state disk.old) (D.state disk.new)) }
     ensures same { OnErr result (OnlyLooks (D.state disk.old) (D.state disk.new)) }
     ensures refused { IfErr result (IsDueInStep (MeetsSpecial (D.state disk.old)) ⊥ (IsTaken (D.state disk.old) name.now)) }
+    ensures failures { IsCounted result (D.state disk.old) (D.state disk.new) }
 {
     match keep_names(disk, BASE) {
         Ok(()) => {}
@@ -29,19 +31,26 @@ pub(crate) fn make_folder<D: WritableDisk>(disk: &mut D, name: &str) -> Result<(
     }
     match disk.make_folder(name) {
         Ok(()) => Ok(()),
-        Err(DiskFault::Exists) => Err(in_the_way(disk, name)),
-        Err(fault) => Err(Refusal::at_known(fault)),
+        Err(fault) => Err(not_made(disk, name, fault)),
     }
 }
 
-/// Why nothing can be made where the disk says that something stands.
-pub(crate) fn in_the_way<D: Disk>(disk: &D, name: &str) -> Refusal
-    requires { IsTrue (is_base_name name.now) }
-    ensures { IsDueInStep (MeetsSpecial (D.state disk.now)) ⊥ (IsTaken (D.state disk.now) name.now) result }
+/// Why nothing was made, where the disk refused so. What it says that stands there may be no file and no folder.
+pub(crate) fn not_made<D: Disk>(disk: &mut D, name: &str, fault: DiskFault) -> Refusal
+    requires name { IsTrue (is_base_name name.now) }
+    requires there { fault ≡ Exists → IsTrue (D.state disk.old).honest → Has (D.state disk.old).nodes name.now }
+    ensures looks { OnlyLooks (D.state disk.old) (D.state disk.new) }
+    ensures due { IsDueInStep (MeetsSpecial (D.state disk.old)) ⊥ (IsTaken (D.state disk.old) name.now) result }
+    ensures failures { (before : ℕ) → (D.state disk.old).failures ≡ failures_after (of_making fault) before
+        → (D.state disk.new).failures ≡ failures_after result before }
 {
-    match check_free(disk, name) {
-        Ok(()) => Refusal::Device,
-        Err(refusal) => refusal,
+    match fault {
+        DiskFault::Exists => match check_free(disk, name) {
+            Ok(()) => Refusal::Exists,
+            Err(refusal) => refusal,
+        },
+        DiskFault::NotFound | DiskFault::Name | DiskFault::Device => Refusal::Device,
+        DiskFault::Memory => Refusal::Memory,
     }
 }
 
@@ -57,8 +66,9 @@ pub(crate) fn move_in<D: WritableDisk>(
     ensures moved { OnOk result (IsMovedIn (D.state disk.old) (D.state disk.new) top.now folder.now) }
     ensures closed { OnOk result (Closes (D.state disk.old) (D.state disk.new)) }
     ensures same { OnErr result (OnlyLooks (D.state disk.old) (D.state disk.new)) }
-    ensures refused { IfErr result (IsDueInStep (MeetsSpecial (D.state disk.old))
-        (LacksSource (D.state disk.old) top.now folder.now) (HasTarget (D.state disk.old) top.now folder.now)) }
+    ensures refused { IfErr result (IsDueInMove (MeetsSpecial (D.state disk.old)) (LacksSource (D.state disk.old) top.now folder.now)
+        (HasTarget (D.state disk.old) top.now folder.now) (HasFolderInTheWay (D.state disk.old) top.now folder.now)) }
+    ensures failures { IsCounted result (D.state disk.old) (D.state disk.new) }
 {
     match check_is_folder(disk, folder) {
         Ok(()) => {}
@@ -95,6 +105,7 @@ pub(crate) fn rename_folder<D: WritableDisk>(
     ensures same { OnErr result (OnlyLooks (D.state disk.old) (D.state disk.new)) }
     ensures refused { IfErr result (IsDueInStep (MeetsSpecial (D.state disk.old))
         (LacksFolder (D.state disk.old) from.now) (IsTaken (D.state disk.old) to.now)) }
+    ensures failures { IsCounted result (D.state disk.old) (D.state disk.new) }
 {
     match check_is_folder(disk, from) {
         Ok(()) => {}

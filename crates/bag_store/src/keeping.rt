@@ -1,7 +1,7 @@
 //! The names that the device is asked to keep.
 ghost use Rattle.std.specs.Prelude.{◌≡◌, ◌==◌, ◌||◌, IfErr, IsTrue, OnOk, length};
 ghost use Rattle.bag_disk.specs.Disk.{OnlyLooks};
-ghost use Rattle.bag_disk.specs.Refusal.{IsDueInStep};
+ghost use Rattle.bag_disk.specs.Refusal.{IsCounted, IsDueInStep};
 
 use bag_disk::{Refusal, WritableDisk};
 
@@ -14,6 +14,7 @@ pub(crate) fn keep_names<D: WritableDisk>(disk: &mut D, folder: &str) -> Result<
     ensures same_file { D.written disk.new ≡ D.written disk.old }
     ensures kept { OnOk result (D.is_kept disk.new ≡ (length folder.now == 0 || D.is_kept disk.old)) }
     ensures refused { IfErr result (IsDueInStep ⊥ ⊥ ⊥) }
+    ensures failures { IsCounted result (D.state disk.old) (D.state disk.new) }
 {
     match disk.sync_folder(folder) {
         Ok(()) => Ok(()),
@@ -26,6 +27,7 @@ pub(crate) fn keep_with_base<D: WritableDisk>(disk: &mut D, folder: &str) -> Res
     ensures looks { OnlyLooks (D.state disk.old) (D.state disk.new) }
     ensures kept { OnOk result (IsTrue (D.is_kept disk.new)) }
     ensures refused { IfErr result (IsDueInStep ⊥ ⊥ ⊥) }
+    ensures failures { IsCounted result (D.state disk.old) (D.state disk.new) }
 {
     match keep_names(disk, folder) {
         Ok(()) => keep_names(disk, BASE),

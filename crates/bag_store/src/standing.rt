@@ -2,10 +2,10 @@
 ghost use Rattle.std.specs.Prelude.{◌≡◌, IfErr, IfOk, IsTrue, None, OnOk, false};
 ghost use Rattle.bag_text.specs.Path.{is_base_name, is_path};
 ghost use Rattle.bag_tree.specs.Steps.{is_taken};
-ghost use Rattle.bag_disk.specs.Disk.{HasSpecial, IsReached, node};
+ghost use Rattle.bag_disk.specs.Disk.{HasSpecial, IsReached, OnlyLooks, node};
 ghost use Rattle.bag_store.specs.Changing.{IsTaken};
 ghost use Rattle.bag_disk.specs.DiskBag.{bag_of};
-ghost use Rattle.bag_disk.specs.Refusal.{IsDue, IsDueInStep, MeetsSpecial};
+ghost use Rattle.bag_disk.specs.Refusal.{IsCounted, IsDue, IsDueInStep, MeetsSpecial};
 ghost use Rattle.bag_store.specs.Standing.{IsStanding};
 
 use bag_disk::{Disk, DiskFault, Entry, Refusal};
@@ -18,27 +18,34 @@ pub(crate) enum Standing {
 }
 
 /// What stands at a path. What is no file and no folder is `Special`, and no link is followed.
-pub(crate) fn standing_at<D: Disk>(disk: &D, path: &str) -> Result<Option<Standing>, Refusal>
+pub(crate) fn standing_at<D: Disk>(disk: &mut D, path: &str) -> Result<Option<Standing>, Refusal>
     requires { IsTrue (is_path path.now) }
-    ensures found { IfOk result (λ standing. IsTrue (D.state disk.now).honest → IsReached (D.state disk.now).nodes path.now
-        → IsStanding (D.state disk.now).nodes path.now standing) }
-    ensures refused { IfErr result (IsDue (IsTrue (D.state disk.now).honest → IsReached (D.state disk.now).nodes path.now
-        → HasSpecial (D.state disk.now).nodes) ⊥ ⊥ ⊥) }
+    ensures looks { OnlyLooks (D.state disk.old) (D.state disk.new) }
+    ensures found { IfOk result (λ standing. IsTrue (D.state disk.old).honest → IsReached (D.state disk.old).nodes path.now
+        → IsStanding (D.state disk.old).nodes path.now standing) }
+    ensures refused { IfErr result (IsDue (IsTrue (D.state disk.old).honest → IsReached (D.state disk.old).nodes path.now
+        → HasSpecial (D.state disk.old).nodes) ⊥ ⊥ ⊥) }
+    ensures failures { IsCounted result (D.state disk.old) (D.state disk.new) }
 {
     match disk.entry_at(path) {
         Ok(Entry::File(_)) => Ok(Some(Standing::File)),
         Ok(Entry::Folder) => Ok(Some(Standing::Folder)),
         Ok(Entry::Other) => Err(Refusal::Special),
         Err(DiskFault::NotFound) => Ok(None),
-        Err(fault) => Err(Refusal::at_known(fault)),
+        Err(DiskFault::Memory) => Err(Refusal::Memory),
+        Err(DiskFault::Exists) | Err(DiskFault::Name) | Err(DiskFault::Device) => {
+            Err(Refusal::Device)
+        }
     }
 }
 
 /// Refuses a name of the base folder that something has.
-pub(crate) fn check_free<D: Disk>(disk: &D, name: &str) -> Result<(), Refusal>
+pub(crate) fn check_free<D: Disk>(disk: &mut D, name: &str) -> Result<(), Refusal>
     requires { IsTrue (is_base_name name.now) }
-    ensures free { OnOk result (IsTrue (D.state disk.now).honest → node (D.state disk.now).nodes name.now ≡ None) }
-    ensures refused { IfErr result (IsDueInStep (MeetsSpecial (D.state disk.now)) ⊥ (IsTaken (D.state disk.now) name.now)) }
+    ensures looks { OnlyLooks (D.state disk.old) (D.state disk.new) }
+    ensures free { OnOk result (IsTrue (D.state disk.old).honest → node (D.state disk.old).nodes name.now ≡ None) }
+    ensures refused { IfErr result (IsDueInStep (MeetsSpecial (D.state disk.old)) ⊥ (IsTaken (D.state disk.old) name.now)) }
+    ensures failures { IsCounted result (D.state disk.old) (D.state disk.new) }
 {
     match standing_at(disk, name) {
         Ok(None) => Ok(()),
@@ -48,11 +55,13 @@ pub(crate) fn check_free<D: Disk>(disk: &D, name: &str) -> Result<(), Refusal>
 }
 
 /// Refuses a name of the base folder that nothing has.
-pub(crate) fn check_taken<D: Disk>(disk: &D, name: &str) -> Result<(), Refusal>
+pub(crate) fn check_taken<D: Disk>(disk: &mut D, name: &str) -> Result<(), Refusal>
     requires { IsTrue (is_base_name name.now) }
-    ensures taken { OnOk result (IsTaken (D.state disk.now) name.now) }
-    ensures refused { IfErr result (IsDue (MeetsSpecial (D.state disk.now)) ⊥
-        (IsTrue (D.state disk.now).honest → is_taken (bag_of (D.state disk.now).nodes) name.now ≡ false) ⊥) }
+    ensures looks { OnlyLooks (D.state disk.old) (D.state disk.new) }
+    ensures taken { OnOk result (IsTaken (D.state disk.old) name.now) }
+    ensures refused { IfErr result (IsDue (MeetsSpecial (D.state disk.old)) ⊥
+        (IsTrue (D.state disk.old).honest → is_taken (bag_of (D.state disk.old).nodes) name.now ≡ false) ⊥) }
+    ensures failures { IsCounted result (D.state disk.old) (D.state disk.new) }
 {
     match standing_at(disk, name) {
         Ok(None) => Err(Refusal::NotFound),

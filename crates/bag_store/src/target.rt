@@ -4,29 +4,37 @@ ghost use Rattle.bag_tree.specs.Moved as moving;
 ghost use Rattle.bag_tree.specs.Steps as step;
 ghost use Rattle.bag_disk.specs.Disk.{OnlyLooks};
 ghost use Rattle.bag_disk.specs.DiskBag.{bag_of};
-ghost use Rattle.bag_disk.specs.Refusal.{IsDueInStep};
+ghost use Rattle.bag_disk.specs.Refusal.{IsDueInMove, failures_after};
 
 use bag_disk::{Disk, Refusal, list_below};
 use bag_tree::{FileEntry, rest_within};
 use std::alloc::Global;
 
-/// Why nothing can be moved to where a folder stands: a file is in it, or it might be replaced. The files below the base
-/// folder are listed for that.
+/// Why nothing can be moved to where a folder stands: a file is in it, or none was found and it might be replaced. The files below
+/// the base folder are listed for that.
 pub(crate) fn folder_in_the_way<D: Disk>(disk: &mut D, alloc: Global, folder: &str) -> Refusal
     ensures looks { OnlyLooks (D.state disk.old) (D.state disk.new) }
-    ensures refused { IsDueInStep ⊥ ⊥ (IsTrue (D.state disk.old).honest
-        → step.has_within (bag_of (D.state disk.old).nodes) folder.now ≡ true) result }
+    ensures refused { IsDueInMove ⊥ ⊥ (IsTrue (D.state disk.old).honest
+        → step.has_within (bag_of (D.state disk.old).nodes) folder.now ≡ true) (Unit {0}) result }
+    ensures failures { (D.state disk.new).failures ≡ failures_after result (D.state disk.old).failures }
 {
     match list_below(disk, alloc) {
         Ok(listing) => {
             if has_within(listing.files.as_slice(), folder) {
                 Refusal::Exists
             } else {
-                Refusal::Device
+                Refusal::InTheWay
             }
         }
+        Err(Refusal::Device) => Refusal::Device,
         Err(Refusal::Memory) => Refusal::Memory,
-        Err(_) => Refusal::Device,
+        Err(Refusal::Special)
+        | Err(Refusal::Name)
+        | Err(Refusal::NotFound)
+        | Err(Refusal::TooMany)
+        | Err(Refusal::Exists)
+        | Err(Refusal::Contradicts)
+        | Err(Refusal::InTheWay) => Refusal::InTheWay,
     }
 }
 

@@ -3,12 +3,12 @@ ghost use Rattle.std.specs.Prelude.{◌≡◌, ◌⊎◌, IfErr, IsTrue, None, O
 ghost use Rattle.bag_text.specs.Path.{is_base_name};
 ghost use Rattle.bag_disk.specs.Disk.{OnlyLooks};
 ghost use Rattle.bag_store.specs.Changing.{IsTaken};
-ghost use Rattle.bag_disk.specs.Refusal.{IsDueInStep, MeetsSpecial};
+ghost use Rattle.bag_disk.specs.Refusal.{IsCounted, IsDueInStep, MeetsSpecial};
 ghost use Rattle.bag_store.specs.Writing.{Begins, HasWritten, HasWrittenSome, Makes};
 
-use crate::changing::in_the_way;
+use crate::changing::not_made;
 use crate::keeping::{BASE, keep_names};
-use bag_disk::{Disk, DiskFault, Refusal, WritableDisk};
+use bag_disk::{Disk, Refusal, WritableDisk};
 
 /// Makes a file in the base folder, where nothing has its name, and has the device keep it and all names in the base folder.
 pub(crate) fn create<D: WritableDisk>(disk: &mut D, name: &str, bytes: &[u8]) -> Result<(), Refusal>
@@ -19,11 +19,11 @@ pub(crate) fn create<D: WritableDisk>(disk: &mut D, name: &str, bytes: &[u8]) ->
     ensures begun { OnErr result (OnlyLooks (D.state disk.old) (D.state disk.new)
         ⊎ Begins (D.state disk.old) (D.state disk.new) name.now bytes.now) }
     ensures refused { IfErr result (IsDueInStep (MeetsSpecial (D.state disk.old)) ⊥ (IsTaken (D.state disk.old) name.now)) }
+    ensures failures { IsCounted result (D.state disk.old) (D.state disk.new) }
 {
     match disk.create(name) {
         Ok(()) => fill(disk, bytes),
-        Err(DiskFault::Exists) => Err(in_the_way(disk, name)),
-        Err(fault) => Err(Refusal::at_known(fault)),
+        Err(fault) => Err(not_made(disk, name, fault)),
     }
 }
 
@@ -35,6 +35,7 @@ fn fill<D: WritableDisk>(disk: &mut D, bytes: &[u8]) -> Result<(), Refusal>
     ensures names_kept { OnOk result (IsTrue (D.is_kept disk.new)) }
     ensures part { OnErr result (HasWrittenSome (D.state disk.old) (D.state disk.new) (D.written disk.old) bytes.now) }
     ensures refused { IfErr result (IsDueInStep ⊥ ⊥ ⊥) }
+    ensures failures { IsCounted result (D.state disk.old) (D.state disk.new) }
 {
     match write_all(disk, bytes) {
         Ok(()) => {}
@@ -53,11 +54,11 @@ fn write_all<D: WritableDisk>(disk: &mut D, bytes: &[u8]) -> Result<(), Refusal>
     ensures same_file { D.written disk.new ≡ D.written disk.old }
     ensures part { OnErr result (HasWrittenSome (D.state disk.old) (D.state disk.new) (D.written disk.old) bytes.now) }
     ensures refused { IfErr result (IsDueInStep ⊥ ⊥ ⊥) }
+    ensures failures { IsCounted result (D.state disk.old) (D.state disk.new) }
 {
     let mut done = 0;
     while done < bytes.len() {
         match disk.write(&bytes[done..]) {
-            Ok(0) => return Err(Refusal::Device),
             Ok(count) => done += count,
             Err(fault) => return Err(Refusal::at_known(fault)),
         }

@@ -86,7 +86,7 @@ pub(crate) struct Refusing<'a, D> {
 impl<'a, D: Disks> Disks for Refusing<'a, D> {
     type Disk = RefusingDisk<D::Disk>;
 
-    ghost below = { λ these base. refusing (D.below these.disks.now base) these.fault };
+    ghost below = { λ these base. refusing (D.below these.disks.now base) these.fault 0 };
 
     ghost file = { λ these. D.file these.disks.now };
 

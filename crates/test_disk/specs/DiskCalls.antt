@@ -1,9 +1,11 @@
 -- What a call of a disk makes of what the disk means, and what it answers: of each call the clauses of `Disk` and `WritableDisk`.
-use Rattle.std.specs.Prelude.{◌≡◌, ◌≤◌, ◌==◌, ◌||◌, ◌∷◌, ◌++◌, [], Bool, false, ℕ, List, Option, None, Some, is_some, IfOk, IsErrOf, IsTrue, MatchOption, MatchResult, OnErr, OnOk, Result, length, take}
+use Rattle.std.specs.Prelude.{◌≡◌, ◌<◌, ◌≤◌, ◌==◌, ◌||◌, ◌∷◌, ◌++◌, [], Bool, false, ℕ, List, Option, None, Some, is_some, IfOk, IsErrOf, IsTrue, MatchOption, MatchResult, OnErr, OnOk, Result, length, take, ⊤}
 use Rattle.std.specs.Option.{option_map}
 use Rattle.bag_tree.specs.Moved.{KeepsOthers}
 use Rattle.bag_tree.specs.Tree.{ReadsNext}
 use Rattle.bag_disk.specs.Disk.{AreNamesIn, DiskState, Has, HasUnnamed, IsFileWith, IsFolder, IsReached, OnlyLooks, SameDisk, entry_of, node}
+use Rattle.bag_text.specs.Path.{is_path}
+use Rattle.bag_disk.specs.Refusal.{IsCountedAs, at_known, of_making, of_name, of_path}
 use Rattle.bag_disk.specs.WritableDisk.{Appends, Closes, HasFile, MakesFile, MakesFolder, Moves}
 use Rattle.bag_disk.specs.declared.disk.Entry.{Entry}
 use Rattle.bag_disk.specs.declared.disk.DiskFault.{DiskFault}
@@ -14,22 +16,36 @@ pub record ClosesFile (old new : DiskState) : Type 0 where
   pub same : SameDisk old new
   pub openings : new.openings ≡ old.openings
   pub closed : new.rest ≡ None
+  pub failures : new.failures ≡ old.failures
 
 -- what a look at a path does
-pub record LooksAt (state : DiskState) (path : List ℕ) (answer : Result Entry DiskFault) : Type 0 where
-  pub found : IfOk answer (λ entry. IsTrue state.honest → IsReached state.nodes path → option_map entry_of (node state.nodes path) ≡ Some entry)
-  pub absent : IsErrOf answer NotFound → IsTrue state.honest → IsReached state.nodes path → node state.nodes path ≡ None
+pub record LooksAt (old new : DiskState) (path : List ℕ) (answer : Result Entry DiskFault) : Type 0 where
+  pub looks : OnlyLooks old new
+  pub names : new.names ≡ old.names
+  pub found : IfOk answer (λ entry. IsTrue old.honest → IsReached old.nodes path → option_map entry_of (node old.nodes path) ≡ Some entry)
+  pub absent : IsErrOf answer NotFound → IsTrue old.honest → IsReached old.nodes path → node old.nodes path ≡ None
+  pub failures : IsCountedAs of_path answer old.failures new.failures
+
+-- what a look at what was named does
+pub record LooksAtNamed (old new : DiskState) (path : List ℕ) (answer : Result Entry DiskFault) : Type 0 where
+  pub looks : OnlyLooks old new
+  pub names : new.names ≡ old.names
+  pub found : IfOk answer (λ entry. IsTrue old.honest → IsReached old.nodes path → option_map entry_of (node old.nodes path) ≡ Some entry)
+  pub failures : IsCountedAs at_known answer old.failures new.failures
 
 -- what entering a folder does
 pub record Enters (old new : DiskState) (folder : List ℕ) (answer : Result (Unit {0}) DiskFault) : Type 0 where
   pub looks : OnlyLooks old new
   pub honest : OnOk answer (IsTrue old.honest → IsFolder old.nodes folder → AreNamesIn old.nodes folder new.names)
+  pub failures : IsCountedAs at_known answer old.failures new.failures
 
 -- what the next name of the folder that was entered does
 pub record NamesNext (old new : DiskState) (answer : Result (Option (List ℕ)) DiskFault) : Type 0 where
   pub looks : OnlyLooks old new
   pub unnamed : IsErrOf answer Name → IsTrue old.honest → HasUnnamed old.names
   pub honest : IfOk answer (λ next. IsTrue old.honest → MatchOption next (old.names ≡ []) (λ name. old.names ≡ name ∷ new.names))
+  pub path : IfOk answer (λ next. MatchOption next ⊤ (λ name. IsTrue (is_path name)))
+  pub failures : IsCountedAs of_name answer old.failures new.failures
 
 -- what opening a file does
 pub record Opens (old new : DiskState) (path : List ℕ) (answer : Result (Unit {0}) DiskFault) : Type 0 where
@@ -40,6 +56,7 @@ pub record Opens (old new : DiskState) (path : List ℕ) (answer : Result (Unit 
   pub absent : IsErrOf answer NotFound → IsTrue old.honest → IsReached old.nodes path → node old.nodes path ≡ None
   pub closed : OnErr answer (new.rest ≡ None)
   pub not_opened : OnErr answer (new.openings ≡ old.openings)
+  pub failures : IsCountedAs of_path answer old.failures new.failures
 
 -- what a read with room for so many bytes does
 pub record Reads (old new : DiskState) (room : ℕ) (buffer : List ℕ) (answer : Result ℕ DiskFault) : Type 0 where
@@ -49,6 +66,7 @@ pub record Reads (old new : DiskState) (room : ℕ) (buffer : List ℕ) (answer 
   pub within : IfOk answer (λ n. n ≤ room)
   pub honest : IfOk answer (λ n. IsTrue old.honest → ReadsNext old.rest new.rest n buffer)
   pub unread : OnErr answer (new.rest ≡ old.rest)
+  pub failures : IsCountedAs at_known answer old.failures new.failures
 
 -- what making a folder does
 pub record MakesFolderAt (old new : DiskState) (written written_then : Option (List ℕ)) (kept_before kept_then : Bool) (path : List ℕ) (answer : Result (Unit {0}) DiskFault) : Type 0 where
@@ -60,6 +78,7 @@ pub record MakesFolderAt (old new : DiskState) (written written_then : Option (L
   pub same : OnErr answer (OnlyLooks old new)
   pub unkept : MatchResult answer (λ _. kept_then ≡ false) (λ _. kept_then ≡ kept_before)
   pub same_file : OnErr answer (written_then ≡ written)
+  pub failures : IsCountedAs of_making answer old.failures new.failures
 
 -- what a move does
 pub record Renames (old new : DiskState) (written written_then : Option (List ℕ)) (kept_before kept_then : Bool) (from to : List ℕ) (answer : Result (Unit {0}) DiskFault) : Type 0 where
@@ -72,6 +91,7 @@ pub record Renames (old new : DiskState) (written written_then : Option (List �
   pub same : OnErr answer (OnlyLooks old new)
   pub unkept : MatchResult answer (λ _. kept_then ≡ false) (λ _. kept_then ≡ kept_before)
   pub same_file : OnErr answer (written_then ≡ written)
+  pub failures : IsCountedAs at_known answer old.failures new.failures
 
 -- what making a file does
 pub record Creates (old new : DiskState) (written written_then : Option (List ℕ)) (kept_before kept_then : Bool) (path : List ℕ) (answer : Result (Unit {0}) DiskFault) : Type 0 where
@@ -84,6 +104,7 @@ pub record Creates (old new : DiskState) (written written_then : Option (List �
   pub same : OnErr answer (OnlyLooks old new)
   pub unkept : MatchResult answer (λ _. kept_then ≡ false) (λ _. kept_then ≡ kept_before)
   pub same_file : OnErr answer (written_then ≡ written)
+  pub failures : IsCountedAs of_making answer old.failures new.failures
 
 -- what writing bytes does
 pub record Writes (old new : DiskState) (written written_then : Option (List ℕ)) (kept_before kept_then : Bool) (bytes : List ℕ) (answer : Result ℕ DiskFault) : Type 0 where
@@ -96,6 +117,8 @@ pub record Writes (old new : DiskState) (written written_then : Option (List ℕ
   pub same : OnErr answer (OnlyLooks old new)
   pub same_file : written_then ≡ written
   pub same_names : kept_then ≡ kept_before
+  pub some : IfOk answer (λ n. 0 < length bytes → 0 < n)
+  pub failures : IsCountedAs at_known answer old.failures new.failures
 
 -- what having the file kept does
 pub record Syncs (old new : DiskState) (written written_then : Option (List ℕ)) (kept_before kept_then : Bool) (answer : Result (Unit {0}) DiskFault) : Type 0 where
@@ -108,6 +131,7 @@ pub record Syncs (old new : DiskState) (written written_then : Option (List ℕ)
   pub same : OnErr answer (OnlyLooks old new)
   pub same_file : OnErr answer (written_then ≡ written)
   pub same_names : kept_then ≡ kept_before
+  pub failures : IsCountedAs at_known answer old.failures new.failures
 
 -- what having the names in a folder kept does
 pub record SyncsFolder (old new : DiskState) (written written_then : Option (List ℕ)) (kept_before kept_then : Bool) (folder : List ℕ) (answer : Result (Unit {0}) DiskFault) : Type 0 where
@@ -117,3 +141,4 @@ pub record SyncsFolder (old new : DiskState) (written written_then : Option (Lis
   pub taken : IsErrOf answer Exists → IsTrue old.honest → ⊥
   pub absent : IsErrOf answer NotFound → IsTrue old.honest → IsFolder old.nodes folder → ⊥
   pub unnamed : IsErrOf answer Name → IsTrue old.honest → ⊥
+  pub failures : IsCountedAs at_known answer old.failures new.failures

@@ -12,11 +12,18 @@ use Rattle.test_disk.specs.declared.memory_disk.Swap.{Swap}
 
 -- an honest disk with nothing opened or entered
 abbrev pub fresh : Nodes → DiskState
-fresh nodes = record { nodes = nodes; honest = true; openings = []; rest = None; names = [] }
+fresh nodes = record { nodes = nodes; honest = true; openings = []; rest = None; names = []; failures = 0 }
 
 -- the same, and no more honest
 abbrev pub not_honest : DiskState → DiskState
-not_honest state = record { nodes = state.nodes; honest = false; openings = state.openings; rest = state.rest; names = state.names }
+not_honest state = record {
+  nodes = state.nodes;
+  honest = false;
+  openings = state.openings;
+  rest = state.rest;
+  names = state.names;
+  failures = state.failures;
+}
 
 -- nothing is swapped
 abbrev pub is_as_listed : Option Swap → Bool
@@ -31,6 +38,7 @@ state_of disk = record {
   openings = disk.openings;
   rest = option_map (drop disk.at) disk.open;
   names = drop disk.named disk.names;
+  failures = disk.failures.count;
 }
 
 -- the path of the file that is being written

@@ -1,5 +1,5 @@
 -- Which call of a disk is refused.
-use Rattle.std.specs.Prelude.{ℕ, suc, zero, ◌&&◌, Bool, true, false, List, bytes_eq}
+use Rattle.std.specs.Prelude.{ℕ, ◌+◌, suc, zero, ◌&&◌, Bool, true, false, List, bytes_eq}
 use Rattle.bag_disk.specs.Disk.{DiskState}
 use Rattle.bag_disk.specs.declared.disk.DiskFault.{DiskFault}
 use Rattle.bag_disk.specs.declared.disk.DiskFault.TheVariants.{NotFound, Exists, Name, Memory, Device}
@@ -14,14 +14,15 @@ tells_nothing Name = false
 tells_nothing Memory = true
 tells_nothing Device = true
 
--- what a disk means of which one call is refused by a fault
-abbrev pub refusing : DiskState → DiskFault → DiskState
-refusing state fault = record {
+-- what a disk means of which one call is refused by a fault, when so many failures were its own
+abbrev pub refusing : DiskState → DiskFault → ℕ → DiskState
+refusing state fault own = record {
   nodes = state.nodes;
   honest = state.honest && tells_nothing fault;
   openings = state.openings;
   rest = state.rest;
   names = state.names;
+  failures = state.failures + own;
 }
 
 -- the next numbered call is the refused one

@@ -1,4 +1,5 @@
 -- A disk of which one call is refused.
+use Rattle.std.specs.Prelude.{ℕ}
 use Rattle.bag_disk.specs.declared.disk.DiskFault.{DiskFault}
 use Rattle.test_disk.specs.declared.refusing_disk.Call.{Call}
 use Rattle.test_disk.specs.declared.refusing_disk.RefusingDisk.{RefusingDisk}
@@ -12,3 +13,7 @@ call_of disk = disk.call
 
 abbrev pub fault_of : {D : Type 0} → RefusingDisk D → DiskFault
 fault_of disk = disk.fault
+
+-- how often it refused itself, where that is the device's refusal
+abbrev pub own_of : {D : Type 0} → RefusingDisk D → ℕ
+own_of disk = disk.failures.count

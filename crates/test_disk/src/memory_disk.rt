@@ -6,7 +6,7 @@ use crate::changing::{add_node, append, moved_to};
 use crate::held::{Node, is_folder, names_in, node_at};
 use crate::placing::are_placed;
 use crate::reading::read_at;
-use bag_disk::{Disk, DiskFault, Entry, WritableDisk};
+use bag_disk::{Disk, DiskFault, Entry, Failures, Refusal, WritableDisk};
 use bag_text::{Items, Text};
 use std::alloc::{AllocError, Global};
 use std::collections::BTreeMap;
@@ -50,6 +50,7 @@ pub struct MemoryDisk {
     written: Option<Text>,
     /// Whether the device was asked to keep the names in the base folder as they are.
     is_kept: bool,
+    failures: Failures,
     ghost passes: { PassesAsDisk (nodes_of nodes.entries) },
 }
 
@@ -95,6 +96,7 @@ impl MemoryDisk {
             named: 0,
             written: None,
             is_kept: false,
+            failures: Failures::none(),
         }
     }
 
@@ -171,11 +173,12 @@ impl MemoryDisk {
 }
 
 impl Disk for MemoryDisk {
-    ghost use Rattle.std.specs.Prelude.{◌≡◌, ◌<◌, ◌≤◌, ◌++◌, ◌∷◌, [], IfErr, IfOk, IsErrOf, IsTrue, List, MatchOption, None, OnErr, OnOk, Some, is_some, length, ℕ};
+    ghost use Rattle.std.specs.Prelude.{◌≡◌, ◌<◌, ◌≤◌, ◌++◌, ◌∷◌, [], IfErr, IfOk, IsErrOf, IsTrue, List, MatchOption, None, OnErr, OnOk, Some, is_some, length, ℕ, ⊤};
     ghost use Rattle.std.specs.Option.{option_map};
     ghost use Rattle.bag_text.specs.Path.{is_path};
     ghost use Rattle.bag_tree.specs.Tree.{ReadsNext};
     ghost use Rattle.bag_disk.specs.Disk.{AreNamesIn, HasUnnamed, IsFileWith, IsFolder, IsReached, OnlyLooks, SameDisk, entry_of, node};
+    ghost use Rattle.bag_disk.specs.Refusal.{IsCountedAs, at_known, of_name, of_path};
     ghost use Rattle.bag_disk.specs.declared.disk.DiskFault.TheVariants.{Memory, Name, NotFound};
     ghost use Rattle.test_disk.specs.MemoryDisk.{IsEntry, MayRefuse, barred_of, content_of, is_barred, state_of};
     ghost use Rattle.test_disk.specs.PlacingLaw.{passing_is_disk};
@@ -184,12 +187,16 @@ impl Disk for MemoryDisk {
 
     ghost is_disk = { λ disk. passing_is_disk (nodes_of disk.nodes.entries) disk.passes };
 
-    fn entry_at(&self, path: &str) -> Result<Entry, DiskFault>
-        ensures found { IfOk result (λ entry. IsTrue (state_of self.now).honest → IsReached (state_of self.now).nodes path.now
-            → option_map entry_of (node (state_of self.now).nodes path.now) ≡ Some entry) }
-        ensures absent { IsErrOf result NotFound → IsTrue (state_of self.now).honest → IsReached (state_of self.now).nodes path.now
-            → node (state_of self.now).nodes path.now ≡ None }
-        ensures exact { IsEntry (node (state_of self.now).nodes path.now) result }
+    fn entry_at(&mut self, path: &str) -> Result<Entry, DiskFault>
+        ensures looks { OnlyLooks (state_of self.old) (state_of self.new) }
+        ensures names { (state_of self.new).names ≡ (state_of self.old).names }
+        ensures found { IfOk result (λ entry. IsTrue (state_of self.old).honest → IsReached (state_of self.old).nodes path.now
+            → option_map entry_of (node (state_of self.old).nodes path.now) ≡ Some entry) }
+        ensures absent { IsErrOf result NotFound → IsTrue (state_of self.old).honest → IsReached (state_of self.old).nodes path.now
+            → node (state_of self.old).nodes path.now ≡ None }
+        ensures failures { IsCountedAs of_path result (state_of self.old).failures (state_of self.new).failures }
+        ensures barred { barred_of self.new ≡ barred_of self.old }
+        ensures exact { IsEntry (node (state_of self.old).nodes path.now) result }
     {
         match node_at(&self.nodes, path.as_bytes()) {
             Some(node) => Ok(node.entry()),
@@ -197,15 +204,35 @@ impl Disk for MemoryDisk {
         }
     }
 
+    fn named_entry(&mut self, path: &str) -> Result<Entry, DiskFault>
+        ensures looks { OnlyLooks (state_of self.old) (state_of self.new) }
+        ensures names { (state_of self.new).names ≡ (state_of self.old).names }
+        ensures found { IfOk result (λ entry. IsTrue (state_of self.old).honest → IsReached (state_of self.old).nodes path.now
+            → option_map entry_of (node (state_of self.old).nodes path.now) ≡ Some entry) }
+        ensures failures { IsCountedAs at_known result (state_of self.old).failures (state_of self.new).failures }
+        ensures barred { barred_of self.new ≡ barred_of self.old }
+        ensures exact { IsEntry (node (state_of self.old).nodes path.now) result }
+    {
+        match node_at(&self.nodes, path.as_bytes()) {
+            Some(node) => Ok(node.entry()),
+            None => {
+                self.failures.refuse(Refusal::Device);
+                Err(DiskFault::NotFound)
+            }
+        }
+    }
+
     fn enter(&mut self, folder: &str) -> Result<(), DiskFault>
         ensures looks { OnlyLooks (state_of self.old) (state_of self.new) }
         ensures honest { OnOk result (IsTrue (state_of self.old).honest → IsFolder (state_of self.old).nodes folder.now
             → AreNamesIn (state_of self.old).nodes folder.now (state_of self.new).names) }
+        ensures failures { IsCountedAs at_known result (state_of self.old).failures (state_of self.new).failures }
         ensures barred { barred_of self.new ≡ barred_of self.old }
         ensures shut { OnOk result (IsTrue (is_barred self.old folder.now) → ⊥) }
         ensures refused { IfErr result (MayRefuse (IsTrue (is_barred self.old folder.now))) }
     {
         if self.is_barred(folder) {
+            self.failures.refuse(Refusal::Device);
             return Err(DiskFault::Device);
         }
         self.names = names_in(self.alloc, &self.nodes, folder.as_bytes())?;
@@ -218,6 +245,8 @@ impl Disk for MemoryDisk {
         ensures unnamed { IsErrOf result Name → IsTrue (state_of self.old).honest → HasUnnamed (state_of self.old).names }
         ensures honest { IfOk result (λ next. IsTrue (state_of self.old).honest
             → MatchOption next ((state_of self.old).names ≡ []) (λ name. (state_of self.old).names ≡ name ∷ (state_of self.new).names)) }
+        ensures path { IfOk result (λ next. MatchOption next ⊤ (λ name. IsTrue (is_path name))) }
+        ensures failures { IsCountedAs of_name result (state_of self.old).failures (state_of self.new).failures }
         ensures barred { barred_of self.new ≡ barred_of self.old }
     {
         let Some(name) = self.names.as_slice().get(self.named) else {
@@ -227,8 +256,9 @@ impl Disk for MemoryDisk {
             return Err(DiskFault::Name);
         };
         let text = Text::from_str(self.alloc, text)?;
+        let named = self.failures.name(text)?;
         self.named += 1;
-        Ok(Some(text))
+        Ok(named)
     }
 
     fn open(&mut self, path: &str) -> Result<(), DiskFault>
@@ -241,6 +271,7 @@ impl Disk for MemoryDisk {
             → node (state_of self.old).nodes path.now ≡ None }
         ensures closed { OnErr result ((state_of self.new).rest ≡ None) }
         ensures not_opened { OnErr result ((state_of self.new).openings ≡ (state_of self.old).openings) }
+        ensures failures { IsCountedAs of_path result (state_of self.old).failures (state_of self.new).failures }
         ensures barred { barred_of self.new ≡ barred_of self.old }
         ensures content { OnOk result ((state_of self.new).rest ≡ content_of self.old path.now) }
         ensures refused { IfErr result (MayRefuse (content_of self.old path.now ≡ None)) }
@@ -248,7 +279,10 @@ impl Disk for MemoryDisk {
         self.open = None;
         let content = match self.content(path) {
             Ok(content) => content,
-            Err(fault) => return Err(fault),
+            Err(fault) => {
+                self.failures.refuse(Refusal::of_path(fault));
+                return Err(fault);
+            }
         };
         self.openings.push(Text::from_str(self.alloc, path)?)?;
         self.open = Some(content);
@@ -266,6 +300,7 @@ impl Disk for MemoryDisk {
 
     fn read(&mut self, buffer: &mut [u8]) -> Result<usize, DiskFault> {
         let Some(content) = &self.open else {
+            self.failures.refuse(Refusal::Device);
             return Err(DiskFault::Device);
         };
         let count = read_at(content.as_slice(), self.at, buffer);
@@ -275,11 +310,12 @@ impl Disk for MemoryDisk {
 }
 
 impl WritableDisk for MemoryDisk {
-    ghost use Rattle.std.specs.Prelude.{◌≡◌, ◌≤◌, ◌==◌, ◌||◌, IfErr, IfOk, IsErrOf, IsOk, IsTrue, List, MatchResult, None, OnErr, OnOk, Some, false, is_some, length, take, ℕ};
+    ghost use Rattle.std.specs.Prelude.{◌≡◌, ◌<◌, ◌≤◌, ◌==◌, ◌||◌, IfErr, IfOk, IsErrOf, IsOk, IsTrue, List, MatchResult, None, OnErr, OnOk, Some, false, is_some, length, take, ℕ};
     ghost use Rattle.bag_text.specs.Path.{is_path};
     ghost use Rattle.bag_disk.specs.Disk.{Has, IsFolder, IsReached, OnlyLooks, node};
     ghost use Rattle.bag_disk.specs.WritableDisk.{Appends, Closes, HasFile, MakesFile, MakesFolder, Moves};
     ghost use Rattle.bag_tree.specs.Moved.{KeepsOthers};
+    ghost use Rattle.bag_disk.specs.Refusal.{IsCountedAs, at_known, of_making};
     ghost use Rattle.bag_disk.specs.declared.disk.DiskFault.TheVariants.{Exists, Name, NotFound};
     ghost use Rattle.test_disk.specs.Changing.{MayRefuseAdding, MayRefuseMoving, MayRefuseWriting};
     ghost use Rattle.test_disk.specs.MemoryDisk.{barred_of, is_kept_of, state_of, written_of};
@@ -300,12 +336,16 @@ impl WritableDisk for MemoryDisk {
         ensures same { OnErr result (OnlyLooks (state_of self.old) (state_of self.new)) }
         ensures same_file { OnErr result (written_of self.new ≡ written_of self.old) }
         ensures unkept { MatchResult result (λ _. is_kept_of self.new ≡ false) (λ _. is_kept_of self.new ≡ is_kept_of self.old) }
+        ensures failures { IsCountedAs of_making result (state_of self.old).failures (state_of self.new).failures }
         ensures barred { barred_of self.new ≡ barred_of self.old }
         ensures refused { IfErr result (MayRefuseAdding (state_of self.old).nodes path.now) }
     {
         match add_node(self.alloc, &mut self.nodes, path.as_bytes(), Node::Folder) {
             Ok(()) => {}
-            Err(fault) => return Err(fault),
+            Err(fault) => {
+                self.failures.refuse(Refusal::of_making(fault));
+                return Err(fault);
+            }
         }
         self.is_kept = false;
         self.open = None;
@@ -330,12 +370,16 @@ impl WritableDisk for MemoryDisk {
         ensures same { OnErr result (OnlyLooks (state_of self.old) (state_of self.new)) }
         ensures same_file { OnErr result (written_of self.new ≡ written_of self.old) }
         ensures unkept { MatchResult result (λ _. is_kept_of self.new ≡ false) (λ _. is_kept_of self.new ≡ is_kept_of self.old) }
+        ensures failures { IsCountedAs at_known result (state_of self.old).failures (state_of self.new).failures }
         ensures barred { barred_of self.new ≡ barred_of self.old }
         ensures refused { IfErr result (MayRefuseMoving (state_of self.old).nodes from.now to.now) }
     {
         match moved_to(self.alloc, &self.nodes, from.as_bytes(), to.as_bytes()) {
             Ok(moved) => self.nodes = moved,
-            Err(fault) => return Err(fault),
+            Err(fault) => {
+                self.failures.refuse(Refusal::at_known(fault));
+                return Err(fault);
+            }
         }
         self.is_kept = false;
         self.open = None;
@@ -356,6 +400,7 @@ impl WritableDisk for MemoryDisk {
         ensures same { OnErr result (OnlyLooks (state_of self.old) (state_of self.new)) }
         ensures same_file { OnErr result (written_of self.new ≡ written_of self.old) }
         ensures unkept { MatchResult result (λ _. is_kept_of self.new ≡ false) (λ _. is_kept_of self.new ≡ is_kept_of self.old) }
+        ensures failures { IsCountedAs of_making result (state_of self.old).failures (state_of self.new).failures }
         ensures barred { barred_of self.new ≡ barred_of self.old }
         ensures refused { IfErr result (MayRefuseAdding (state_of self.old).nodes path.now) }
     {
@@ -363,7 +408,10 @@ impl WritableDisk for MemoryDisk {
         let file = Node::File(Vec::new(self.alloc));
         match add_node(self.alloc, &mut self.nodes, path.as_bytes(), file) {
             Ok(()) => {}
-            Err(fault) => return Err(fault),
+            Err(fault) => {
+                self.failures.refuse(Refusal::of_making(fault));
+                return Err(fault);
+            }
         }
         self.is_kept = false;
         self.open = None;
@@ -382,16 +430,22 @@ impl WritableDisk for MemoryDisk {
         ensures same { OnErr result (OnlyLooks (state_of self.old) (state_of self.new)) }
         ensures same_file { written_of self.new ≡ written_of self.old }
         ensures same_names { is_kept_of self.new ≡ is_kept_of self.old }
+        ensures some { IfOk result (λ n. 0 < length bytes.now → 0 < n) }
+        ensures failures { IsCountedAs at_known result (state_of self.old).failures (state_of self.new).failures }
         ensures barred { barred_of self.new ≡ barred_of self.old }
         ensures all { IfOk result (λ n. n ≡ length bytes.now) }
         ensures refused { IfErr result (MayRefuseWriting (state_of self.old).nodes (written_of self.old)) }
     {
         let Some(path) = &self.written else {
+            self.failures.refuse(Refusal::Device);
             return Err(DiskFault::Device);
         };
         match append(self.alloc, &mut self.nodes, path.as_str().as_bytes(), bytes) {
             Ok(()) => {}
-            Err(fault) => return Err(fault),
+            Err(fault) => {
+                self.failures.refuse(Refusal::at_known(fault));
+                return Err(fault);
+            }
         }
         self.open = None;
         Ok(bytes.len())
@@ -407,6 +461,7 @@ impl WritableDisk for MemoryDisk {
         ensures same { OnErr result (OnlyLooks (state_of self.old) (state_of self.new)) }
         ensures same_file { OnErr result (written_of self.new ≡ written_of self.old) }
         ensures same_names { is_kept_of self.new ≡ is_kept_of self.old }
+        ensures failures { IsCountedAs at_known result (state_of self.old).failures (state_of self.new).failures }
         ensures barred { barred_of self.new ≡ barred_of self.old }
         ensures synced { IsOk result }
     {
@@ -422,10 +477,12 @@ impl WritableDisk for MemoryDisk {
         ensures taken { IsErrOf result Exists → IsTrue (state_of self.old).honest → ⊥ }
         ensures absent { IsErrOf result NotFound → IsTrue (state_of self.old).honest → IsFolder (state_of self.old).nodes folder.now → ⊥ }
         ensures unnamed { IsErrOf result Name → IsTrue (state_of self.old).honest → ⊥ }
+        ensures failures { IsCountedAs at_known result (state_of self.old).failures (state_of self.new).failures }
         ensures barred { barred_of self.new ≡ barred_of self.old }
         ensures refused { IfErr result (λ fault. (fault ≡ NotFound) × (IsFolder (state_of self.old).nodes folder.now → ⊥)) }
     {
         if !folder.is_empty() && !is_folder(&self.nodes, folder.as_bytes()) {
+            self.failures.refuse(Refusal::Device);
             return Err(DiskFault::NotFound);
         }
         self.is_kept = folder.is_empty() || self.is_kept;

@@ -2,7 +2,7 @@
 ghost use Rattle.std.specs.Prelude.{◌≡◌};
 ghost use Rattle.test_disk.specs.Refusing.{is_due, is_refused, one_less, refusing};
 
-use bag_disk::{Disk, DiskFault, Entry, WritableDisk};
+use bag_disk::{Disk, DiskFault, Entry, Failures, Refusal, WritableDisk};
 use bag_text::Text;
 
 /// Which call of a disk is refused.
@@ -10,7 +10,7 @@ use bag_text::Text;
 pub enum Call {
     /// Once, the call of this number, from 0, of `enter`, `next_name`, `open`, `read`, and those that change the disk.
     Numbered(u64),
-    /// Each `entry_at` of this path.
+    /// Each `entry_at` and `named_entry` of this path.
     EntryAt(Text),
     /// None any more.
     Past,
@@ -23,6 +23,8 @@ pub struct RefusingDisk<D> {
     disk: D,
     call: Call,
     fault: DiskFault,
+    /// Its own, beside those of the disk that it stands on.
+    failures: Failures,
 }
 
 impl<D: Disk + Drop> RefusingDisk<D> {
@@ -30,12 +32,17 @@ impl<D: Disk + Drop> RefusingDisk<D> {
 
     /// The disk, of which this call is refused by this fault.
     pub fn over(disk: D, call: Call, fault: DiskFault) -> RefusingDisk<D>
-        ensures state { ⟦<RefusingDisk<D> as Disk>⟧.state result ≡ refusing (D.state disk) fault }
+        ensures state { ⟦<RefusingDisk<D> as Disk>⟧.state result ≡ refusing (D.state disk) fault 0 }
         ensures below { below_of result ≡ disk }
         ensures call { call_of result ≡ call }
         ensures fault { fault_of result ≡ fault }
     {
-        RefusingDisk { disk, call, fault }
+        RefusingDisk {
+            disk,
+            call,
+            fault,
+            failures: Failures::none(),
+        }
     }
 
     /// Whether an `entry_at` of the path is refused.
@@ -72,32 +79,56 @@ impl Call {
 impl<D: Disk + Drop> Disk for RefusingDisk<D> {
     ghost use Rattle.std.specs.Prelude.{◌<◌, IsErrOf, IsTrue, false, is_some, length};
     ghost use Rattle.bag_text.specs.Path.{is_path};
-    ghost use Rattle.test_disk.specs.DiskCalls.{ClosesFile, Enters, LooksAt, NamesNext, Opens, Reads};
-    ghost use Rattle.test_disk.specs.RefusingDisk.{below_of, call_of, fault_of};
+    ghost use Rattle.test_disk.specs.DiskCalls.{ClosesFile, Enters, LooksAt, LooksAtNamed, NamesNext, Opens, Reads};
+    ghost use Rattle.test_disk.specs.RefusingDisk.{below_of, call_of, fault_of, own_of};
+    ghost use Rattle.bag_disk.specs.Refusal.{at_known, failures_after, of_name, of_path};
 
-    ghost state = { λ disk. refusing (D.state disk.disk) disk.fault };
+    ghost state = { λ disk. refusing (D.state disk.disk) disk.fault disk.failures.count };
 
     ghost is_disk = { λ disk. D.is_disk disk.disk };
 
-    fn entry_at(&self, path: &str) -> Result<Entry, DiskFault>
+    fn entry_at(&mut self, path: &str) -> Result<Entry, DiskFault>
         requires { IsTrue (is_path path.now) }
-        ensures due { IsTrue (is_refused (call_of self.now) path.now) → IsErrOf result (fault_of self.now) }
-        ensures passed { is_refused (call_of self.now) path.now ≡ false → LooksAt (D.state (below_of self.now)) path.now result }
+        ensures call { call_of self.new ≡ call_of self.old }
+        ensures fault { fault_of self.new ≡ fault_of self.old }
+        ensures due { IsTrue (is_refused (call_of self.old) path.now) → IsErrOf result (fault_of self.old) × (below_of self.new ≡ below_of self.old)
+            × (own_of self.new ≡ failures_after (of_path (fault_of self.old)) (own_of self.old)) }
+        ensures passed { is_refused (call_of self.old) path.now ≡ false
+            → LooksAt (D.state (below_of self.old)) (D.state (below_of self.new)) path.now result × (own_of self.new ≡ own_of self.old) }
     {
         if self.refuses_entry(path) {
+            self.failures.refuse(Refusal::of_path(self.fault));
             return Err(self.fault);
         }
         self.disk.entry_at(path)
     }
 
+    fn named_entry(&mut self, path: &str) -> Result<Entry, DiskFault>
+        requires { IsTrue (is_path path.now) }
+        ensures call { call_of self.new ≡ call_of self.old }
+        ensures fault { fault_of self.new ≡ fault_of self.old }
+        ensures due { IsTrue (is_refused (call_of self.old) path.now) → IsErrOf result (fault_of self.old) × (below_of self.new ≡ below_of self.old)
+            × (own_of self.new ≡ failures_after (at_known (fault_of self.old)) (own_of self.old)) }
+        ensures passed { is_refused (call_of self.old) path.now ≡ false
+            → LooksAtNamed (D.state (below_of self.old)) (D.state (below_of self.new)) path.now result × (own_of self.new ≡ own_of self.old) }
+    {
+        if self.refuses_entry(path) {
+            self.failures.refuse(Refusal::at_known(self.fault));
+            return Err(self.fault);
+        }
+        self.disk.named_entry(path)
+    }
+
     fn enter(&mut self, folder: &str) -> Result<(), DiskFault>
         ensures counted { call_of self.new ≡ one_less (call_of self.old) }
         ensures fault { fault_of self.new ≡ fault_of self.old }
-        ensures due { IsTrue (is_due (call_of self.old)) → IsErrOf result (fault_of self.old) × (below_of self.new ≡ below_of self.old) }
+        ensures due { IsTrue (is_due (call_of self.old)) → IsErrOf result (fault_of self.old) × (below_of self.new ≡ below_of self.old)
+            × (own_of self.new ≡ failures_after (at_known (fault_of self.old)) (own_of self.old)) }
         ensures passed { is_due (call_of self.old) ≡ false
-            → Enters (D.state (below_of self.old)) (D.state (below_of self.new)) folder.now result }
+            → Enters (D.state (below_of self.old)) (D.state (below_of self.new)) folder.now result × (own_of self.new ≡ own_of self.old) }
     {
         if self.call.is_due() {
+            self.failures.refuse(Refusal::at_known(self.fault));
             return Err(self.fault);
         }
         self.disk.enter(folder)
@@ -106,10 +137,12 @@ impl<D: Disk + Drop> Disk for RefusingDisk<D> {
     fn next_name(&mut self) -> Result<Option<Text>, DiskFault>
         ensures counted { call_of self.new ≡ one_less (call_of self.old) }
         ensures fault { fault_of self.new ≡ fault_of self.old }
-        ensures due { IsTrue (is_due (call_of self.old)) → IsErrOf result (fault_of self.old) × (below_of self.new ≡ below_of self.old) }
-        ensures passed { is_due (call_of self.old) ≡ false → NamesNext (D.state (below_of self.old)) (D.state (below_of self.new)) result }
+        ensures due { IsTrue (is_due (call_of self.old)) → IsErrOf result (fault_of self.old) × (below_of self.new ≡ below_of self.old)
+            × (own_of self.new ≡ failures_after (of_name (fault_of self.old)) (own_of self.old)) }
+        ensures passed { is_due (call_of self.old) ≡ false → NamesNext (D.state (below_of self.old)) (D.state (below_of self.new)) result × (own_of self.new ≡ own_of self.old) }
     {
         if self.call.is_due() {
+            self.failures.refuse(Refusal::of_name(self.fault));
             return Err(self.fault);
         }
         self.disk.next_name()
@@ -120,12 +153,14 @@ impl<D: Disk + Drop> Disk for RefusingDisk<D> {
         ensures counted { call_of self.new ≡ one_less (call_of self.old) }
         ensures fault { fault_of self.new ≡ fault_of self.old }
         ensures due { IsTrue (is_due (call_of self.old)) → IsErrOf result (fault_of self.old)
-            × ClosesFile (D.state (below_of self.old)) (D.state (below_of self.new)) }
+            × ClosesFile (D.state (below_of self.old)) (D.state (below_of self.new))
+            × (own_of self.new ≡ failures_after (of_path (fault_of self.old)) (own_of self.old)) }
         ensures passed { is_due (call_of self.old) ≡ false
-            → Opens (D.state (below_of self.old)) (D.state (below_of self.new)) path.now result }
+            → Opens (D.state (below_of self.old)) (D.state (below_of self.new)) path.now result × (own_of self.new ≡ own_of self.old) }
     {
         if self.call.is_due() {
             self.disk.close();
+            self.failures.refuse(Refusal::of_path(self.fault));
             return Err(self.fault);
         }
         self.disk.open(path)
@@ -138,6 +173,7 @@ impl<D: Disk + Drop> Disk for RefusingDisk<D> {
     fn close(&mut self)
         ensures call { call_of self.new ≡ call_of self.old }
         ensures fault { fault_of self.new ≡ fault_of self.old }
+        ensures own { own_of self.new ≡ own_of self.old }
         ensures closes { ClosesFile (D.state (below_of self.old)) (D.state (below_of self.new)) }
     {
         self.disk.close();
@@ -148,11 +184,13 @@ impl<D: Disk + Drop> Disk for RefusingDisk<D> {
         requires file_open { IsTrue (is_some (D.state (below_of self.old)).rest) }
         ensures counted { call_of self.new ≡ one_less (call_of self.old) }
         ensures fault { fault_of self.new ≡ fault_of self.old }
-        ensures due { IsTrue (is_due (call_of self.old)) → IsErrOf result (fault_of self.old) × (below_of self.new ≡ below_of self.old) }
+        ensures due { IsTrue (is_due (call_of self.old)) → IsErrOf result (fault_of self.old) × (below_of self.new ≡ below_of self.old)
+            × (own_of self.new ≡ failures_after (at_known (fault_of self.old)) (own_of self.old)) }
         ensures passed { is_due (call_of self.old) ≡ false
-            → Reads (D.state (below_of self.old)) (D.state (below_of self.new)) (length buffer.old) buffer.new result }
+            → Reads (D.state (below_of self.old)) (D.state (below_of self.new)) (length buffer.old) buffer.new result × (own_of self.new ≡ own_of self.old) }
     {
         if self.call.is_due() {
+            self.failures.refuse(Refusal::at_known(self.fault));
             return Err(self.fault);
         }
         self.disk.read(buffer)
@@ -163,7 +201,8 @@ impl<D: WritableDisk + Drop> WritableDisk for RefusingDisk<D> {
     ghost use Rattle.std.specs.Prelude.{IsErrOf, IsTrue, false, is_some};
     ghost use Rattle.bag_text.specs.Path.{is_path};
     ghost use Rattle.test_disk.specs.DiskCalls.{Creates, MakesFolderAt, Renames, Syncs, SyncsFolder, Writes};
-    ghost use Rattle.test_disk.specs.RefusingDisk.{below_of, call_of, fault_of};
+    ghost use Rattle.test_disk.specs.RefusingDisk.{below_of, call_of, fault_of, own_of};
+    ghost use Rattle.bag_disk.specs.Refusal.{at_known, failures_after, of_making};
 
     ghost written = { λ disk. D.written disk.disk };
 
@@ -173,12 +212,14 @@ impl<D: WritableDisk + Drop> WritableDisk for RefusingDisk<D> {
         requires { IsTrue (is_path path.now) }
         ensures counted { call_of self.new ≡ one_less (call_of self.old) }
         ensures fault { fault_of self.new ≡ fault_of self.old }
-        ensures due { IsTrue (is_due (call_of self.old)) → IsErrOf result (fault_of self.old) × (below_of self.new ≡ below_of self.old) }
+        ensures due { IsTrue (is_due (call_of self.old)) → IsErrOf result (fault_of self.old) × (below_of self.new ≡ below_of self.old)
+            × (own_of self.new ≡ failures_after (of_making (fault_of self.old)) (own_of self.old)) }
         ensures passed { is_due (call_of self.old) ≡ false
             → MakesFolderAt (D.state (below_of self.old)) (D.state (below_of self.new)) (D.written (below_of self.old)) (D.written (below_of self.new))
-            (D.is_kept (below_of self.old)) (D.is_kept (below_of self.new)) path.now result }
+            (D.is_kept (below_of self.old)) (D.is_kept (below_of self.new)) path.now result × (own_of self.new ≡ own_of self.old) }
     {
         if self.call.is_due() {
+            self.failures.refuse(Refusal::of_making(self.fault));
             return Err(self.fault);
         }
         self.disk.make_folder(path)
@@ -189,12 +230,14 @@ impl<D: WritableDisk + Drop> WritableDisk for RefusingDisk<D> {
         requires to { IsTrue (is_path to.now) }
         ensures counted { call_of self.new ≡ one_less (call_of self.old) }
         ensures fault { fault_of self.new ≡ fault_of self.old }
-        ensures due { IsTrue (is_due (call_of self.old)) → IsErrOf result (fault_of self.old) × (below_of self.new ≡ below_of self.old) }
+        ensures due { IsTrue (is_due (call_of self.old)) → IsErrOf result (fault_of self.old) × (below_of self.new ≡ below_of self.old)
+            × (own_of self.new ≡ failures_after (at_known (fault_of self.old)) (own_of self.old)) }
         ensures passed { is_due (call_of self.old) ≡ false
             → Renames (D.state (below_of self.old)) (D.state (below_of self.new)) (D.written (below_of self.old)) (D.written (below_of self.new))
-            (D.is_kept (below_of self.old)) (D.is_kept (below_of self.new)) from.now to.now result }
+            (D.is_kept (below_of self.old)) (D.is_kept (below_of self.new)) from.now to.now result × (own_of self.new ≡ own_of self.old) }
     {
         if self.call.is_due() {
+            self.failures.refuse(Refusal::at_known(self.fault));
             return Err(self.fault);
         }
         self.disk.rename(from, to)
@@ -204,12 +247,14 @@ impl<D: WritableDisk + Drop> WritableDisk for RefusingDisk<D> {
         requires { IsTrue (is_path path.now) }
         ensures counted { call_of self.new ≡ one_less (call_of self.old) }
         ensures fault { fault_of self.new ≡ fault_of self.old }
-        ensures due { IsTrue (is_due (call_of self.old)) → IsErrOf result (fault_of self.old) × (below_of self.new ≡ below_of self.old) }
+        ensures due { IsTrue (is_due (call_of self.old)) → IsErrOf result (fault_of self.old) × (below_of self.new ≡ below_of self.old)
+            × (own_of self.new ≡ failures_after (of_making (fault_of self.old)) (own_of self.old)) }
         ensures passed { is_due (call_of self.old) ≡ false
             → Creates (D.state (below_of self.old)) (D.state (below_of self.new)) (D.written (below_of self.old)) (D.written (below_of self.new))
-            (D.is_kept (below_of self.old)) (D.is_kept (below_of self.new)) path.now result }
+            (D.is_kept (below_of self.old)) (D.is_kept (below_of self.new)) path.now result × (own_of self.new ≡ own_of self.old) }
     {
         if self.call.is_due() {
+            self.failures.refuse(Refusal::of_making(self.fault));
             return Err(self.fault);
         }
         self.disk.create(path)
@@ -219,12 +264,14 @@ impl<D: WritableDisk + Drop> WritableDisk for RefusingDisk<D> {
         requires { IsTrue (is_some (D.written (below_of self.old))) }
         ensures counted { call_of self.new ≡ one_less (call_of self.old) }
         ensures fault { fault_of self.new ≡ fault_of self.old }
-        ensures due { IsTrue (is_due (call_of self.old)) → IsErrOf result (fault_of self.old) × (below_of self.new ≡ below_of self.old) }
+        ensures due { IsTrue (is_due (call_of self.old)) → IsErrOf result (fault_of self.old) × (below_of self.new ≡ below_of self.old)
+            × (own_of self.new ≡ failures_after (at_known (fault_of self.old)) (own_of self.old)) }
         ensures passed { is_due (call_of self.old) ≡ false
             → Writes (D.state (below_of self.old)) (D.state (below_of self.new)) (D.written (below_of self.old)) (D.written (below_of self.new))
-            (D.is_kept (below_of self.old)) (D.is_kept (below_of self.new)) bytes.now result }
+            (D.is_kept (below_of self.old)) (D.is_kept (below_of self.new)) bytes.now result × (own_of self.new ≡ own_of self.old) }
     {
         if self.call.is_due() {
+            self.failures.refuse(Refusal::at_known(self.fault));
             return Err(self.fault);
         }
         self.disk.write(bytes)
@@ -234,12 +281,14 @@ impl<D: WritableDisk + Drop> WritableDisk for RefusingDisk<D> {
         requires { IsTrue (is_some (D.written (below_of self.old))) }
         ensures counted { call_of self.new ≡ one_less (call_of self.old) }
         ensures fault { fault_of self.new ≡ fault_of self.old }
-        ensures due { IsTrue (is_due (call_of self.old)) → IsErrOf result (fault_of self.old) × (below_of self.new ≡ below_of self.old) }
+        ensures due { IsTrue (is_due (call_of self.old)) → IsErrOf result (fault_of self.old) × (below_of self.new ≡ below_of self.old)
+            × (own_of self.new ≡ failures_after (at_known (fault_of self.old)) (own_of self.old)) }
         ensures passed { is_due (call_of self.old) ≡ false
             → Syncs (D.state (below_of self.old)) (D.state (below_of self.new)) (D.written (below_of self.old)) (D.written (below_of self.new))
-            (D.is_kept (below_of self.old)) (D.is_kept (below_of self.new)) result }
+            (D.is_kept (below_of self.old)) (D.is_kept (below_of self.new)) result × (own_of self.new ≡ own_of self.old) }
     {
         if self.call.is_due() {
+            self.failures.refuse(Refusal::at_known(self.fault));
             return Err(self.fault);
         }
         self.disk.sync()
@@ -248,12 +297,14 @@ impl<D: WritableDisk + Drop> WritableDisk for RefusingDisk<D> {
     fn sync_folder(&mut self, folder: &str) -> Result<(), DiskFault>
         ensures counted { call_of self.new ≡ one_less (call_of self.old) }
         ensures fault { fault_of self.new ≡ fault_of self.old }
-        ensures due { IsTrue (is_due (call_of self.old)) → IsErrOf result (fault_of self.old) × (below_of self.new ≡ below_of self.old) }
+        ensures due { IsTrue (is_due (call_of self.old)) → IsErrOf result (fault_of self.old) × (below_of self.new ≡ below_of self.old)
+            × (own_of self.new ≡ failures_after (at_known (fault_of self.old)) (own_of self.old)) }
         ensures passed { is_due (call_of self.old) ≡ false
             → SyncsFolder (D.state (below_of self.old)) (D.state (below_of self.new)) (D.written (below_of self.old)) (D.written (below_of self.new))
-            (D.is_kept (below_of self.old)) (D.is_kept (below_of self.new)) folder.now result }
+            (D.is_kept (below_of self.old)) (D.is_kept (below_of self.new)) folder.now result × (own_of self.new ≡ own_of self.old) }
     {
         if self.call.is_due() {
+            self.failures.refuse(Refusal::at_known(self.fault));
             return Err(self.fault);
         }
         self.disk.sync_folder(folder)

@@ -58,15 +58,30 @@ struct Enlarged<D> {
     disk: D,
 }
 
+/// What is said of a path of which this was said.
+fn enlarged(path: &str, entry: Entry) -> Entry {
+    match entry {
+        Entry::File(_) if is_payload(path) => Entry::File(u64::MAX),
+        entry => entry,
+    }
+}
+
 impl<D: Disk + Drop> Disk for Enlarged<D> {
     ghost state = { λ enlarged. not_honest (D.state enlarged.disk) };
 
     ghost is_disk = { λ enlarged. D.is_disk enlarged.disk };
 
-    fn entry_at(&self, path: &str) -> Result<Entry, DiskFault> {
+    fn entry_at(&mut self, path: &str) -> Result<Entry, DiskFault> {
         match self.disk.entry_at(path) {
-            Ok(Entry::File(_)) if is_payload(path) => Ok(Entry::File(u64::MAX)),
-            answer => answer,
+            Ok(entry) => Ok(enlarged(path, entry)),
+            Err(fault) => Err(fault),
+        }
+    }
+
+    fn named_entry(&mut self, path: &str) -> Result<Entry, DiskFault> {
+        match self.disk.named_entry(path) {
+            Ok(entry) => Ok(enlarged(path, entry)),
+            Err(fault) => Err(fault),
         }
     }
 

@@ -4,6 +4,7 @@ ghost use Rattle.bag_disk.specs.Disk.{empty_disk};
 
 use crate::held::{ends, listed};
 use crate::steps::count_listed;
+use bag_disk::Failures;
 use bag_store::{Disk, DiskFault, Entry, FileTree, TreeFault};
 use bag_text::{Items, Text};
 use std::alloc::Global;
@@ -22,6 +23,7 @@ struct MadeUp {
     named: usize,
     openings: Items<Text>,
     has_open: bool,
+    failures: Failures,
 }
 
 impl MadeUp {
@@ -40,22 +42,32 @@ impl MadeUp {
             named: 0,
             openings: Items::new(alloc),
             has_open: false,
+            failures: Failures::none(),
         };
         FileTree::over(alloc, disk)
+    }
+
+    /// What it says of a path.
+    fn entry_of(&self, path: &str) -> Entry {
+        if path == self.folder {
+            Entry::Folder
+        } else {
+            Entry::File(0)
+        }
     }
 }
 
 impl Disk for MadeUp {
-    ghost state = { λ disk. system_state disk.openings disk.has_open };
+    ghost state = { λ disk. system_state disk.openings disk.has_open disk.failures.count };
 
     ghost is_disk = { λ _. empty_disk };
 
-    fn entry_at(&self, path: &str) -> Result<Entry, DiskFault> {
-        if path == self.folder {
-            Ok(Entry::Folder)
-        } else {
-            Ok(Entry::File(0))
-        }
+    fn entry_at(&mut self, path: &str) -> Result<Entry, DiskFault> {
+        Ok(self.entry_of(path))
+    }
+
+    fn named_entry(&mut self, path: &str) -> Result<Entry, DiskFault> {
+        Ok(self.entry_of(path))
     }
 
     fn enter(&mut self, folder: &str) -> Result<(), DiskFault> {
@@ -70,10 +82,11 @@ impl Disk for MadeUp {
             return Ok(None);
         }
         self.named = number.saturating_add(1);
-        match self.names.get(number) {
-            Some(name) => Ok(Some(Text::from_str(self.alloc, *name)?)),
-            None => Ok(Some(Text::from_string(format!(in self.alloc; "{number:08}")?))),
-        }
+        let name = match self.names.get(number) {
+            Some(name) => Text::from_str(self.alloc, *name)?,
+            None => Text::from_string(format!(in self.alloc; "{number:08}")?),
+        };
+        self.failures.name(name)
     }
 
     fn open(&mut self, path: &str) -> Result<(), DiskFault> {

@@ -1,27 +1,57 @@
-use Rattle.std.proofs.Common.{IsTrue}
-use Rattle.bag_disk.specs.Disk.{IsReached}
+use Rattle.std.proofs.Common.{◌≡◌, ◌<◌, ◌∙◌, IsTrue, Some, length, get_or, refl, sym, ap, subst, arith}
+use Rattle.std.proofs.lemmas.Str.{IsCharBoundary-before_ascii}
+use Rattle.bag_disk.specs.Disk.{HasSpecial, IsReached, node}
+use Rattle.bag_disk.specs.Disk.Node.{Folder}
 use Rattle.bag_disk.proofs.DiskPaths.{slash_passed, other_passed, slash_reached, slash_refused}
+use Rattle.bag_disk.proofs.DiskSteps.{looks_at_first, looks_on}
+use Rattle.bag_disk.proofs.Looked.{had_before}
 use Rattle.bag_disk.proofs.Refusals.{due_for}
 use Rattle.bag_disk.proofs.opening.check_folders.Goals as goal
-use Rattle.bag_disk.proofs.opening.check_folders.Goals.{then-byte-eq47+in-Some+in-Ok, else-byte-eq47}
+use Rattle.bag_disk.proofs.opening.check_folders.Goals.{then-byte-eq47+in-Ok, else-byte-eq47}
+
+pub loop-end-init : goal.loop-end-init
+loop-end-init g c = (looks_at_first (g.D.Disk.state c.args.disk.now), refl, λ honest folder rest same less. absurd (omega arith))
+
+pub range-requires-clause-end_boundary : goal.range-requires-clause-end_boundary
+range-requires-clause-end_boundary g c =
+    let end = c.loop-end.end in
+    let items = c.as_bytes-byte-items.ensures.value in
+    let slash : get_or c.args.path.now end 0 ≡ 47 = ap (λ t. get_or t end 0) (sym items) ∙ c.if-byte-eq47.true in
+    IsCharBoundary-before_ascii c.args.path.now end (subst (λ t. end < length t) items c.loop-end-test.true) (omega arith)
 
 pub returns-in-Err-clause-refused : goal.returns-in-Err-clause-refused
 returns-in-Err-clause-refused g c =
-    let nodes = (g.D.Disk.state c.args.disk.now).nodes in
+    let old = g.D.Disk.state c.args.disk.now in
+    let at = g.D.Disk.state c.loop-end.disk in
+    let looks = c.loop-end.invariant.0 in
     let items = c.as_bytes-byte-items.result.now in
-    let folder = c.in-Some.folder.now in
-    let reached : IsTrue (g.D.Disk.state c.args.disk.now).honest → IsReached nodes folder = λ honest. slash_reached nodes c.args.path.now items folder c.loop-end.end c.as_bytes-byte-items.ensures.value c.in-Some.ensures.cases.0 c.loop-end-test.true c.if-byte-eq47.true (c.loop-end.invariant honest) in
-    due_for _ _ _ _ _ _ _ _ c.in-Err.refusal (λ special honest. special honest (reached honest))
+    let folder = c.range.result.now in
+    let reached : IsTrue old.honest → IsReached old.nodes folder = λ honest. slash_reached old.nodes c.args.path.now items folder c.loop-end.end c.as_bytes-byte-items.ensures.value c.range.ensures.value c.loop-end-test.true c.if-byte-eq47.true (c.loop-end.invariant.2 honest) in
+    due_for _ _ _ _ _ _ _ _ c.in-Err.refusal
+    (λ special honest. had_before old at looks (λ nodes. IsReached nodes folder → HasSpecial nodes) special honest (reached honest))
     (λ never. never)
-    (λ none honest. slash_refused nodes c.args.path.now items folder c.loop-end.end (g.met.D.Disk.is_disk c.args.disk.now) c.as_bytes-byte-items.ensures.value c.in-Some.ensures.cases.0 c.loop-end-test.true c.if-byte-eq47.true (none honest (reached honest)))
+    (λ none honest. slash_refused old.nodes c.args.path.now items folder c.loop-end.end (g.met.D.Disk.is_disk c.args.disk.now) c.as_bytes-byte-items.ensures.value c.range.ensures.value c.loop-end-test.true c.if-byte-eq47.true
+    (had_before old at looks (λ nodes. IsReached nodes folder → node nodes folder ≡ Some Folder → ⊥) none honest (reached honest)))
     (λ never. never)
     c.in-Err.ensures.refused
 
 pub loop-end-preserved : goal.loop-end-preserved
-loop-end-preserved g c = λ honest.
+loop-end-preserved g c =
+    let old = g.D.Disk.state c.args.disk.now in
+    let at = g.D.Disk.state c.loop-end.disk in
+    let looks = c.loop-end.invariant.0 in
+    let items = c.as_bytes-byte-items.result.now in
     elim c.if-byte-eq47.branch [
-      | then-byte-eq47+in-Some+in-Ok w ↦
-          slash_passed (g.D.Disk.state c.args.disk.now).nodes c.args.path.now c.as_bytes-byte-items.result.now w.in-Some.folder.now c.loop-end.end
-          c.as_bytes-byte-items.ensures.value w.in-Some.ensures.cases.0 c.loop-end-test.true w.if-byte-eq47.true (c.loop-end.invariant honest) (w.in-Ok.ensures.folder honest)
-      | else-byte-eq47 w ↦ other_passed (g.D.Disk.state c.args.disk.now).nodes c.args.path.now c.as_bytes-byte-items.result.now c.loop-end.end c.as_bytes-byte-items.ensures.value w.if-byte-eq47.false (c.loop-end.invariant honest)
+      | then-byte-eq47+in-Ok w ↦ rw w.disk-is (
+        looks_on old at (g.D.Disk.state w.check_is_folder.new.disk) looks w.in-Ok.ensures.looks,
+        w.in-Ok.ensures.failures ∙ c.loop-end.invariant.1,
+        λ honest. slash_passed old.nodes c.args.path.now items w.range.result.now c.loop-end.end
+            c.as_bytes-byte-items.ensures.value w.range.ensures.value c.loop-end-test.true w.if-byte-eq47.true (c.loop-end.invariant.2 honest)
+            (had_before old at looks (λ nodes. IsReached nodes w.range.result.now → node nodes w.range.result.now ≡ Some Folder) w.in-Ok.ensures.folder honest),
+      )
+      | else-byte-eq47 w ↦ rw w.disk-is (
+        looks,
+        c.loop-end.invariant.1,
+        λ honest. other_passed old.nodes c.args.path.now items c.loop-end.end c.as_bytes-byte-items.ensures.value w.if-byte-eq47.false (c.loop-end.invariant.2 honest),
+      )
     ]

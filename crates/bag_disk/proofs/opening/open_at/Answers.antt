@@ -1,8 +1,10 @@
-use Rattle.std.proofs.Common.{◌∙◌, sym, ap, Some, Err}
-use Rattle.bag_disk.specs.Disk.{bytes_of, node}
+use Rattle.std.proofs.Common.{◌≡◌, ◌∙◌, ℕ, List, sym, ap, Some, None, Err}
+use Rattle.std.specs.Option.{option_map}
+use Rattle.bag_disk.specs.Disk.{IsFileWith, IsReached, bytes_of, entry_of, node}
 use Rattle.bag_disk.specs.BagBelow.{file_of_disk}
-use Rattle.bag_disk.proofs.DiskSteps.{file_there, folder_there}
+use Rattle.bag_disk.proofs.DiskSteps.{file_there, folder_there, looks_on}
 use Rattle.bag_disk.proofs.DiskPaths.{no_path}
+use Rattle.bag_disk.proofs.Looked.{had_before}
 use Rattle.bag_disk.proofs.Plain.{other_seen}
 use Rattle.bag_disk.proofs.Refusals.{due_for, due_of_path}
 use Rattle.bag_disk.proofs.opening.open_at.Goals as goal
@@ -19,26 +21,45 @@ returns-in-Err-clause-refused g c =
 
 pub returns-in-Ok-Folder-clause-refused : goal.returns-in-Ok-Folder-clause-refused
 returns-in-Ok-Folder-clause-refused g c = λ honest.
-    let nodes = (g.D.Disk.state c.args.disk.now).nodes in
-    file_of_disk nodes c.args.path.now ∙ ap bytes_of (folder_there (node nodes c.args.path.now) (c.in-Ok-Folder.ensures.found honest (c.in-Ok.ensures.reached honest) ∙ ap Some c.in-Ok-Folder.field-0-is))
+    let old = g.D.Disk.state c.args.disk.now in
+    let path = c.args.path.now in
+    let found = had_before old (g.D.Disk.state c.check_folders.new.disk) c.in-Ok.ensures.looks (λ nodes. IsReached nodes path → option_map entry_of (node nodes path) ≡ Some c.in-Ok-Folder.field-0) c.in-Ok-Folder.ensures.found honest (c.in-Ok.ensures.reached honest) in
+    file_of_disk old.nodes path ∙ ap bytes_of (folder_there (node old.nodes path) (found ∙ ap Some c.in-Ok-Folder.field-0-is))
 
 pub returns-in-Ok-Other-clause-refused : goal.returns-in-Ok-Other-clause-refused
 returns-in-Ok-Other-clause-refused g c = λ honest.
-    other_seen (g.D.Disk.state c.args.disk.now).nodes c.args.path.now c.in-Ok-Other.field-0 c.utf8.path (c.in-Ok-Other.ensures.found honest (c.in-Ok.ensures.reached honest)) c.in-Ok-Other.field-0-is
+    let old = g.D.Disk.state c.args.disk.now in
+    let path = c.args.path.now in
+    let found = had_before old (g.D.Disk.state c.check_folders.new.disk) c.in-Ok.ensures.looks (λ nodes. IsReached nodes path → option_map entry_of (node nodes path) ≡ Some c.in-Ok-Other.field-0) c.in-Ok-Other.ensures.found honest (c.in-Ok.ensures.reached honest) in
+    other_seen old.nodes path c.in-Ok-Other.field-0 c.utf8.path found c.in-Ok-Other.field-0-is
 
 pub returns-in-Err-entry_at-clause-refused : goal.returns-in-Err-entry_at-clause-refused
 returns-in-Err-entry_at-clause-refused g c =
-    let nodes = (g.D.Disk.state c.args.disk.now).nodes in
-    due_of_path _ _ _ _ c.in-Err-entry_at.fault c.of_path.result c.of_path.ensures (λ is honest. file_of_disk nodes c.args.path.now ∙ ap bytes_of (c.in-Err-entry_at.ensures.absent (ap Err is) honest (c.in-Ok.ensures.reached honest)))
+    let old = g.D.Disk.state c.args.disk.now in
+    let path = c.args.path.now in
+    due_of_path _ _ _ _ c.in-Err-entry_at.fault c.of_path.result c.of_path.ensures (λ is honest. file_of_disk old.nodes path
+    ∙ ap bytes_of (had_before old (g.D.Disk.state c.check_folders.new.disk) c.in-Ok.ensures.looks (λ nodes. IsReached nodes path → node nodes path ≡ None) (c.in-Err-entry_at.ensures.absent (ap Err is)) honest (c.in-Ok.ensures.reached honest)))
 
 pub returns-in-Ok-open-clause-honest : goal.returns-in-Ok-open-clause-honest
 returns-in-Ok-open-clause-honest g c = λ honest.
-    let nodes = (g.D.Disk.state c.args.disk.now).nodes in
+    let old = g.D.Disk.state c.args.disk.now in
+    let seen = g.D.Disk.state c.check_folders.new.disk in
+    let at = g.D.Disk.state c.entry_at.new.self in
+    let new = g.D.Disk.state c.open.new.self in
+    let path = c.args.path.now in
     let reached = c.in-Ok.ensures.reached honest in
-    let there = file_there (node nodes c.args.path.now) c.in-Ok-File.field-0-0 (c.in-Ok-File.ensures.found honest reached ∙ ap Some c.in-Ok-File.field-0-is) in
-    (there.0, file_of_disk nodes c.args.path.now ∙ ap bytes_of there.1, c.in-Ok-open.ensures.honest honest reached there.0 there.1)
+    let found = had_before old seen c.in-Ok.ensures.looks (λ nodes. IsReached nodes path → option_map entry_of (node nodes path) ≡ Some c.in-Ok-File.field-0) c.in-Ok-File.ensures.found honest reached in
+    let there = file_there (node old.nodes path) c.in-Ok-File.field-0-0 (found ∙ ap Some c.in-Ok-File.field-0-is) in
+    let looks = looks_on old seen at c.in-Ok.ensures.looks c.in-Ok-File.ensures.looks in
+    let opens = had_before old at looks (λ nodes. IsReached nodes path → (bytes : List ℕ) → IsFileWith nodes path bytes → new.rest ≡ Some bytes) c.in-Ok-open.ensures.honest honest reached in
+    (there.0, file_of_disk old.nodes path ∙ ap bytes_of there.1, opens there.0 there.1)
 
 pub returns-in-Err-open-clause-refused : goal.returns-in-Err-open-clause-refused
 returns-in-Err-open-clause-refused g c =
-    let nodes = (g.D.Disk.state c.args.disk.now).nodes in
-    due_of_path _ _ _ _ c.in-Err-open.fault c.of_path-in-Err-open.result c.of_path-in-Err-open.ensures (λ is honest. file_of_disk nodes c.args.path.now ∙ ap bytes_of (c.in-Err-open.ensures.absent (ap Err is) honest (c.in-Ok.ensures.reached honest)))
+    let old = g.D.Disk.state c.args.disk.now in
+    let seen = g.D.Disk.state c.check_folders.new.disk in
+    let at = g.D.Disk.state c.entry_at.new.self in
+    let path = c.args.path.now in
+    let looks = looks_on old seen at c.in-Ok.ensures.looks c.in-Ok-File.ensures.looks in
+    due_of_path _ _ _ _ c.in-Err-open.fault c.of_path-in-Err-open.result c.of_path-in-Err-open.ensures (λ is honest. file_of_disk old.nodes path
+    ∙ ap bytes_of (had_before old at looks (λ nodes. IsReached nodes path → node nodes path ≡ None) (c.in-Err-open.ensures.absent (ap Err is)) honest (c.in-Ok.ensures.reached honest)))

@@ -1,5 +1,6 @@
 use Rattle.std.proofs.Common.{◌∙◌}
 use Rattle.std.proofs.lemmas.Result.{IfErr-weaker, on_ok_weaker}
+use Rattle.bag_disk.proofs.Refusals.{counted_since}
 use Rattle.bag_store.proofs.WrittenFiles.{all_written, written_same, written_synced}
 use Rattle.bag_store.proofs.writing.fill.Goals as goal
 
@@ -30,3 +31,7 @@ returns-in-Ok-sync-clause-part g c =
     (λ _ _. all_written old new written c.args.bytes.now
     (written_synced old (g.D.Disk.state c.write_all.new.disk) (g.D.Disk.state c.sync.new.self) new written c.args.bytes.now
     c.in-Ok.ensures.whole c.in-Ok-sync.ensures.kept c.in-Ok-sync.ensures.closed c.keep_names.ensures.looks)) c.keep_names.ensures.refused
+
+pub returns-in-Ok-sync-clause-failures : goal.returns-in-Ok-sync-clause-failures
+returns-in-Ok-sync-clause-failures g c =
+    counted_since c.keep_names.result (g.D.Disk.state c.args.disk.now) (g.D.Disk.state c.sync.new.self) (g.D.Disk.state c.keep_names.new.disk) (c.in-Ok-sync.ensures.failures ∙ c.in-Ok.ensures.failures) c.keep_names.ensures.failures

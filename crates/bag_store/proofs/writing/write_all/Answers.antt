@@ -1,22 +1,16 @@
-use Rattle.std.proofs.Common.{◌+◌, ◌∙◌, arith, length, refl, take}
+use Rattle.std.proofs.Common.{◌+◌, ◌<◌, ◌∙◌, ap, arith, length, length-drop, refl, take}
 use Rattle.std.specs.List.{slice_range}
-use Rattle.bag_store.proofs.WrittenFiles.{next_written, nothing_written, within_all, written_more}
+use Rattle.bag_store.proofs.WrittenFiles.{next_written, nothing_written, rest_is, within_all, written_more}
 use Rattle.bag_store.proofs.writing.write_all.Goals as goal
 
 pub loop-done-init : goal.loop-done-init
-loop-done-init g c = (omega arith, refl, nothing_written (g.D.Disk.state c.args.disk.now) (g.D.WritableDisk.written c.args.disk.now))
+loop-done-init g c = (omega arith, refl, nothing_written (g.D.Disk.state c.args.disk.now) (g.D.WritableDisk.written c.args.disk.now), refl)
 
-pub returns-in-Ok-eq0-clause-part : goal.returns-in-Ok-eq0-clause-part
-returns-in-Ok-eq0-clause-part g c =
-    let done = c.loop-done.done in
+pub loop-done-smaller : goal.loop-done-smaller
+loop-done-smaller g c =
     let bytes = c.args.bytes.now in
-    let count = c.in-Ok-eq0.field-0 in
-    record {
-      count = done + count;
-      first = written_more (g.D.Disk.state c.args.disk.now) (g.D.Disk.state c.loop-done.disk) (g.D.Disk.state c.write.new.self) (g.D.WritableDisk.written c.args.disk.now) (g.D.WritableDisk.written c.loop-done.disk)
-          (take done bytes) (take count (slice_range bytes done (length bytes))) (take (done + count) bytes) (next_written bytes done count)
-          c.loop-done.invariant.1 c.loop-done.invariant.2 c.in-Ok-eq0.ensures.appended c.in-Ok-eq0.ensures.closed;
-    }
+    let some : 0 < length (slice_range bytes c.loop-done.done (length bytes)) = omega (arith, ap length (rest_is bytes c.loop-done.done), length-drop c.loop-done.done bytes, c.loop-done-test.true) in
+    omega (arith, c.in-Ok.ensures.some some, c.loop-done-test.true)
 
 pub loop-done-preserved : goal.loop-done-preserved
 loop-done-preserved g c =
@@ -28,4 +22,5 @@ loop-done-preserved g c =
       written_more (g.D.Disk.state c.args.disk.now) (g.D.Disk.state c.loop-done.disk) (g.D.Disk.state c.write.new.self) (g.D.WritableDisk.written c.args.disk.now) (g.D.WritableDisk.written c.loop-done.disk)
           (take done bytes) (take count (slice_range bytes done (length bytes))) (take (done + count) bytes) (next_written bytes done count)
           c.loop-done.invariant.1 c.loop-done.invariant.2 c.in-Ok.ensures.appended c.in-Ok.ensures.closed,
+      c.in-Ok.ensures.failures ∙ c.loop-done.invariant.3,
     )

@@ -1,6 +1,7 @@
-use Rattle.std.proofs.Common.{◌∙◌, ◌++◌, ◌∷◌, [], Err, IsTrue, ap, refl, subst, arith}
+use Rattle.std.proofs.Common.{◌∙◌, ◌++◌, ◌∷◌, [], Err, IsTrue, ap, refl, subst, sym, arith}
 use Rattle.std.proofs.lemmas.Result.{err_from_is_err_and}
 use Rattle.bag_disk.specs.Disk.{Has, HasSpecial}
+use Rattle.bag_disk.specs.FolderWalk.{Listing}
 use Rattle.bag_disk.specs.Location.{path_in}
 use Rattle.bag_disk.proofs.DiskSteps.{turn, next_there, folder_ended, looks_at_first, looks_on, all_stand}
 use Rattle.bag_disk.proofs.Plain.{unnamed_there}
@@ -8,20 +9,27 @@ use Rattle.bag_disk.proofs.Refusals.{due_for, due_of_name}
 use Rattle.bag_disk.proofs.folder_walk.FolderWalk.list_names.Goals as goal
 
 pub loop-self-init : goal.loop-self-init
-loop-self-init g c = (looks_at_first (g.D.Disk.state c.args.disk.now), λ honest listed now. now, refl, omega arith, λ paths. paths)
+loop-self-init g c = (looks_at_first (g.D.Disk.state c.args.disk.now), λ honest listed now. now, refl, omega arith, λ paths. paths, refl)
+
+pub add-requires-clause-name : goal.add-requires-clause-name
+add-requires-clause-name g c = rw c.as_str.ensures (rw c.in-Ok-Some.field-0-is at c.in-Ok-Some.ensures.path)
 
 pub loop-self-preserved : goal.loop-self-preserved
 loop-self-preserved g c =
     let old = g.D.Disk.state c.args.disk.now in
     let at = g.D.Disk.state c.loop-self.disk in
-    let new = g.D.Disk.state c.next_name.new.self in (
-      looks_on old at new c.loop-self.invariant.0 c.in-Ok-Some.ensures.looks,
-      λ honest listed begun. turn old at new c.in-Ok-Some.field-0 c.loop-self.self.files.items c.add.new.self.files.items c.loop-self.self.folders.items c.add.new.self.folders.items listed c.args.folder.now c.args.folder.now c.in-Ok-Some.name c.as_str.result.now
+    let new = g.D.Disk.state c.next_name.new.self in
+    let then = g.D.Disk.state c.add.new.disk in
+    let added = c.in_ok-add-in-Ok-Some.ensures in (
+      looks_on old new then (looks_on old at new c.loop-self.invariant.0 c.in-Ok-Some.ensures.looks) added.looks,
+      λ honest listed begun. subst (Listing old.nodes c.add.new.self.files.items c.add.new.self.folders.items listed c.args.folder.now) (sym added.names)
+          (turn old at new c.in-Ok-Some.field-0 c.loop-self.self.files.items c.add.new.self.files.items c.loop-self.self.folders.items c.add.new.self.folders.items listed c.args.folder.now c.args.folder.now c.in-Ok-Some.name c.as_str.result.now
           c.loop-self.invariant.0 c.in-Ok-Some.ensures.looks c.in-Ok-Some.field-0-is c.in-Ok-Some.ensures.honest refl c.as_str.ensures
-          c.in_ok-add-in-Ok-Some.ensures.walked honest (c.loop-self.invariant.1 honest listed begun),
-      c.in_ok-add-in-Ok-Some.ensures.listed ∙ c.loop-self.invariant.2,
-      omega (arith, c.in_ok-add-in-Ok-Some.ensures.left, c.loop-self.invariant.3),
-      λ paths. c.in_ok-add-in-Ok-Some.ensures.paths (c.loop-self.invariant.4 paths),
+          added.walked honest (c.loop-self.invariant.1 honest listed begun)),
+      added.listed ∙ c.loop-self.invariant.2,
+      omega (arith, added.left, c.loop-self.invariant.3),
+      λ paths. added.paths (c.loop-self.invariant.4 paths),
+      added.failures ∙ c.in-Ok-Some.ensures.failures ∙ c.loop-self.invariant.5,
     )
 
 pub returns-in_err-add-in-Ok-Some-clause-refused : goal.returns-in_err-add-in-Ok-Some-clause-refused

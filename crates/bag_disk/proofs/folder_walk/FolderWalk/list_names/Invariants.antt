@@ -12,6 +12,7 @@ invariant-loop-self g l =
     × (l.self.listed.items ≡ l.initial.self.listed.items)
     × (vec_len l.self.folders + l.self.room ≤ vec_len l.initial.self.folders + l.initial.self.room)
     × (AllArePaths l.initial.self.files.items l.initial.self.folders.items → AllArePaths l.self.files.items l.self.folders.items)
+    × ((g.D.Disk.state l.disk).failures ≡ old.failures)
 
 abbrev pub decreases-loop-self : goal.decreases-loop-self
 decreases-loop-self g l = l.self.room

@@ -1,18 +1,18 @@
-use Rattle.std.proofs.Common.{◌≡◌, true, ◌∙◌, ◌≤◌, subst, sym}
+use Rattle.std.proofs.Common.{◌≡◌, true, ◌∙◌, sym, refl}
 use Rattle.std.proofs.lemmas.Bool.{false≢true}
 use Rattle.bag_store.proofs.BagSteps.{free_not_taken}
 use Rattle.bag_store.proofs.ChangedTree.{count_grows, file_changed, kept_count, step_begun}
 use Rattle.bag_disk.proofs.Plain.{special_not_plain}
 use Rattle.bag_tree.specs.Steps.{is_taken}
 use Rattle.bag_store.specs.FileTree.{state_after}
-use Rattle.bag_store.proofs.RefusedCalls.{step_answered_so}
+use Rattle.bag_store.proofs.RefusedCalls.{step_answered_so, tells_step}
 use Rattle.bag_store.proofs.file_tree.FileTreeWriteTree.create.Goals as goal
 
 pub returns-in-Ok-clause-changed : goal.returns-in-Ok-clause-changed
 returns-in-Ok-clause-changed g c =
     let disk = c.args.self.now.disk in
     let disk_then = c.create.new.disk in
-    file_changed (g.D.Disk.state disk) (g.D.Disk.state disk_then) _ _ _ _ _ _ c.args.name.now c.args.bytes.now (g.met.D.Disk.is_disk disk) (g.met.D.Disk.is_disk disk_then) (kept_count _ _ c.give.ensures.failures)
+    file_changed (g.D.Disk.state disk) (g.D.Disk.state disk_then) _ _ _ _ _ _ c.args.name.now c.args.bytes.now (g.met.D.Disk.is_disk disk) (g.met.D.Disk.is_disk disk_then) (kept_count _ _ _ _ c.in-Ok.ensures.failures c.give.ensures.failures)
     c.in-Ok.ensures.made
 
 pub returns-in-Ok-clause-possible : goal.returns-in-Ok-clause-possible
@@ -25,15 +25,23 @@ pub returns-in-Err-clause-begun : goal.returns-in-Err-clause-begun
 returns-in-Err-clause-begun g c =
     let disk = c.args.self.now.disk in
     let disk_then = c.create.new.disk in
-    let before = c.args.self.now.answered in
     step_begun (g.D.Disk.state disk) (g.D.Disk.state disk_then) _ _ _ _ _ _ c.args.name.now c.args.bytes.now (g.met.D.Disk.is_disk disk) (g.met.D.Disk.is_disk disk_then) c.requires
-    (subst (λ n. before.failures ≤ n) (sym c.refuse.ensures.failures) (count_grows c.in-Err.refusal before.failures)) c.refuse.ensures.given c.in-Err.ensures.begun
+    (count_grows c.in-Err.refusal _ _ _ _ c.in-Err.ensures.failures c.refuse.ensures.failures) c.refuse.ensures.given c.in-Err.ensures.begun
 
 pub returns-in-Err-clause-refused : goal.returns-in-Err-clause-refused
 returns-in-Err-clause-refused g c =
+    let disk = c.args.self.now.disk in
     let before = c.args.self.now.answered in
     let after = c.refuse.new.self in
-    let old = state_after (g.D.Disk.state c.args.self.now.disk) before.failures before.given before.last in
-    let new = state_after (g.D.Disk.state c.create.new.disk) after.failures after.given after.last in
-    step_answered_so ⊥ (is_taken old.bag c.args.name.now ≡ true) old new _ _ _ c.in-Err.refusal _ c.refuse.ensures.fault c.refuse.ensures.failures
-    (λ special honest. special_not_plain (g.D.Disk.state c.args.self.now.disk).nodes (special honest)) (λ never. absurd never) (λ there. there) c.in-Err.ensures.refused
+    let at = g.D.Disk.state disk in
+    let then = g.D.Disk.state c.create.new.disk in
+    let old = state_after at before.failures before.given before.last in
+    let new = state_after then after.failures after.given after.last in
+    step_answered_so old new at.failures then.failures before.failures after.failures ⊥ (is_taken old.bag c.args.name.now ≡ true) _ _ _ c.in-Err.refusal _
+    (record { old_is = refl; new_is = refl; disk_is = c.in-Err.ensures.failures; own_is = c.refuse.ensures.failures }) c.refuse.ensures.fault (λ special honest. special_not_plain at.nodes (special honest)) (λ never. absurd never) (λ there. there) c.in-Err.ensures.refused
+
+pub returns-in-Err-clause-cause : goal.returns-in-Err-clause-cause
+returns-in-Err-clause-cause g c =
+    let at = g.D.Disk.state c.args.self.now.disk in
+    let then = g.D.Disk.state c.create.new.disk in
+    tells_step c.in-Err.refusal c.refuse.result c.args.self.now.answered.failures at then _ _ _ c.refuse.ensures.fault c.in-Err.ensures.failures (λ special. special) c.in-Err.ensures.refused

@@ -1,4 +1,4 @@
--- A look at the disk before a step.
+-- A look at a disk before another call.
 use Rattle.std.proofs.Common.{IsTrue, subst, ◌∙◌}
 use Rattle.bag_disk.specs.Disk.{DiskState, Nodes, OnlyLooks}
 
