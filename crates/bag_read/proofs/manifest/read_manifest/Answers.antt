@@ -1,14 +1,13 @@
 use Rattle.std.proofs.Common.{◌≡◌, sym, ap, subst, Some}
-use Rattle.std.specs.Prelude.{filter_map}
 use Rattle.std.specs.Ordering.{nat_cmp, on}
 use Rattle.std.proofs.lemmas.Result.{IfOk-weaker}
 use Rattle.bag_text.specs.Lines.{lines_of_file, lines_of_text}
 use Rattle.bag_text.specs.Order.{IsListOf}
 use Rattle.bag_text.specs.Text.{text_of}
-use Rattle.bag_read.specs.Judged.{judged_and_marked, entry_of, fault_of}
 use Rattle.bag_read.specs.LineFault.{AreFaults}
 use Rattle.bag_read.specs.Manifest.{IsEntry, IsManifestFault}
-use Rattle.bag_read.proofs.ManifestFaults.{entries_of_text, faults_of_text, entries_of_no_text, faults_of_no_text}
+use Rattle.bag_read.specs.Repeats.{IsReadOnce}
+use Rattle.bag_read.proofs.ManifestFaults.{entries_of_lines, faults_of_text, entries_of_no_text, faults_of_no_text}
 use Rattle.bag_read.proofs.Utf8.{is_text, is_no_text}
 use Rattle.bag_read.proofs.manifest.read_manifest.Goals as goal
 
@@ -19,9 +18,11 @@ returns-in-Ok-clause-items c =
     let alg = c.args.alg in
     let bytes = c.args.bytes.now in
     let text : text_of bytes ≡ Some c.in-Ok.text.now = c.in-Ok.ensures.text in
-    let exact = entries_of_text rules kind alg bytes (is_text bytes _ text) in
-    let these = subst (λ all. IsListOf (on (λ e. e.line) nat_cmp) (IsEntry rules kind alg (lines_of_file bytes)) (filter_map entry_of (judged_and_marked rules kind alg all))) (ap lines_of_text text) exact in
-    IfOk-weaker c.read_text.result _ _ (λ parsed e. subst (IsListOf (on (λ e. e.line) nat_cmp) (IsEntry rules kind alg (lines_of_file bytes))) (sym e) these) c.read_text.ensures.items
+    IfOk-weaker c.read_text.result _ _
+    (λ parsed h.
+    let read : IsReadOnce rules kind alg (lines_of_file bytes) parsed.items parsed.faults = subst (λ all. IsReadOnce rules kind alg all parsed.items parsed.faults) (sym (ap lines_of_text text)) h in
+    subst (IsListOf (on (λ e. e.line) nat_cmp) (IsEntry rules kind alg (lines_of_file bytes))) (sym read.items_are) (entries_of_lines rules kind alg read.names_again (lines_of_file bytes) read.tells))
+    c.read_text.ensures
 
 pub returns-in-Ok-clause-faults : goal.returns-in-Ok-clause-faults
 returns-in-Ok-clause-faults c =
@@ -30,9 +31,11 @@ returns-in-Ok-clause-faults c =
     let alg = c.args.alg in
     let bytes = c.args.bytes.now in
     let text : text_of bytes ≡ Some c.in-Ok.text.now = c.in-Ok.ensures.text in
-    let exact = faults_of_text rules kind alg bytes (is_text bytes _ text) in
-    let these = subst (λ all. AreFaults (IsManifestFault rules kind alg bytes) (filter_map fault_of (judged_and_marked rules kind alg all))) (ap lines_of_text text) exact in
-    IfOk-weaker c.read_text.result _ _ (λ parsed e. subst (AreFaults (IsManifestFault rules kind alg bytes)) (sym e) these) c.read_text.ensures.faults
+    IfOk-weaker c.read_text.result _ _
+    (λ parsed h.
+    let read : IsReadOnce rules kind alg (lines_of_file bytes) parsed.items parsed.faults = subst (λ all. IsReadOnce rules kind alg all parsed.items parsed.faults) (sym (ap lines_of_text text)) h in
+    subst (AreFaults (IsManifestFault rules kind alg bytes)) (sym read.faults_are) (faults_of_text rules kind alg read.names_again bytes (is_text bytes _ text) read.tells))
+    c.read_text.ensures
 
 pub returns-in-Err-clause-items : goal.returns-in-Err-clause-items
 returns-in-Err-clause-items c =
