@@ -1,6 +1,6 @@
 -- One line of fetch.txt.
 use Rattle.std.proofs.Common.{◌≡◌, ℕ, true, false, [], codes, List, subst, refl, sym, ◌∙◌, Result, Ok, Err}
-use Rattle.bag_text.specs.Text.{without_prefix}
+use Rattle.bag_text.specs.Text.{before_blank, after_blanks, without_prefix}
 use Rattle.bag_text.specs.Spelling.{unescaped}
 use Rattle.bag_text.specs.Path.{is_payload_path, is_path}
 use Rattle.bag_text.specs.declared.rules.Rules.{Rules}
@@ -13,18 +13,18 @@ use Rattle.bag_read.proofs.Reason.{IsReasonOf, then_reason, chosen, decoded_reas
 
 module _ (rules : Rules) where
   -- the parts of a line
-  module _ (line url size written : List ℕ) (first : url ≡ url_of line) (next : size ≡ length_of line) (last : written ≡ written_of line) where
+  module _ (line url behind size written : List ℕ) (first : url ≡ before_blank line) (back : behind ≡ after_blanks line) (next : size ≡ before_blank behind) (last : written ≡ after_blanks behind) where
     pub line_lacking : (n : ℕ) → lacks_part url size written ≡ true → ◌≡◌ {A = Result FetchEntry Reason} (Err (FetchLine, [])) (entry_in rules n line)
     unfolding fetch_line
-    line_lacking n e = rw (rw (first, next, last) at e) refl
+    line_lacking n e = rw (rw (first, next, last, back) at e) refl
 
     line_with_parts : lacks_part url size written ≡ false → fetch_line rules line ≡ path_spelled rules (without_prefix (codes "./") written)
     unfolding fetch_line
-    line_with_parts e = rw (last, rw (first, next, last) at e) refl
+    line_with_parts e = rw (last, back, rw (first, next, last, back) at e) refl
 
     pub line_read : (n : ℕ) (path : Result (List ℕ) Reason) → lacks_part url size written ≡ false → path ≡ path_spelled rules (without_prefix (codes "./") written)
         → ◌≡◌ {A = Result FetchEntry Reason} (path >>= λ p. Ok (entry n url size p)) (entry_in rules n line)
-    line_read n path e is = rw (first, next, is ∙ sym (line_with_parts e)) refl
+    line_read n path e is = rw (first, next, back, is ∙ sym (line_with_parts e)) refl
 
   -- the codes of the reasons why a line doesn't read
   abbrev pub IsReasonCode : Code → Type 0

@@ -1,12 +1,12 @@
 -- The entries and the faults of a manifest.
-use Rattle.std.proofs.Common.{◌≡◌, ◌⊎◌, inl, inr, ℕ, Bool, true, false, List, [], ◌∷◌, refl, ap, sym, ◌∙◌, subst, Result, Ok, Err, bytes_eq}
+use Rattle.std.proofs.Common.{◌≡◌, ◌⊎◌, inl, inr, ℕ, Bool, true, false, List, [], ◌∷◌, refl, ap, sym, ◌∙◌, subst, Some, Result, Ok, Err, bytes_eq}
 use Rattle.std.specs.Prelude.{Contains}
 use Rattle.std.specs.List.{list_any}
 use Rattle.std.specs.Ordering.{nat_cmp, on}
 use Rattle.std.specs.Str.{is_utf8}
 use Rattle.std.proofs.lemmas.Slice.Eq.{bytes_eq-Decides}
-use Rattle.bag_text.specs.Lines.{IsLine, lines_of_file}
-use Rattle.bag_text.specs.Text.{IsText, IsNoText}
+use Rattle.bag_text.specs.Lines.{IsLine, lines, lines_of_file, lines_of_text}
+use Rattle.bag_text.specs.Text.{text_of, IsText, IsNoText}
 use Rattle.bag_text.specs.Order.{IsListOf}
 use Rattle.bag_text.specs.declared.rules.Rules.{Rules}
 use Rattle.bag_text.specs.declared.alg.Alg.{Alg}
@@ -19,13 +19,13 @@ use Rattle.bag_read.specs.declared.manifest.ManifestEntry.{ManifestEntry}
 use Rattle.bag_read.specs.LineFault.{AreFaults, line_fault, line_fault_cmp, not_utf8, entries_read, faults_read}
 use Rattle.bag_read.specs.Manifest.{HasReason, manifest_line, entry_unless, entry_in, named_before, IsEntry, IsManifestFault, ManifestFault}
 use Rattle.bag_read.specs.Reason.{Reason, ◌>>=◌}
-use Rattle.bag_read.specs.Repeats.{TellsRepeats}
+use Rattle.bag_read.specs.Repeats.{TellsRepeats, IsReadOnce}
 use Rattle.bag_read.proofs.FaultOrder.{is_fault}
 use Rattle.bag_read.proofs.LinesRead.{IsRead, IsUnread, entries_listed, faults_listed}
 use Rattle.bag_read.proofs.ManifestLine.{IsReasonCode, reason_code}
 use Rattle.bag_read.proofs.PickedOut.{any_from, from_any}
 use Rattle.bag_read.proofs.Reason.{bind_ok, err_same, clash}
-use Rattle.bag_read.proofs.Utf8.{no_line}
+use Rattle.bag_read.proofs.Utf8.{no_line, is_text}
 
 abbrev pub line_of : ManifestEntry → ℕ
 line_of e = e.line
@@ -93,7 +93,7 @@ module _ (rules : Rules) (kind : Kind) (alg : Alg) where
       pub entries_of_lines : IsListOf (on (λ e. e.line) nat_cmp) (IsEntry rules kind alg all) (entries_read reads all)
       entries_of_lines = same_members (on line_of nat_cmp) (IsRead reads all line_of) (IsEntry rules kind alg all) _ entry_read is_entry (entries_listed reads all line_of numbered)
 
-    module _ (bytes : List ℕ) (is_text : IsText bytes) (tells : TellsRepeats rules kind alg (lines_of_file bytes) names_again) where
+    module _ (bytes : List ℕ) (is_utf8 : IsText bytes) (tells : TellsRepeats rules kind alg (lines_of_file bytes) names_again) where
       abbrev all : List (List ℕ)
       all = lines_of_file bytes
 
@@ -112,7 +112,7 @@ module _ (rules : Rules) (kind : Kind) (alg : Alg) where
           ]
 
       from_code : (code : Code) (f : LineFault) → f.code ≡ code → ManifestFault code rules kind alg bytes f → IsUnread reads all f
-      from_code NotUtf8 f e h = let none : true ≡ false = sym is_text ∙ h.2 in cc
+      from_code NotUtf8 f e h = let none : true ≡ false = sym is_utf8 ∙ h.2 in cc
       from_code NamedAgain f e (line, digest, at, (some, ok), c) =
           let again : names_again f.line f.detail ≡ true = (tells f.line line digest f.detail at (some, ok)).1 c in
           let made : reads f.line line ≡ Err (NamedAgain, f.detail) = rw (ok, again) refl in
@@ -122,8 +122,23 @@ module _ (rules : Rules) (kind : Kind) (alg : Alg) where
           (line, at, (some, made ∙ ap {B = Result ManifestEntry Reason} (λ (k : Code). Err (k, f.detail)) (sym e)))
 
       -- the faults of a file that is UTF-8
-      pub faults_of_text : AreFaults (IsManifestFault rules kind alg bytes) (faults_read reads all)
-      faults_of_text = same_members line_fault_cmp (IsUnread reads all) (IsManifestFault rules kind alg bytes) _ fault_read (λ f h. from_code f.code f refl h) (faults_listed reads all)
+      pub faults_of_lines : AreFaults (IsManifestFault rules kind alg bytes) (faults_read reads all)
+      faults_of_lines = same_members line_fault_cmp (IsUnread reads all) (IsManifestFault rules kind alg bytes) _ fault_read (λ f h. from_code f.code f refl h) (faults_listed reads all)
+
+  -- what is read of a text, each path once, is what the bytes say
+  module _ (bytes text : List ℕ) (is : text_of bytes ≡ Some text) (items : List ManifestEntry) (faults : List LineFault) (once : IsReadOnce rules kind alg (lines text) items faults) where
+    once_in_file : IsReadOnce rules kind alg (lines_of_file bytes) items faults
+    once_in_file = subst (λ t. IsReadOnce rules kind alg (lines_of_text t) items faults) (sym is) once
+
+    pub entries_of_text : IsListOf (on (λ e. e.line) nat_cmp) (IsEntry rules kind alg (lines_of_file bytes)) items
+    entries_of_text =
+        let read = once_in_file in
+        subst (IsListOf (on (λ e. e.line) nat_cmp) (IsEntry rules kind alg (lines_of_file bytes))) (sym read.items_are) (entries_of_lines read.names_again (lines_of_file bytes) read.tells)
+
+    pub faults_of_text : AreFaults (IsManifestFault rules kind alg bytes) faults
+    faults_of_text =
+        let read = once_in_file in
+        subst (AreFaults (IsManifestFault rules kind alg bytes)) (sym read.faults_are) (faults_of_lines read.names_again bytes (is_text bytes text is) read.tells)
 
   module _ (bytes : List ℕ) (other : IsNoText bytes) where
     -- a file that isn't UTF-8 has no entry and one fault
@@ -155,5 +170,5 @@ module _ (rules : Rules) (kind : Kind) (alg : Alg) where
   some_entries bytes false e = ([], entries_of_no_text bytes e)
 
   pub some_faults : (bytes : List ℕ) (b : Bool) → is_utf8 bytes ≡ b → (faults : List LineFault) × AreFaults (IsManifestFault rules kind alg bytes) faults
-  some_faults bytes true e = let all = lines_of_file bytes in (faults_read (reads (is_named_before all)) all, faults_of_text (is_named_before all) bytes e (named_before_tells all))
+  some_faults bytes true e = let all = lines_of_file bytes in (faults_read (reads (is_named_before all)) all, faults_of_lines (is_named_before all) bytes e (named_before_tells all))
   some_faults bytes false e = (not_utf8 ∷ [], faults_of_no_text bytes e)

@@ -18,7 +18,6 @@ mod declaration;
 mod declaration_faults;
 mod declaration_line;
 mod digest;
-mod digits;
 mod fetch;
 mod info;
 mod info_line;

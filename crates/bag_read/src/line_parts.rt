@@ -1,6 +1,9 @@
-//! What lines of tag files are made of: texts in front of others and behind them, and spelled paths.
+//! What lines of tag files are made of: texts in front of others and behind them, spelled paths, and numbers in ASCII digits.
 ghost use Rattle.std.specs.Prelude.{◌≡◌, ◌≢◌, ◌++◌, ℕ, List, IfOk, MatchOption};
+ghost use Rattle.std.specs.Char.{is_ascii_digit};
+ghost use Rattle.std.specs.List.{list_all};
 ghost use Rattle.std.specs.Option.{option_copied};
+ghost use Rattle.bag_text.specs.Number as number;
 ghost use Rattle.bag_text.specs.Spelling.{unescaped};
 ghost use Rattle.bag_text.specs.Text as spec;
 ghost use Rattle.bag_read.specs.Reason.{decoded_or};
@@ -47,4 +50,17 @@ pub(crate) fn decode_path(
         Err(PathFault::BadEscape) => refuse(alloc, bad_escape, spelling),
         Err(PathFault::Memory) => Err(AllocError),
     }
+}
+
+/// One or more ASCII digits.
+pub(crate) fn is_digits(text: &str) -> bool
+    ensures { result ≡ number.is_digits text.now }
+{
+    !text.is_empty() && has_digits_only(text)
+}
+
+fn has_digits_only(text: &str) -> bool
+    ensures { result ≡ list_all is_ascii_digit text.now }
+{
+    text.as_bytes().iter().all(|b| b.is_ascii_digit())
 }

@@ -1,32 +1,25 @@
 use Rattle.std.proofs.Common.{◌∙◌, sym, ap}
 use Rattle.std.proofs.lemmas.Result.{IfOk-weaker}
-use Rattle.bag_text.specs.Text.{before_blank, after_blanks}
 use Rattle.bag_read.specs.Fetch.{path_spelled}
 use Rattle.bag_read.proofs.FetchLine.{line_lacking, line_read}
 use Rattle.bag_read.proofs.fetch.read_line.Goals as goal
 
 pub returns-then-lacks_part : goal.returns-then-lacks_part
 returns-then-lacks_part c =
-    let first = c.split_at_blanks.ensures.front in
-    let behind = c.split_at_blanks.ensures.back in
-    let next = c.split_at_blanks-2.ensures.front ∙ ap before_blank behind in
-    let last = c.split_at_blanks-2.ensures.back ∙ ap after_blanks behind in
-    IfOk-weaker c.refuse.result _ _ (λ v e. e ∙ line_lacking c.args.rules c.args.line.now _ _ _ first next last c.args.number (sym c.if-lacks_part.ensures)) c.refuse.ensures
+    let first = c.split_at_blanks.ensures in
+    let next = c.split_at_blanks-2.ensures in
+    IfOk-weaker c.refuse.result _ _ (λ v e. e ∙ line_lacking c.args.rules c.args.line.now _ _ _ _ first.front first.back next.front next.back c.args.number (sym c.if-lacks_part.ensures)) c.refuse.ensures
 
 pub returns-in-Ok : goal.returns-in-Ok
 returns-in-Ok c =
-    let first = c.split_at_blanks.ensures.front in
-    let behind = c.split_at_blanks.ensures.back in
-    let next = c.split_at_blanks-2.ensures.front ∙ ap before_blank behind in
-    let last = c.split_at_blanks-2.ensures.back ∙ ap after_blanks behind in
+    let first = c.split_at_blanks.ensures in
+    let next = c.split_at_blanks-2.ensures in
     let read = c.in_ok-read_path.ensures ∙ ap (path_spelled c.args.rules) c.without_prefix.ensures in
-    line_read c.args.rules c.args.line.now _ _ _ first next last c.args.number _ (sym c.if-lacks_part.ensures) read
+    IfOk-weaker c.entry.result _ _ (λ v e. e ∙ line_read c.args.rules c.args.line.now _ _ _ _ first.front first.back next.front next.back c.args.number _ (sym c.if-lacks_part.ensures) read) c.entry.ensures
 
 pub returns-in-Err : goal.returns-in-Err
 returns-in-Err c =
-    let first = c.split_at_blanks.ensures.front in
-    let behind = c.split_at_blanks.ensures.back in
-    let next = c.split_at_blanks-2.ensures.front ∙ ap before_blank behind in
-    let last = c.split_at_blanks-2.ensures.back ∙ ap after_blanks behind in
+    let first = c.split_at_blanks.ensures in
+    let next = c.split_at_blanks-2.ensures in
     let read = c.in_ok-read_path.ensures ∙ ap (path_spelled c.args.rules) c.without_prefix.ensures in
-    line_read c.args.rules c.args.line.now _ _ _ first next last c.args.number _ (sym c.if-lacks_part.ensures) read
+    line_read c.args.rules c.args.line.now _ _ _ _ first.front first.back next.front next.back c.args.number _ (sym c.if-lacks_part.ensures) read
