@@ -47,6 +47,7 @@ pub fn read_fetch(
 }
 
 /// How the lines of `fetch.txt` read.
+#[derive(Drop)]
 struct FetchForm {
     rules: Rules,
 }
