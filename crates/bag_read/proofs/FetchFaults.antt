@@ -8,7 +8,7 @@ use Rattle.bag_text.specs.declared.rules.Rules.{Rules}
 use Rattle.bag_text.specs.declared.code.Code.{Code}
 use Rattle.bag_text.specs.declared.code.Code.TheVariants.{NotUtf8}
 use Rattle.bag_text.proofs.ListOf.{nothing_listed, one_listed, same_members}
-use Rattle.bag_read.specs.Reason.{Reason, ◌>>=◌}
+use Rattle.bag_read.specs.Reason.{Reason}
 use Rattle.bag_read.specs.LineFault.{AreFaults, line_fault_cmp, not_utf8, entries_read, faults_read}
 use Rattle.bag_read.specs.Fetch.{url_of, length_of, fetch_line, entry, entry_in, Reads, HasReason, IsFetch, IsFetchFault, FetchFault}
 use Rattle.bag_read.specs.declared.line_fault.LineFault.{LineFault}

@@ -1,5 +1,5 @@
 -- A line of fetch.txt and its parts.
-use Rattle.std.proofs.Common.{◌≡◌, ◌≢◌, ℕ, ◌⊎◌, inl, inr, Bool, true, false, not, ◌&&◌, ◌||◌, cond, List, [], refl, sym, ap, ◌∙◌, subst, codes, length, Option, Some, None, Result, Ok, Err, bytes_eq, nat_lt}
+use Rattle.std.proofs.Common.{◌≡◌, ◌≢◌, ℕ, ◌⊎◌, inl, inr, Bool, true, false, not, ◌&&◌, ◌||◌, cond, List, [], refl, sym, ap, ◌∙◌, subst, codes, length, Some, Result, Ok, Err, bytes_eq, nat_lt}
 use Rattle.std.specs.Prelude.{IsTrue}
 use Rattle.std.proofs.lemmas.Slice.Eq.{bytes_eq-Decides}
 use Rattle.bag_text.specs.Number.{is_digits}

@@ -113,13 +113,13 @@ module _ (rules : Rules) (kind : Kind) (alg : Alg) where
 
       from_code : (code : Code) (f : LineFault) → f.code ≡ code → ManifestFault code rules kind alg bytes f → IsUnread reads all f
       from_code NotUtf8 f e h = let none : true ≡ false = sym is_utf8 ∙ h.2 in cc
-      from_code NamedAgain f e (line, digest, at, (some, ok), c) =
-          let again : names_again f.line f.detail ≡ true = (tells f.line line digest f.detail at (some, ok)).1 c in
-          let made : reads f.line line ≡ Err (NamedAgain, f.detail) = rw (ok, again) refl in
-          (line, at, (some, made ∙ ap {B = Result ManifestEntry Reason} (λ (k : Code). Err (k, f.detail)) (sym e)))
-      from_code code f e (line, at, (some, reason)) =
-          let made : reads f.line line ≡ Err (code, f.detail) = rw reason refl in
-          (line, at, (some, made ∙ ap {B = Result ManifestEntry Reason} (λ (k : Code). Err (k, f.detail)) (sym e)))
+      from_code NamedAgain f e h =
+          let again : names_again f.line f.detail ≡ true = (tells f.line h.0 h.1 f.detail h.2 h.3).1 h.4 in
+          let made : reads f.line h.0 ≡ Err (NamedAgain, f.detail) = rw (h.3.1, again) refl in
+          (h.0, h.2, (h.3.0, made ∙ ap {B = Result ManifestEntry Reason} (λ (k : Code). Err (k, f.detail)) (sym e)))
+      from_code code f e h =
+          let made : reads f.line h.0 ≡ Err (code, f.detail) = rw h.2.1 refl in
+          (h.0, h.1, (h.2.0, made ∙ ap {B = Result ManifestEntry Reason} (λ (k : Code). Err (k, f.detail)) (sym e)))
 
       -- the faults of a file that is UTF-8
       pub faults_of_lines : AreFaults (IsManifestFault rules kind alg bytes) (faults_read reads all)

@@ -1,5 +1,5 @@
 -- A line of a manifest and its parts.
-use Rattle.std.proofs.Common.{◌≡◌, ◌≢◌, ℕ, ◌⊎◌, inl, inr, Bool, true, false, not, ◌||◌, ◌==◌, cond, List, [], length, refl, sym, ap, ◌∙◌, subst, codes, Option, Some, None, Result, Ok, Err, bytes_eq, arith}
+use Rattle.std.proofs.Common.{◌≡◌, ◌≢◌, ℕ, ◌⊎◌, inl, inr, Bool, true, false, not, ◌||◌, ◌==◌, cond, List, [], length, refl, sym, ap, ◌∙◌, subst, codes, Some, Result, Ok, Err, bytes_eq, arith}
 use Rattle.std.specs.Prelude.{IsTrue}
 use Rattle.std.specs.Char.{is_ascii_hexdigit}
 use Rattle.std.specs.List.{list_all}

@@ -1,5 +1,5 @@
 -- Whether entries of a manifest name each path once, and which lines name a path again.
-use Rattle.std.proofs.Common.{◌≡◌, ◌≢◌, ◌⊎◌, ℕ, ◌+◌, ◌-◌, ◌<◌, inl, inr, Bool, true, false, cond, List, length, get_or, map, refl, ap, sym, ◌∙◌, subst, Result, Ok, Err, Some, bytes_eq, nat_eq, nat_lt, ◌==◌, arith, rules}
+use Rattle.std.proofs.Common.{◌≡◌, ◌⊎◌, ℕ, ◌+◌, ◌-◌, ◌<◌, ◌≤◌, inl, inr, Bool, true, false, cond, List, length, get_or, map, refl, ap, sym, ◌∙◌, subst, Result, Ok, Some, bytes_eq, nat_eq, nat_lt, ◌==◌, arith, rules}
 use Rattle.std.specs.Prelude.{Contains, ◌↔◌, IsTrue}
 use Rattle.std.specs.List.{IsDistinct, slice_get}
 use Rattle.std.specs.List.Sorted.{IsPermutation, IsSortedBy, IsStrictlyIncreasing}
@@ -27,7 +27,7 @@ use Rattle.bag_read.specs.LineFault.{entries_read}
 use Rattle.bag_read.specs.Manifest.{Reads, manifest_line, named_before}
 use Rattle.bag_read.specs.Reason.{Reason}
 use Rattle.bag_read.specs.Repeats.{fingerprint, mark_of, AreAscending, AreDifferent, NamesBelow, RepeatsBelow, IsRepeatedLine, TellsRepeats}
-use Rattle.bag_read.proofs.FaultOrder.{less, lower, same}
+use Rattle.bag_read.proofs.FaultOrder.{lower, same}
 use Rattle.bag_read.proofs.LinesRead.{IsRead, entries_listed}
 use Rattle.bag_read.proofs.ManifestEntries.{named_earlier, earlier_named}
 use Rattle.bag_read.proofs.ManifestFaults.{line_of, reads, entry_parts, numbered}
@@ -150,6 +150,19 @@ module _ (entries : List ManifestEntry) (k : ℕ) (e : ManifestEntry) (at : slic
     λ h. widened n ((is n).0 h),
     λ h. elim (repeats_either n h) [ inl before ↦ (is n).1 before | inr (_, names) ↦ absurd (none names) ],
   )
+
+-- at first nothing is below, and at last everything
+pub none_below : (entries : List ManifestEntry) (path : List ℕ) (b : Bool) → b ≡ false → IsTrue b ↔ NamesBelow entries 0 path
+none_below entries path b e = (λ h. absurd (clash b h e), λ h. let low = h.2 in absurd (omega arith))
+
+pub no_repeats_below : (entries : List ManifestEntry) (n : ℕ) (b : Bool) → b ≡ false → IsTrue b ↔ RepeatsBelow entries 0 n
+no_repeats_below entries n b e = (λ h. absurd (clash b h e), λ h. let low = h.2 in absurd (omega arith))
+
+pub all_below : (entries : List ManifestEntry) (k : ℕ) (lines : ℕ → Bool) → length entries ≤ k → ((n : ℕ) → IsTrue (lines n) ↔ RepeatsBelow entries k n) → (n : ℕ) → IsTrue (lines n) ↔ IsRepeatedLine entries n
+all_below entries k lines high is n = (
+  λ h. (let r = (is n).0 h in (r.0, r.1, slice_get_within entries r.0 r.1 r.3, r.3, r.4, r.5)),
+  λ h. (let low = h.2 in (is n).1 (h.0, h.1, omega arith, h.3, h.4, h.5)),
+)
 
 -- what is read at first, with no line known to name a path again
 module _ (rules : Rules) (kind : Kind) (alg : Alg) (all : List (List ℕ)) (at_first : ℕ → List ℕ → Bool) (none_known : (n : ℕ) (path : List ℕ) → at_first n path ≡ false) where
