@@ -1,5 +1,5 @@
 -- A line of fetch.txt and its parts.
-use Rattle.std.proofs.Common.{◌≡◌, ◌≢◌, ℕ, ◌⊎◌, inl, inr, Bool, true, false, not, ◌&&◌, ◌||◌, cond, List, [], refl, sym, ap, ◌∙◌, subst, codes, length, Option, Some, None, Result, Ok, Err, bytes_eq, nat_lt}
+use Rattle.std.proofs.Common.{◌≡◌, ◌≢◌, ℕ, ◌⊎◌, inl, inr, Bool, true, false, not, ◌&&◌, ◌||◌, cond, List, [], refl, sym, ap, ◌∙◌, subst, codes, length, Some, Result, Ok, Err, bytes_eq, nat_lt}
 use Rattle.std.specs.Prelude.{IsTrue}
 use Rattle.std.proofs.lemmas.Slice.Eq.{bytes_eq-Decides}
 use Rattle.bag_text.specs.Number.{is_digits}
@@ -7,16 +7,16 @@ use Rattle.bag_text.specs.Path.{is_path, is_payload_path, first_component, compo
 use Rattle.bag_text.specs.Spelling.{unescaped}
 use Rattle.bag_text.specs.Text.{is_blank_line, before_blank, after_blanks, without_prefix}
 use Rattle.bag_text.specs.declared.rules.Rules.{Rules}
-use Rattle.bag_text.specs.declared.code.Code.TheVariants.{FetchLine, FetchOutsidePayload, FetchUnsafePath}
+use Rattle.bag_text.specs.declared.code.Code.TheVariants.{FetchLine, FetchEscape, FetchOutsidePayload, FetchUnsafePath}
 use Rattle.bag_text.proofs.LineEnds.{spellings}
-use Rattle.bag_read.specs.Reason.{Reason, ◌>>=◌}
+use Rattle.bag_read.specs.Reason.{Reason, ◌>>=◌, decoded_or}
 use Rattle.bag_read.specs.LineParts.{IsWithout}
-use Rattle.bag_read.specs.Fetch.{url_of, length_of, written_of, is_length, lacks_part, spelling_of, decoded_or, fetched_path, fetch_line}
+use Rattle.bag_read.specs.Fetch.{url_of, length_of, written_of, is_length, lacks_part, spelling_of, fetched_path, fetch_line}
 use Rattle.bag_read.specs.FetchLine.{IsLength, ReadsAs, FetchLinesReadAsTheirParts, OnlyReads, HasOnlyReason, FetchLinesReadOrHaveOneReason}
 use Rattle.bag_read.proofs.AreDigits.{are_digits, digits_are}
 use Rattle.bag_read.proofs.LineParts.{or_false, not_false, not_empty, empty_test, is_cut, cut_part, cut_rest, not_blank, begins_some, is_without, without_alone}
 use Rattle.bag_read.proofs.PickedOut.{both_true}
-use Rattle.bag_read.proofs.Reason.{bind_ok}
+use Rattle.bag_read.proofs.Reason.{bind_ok, decoded_ok}
 
 pub either_true : (a b : Bool) → (a || b) ≡ true → (a ≡ true) ⊎ (b ≡ true)
 either_true true b e = inl refl
@@ -61,10 +61,6 @@ spelling_by : (written spelling : List ℕ) (b : Bool) → cond {A = Result (Lis
 spelling_by written spelling true e = cc
 spelling_by written spelling false e = (refl, let same : without_prefix (codes "./") written ≡ spelling = cc in same)
 
-decoded_ok : (o : Option (List ℕ)) (spelling path : List ℕ) → decoded_or o spelling ≡ Ok path → o ≡ Some path
-decoded_ok None spelling path e = cc
-decoded_ok (Some p) spelling path e = let same : p ≡ path = cc in ap Some same
-
 fetched_by : (path fetched : List ℕ) (a b : Bool) → is_path path ≡ a → is_payload_path path ≡ b
     → cond {A = Result (List ℕ) Reason} a (cond b (Ok path) (Err (FetchOutsidePayload, path))) (Err (FetchUnsafePath, path)) ≡ Ok fetched → IsTrue (is_payload_path path) × (path ≡ fetched)
 fetched_by path fetched true true e f h = (f, let same : path ≡ fetched = cc in same)
@@ -85,7 +81,7 @@ module _ (rules : Rules) where
   unfolding fetch_line
   line_parts line path e =
       let first = bind_ok (spelling_of line) _ path e in
-      let second = bind_ok (decoded_or (unescaped rules first.0) first.0) _ path first.2 in
+      let second = bind_ok (decoded_or FetchEscape (unescaped rules first.0) first.0) _ path first.2 in
       let whole = spelling_by (written_of line) first.0 (lacks_part (url_of line) (length_of line) (written_of line)) first.1 in
       let has = has_parts (url_of line) (length_of line) (written_of line) whole.0 in
       let fetched = fetched_by second.0 path (is_path second.0) (is_payload_path second.0) refl refl second.2 in
@@ -97,7 +93,7 @@ module _ (rules : Rules) where
         length_next = is_cut (after_blanks line) (part_some (length_of line) has.1) has.2;
         length_told = length_told (length_of line) has.1;
         dot_slash = subst (IsWithout (codes "./") (written_of line)) whole.1 (is_without (codes "./") (written_of line));
-        spelled = (spellings rules first.0 path).1 (decoded_ok (unescaped rules first.0) first.0 second.0 second.1 ∙ ap Some fetched.1);
+        spelled = (spellings rules first.0 path).1 (decoded_ok FetchEscape (unescaped rules first.0) first.0 second.0 second.1 ∙ ap Some fetched.1);
         in_payload = subst (λ p. IsTrue (is_payload_path p)) fetched.1 fetched.0;
       }
 
@@ -129,8 +125,8 @@ module _ (rules : Rules) where
     pub path_is : fetch_line rules line ≡ Ok path
     unfolding fetch_line
     path_is =
-        ap (λ s. s >>= λ spelling. decoded_or (unescaped rules spelling) spelling >>= λ path. fetched_path path) spelling_is
-        ∙ ap (λ o. decoded_or o r.spelling >>= λ path. fetched_path path) ((spellings rules r.spelling path).0 r.spelled)
+        ap (λ s. s >>= λ spelling. decoded_or FetchEscape (unescaped rules spelling) spelling >>= λ path. fetched_path path) spelling_is
+        ∙ ap (λ o. decoded_or FetchEscape o r.spelling >>= λ path. fetched_path path) ((spellings rules r.spelling path).0 r.spelled)
         ∙ payload_fetched path r.in_payload
 
   result_by : (line : List ℕ) (r : Result (List ℕ) Reason) → is_blank_line line ≡ false → fetch_line rules line ≡ r → OnlyReads rules line ⊎ HasOnlyReason rules line

@@ -7,30 +7,15 @@ use Rattle.bag_text.specs.declared.rules.Rules.{Rules}
 use Rattle.bag_text.specs.declared.code.Code.{Code}
 use Rattle.bag_text.specs.declared.code.Code.TheVariants.{FetchLine, FetchEscape, FetchUnsafePath, FetchOutsidePayload}
 use Rattle.bag_text.proofs.LineEnds.{spellings}
-use Rattle.bag_read.specs.Fetch.{url_of, length_of, written_of, is_length, lacks_part, decoded_or, fetched_path, fetch_line}
+use Rattle.bag_read.specs.Fetch.{url_of, length_of, written_of, is_length, lacks_part, fetched_path, fetch_line}
 use Rattle.bag_read.specs.FetchReasons.{HasParts, IsSpelled, IsWritten, Holds, FirstFetchReasonIsTold}
-use Rattle.bag_read.specs.FirstReason.{IsFirst}
-use Rattle.bag_read.specs.Reason.{Reason, ◌>>=◌}
+use Rattle.bag_read.specs.Reason.{Reason, ◌>>=◌, decoded_or, IsFirst}
 use Rattle.bag_read.proofs.FetchLineParts.{length_told, told_length, length_some, part_some, has_parts, lacks_none}
+use Rattle.bag_read.proofs.Reason.{err_same, never_ok, some_same, none_some, clash}
 use Rattle.bag_read.proofs.LineParts.{is_cut, cut_part, cut_rest, begins_some, is_without, without_alone}
 
 abbrev Path : Type 0
 Path = Result (List ℕ) Reason
-
-err_same : (x y : Reason) → ◌≡◌ {A = Path} (Err x) (Err y) → x ≡ y
-err_same x y e = cc
-
-never_ok : (x : List ℕ) (y : Reason) → ◌≡◌ {A = Path} (Ok x) (Err y) → ⊥
-never_ok x y e = cc
-
-clash : (b : Bool) → b ≡ true → b ≡ false → ⊥
-clash b e f = let none : true ≡ false = sym e ∙ f in cc
-
-some_same : (x y : List ℕ) → Some x ≡ Some y → x ≡ y
-some_same x y e = cc
-
-none_some : (o : Option (List ℕ)) (x : List ℕ) → o ≡ None → o ≡ Some x → ⊥
-none_some o x e f = let no : None ≡ Some x = sym e ∙ f in cc
 
 module _ (rules : Rules) (line : List ℕ) where
   abbrev written : List ℕ
@@ -115,7 +100,7 @@ module _ (rules : Rules) (line : List ℕ) where
     behind_parts = FetchEscape ∷ FetchUnsafePath ∷ FetchOutsidePayload ∷ []
 
     spelling_first : (reason : Reason) (o : Option (List ℕ)) → unescaped rules spelling ≡ o
-        → (decoded_or o spelling >>= λ path. fetched_path path) ≡ Err reason → IsFirstOf behind_parts reason
+        → (decoded_or FetchEscape o spelling >>= λ path. fetched_path path) ≡ Err reason → IsFirstOf behind_parts reason
     spelling_first reason None e h = subst (IsFirstOf behind_parts) (err_same _ _ h) (inl (refl, bad_escape e))
     spelling_first reason (Some path) e h = inr (no_bad_escape path e, path_first path e reason (is_path path) (is_payload_path path) refl refl h)
 
@@ -126,7 +111,7 @@ module _ (rules : Rules) (line : List ℕ) where
   all = FetchLine ∷ FetchEscape ∷ FetchUnsafePath ∷ FetchOutsidePayload ∷ []
 
   line_first : (reason : Reason) (b : Bool) → lacks ≡ b
-      → (cond {A = Path} b (Err (FetchLine, [])) (Ok spelling) >>= λ s. decoded_or (unescaped rules s) s >>= λ path. fetched_path path) ≡ Err reason → FirstOf all reason
+      → (cond {A = Path} b (Err (FetchLine, [])) (Ok spelling) >>= λ s. decoded_or FetchEscape (unescaped rules s) s >>= λ path. fetched_path path) ≡ Err reason → FirstOf all reason
   line_first reason true e h = subst (FirstOf all) (err_same _ _ h) (inl (refl, no_parts e))
   line_first reason false e h = inr (no_part_missing e, spelling_first e reason (unescaped rules spelling) refl h)
 

@@ -1,5 +1,5 @@
 -- The entries of a manifest are of the paths that its lines name, one for each path.
-use Rattle.std.proofs.Common.{◌≡◌, ◌≢◌, ℕ, suc, ◌+◌, ◌-◌, ◌<◌, inl, inr, Bool, true, false, List, [], ◌∷◌, take, refl, ap, sym, ◌∙◌, subst, Option, Some, None, Result, Ok, Err, bytes_eq, arith}
+use Rattle.std.proofs.Common.{◌≡◌, ◌≢◌, ℕ, zero, suc, ◌+◌, ◌-◌, ◌<◌, inl, inr, Bool, true, false, cond, List, [], ◌∷◌, take, refl, ap, sym, ◌∙◌, subst, Option, Some, None, Result, Ok, Err, bytes_eq, arith}
 use Rattle.std.specs.Prelude.{Contains, filter_map}
 use Rattle.std.specs.List.{slice_get, cons_option}
 use Rattle.std.proofs.lemmas.Bool.{cases_lt}
@@ -10,13 +10,43 @@ use Rattle.bag_text.specs.Lines.{IsLine}
 use Rattle.bag_text.specs.Text.{is_blank_line}
 use Rattle.bag_text.specs.declared.rules.Rules.{Rules}
 use Rattle.bag_text.specs.declared.alg.Alg.{Alg}
-use Rattle.bag_text.proofs.ListOf.{contains_cases, contains_nothing}
+use Rattle.bag_text.proofs.ListOf.{contains_cases, contains_first, contains_behind, contains_nothing}
 use Rattle.bag_read.specs.declared.kind.Kind.{Kind}
 use Rattle.bag_read.specs.declared.manifest.ManifestEntry.{ManifestEntry}
 use Rattle.bag_read.specs.Reason.{Reason}
-use Rattle.bag_read.specs.Manifest.{Reads, IsEntry, named, named_before, manifest_line}
-use Rattle.bag_read.proofs.PickedOut.{is_picked}
-use Rattle.bag_read.proofs.ManifestJudged.{path_of, path_of_reads, reads_path, earlier_named}
+use Rattle.bag_read.specs.Manifest.{Reads, IsEntry, path_read, named, named_before, manifest_line}
+use Rattle.bag_read.proofs.PickedOut.{picked, is_picked}
+
+module _ (rules : Rules) (kind : Kind) (alg : Alg) where
+  -- the path that a line names
+  abbrev pub path_of : List ℕ → Option (List ℕ)
+  path_of line = cond (is_blank_line line) None (path_read (manifest_line rules kind alg line))
+
+  pub path_of_reads : (line digest path : List ℕ) → Reads rules kind alg line digest path → path_of line ≡ Some path
+  path_of_reads line digest path (some, e) = rw (some, e) refl
+
+  pub reads_path : (line path : List ℕ) (b : Bool) (r : Result (List ℕ × List ℕ) Reason) → is_blank_line line ≡ b → manifest_line rules kind alg line ≡ r → cond b None (path_read r) ≡ Some path → (digest : List ℕ) × Reads rules kind alg line digest path
+  reads_path line path true r e f h = cc
+  reads_path line path false (Ok x) e f h =
+      let same : x.1 ≡ path = cc in
+      let pair : ◌≡◌ {A = List ℕ × List ℕ} x (x.0, path) = λ i. (x.0, same i) in
+      (x.0, (e, f ∙ ap Ok pair))
+  reads_path line path false (Err x) e f h = cc
+
+take_has : (n : ℕ) (xs : List (List ℕ)) (x : List ℕ) → Contains (take n xs) x → (m : ℕ) × (m < n) × (slice_get xs m ≡ Some x)
+take_has zero xs x c = absurd (contains_nothing x c)
+take_has (suc n) [] x c = absurd (contains_nothing x c)
+take_has (suc n) (y ∷ xs) x c =
+    elim (contains_cases y (take n xs) x c) [
+      | inl e ↦ (0, omega arith, ap Some e)
+      | inr d ↦ (let more = take_has n xs x d in (suc more.0, omega (arith, more.1), more.2))
+    ]
+
+has_take : (n : ℕ) (xs : List (List ℕ)) (x : List ℕ) (m : ℕ) → m < n → slice_get xs m ≡ Some x → Contains (take n xs) x
+has_take zero xs x m l e = absurd (omega arith)
+has_take (suc n) [] x m l e = cc
+has_take (suc n) (y ∷ xs) x zero l e = let same : y ≡ x = cc in subst (Contains (y ∷ take n xs)) same (contains_first y (take n xs))
+has_take (suc n) (y ∷ xs) x (suc m) l e = contains_behind y (take n xs) x (has_take n xs x m (omega arith) e)
 
 -- the first element of which a function picks out a text
 module _ {A : Type 0} (f : A → Option (List ℕ)) where
@@ -54,6 +84,22 @@ module _ {A : Type 0} (f : A → Option (List ℕ)) where
   first_picked (x ∷ xs) y c = first_cons x xs y (f x) (gives (f x) y) refl refl c (first_picked xs y)
 
 module _ (rules : Rules) (kind : Kind) (alg : Alg) (all : List (List ℕ)) where
+  abbrev pub NamedEarlier : ℕ → List ℕ → Type 0
+  NamedEarlier n path = (k : ℕ) × (line digest : List ℕ) × (k < n) × IsLine all k line × Reads rules kind alg line digest path
+
+  pub named_earlier : (n : ℕ) (path : List ℕ) → Contains (named_before rules kind alg all n) path → NamedEarlier n path
+  named_earlier n path c =
+      let p = picked (path_of rules kind alg) (take (n - 1) all) path c in
+      let at = take_has (n - 1) all p.0 p.1 in
+      let r = reads_path rules kind alg p.0 path (is_blank_line p.0) (manifest_line rules kind alg p.0) refl refl p.2 in
+      let low = at.1 in
+      let step : at.0 ≡ at.0 + 1 - 1 = omega arith in
+      (at.0 + 1, p.0, r.0, omega arith, (omega arith, ap (slice_get all) (sym step) ∙ at.2), r.1)
+
+  pub earlier_named : (n : ℕ) (path : List ℕ) → NamedEarlier n path → Contains (named_before rules kind alg all n) path
+  earlier_named n path (k, line, digest, l, (some, e), r) =
+      is_picked (path_of rules kind alg) (take (n - 1) all) line path (has_take (n - 1) all line (k - 1) (omega arith) e) (path_of_reads rules kind alg line digest path r)
+
   -- the path of an entry is named
   pub entry_named : (e : ManifestEntry) → IsEntry rules kind alg all e → Contains (named rules kind alg all) e.path
   entry_named e (line, (some, at), reads, first) =
@@ -77,7 +123,7 @@ module _ (rules : Rules) (kind : Kind) (alg : Alg) (all : List (List ℕ)) where
 
   not_later : (e g : ManifestEntry) → IsEntry rules kind alg all e → IsEntry rules kind alg all g → e.path ≡ g.path → e.line < g.line → ⊥
   not_later e g (line, at, reads, _) (_, _, _, first) same low =
-      first (earlier_named rules kind alg all g.line g.path (e.line, line, e.digest, low, at, subst (Reads rules kind alg line e.digest) same reads))
+      first (earlier_named g.line g.path (e.line, line, e.digest, low, at, subst (Reads rules kind alg line e.digest) same reads))
 
   same_line : (e g : ManifestEntry) → IsEntry rules kind alg all e → IsEntry rules kind alg all g → e.path ≡ g.path → e.line ≡ g.line → e ≡ g
   same_line e g (l, at, reads, _) (m, there, again, _) same n =

@@ -1,5 +1,5 @@
 -- One line of a manifest.
-use Rattle.std.proofs.Common.{◌≡◌, ℕ, not, ◌||◌, ◌==◌, [], length, bytes_eq, List, subst, refl, Option, Some, None, Ok, Err}
+use Rattle.std.proofs.Common.{◌≡◌, ℕ, not, ◌||◌, ◌==◌, [], length, bytes_eq, List, subst, refl, Ok, Err}
 use Rattle.bag_text.specs.Text.{before_blank, after_blanks}
 use Rattle.std.specs.Char.{is_ascii_hexdigit}
 use Rattle.std.specs.List.{list_all}
@@ -14,16 +14,15 @@ use Rattle.bag_text.specs.declared.code.Code.TheVariants.{ManifestLine, DigestLe
 use Rattle.bag_read.specs.ManifestName.{is_manifest_name}
 use Rattle.bag_read.specs.declared.kind.Kind.{Kind}
 use Rattle.bag_read.specs.declared.kind.Kind.TheVariants.{Payload, Tag}
-use Rattle.bag_read.specs.Judged.{verdict_of, verdict_by_spelling}
-use Rattle.bag_read.specs.Reason.{Reason}
-use Rattle.bag_read.proofs.Reason.{IsReasonOf, then_reason, chosen}
-use Rattle.bag_read.specs.Manifest.{digest_of, decoded_or, spelled_path, placed, named_path, checked_digest, without_marks, manifest_line}
+use Rattle.bag_read.specs.Reason.{Reason, decoded_or}
+use Rattle.bag_read.proofs.Reason.{IsReasonOf, then_reason, chosen, decoded_reason}
+use Rattle.bag_read.specs.Manifest.{digest_of, spelled_path, placed, named_path, checked_digest, without_marks, line_by_spelling, manifest_line}
 
 pub line_of_bad_digest : (rules : Rules) (kind : Kind) (alg : Alg) (line : List ℕ) (reason : Reason) → checked_digest alg (before_blank line) (after_blanks line) ≡ Err reason → manifest_line rules kind alg line ≡ Err reason
 unfolding manifest_line
 line_of_bad_digest rules kind alg line reason e = rw e refl
 
-pub line_of_good_digest : (rules : Rules) (kind : Kind) (alg : Alg) (line digest : List ℕ) → checked_digest alg (before_blank line) (after_blanks line) ≡ Ok digest → verdict_by_spelling rules kind digest (without_marks (after_blanks line)) ≡ verdict_of (manifest_line rules kind alg line)
+pub line_of_good_digest : (rules : Rules) (kind : Kind) (alg : Alg) (line digest : List ℕ) → checked_digest alg (before_blank line) (after_blanks line) ≡ Ok digest → line_by_spelling rules kind digest (without_marks (after_blanks line)) ≡ manifest_line rules kind alg line
 unfolding manifest_line
 line_of_good_digest rules kind alg line digest e = rw e refl
 
@@ -37,10 +36,6 @@ IsReasonCode ManifestOutsidePayload = Unit {0}
 IsReasonCode TagmanifestNamesPayload = Unit {0}
 IsReasonCode TagmanifestNamesTagmanifest = Unit {0}
 IsReasonCode other = ⊥
-
-decoded_reason : (o : Option (List ℕ)) (spelling : List ℕ) → IsReasonOf IsReasonCode (decoded_or o spelling)
-decoded_reason None spelling = tt
-decoded_reason (Some path) spelling = tt
 
 placed_reason : (kind : Kind) (path : List ℕ) → IsReasonOf IsReasonCode (placed kind path)
 placed_reason Payload path = chosen IsReasonCode (is_payload_path path) (Ok path) (Err (ManifestOutsidePayload, path)) tt tt
@@ -57,7 +52,7 @@ line_reason : (rules : Rules) (kind : Kind) (alg : Alg) (line : List ℕ) → Is
 unfolding manifest_line
 line_reason rules kind alg line =
     then_reason IsReasonCode (digest_of alg line) _ (digest_reason alg (before_blank line) (after_blanks line))
-    (λ digest. then_reason IsReasonCode (decoded_or (unescaped rules (spelled_path line)) (spelled_path line)) _ (decoded_reason (unescaped rules (spelled_path line)) (spelled_path line))
+    (λ digest. then_reason IsReasonCode (decoded_or ManifestEscape (unescaped rules (spelled_path line)) (spelled_path line)) _ (decoded_reason IsReasonCode ManifestEscape (unescaped rules (spelled_path line)) (spelled_path line) tt)
     (λ path. then_reason IsReasonCode (named_path kind path) _ (chosen IsReasonCode (is_path path) (placed kind path) (Err (ManifestUnsafePath, path)) (placed_reason kind path) tt)
     (λ named. tt)))
 

@@ -1,5 +1,5 @@
 -- A line of a manifest and its parts.
-use Rattle.std.proofs.Common.{◌≡◌, ◌≢◌, ℕ, ◌⊎◌, inl, inr, Bool, true, false, not, ◌||◌, ◌==◌, cond, List, [], length, refl, sym, ap, ◌∙◌, subst, codes, Option, Some, None, Result, Ok, Err, bytes_eq, arith}
+use Rattle.std.proofs.Common.{◌≡◌, ◌≢◌, ℕ, ◌⊎◌, inl, inr, Bool, true, false, not, ◌||◌, ◌==◌, cond, List, [], length, refl, sym, ap, ◌∙◌, subst, codes, Some, Result, Ok, Err, bytes_eq, arith}
 use Rattle.std.specs.Prelude.{IsTrue}
 use Rattle.std.specs.Char.{is_ascii_hexdigit}
 use Rattle.std.specs.List.{list_all}
@@ -11,16 +11,16 @@ use Rattle.bag_text.specs.Spelling.{unescaped}
 use Rattle.bag_text.specs.Text.{is_blank_line, before_blank, after_blanks, without_prefix}
 use Rattle.bag_text.specs.declared.rules.Rules.{Rules}
 use Rattle.bag_text.specs.declared.alg.Alg.{Alg}
-use Rattle.bag_text.specs.declared.code.Code.TheVariants.{ManifestLine, DigestLength, ManifestOutsidePayload, ManifestUnsafePath, TagmanifestNamesPayload, TagmanifestNamesTagmanifest}
+use Rattle.bag_text.specs.declared.code.Code.TheVariants.{ManifestLine, DigestLength, ManifestEscape, ManifestOutsidePayload, ManifestUnsafePath, TagmanifestNamesPayload, TagmanifestNamesTagmanifest}
 use Rattle.bag_text.proofs.LineEnds.{spellings}
 use Rattle.bag_read.specs.declared.kind.Kind.{Kind}
 use Rattle.bag_read.specs.declared.kind.Kind.TheVariants.{Payload, Tag}
-use Rattle.bag_read.specs.Manifest.{checked_digest, digest_of, decoded_or, spelled_path, placed, named_path, without_marks, manifest_line}
+use Rattle.bag_read.specs.Manifest.{checked_digest, digest_of, spelled_path, placed, named_path, without_marks, manifest_line}
 use Rattle.bag_read.specs.ManifestName.{is_manifest_name}
 use Rattle.bag_read.specs.ManifestLine.{IsSpelling, MayName, ReadsAs, LinesReadAsTheirParts, OnlyReads, HasOnlyReason, LinesReadOrHaveOneReason}
-use Rattle.bag_read.specs.Reason.{Reason, ◌>>=◌}
+use Rattle.bag_read.specs.Reason.{Reason, ◌>>=◌, decoded_or}
 use Rattle.bag_read.proofs.LineParts.{or_false, not_false, not_empty, empty_test, is_cut, cut_part, cut_rest, not_blank, begins_some, is_without, without_alone}
-use Rattle.bag_read.proofs.Reason.{bind_ok}
+use Rattle.bag_read.proofs.Reason.{bind_ok, decoded_ok, ok_same}
 use Rattle.bag_read.proofs.ManifestName.{named_test, named_is}
 
 pub same_number : (m n : ℕ) → (m == n) ≡ true → m ≡ n
@@ -56,10 +56,6 @@ written_is rest = (without_prefix (codes "*") rest, is_without (codes "*") rest,
 pub written_alone : (rest spelling : List ℕ) → IsSpelling rest spelling → without_marks rest ≡ spelling
 written_alone rest spelling (unmarked, star, here) = ap (without_prefix (codes "./")) (without_alone (codes "*") rest unmarked star) ∙ without_alone (codes "./") unmarked spelling here
 
-decoded_ok : (o : Option (List ℕ)) (spelling path : List ℕ) → decoded_or o spelling ≡ Ok path → o ≡ Some path
-decoded_ok None spelling path e = cc
-decoded_ok (Some p) spelling path e = let same : p ≡ path = cc in ap Some same
-
 -- where a path may stand
 placed_payload : (path named : List ℕ) (b : Bool) → is_payload_path path ≡ b → cond {A = Result (List ℕ) Reason} b (Ok path) (Err (ManifestOutsidePayload, path)) ≡ Ok named → MayName Payload path × (path ≡ named)
 placed_payload path named true e h = (e, let same : path ≡ named = cc in same)
@@ -84,9 +80,6 @@ named_by : (kind : Kind) (path named : List ℕ) (b : Bool) → is_path path ≡
 named_by kind path named true e h = let ok = placed_ok kind path named h in (e, ok.0, ok.1)
 named_by kind path named false e h = cc
 
-ok_same : (x y : List ℕ × List ℕ) → ◌≡◌ {A = Result (List ℕ × List ℕ) Reason} (Ok x) (Ok y) → x ≡ y
-ok_same x y e = cc
-
 safe_named : (kind : Kind) (path : List ℕ) → IsTrue (is_path path) → MayName kind path → named_path kind path ≡ Ok path
 safe_named kind path safe may = ap (λ b. cond {A = Result (List ℕ) Reason} b (placed kind path) (Err (ManifestUnsafePath, path))) safe ∙ may_placed kind path may
 
@@ -98,10 +91,10 @@ module _ (rules : Rules) (kind : Kind) (alg : Alg) (line digest path : List ℕ)
   unfolding manifest_line
   line_parts e =
       let first = bind_ok (digest_of alg line) _ (digest, path) e in
-      let second = bind_ok (decoded_or (unescaped rules (spelled_path line)) (spelled_path line)) _ (digest, path) first.2 in
+      let second = bind_ok (decoded_or ManifestEscape (unescaped rules (spelled_path line)) (spelled_path line)) _ (digest, path) first.2 in
       let third = bind_ok (named_path kind second.0) _ (digest, path) second.2 in
       let good = good_digest alg (before_blank line) (after_blanks line) first.0 first.1 in
-      let pair = ok_same (first.0, third.0) (digest, path) third.2 in
+      let pair = ok_same {A = List ℕ × List ℕ} (first.0, third.0) (digest, path) third.2 in
       let digest_same : first.0 ≡ digest = ap (λ (y : List ℕ × List ℕ). y.0) pair in
       let path_same : third.0 ≡ path = ap (λ (y : List ℕ × List ℕ). y.1) pair in
       let named = named_by kind second.0 third.0 (is_path second.0) refl third.1 in
@@ -115,7 +108,7 @@ module _ (rules : Rules) (kind : Kind) (alg : Alg) (line digest path : List ℕ)
         hex_length = good.3;
         in_lower_case = sym digest_same ∙ good.4;
         written = written_is (after_blanks line);
-        spelled = (spellings rules (spelled_path line) path).1 (decoded_ok (unescaped rules (spelled_path line)) (spelled_path line) second.0 second.1 ∙ ap Some whole);
+        spelled = (spellings rules (spelled_path line) path).1 (decoded_ok ManifestEscape (unescaped rules (spelled_path line)) (spelled_path line) second.0 second.1 ∙ ap Some whole);
         is_safe = subst (λ p. IsTrue (is_path p)) whole named.0;
         may_name = subst (MayName kind) whole named.1;
       }
@@ -129,8 +122,8 @@ module _ (rules : Rules) (kind : Kind) (alg : Alg) (line digest path : List ℕ)
       let spelled = (spellings rules r.spelling path).0 r.spelled in
       let first : digest_of alg line ≡ Ok digest = ap (λ h. checked_digest alg h (after_blanks line)) front ∙ ap (checked_digest alg r.hex) back ∙ good ∙ ap {B = Result (List ℕ) Reason} Ok (sym r.in_lower_case) in
       let second : spelled_path line ≡ r.spelling = ap without_marks back ∙ written_alone r.rest r.spelling r.written in
-      let third : decoded_or (unescaped rules (spelled_path line)) (spelled_path line) ≡ Ok path = ap (λ t. decoded_or (unescaped rules t) t) second ∙ ap (λ o. decoded_or o r.spelling) spelled in
-      ap (λ d. d >>= λ digest. decoded_or (unescaped rules (spelled_path line)) (spelled_path line) >>= λ path. named_path kind path >>= λ named. Ok (digest, named)) first
+      let third : decoded_or ManifestEscape (unescaped rules (spelled_path line)) (spelled_path line) ≡ Ok path = ap (λ t. decoded_or ManifestEscape (unescaped rules t) t) second ∙ ap (λ o. decoded_or ManifestEscape o r.spelling) spelled in
+      ap (λ d. d >>= λ digest. decoded_or ManifestEscape (unescaped rules (spelled_path line)) (spelled_path line) >>= λ path. named_path kind path >>= λ named. Ok (digest, named)) first
       ∙ ap (λ p. p >>= λ path. named_path kind path >>= λ named. Ok (digest, named)) third
       ∙ ap (λ n. n >>= λ named. Ok (digest, named)) (safe_named kind path r.is_safe r.may_name)
 

@@ -14,35 +14,20 @@ use Rattle.bag_text.specs.declared.alg.Alg.{Alg}
 use Rattle.bag_text.specs.declared.code.Code.{Code}
 use Rattle.bag_text.specs.declared.code.Code.TheVariants.{ManifestLine, DigestLength, ManifestEscape, ManifestUnsafePath, ManifestOutsidePayload, TagmanifestNamesPayload, TagmanifestNamesTagmanifest}
 use Rattle.bag_text.proofs.LineEnds.{spellings}
-use Rattle.bag_read.specs.FirstReason.{IsFirst}
-use Rattle.bag_read.specs.Manifest.{decoded_or, spelled_path, placed, without_marks, manifest_line}
+use Rattle.bag_read.specs.Manifest.{spelled_path, placed, without_marks, manifest_line}
 use Rattle.bag_read.specs.ManifestName.{is_manifest_name}
 use Rattle.bag_read.specs.ManifestReasons.{IsSpelled, IsWritten, Holds, FirstReasonIsTold}
-use Rattle.bag_read.specs.Reason.{Reason, ◌>>=◌}
+use Rattle.bag_read.specs.Reason.{Reason, ◌>>=◌, decoded_or, IsFirst}
 use Rattle.bag_read.specs.declared.kind.Kind.{Kind}
 use Rattle.bag_read.specs.declared.kind.Kind.TheVariants.{Payload, Tag}
 use Rattle.bag_read.proofs.FetchLineParts.{either_true}
+use Rattle.bag_read.proofs.Reason.{err_same, never_ok, some_same, none_some, clash}
 use Rattle.bag_read.proofs.LineParts.{or_false, not_false, not_true, not_empty, is_fronted, fronted_part, fronted_rest}
 use Rattle.bag_read.proofs.ManifestLineParts.{same_number, written_is, written_alone}
 use Rattle.bag_read.proofs.ManifestName.{is_named}
 
 abbrev Line : Type 0
 Line = Result (List ℕ × List ℕ) Reason
-
-err_same : (x y : Reason) → ◌≡◌ {A = Line} (Err x) (Err y) → x ≡ y
-err_same x y e = cc
-
-never_ok : (x : List ℕ × List ℕ) (y : Reason) → ◌≡◌ {A = Line} (Ok x) (Err y) → ⊥
-never_ok x y e = cc
-
-clash : (b : Bool) → b ≡ true → b ≡ false → ⊥
-clash b e f = let none : true ≡ false = sym e ∙ f in cc
-
-some_same : (x y : List ℕ) → Some x ≡ Some y → x ≡ y
-some_same x y e = cc
-
-none_some : (o : Option (List ℕ)) (x : List ℕ) → o ≡ None → o ≡ Some x → ⊥
-none_some o x e f = let no : None ≡ Some x = sym e ∙ f in cc
 
 other_number : (m n : ℕ) → (m == n) ≡ false → m ≢ n
 other_number m n e same = grind (arith, nat_tests, e, same)
@@ -162,7 +147,7 @@ module _ (rules : Rules) (alg : Alg) (line : List ℕ) where
 
   abbrev path_named : Kind → List ℕ → Option (List ℕ) → Line
   path_named kind digest o =
-      decoded_or o spelling >>= λ path. cond (is_path path) (placed kind path) (Err (ManifestUnsafePath, path)) >>= λ named. Ok (digest, named)
+      decoded_or ManifestEscape o spelling >>= λ path. cond (is_path path) (placed kind path) (Err (ManifestUnsafePath, path)) >>= λ named. Ok (digest, named)
 
   spelling_first : (kind : Kind) (digest : List ℕ) (reason : Reason) (o : Option (List ℕ)) → unescaped rules spelling ≡ o
       → path_named kind digest o ≡ Err reason → IsFirstOf kind behind_digest reason

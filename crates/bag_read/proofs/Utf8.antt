@@ -1,8 +1,12 @@
--- Bytes that are UTF-8, and bytes that aren't.
-use Rattle.std.proofs.Common.{◌≡◌, ℕ, ◌-◌, Bool, true, false, List, refl, sym, ap, ◌∙◌, Some, None, cond}
+-- Bytes that are UTF-8, and bytes that aren't: what is read of them.
+use Rattle.std.proofs.Common.{◌≡◌, ℕ, ◌-◌, Bool, true, false, List, refl, sym, ap, ◌∙◌, subst, Some, None, cond, Result}
+use Rattle.std.specs.Prelude.{IfOk}
 use Rattle.std.specs.Str.{is_utf8}
 use Rattle.std.specs.List.{slice_get}
-use Rattle.bag_text.specs.Lines.{IsLine, lines_of_file, lines_of_text}
+use Rattle.std.specs.declared.cmp.Ordering.{Ordering}
+use Rattle.std.proofs.lemmas.Result.{IfOk-weaker}
+use Rattle.bag_text.specs.Lines.{IsLine, lines, lines_of_file, lines_of_text}
+use Rattle.bag_text.specs.Order.{IsListOf}
 use Rattle.bag_text.specs.Text.{text_of, IsText, IsNoText, without_mark}
 
 text_test : (bytes t : List ℕ) (b : Bool) → is_utf8 bytes ≡ b → cond b (Some (without_mark bytes)) None ≡ Some t → IsText bytes
@@ -22,3 +26,12 @@ is_no_text bytes h = no_text_test bytes (is_utf8 bytes) refl h
 -- bytes that aren't UTF-8 have no line
 pub no_line : (bytes : List ℕ) → IsNoText bytes → (k : ℕ) (line : List ℕ) → IsLine (lines_of_file bytes) k line → ⊥
 no_line bytes other k line (some, e) = let clash : None ≡ Some line = sym (ap (λ b. slice_get (lines_of_text (cond b (Some (without_mark bytes)) None)) (k - 1)) other) ∙ e in cc
+
+module _ {A X Y : Type 0} (cmp : A → A → Ordering) (Member : A → Type 0) (r : Result X Y) (of : X → List A) where
+  -- a list that was read is the list of these, where the right one is
+  pub listed_so : (xs : List A) → IsListOf cmp Member xs → IfOk r (λ x. of x ≡ xs) → IfOk r (λ x. IsListOf cmp Member (of x))
+  listed_so xs exact = IfOk-weaker r _ _ (λ x e. subst (IsListOf cmp Member) (sym e) exact)
+
+  -- what is read of the lines of a text is read of the lines of the bytes
+  pub listed_of_text : (bytes text : List ℕ) (list : List (List ℕ) → List A) → text_of bytes ≡ Some text → IsListOf cmp Member (list (lines_of_file bytes)) → IfOk r (λ x. of x ≡ list (lines text)) → IfOk r (λ x. IsListOf cmp Member (of x))
+  listed_of_text bytes text list is exact = listed_so (list (lines text)) (subst (λ t. IsListOf cmp Member (list (lines_of_text t))) is exact)

@@ -1,5 +1,5 @@
 -- The list of files to fetch, fetch.txt (RFC 8493, 2.2.3).
-use Rattle.std.specs.Prelude.{ℕ, ◌≡◌, ◌||◌, Bool, false, not, List, [], Option, Some, None, Result, Ok, Err, bytes_eq, codes, if◌then◌else◌}
+use Rattle.std.specs.Prelude.{ℕ, ◌≡◌, ◌||◌, Bool, false, not, List, [], Result, Ok, Err, bytes_eq, codes, if◌then◌else◌}
 use Rattle.bag_text.specs.Text.{IsNoText, before_blank, after_blanks, without_prefix, is_blank_line}
 use Rattle.bag_text.specs.Lines.{lines_of_file, IsLine}
 use Rattle.bag_text.specs.Number.{is_digits}
@@ -8,7 +8,7 @@ use Rattle.bag_text.specs.Spelling.{unescaped}
 use Rattle.bag_text.specs.declared.rules.Rules.{Rules}
 use Rattle.bag_text.specs.declared.code.Code.{Code}
 use Rattle.bag_text.specs.declared.code.Code.TheVariants.{NotUtf8, FetchLine, FetchEscape, FetchUnsafePath, FetchOutsidePayload}
-use Rattle.bag_read.specs.Reason.{Reason, ◌>>=◌}
+use Rattle.bag_read.specs.Reason.{Reason, ◌>>=◌, decoded_or}
 use Rattle.bag_read.specs.declared.line_fault.LineFault.{LineFault}
 use Rattle.bag_read.specs.declared.fetch.FetchEntry.{FetchEntry}
 
@@ -36,22 +36,32 @@ spelling_of line =
     if lacks_part (url_of line) (length_of line) (written_of line) then Err (FetchLine, [])
     else Ok (without_prefix (codes "./") (written_of line))
 
-abbrev pub decoded_or : Option (List ℕ) → List ℕ → Result (List ℕ) Reason
-decoded_or None spelling = Err (FetchEscape, spelling)
-decoded_or (Some path) spelling = Ok path
-
 -- only payload files are fetched
 abbrev pub fetched_path : List ℕ → Result (List ℕ) Reason
 fetched_path path =
     if is_path path then (if is_payload_path path then Ok path else Err (FetchOutsidePayload, path))
     else Err (FetchUnsafePath, path)
 
+-- the path that is spelled, where a file may be fetched to it
+abbrev pub path_spelled : Rules → List ℕ → Result (List ℕ) Reason
+path_spelled rules spelling = do
+  path ← decoded_or FetchEscape (unescaped rules spelling) spelling
+  fetched_path path
+
 -- the path of a line that isn't blank, or the first reason why it doesn't read
 unfoldable pub fetch_line : Rules → List ℕ → Result (List ℕ) Reason
 fetch_line rules line = do
   spelling ← spelling_of line
-  path ← decoded_or (unescaped rules spelling) spelling
-  fetched_path path
+  path_spelled rules spelling
+
+abbrev pub entry : ℕ → List ℕ → List ℕ → List ℕ → FetchEntry
+entry n url size path = record { line = n; url = url; length = size; path = path }
+
+-- the entry of line n, or the first reason why it doesn't read
+abbrev pub entry_in : Rules → ℕ → List ℕ → Result FetchEntry Reason
+entry_in rules n line = do
+  path ← fetch_line rules line
+  Ok (entry n (url_of line) (length_of line) path)
 
 abbrev pub Reads : Rules → List ℕ → List ℕ → List ℕ → List ℕ → Type 0
 Reads rules line url size path =

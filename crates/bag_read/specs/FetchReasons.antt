@@ -7,9 +7,8 @@ use Rattle.bag_text.specs.declared.code.Code.{Code}
 use Rattle.bag_text.specs.declared.code.Code.TheVariants.{FetchLine, FetchEscape, FetchUnsafePath, FetchOutsidePayload}
 use Rattle.bag_read.specs.Fetch.{HasReason}
 use Rattle.bag_read.specs.FetchLine.{IsLength}
-use Rattle.bag_read.specs.FirstReason.{IsFirst}
 use Rattle.bag_read.specs.LineParts.{IsCut, IsWithout}
-use Rattle.bag_read.specs.Reason.{Reason}
+use Rattle.bag_read.specs.Reason.{Reason, IsFirst}
 
 -- a URL, blanks, a length, blanks, and the path as it is written
 abbrev pub HasParts : List ℕ → List ℕ → Type 0

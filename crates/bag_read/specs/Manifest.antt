@@ -1,5 +1,5 @@
 -- Manifests (RFC 8493, 2.1.3 and 2.2.1).
-use Rattle.std.specs.Prelude.{ℕ, ◌-◌, ◌≡◌, ◌==◌, ◌||◌, false, not, List, [], length, Option, Some, None, Result, Ok, Err, bytes_eq, codes, if◌then◌else◌, filter_map, take, Contains}
+use Rattle.std.specs.Prelude.{ℕ, ◌-◌, ◌≡◌, ◌==◌, ◌||◌, Bool, false, not, List, [], length, Option, Some, None, Result, Ok, Err, bytes_eq, codes, if◌then◌else◌, filter_map, take, Contains}
 use Rattle.std.specs.Str.{str_to_ascii_lowercase}
 use Rattle.std.specs.Char.{is_ascii_hexdigit}
 use Rattle.std.specs.List.{list_all}
@@ -15,7 +15,7 @@ use Rattle.bag_text.specs.declared.code.Code.TheVariants.{NotUtf8, ManifestLine,
 use Rattle.bag_read.specs.ManifestName.{is_manifest_name}
 use Rattle.bag_read.specs.declared.kind.Kind.{Kind}
 use Rattle.bag_read.specs.declared.kind.Kind.TheVariants.{Payload, Tag}
-use Rattle.bag_read.specs.Reason.{Reason, ◌>>=◌}
+use Rattle.bag_read.specs.Reason.{Reason, ◌>>=◌, decoded_or}
 use Rattle.bag_read.specs.declared.line_fault.LineFault.{LineFault}
 use Rattle.bag_read.specs.declared.manifest.ManifestEntry.{ManifestEntry}
 
@@ -38,10 +38,6 @@ without_marks rest = without_prefix (codes "./") (without_prefix (codes "*") res
 abbrev pub spelled_path : List ℕ → List ℕ
 spelled_path line = without_marks (after_blanks line)
 
-abbrev pub decoded_or : Option (List ℕ) → List ℕ → Result (List ℕ) Reason
-decoded_or None spelling = Err (ManifestEscape, spelling)
-decoded_or (Some path) spelling = Ok path
-
 -- a payload manifest names payload files, and a tag manifest other files, but no tag manifest
 abbrev pub placed : Kind → List ℕ → Result (List ℕ) Reason
 placed Payload path = if is_payload_path path then Ok path else Err (ManifestOutsidePayload, path)
@@ -53,13 +49,32 @@ placed Tag path =
 abbrev pub named_path : Kind → List ℕ → Result (List ℕ) Reason
 named_path kind path = if is_path path then placed kind path else Err (ManifestUnsafePath, path)
 
+-- a line of which the digest is good, by the path that is written in it, and by how that is spelled
+abbrev pub line_by_path : Kind → List ℕ → List ℕ → Result (List ℕ × List ℕ) Reason
+line_by_path kind digest path = do
+  named ← named_path kind path
+  Ok (digest, named)
+
+abbrev pub line_by_spelling : Rules → Kind → List ℕ → List ℕ → Result (List ℕ × List ℕ) Reason
+line_by_spelling rules kind digest spelling = do
+  path ← decoded_or ManifestEscape (unescaped rules spelling) spelling
+  line_by_path kind digest path
+
 -- the digest and the path of a line that isn't blank, or the first reason why it doesn't read
 unfoldable pub manifest_line : Rules → Kind → Alg → List ℕ → Result (List ℕ × List ℕ) Reason
 manifest_line rules kind alg line = do
   digest ← digest_of alg line
-  path ← decoded_or (unescaped rules (spelled_path line)) (spelled_path line)
-  named ← named_path kind path
-  Ok (digest, named)
+  line_by_spelling rules kind digest (spelled_path line)
+
+-- the entry of line n that says this, where it doesn't name a path again
+abbrev pub entry_unless : Bool → ℕ → List ℕ × List ℕ → Result ManifestEntry Reason
+entry_unless again n said = if again then Err (NamedAgain, said.1) else Ok (record { line = n; digest = said.0; path = said.1 })
+
+-- the entry of line n, or the first reason why it isn't one, by a test whether a line names a path again
+abbrev pub entry_in : (ℕ → List ℕ → Bool) → Rules → Kind → Alg → ℕ → List ℕ → Result ManifestEntry Reason
+entry_in names_again rules kind alg n line = do
+  said ← manifest_line rules kind alg line
+  entry_unless (names_again n said.1) n said
 
 abbrev pub Reads : Rules → Kind → Alg → List ℕ → List ℕ → List ℕ → Type 0
 Reads rules kind alg line digest path = (is_blank_line line ≡ false) × (manifest_line rules kind alg line ≡ Ok (digest, path))

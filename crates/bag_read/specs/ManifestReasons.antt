@@ -9,12 +9,11 @@ use Rattle.bag_text.specs.declared.rules.Rules.{Rules}
 use Rattle.bag_text.specs.declared.alg.Alg.{Alg}
 use Rattle.bag_text.specs.declared.code.Code.{Code}
 use Rattle.bag_text.specs.declared.code.Code.TheVariants.{ManifestLine, DigestLength, ManifestEscape, ManifestUnsafePath, ManifestOutsidePayload, TagmanifestNamesPayload, TagmanifestNamesTagmanifest}
-use Rattle.bag_read.specs.FirstReason.{IsFirst}
 use Rattle.bag_read.specs.LineParts.{IsFronted}
 use Rattle.bag_read.specs.Manifest.{HasReason}
 use Rattle.bag_read.specs.ManifestLine.{IsSpelling}
 use Rattle.bag_read.specs.ManifestName.{manifest_name, is_alg_text}
-use Rattle.bag_read.specs.Reason.{Reason}
+use Rattle.bag_read.specs.Reason.{Reason, IsFirst}
 use Rattle.bag_read.specs.declared.kind.Kind.{Kind}
 use Rattle.bag_read.specs.declared.kind.Kind.TheVariants.{Payload, Tag}
 

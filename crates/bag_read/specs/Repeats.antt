@@ -1,51 +1,57 @@
 -- Lines of a manifest that name a path again (RFC 8493, 2.1.3).
-use Rattle.std.specs.Prelude.{ℕ, ◌≡◌, ◌+◌, ◌<◌, ◌++◌, List, [], ◌∷◌, length, Some, if◌then◌else◌, slice_get, IsTrue, Contains}
-use Rattle.std.specs.Borrow.{Bor}
+use Rattle.std.specs.Prelude.{ℕ, ◌≡◌, ◌≢◌, ◌+◌, ◌<◌, ◌↔◌, Bool, List, length, Some, slice_get, slice_index_or, IsTrue, Contains}
 use Rattle.std.specs.Hash.FoldHasher.{initial, write, finish}
-use Rattle.std.specs.declared.cmp.Ordering.{Ordering}
-use Rattle.std.specs.Ordering.{nat_cmp, on}
-use Rattle.bag_read.specs.declared.manifest_line.Judged.{Judged}
-use Rattle.bag_read.specs.Judged.{names_path, text, is_repeat, as_repeat}
+use Rattle.std.specs.declared.cmp.Ordering.TheVariants.{Less}
+use Rattle.bag_text.specs.Lines.{IsLine}
+use Rattle.bag_text.specs.Text.{text_cmp}
+use Rattle.bag_text.specs.declared.rules.Rules.{Rules}
+use Rattle.bag_text.specs.declared.alg.Alg.{Alg}
+use Rattle.bag_read.specs.LineFault.{entries_read, faults_read}
+use Rattle.bag_read.specs.Manifest.{Reads, entry_in, named_before}
+use Rattle.bag_read.specs.declared.kind.Kind.{Kind}
+use Rattle.bag_read.specs.declared.line_fault.LineFault.{LineFault}
+use Rattle.bag_read.specs.declared.manifest.ManifestEntry.{ManifestEntry}
 
 -- A number of a text, the same for equal texts: it lets a sort tell most texts apart without reading them again.
 unfoldable pub fingerprint : List ℕ → ℕ
 fingerprint t = finish (write initial t)
 
--- the order of lines
-abbrev pub line_cmp : Judged → Judged → Ordering
-line_cmp = on (λ j. j.line) nat_cmp
+abbrev pub mark_of : ManifestEntry → ℕ
+mark_of entry = fingerprint entry.path
 
--- the line at this place names the path of an earlier line
-abbrev pub IsRepeatAt : List Judged → ℕ → Type 0
-IsRepeatAt all i = (j : Judged) × (slice_get all i ≡ Some j) × IsTrue (is_repeat all j)
+-- no two of them name the same path
+abbrev pub AreDifferent : List ManifestEntry → Type 0
+AreDifferent entries =
+    (i j : ℕ) (d : ManifestEntry) → i < j → j < length entries
+    → (slice_index_or entries i d).path ≢ (slice_index_or entries j d).path
 
--- the lines at these places are marked, and the others stay
-pub record IsMarked (places : List ℕ) (old new : List Judged) : Type 0 where
-  pub same_length : length new ≡ length old
-  pub marked : (i : ℕ) (j : Judged) → Contains places i → slice_get old i ≡ Some j → slice_get new i ≡ Some (as_repeat j)
-  pub same_but : (i : ℕ) (j k : Judged) → slice_get old i ≡ Some j → slice_get new i ≡ Some k → as_repeat k ≡ as_repeat j
-  pub others : (i : ℕ) → ¬ (Contains places i) → slice_get new i ≡ slice_get old i
+-- the paths ascend
+abbrev pub AreAscending : List ManifestEntry → Type 0
+AreAscending entries =
+    (k : ℕ) (d : ManifestEntry) → k + 1 < length entries
+    → text_cmp (slice_index_or entries k d).path (slice_index_or entries (k + 1) d).path ≡ Less
 
--- a path with its fingerprint and its place
-abbrev pub NamedPath : Type 0
-NamedPath = ℕ × Bor (List ℕ) × ℕ
+-- an entry at a place below this one names the path
+abbrev pub NamesBelow : List ManifestEntry → ℕ → List ℕ → Type 0
+NamesBelow entries k path = (i : ℕ) × (e : ManifestEntry) × (i < k) × (slice_get entries i ≡ Some e) × (e.path ≡ path)
 
-abbrev pub HasFingerprint : NamedPath → Type 0
-HasFingerprint x = x.0 ≡ fingerprint x.1.now
+-- an entry at a place below this one is of this line, and an entry before it names its path
+abbrev pub RepeatsBelow : List ManifestEntry → ℕ → ℕ → Type 0
+RepeatsBelow entries k n = (i : ℕ) × (e : ManifestEntry) × (i < k) × (slice_get entries i ≡ Some e) × (e.line ≡ n) × NamesBelow entries i e.path
 
-abbrev pub pair_of : NamedPath → List ℕ × ℕ
-pair_of x = (x.1.now, x.2)
+-- the line names the path of an entry before it
+abbrev pub IsRepeatedLine : List ManifestEntry → ℕ → Type 0
+IsRepeatedLine entries n = RepeatsBelow entries (length entries) n
 
--- the path of each line that reads, with the line's place
-abbrev pub places_from : ℕ → List Judged → List (List ℕ × ℕ)
-places_from n [] = []
-places_from n (j ∷ js) = (if names_path j then (text j, n) ∷ [] else []) ++ places_from (n + 1) js
+-- the test tells of each line that reads whether an earlier line names its path
+abbrev pub TellsRepeats : Rules → Kind → Alg → List (List ℕ) → (ℕ → List ℕ → Bool) → Type 0
+TellsRepeats rules kind alg all names_again =
+    (n : ℕ) (line digest path : List ℕ) → IsLine all n line → Reads rules kind alg line digest path
+    → IsTrue (names_again n path) ↔ Contains (named_before rules kind alg all n) path
 
--- the place stands behind another of the same path, among the first so many pairs
-abbrev pub FollowsBelow : List (List ℕ × ℕ) → ℕ → ℕ → Type 0
-FollowsBelow named high i =
-    (k : ℕ) × (path : List ℕ) × (j : ℕ)
-    × (k + 1 < high) × (slice_get named k ≡ Some (path, j)) × (slice_get named (k + 1) ≡ Some (path, i))
-
-abbrev pub FollowsSame : List (List ℕ × ℕ) → ℕ → Type 0
-FollowsSame named i = FollowsBelow named (length named) i
+-- what is read of lines by such a test
+pub record IsReadOnce (rules : Rules) (kind : Kind) (alg : Alg) (all : List (List ℕ)) (items : List ManifestEntry) (faults : List LineFault) : Type 0 where
+  pub names_again : ℕ → List ℕ → Bool
+  pub tells : TellsRepeats rules kind alg all names_again
+  pub items_are : items ≡ entries_read (entry_in names_again rules kind alg) all
+  pub faults_are : faults ≡ faults_read (entry_in names_again rules kind alg) all

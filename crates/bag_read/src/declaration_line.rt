@@ -5,8 +5,7 @@ ghost use Rattle.std.specs.Option.{option_copied};
 ghost use Rattle.bag_text.specs.Text as texts;
 ghost use Rattle.bag_read.specs.Declaration as spec;
 
-use crate::digits::is_digits;
-use crate::prefix::after_prefix;
+use crate::line_parts::{after_prefix, is_digits};
 use bag_text::is_blank;
 
 /// The version that line 1 declares, where it reads.

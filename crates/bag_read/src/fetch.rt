@@ -1,18 +1,19 @@
 //! The list of files to fetch, `fetch.txt` (RFC 8493, 2.2.3).
-ghost use Rattle.std.specs.Prelude.{◌≡◌, ◌++◌, IfOk, OnOk};
-ghost use Rattle.std.specs.List.{enumerate_from};
-ghost use Rattle.std.specs.Option.{option_to_list};
+ghost use Rattle.std.specs.Prelude.{◌≡◌, IfOk};
 ghost use Rattle.std.specs.Ordering.{nat_cmp, on};
 ghost use Rattle.bag_text.specs.Lines as cut;
 ghost use Rattle.bag_text.specs.Order.{IsListOf};
-ghost use Rattle.bag_read.specs.FetchVerdict as judged;
 ghost use Rattle.bag_read.specs.LineFault.{AreFaults};
+ghost use Rattle.bag_read.specs.Fetch as spec;
 ghost use Rattle.bag_read.specs.Fetch.{IsFetch, IsFetchFault};
 
-use crate::fetch_line::{Verdict, judge};
-use crate::line_fault::{LineFault, Parsed, unread};
-use bag_text::{Items, Rules, Text, is_blank_line, lines, text_of};
+use crate::line_fault::{LineForm, Parsed, Why, read_lines, refuse, unread};
+use crate::line_parts::{decode_path, is_digits, without_prefix};
+use bag_text::{Code, Rules, Text, check_path, is_payload, split_at_blanks, text_of};
 use std::alloc::{AllocError, Global};
+
+/// What stands for a length that isn't told.
+const UNKNOWN: &str = "-";
 
 /// A line of `fetch.txt` that reads: where a payload file is, its length in bytes or `-`, each as it is written, and
 /// the path that it gets.
@@ -40,44 +41,103 @@ pub fn read_fetch(
     ensures faults { IfOk result (λ parsed. AreFaults (IsFetchFault rules bytes.now) parsed.faults) }
 {
     match text_of(bytes) {
-        Ok(text) => read_text(alloc, rules, text),
+        Ok(text) => read_lines(alloc, &FetchForm { rules }, text, 0),
         Err(_) => unread(alloc),
     }
 }
 
-/// Judges each line that isn't blank, and puts it where it belongs.
-fn read_text(alloc: Global, rules: Rules, text: &str) -> Result<Parsed<FetchEntry>, AllocError>
-    ensures items { IfOk result (λ parsed. parsed.items ≡ judged.entries rules (enumerate_from 1 (cut.lines text.now))) }
-    ensures faults { IfOk result (λ parsed. parsed.faults ≡ judged.faults rules (enumerate_from 1 (cut.lines text.now))) }
-{
-    let mut items = Items::new(alloc);
-    let mut faults = Items::new(alloc);
-    for (number, line) in lines(text) {
-        if !is_blank_line(line) {
-            let verdict = judge(alloc, rules, line)?;
-            put(number, verdict, &mut items, &mut faults)?;
-        }
-    }
-    Ok(Parsed { items, faults })
+/// How the lines of `fetch.txt` read.
+#[derive(Drop)]
+struct FetchForm {
+    rules: Rules,
 }
 
-/// Puts a line where it belongs.
-fn put(
-    line: u64,
-    verdict: Verdict,
-    items: &mut Items<FetchEntry>,
-    faults: &mut Items<LineFault>,
-) -> Result<(), AllocError>
-    ensures items { OnOk result (items.new ≡ items.old ++ option_to_list (judged.entry_in line verdict)) }
-    ensures faults { OnOk result (faults.new ≡ faults.old ++ option_to_list (judged.fault_in line verdict)) }
-{
-    match verdict {
-        Verdict::Entry { url, length, path } => items.push(FetchEntry {
-            line,
-            url,
-            length,
-            path,
-        }),
-        Verdict::Fault { code, detail } => faults.push(LineFault { line, code, detail }),
+impl LineForm for FetchForm {
+    type Entry = FetchEntry;
+
+    ghost reads = { λ form line content. spec.entry_in form.rules line content };
+
+    fn read(
+        &self,
+        alloc: Global,
+        number: u64,
+        line: &str,
+    ) -> Result<Result<FetchEntry, Why>, AllocError> {
+        read_line(alloc, self.rules, number, line)
     }
+}
+
+/// Reads a line that isn't blank: its URL, its length and its path, or the first reason why it doesn't read.
+fn read_line(
+    alloc: Global,
+    rules: Rules,
+    number: u64,
+    line: &str,
+) -> Result<Result<FetchEntry, Why>, AllocError>
+    ensures { IfOk result (λ read. read ≡ spec.entry_in rules number line.now) }
+{
+    let (url, behind) = split_at_blanks(line);
+    let (length, written) = split_at_blanks(behind);
+    if lacks_part(url, length, written) {
+        return refuse(alloc, Code::FetchLine, "");
+    }
+    match read_path(alloc, rules, without_prefix(written, "./"))? {
+        Ok(path) => Ok(Ok(entry(alloc, number, url, length, path)?)),
+        Err(why) => Ok(Err(why)),
+    }
+}
+
+/// Whether a part is missing, or the length isn't one. A line that begins with a blank lacks its URL.
+fn lacks_part(url: &str, length: &str, written: &str) -> bool
+    ensures { result ≡ spec.lacks_part url.now length.now written.now }
+{
+    url.is_empty() || !is_length(length) || written.is_empty()
+}
+
+/// A length in bytes, or a sign that it isn't told.
+fn is_length(text: &str) -> bool
+    ensures { result ≡ spec.is_length text.now }
+{
+    text == UNKNOWN || is_digits(text)
+}
+
+/// The path of a line by how it is spelled.
+fn read_path(alloc: Global, rules: Rules, spelling: &str) -> Result<Result<Text, Why>, AllocError>
+    ensures { IfOk result (λ path. path ≡ spec.path_spelled rules spelling.now) }
+{
+    match decode_path(alloc, rules, spelling, Code::FetchEscape)? {
+        Ok(path) => Ok(in_payload(path)),
+        Err(why) => Ok(Err(why)),
+    }
+}
+
+/// A path to which a file may be fetched, or why it may not.
+fn in_payload(path: Text) -> Result<Text, Why>
+    ensures { result ≡ spec.fetched_path path }
+{
+    if is_payload(path.as_str()) {
+        Ok(path)
+    } else if check_path(path.as_str()).is_ok() {
+        Err((Code::FetchOutsidePayload, path))
+    } else {
+        Err((Code::FetchUnsafePath, path))
+    }
+}
+
+/// The entry of a line with these parts.
+fn entry(
+    alloc: Global,
+    line: u64,
+    url: &str,
+    length: &str,
+    path: Text,
+) -> Result<FetchEntry, AllocError>
+    ensures { IfOk result (λ entry. entry ≡ spec.entry line url.now length.now path) }
+{
+    Ok(FetchEntry {
+        line,
+        url: Text::from_str(alloc, url)?,
+        length: Text::from_str(alloc, length)?,
+        path,
+    })
 }

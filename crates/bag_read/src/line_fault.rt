@@ -1,8 +1,10 @@
-//! What is wrong with a tag file, line by line.
-ghost use Rattle.std.specs.Prelude.{◌≡◌, ◌∷◌, [], IfOk};
-ghost use Rattle.bag_read.specs.LineFault.{not_utf8};
+//! What a tag file says and what is wrong with it, line by line.
+ghost use Rattle.std.specs.Prelude.{◌≡◌, ◌∷◌, [], ℕ, List, Result, Err, IfOk};
+ghost use Rattle.bag_text.specs.Lines as cut;
+ghost use Rattle.bag_read.specs.LineFault.{entries_read, faults_read, not_utf8};
+ghost use Rattle.bag_read.specs.Reason.{Reason};
 
-use bag_text::{Code, Items, Text};
+use bag_text::{Code, Items, Text, is_blank_line, lines};
 use std::alloc::{AllocError, Global};
 
 /// A fault of a tag file. Lines count from 1; the line is 0 where the fault is of the whole file.
@@ -20,6 +22,61 @@ pub struct LineFault {
 pub struct Parsed<T> {
     pub items: Items<T>,
     pub faults: Items<LineFault>,
+}
+
+/// Why a line doesn't read: a code, and a fault's detail.
+pub(crate) type Why = (Code, Text);
+
+/// How the lines of a tag file read, each by itself.
+pub(crate) trait LineForm {
+    /// What a line says.
+    type Entry: Drop;
+
+    /// What the line of a number says, or why it doesn't read.
+    ghost reads: { Self → ℕ → List ℕ → Result Self.Entry Reason };
+
+    /// Reads a line that isn't blank.
+    fn read(
+        &self,
+        alloc: Global,
+        number: u64,
+        line: &str,
+    ) -> Result<Result<Self::Entry, Why>, AllocError>
+        ensures { IfOk result (λ read. read ≡ reads self.now number line.now) };
+}
+
+/// Reads each line of a text that isn't blank, in one pass. Room is taken at once for so many lines that read.
+pub(crate) fn read_lines<F: LineForm>(
+    alloc: Global,
+    form: &F,
+    text: &str,
+    room: usize,
+) -> Result<Parsed<F::Entry>, AllocError>
+    ensures items { IfOk result (λ parsed. parsed.items ≡ entries_read (F.reads form.now) (cut.lines text.now)) }
+    ensures faults { IfOk result (λ parsed. parsed.faults ≡ faults_read (F.reads form.now) (cut.lines text.now)) }
+{
+    let mut items = Items::from_vec(Vec::with_capacity(alloc, room)?);
+    let mut faults = Items::new(alloc);
+    for (line, content) in lines(text) {
+        if !is_blank_line(content) {
+            match form.read(alloc, line, content)? {
+                Ok(entry) => items.push(entry)?,
+                Err((code, detail)) => faults.push(LineFault { line, code, detail })?,
+            }
+        }
+    }
+    Ok(Parsed { items, faults })
+}
+
+/// That a line doesn't read, with a detail that is copied.
+pub(crate) fn refuse<T>(
+    alloc: Global,
+    code: Code,
+    detail: &str,
+) -> Result<Result<T, Why>, AllocError>
+    ensures { IfOk result (λ read. read ≡ Err (code, detail.now)) }
+{
+    Ok(Err((code, Text::from_str(alloc, detail)?)))
 }
 
 /// What is read of bytes that aren't UTF-8: no item, and the one fault `NotUtf8`, of the whole file. An error only for

@@ -1,21 +1,24 @@
 //! Manifests (RFC 8493, 2.1.3 and 2.2.1).
-ghost use Rattle.std.specs.Prelude.{◌≡◌, ◌++◌, IfOk, OnOk, filter_map};
-ghost use Rattle.std.specs.List.{enumerate_from};
-ghost use Rattle.std.specs.Option.{option_to_list};
+ghost use Rattle.std.specs.Prelude.{◌≡◌, Ok, Err, IfOk, MatchOption, MatchResult};
+ghost use Rattle.std.specs.BTreeSet.{contains};
+ghost use Rattle.std.specs.Char.{is_ascii_hexdigit};
+ghost use Rattle.std.specs.List.{list_all};
 ghost use Rattle.std.specs.Ordering.{nat_cmp, on};
 ghost use Rattle.bag_text.specs.Lines as cut;
 ghost use Rattle.bag_text.specs.Order.{IsListOf};
-ghost use Rattle.bag_read.specs.Judged.{judged_all, judged_and_marked, entry_of, fault_of};
 ghost use Rattle.bag_read.specs.LineFault.{AreFaults};
+ghost use Rattle.bag_read.specs.Manifest as spec;
 ghost use Rattle.bag_read.specs.Manifest.{IsEntry, IsManifestFault};
+ghost use Rattle.bag_read.specs.Repeats.{IsReadOnce};
 
-use crate::line_fault::unread;
-use crate::manifest_line::{Judged, Verdict, judge};
-use crate::named_once::are_different;
-use crate::repeats::mark_repeats;
-use crate::{Digest, Kind, LineFault, Parsed};
-use bag_text::{Alg, Items, Rules, Text, is_blank_line, lines, text_of};
+use crate::line_fault::{LineForm, Parsed, Why, read_lines, refuse, unread};
+use crate::line_parts::{decode_path, without_prefix};
+use crate::manifest_name::is_manifest_name;
+use crate::repeats::{are_different, repeated_lines};
+use crate::{Digest, Kind};
+use bag_text::{Alg, Code, Rules, Text, check_path, is_payload, split_at_blanks, text_of};
 use std::alloc::{AllocError, Global};
+use std::collections::BTreeSet;
 
 /// The least bytes of a line that reads beside its digest: a blank, a path, and the line's end.
 const SHORTEST_REST: usize = 3;
@@ -50,7 +53,7 @@ pub fn read_manifest(
     }
 }
 
-/// Reads a text. Where a path may be named again, it is read once more, line by line.
+/// Reads a text. Where a path may be named again, it is read once more, with the lines known that do.
 fn read_text(
     alloc: Global,
     rules: Rules,
@@ -58,103 +61,176 @@ fn read_text(
     alg: Alg,
     text: &str,
 ) -> Result<Parsed<ManifestEntry>, AllocError>
-    ensures items { IfOk result (λ parsed. parsed.items ≡ filter_map entry_of (judged_and_marked rules kind alg (cut.lines text.now))) }
-    ensures faults { IfOk result (λ parsed. parsed.faults ≡ filter_map fault_of (judged_and_marked rules kind alg (cut.lines text.now))) }
+    ensures { IfOk result (λ parsed. IsReadOnce rules kind alg (cut.lines text.now) parsed.items parsed.faults) }
 {
-    let parsed = read_lines(alloc, rules, kind, alg, text)?;
+    let room = text.len() / (alg.hex_len() + SHORTEST_REST);
+    let form = ManifestForm {
+        rules,
+        kind,
+        alg,
+        repeated: BTreeSet::new(alloc),
+    };
+    let parsed = read_lines(alloc, &form, text, room)?;
     if are_different(alloc, parsed.items.as_slice())? {
         return Ok(parsed);
     }
-    read_repeats(alloc, rules, kind, alg, text)
+    let form = ManifestForm {
+        rules,
+        kind,
+        alg,
+        repeated: repeated_lines(alloc, parsed.items.as_slice())?,
+    };
+    read_lines(alloc, &form, text, room)
 }
 
-/// Reads the lines of a text, each as if it were alone.
-fn read_lines(
-    alloc: Global,
+/// How the lines of a manifest read.
+#[derive(Drop)]
+struct ManifestForm {
     rules: Rules,
     kind: Kind,
     alg: Alg,
-    text: &str,
-) -> Result<Parsed<ManifestEntry>, AllocError>
-    ensures items { IfOk result (λ parsed. parsed.items ≡ filter_map entry_of (judged_all rules kind alg (enumerate_from 1 (cut.lines text.now)))) }
-    ensures faults { IfOk result (λ parsed. parsed.faults ≡ filter_map fault_of (judged_all rules kind alg (enumerate_from 1 (cut.lines text.now)))) }
-{
-    let most = text.len() / (alg.hex_len() + SHORTEST_REST);
-    let mut items = Items::from_vec(Vec::with_capacity(alloc, most)?);
-    let mut faults = Items::new(alloc);
-    for (line, content) in lines(text) {
-        if !is_blank_line(content) {
-            let verdict = judge(alloc, rules, kind, alg, content)?;
-            put(Judged { line, verdict }, &mut items, &mut faults)?;
+    /// The lines that are known to name the path of an earlier line.
+    repeated: BTreeSet<u64>,
+}
+
+impl ManifestForm {
+    /// The entry of a line that says this, where it is the first that names the path.
+    fn entry(&self, line: u64, digest: Digest, path: Text) -> Result<ManifestEntry, Why>
+        ensures { result ≡ spec.entry_unless (contains nat_cmp self.now.repeated line) line (digest, path) }
+    {
+        if self.repeated.contains(&line) {
+            Err((Code::NamedAgain, path))
+        } else {
+            Ok(ManifestEntry { line, digest, path })
         }
     }
-    Ok(Parsed { items, faults })
 }
 
-/// Reads a text in which paths may be named again.
-fn read_repeats(
-    alloc: Global,
-    rules: Rules,
-    kind: Kind,
-    alg: Alg,
-    text: &str,
-) -> Result<Parsed<ManifestEntry>, AllocError>
-    ensures items { IfOk result (λ parsed. parsed.items ≡ filter_map entry_of (judged_and_marked rules kind alg (cut.lines text.now))) }
-    ensures faults { IfOk result (λ parsed. parsed.faults ≡ filter_map fault_of (judged_and_marked rules kind alg (cut.lines text.now))) }
-{
-    let mut all = judge_all(alloc, rules, kind, alg, text)?;
-    mark_repeats(alloc, &mut all)?;
-    part(alloc, all)
-}
+impl LineForm for ManifestForm {
+    type Entry = ManifestEntry;
 
-/// Judges each line that isn't blank.
-fn judge_all(
-    alloc: Global,
-    rules: Rules,
-    kind: Kind,
-    alg: Alg,
-    text: &str,
-) -> Result<Vec<Judged>, AllocError>
-    ensures { IfOk result (λ all. all.items ≡ judged_all rules kind alg (enumerate_from 1 (cut.lines text.now))) }
-{
-    let mut all = Vec::with_capacity(alloc, text.len() / (alg.hex_len() + SHORTEST_REST))?;
-    for (number, line) in lines(text) {
-        if !is_blank_line(line) {
-            let verdict = judge(alloc, rules, kind, alg, line)?;
-            all.push(Judged {
-                line: number,
-                verdict,
-            })?;
+    ghost reads = { λ form line content. spec.entry_in (λ n path. contains nat_cmp form.repeated n) form.rules form.kind form.alg line content };
+
+    fn read(
+        &self,
+        alloc: Global,
+        number: u64,
+        line: &str,
+    ) -> Result<Result<ManifestEntry, Why>, AllocError> {
+        match read_line(alloc, self.rules, self.kind, self.alg, line)? {
+            Ok((digest, path)) => Ok(self.entry(number, digest, path)),
+            Err(why) => Ok(Err(why)),
         }
     }
-    Ok(all)
 }
 
-/// Parts the lines into entries and faults.
-fn part(alloc: Global, all: Vec<Judged>) -> Result<Parsed<ManifestEntry>, AllocError>
-    ensures items { IfOk result (λ parsed. parsed.items ≡ filter_map entry_of all.items) }
-    ensures faults { IfOk result (λ parsed. parsed.faults ≡ filter_map fault_of all.items) }
+/// Reads a line that isn't blank: its digest and its path, or the first reason why it doesn't read.
+fn read_line(
+    alloc: Global,
+    rules: Rules,
+    kind: Kind,
+    alg: Alg,
+    line: &str,
+) -> Result<Result<(Digest, Text), Why>, AllocError>
+    ensures { IfOk result (λ read. read ≡ spec.manifest_line rules kind alg line.now) }
 {
-    let mut items = Items::from_vec(Vec::with_capacity(alloc, all.len())?);
-    let mut faults = Items::new(alloc);
-    for judged in all {
-        put(judged, &mut items, &mut faults)?;
+    let (digest, rest) = split_at_blanks(line);
+    match check_digest(alg, digest, rest) {
+        Ok(read) => read_path(alloc, rules, kind, read, without_marks(rest)),
+        Err((code, detail)) => refuse(alloc, code, detail),
     }
-    Ok(Parsed { items, faults })
 }
 
-/// Puts a line where it belongs.
-fn put(
-    judged: Judged,
-    items: &mut Items<ManifestEntry>,
-    faults: &mut Items<LineFault>,
-) -> Result<(), AllocError>
-    ensures items { OnOk result (items.new ≡ items.old ++ option_to_list (entry_of judged)) }
-    ensures faults { OnOk result (faults.new ≡ faults.old ++ option_to_list (fault_of judged)) }
+/// The digest, where it is hex of the algorithm's length and something follows it; else the code and the detail of
+/// what is wrong.
+fn check_digest<'a>(alg: Alg, digest: &'a str, rest: &str) -> Result<Digest, (Code, &'a str)>
+    ensures { MatchResult result
+        (λ read. spec.checked_digest alg digest.now rest.now ≡ Ok read)
+        (λ why. spec.checked_digest alg digest.now rest.now ≡ Err (why.0, why.1.now)) }
 {
-    let Judged { line, verdict } = judged;
-    match verdict {
-        Verdict::Entry { digest, path } => items.push(ManifestEntry { line, digest, path }),
-        Verdict::Fault { code, detail } => faults.push(LineFault { line, code, detail }),
+    if digest.is_empty() || !is_hex(digest.as_bytes()) || rest.is_empty() {
+        return Err((Code::ManifestLine, ""));
+    }
+    if digest.len() != alg.hex_len() {
+        return Err((Code::DigestLength, digest));
+    }
+    Ok(Digest::of_digits(alg, digest.as_bytes()))
+}
+
+/// Whether all bytes are hex digits. It takes no branch for a byte, as none could be foretold in a digest.
+fn is_hex(bytes: &[u8]) -> bool
+    ensures { result ≡ list_all is_ascii_hexdigit bytes.now }
+{
+    let mut all = true;
+    for b in bytes {
+        all &= is_hex_digit(*b);
+    }
+    all
+}
+
+fn is_hex_digit(b: u8) -> bool
+    ensures { result ≡ is_ascii_hexdigit b }
+{
+    b.is_ascii_digit() | ((b >= b'A') & (b <= b'F')) | ((b >= b'a') & (b <= b'f'))
+}
+
+/// The rest of a line without what may be written before a path: one `*`, as `md5sum -b` has it, and then one `./`.
+fn without_marks(rest: &str) -> &str
+    ensures { result.now ≡ spec.without_marks rest.now }
+{
+    without_prefix(without_prefix(rest, "*"), "./")
+}
+
+/// A line of which the digest is good, by how its path is spelled.
+fn read_path(
+    alloc: Global,
+    rules: Rules,
+    kind: Kind,
+    digest: Digest,
+    spelling: &str,
+) -> Result<Result<(Digest, Text), Why>, AllocError>
+    ensures { IfOk result (λ read. read ≡ spec.line_by_spelling rules kind digest spelling.now) }
+{
+    match decode_path(alloc, rules, spelling, Code::ManifestEscape)? {
+        Ok(path) => Ok(name_path(kind, digest, path)),
+        Err(why) => Ok(Err(why)),
+    }
+}
+
+/// A line of which the digest is good, by the path that is written in it.
+fn name_path(kind: Kind, digest: Digest, path: Text) -> Result<(Digest, Text), Why>
+    ensures { result ≡ spec.line_by_path kind digest path }
+{
+    match misplaced(kind, path.as_str()) {
+        None => Ok((digest, path)),
+        Some(code) => Err((code, path)),
+    }
+}
+
+/// Why a manifest of this kind may not name this text, if it may not.
+fn misplaced(kind: Kind, path: &str) -> Option<Code>
+    ensures { MatchOption result (spec.named_path kind path.now ≡ Ok path.now) (λ code. spec.named_path kind path.now ≡ Err (code, path.now)) }
+{
+    match kind {
+        Kind::Payload => {
+            if is_payload(path) {
+                None
+            } else if check_path(path).is_ok() {
+                Some(Code::ManifestOutsidePayload)
+            } else {
+                Some(Code::ManifestUnsafePath)
+            }
+        }
+        Kind::Tag => {
+            if check_path(path).is_err() {
+                Some(Code::ManifestUnsafePath)
+            } else if is_payload(path) {
+                Some(Code::TagmanifestNamesPayload)
+            } else if is_manifest_name(Kind::Tag, path) {
+                Some(Code::TagmanifestNamesTagmanifest)
+            } else {
+                None
+            }
+        }
     }
 }

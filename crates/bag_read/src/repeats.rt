@@ -1,60 +1,60 @@
-//! Lines of a manifest that name a path again.
-ghost use Rattle.std.specs.Prelude.{◌≡◌, ◌↔◌, ◌<◌, ℕ, IfOk, OnOk, All, Contains, bytes_eq, length, map};
-ghost use Rattle.std.specs.List.Sorted.{IsStrictlySortedBy};
-ghost use Rattle.bag_read.specs.Judged.{marked_if_repeat};
-ghost use Rattle.bag_read.specs.Repeats.{fingerprint, line_cmp, pair_of, places_from, IsRepeatAt, IsMarked, FollowsSame, HasFingerprint};
+//! Whether entries of a manifest name each path once, and which lines name a path again.
+ghost use Rattle.std.specs.Prelude.{◌≡◌, ◌↔◌, ℕ, IfOk, IsTrue, map};
+ghost use Rattle.std.specs.BTreeSet.{contains};
+ghost use Rattle.std.specs.List.Sorted.{IsStrictlyIncreasing};
+ghost use Rattle.std.specs.Ordering.{nat_cmp};
+ghost use Rattle.bag_read.specs.Repeats.{fingerprint, mark_of, AreAscending, AreDifferent, IsRepeatedLine};
 
-use crate::manifest_line::Judged;
+use crate::manifest::ManifestEntry;
 use std::alloc::{AllocError, Global};
+use std::collections::BTreeSet;
 use std::hash::{FoldHasher, Hasher};
 
-/// Marks each line that names the path of an earlier line. Takes time n log n in the number of lines.
-pub(crate) fn mark_repeats(alloc: Global, all: &mut Vec<Judged>) -> Result<(), AllocError>
-    requires { IsStrictlySortedBy line_cmp all.old.items }
-    ensures { OnOk result (all.new.items ≡ map (marked_if_repeat all.old.items) all.old.items) }
+/// Whether entries name each path once; where they do, this may still be false. Takes time n log n in their number.
+pub(crate) fn are_different(alloc: Global, entries: &[ManifestEntry]) -> Result<bool, AllocError>
+    ensures { IfOk result (λ different. IsTrue different → AreDifferent entries.now) }
 {
-    let places = repeats(alloc, all.as_slice())?;
-    mark(alloc, all, places.as_slice());
-    Ok(())
-}
-
-/// Marks the lines at these places.
-fn mark(alloc: Global, all: &mut Vec<Judged>, places: &[usize])
-    requires { (i : ℕ) → Contains places.now i → i < length all.old.items }
-    ensures { IsMarked places.now all.old.items all.new.items }
-{
-    for place in places {
-        all[*place].mark_named_again(alloc);
+    if is_ascending(entries) {
+        return Ok(true);
     }
+    fingerprints_differ(alloc, entries)
 }
 
-/// The places of the lines that name the path of an earlier line.
-fn repeats(alloc: Global, all: &[Judged]) -> Result<Vec<usize>, AllocError>
-    requires { IsStrictlySortedBy line_cmp all.now }
-    ensures { IfOk result (λ places. (i : ℕ) → Contains places.items i ↔ IsRepeatAt all.now i) }
+/// Whether the paths ascend, so that none is named again. Many programs write them so.
+fn is_ascending(entries: &[ManifestEntry]) -> bool
+    ensures { IsTrue result → AreAscending entries.now }
 {
-    let mut named = named_places(alloc, all)?;
-    named.sort_unstable();
-    followers(alloc, named.as_slice())
-}
-
-/// The path of each line that reads, with its fingerprint and the line's place.
-fn named_places(alloc: Global, all: &[Judged]) -> Result<Vec<(u64, &str, usize)>, AllocError>
-    ensures places { IfOk result (λ named. map pair_of named.items ≡ places_from 0 all.now) }
-    ensures fingerprints { IfOk result (λ named. All HasFingerprint named.items) }
-{
-    let mut named = Vec::new(alloc);
-    for (place, judged) in all.iter().enumerate() {
-        if let Some(path) = judged.path() {
-            named.push((fingerprint(path), path, place))?;
+    for k in 1..entries.len() {
+        if !entries[k - 1].path.cmp(&entries[k].path).is_lt() {
+            return false;
         }
     }
-    Ok(named)
+    true
+}
+
+/// Whether the paths have different fingerprints, so that none is named again. Sorted alone, these take little time.
+fn fingerprints_differ(alloc: Global, entries: &[ManifestEntry]) -> Result<bool, AllocError>
+    ensures { IfOk result (λ differ. IsTrue differ → AreDifferent entries.now) }
+{
+    let mut fingerprints = fingerprints(alloc, entries)?;
+    fingerprints.sort_unstable();
+    Ok(is_increasing(fingerprints.as_slice()))
+}
+
+/// The fingerprint of the path of each entry.
+fn fingerprints(alloc: Global, entries: &[ManifestEntry]) -> Result<Vec<u64>, AllocError>
+    ensures { IfOk result (λ found. found.items ≡ map mark_of entries.now) }
+{
+    let mut found = Vec::with_capacity(alloc, entries.len())?;
+    for entry in entries {
+        found.push(fingerprint(entry.path.as_str()))?;
+    }
+    Ok(found)
 }
 
 /// A number of a path, which most often tells it from other paths.
 #[tactic(auto, unfolding(crate::specs::Repeats::fingerprint))]
-pub(crate) fn fingerprint(path: &str) -> u64
+fn fingerprint(path: &str) -> u64
     ensures { result ≡ fingerprint path.now }
 {
     let mut hasher = FoldHasher::default();
@@ -62,24 +62,31 @@ pub(crate) fn fingerprint(path: &str) -> u64
     hasher.finish()
 }
 
-/// The places that stand behind another of the same path.
-fn followers(alloc: Global, named: &[(u64, &str, usize)]) -> Result<Vec<usize>, AllocError>
-    requires { All HasFingerprint named.now }
-    ensures { IfOk result (λ places. (i : ℕ) → Contains places.items i ↔ FollowsSame (map pair_of named.now) i) }
+/// Whether each number is greater than the one before it.
+fn is_increasing(numbers: &[u64]) -> bool
+    ensures { IsTrue result → IsStrictlyIncreasing numbers.now }
 {
-    let mut places = Vec::new(alloc);
-    for k in 1..named.len() {
-        if is_same_path(&named[k - 1], &named[k]) {
-            places.push(named[k].2)?;
+    for k in 1..numbers.len() {
+        if numbers[k - 1] >= numbers[k] {
+            return false;
         }
     }
-    Ok(places)
+    true
 }
 
-/// Whether the paths are the same: most often their fingerprints tell.
-fn is_same_path(before: &(u64, &str, usize), after: &(u64, &str, usize)) -> bool
-    requires { HasFingerprint before.now × HasFingerprint after.now }
-    ensures { result ≡ bytes_eq before.now.1.now after.now.1.now }
+/// The lines that name the path of an earlier entry. Takes time n log n in the number of entries.
+pub(crate) fn repeated_lines(
+    alloc: Global,
+    entries: &[ManifestEntry],
+) -> Result<BTreeSet<u64>, AllocError>
+    ensures { IfOk result (λ lines. (n : ℕ) → IsTrue (contains nat_cmp lines n) ↔ IsRepeatedLine entries.now n) }
 {
-    before.0 == after.0 && before.1 == after.1
+    let mut paths = BTreeSet::new(alloc);
+    let mut lines = BTreeSet::new(alloc);
+    for entry in entries {
+        if !paths.insert(entry.path.as_str())? {
+            lines.insert(entry.line)?;
+        }
+    }
+    Ok(lines)
 }

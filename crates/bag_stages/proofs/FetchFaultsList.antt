@@ -1,11 +1,11 @@
 -- Every bag has a list of the faults of its list of files to fetch.
 use Rattle.std.proofs.Common.{◌≡◌, ◌⊎◌, ℕ, List, Bool, true, false, Option, None, Some, map, refl, sym, ◌∙◌, subst}
-use Rattle.std.specs.List.{enumerate_from}
 use Rattle.std.specs.Str.{is_utf8}
 use Rattle.bag_text.specs.Lines.{lines_of_file}
 use Rattle.bag_text.specs.declared.alg.Alg.{Alg}
 use Rattle.bag_text.specs.declared.code.Code.TheVariants.{FetchNotInManifest}
-use Rattle.bag_read.specs.FetchVerdict.{entries, faults}
+use Rattle.bag_read.specs.Fetch.{entry_in}
+use Rattle.bag_read.specs.LineFault.{entries_read, faults_read}
 use Rattle.bag_read.specs.declared.line_fault.LineFault.{LineFault}
 use Rattle.bag_read.specs.declared.fetch.FetchEntry.{FetchEntry}
 use Rattle.bag_read.proofs.FetchFaults.{entries_of_lines, faults_of_text}
@@ -28,7 +28,7 @@ use Rattle.bag_stages.proofs.LeftOutDecided.{by_all_or_not, by_one_or_not}
 module _ (bag : Bag) where
   of_bytes : (bytes : List ℕ) (b : Bool) → file bag fetch_txt ≡ Some bytes → is_utf8 bytes ≡ b → HasList (IsOfLine bag)
   of_bytes bytes true e text =
-      let lines : List LineFault = faults (rules_in bag) (enumerate_from 1 (lines_of_file bytes)) in
+      let lines : List LineFault = faults_read (entry_in (rules_in bag)) (lines_of_file bytes) in
       (map (in_file fetch_txt None) lines, (lines_listed bag bytes lines e text (faults_of_text (rules_in bag) bytes text)).members)
   of_bytes bytes false e lacks =
       nothing (IsOfLine bag) (λ f. no_line_fault bag f (λ other there.
@@ -39,7 +39,7 @@ module _ (bag : Bag) where
   of_lines (Some bytes) e = of_bytes bytes (is_utf8 bytes) e refl
 
   fetched : HasList (HasFetch bag)
-  fetched = (entries (rules_in bag) (enumerate_from 1 (lines_in bag fetch_txt)), (entries_of_lines (rules_in bag) (lines_in bag fetch_txt)).members)
+  fetched = (entries_read (entry_in (rules_in bag)) (lines_in bag fetch_txt), (entries_of_lines (rules_in bag) (lines_in bag fetch_txt)).members)
 
   -- the payload manifest that is there doesn't name this file
   abbrev Lacks : Alg → FetchEntry → Type 0

@@ -1,5 +1,5 @@
 -- Every bag has a list of the faults of its manifests.
-use Rattle.std.proofs.Common.{◌≡◌, inl, inr, ℕ, List, [], ◌∷◌, Bool, true, false, Option, None, Some, map, refl, sym, ◌∙◌, subst, Contains, filter_map}
+use Rattle.std.proofs.Common.{◌≡◌, inl, inr, ℕ, List, [], ◌∷◌, Bool, true, false, Option, None, Some, map, refl, sym, ◌∙◌, subst, Contains}
 use Rattle.std.specs.Prelude.{if◌then◌else◌}
 use Rattle.std.specs.Cmp.{eq_by_cmp_equiv}
 use Rattle.std.specs.Cmp.Lexicographic.{nat_list_cmp_total}
@@ -7,20 +7,15 @@ use Rattle.std.specs.List.{list_any}
 use Rattle.std.specs.Ordering.{eq_by_cmp}
 use Rattle.std.specs.Str.{is_utf8}
 use Rattle.std.proofs.lemmas.Map.Views.{Contains-from_any, list_any-from_Contains}
-use Rattle.bag_text.specs.Lines.{lines_of_file}
 use Rattle.bag_text.specs.Text.{text_cmp}
 use Rattle.bag_text.specs.declared.alg.Alg.{Alg}
 use Rattle.bag_text.specs.declared.code.Code.TheVariants.{PayloadManifestNotListed}
-use Rattle.bag_read.specs.Judged.{judged_and_marked, fault_of}
-use Rattle.bag_read.specs.LineFault.{AreFaults, not_utf8}
-use Rattle.bag_read.specs.Manifest.{IsManifestFault}
 use Rattle.bag_read.specs.ManifestName.{manifest_name}
-use Rattle.bag_read.specs.declared.line_fault.LineFault.{LineFault}
 use Rattle.bag_read.specs.declared.kind.Kind.{Kind}
 use Rattle.bag_read.specs.declared.kind.Kind.TheVariants.{Payload, Tag}
 use Rattle.bag_read.specs.declared.tag_name.TagName.{TagName}
 use Rattle.bag_read.specs.declared.tag_name.TagName.TheVariants.{Manifest}
-use Rattle.bag_read.proofs.ManifestFaults.{faults_of_text, faults_of_no_text}
+use Rattle.bag_read.proofs.ManifestFaults.{some_faults}
 use Rattle.bag_tree.specs.Bag.{Bag, file, has_file}
 use Rattle.bag_tree.proofs.SameText.{one_text}
 use Rattle.bag_facts.specs.declared.fault.Fault.{Fault}
@@ -46,16 +41,11 @@ there_or_not paths path = there_by paths path (list_any (eq_by_cmp text_cmp path
 pub missing_or_not : (paths : List (List ℕ)) (path : List ℕ) → Decided (¬ (Contains paths path))
 missing_or_not paths path = not_decided (Contains paths path) (there_or_not paths path)
 
--- the faults of the lines of any bytes
-line_faults : (bag : Bag) (kind : Kind) (alg : Alg) (bytes : List ℕ) (b : Bool) → is_utf8 bytes ≡ b → (faults : List LineFault) × AreFaults (IsManifestFault (rules_in bag) kind alg bytes) faults
-line_faults bag kind alg bytes true e = (filter_map fault_of (judged_and_marked (rules_in bag) kind alg (lines_of_file bytes)), faults_of_text (rules_in bag) kind alg bytes e)
-line_faults bag kind alg bytes false e = (not_utf8 ∷ [], faults_of_no_text (rules_in bag) kind alg bytes e)
-
 module _ (bag : Bag) where
   lines_of : (kind : Kind) (alg : Alg) (content : Option (List ℕ)) → file bag (manifest_of kind alg) ≡ content → HasList (IsLineFault bag kind alg)
   lines_of kind alg None e = nothing (IsLineFault bag kind alg) (λ f h. let clash : None ≡ Some h.0.2.0 = sym e ∙ h.0.2.1 in cc)
   lines_of kind alg (Some bytes) e =
-      let lines = line_faults bag kind alg bytes (is_utf8 bytes) refl in
+      let lines = some_faults (rules_in bag) kind alg bytes (is_utf8 bytes) refl in
       let path = manifest_of kind alg in
       let faults : List Fault = if is_utf8 bytes then map (in_file path (Some alg)) lines.0 else [] in
       (faults, (lines_listed bag kind alg bytes path (is_utf8 bytes) lines.0 faults e refl lines.1 refl refl).members)

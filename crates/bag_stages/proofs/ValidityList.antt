@@ -1,14 +1,12 @@
 -- Every bag has a list of the faults of its validity.
-use Rattle.std.proofs.Common.{◌≡◌, ◌≢◌, inl, inr, ℕ, List, [], Bool, true, false, Option, None, Some, refl, sym, ap, ◌∙◌, subst, bytes_eq, filter_map}
+use Rattle.std.proofs.Common.{◌≡◌, ◌≢◌, inl, inr, ℕ, List, [], Bool, true, false, Option, None, Some, refl, sym, ap, ◌∙◌, subst, bytes_eq}
 use Rattle.std.specs.Str.{is_utf8}
 use Rattle.std.proofs.lemmas.Slice.Eq.{bytes_eq-Decides}
-use Rattle.bag_text.specs.Lines.{lines_of_file}
 use Rattle.bag_text.specs.declared.alg.Alg.{Alg}
-use Rattle.bag_read.specs.Judged.{entry_of, judged_and_marked}
 use Rattle.bag_read.specs.Manifest.{IsEntry}
 use Rattle.bag_read.specs.declared.kind.Kind.{Kind}
 use Rattle.bag_read.specs.declared.manifest.ManifestEntry.{ManifestEntry}
-use Rattle.bag_read.proofs.ManifestFaults.{entries_of_text, entries_of_no_text}
+use Rattle.bag_read.proofs.ManifestFaults.{some_entries}
 use Rattle.bag_tree.specs.Bag.{Bag, file}
 use Rattle.bag_tree.specs.Digest.{digest}
 use Rattle.bag_facts.specs.Facts.{rules_in}
@@ -26,14 +24,10 @@ differ_by a b false e = inl (λ is. let clash : false ≡ true = sym e ∙ (byte
 differ_or_not : (a b : List ℕ) → Decided (a ≢ b)
 differ_or_not a b = differ_by a b (bytes_eq a b) refl
 
-entries_by : (bag : Bag) (kind : Kind) (alg : Alg) (bytes : List ℕ) (b : Bool) → is_utf8 bytes ≡ b → HasList (IsEntry (rules_in bag) kind alg (lines_of_file bytes))
-entries_by bag kind alg bytes true e = (filter_map entry_of (judged_and_marked (rules_in bag) kind alg (lines_of_file bytes)), (entries_of_text (rules_in bag) kind alg bytes e).members)
-entries_by bag kind alg bytes false e = ([], (entries_of_no_text (rules_in bag) kind alg bytes e).members)
-
 -- the entries of what is at the place of a manifest
 entries_or_none : (bag : Bag) (kind : Kind) (alg : Alg) (content : Option (List ℕ)) → HasList (IsEntry (rules_in bag) kind alg (lines_or_none content))
 entries_or_none bag kind alg None = nothing _ (λ e h. let clash : None ≡ Some h.0 = h.1.1 in cc)
-entries_or_none bag kind alg (Some bytes) = entries_by bag kind alg bytes (is_utf8 bytes) refl
+entries_or_none bag kind alg (Some bytes) = let entries = some_entries (rules_in bag) kind alg bytes (is_utf8 bytes) refl in (entries.0, entries.1.members)
 
 module _ (bag : Bag) where
   pub entries_listed : (kind : Kind) (alg : Alg) → HasList (IsEntryIn bag kind alg)

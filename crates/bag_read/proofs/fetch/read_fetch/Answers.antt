@@ -1,45 +1,25 @@
-use Rattle.std.proofs.Common.{◌≡◌, sym, ap, subst, Some}
-use Rattle.std.specs.List.{enumerate_from}
-use Rattle.std.specs.Ordering.{nat_cmp, on}
-use Rattle.std.proofs.lemmas.Result.{IfOk-weaker}
-use Rattle.bag_text.specs.Lines.{lines_of_file, lines_of_text}
-use Rattle.bag_text.specs.Order.{IsListOf}
-use Rattle.bag_text.specs.Text.{text_of}
-use Rattle.bag_read.specs.Fetch.{IsFetch, IsFetchFault}
-use Rattle.bag_read.specs.FetchVerdict.{entries, faults}
-use Rattle.bag_read.specs.LineFault.{AreFaults}
+use Rattle.bag_text.specs.Lines.{lines_of_file}
+use Rattle.bag_read.specs.Fetch.{entry_in}
+use Rattle.bag_read.specs.LineFault.{entries_read, faults_read}
 use Rattle.bag_read.proofs.FetchFaults.{entries_of_lines, faults_of_text, entries_of_no_text, faults_of_no_text}
-use Rattle.bag_read.proofs.Utf8.{is_text, is_no_text}
+use Rattle.bag_read.proofs.Utf8.{is_text, is_no_text, listed_so, listed_of_text}
 use Rattle.bag_read.proofs.fetch.read_fetch.Goals as goal
 
 pub returns-in-Ok-clause-items : goal.returns-in-Ok-clause-items
 returns-in-Ok-clause-items c =
     let rules = c.args.rules in
     let bytes = c.args.bytes.now in
-    let text : text_of bytes ≡ Some c.in-Ok.text.now = c.in-Ok.ensures.text in
-    let exact = entries_of_lines rules (lines_of_file bytes) in
-    let these = subst (λ all. IsListOf (on (λ e. e.line) nat_cmp) (IsFetch rules (lines_of_file bytes)) (entries rules (enumerate_from 1 all))) (ap lines_of_text text) exact in
-    IfOk-weaker c.read_text.result _ _ (λ parsed e. subst (IsListOf (on (λ e. e.line) nat_cmp) (IsFetch rules (lines_of_file bytes))) (sym e) these) c.read_text.ensures.items
+    listed_of_text _ _ c.read_lines.result (λ parsed. parsed.items) bytes c.in-Ok.text.now (entries_read (entry_in rules)) c.in-Ok.ensures.text (entries_of_lines rules (lines_of_file bytes)) c.read_lines.ensures.items
 
 pub returns-in-Ok-clause-faults : goal.returns-in-Ok-clause-faults
 returns-in-Ok-clause-faults c =
     let rules = c.args.rules in
     let bytes = c.args.bytes.now in
-    let text : text_of bytes ≡ Some c.in-Ok.text.now = c.in-Ok.ensures.text in
-    let exact = faults_of_text rules bytes (is_text bytes _ text) in
-    let these = subst (λ all. AreFaults (IsFetchFault rules bytes) (faults rules (enumerate_from 1 all))) (ap lines_of_text text) exact in
-    IfOk-weaker c.read_text.result _ _ (λ parsed e. subst (AreFaults (IsFetchFault rules bytes)) (sym e) these) c.read_text.ensures.faults
+    let text = c.in-Ok.ensures.text in
+    listed_of_text _ _ c.read_lines.result (λ parsed. parsed.faults) bytes c.in-Ok.text.now (faults_read (entry_in rules)) text (faults_of_text rules bytes (is_text bytes _ text)) c.read_lines.ensures.faults
 
 pub returns-in-Err-clause-items : goal.returns-in-Err-clause-items
-returns-in-Err-clause-items c =
-    let rules = c.args.rules in
-    let bytes = c.args.bytes.now in
-    let exact = entries_of_no_text rules bytes (is_no_text bytes c.in-Err.ensures.text) in
-    IfOk-weaker c.unread.result _ _ (λ parsed e. subst (IsListOf (on (λ e. e.line) nat_cmp) (IsFetch rules (lines_of_file bytes))) (sym e) exact) c.unread.ensures.items
+returns-in-Err-clause-items c = listed_so _ _ c.unread.result (λ parsed. parsed.items) _ (entries_of_no_text c.args.rules c.args.bytes.now (is_no_text _ c.in-Err.ensures.text)) c.unread.ensures.items
 
 pub returns-in-Err-clause-faults : goal.returns-in-Err-clause-faults
-returns-in-Err-clause-faults c =
-    let rules = c.args.rules in
-    let bytes = c.args.bytes.now in
-    let exact = faults_of_no_text rules bytes (is_no_text bytes c.in-Err.ensures.text) in
-    IfOk-weaker c.unread.result _ _ (λ parsed e. subst (AreFaults (IsFetchFault rules bytes)) (sym e) exact) c.unread.ensures.faults
+returns-in-Err-clause-faults c = listed_so _ _ c.unread.result (λ parsed. parsed.faults) _ (faults_of_no_text c.args.rules c.args.bytes.now (is_no_text _ c.in-Err.ensures.text)) c.unread.ensures.faults

@@ -1,47 +1,20 @@
-use Rattle.std.proofs.Common.{◌≡◌, sym, ap, subst, Some}
-use Rattle.std.specs.Prelude.{filter_map}
-use Rattle.std.specs.Ordering.{nat_cmp, on}
 use Rattle.std.proofs.lemmas.Result.{IfOk-weaker}
-use Rattle.bag_text.specs.Lines.{lines_of_file, lines_of_text}
-use Rattle.bag_text.specs.Order.{IsListOf}
-use Rattle.bag_text.specs.Text.{text_of}
-use Rattle.bag_read.specs.Judged.{judged_and_marked, entry_of, fault_of}
-use Rattle.bag_read.specs.LineFault.{AreFaults}
-use Rattle.bag_read.specs.Manifest.{IsEntry, IsManifestFault}
 use Rattle.bag_read.proofs.ManifestFaults.{entries_of_text, faults_of_text, entries_of_no_text, faults_of_no_text}
-use Rattle.bag_read.proofs.Utf8.{is_text, is_no_text}
+use Rattle.bag_read.proofs.Utf8.{is_no_text, listed_so}
 use Rattle.bag_read.proofs.manifest.read_manifest.Goals as goal
 
 pub returns-in-Ok-clause-items : goal.returns-in-Ok-clause-items
 returns-in-Ok-clause-items c =
-    let rules = c.args.rules in
-    let kind = c.args.kind in
-    let alg = c.args.alg in
-    let bytes = c.args.bytes.now in
-    let text : text_of bytes ≡ Some c.in-Ok.text.now = c.in-Ok.ensures.text in
-    let exact = entries_of_text rules kind alg bytes (is_text bytes _ text) in
-    let these = subst (λ all. IsListOf (on (λ e. e.line) nat_cmp) (IsEntry rules kind alg (lines_of_file bytes)) (filter_map entry_of (judged_and_marked rules kind alg all))) (ap lines_of_text text) exact in
-    IfOk-weaker c.read_text.result _ _ (λ parsed e. subst (IsListOf (on (λ e. e.line) nat_cmp) (IsEntry rules kind alg (lines_of_file bytes))) (sym e) these) c.read_text.ensures.items
+    let of = entries_of_text c.args.rules c.args.kind c.args.alg c.args.bytes.now c.in-Ok.text.now c.in-Ok.ensures.text in
+    IfOk-weaker c.read_text.result _ _ (λ parsed. of parsed.items parsed.faults) c.read_text.ensures
 
 pub returns-in-Ok-clause-faults : goal.returns-in-Ok-clause-faults
 returns-in-Ok-clause-faults c =
-    let rules = c.args.rules in
-    let kind = c.args.kind in
-    let alg = c.args.alg in
-    let bytes = c.args.bytes.now in
-    let text : text_of bytes ≡ Some c.in-Ok.text.now = c.in-Ok.ensures.text in
-    let exact = faults_of_text rules kind alg bytes (is_text bytes _ text) in
-    let these = subst (λ all. AreFaults (IsManifestFault rules kind alg bytes) (filter_map fault_of (judged_and_marked rules kind alg all))) (ap lines_of_text text) exact in
-    IfOk-weaker c.read_text.result _ _ (λ parsed e. subst (AreFaults (IsManifestFault rules kind alg bytes)) (sym e) these) c.read_text.ensures.faults
+    let of = faults_of_text c.args.rules c.args.kind c.args.alg c.args.bytes.now c.in-Ok.text.now c.in-Ok.ensures.text in
+    IfOk-weaker c.read_text.result _ _ (λ parsed. of parsed.items parsed.faults) c.read_text.ensures
 
 pub returns-in-Err-clause-items : goal.returns-in-Err-clause-items
-returns-in-Err-clause-items c =
-    let bytes = c.args.bytes.now in
-    let exact = entries_of_no_text c.args.rules c.args.kind c.args.alg bytes (is_no_text bytes c.in-Err.ensures.text) in
-    IfOk-weaker c.unread.result _ _ (λ parsed e. subst (IsListOf (on (λ e. e.line) nat_cmp) (IsEntry c.args.rules c.args.kind c.args.alg (lines_of_file bytes))) (sym e) exact) c.unread.ensures.items
+returns-in-Err-clause-items c = listed_so _ _ c.unread.result (λ parsed. parsed.items) _ (entries_of_no_text c.args.rules c.args.kind c.args.alg c.args.bytes.now (is_no_text _ c.in-Err.ensures.text)) c.unread.ensures.items
 
 pub returns-in-Err-clause-faults : goal.returns-in-Err-clause-faults
-returns-in-Err-clause-faults c =
-    let bytes = c.args.bytes.now in
-    let exact = faults_of_no_text c.args.rules c.args.kind c.args.alg bytes (is_no_text bytes c.in-Err.ensures.text) in
-    IfOk-weaker c.unread.result _ _ (λ parsed e. subst (AreFaults (IsManifestFault c.args.rules c.args.kind c.args.alg bytes)) (sym e) exact) c.unread.ensures.faults
+returns-in-Err-clause-faults c = listed_so _ _ c.unread.result (λ parsed. parsed.faults) _ (faults_of_no_text c.args.rules c.args.kind c.args.alg c.args.bytes.now (is_no_text _ c.in-Err.ensures.text)) c.unread.ensures.faults

@@ -1,23 +1,29 @@
-use Rattle.std.proofs.Common.{◌∙◌, ap, subst}
-use Rattle.std.specs.Prelude.{filter_map}
-use Rattle.std.specs.List.{enumerate_from}
+use Rattle.std.proofs.Common.{◌≡◌, ◌∙◌, ℕ, List, Bool, false, refl, subst}
+use Rattle.std.specs.BTreeSet.{contains}
+use Rattle.std.specs.Ordering.{nat_cmp}
 use Rattle.bag_text.specs.Lines as cut
-use Rattle.bag_read.specs.Judged.{judged_all, entry_of, fault_of}
-use Rattle.bag_read.specs.NamedOnce.{AreDifferent}
-use Rattle.bag_read.proofs.ManifestJudged.{judged_ascend}
-use Rattle.bag_read.proofs.NamedOnce.{unmarked}
+use Rattle.bag_read.specs.Repeats.{AreDifferent}
+use Rattle.bag_read.proofs.Reason.{both_ok}
+use Rattle.bag_read.proofs.RepeatedLines.{different_told, repeats_told}
 use Rattle.bag_read.proofs.manifest.read_text.Goals as goal
 
-pub returns-then-branch-clause-items : goal.returns-then-branch-clause-items
-returns-then-branch-clause-items c =
-    let js = judged_all c.args.rules c.args.kind c.args.alg (enumerate_from 1 (cut.lines c.args.text.now)) in
+pub returns-then-branch : goal.returns-then-branch
+returns-then-branch c =
+    let at_first : ℕ → List ℕ → Bool = λ n path. contains nat_cmp c.new.result n in
+    let none_known : (n : ℕ) (path : List ℕ) → at_first n path ≡ false = λ n path. rw c.new.ensures.empty refl in
     let items = c.in_ok-parsed.ensures.items in
-    let different : AreDifferent (filter_map entry_of js) = subst AreDifferent (c.as_slice.ensures ∙ items) (c.in_ok-are_different.ensures c.if-branch.true) in
-    items ∙ ap (filter_map entry_of) (unmarked js different (judged_ascend c.args.rules c.args.kind c.args.alg (cut.lines c.args.text.now)))
+    let different = subst AreDifferent (c.as_slice.ensures ∙ items) (c.in_ok-are_different.ensures c.if-branch.true) in
+    record {
+      names_again = at_first;
+      tells = different_told c.args.rules c.args.kind c.args.alg (cut.lines c.args.text.now) at_first none_known different;
+      items_are = items;
+      faults_are = c.in_ok-parsed.ensures.faults;
+    }
 
-pub returns-then-branch-clause-faults : goal.returns-then-branch-clause-faults
-returns-then-branch-clause-faults c =
-    let js = judged_all c.args.rules c.args.kind c.args.alg (enumerate_from 1 (cut.lines c.args.text.now)) in
-    let items = c.in_ok-parsed.ensures.items in
-    let different : AreDifferent (filter_map entry_of js) = subst AreDifferent (c.as_slice.ensures ∙ items) (c.in_ok-are_different.ensures c.if-branch.true) in
-    c.in_ok-parsed.ensures.faults ∙ ap (filter_map fault_of) (unmarked js different (judged_ascend c.args.rules c.args.kind c.args.alg (cut.lines c.args.text.now)))
+pub returns : goal.returns
+returns c =
+    let at_first : ℕ → List ℕ → Bool = λ n path. contains nat_cmp c.new.result n in
+    let none_known : (n : ℕ) (path : List ℕ) → at_first n path ≡ false = λ n path. rw c.new.ensures.empty refl in
+    let found = rw (c.as_slice-2.ensures ∙ c.in_ok-parsed.ensures.items) at c.in_ok-repeated_lines.ensures in
+    let tells = repeats_told c.args.rules c.args.kind c.args.alg (cut.lines c.args.text.now) at_first none_known (λ n path. contains nat_cmp c.in_ok-repeated_lines.field-0 n) (λ n path. found n) in
+    both_ok c.read_lines-2.result _ _ _ (λ parsed items faults. record { names_again = _; tells = tells; items_are = items; faults_are = faults }) c.read_lines-2.ensures.items c.read_lines-2.ensures.faults
