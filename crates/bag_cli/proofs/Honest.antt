@@ -7,10 +7,10 @@ use Rattle.bag_tree.specs.Tree.{TreeState}
 use Rattle.bag_tags.specs.Element.{NewElement}
 use Rattle.bag_make.specs.declared.fault.MakeFault.{MakeFault}
 use Rattle.bag_cli.specs.Honest.{HonestFoldersAreTold, IsToldMade, IsToldNotMade}
-use Rattle.bag_cli.specs.Making.{IsMake, Tells}
+use Rattle.bag_cli.specs.Making.{IsMake, TellsMaking}
 
 told_by : (name : List ℕ) (algs : List Alg) (info : List NewElement) (quiet : Bool) (old new : TreeState) (before after : Option (List ℕ)) (refused : Bool) (n : ℕ) (made : Result (Unit {0}) MakeFault)
-    → IsTrue old.honest → IsMake algs info old new made → Tells name made quiet before after refused (Ok n)
+    → IsTrue old.honest → IsMake algs info old new made → TellsMaking name made quiet before after refused (Ok n)
     → IsToldMade name algs info quiet old.bag new.bag before after n ⊎ IsToldNotMade name algs info old new before after n
 told_by name algs info quiet old new before after refused n (Ok _) honest make tells =
     inl (record { status = tells.0; made_bag = make.made_bag.bag honest; valid = make.valid honest; said = tells.1 })

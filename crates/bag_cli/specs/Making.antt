@@ -25,8 +25,8 @@ pub record IsMake (algs : List Alg) (info : List NewElement) (old new : TreeStat
   pub leaves : IfErr made (λ fault. IsTrue old.honest → Leaves algs info old.bag new.bag fault)
 
 -- the output took the line, and this is the status; or it refused, and took a proper prefix
-abbrev pub Tells : List ℕ → Result (Unit {0}) MakeFault → Bool → Option (List ℕ) → Option (List ℕ) → Bool → Result ℕ Refused → Type 0
-Tells name made quiet before after refused told =
+abbrev pub TellsMaking : List ℕ → Result (Unit {0}) MakeFault → Bool → Option (List ℕ) → Option (List ℕ) → Bool → Result ℕ Refused → Type 0
+TellsMaking name made quiet before after refused told =
     MatchResult told
     (λ n. (n ≡ status made) × Appends before after (line name made quiet))
     (λ _. IsCut before after (line name made quiet) × (refused ≡ true))
@@ -35,4 +35,4 @@ Tells name made quiet before after refused told =
 pub record IsMaking (name : List ℕ) (algs : List Alg) (info : List NewElement) (quiet : Bool) (old new : TreeState) (before after : Option (List ℕ)) (refused : Bool) (told : Result ℕ Refused) : Type 0 where
   pub made : Result (Unit {0}) MakeFault
   pub make : IsMake algs info old new made
-  pub tells : Tells name made quiet before after refused told
+  pub tells : TellsMaking name made quiet before after refused told

@@ -13,7 +13,7 @@ abbrev pub most_bytes : ℕ
 most_bytes = 16777216
 
 -- the file has bytes that are this profile, or that aren't one for this cause
-pub record IsOfFile (file : Option (List ℕ) → Type 0) (answer : Result Profile ProfileFault) : Type 0 where
+pub record IsProfileOfFile (file : Option (List ℕ) → Type 0) (answer : Result Profile ProfileFault) : Type 0 where
   pub bytes : List ℕ
   pub has : file (Some bytes)
   pub within : length bytes ≤ most_bytes
@@ -21,6 +21,6 @@ pub record IsOfFile (file : Option (List ℕ) → Type 0) (answer : Result Profi
 
 -- The file's bytes are the profile, or aren't one for the cause that is given; or the file can't be read, or memory ran out.
 abbrev pub IsRead : (Option (List ℕ) → Type 0) → Result Profile ProfileRefusal → Type 0
-IsRead file (Ok profile) = IsOfFile file (Ok profile)
+IsRead file (Ok profile) = IsProfileOfFile file (Ok profile)
 IsRead file (Err Unread) = MayBeUnread file most_bytes
-IsRead file (Err (Refused fault)) = (fault ≡ Memory) ⊎ IsOfFile file (Err fault)
+IsRead file (Err (Refused fault)) = (fault ≡ Memory) ⊎ IsProfileOfFile file (Err fault)

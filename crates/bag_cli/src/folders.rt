@@ -14,8 +14,8 @@ use std::alloc::{AllocError, Global};
 
 /// The folders that disks reach, and the files beside them.
 ///
-/// Who is lent one, and not the disks, reaches no disk but through it: so each folder that is looked into, as what it is left, or
-/// that couldn't be given, and each file that is read stand in the `Visits` that were made with it.
+/// A function that borrows a `Folders` and no disks reaches a disk through it alone. So the `Visits` that were made with it hold each
+/// folder that was looked into, with the state in which its tree was left, each that couldn't be given, and each file that was read.
 #[derive(Drop)]
 pub struct Folders<'d, D> {
     disks: &'d D,
@@ -61,7 +61,7 @@ impl<'d, D: Disks> Folders<'d, D> {
         visits.note_of(&tree);
     }
 
-    /// The bytes of the file at a path, all of them. A file of more than so many bytes can't be read.
+    /// The bytes of the file at a path, all of them. A file of more than `most` bytes can't be read.
     ///
     /// The path is one of the system's, and leads from no folder.
     pub fn read_file(

@@ -1,6 +1,6 @@
 //! Making one folder a bag.
 ghost use Rattle.std.specs.Prelude.{◌≡◌};
-ghost use Rattle.bag_cli.specs.Making.{IsMaking, Tells};
+ghost use Rattle.bag_cli.specs.Making.{IsMaking, TellsMaking};
 ghost use Rattle.bag_cli.specs.MakingLine as spec;
 
 use crate::making_line::put_making;
@@ -37,7 +37,7 @@ fn tell<W: Out>(
     quiet: bool,
     out: &mut W,
 ) -> Result<u8, Refused>
-    ensures { Tells name.now made.now quiet (W.taken out.old) (W.taken out.new) (W.has_refused out.new) result }
+    ensures { TellsMaking name.now made.now quiet (W.taken out.old) (W.taken out.new) (W.has_refused out.new) result }
 {
     put_making(name, made, quiet, out)?;
     Ok(status(made))

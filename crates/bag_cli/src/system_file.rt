@@ -18,7 +18,7 @@ pub(crate) fn open_file<R: Files>(rt: &R, path: &str) -> Result<R::File, ReadFau
     }
 }
 
-/// All bytes that a reader has left, of which it takes no more than one above so many.
+/// All bytes that a reader has left, where they are no more than the bound. It takes one byte above the bound at most.
 pub(crate) fn read_within<F: Read + Drop>(
     alloc: Global,
     file: F,

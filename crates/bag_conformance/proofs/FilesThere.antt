@@ -22,17 +22,17 @@ module _ (code : Code) (Holds : List ℕ → Type 0) where
   HoldsOf entry = Holds entry.path
 
   -- the fault of a file of the bag of which it holds
-  abbrev pub IsOfFile : Bag → Fault → Type 0
-  IsOfFile bag f = (path : List ℕ) × HasFile bag path × (f ≡ of_path code path None []) × Holds path
+  abbrev pub IsFaultOfAFile : Bag → Fault → Type 0
+  IsFaultOfAFile bag f = (path : List ℕ) × HasFile bag path × (f ≡ of_path code path None []) × Holds path
 
   module _ (bag : Bag) (files : List FileEntry) (listed : AreListed bag files) where
-    to_file : (f : Fault) → FaultsOf fault_of HoldsOf files f → IsOfFile bag f
+    to_file : (f : Fault) → FaultsOf fault_of HoldsOf files f → IsFaultOfAFile bag f
     to_file f h = (path_of h.0, listed_file bag files (path_of h.0) listed (mapped_contains path_of files h.0 h.1), h.2, h.3)
 
-    from_file : (f : Fault) → IsOfFile bag f → FaultsOf fault_of HoldsOf files f
+    from_file : (f : Fault) → IsFaultOfAFile bag f → FaultsOf fault_of HoldsOf files f
     from_file f h =
         let there = contains_mapped path_of files h.0 (file_listed bag files h.0 listed h.1) in
         (there.0, there.1, h.2 ∙ ap (λ path. of_path code path None []) (sym there.2), subst Holds (sym there.2) h.3)
 
-    pub files_all : (faults : List Fault) → AreAll (FaultsOf fault_of HoldsOf files) faults → AreAll (IsOfFile bag) faults
-    files_all faults all = same_all (FaultsOf fault_of HoldsOf files) (IsOfFile bag) faults to_file from_file all
+    pub files_all : (faults : List Fault) → AreAll (FaultsOf fault_of HoldsOf files) faults → AreAll (IsFaultOfAFile bag) faults
+    files_all faults all = same_all (FaultsOf fault_of HoldsOf files) (IsFaultOfAFile bag) faults to_file from_file all

@@ -20,7 +20,7 @@ use Rattle.bag_conformance.specs.ConformanceStage.{allowed_manifests, required_m
 use Rattle.bag_conformance.specs.NotAllowed.{IsOtherManifest}
 use Rattle.bag_conformance.specs.ProfileRules.{Excludes, Lists}
 use Rattle.bag_conformance.proofs.FaultSets.{FaultsOf, same_all, whole_at, code_at}
-use Rattle.bag_conformance.proofs.FilesThere.{fault_of, HoldsOf, IsOfFile, files_all}
+use Rattle.bag_conformance.proofs.FilesThere.{fault_of, HoldsOf, IsFaultOfAFile, files_all}
 
 -- the names of the list of a kind
 pub listed_as : (profile : Profile) (kind : Kind) (required : List (List ℕ)) (rule : ListRule) → rule ≡ required_manifests kind → ((name : List ℕ) → Contains required name ↔ Lists profile rule name)
@@ -54,7 +54,7 @@ module _ (bag : Bag) (profile : Profile) (kind : Kind) where
   HasOther f = (f.code ≡ other_code kind) × HasOtherManifest bag profile f kind
 
   abbrev pub IsOther : Fault → Type 0
-  IsOther = IsOfFile (other_code kind) (IsOtherManifest profile kind) bag
+  IsOther = IsFaultOfAFile (other_code kind) (IsOtherManifest profile kind) bag
 
   to_other : (f : Fault) → IsOther f → HasOther f
   to_other f h =

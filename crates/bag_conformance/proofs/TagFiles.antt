@@ -14,7 +14,7 @@ use Rattle.bag_conformance.specs.ConformanceStage.{LacksTagFile, HasOtherTagFile
 use Rattle.bag_conformance.specs.NotAllowed.{IsOtherTagFile}
 use Rattle.bag_conformance.specs.ProfileRules.{Lists}
 use Rattle.bag_conformance.proofs.FaultSets.{FaultsOf, same_all, both_all, whole_at, code_at}
-use Rattle.bag_conformance.proofs.FilesThere.{fault_of, HoldsOf, IsOfFile, files_all}
+use Rattle.bag_conformance.proofs.FilesThere.{fault_of, HoldsOf, IsFaultOfAFile, files_all}
 
 module _ (bag : Bag) (profile : Profile) where
   abbrev pub lacking_fault : List ℕ → Fault
@@ -51,7 +51,7 @@ module _ (bag : Bag) (profile : Profile) where
   HasOther f = (f.code ≡ TagFileNotAllowed) × HasOtherTagFile bag profile f
 
   abbrev pub IsOther : Fault → Type 0
-  IsOther = IsOfFile TagFileNotAllowed (IsOtherTagFile profile) bag
+  IsOther = IsFaultOfAFile TagFileNotAllowed (IsOtherTagFile profile) bag
 
   to_other : (f : Fault) → IsOther f → HasOther f
   to_other f (path, has, is, other) =

@@ -41,7 +41,7 @@ fn common_len(files: &[FileEntry]) -> usize {
     }
 }
 
-/// A number that stands in the order of the paths, where those of the payload begin alike for so many bytes.
+/// A number that stands in the order of the paths, where those of the payload begin with the same `skipped` bytes.
 fn key_of(path: &str, skipped: usize) -> u128 {
     if path.starts_with(PAYLOAD) {
         return IN_PAYLOAD | (key_behind(path.as_bytes(), skipped) >> 2);

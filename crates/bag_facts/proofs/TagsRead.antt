@@ -5,7 +5,7 @@ use Rattle.bag_read.specs.declared.tag_name.TagName.{TagName}
 use Rattle.bag_read.proofs.TagPaths.{paths_differ}
 use Rattle.bag_tree.specs.Bag.{Bag, file}
 use Rattle.bag_facts.specs.Facts.{rules_in, IsFactsOf}
-use Rattle.bag_facts.specs.TagFacts.{IsReadOf, IsNamed, name_of, path_of}
+use Rattle.bag_facts.specs.TagFacts.{IsReadOf, IsTagFileNamed, name_of, path_of}
 use Rattle.bag_facts.specs.Wanted.{Wants}
 use Rattle.bag_facts.specs.declared.facts.Facts.{Facts}
 use Rattle.bag_facts.specs.declared.tag_facts.TagFacts.{TagFacts}
@@ -13,12 +13,12 @@ use Rattle.bag_facts.proofs.Mapped.{contains_mapped}
 
 module _ (bag : Bag) (known : Facts) (of : TagName) (h : IsFactsOf bag known) where
   -- what is among them is what the file says
-  there : (tag : TagFacts) → Contains known.tags tag → name_of tag ≡ of → IsReadOf (IsNamed (rules_in bag) of) (file bag (tag_path of)) (Some tag)
+  there : (tag : TagFacts) → Contains known.tags tag → name_of tag ≡ of → IsReadOf (IsTagFileNamed (rules_in bag) of) (file bag (tag_path of)) (Some tag)
   there tag c e =
       let said = h.said tag c in
-      subst (λ content. IsReadOf (IsNamed (rules_in bag) of) content (Some tag)) (sym said.1 ∙ ap (λ one. file bag (tag_path one)) e) (said.2, e)
+      subst (λ content. IsReadOf (IsTagFileNamed (rules_in bag) of) content (Some tag)) (sym said.1 ∙ ap (λ one. file bag (tag_path one)) e) (said.2, e)
 
-  missing_by : (content : Option (List ℕ)) → file bag (tag_path of) ≡ content → Wants known.options of → ¬ (Any (λ tag. name_of tag ≡ of) known.tags) → IsReadOf (IsNamed (rules_in bag) of) content None
+  missing_by : (content : Option (List ℕ)) → file bag (tag_path of) ≡ content → Wants known.options of → ¬ (Any (λ tag. name_of tag ≡ of) known.tags) → IsReadOf (IsTagFileNamed (rules_in bag) of) content None
   missing_by None e wanted none = tt
   missing_by (Some bytes) e wanted none =
       let listed = (h.tags.members (tag_path of)).1 ((of, refl, wanted), ap is_some e) in
@@ -27,6 +27,6 @@ module _ (bag : Bag) (known : Facts) (of : TagName) (h : IsFactsOf bag known) wh
 
   -- what is found among them is what the file says, and a wanted file of which nothing is found isn't there
   pub tag_read : (found : Option TagFacts) → MatchOption found (¬ (Any (λ tag. name_of tag ≡ of) known.tags)) (λ tag. Contains known.tags tag × (name_of tag ≡ of))
-      → Wants known.options of → IsReadOf (IsNamed (rules_in bag) of) (file bag (tag_path of)) found
+      → Wants known.options of → IsReadOf (IsTagFileNamed (rules_in bag) of) (file bag (tag_path of)) found
   tag_read None none wanted = missing_by (file bag (tag_path of)) refl wanted none
   tag_read (Some tag) some wanted = there tag some.0 some.1

@@ -35,8 +35,8 @@ abbrev pub IsOfListing : TreeState → TreeState → Stop → Type 0
 IsOfListing old new stop = (stop.path ≡ []) × (new.openings ≡ old.openings) × (new.rest ≡ old.rest) × MayRefuse ⊥ ⊥ old new stop.cause
 
 -- a file was refused: one that is wanted, and of an honest tree's bag
-abbrev pub IsOfFile : Options → TreeState → Stop → Type 0
-IsOfFile options old stop = IsWanted options stop.path × (IsTrue old.honest → HasFile old.bag stop.path)
+abbrev pub IsRefusedFile : Options → TreeState → Stop → Type 0
+IsRefusedFile options old stop = IsWanted options stop.path × (IsTrue old.honest → HasFile old.bag stop.path)
 
 -- A stop tells the cause, which is the tree's own answer but for want of memory, and the file that was refused. It names
 -- none for want of memory, and where it was the listing that was refused. Want of memory is told only where the tree told it
@@ -44,6 +44,6 @@ IsOfFile options old stop = IsWanted options stop.path × (IsTrue old.honest →
 pub record MayStopReading (options : Options) (old new : TreeState) (stop : Stop) : Type 0 where
   pub cause : MayRefuseFacts old new stop.cause
   pub answered : CameFromTree new stop.cause
-  pub path : IsOutOfMemory stop ⊎ IsOfListing old new stop ⊎ IsOfFile options old stop
+  pub path : IsOutOfMemory stop ⊎ IsOfListing old new stop ⊎ IsRefusedFile options old stop
   pub memory : stop.cause ≡ Memory → stop.path ≡ []
   pub wanting : stop.cause ≡ Memory → MayTellMemory old new

@@ -88,8 +88,8 @@ IsReadOf IsOf None (Some x) = ⊥
 IsReadOf IsOf (Some bytes) None = ⊥
 
 -- what is known of this tag file is what its bytes say
-abbrev pub IsNamed : Rules → TagName → List ℕ → TagFacts → Type 0
-IsNamed rules name bytes tag = Says rules bytes tag × (name_of tag ≡ name)
+abbrev pub IsTagFileNamed : Rules → TagName → List ℕ → TagFacts → Type 0
+IsTagFileNamed rules name bytes tag = Says rules bytes tag × (name_of tag ≡ name)
 
 -- the manifest of this kind and algorithm, and what is known of it is what its bytes say
 abbrev pub IsManifestNamed : Rules → Kind → Alg → List ℕ → Manifest → Type 0

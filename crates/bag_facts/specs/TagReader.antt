@@ -9,7 +9,7 @@ use Rattle.bag_tree.specs.Tree.{TreeState, CameFromTree}
 use Rattle.bag_tree.specs.declared.listing.FileEntry.{FileEntry}
 use Rattle.bag_tree.specs.declared.tree_fault.Stop.{Stop}
 use Rattle.bag_tree.specs.declared.tree_fault.TreeFault.TheVariants.{Memory}
-use Rattle.bag_facts.specs.Stops.{IsOutOfMemory, IsOfFile, MayRefuseFacts}
+use Rattle.bag_facts.specs.Stops.{IsOutOfMemory, IsRefusedFile, MayRefuseFacts}
 use Rattle.bag_facts.specs.Wanted.{Wants, IsWanted}
 use Rattle.bag_facts.specs.declared.options.Options.{Options}
 use Rattle.bag_facts.specs.declared.tag_reader.TagBytes.{TagBytes}
@@ -54,6 +54,6 @@ ReadsWanted options entry old new (Some read) = ReadsFile options entry old new 
 pub record StopsReading (options : Options) (old new : TreeState) (stop : Stop) : Type 0 where
   pub cause : MayRefuseFacts old new stop.cause
   pub answered : CameFromTree new stop.cause
-  pub path : IsOutOfMemory stop ⊎ IsOfFile options old stop
+  pub path : IsOutOfMemory stop ⊎ IsRefusedFile options old stop
   pub memory : stop.cause ≡ Memory → stop.path ≡ []
   pub wanting : stop.cause ≡ Memory → MayTellMemory old new

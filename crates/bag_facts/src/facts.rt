@@ -9,7 +9,7 @@ ghost use Rattle.bag_tree.specs.Bag.{Bag, IsBag, HasFile, file};
 ghost use Rattle.bag_tree.specs.Calm.{RefusesNothing};
 ghost use Rattle.bag_tree.specs.Tree.{Keeps};
 ghost use Rattle.bag_facts.specs.Facts.{rules_in, AreJudged, AreParsed, AreRulesOf};
-ghost use Rattle.bag_facts.specs.TagFacts.{name_of, AreEntriesOf, IsReadOf, IsDeclarationOf, IsMetadataOf, IsFetchListOf, IsManifestNamed, IsNamed};
+ghost use Rattle.bag_facts.specs.TagFacts.{name_of, AreEntriesOf, IsReadOf, IsDeclarationOf, IsMetadataOf, IsFetchListOf, IsManifestNamed, IsTagFileNamed};
 ghost use Rattle.bag_facts.specs.Wanted.{ForListing, OpensAll, OpensFirst, OpensUpTo, OpensWanted, Wants};
 ghost use Rattle.bag_facts.specs.declared.options.Depth.TheVariants as depth_of;
 ghost use Rattle.bag_facts.specs.Stops.{MayStopReading};
@@ -186,7 +186,7 @@ impl Facts {
 
     /// What is known of a tag file, where it is there and wanted.
     fn tag(&self, name: TagName) -> Option<&TagFacts>
-        ensures { (bag : Bag) → IsFactsOf bag self.now → Wants self.now.options name → IsReadOf (IsNamed (rules_in bag) name) (file bag (tag_path name)) (option_copied result) }
+        ensures { (bag : Bag) → IsFactsOf bag self.now → Wants self.now.options name → IsReadOf (IsTagFileNamed (rules_in bag) name) (file bag (tag_path name)) (option_copied result) }
     {
         find_tag(self.tags.as_slice(), name)
     }

@@ -24,7 +24,7 @@ use Rattle.bag_make.specs.Made.{File, new_payload}
 use Rattle.bag_make.proofs.Entries.{at_place}
 use Rattle.bag_make.proofs.Held.{found, has_listed, one_file, content_of}
 use Rattle.bag_make.specs.Plan.{is_in_the_way}
-use Rattle.bag_make.specs.Reading.{HasListed, HasRefusedNothing, IsStopped, MayRefuseReading, OpensFolder}
+use Rattle.bag_make.specs.Reading.{HasOnlyListed, HasRefusedNothing, IsStopped, MayRefuseReading, OpensFolder}
 use Rattle.bag_make.specs.Stops.{IsAtFile, MayStopMaking, StopsSumming}
 use Rattle.bag_make.specs.Summed.{AreSummed, AreSummedFiles, OpensFirstOf, entry_of}
 use Rattle.bag_make.specs.declared.fault.MakeFault.{MakeFault}
@@ -63,7 +63,7 @@ paths_listed [] = refl
 paths_listed (e ∷ es) = ap (λ xs. e.0 ∷ xs) (paths_listed es)
 
 -- where nothing was refused behind the listing either
-pub nothing_refused : (old mid new : TreeState) → HasListed old mid → RefusesNothing mid new → HasRefusedNothing old new
+pub nothing_refused : (old mid new : TreeState) → HasOnlyListed old mid → RefusesNothing mid new → HasRefusedNothing old new
 nothing_refused old mid new listed calm = record {
   failures = calm.failures ∙ listed.failures;
   plain = listed.plain;
@@ -114,7 +114,7 @@ module _ (listing : Listing) (ordered : IsOrdered listing.files) where
     )
 
     -- where a file is refused, nothing is planned
-    pub files_refused : HasListed old mid → (stop : Stop) (fault : MakeFault) → (IsTrue old.honest → is_in_the_way old.bag ≡ false) → StopsSumming listing.files mid new stop → IsStopped stop fault
+    pub files_refused : HasOnlyListed old mid → (stop : Stop) (fault : MakeFault) → (IsTrue old.honest → is_in_the_way old.bag ≡ false) → StopsSumming listing.files mid new stop → IsStopped stop fault
         → MayRefuseReading old new fault
     files_refused listed stop (fault_of.ReadStopped other) free h (same, not) = subst (MayStopMaking old new) (sym same) (record {
       cause = later_refusal old mid new stop.cause keeps (h.cause entries_are);

@@ -24,7 +24,7 @@ use Rattle.bag_facts.proofs.Reading.{keeps_itself, keeps_on, later_refusal}
 use Rattle.bag_facts.proofs.Refusing.{came_from, refused_file, told_memory}
 use Rattle.bag_make.specs.Made.{File, data_folder, new_payload}
 use Rattle.bag_make.specs.Stops.{IsAtFile, StopsSumming}
-use Rattle.bag_make.specs.Summed.{IsSummed, AreSummed, IsSummedEntry, AreSummedFiles, OpensFirstOf, entry_of}
+use Rattle.bag_make.specs.Summed.{HasItsSums, AreSummed, IsSummedEntry, AreSummedFiles, OpensFirstOf, entry_of}
 use Rattle.bag_make.specs.declared.summed.SummedFile.{SummedFile}
 
 -- want of memory stops it
@@ -53,7 +53,7 @@ stop_of_refusal entry old new cause stop refused answered opened (inr (is, m)) =
 abbrev moved : File → File
 moved e = (under data_folder e.0, e.1)
 
-summed_more : (algs : List Alg) (files : List File) (summed : List SummedFile) (e : File) (one : SummedFile) → AreSummed algs files summed → IsSummed algs e one
+summed_more : (algs : List Alg) (files : List File) (summed : List SummedFile) (e : File) (one : SummedFile) → AreSummed algs files summed → HasItsSums algs e one
     → AreSummed algs (files ++ e ∷ []) (summed ++ one ∷ [])
 summed_more algs [] [] e one h s = (s, tt)
 summed_more algs (x ∷ files) (y ∷ summed) e one h s = (h.0, summed_more algs files summed e one h.1 s)
@@ -62,7 +62,7 @@ summed_more algs (x ∷ files) [] e one h s = absurd h
 
 -- the digests of the first of these files
 pub sums_more : (algs : List Alg) (files : List File) (i : ℕ) (e : File) (summed : List SummedFile) (one : SummedFile) → i < length files → e ≡ get_or files i e
-    → AreSummed algs (take i files) summed → IsSummed algs e one → AreSummed algs (take (i + 1) files) (summed ++ one ∷ [])
+    → AreSummed algs (take i files) summed → HasItsSums algs e one → AreSummed algs (take (i + 1) files) (summed ++ one ∷ [])
 sums_more algs files i e summed one lt is h s =
     subst (λ xs. AreSummed algs xs (summed ++ one ∷ [])) (sym (take_one_more files i e lt is)) (summed_more algs (take i files) summed e one h s)
 

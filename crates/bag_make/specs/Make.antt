@@ -13,7 +13,7 @@ use Rattle.bag_tree.specs.Steps.{create}
 use Rattle.bag_make.specs.Made.{made}
 use Rattle.bag_make.specs.Valid.{full, is_refused}
 use Rattle.bag_make.specs.Plan.{after, is_in_the_way, steps}
-use Rattle.bag_make.specs.Reading.{HasListed, IsWantOfMemory}
+use Rattle.bag_make.specs.Reading.{HasOnlyListed, IsWantOfMemory}
 use Rattle.bag_make.specs.Request.{AreTexts, IsRequestFault}
 use Rattle.bag_make.specs.Steps.{HasStopped, new_folder}
 use Rattle.bag_make.specs.Stops.{MayStopMaking}
@@ -54,7 +54,7 @@ pub record HasStoppedAt (algs : List Alg) (info : List NewElement) (old new : Tr
 abbrev pub MayRefuseMaking : List Alg → List NewElement → TreeState → TreeState → MakeFault → Type 0
 MayRefuseMaking algs info old new NoAlgorithm = IsRequestFault algs info NoAlgorithm × Keeps old new
 MayRefuseMaking algs info old new BadValue = IsRequestFault algs info BadValue × Keeps old new
-MayRefuseMaking algs info old new InTheWay = CanAsk algs info × HasListed old new × (IsTrue old.honest → is_in_the_way old.bag ≡ true)
+MayRefuseMaking algs info old new InTheWay = CanAsk algs info × HasOnlyListed old new × (IsTrue old.honest → is_in_the_way old.bag ≡ true)
 MayRefuseMaking algs info old new (ReadStopped stop) = CanAsk algs info × Keeps old new × MayStopMaking old new stop
 MayRefuseMaking algs info old new Memory = CanAsk algs info × Keeps old new × IsWantOfMemory old new
 MayRefuseMaking algs info old new (StepRefused place cause) = CanAsk algs info × HasStoppedAt algs info old new place cause

@@ -16,7 +16,7 @@ abbrev pub OpensFolder : TreeState → TreeState → Type 0
 OpensFolder old new = IsTrue old.honest → (count : ℕ) × (new.openings ≡ old.openings ++ take count (map (λ e. e.0) (files_of old.bag)))
 
 -- The files were listed and no file was opened. The device didn't fail, and of an honest tree only files and folders stand there.
-pub record HasListed (old new : TreeState) : Type 0 where
+pub record HasOnlyListed (old new : TreeState) : Type 0 where
   pub keeps : Keeps old new
   pub failures : new.failures ≡ old.failures
   pub plain : IsTrue old.honest → IsTrue old.plain
@@ -36,7 +36,7 @@ IsWantOfMemory old new = (new.last ≡ Refused cause_of.Memory) ⊎ HasRefusedNo
 
 -- why nothing is planned
 abbrev pub MayRefuseReading : TreeState → TreeState → MakeFault → Type 0
-MayRefuseReading old new InTheWay = HasListed old new × (IsTrue old.honest → is_in_the_way old.bag ≡ true)
+MayRefuseReading old new InTheWay = HasOnlyListed old new × (IsTrue old.honest → is_in_the_way old.bag ≡ true)
 MayRefuseReading old new (ReadStopped stop) = MayStopMaking old new stop
 MayRefuseReading old new Memory = IsWantOfMemory old new
 MayRefuseReading old new fault = ⊥

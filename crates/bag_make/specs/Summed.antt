@@ -11,13 +11,13 @@ use Rattle.bag_make.specs.Made.{File, data_folder, new_payload}
 use Rattle.bag_make.specs.declared.summed.SummedFile.{SummedFile}
 
 -- the path of a file, and the digests of its bytes
-abbrev pub IsSummed : List Alg → File → SummedFile → Type 0
-IsSummed algs e one = (one.path ≡ e.0) × AreSumsOf algs e.1 one.sums
+abbrev pub HasItsSums : List Alg → File → SummedFile → Type 0
+HasItsSums algs e one = (one.path ≡ e.0) × AreSumsOf algs e.1 one.sums
 
 -- these files in their order, each with its digests
 abbrev pub AreSummed : List Alg → List File → List SummedFile → Type 0
 AreSummed algs [] [] = Unit {0}
-AreSummed algs (e ∷ files) (one ∷ summed) = IsSummed algs e one × AreSummed algs files summed
+AreSummed algs (e ∷ files) (one ∷ summed) = HasItsSums algs e one × AreSummed algs files summed
 AreSummed algs files summed = ⊥
 
 -- how a file is listed

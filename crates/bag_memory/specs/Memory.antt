@@ -36,7 +36,7 @@ abbrev pub with_folder : Bag → List ℕ → Bag
 with_folder bag name = record { files = bag.files; folders = set.insert bag.folders name }
 
 -- A tree in memory is honest and never fails, and has the files and the folders of its bag and nothing else. Its reads of
--- the open file have given so many bytes, and its last call answered so.
+-- the open file have given `given` bytes, and its last call answered `last`.
 abbrev pub state_after : Bag → List (List ℕ) → Option (List ℕ) → ℕ → Answer → TreeState
 state_after bag openings rest given last = record {
   bag = bag;

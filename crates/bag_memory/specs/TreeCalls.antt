@@ -35,7 +35,7 @@ pub record OpenCall (old new : TreeState) (path : List ℕ) (answer : Result (Un
   pub not_opened : OnErr answer (new.openings ≡ old.openings)
   pub refused : IfErr answer (MayRefuse (file old.bag path ≡ None) ⊥ old new)
 
--- what `read` does with room for so many bytes
+-- what `read` does with a buffer of this size
 pub record ReadCall (old new : TreeState) (room : ℕ) (buffer : List ℕ) (answer : Result ℕ TreeFault) : Type 0 where
   pub keeps : Keeps old new
   pub calm : OnOk answer (new.failures ≡ old.failures)

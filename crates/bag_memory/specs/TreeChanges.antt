@@ -8,7 +8,7 @@ use Rattle.bag_tree.specs.declared.tree_fault.TreeFault.{TreeFault}
 use Rattle.bag_tree.specs.Changes.{HasBegun, HasChanged, IsPossible, IsSame, MayRefuseChange}
 use Rattle.bag_tree.specs.Steps as step
 
--- what a change does whose step is a function on bags, by so many files and folders more: `absent` and `taken` say when an
+-- what a change does whose step is a function on bags, by at most this number of files and folders more: `absent` and `taken` say when an
 -- honest tree refuses it, and `left` what a refusal leaves
 pub record Changes (step : Bag → Bag) (more : ℕ) (absent taken left : Type 0) (old new : TreeState) (answer : Result (Unit {0}) TreeFault) : Type 0 where
   pub changed : OnOk answer (HasChanged step more old new)

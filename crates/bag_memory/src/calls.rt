@@ -9,7 +9,7 @@ use bag_tree::TreeFault;
 pub(crate) enum Due {
     /// None.
     Never,
-    /// The one after so many more.
+    /// The one behind this number of calls.
     After(u64),
     /// None any more.
     Past,

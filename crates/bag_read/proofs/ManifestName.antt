@@ -20,15 +20,15 @@ none_test p t rest false e h same = let clash : false ≡ true = sym e ∙ (pref
 pub no_prefix : (p t rest : List ℕ) → after_prefix p t ≡ None → t ≢ p ++ rest
 no_prefix p t rest h = none_test p t rest (starts_with nat_eq t p) refl h
 
-abbrev pub IsNamed : Kind → List ℕ → List ℕ → Type 0
-IsNamed kind name alg = IsTrue (is_alg_text alg) × (name ≡ manifest_name kind alg)
+abbrev pub IsManifestName : Kind → List ℕ → List ℕ → Type 0
+IsManifestName kind name alg = IsTrue (is_alg_text alg) × (name ≡ manifest_name kind alg)
 
 alg_between : (alg : List ℕ) → take (length (alg ++ codes ".txt") - 4) (alg ++ codes ".txt") ≡ alg
 alg_between alg =
     let n : length (alg ++ codes ".txt") - 4 ≡ length alg = omega (arith, length-append alg (codes ".txt")) in
     ap (λ k. take k (alg ++ codes ".txt")) n ∙ take_front alg (codes ".txt")
 
-pub named_is : (kind : Kind) (name alg : List ℕ) → IsNamed kind name alg → is_manifest_name kind name ≡ true
+pub named_is : (kind : Kind) (name alg : List ℕ) → IsManifestName kind name alg → is_manifest_name kind name ≡ true
 named_is kind name alg (good, e) =
     let rest : without_prefix (prefix kind) name ≡ alg ++ codes ".txt" = ap (without_prefix (prefix kind)) (e ∙ append_assoc (prefix kind) alg (codes ".txt")) ∙ without_is (prefix kind) (alg ++ codes ".txt") in
     rw (rest, alg_between alg, good) ((bytes_eq-Decides name (manifest_name kind alg)).1 e)
@@ -56,6 +56,6 @@ is_named kind name e =
     (alg, two.0, (bytes_eq-Decides name (manifest_name kind alg)).0 two.1)
 
 -- a name has the form of a manifest's just where there is its algorithm's text
-pub has_alg : (kind : Kind) (name : List ℕ) (r : Option (Bor (List ℕ))) → MatchOption r ((alg : List ℕ) → IsTrue (is_alg_text alg) → name ≢ manifest_name kind alg) (λ alg. IsNamed kind name alg.now) → is_some r ≡ is_manifest_name kind name
+pub has_alg : (kind : Kind) (name : List ℕ) (r : Option (Bor (List ℕ))) → MatchOption r ((alg : List ℕ) → IsTrue (is_alg_text alg) → name ≢ manifest_name kind alg) (λ alg. IsManifestName kind name alg.now) → is_some r ≡ is_manifest_name kind name
 has_alg kind name None h = sym (named_test kind name (is_manifest_name kind name) refl h)
 has_alg kind name (Some alg) h = sym (named_is kind name alg.now h)

@@ -29,7 +29,7 @@ abbrev pub encoding_fault : Option (List ℕ) → Option LineFault
 encoding_fault None = Some (line_fault 2 DeclarationLine [])
 encoding_fault (Some encoding) = if same_label encoding (codes "UTF-8") then None else Some (line_fault 2 EncodingUnsupported encoding)
 
--- the fault of line k, where there are so many lines
+-- the fault of line k of n lines
 abbrev pub on_line : ℕ → ℕ → Option LineFault → Option LineFault
 on_line k count fault = if nat_le k count then fault else None
 

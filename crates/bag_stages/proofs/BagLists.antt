@@ -14,7 +14,7 @@ use Rattle.bag_read.specs.declared.kind.Kind.{Kind}
 use Rattle.bag_read.specs.declared.kind.Kind.TheVariants.{Payload, Tag}
 use Rattle.bag_read.specs.declared.tag_name.TagName.{TagName}
 use Rattle.bag_read.specs.declared.tag_name.TagName.TheVariants.{Declaration, Info, Fetch, Manifest}
-use Rattle.bag_read.proofs.ManifestName.{IsNamed, named_is}
+use Rattle.bag_read.proofs.ManifestName.{IsManifestName, named_is}
 use Rattle.bag_read.proofs.PickedOut.{both_true}
 use Rattle.bag_tree.specs.Bag.{Bag, HasFile}
 use Rattle.bag_tree.proofs.SameText.{one_text}
@@ -24,16 +24,16 @@ use Rattle.bag_stages.proofs.HasLists.{Decided, nothing, one_where, only, same_s
 use Rattle.bag_stages.proofs.PartFaults.{one_alg}
 
 -- the algorithm's text in the name of a manifest
-text_by : (kind : Kind) (path : List ℕ) (b : Bool) → is_manifest_name kind path ≡ b → HasList (IsNamed kind path)
+text_by : (kind : Kind) (path : List ℕ) (b : Bool) → is_manifest_name kind path ≡ b → HasList (IsManifestName kind path)
 text_by kind path true e =
     let rest = without_prefix (prefix kind) path in
     let alg = take (length rest - 4) rest in
     let two = both_true (is_alg_text alg) (bytes_eq path (manifest_name kind alg)) e in
     let at : path ≡ manifest_name kind alg = (bytes_eq-Decides path (manifest_name kind alg)).0 two.1 in
-    only (IsNamed kind path) alg (two.0, at) (λ other h. one_alg kind kind other alg (sym h.1 ∙ at))
-text_by kind path false e = nothing (IsNamed kind path) (λ alg h. let clash : true ≡ false = sym (named_is kind path alg h) ∙ e in cc)
+    only (IsManifestName kind path) alg (two.0, at) (λ other h. one_alg kind kind other alg (sym h.1 ∙ at))
+text_by kind path false e = nothing (IsManifestName kind path) (λ alg h. let clash : true ≡ false = sym (named_is kind path alg h) ∙ e in cc)
 
-text_listed : (kind : Kind) (path : List ℕ) → HasList (IsNamed kind path)
+text_listed : (kind : Kind) (path : List ℕ) → HasList (IsManifestName kind path)
 text_listed kind path = text_by kind path (is_manifest_name kind path) refl
 
 module _ (bag : Bag) where
@@ -50,10 +50,10 @@ module _ (bag : Bag) where
   -- the algorithms of the manifests of a kind
   pub manifests_listed : (kind : Kind) → HasList (HasManifest bag kind)
   manifests_listed kind =
-      same_set (λ alg. (path : List ℕ) × HasFile bag path × IsNamed kind path alg) (HasManifest bag kind)
+      same_set (λ alg. (path : List ℕ) × HasFile bag path × IsManifestName kind path alg) (HasManifest bag kind)
       (λ alg h. (h.2.0, subst (HasFile bag) h.2.1 h.1))
       (λ alg h. (manifest_name kind alg, h.1, (h.0, refl)))
-      (for_each (IsNamed kind) (text_listed kind) (HasFile bag) files_listed)
+      (for_each (IsManifestName kind) (text_listed kind) (HasFile bag) files_listed)
 
 each_kind : (kind : Kind) → Contains (Payload ∷ Tag ∷ []) kind
 each_kind Payload = (0, omega arith, refl)

@@ -18,7 +18,7 @@ use Rattle.bag_stages.proofs.HasLists.{Decided, true_or_not, false_or_not, both_
 use Rattle.bag_stages.proofs.LeftOut.{v097_or_not, v10_or_not}
 use Rattle.bag_stages.proofs.LeftOutDecided.{by_all_or_not, by_one_or_not}
 use Rattle.bag_stages.specs.ClashStage.{IsClashFault}
-use Rattle.bag_stages.specs.CompletenessFaults.{missing_code, IsIncomplete, IsLeftByAll, IsLeftByOne, IsMissing, IsMissingFromSome, IsNotListed, IsOfPath, IsUnlisted, IsUnlistedInAll, IsUnlistedInSome}
+use Rattle.bag_stages.specs.CompletenessFaults.{missing_code, IsIncomplete, IsLeftByAll, IsLeftByOne, IsMissing, IsMissingFromSome, IsNotListed, IsOfPath, IsUnlistedFile, IsUnlistedInAll, IsUnlistedInSome}
 use Rattle.bag_stages.specs.CompletenessStage.{CompletenessFaultsAreListed, IsOfCompleteness, IsPayloadFile}
 use Rattle.bag_stages.proofs.ClashList.{clash_faults_are_listed}
 use Rattle.bag_stages.proofs.CompletenessFaults.{either_is, is_either}
@@ -47,7 +47,7 @@ module _ (bag : Bag) where
       of_paths PayloadFileNotListed told (HasFile bag) (λ path. (is_payload_path path ≡ true) × IsOut path) _ (λ path has out. ((has, out.0), out.1)) (λ path h. (h.0.0, (h.0.1, h.1)))
       (files_listed bag) (λ path. both_decided _ _ (true_or_not (is_payload_path path)) (decided path))
 
-  unlisted : (alg : Alg) → HasList (IsUnlisted bag alg)
+  unlisted : (alg : Alg) → HasList (IsUnlistedFile bag alg)
   unlisted alg = where_so (IsByV10 bag) (IsLeftByOne bag alg) (v10_or_not (rules_in bag)) (left_out (Some alg) (IsLeftOutByOne bag alg) (λ path. by_one_or_not bag path alg))
 
   in_all : HasList (IsUnlistedInAll bag)
@@ -57,7 +57,7 @@ module _ (bag : Bag) where
   incomplete =
       either (λ f. IsMissingFromSome bag Payload f ⊎ IsMissingFromSome bag Tag f) (IsNotListed bag)
       (either (IsMissingFromSome bag Payload) (IsMissingFromSome bag Tag) (over_algs (IsMissing bag Payload) (missing Payload)) (over_algs (IsMissing bag Tag) (missing Tag)))
-      (either (IsUnlistedInSome bag) (IsUnlistedInAll bag) (over_algs (IsUnlisted bag) unlisted) in_all)
+      (either (IsUnlistedInSome bag) (IsUnlistedInAll bag) (over_algs (IsUnlistedFile bag) unlisted) in_all)
 
 pub completeness_faults_are_listed : CompletenessFaultsAreListed
 completeness_faults_are_listed bag =

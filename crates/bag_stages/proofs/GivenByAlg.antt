@@ -20,7 +20,7 @@ use Rattle.bag_stages.proofs.ByItem.{OfSome, no_items}
 use Rattle.bag_stages.specs.Given.{AreNaming, IsGivenBy}
 use Rattle.bag_stages.specs.SumFaults.{differing, faults_of_bytes}
 use Rattle.bag_stages.specs.SummedFiles.{kind_of}
-use Rattle.bag_stages.specs.ValidityStage.{IsOfFile}
+use Rattle.bag_stages.specs.ValidityStage.{IsFaultOfFile}
 use Rattle.bag_stages.specs.declared.expected.Expected.{Expected}
 use Rattle.bag_stages.proofs.SumFaults as of_sum
 use Rattle.bag_stages.proofs.SumFaults.{none_by_alg, only_differing, spelled_is_named, IsOfAlg}
@@ -95,5 +95,5 @@ module _ (bag : Bag) (path : List ℕ) (kind : Kind) where
     all_naming = subst (λ k. (alg : Alg) → Contains (algs_of expected) alg ↔ Names bag k alg path) right
         (all_algs (λ alg. Names bag kind alg path) i (algs_of expected) le given.naming)
 
-    pub all_faults : (content : List ℕ) → file bag path ≡ Some content → IsListOf fault_cmp (IsOfFile bag path) (faults_of_bytes path content expected)
+    pub all_faults : (content : List ℕ) → file bag path ≡ Some content → IsListOf fault_cmp (IsFaultOfFile bag path) (faults_of_bytes path content expected)
     all_faults content there = of_sum.all_algs bag path kind right i (faults_of_bytes path content expected) le (given.faults content there)

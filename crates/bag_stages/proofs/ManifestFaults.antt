@@ -42,7 +42,7 @@ use Rattle.bag_facts.specs.declared.tag_facts.TagFacts.{TagFacts}
 use Rattle.bag_facts.specs.declared.tag_facts.TagFacts.TheVariants as facts
 use Rattle.bag_facts.proofs.ListedFiles.{file_listed, listed_file}
 use Rattle.bag_facts.proofs.Mapped.{mapped_contains, contains_mapped}
-use Rattle.bag_stages.specs.ManifestFaults.{unnamed, IsAskedUnnamed, IsUnnamedFault, IsUnnamedAmong, IsUnlisted, IsLineFault, IsOfManifest}
+use Rattle.bag_stages.specs.ManifestFaults.{unnamed, IsAskedUnnamed, IsUnnamedFault, IsUnnamedAmong, IsUnlistedManifest, IsLineFault, IsOfManifest}
 use Rattle.bag_stages.specs.ManifestsStage.{ManifestHolds, IsOfManifests, InManifest, ManifestFaultsAreOfStageFive}
 use Rattle.bag_stages.specs.FaultFields.{in_file, in_line}
 use Rattle.bag_stages.specs.TagFiles.{manifest_of, Names}
@@ -127,7 +127,7 @@ module _ (bag : Bag) (kind : Kind) (alg : Alg) where
 -- a tag manifest that is there: what it doesn't name, and then the faults of its lines
 module _ (bag : Bag) (files : List FileEntry) (alg : Alg) (bytes : List ℕ) (all : List ManifestEntry) (listed : AreListed bag files) (there : file bag (manifest_of Tag alg) ≡ Some bytes)
     (entries : IsListOf (on (λ e. e.path) text_cmp) (IsEntry (rules_in bag) Tag alg (lines_of_file bytes)) all) where
-  unlisted_from : (f : Fault) → IsAskedUnnamed bag (manifest_of Tag alg) alg all (paths_of files) f → IsUnlisted bag Tag alg f
+  unlisted_from : (f : Fault) → IsAskedUnnamed bag (manifest_of Tag alg) alg all (paths_of files) f → IsUnlistedManifest bag Tag alg f
   unlisted_from f (by, (c, (is, ((other, text, at), lacks)))) = (
     by,
     ap (λ (x : Fault). x.code) is,
@@ -140,7 +140,7 @@ module _ (bag : Bag) (files : List FileEntry) (alg : Alg) (bytes : List ℕ) (al
     ),
   )
 
-  from_unlisted : (f : Fault) → IsUnlisted bag Tag alg f → IsAskedUnnamed bag (manifest_of Tag alg) alg all (paths_of files) f
+  from_unlisted : (f : Fault) → IsUnlistedManifest bag Tag alg f → IsAskedUnnamed bag (manifest_of Tag alg) alg all (paths_of files) f
   from_unlisted f (by, code, (other, at, has, there_too, lacks)) = (
     by,
     (
@@ -155,7 +155,7 @@ module _ (bag : Bag) (files : List FileEntry) (alg : Alg) (bytes : List ℕ) (al
     ),
   )
 
-  before_lines : (x y : Fault) → IsUnlisted bag Tag alg x → IsLineFault bag Tag alg y → fault_cmp x y ≡ Less
+  before_lines : (x y : Fault) → IsUnlistedManifest bag Tag alg x → IsLineFault bag Tag alg y → fault_cmp x y ≡ Less
   before_lines x y a b =
       let line : 0 < y.line = manifest_fault_line (rules_in bag) Tag alg b.0.2.0 (in_line y) b.0.2.2 (fifth y.code b.1) in
       let at = a.2.1 in
@@ -165,7 +165,7 @@ module _ (bag : Bag) (files : List FileEntry) (alg : Alg) (bytes : List ℕ) (al
   tag_manifest_listed : (of_names of_lines : List Fault) → IsListOf fault_cmp (IsAskedUnnamed bag (manifest_of Tag alg) alg all (paths_of files)) of_names
       → IsListOf fault_cmp (IsLineFault bag Tag alg) of_lines → IsListOf fault_cmp (IsOfManifest bag Tag alg) (of_names ++ of_lines)
   tag_manifest_listed of_names of_lines names lines =
-      joined fault_cmp (IsUnlisted bag Tag alg) (IsLineFault bag Tag alg) of_names of_lines (same_members fault_cmp _ _ of_names unlisted_from from_unlisted names) lines before_lines
+      joined fault_cmp (IsUnlistedManifest bag Tag alg) (IsLineFault bag Tag alg) of_names of_lines (same_members fault_cmp _ _ of_names unlisted_from from_unlisted names) lines before_lines
 
 -- the faults of a tag manifest: what it doesn't name, and then those of its lines
 pub read_tag_manifest : (bag : Bag) (files : List FileEntry) (kind : Kind) (alg : Alg) (bytes path : List ℕ) (all : List ManifestEntry) (of_names of_lines faults : List Fault) → kind ≡ Tag

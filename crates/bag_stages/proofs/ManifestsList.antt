@@ -22,7 +22,7 @@ use Rattle.bag_facts.specs.declared.fault.Fault.{Fault}
 use Rattle.bag_facts.specs.Facts.{rules_in, IsByV10}
 use Rattle.bag_stages.specs.FaultFields.{in_file}
 use Rattle.bag_stages.specs.HasList.{HasList}
-use Rattle.bag_stages.specs.ManifestFaults.{unnamed, IsUnlisted, IsLineFault}
+use Rattle.bag_stages.specs.ManifestFaults.{unnamed, IsUnlistedManifest, IsLineFault}
 use Rattle.bag_stages.specs.ManifestsStage.{IsOfManifests, ManifestFaultsAreListed}
 use Rattle.bag_stages.specs.TagFiles.{manifest_of, named_in, HasManifest, HasSupported, Names}
 use Rattle.bag_stages.proofs.FaultFields.{made_of}
@@ -65,27 +65,27 @@ module _ (bag : Bag) where
       both_decided _ _ (v10_or_not (rules_in bag))
       (both_decided _ _ (true_or_not (has_file bag (manifest_of Tag alg))) (missing_or_not (named_in bag Tag alg) (manifest_name Payload other)))
 
-  to_unlisted : (alg : Alg) (f : Fault) → LacksSome alg f → IsUnlisted bag Tag alg f
+  to_unlisted : (alg : Alg) (f : Fault) → LacksSome alg f → IsUnlistedManifest bag Tag alg f
   to_unlisted alg f (other, has, ((by, (there, lacks)), is)) =
-      subst (IsUnlisted bag Tag alg) (sym is)
+      subst (IsUnlistedManifest bag Tag alg) (sym is)
       (by, refl, (other, record { path_is = refl; alg_is = refl; line_is = refl; detail_is = refl }, there, has, lacks))
 
-  from_unlisted : (alg : Alg) (f : Fault) → IsUnlisted bag Tag alg f → LacksSome alg f
+  from_unlisted : (alg : Alg) (f : Fault) → IsUnlistedManifest bag Tag alg f → LacksSome alg f
   from_unlisted alg f (by, code, (other, at, there, has, lacks)) = (
     other,
     has,
     ((by, (there, lacks)), made_of f PayloadManifestNotListed (manifest_of Tag alg) (Some alg) 0 (manifest_name Payload other) code at),
   )
 
-  unlisted : (kind : Kind) (alg : Alg) → HasList (IsUnlisted bag kind alg)
+  unlisted : (kind : Kind) (alg : Alg) → HasList (IsUnlistedManifest bag kind alg)
   unlisted Payload alg = nothing _ (λ f h. h)
   unlisted Tag alg =
-      same_set (LacksSome alg) (IsUnlisted bag Tag alg) (to_unlisted alg) (from_unlisted alg)
+      same_set (LacksSome alg) (IsUnlistedManifest bag Tag alg) (to_unlisted alg) (from_unlisted alg)
       (for_each (IsLacking alg) (λ other. one_where (unnamed (manifest_of Tag alg) alg (manifest_name Payload other)) (Lacks alg other) (lacks_or_not alg other))
       (HasManifest bag Payload) (manifests_listed bag Payload))
 
   of_name : (name : TagName) → HasList (λ f. IsOfTag bag f name)
-  of_name (Manifest kind alg) = either (IsUnlisted bag kind alg) (IsLineFault bag kind alg) (unlisted kind alg) (lines_of kind alg (file bag (manifest_of kind alg)) refl)
+  of_name (Manifest kind alg) = either (IsUnlistedManifest bag kind alg) (IsLineFault bag kind alg) (unlisted kind alg) (lines_of kind alg (file bag (manifest_of kind alg)) refl)
   of_name other = nothing _ (λ f h. h)
 
 pub manifest_faults_are_listed : ManifestFaultsAreListed

@@ -38,7 +38,7 @@ use Rattle.bag_facts.specs.declared.tag_facts.TagFacts.{TagFacts}
 use Rattle.bag_facts.specs.declared.tag_facts.TagFacts.TheVariants as facts
 use Rattle.bag_facts.proofs.ListedFiles.{file_listed, listed_file}
 use Rattle.bag_facts.proofs.Mapped.{contains_mapped, taken_cases}
-use Rattle.bag_stages.specs.FileFaults.{AreTagsOf, HasListed, HasTextless, IsUnsupported, IsFileFault, IsFaultAmong}
+use Rattle.bag_stages.specs.FileFaults.{AreTagsOf, ListsPayloadManifest, HasTextless, IsUnsupported, IsFileFault, IsFaultAmong}
 use Rattle.bag_stages.specs.PartsStage.{PartHolds, IsOfParts, PartFaultsAreOfStageTwo}
 use Rattle.bag_stages.specs.FaultFields.{At, of_bag}
 use Rattle.bag_stages.specs.TagFiles.{HasManifest, HasNoText}
@@ -212,17 +212,17 @@ parts_of_stage_two bag f h = holds_stage bag f f.code h
 abbrev IsPart : List FileEntry → Bool → Bool → Bag → Fault → Type 0
 IsPart files has_data has_manifest bag f = IsMissing has_data has_manifest f ⊎ IsFaultAmong bag (paths_of files) f
 
-none_by : (bag : Bag) (files : List FileEntry) (has : Bool) → AreListed bag files → (has ≡ true → HasListed files) → ((alg : List ℕ) → ¬ (HasManifest bag Payload alg)) → has ≡ false
+none_by : (bag : Bag) (files : List FileEntry) (has : Bool) → AreListed bag files → (has ≡ true → ListsPayloadManifest files) → ((alg : List ℕ) → ¬ (HasManifest bag Payload alg)) → has ≡ false
 none_by bag files false listed found none = refl
 none_by bag files true listed found none =
     let m = found refl in absurd (none m.0 (m.1, listed_file bag files (manifest_name Payload m.0) listed m.2))
 
-none_there : (bag : Bag) (files : List FileEntry) (has : Bool) → AreListed bag files → (HasListed files → has ≡ true) → has ≡ false → (alg : List ℕ) → ¬ (HasManifest bag Payload alg)
+none_there : (bag : Bag) (files : List FileEntry) (has : Bool) → AreListed bag files → (ListsPayloadManifest files → has ≡ true) → has ≡ false → (alg : List ℕ) → ¬ (HasManifest bag Payload alg)
 none_there bag files has listed tells e = λ alg m.
     let clash : true ≡ false = sym (tells (alg, m.0, file_listed bag files (manifest_name Payload alg) listed m.1)) ∙ e in cc
 
 module _ (bag : Bag) (files : List FileEntry) (has_data has_manifest : Bool) (listed : AreListed bag files) (same : has_data ≡ has_folder bag (codes "data")) where
-  part_of_holds : (found : has_manifest ≡ true → HasListed files) (f : Fault) (c : Code) → f.code ≡ c → PartHolds bag f c → IsPart files has_data has_manifest bag f
+  part_of_holds : (found : has_manifest ≡ true → ListsPayloadManifest files) (f : Fault) (c : Code) → f.code ≡ c → PartHolds bag f c → IsPart files has_data has_manifest bag f
   unfolding PartHolds
   part_of_holds found f NoPayloadFolder e h =
       inl (inl (made_of f NoPayloadFolder [] None 0 [] e h.0, same ∙ h.1))
@@ -240,7 +240,7 @@ module _ (bag : Bag) (files : List FileEntry) (has_data has_manifest : Bool) (li
   part_of_holds found f NotUtf8 e h = inr (file_listed bag files f.path listed (ap is_some h.1.1.1), inr (e, h.0, h.1))
   part_of_holds found f other e h = absurd h
 
-  part_is : (tells : HasListed files → has_manifest ≡ true) (f : Fault) → IsPart files has_data has_manifest bag f → IsOfParts bag f
+  part_is : (tells : ListsPayloadManifest files → has_manifest ≡ true) (f : Fault) → IsPart files has_data has_manifest bag f → IsOfParts bag f
   part_is tells f (inl (inl (e, h))) =
       folder_row bag f (ap (λ (x : Fault). x.code) e)
       (record { path_is = ap (λ (x : Fault). x.path) e; alg_is = ap (λ (x : Fault). x.alg) e; line_is = ap (λ (x : Fault). x.line) e; detail_is = ap (λ (x : Fault). x.detail) e })
@@ -252,7 +252,7 @@ module _ (bag : Bag) (files : List FileEntry) (has_data has_manifest : Bool) (li
   part_is tells f (inr h) = file_row bag f files listed h
 
   -- the missing parts and the faults of files are the stage
-  pub all_listed : (of_files : List Fault) → IsOrdered files → (has_manifest ≡ true → HasListed files) → (HasListed files → has_manifest ≡ true)
+  pub all_listed : (of_files : List Fault) → IsOrdered files → (has_manifest ≡ true → ListsPayloadManifest files) → (ListsPayloadManifest files → has_manifest ≡ true)
       → IsListOf fault_cmp (IsFaultAmong bag (paths_of files)) of_files → IsListOf fault_cmp (IsOfParts bag) (missing has_data has_manifest ++ of_files)
   unfolding IsOfParts
   all_listed of_files ordered found tells list =
@@ -319,7 +319,7 @@ no_tag_file bag path none h = none h.0.0 h.0.2
 
 -- so the stage is found from the facts
 pub parts_listed : (bag : Bag) (all : Facts) (files : List FileEntry) (tags : List TagFacts) (has_manifest : Bool) (of_bag of_files faults : List Fault) → IsFactsOf bag all
-    → all.options.depth ≢ Declaration → files ≡ all.listing.files → tags ≡ all.tags → (has_manifest ≡ true → HasListed files) → (HasListed files → has_manifest ≡ true)
+    → all.options.depth ≢ Declaration → files ≡ all.listing.files → tags ≡ all.tags → (has_manifest ≡ true → ListsPayloadManifest files) → (ListsPayloadManifest files → has_manifest ≡ true)
     → of_bag ≡ missing all.listing.has_data has_manifest
     → (AreTagsOf bag tags → IsStrictlySortedBy text_cmp (paths_of files) → IsListOf fault_cmp (IsFaultAmong bag (paths_of files)) of_files)
     → faults ≡ of_bag ++ of_files → IsListOf fault_cmp (IsOfParts bag) faults

@@ -17,7 +17,7 @@ use Rattle.bag_facts.proofs.ListedFiles.{file_listed, listed_file}
 use Rattle.bag_facts.proofs.Mapped.{take_one_more}
 use Rattle.bag_stages.specs.TagFiles.{manifest_of}
 use Rattle.bag_stages.proofs.ReadManifest.{names_entry, entry_names}
-use Rattle.bag_stages.specs.CompletenessFaults.{IsMissing, IsUnlisted, IsWrong}
+use Rattle.bag_stages.specs.CompletenessFaults.{IsMissing, IsUnlistedFile, IsWrong}
 use Rattle.bag_stages.specs.PayloadNamed.{AreNamed, GoesOn, IsNamedExactly}
 use Rattle.bag_stages.proofs.MissingFaults as missing
 use Rattle.bag_stages.proofs.UnlistedFaults as unlisted
@@ -110,5 +110,5 @@ module _ (bag : Bag) (alg : Alg) where
   told f (inl h) = missing.told bag Payload alg f h
   told f (inr h) = unlisted.told bag alg f h
 
-  pub apart : (f : Fault) → IsMissing bag Payload alg f → IsUnlisted bag alg f → ⊥
+  pub apart : (f : Fault) → IsMissing bag Payload alg f → IsUnlistedFile bag alg f → ⊥
   apart f h k = let clash : PayloadFileMissing ≡ PayloadFileNotListed = sym (ap (λ (x : Fault). x.code) h.0) ∙ ap (λ (x : Fault). x.code) k.1.0 in cc

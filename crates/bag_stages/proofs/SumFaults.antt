@@ -31,7 +31,7 @@ use Rattle.bag_stages.proofs.InFile.{less_by_alg}
 use Rattle.bag_stages.specs.Given.{IsSpelledBy}
 use Rattle.bag_stages.specs.SumFaults.{differing, differing_code, sum_differs}
 use Rattle.bag_stages.specs.SummedFiles.{kind_of}
-use Rattle.bag_stages.specs.ValidityStage.{expected_and_found, IsEntryIn, IsOfFile}
+use Rattle.bag_stages.specs.ValidityStage.{expected_and_found, IsEntryIn, IsFaultOfFile}
 use Rattle.bag_stages.specs.declared.expected.Expected.{Expected}
 use Rattle.bag_stages.proofs.NamesByKind.{names_by_kind}
 use Rattle.bag_stages.proofs.ValidityFaults.{entry_of_validity, fault_of_sum, validity_of_entry}
@@ -124,11 +124,11 @@ module _ (bag : Bag) (path : List ℕ) (kind : Kind) where
   no_alg_more i any faults lt list only =
       subst (IsListOf fault_cmp (OfSome (IsOfAlg bag path kind) (take (i + 1) algs))) (append-nil faults) (one_alg_more i any faults None lt list only)
 
-  to_file : (f : Fault) → OfSome (IsOfAlg bag path kind) algs f → IsOfFile bag path f
+  to_file : (f : Fault) → OfSome (IsOfAlg bag path kind) algs f → IsFaultOfFile bag path f
   to_file f (alg, c, (entry, content, listed, at, there, differ, is)) =
       (entry_of_validity bag f (kind, (alg, (entry, listed, (content, ap (file bag) at ∙ there, differ, is)))), ap (λ (f : Fault). f.path) is ∙ at)
 
-  from_file : kind ≡ kind_of path → (f : Fault) → IsOfFile bag path f → OfSome (IsOfAlg bag path kind) algs f
+  from_file : kind ≡ kind_of path → (f : Fault) → IsFaultOfFile bag path f → OfSome (IsOfAlg bag path kind) algs f
   from_file right f (valid, of_path) =
       let some = validity_of_entry bag f valid in
       let alg : Alg = some.1.0 in
@@ -144,7 +144,7 @@ module _ (bag : Bag) (path : List ℕ) (kind : Kind) where
 
   -- those of the kind that may name the file are all
   pub all_algs : kind ≡ kind_of path → (i : ℕ) (faults : List Fault) → length algs ≤ i → IsListOf fault_cmp (OfSome (IsOfAlg bag path kind) (take i algs)) faults
-      → IsListOf fault_cmp (IsOfFile bag path) faults
+      → IsListOf fault_cmp (IsFaultOfFile bag path) faults
   all_algs right i faults le list =
       same_members fault_cmp _ _ faults to_file (from_file right)
       (subst (λ some. IsListOf fault_cmp (OfSome (IsOfAlg bag path kind) some) faults) (take_all i algs le) list)

@@ -17,11 +17,11 @@ use Rattle.bag_facts.specs.declared.manifest.Manifest.{Manifest}
 use Rattle.bag_facts.proofs.ListedFiles.{file_listed, listed_file}
 use Rattle.bag_stages.specs.TagFiles.{manifest_of}
 use Rattle.bag_stages.proofs.ReadManifest.{by_path, names_entry, entry_names, is_absent, is_there, of_alg}
-use Rattle.bag_stages.specs.CompletenessFaults.{IsLeftByOne, IsUnlisted, IsUnlistedAmong}
+use Rattle.bag_stages.specs.CompletenessFaults.{IsLeftByOne, IsUnlistedFile, IsUnlistedAmong}
 use Rattle.bag_stages.proofs.FaultsOfPaths.{in_other_words}
 
 module _ (bag : Bag) (alg : Alg) where
-  pub told : (f : Fault) → IsUnlisted bag alg f → f.alg ≡ Some alg
+  pub told : (f : Fault) → IsUnlistedFile bag alg f → f.alg ≡ Some alg
   told f h = ap (λ (x : Fault). x.alg) h.1.0
 
   -- the payload manifest that was read
@@ -38,8 +38,8 @@ module _ (bag : Bag) (alg : Alg) where
   no_unlisted read = nothing_listed fault_cmp (IsLeftByOne bag alg) (λ f h. is_absent bag Payload alg read h.1.1.0)
 
   -- the rules of 1.0 ask for these faults, and those of 0.97 for none
-  pub asked_of_one : (faults : List Fault) → IsByV10 bag → IsListOf fault_cmp (IsLeftByOne bag alg) faults → IsListOf fault_cmp (IsUnlisted bag alg) faults
+  pub asked_of_one : (faults : List Fault) → IsByV10 bag → IsListOf fault_cmp (IsLeftByOne bag alg) faults → IsListOf fault_cmp (IsUnlistedFile bag alg) faults
   asked_of_one faults by list = same_members fault_cmp _ _ faults (λ f h. (by, h)) (λ f h. h.1) list
 
-  pub unasked_of_one : ¬ (IsByV10 bag) → IsListOf fault_cmp (IsUnlisted bag alg) []
-  unasked_of_one not = nothing_listed fault_cmp (IsUnlisted bag alg) (λ f h. not h.0)
+  pub unasked_of_one : ¬ (IsByV10 bag) → IsListOf fault_cmp (IsUnlistedFile bag alg) []
+  unasked_of_one not = nothing_listed fault_cmp (IsUnlistedFile bag alg) (λ f h. not h.0)

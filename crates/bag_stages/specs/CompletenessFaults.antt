@@ -54,11 +54,11 @@ abbrev pub IsLeftByAll : Bag → Fault → Type 0
 IsLeftByAll bag = IsOfPath PayloadFileNotListed None (λ path. IsPayloadFile bag path × IsLeftOutByAll bag path)
 
 -- one manifest leaves a file out, which is a fault by the rules of 1.0
-abbrev pub IsUnlisted : Bag → Alg → Fault → Type 0
-IsUnlisted bag alg f = IsByV10 bag × IsLeftByOne bag alg f
+abbrev pub IsUnlistedFile : Bag → Alg → Fault → Type 0
+IsUnlistedFile bag alg f = IsByV10 bag × IsLeftByOne bag alg f
 
 abbrev pub IsUnlistedInSome : Bag → Fault → Type 0
-IsUnlistedInSome bag f = (alg : Alg) × IsUnlisted bag alg f
+IsUnlistedInSome bag f = (alg : Alg) × IsUnlistedFile bag alg f
 
 -- all leave it out, which is a fault by the rules of 0.97
 abbrev pub IsUnlistedInAll : Bag → Fault → Type 0
@@ -78,7 +78,7 @@ IsUnnamedPath bag path = (is_payload_path path ≡ true) × ¬ (IsNamedBySome ba
 
 -- the payload manifest of an algorithm is wrong about a file, one way or the other
 abbrev pub IsWrong : Bag → Alg → Fault → Type 0
-IsWrong bag alg f = IsMissing bag Payload alg f ⊎ IsUnlisted bag alg f
+IsWrong bag alg f = IsMissing bag Payload alg f ⊎ IsUnlistedFile bag alg f
 
 -- some payload manifest is
 abbrev pub IsWrongOfSome : Bag → Fault → Type 0

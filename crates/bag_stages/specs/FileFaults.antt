@@ -42,5 +42,5 @@ abbrev pub IsFaultAmong : Bag → List (List ℕ) → Fault → Type 0
 IsFaultAmong bag paths f = Contains paths f.path × IsFileFault bag f
 
 -- a payload manifest is among these files
-abbrev pub HasListed : List FileEntry → Type 0
-HasListed files = (alg : List ℕ) × (is_alg_text alg ≡ true) × Contains (paths_of files) (manifest_name Payload alg)
+abbrev pub ListsPayloadManifest : List FileEntry → Type 0
+ListsPayloadManifest files = (alg : List ℕ) × (is_alg_text alg ≡ true) × Contains (paths_of files) (manifest_name Payload alg)

@@ -39,9 +39,9 @@ IsAskedUnnamed bag path alg entries files f = IsByV10 bag × IsUnnamedAmong path
 
 -- a tag manifest names the payload manifests that are there, by the rules of 1.0 alone, and a payload manifest needs to name
 -- none
-abbrev pub IsUnlisted : Bag → Kind → Alg → Fault → Type 0
-IsUnlisted bag Payload alg f = ⊥
-IsUnlisted bag Tag alg f =
+abbrev pub IsUnlistedManifest : Bag → Kind → Alg → Fault → Type 0
+IsUnlistedManifest bag Payload alg f = ⊥
+IsUnlistedManifest bag Tag alg f =
     IsByV10 bag × (f.code ≡ PayloadManifestNotListed)
     × ((other : List ℕ) × At f (manifest_of Tag alg) (Some alg) 0 (manifest_name Payload other)
     × HasSupported bag Tag alg × HasManifest bag Payload other × ¬ (Names bag Tag alg (manifest_name Payload other)))
@@ -52,4 +52,4 @@ IsLineFault bag kind alg f = InFile bag f (manifest_of kind alg) (Some alg) (IsM
 
 -- a fault of one manifest
 abbrev pub IsOfManifest : Bag → Kind → Alg → Fault → Type 0
-IsOfManifest bag kind alg f = IsUnlisted bag kind alg f ⊎ IsLineFault bag kind alg f
+IsOfManifest bag kind alg f = IsUnlistedManifest bag kind alg f ⊎ IsLineFault bag kind alg f

@@ -44,8 +44,8 @@ unfoldable pub IsOfValidity : Bag → Fault → Type 0
 IsOfValidity bag f = ValidityHolds bag f f.code
 
 -- such a fault of this file
-abbrev pub IsOfFile : Bag → List ℕ → Fault → Type 0
-IsOfFile bag path f = IsOfValidity bag f × (f.path ≡ path)
+abbrev pub IsFaultOfFile : Bag → List ℕ → Fault → Type 0
+IsFaultOfFile bag path f = IsOfValidity bag f × (f.path ≡ path)
 
 -- the law: these faults are of the seventh stage
 abbrev pub ValidityFaultsAreOfStageSeven : Type 0

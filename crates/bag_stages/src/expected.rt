@@ -9,7 +9,7 @@ ghost use Rattle.bag_facts.specs.TagFacts.{entry_paths, AreByPath};
 ghost use Rattle.bag_stages.specs.Given.{AreNaming, IsGivenBy};
 ghost use Rattle.bag_stages.specs.SumFaults.{faults_of_bytes};
 ghost use Rattle.bag_stages.specs.SummedFiles.{kind_of};
-ghost use Rattle.bag_stages.specs.ValidityStage.{IsOfFile};
+ghost use Rattle.bag_stages.specs.ValidityStage.{IsFaultOfFile};
 
 use crate::{GivenDigest, Places};
 use bag_facts::Facts;
@@ -38,7 +38,7 @@ pub fn expected_of(
 ) -> Result<Items<Expected>, AllocError>
     ensures algs { IfOk result (λ expected. OfBag facts.now (λ bag. AreNaming bag path.now (map (λ one. one.alg) expected))) }
     ensures faults { IfOk result (λ expected. OfBag facts.now (λ bag. (content : List ℕ) → file bag path.now ≡ Some content
-        → IsListOf fault_cmp (IsOfFile bag path.now) (faults_of_bytes path.now content expected))) }
+        → IsListOf fault_cmp (IsFaultOfFile bag path.now) (faults_of_bytes path.now content expected))) }
     ensures count { IfOk result (λ expected. places.new.count ≡ length expected) }
 {
     let kind = kind_of(path.as_str());

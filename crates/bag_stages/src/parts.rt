@@ -10,7 +10,7 @@ ghost use Rattle.bag_tree.specs.Bag.{Bag};
 ghost use Rattle.bag_facts.specs.FaultOrder.{fault_cmp};
 ghost use Rattle.bag_facts.specs.Facts.{OfBag};
 ghost use Rattle.bag_facts.specs.Wanted.{paths_of};
-ghost use Rattle.bag_stages.specs.FileFaults.{AreTagsOf, HasListed, HasTextless, IsUnsupported, IsFileFault, IsFaultAmong};
+ghost use Rattle.bag_stages.specs.FileFaults.{AreTagsOf, ListsPayloadManifest, HasTextless, IsUnsupported, IsFileFault, IsFaultAmong};
 ghost use Rattle.bag_stages.specs.PartsStage.{IsOfParts};
 ghost use Rattle.bag_stages.specs.FaultFields.{of_bag};
 ghost use Rattle.bag_stages.specs.TagFiles.{HasNoText};
@@ -62,8 +62,8 @@ fn missing_part(alloc: Global, code: Code) -> Fault
 
 /// Whether a payload manifest is listed, of any algorithm.
 fn has_payload_manifest(files: &[FileEntry]) -> bool
-    ensures listed { IsTrue result → HasListed files.now }
-    ensures not_listed { HasListed files.now → IsTrue result }
+    ensures listed { IsTrue result → ListsPayloadManifest files.now }
+    ensures not_listed { ListsPayloadManifest files.now → IsTrue result }
 {
     for entry in files {
         if manifest_alg(Kind::Payload, entry.path.as_str()).is_some() {

@@ -8,7 +8,7 @@ ghost use Rattle.bag_facts.specs.FaultOrder.{fault_cmp};
 ghost use Rattle.bag_facts.specs.Facts.{OfBag};
 ghost use Rattle.bag_facts.specs.TagFacts.{AreByPath};
 ghost use Rattle.bag_facts.specs.Wanted.{paths_of};
-ghost use Rattle.bag_stages.specs.CompletenessFaults.{IsLeftByOne, IsUnlisted, IsUnlistedAmong};
+ghost use Rattle.bag_stages.specs.CompletenessFaults.{IsLeftByOne, IsUnlistedFile, IsUnlistedAmong};
 
 use crate::file_fault::file_fault;
 use crate::seek::seek;
@@ -22,7 +22,7 @@ use std::alloc::{AllocError, Global};
 /// paths; none by the rules of 0.97, which don't ask each manifest for each file. The facts are read for more than the
 /// declaration. Fails only where memory runs out.
 pub fn unlisted_of(alloc: Global, facts: &Facts, alg: Alg) -> Result<Vec<Fault>, AllocError>
-    ensures { IfOk result (λ faults. OfBag facts.now (λ bag. IsListOf fault_cmp (IsUnlisted bag alg) faults.items)) }
+    ensures { IfOk result (λ faults. OfBag facts.now (λ bag. IsListOf fault_cmp (IsUnlistedFile bag alg) faults.items)) }
 {
     let is_asked = facts.rules() == Rules::V10;
     if is_asked {

@@ -8,7 +8,7 @@ use Rattle.bag_disk.specs.Disk.{DiskState}
 use Rattle.bag_disk.specs.Refusal.{MeetsSpecial, MeetsUnnamed, IsDue, IsDueInListing, IsDueInMove, IsDueInStep, failures_after}
 use Rattle.bag_disk.specs.declared.refusal.Refusal.{Refusal}
 use Rattle.bag_disk.specs.declared.refusal.Refusal.TheVariants.{Device, Special, Name, NotFound, TooMany, Memory, Exists, Contradicts, InTheWay}
-use Rattle.bag_store.specs.FileTree.{Tells}
+use Rattle.bag_store.specs.FileTree.{TellsOfDisk}
 use Rattle.bag_store.specs.Answered.{count_after, failure_or_memory, fault_of, last_count, one_more_failure}
 
 -- a failure is counted, or else answered by Memory
@@ -126,21 +126,21 @@ told_or_memory answer failure own memory told = elim (own == last_count) as (λ 
 module _ (r : Refusal) (answer : TreeFault) (own : ℕ) (old new : DiskState) where
   -- what the answer to a refusal tells of the disk
   tells_for : (reason : Type 0) → answer ≡ fault_of r own → new.failures ≡ failures_after r old.failures → (r ≡ Special → MeetsSpecial old) → (r ≡ Name → MeetsUnnamed old) → (r ≡ Contradicts → reason) → (r ≡ InTheWay → reason)
-      → Tells reason old new answer
-  tells_for reason is counts special unnamed odd blocked = subst (Tells reason old new) (sym is) (told r counts special unnamed odd blocked)
+      → TellsOfDisk reason old new answer
+  tells_for reason is counts special unnamed odd blocked = subst (TellsOfDisk reason old new) (sym is) (told r counts special unnamed odd blocked)
     where
-      told : (r : Refusal) → new.failures ≡ failures_after r old.failures → (r ≡ Special → MeetsSpecial old) → (r ≡ Name → MeetsUnnamed old) → (r ≡ Contradicts → reason) → (r ≡ InTheWay → reason) → Tells reason old new (fault_of r own)
+      told : (r : Refusal) → new.failures ≡ failures_after r old.failures → (r ≡ Special → MeetsSpecial old) → (r ≡ Name → MeetsUnnamed old) → (r ≡ Contradicts → reason) → (r ≡ InTheWay → reason) → TellsOfDisk reason old new (fault_of r own)
       told Device more special unnamed odd blocked = inl (omega (arith, more))
-      told Special same special unnamed odd blocked = told_or_memory (Tells reason old new) fault.Special own tt (special refl)
-      told Name same special unnamed odd blocked = told_or_memory (Tells reason old new) fault.Name own tt (unnamed refl)
+      told Special same special unnamed odd blocked = told_or_memory (TellsOfDisk reason old new) fault.Special own tt (special refl)
+      told Name same special unnamed odd blocked = told_or_memory (TellsOfDisk reason old new) fault.Name own tt (unnamed refl)
       told NotFound same special unnamed odd blocked = tt
       told TooMany same special unnamed odd blocked = tt
       told Memory same special unnamed odd blocked = tt
       told Exists same special unnamed odd blocked = tt
-      told Contradicts same special unnamed odd blocked = told_or_memory (Tells reason old new) fault.Device own tt (inr (odd refl))
-      told InTheWay same special unnamed odd blocked = told_or_memory (Tells reason old new) fault.Device own tt (inr (blocked refl))
+      told Contradicts same special unnamed odd blocked = told_or_memory (TellsOfDisk reason old new) fault.Device own tt (inr (odd refl))
+      told InTheWay same special unnamed odd blocked = told_or_memory (TellsOfDisk reason old new) fault.Device own tt (inr (blocked refl))
 
-  pub tells_due : (special unnamed gone many : Type 0) → answer ≡ fault_of r own → new.failures ≡ failures_after r old.failures → (special → MeetsSpecial old) → (unnamed → MeetsUnnamed old) → IsDue special unnamed gone many r → Tells ⊥ old new answer
+  pub tells_due : (special unnamed gone many : Type 0) → answer ≡ fault_of r own → new.failures ≡ failures_after r old.failures → (special → MeetsSpecial old) → (unnamed → MeetsUnnamed old) → IsDue special unnamed gone many r → TellsOfDisk ⊥ old new answer
   tells_due special unnamed gone many is counts over wrong due = tells_for ⊥ is counts
       (λ e. over (subst (IsDue special unnamed gone many) e due))
       (λ e. wrong (subst (IsDue special unnamed gone many) e due))
@@ -148,21 +148,21 @@ module _ (r : Refusal) (answer : TreeFault) (own : ℕ) (old new : DiskState) wh
       (λ e. subst (IsDue special unnamed gone many) e due)
 
   pub tells_listing : (special unnamed many contradiction : Type 0) → answer ≡ fault_of r own → new.failures ≡ failures_after r old.failures → (special → MeetsSpecial old) → (unnamed → MeetsUnnamed old)
-      → IsDueInListing special unnamed many contradiction r → Tells contradiction old new answer
+      → IsDueInListing special unnamed many contradiction r → TellsOfDisk contradiction old new answer
   tells_listing special unnamed many contradiction is counts over wrong due = tells_for contradiction is counts
       (λ e. over (subst (IsDueInListing special unnamed many contradiction) e due))
       (λ e. wrong (subst (IsDueInListing special unnamed many contradiction) e due))
       (λ e. subst (IsDueInListing special unnamed many contradiction) e due)
       (λ e. absurd (subst (IsDueInListing special unnamed many contradiction) e due))
 
-  pub tells_step : (special gone there : Type 0) → answer ≡ fault_of r own → new.failures ≡ failures_after r old.failures → (special → MeetsSpecial old) → IsDueInStep special gone there r → Tells ⊥ old new answer
+  pub tells_step : (special gone there : Type 0) → answer ≡ fault_of r own → new.failures ≡ failures_after r old.failures → (special → MeetsSpecial old) → IsDueInStep special gone there r → TellsOfDisk ⊥ old new answer
   tells_step special gone there is counts over due = tells_for ⊥ is counts
       (λ e. over (subst (IsDueInStep special gone there) e due))
       (λ e. absurd (subst (IsDueInStep special gone there) e due))
       (λ e. subst (IsDueInStep special gone there) e due)
       (λ e. subst (IsDueInStep special gone there) e due)
 
-  pub tells_move : (special gone there folder : Type 0) → answer ≡ fault_of r own → new.failures ≡ failures_after r old.failures → (special → MeetsSpecial old) → IsDueInMove special gone there folder r → Tells folder old new answer
+  pub tells_move : (special gone there folder : Type 0) → answer ≡ fault_of r own → new.failures ≡ failures_after r old.failures → (special → MeetsSpecial old) → IsDueInMove special gone there folder r → TellsOfDisk folder old new answer
   tells_move special gone there folder is counts over due = tells_for folder is counts
       (λ e. over (subst (IsDueInMove special gone there folder) e due))
       (λ e. absurd (subst (IsDueInMove special gone there folder) e due))

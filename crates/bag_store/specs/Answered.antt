@@ -16,7 +16,7 @@ failure_or_memory failure count = if count == last_count then fault.Memory else 
 abbrev pub one_more_failure : ℕ → ℕ
 one_more_failure count = if count == last_count then count else count + 1
 
--- the fault that answers a refusal, after so many failures that the disk didn't count
+-- the fault that answers a refusal, where this number of failures was counted that the disk didn't count
 abbrev pub fault_of : Refusal → ℕ → TreeFault
 fault_of Device count = fault.Device
 fault_of Special count = failure_or_memory fault.Special count

@@ -8,8 +8,8 @@ use Rattle.bag_text.specs.Path.{under}
 use Rattle.bag_tree.specs.Steps.{has_within, is_taken, lacks_folder, lacks_source}
 
 -- a file or a folder of the base folder has this name
-abbrev pub IsTaken : DiskState → List ℕ → Type 0
-IsTaken disk name = IsTrue disk.honest → is_taken (bag_of disk.nodes) name ≡ true
+abbrev pub IsNameTaken : DiskState → List ℕ → Type 0
+IsNameTaken disk name = IsTrue disk.honest → is_taken (bag_of disk.nodes) name ≡ true
 
 -- what is to be moved isn't there, or the folder for it isn't
 abbrev pub LacksSource : DiskState → List ℕ → List ℕ → Type 0

@@ -29,7 +29,7 @@ state_after disk own given last = record {
   last = last;
 }
 
--- what a tree of the files on a disk means at which it hasn't looked yet, after so many failures beside those of the device
+-- what a tree of the files on a disk means at which it hasn't looked yet, with this number of failures beside those of the device
 abbrev pub tree_state : DiskState → ℕ → TreeState
 tree_state disk own = state_after disk own 0 Given
 
@@ -44,13 +44,13 @@ HasFailed old new = old.failures < new.failures
 -- What a tree's refusal tells of its disk, as it was before the call and after it: that its device refused in this call, that
 -- something stands there that is no file and no folder, or that something has a name that isn't UTF-8. `reason` says when the
 -- tree tells of a failure for itself.
-abbrev pub Tells : Type 0 → DiskState → DiskState → TreeFault → Type 0
-Tells reason old new Device = HasFailed old new ⊎ reason
-Tells reason old new Special = MeetsSpecial old
-Tells reason old new Name = MeetsUnnamed old
-Tells reason old new NotFound = Unit {0}
-Tells reason old new TooMany = Unit {0}
-Tells reason old new Changed = Unit {0}
-Tells reason old new NoneOpen = Unit {0}
-Tells reason old new Memory = Unit {0}
-Tells reason old new Exists = Unit {0}
+abbrev pub TellsOfDisk : Type 0 → DiskState → DiskState → TreeFault → Type 0
+TellsOfDisk reason old new Device = HasFailed old new ⊎ reason
+TellsOfDisk reason old new Special = MeetsSpecial old
+TellsOfDisk reason old new Name = MeetsUnnamed old
+TellsOfDisk reason old new NotFound = Unit {0}
+TellsOfDisk reason old new TooMany = Unit {0}
+TellsOfDisk reason old new Changed = Unit {0}
+TellsOfDisk reason old new NoneOpen = Unit {0}
+TellsOfDisk reason old new Memory = Unit {0}
+TellsOfDisk reason old new Exists = Unit {0}

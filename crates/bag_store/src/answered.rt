@@ -49,14 +49,14 @@ impl Answered {
         self.last = Answer::Given;
     }
 
-    /// Whether so many more bytes of the open file can be counted.
+    /// Whether `size` more bytes of the open file can be counted.
     pub(crate) fn has_room(&self, size: usize) -> bool
         ensures { IsTrue result → self.now.given + size ≤ last_count }
     {
         self.given <= u64::MAX - size as u64
     }
 
-    /// Notes that a read gave so many bytes.
+    /// Notes that a read gave `count` bytes.
     pub(crate) fn read(&mut self, count: usize) -> usize
         requires { self.old.given + count ≤ last_count }
         ensures count { result ≡ count }

@@ -4,7 +4,7 @@ ghost use Rattle.bag_text.specs.Path.{is_base_name, under};
 ghost use Rattle.bag_tree.specs.Steps.{lacks_folder, lacks_source};
 ghost use Rattle.bag_disk.specs.Disk.{Has, OnlyLooks};
 ghost use Rattle.bag_disk.specs.WritableDisk.{Closes, MakesFolder, Moves};
-ghost use Rattle.bag_store.specs.Changing.{HasFolderInTheWay, HasTarget, IsRenamed, IsMovedIn, IsTaken, LacksFolder, LacksSource};
+ghost use Rattle.bag_store.specs.Changing.{HasFolderInTheWay, HasTarget, IsRenamed, IsMovedIn, IsNameTaken, LacksFolder, LacksSource};
 ghost use Rattle.bag_disk.specs.Refusal.{IsCounted, IsDueInMove, IsDueInStep, MeetsSpecial, failures_after, of_making};
 ghost use Rattle.bag_disk.specs.declared.disk.DiskFault.TheVariants.{Exists};
 
@@ -22,7 +22,7 @@ pub(crate) fn make_folder<D: WritableDisk>(disk: &mut D, name: &str) -> Result<(
         → MakesFolder (D.state disk.old).nodes (D.state disk.new).nodes name.now) }
     ensures closed { OnOk result (Closes (D.state disk.old) (D.state disk.new)) }
     ensures same { OnErr result (OnlyLooks (D.state disk.old) (D.state disk.new)) }
-    ensures refused { IfErr result (IsDueInStep (MeetsSpecial (D.state disk.old)) ⊥ (IsTaken (D.state disk.old) name.now)) }
+    ensures refused { IfErr result (IsDueInStep (MeetsSpecial (D.state disk.old)) ⊥ (IsNameTaken (D.state disk.old) name.now)) }
     ensures failures { IsCounted result (D.state disk.old) (D.state disk.new) }
 {
     match keep_names(disk, BASE) {
@@ -40,7 +40,7 @@ pub(crate) fn not_made<D: Disk>(disk: &mut D, name: &str, fault: DiskFault) -> R
     requires name { IsTrue (is_base_name name.now) }
     requires there { fault ≡ Exists → IsTrue (D.state disk.old).honest → Has (D.state disk.old).nodes name.now }
     ensures looks { OnlyLooks (D.state disk.old) (D.state disk.new) }
-    ensures due { IsDueInStep (MeetsSpecial (D.state disk.old)) ⊥ (IsTaken (D.state disk.old) name.now) result }
+    ensures due { IsDueInStep (MeetsSpecial (D.state disk.old)) ⊥ (IsNameTaken (D.state disk.old) name.now) result }
     ensures failures { (before : ℕ) → (D.state disk.old).failures ≡ failures_after (of_making fault) before
         → (D.state disk.new).failures ≡ failures_after result before }
 {
@@ -104,7 +104,7 @@ pub(crate) fn rename_folder<D: WritableDisk>(
     ensures closed { OnOk result (Closes (D.state disk.old) (D.state disk.new)) }
     ensures same { OnErr result (OnlyLooks (D.state disk.old) (D.state disk.new)) }
     ensures refused { IfErr result (IsDueInStep (MeetsSpecial (D.state disk.old))
-        (LacksFolder (D.state disk.old) from.now) (IsTaken (D.state disk.old) to.now)) }
+        (LacksFolder (D.state disk.old) from.now) (IsNameTaken (D.state disk.old) to.now)) }
     ensures failures { IsCounted result (D.state disk.old) (D.state disk.new) }
 {
     match check_is_folder(disk, from) {

@@ -3,7 +3,7 @@ ghost use Rattle.std.specs.Prelude.{◌≡◌, IfErr, IfOk, IsTrue, None, OnOk, 
 ghost use Rattle.bag_text.specs.Path.{is_base_name, is_path};
 ghost use Rattle.bag_tree.specs.Steps.{is_taken};
 ghost use Rattle.bag_disk.specs.Disk.{HasSpecial, IsReached, OnlyLooks, node};
-ghost use Rattle.bag_store.specs.Changing.{IsTaken};
+ghost use Rattle.bag_store.specs.Changing.{IsNameTaken};
 ghost use Rattle.bag_disk.specs.DiskBag.{bag_of};
 ghost use Rattle.bag_disk.specs.Refusal.{IsCounted, IsDue, IsDueInStep, MeetsSpecial};
 ghost use Rattle.bag_store.specs.Standing.{IsStanding};
@@ -44,7 +44,7 @@ pub(crate) fn check_free<D: Disk>(disk: &mut D, name: &str) -> Result<(), Refusa
     requires { IsTrue (is_base_name name.now) }
     ensures looks { OnlyLooks (D.state disk.old) (D.state disk.new) }
     ensures free { OnOk result (IsTrue (D.state disk.old).honest → node (D.state disk.old).nodes name.now ≡ None) }
-    ensures refused { IfErr result (IsDueInStep (MeetsSpecial (D.state disk.old)) ⊥ (IsTaken (D.state disk.old) name.now)) }
+    ensures refused { IfErr result (IsDueInStep (MeetsSpecial (D.state disk.old)) ⊥ (IsNameTaken (D.state disk.old) name.now)) }
     ensures failures { IsCounted result (D.state disk.old) (D.state disk.new) }
 {
     match standing_at(disk, name) {
@@ -58,7 +58,7 @@ pub(crate) fn check_free<D: Disk>(disk: &mut D, name: &str) -> Result<(), Refusa
 pub(crate) fn check_taken<D: Disk>(disk: &mut D, name: &str) -> Result<(), Refusal>
     requires { IsTrue (is_base_name name.now) }
     ensures looks { OnlyLooks (D.state disk.old) (D.state disk.new) }
-    ensures taken { OnOk result (IsTaken (D.state disk.old) name.now) }
+    ensures taken { OnOk result (IsNameTaken (D.state disk.old) name.now) }
     ensures refused { IfErr result (IsDue (MeetsSpecial (D.state disk.old)) ⊥
         (IsTrue (D.state disk.old).honest → is_taken (bag_of (D.state disk.old).nodes) name.now ≡ false) ⊥) }
     ensures failures { IsCounted result (D.state disk.old) (D.state disk.new) }

@@ -2,7 +2,7 @@
 ghost use Rattle.std.specs.Prelude.{◌≡◌, ◌⊎◌, IfErr, IsTrue, None, OnErr, OnOk, is_some};
 ghost use Rattle.bag_text.specs.Path.{is_base_name};
 ghost use Rattle.bag_disk.specs.Disk.{OnlyLooks};
-ghost use Rattle.bag_store.specs.Changing.{IsTaken};
+ghost use Rattle.bag_store.specs.Changing.{IsNameTaken};
 ghost use Rattle.bag_disk.specs.Refusal.{IsCounted, IsDueInStep, MeetsSpecial};
 ghost use Rattle.bag_store.specs.Writing.{Begins, HasWritten, HasWrittenSome, Makes};
 
@@ -18,7 +18,7 @@ pub(crate) fn create<D: WritableDisk>(disk: &mut D, name: &str, bytes: &[u8]) ->
     ensures names_kept { OnOk result (IsTrue (D.is_kept disk.new)) }
     ensures begun { OnErr result (OnlyLooks (D.state disk.old) (D.state disk.new)
         ⊎ Begins (D.state disk.old) (D.state disk.new) name.now bytes.now) }
-    ensures refused { IfErr result (IsDueInStep (MeetsSpecial (D.state disk.old)) ⊥ (IsTaken (D.state disk.old) name.now)) }
+    ensures refused { IfErr result (IsDueInStep (MeetsSpecial (D.state disk.old)) ⊥ (IsNameTaken (D.state disk.old) name.now)) }
     ensures failures { IsCounted result (D.state disk.old) (D.state disk.new) }
 {
     match disk.create(name) {

@@ -25,6 +25,6 @@ CommonFrontIsTheLongest = (first second : List ℕ) → IsLongestFront (common_f
 abbrev pub front_of_sixteen : List ℕ → List ℕ
 front_of_sixteen bytes = take 16 (bytes ++ replicate 16 0)
 
--- the number of the sixteen bytes behind so many, the first worth most
+-- the number of the sixteen bytes behind the first n, the first worth most
 abbrev pub key_behind : List ℕ → ℕ → ℕ
 key_behind bytes skipped = from_be_bytes w128 (front_of_sixteen (drop skipped bytes))

@@ -16,7 +16,7 @@ pub fn common_front<'a>(first: &'a [u8], second: &[u8]) -> &'a [u8]
     &first[..most]
 }
 
-/// The sixteen bytes behind so many, as a number that stands in the order of the bytes; behind the last stand zeros.
+/// The sixteen bytes behind the first `skipped`, as a number that stands in the order of the bytes; behind the last stand zeros.
 pub fn key_behind(bytes: &[u8], skipped: usize) -> u128
     ensures { result ≡ spec.key_behind bytes.now skipped }
 {
@@ -27,7 +27,7 @@ pub fn key_behind(bytes: &[u8], skipped: usize) -> u128
     }
 }
 
-/// The bytes behind so many, if any.
+/// The bytes behind the first `skipped`, if any.
 fn behind(bytes: &[u8], skipped: usize) -> &[u8]
     ensures { result.now ≡ drop skipped bytes.now }
 {

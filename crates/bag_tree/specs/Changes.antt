@@ -6,7 +6,7 @@ use Rattle.bag_tree.specs.declared.tree_fault.TreeFault.{TreeFault}
 use Rattle.bag_tree.specs.declared.tree_fault.TreeFault.TheVariants.{Exists}
 use Rattle.bag_tree.specs.Steps.{is_taken, create}
 
--- A change was made, by at most so many files and folders more, and no file is open. The bag of an honest tree is the
+-- A change was made, by at most n files and folders more, and no file is open. The bag of an honest tree is the
 -- change's, and what else it has isn't of another kind.
 pub record HasChanged (step : Bag → Bag) (more : ℕ) (old new : TreeState) : Type 0 where
   pub bag : IsTrue old.honest → new.bag ≡ step old.bag

@@ -17,7 +17,7 @@ pub record AreSumsOfFile (state : TreeState) (entry : FileEntry) (asked : List A
   pub sums_of : AreSumsOf asked content sums
   pub honest : IsTrue state.honest → file state.bag entry.path ≡ Some content
 
--- this much of a file was taken, and so many bytes are left of those that were listed
+-- this much of a file was taken, and `left` bytes are left of those that were listed
 pub record HasTakenSome (state : TreeState) (rest : Option (List ℕ)) (entry : FileEntry) (asked : List Alg) (digests : Digests) (left : ℕ) : Type 0 where
   pub front : List ℕ
   pub size : length front + left ≡ entry.size

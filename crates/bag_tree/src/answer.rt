@@ -15,7 +15,7 @@ pub enum Answer {
 }
 
 impl Answer {
-    /// What a read answers that gives so many bytes.
+    /// What a read answers that gives `count` bytes.
     pub fn of_read(count: usize) -> Answer
         ensures { result ≡ answer_of_read count }
     {

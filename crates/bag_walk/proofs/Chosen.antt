@@ -31,7 +31,7 @@ use Rattle.bag_stages.proofs.InFile.{less_by_path}
 use Rattle.bag_stages.specs.Given.{AreNaming}
 use Rattle.bag_stages.specs.SumFaults.{faults_of_bytes}
 use Rattle.bag_stages.specs.SummedFiles.{IsNamed, IsSummed}
-use Rattle.bag_stages.specs.ValidityStage.{IsOfFile, IsOfValidity}
+use Rattle.bag_stages.specs.ValidityStage.{IsFaultOfFile, IsOfValidity}
 use Rattle.bag_stages.specs.declared.expected.Expected.{Expected}
 use Rattle.bag_stages.proofs.SummedFiles.{faulty_is_summed, named_some, some_named}
 use Rattle.bag_stages.proofs.ValidityFaults.{validity_of_stage_seven}
@@ -150,15 +150,15 @@ not_declaration depth full is = let clash : Full ≡ Declaration = sym full ∙ 
 
 -- what gives the faults of each content gives those of the file
 tells_by : (bag : Bag) (to_sum : ToSum) (content : Option (List ℕ)) → file bag to_sum.file.path ≡ content
-    → ((bytes : List ℕ) → file bag to_sum.file.path ≡ Some bytes → IsListOf fault_cmp (IsOfFile bag to_sum.file.path) (faults_of_bytes to_sum.file.path bytes to_sum.expected))
-    → IsListOf fault_cmp (IsOfFile bag to_sum.file.path) (faults_at to_sum content)
-tells_by bag to_sum None none each = nothing_listed fault_cmp (IsOfFile bag to_sum.file.path) (λ f h.
+    → ((bytes : List ℕ) → file bag to_sum.file.path ≡ Some bytes → IsListOf fault_cmp (IsFaultOfFile bag to_sum.file.path) (faults_of_bytes to_sum.file.path bytes to_sum.expected))
+    → IsListOf fault_cmp (IsFaultOfFile bag to_sum.file.path) (faults_at to_sum content)
+tells_by bag to_sum None none each = nothing_listed fault_cmp (IsFaultOfFile bag to_sum.file.path) (λ f h.
     let there : HasFile bag to_sum.file.path = subst (HasFile bag) h.1 (faulty_is_summed bag f h.0).0 in
     let clash : false ≡ true = sym (ap is_some none) ∙ there in cc)
 tells_by bag to_sum (Some bytes) there each = each bytes there
 
 pub tells : (bag : Bag) (to_sum : ToSum)
-    → ((bytes : List ℕ) → file bag to_sum.file.path ≡ Some bytes → IsListOf fault_cmp (IsOfFile bag to_sum.file.path) (faults_of_bytes to_sum.file.path bytes to_sum.expected))
+    → ((bytes : List ℕ) → file bag to_sum.file.path ≡ Some bytes → IsListOf fault_cmp (IsFaultOfFile bag to_sum.file.path) (faults_of_bytes to_sum.file.path bytes to_sum.expected))
     → TellsItsFaults bag to_sum
 tells bag to_sum each = tells_by bag to_sum (file bag to_sum.file.path) refl each
 
@@ -229,16 +229,16 @@ module _ (bag : Bag) (after : Option Fault) where
   listed_faults (t ∷ ts) s tell =
       let path : List ℕ = t.file.path in
       let paths : List (List ℕ) = paths_to_sum ts in
-      let first : IsListOf fault_cmp (λ f. IsOfFile bag path f × (is_above after f ≡ true)) (above after (faults_in bag t)) =
-      filtered_list fault_cmp (IsOfFile bag path) (is_above after) (faults_in bag t) (tell t (contains_first t ts)) in
+      let first : IsListOf fault_cmp (λ f. IsFaultOfFile bag path f × (is_above after f ≡ true)) (above after (faults_in bag t)) =
+      filtered_list fault_cmp (IsFaultOfFile bag path) (is_above after) (faults_in bag t) (tell t (contains_first t ts)) in
       let rest : IsListOf fault_cmp (Among paths) (faults_of_files bag after ts) = listed_faults ts s.1 (λ other c. tell other (contains_behind t ts other c)) in
-      same_members fault_cmp (λ f. (IsOfFile bag path f × (is_above after f ≡ true)) ⊎ Among paths f) (Among (path ∷ paths)) (above after (faults_in bag t) ++ faults_of_files bag after ts)
+      same_members fault_cmp (λ f. (IsFaultOfFile bag path f × (is_above after f ≡ true)) ⊎ Among paths f) (Among (path ∷ paths)) (above after (faults_in bag t) ++ faults_of_files bag after ts)
       (λ f h. elim h [
         | inl a ↦ (subst (Contains (path ∷ paths)) (sym a.0.1) (contains_first path paths), (a.0.0, a.1))
         | inr b ↦ (contains_behind path paths f.path b.0, b.1)
       ])
       (λ f h. elim (contains_cases path paths f.path h.0) [ inl e ↦ inl ((h.1.0, sym e), h.1.1) | inr c ↦ inr (c, h.1) ])
-      (joined fault_cmp (λ f. IsOfFile bag path f × (is_above after f ≡ true)) (Among paths) (above after (faults_in bag t)) (faults_of_files bag after ts) first rest
+      (joined fault_cmp (λ f. IsFaultOfFile bag path f × (is_above after f ≡ true)) (Among paths) (above after (faults_in bag t)) (faults_of_files bag after ts) first rest
       (λ x y a b. less_by_path x y (validity_of_stage_seven bag x a.0.0 ∙ sym (validity_of_stage_seven bag y b.1.0))
       (rw a.0.1 (member_has _ paths y.path s.0 b.0))))
 

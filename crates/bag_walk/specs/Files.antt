@@ -8,7 +8,7 @@ use Rattle.bag_facts.specs.FaultOrder.{fault_cmp}
 use Rattle.bag_facts.specs.declared.fault.Fault.{Fault}
 use Rattle.bag_facts.specs.Wanted.{paths_of}
 use Rattle.bag_stages.specs.SummedFiles.{IsNamed}
-use Rattle.bag_stages.specs.ValidityStage.{IsOfFile}
+use Rattle.bag_stages.specs.ValidityStage.{IsFaultOfFile}
 use Rattle.bag_walk.specs.ToSum.{faults_in, paths_to_sum}
 use Rattle.bag_walk.specs.Validity.{is_passed}
 use Rattle.bag_walk.specs.declared.to_sum.ToSum.{ToSum}
@@ -19,7 +19,7 @@ IsNamedAhead bag after path = IsNamed bag path × (is_passed after path ≡ fals
 
 -- the faults that its digests have are those of the file in the bag
 abbrev pub TellsItsFaults : Bag → ToSum → Type 0
-TellsItsFaults bag to_sum = IsListOf fault_cmp (IsOfFile bag to_sum.file.path) (faults_in bag to_sum)
+TellsItsFaults bag to_sum = IsListOf fault_cmp (IsFaultOfFile bag to_sum.file.path) (faults_in bag to_sum)
 
 -- the file, where it is ahead of a cursor
 abbrev pub IsToSum : Bag → Option Fault → FileEntry → Option ToSum → Type 0

@@ -45,7 +45,7 @@ pub record OpensInSegment (listed : List (List ℕ)) (cursor last : Option Fault
   pub first : not_passed cursor listed ≡ filter is_payload_path opened ++ rest
   pub none_behind : end ≡ end_of.Full → NoneBehindLast last (filter is_payload_path opened)
 
--- What so many segments open of the payload: listed files alone. They make at most as many openings as files are listed, one
+-- What this number of segments open of the payload: listed files alone. They make at most as many openings as files are listed, one
 -- more for each segment but the first, and as many as files are listed for each segment that is unread.
 pub record OpensFew (listed : List (List ℕ)) (segments unread : ℕ) (old new : TreeState) : Type 0 where
   pub opened : List (List ℕ)

@@ -10,7 +10,7 @@ use Rattle.bag_tree.specs.declared.tree_fault.TreeFault.{TreeFault}
 use Rattle.bag_tree.specs.declared.tree_fault.TreeFault.TheVariants.{Device, Special, Name, Memory}
 use Rattle.bag_facts.specs.FaultOrder.{fault_cmp}
 use Rattle.bag_facts.specs.declared.fault.Fault.{Fault}
-use Rattle.bag_facts.specs.Stops.{IsOfFile, MayRefuseFacts}
+use Rattle.bag_facts.specs.Stops.{IsRefusedFile, MayRefuseFacts}
 use Rattle.bag_facts.specs.declared.options.Options.{Options}
 use Rattle.bag_profile.specs.Profile.{Profile}
 use Rattle.bag_report.specs.Report.{IsReport, above, first}
@@ -48,7 +48,7 @@ cost other = 0
 abbrev pub SegmentsFrom : List Fault → (Stop → Type 0) → ℕ → ℕ → ℕ → Outcome → List ℕ → ℕ → ℕ → ℕ → Outcome → Type 0
 SegmentsFrom report Stops u r n outcome [] u' r' n' outcome' = (u' ≡ u) × (r' ≡ r) × (n' ≡ n) × (outcome' ≡ outcome)
 SegmentsFrom report Stops u r n outcome (m ∷ limits) u' r' n' outcome' =
-    -- full: so many faults are left
+    -- full: as many faults are left as the limit allows
     ((m ≤ length report - n) × SegmentsFrom report Stops u r (n + m) (Stopped (n + m)) limits u' r' n' outcome')
     -- the end: fewer are left, and no further limit is looked at
     ⊎ ((length report - n < m) × (u' ≡ u) × (r' ≡ r) × (n' ≡ length report) × (outcome' ≡ ended None (length report)))
@@ -72,7 +72,7 @@ WroteSegments n report before after refused outcome = Appends before after (conc
 -- why a segment may stop, by what the tree was before all of them and after: it names a file that a run reads, or none
 pub record MayLose (options : Options) (old new : TreeState) (stop : Stop) : Type 0 where
   pub cause : MayRefuseFacts old new stop.cause
-  pub path : (stop.path ≡ []) ⊎ IsOfFile options old stop ⊎ IsOfSummed options old stop
+  pub path : (stop.path ≡ []) ⊎ IsRefusedFile options old stop ⊎ IsOfSummed options old stop
   pub memory : stop.cause ≡ Memory → stop.path ≡ []
 
 -- The stop of the last segment, whatever the tree, behind those of the limits before it. Its cause is the tree's own answer,

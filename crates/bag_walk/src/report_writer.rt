@@ -20,7 +20,7 @@ pub(crate) fn fill_line(line: &mut String, fault: &Fault) -> Result<(), AllocErr
     line.push_str("\n")
 }
 
-/// How a run ends that has shown all faults above a cursor, and has written so many.
+/// How a run ends that has shown all faults above a cursor, and has written `written` of them.
 pub(crate) fn end_of_report(after: Option<&Fault>, written: u64) -> Outcome
     ensures { result ≡ ended (option_copied after.entry) written }
 {

@@ -34,7 +34,7 @@ pub(crate) enum SegmentEnd {
     Unwritten,
 }
 
-/// A segment of a report: so many lines were written, and so it ended.
+/// A segment of a report: how many lines were written, and how it ended.
 #[derive(Debug, Drop)]
 pub(crate) struct Segment {
     pub(crate) written: u64,

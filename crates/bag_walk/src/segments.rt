@@ -33,7 +33,7 @@ impl SegmentEnd {
         }
     }
 
-    /// The outcome where so many faults were written by all segments.
+    /// The outcome where all segments together wrote `written` faults.
     fn outcome(self, written: u64) -> Outcome
         ensures { result ≡ spec.outcome_at written self }
     {

@@ -5,7 +5,7 @@ use case_files::{Answer, Bytes, Mistake};
 use std::alloc::Global;
 use std::io::{self, ErrorKind, Write};
 
-/// An output with room for so many bytes.
+/// An output with room for `room` more bytes.
 #[derive(Drop)]
 struct Room {
     taken: Vec<u8>,

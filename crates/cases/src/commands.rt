@@ -8,7 +8,7 @@ pub(crate) enum Verb {
     Run,
     /// Runs it over the folders on the disk alone.
     RunOnDisk,
-    /// Runs it with an output that has room for so many bytes.
+    /// Runs it with an output that has room for this number of bytes.
     RunWithRoom(usize),
     /// Runs it over a tree in memory of which each call is refused in turn.
     RefuseTree,

@@ -58,7 +58,7 @@ pub record Opens (old new : DiskState) (path : List ℕ) (answer : Result (Unit 
   pub not_opened : OnErr answer (new.openings ≡ old.openings)
   pub failures : IsCountedAs of_path answer old.failures new.failures
 
--- what a read with room for so many bytes does
+-- what a read with a buffer of this size does
 pub record Reads (old new : DiskState) (room : ℕ) (buffer : List ℕ) (answer : Result ℕ DiskFault) : Type 0 where
   pub same : SameDisk old new
   pub openings : new.openings ≡ old.openings

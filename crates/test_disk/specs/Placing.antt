@@ -7,8 +7,8 @@ use Rattle.bag_disk.specs.Disk.{Nodes, Node, node, Has, IsReached, is_folder_nod
 use Rattle.bag_disk.specs.Disk.Node.{File, Folder, Other}
 
 -- what is no Other has a name in UTF-8
-abbrev pub IsNamed : List ℕ → Node → Type 0
-IsNamed path n = n ≢ Other → IsUtf8 path
+abbrev pub HasTextPath : List ℕ → Node → Type 0
+HasTextPath path n = n ≢ Other → IsUtf8 path
 
 -- numbers below 256
 abbrev pub are_bytes : List ℕ → Bool
@@ -23,7 +23,7 @@ has_bytes (Some Other) = true
 -- a node can stand at a path
 pub record IsPlaced (nodes : Nodes) (path : List ℕ) (n : Node) : Type 0 where
   pub path_is : IsTrue (is_path path)
-  pub named : IsNamed path n
+  pub named : HasTextPath path n
   pub reached : IsReached nodes path
   pub bytes : has_bytes (Some n) ≡ true
 

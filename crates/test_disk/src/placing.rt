@@ -3,7 +3,7 @@ ghost use Rattle.std.specs.Prelude.{◌≡◌, ◌↔◌, IsTrue, All, Some, tru
 ghost use Rattle.bag_text.specs.Path as spec;
 ghost use Rattle.bag_disk.specs.Disk.{IsDisk, IsReached, node};
 ghost use Rattle.test_disk.specs.Held.{node_of, nodes_of};
-ghost use Rattle.test_disk.specs.Placing.{IsPlaced, IsNamed, are_bytes, has_bytes};
+ghost use Rattle.test_disk.specs.Placing.{IsPlaced, HasTextPath, are_bytes, has_bytes};
 
 use crate::held::{Node, SLASH, is_folder};
 use std::collections::BTreeMap;
@@ -35,7 +35,7 @@ fn is_placed(nodes: &BTreeMap<Vec<u8>, Node>, path: &[u8], node: &Node) -> bool
 
 /// Whether a node may have such a name: that of a file and of a folder is in UTF-8.
 fn is_named(path: &[u8], node: &Node) -> bool
-    ensures named { IsTrue result ↔ IsNamed path.now (node_of node.now) }
+    ensures named { IsTrue result ↔ HasTextPath path.now (node_of node.now) }
     ensures bytes { has_bytes (Some (node_of node.now)) ≡ true }
 {
     match node {

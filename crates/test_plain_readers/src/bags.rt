@@ -316,7 +316,7 @@ fn is_alike(stop: &impl Abort, alloc: Global, bag: u64, options: Options) -> boo
     found == plain_lines(stop, alloc, bag, options)
 }
 
-/// The lines of a text behind the first so many.
+/// The lines of a text behind the first `first`.
 fn lines_from(stop: &impl Abort, alloc: Global, lines: &str, first: usize) -> String {
     let mut text = String::new(alloc);
     for line in lines.lines().skip(first) {

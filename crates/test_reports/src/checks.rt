@@ -29,7 +29,7 @@ pub(crate) fn put_files(stop: &impl Abort, tree: &mut MemoryTree, files: Files) 
     }
 }
 
-/// Puts a file of so many times `a` at each of these paths.
+/// Puts a file of `size` letters `a` at each of these paths.
 pub(crate) fn put_letters(
     stop: &impl Abort,
     alloc: Global,

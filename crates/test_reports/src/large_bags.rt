@@ -6,7 +6,7 @@ use bag_store::MemoryTree;
 use std::alloc::Global;
 use std::process::Abort;
 
-/// A bag of so many numbers: the paths of its payload files, of which each has so many letters, and its tag files; how deep it
+/// A bag made by numbers up to `count`: the paths of its payload files, how many letters each has, and its tag files; how deep it
 /// is checked, how many files are opened, and what is written, with the exit status behind.
 struct Row {
     count: u64,
@@ -186,7 +186,7 @@ fn bag_of(stop: &impl Abort, alloc: Global, row: &Row) -> MemoryTree {
     tree
 }
 
-/// Whether a check of a row's bag opens so many files, and writes what the row says.
+/// Whether a check of a row's bag opens as many files, and writes what, the row says.
 fn is_right(stop: &impl Abort, alloc: Global, row: &Row) -> bool {
     let options = Options {
         depth: row.depth,

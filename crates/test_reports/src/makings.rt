@@ -188,7 +188,7 @@ fn a_step_that_is_refused(rt: HostRuntime) {
     }
 }
 
-/// A folder of so many numbers: its paths, and how many letters each file has; how many files the bag has by MD5 and SHA-1, and
+/// A folder made by numbers: its paths, and how many letters each file has; how many files the bag has by MD5 and SHA-1, and
 /// its manifests.
 struct Large {
     count: u64,
@@ -248,7 +248,7 @@ fn made_of(stop: &impl Abort, alloc: Global, row: &Large) -> Option<MemoryTree> 
     (opened(stop, alloc, &tree) == paths).then_some(tree)
 }
 
-/// Whether a tree has so many files, and among them a row's manifests.
+/// Whether a tree has as many files as a row says, and among them its manifests.
 fn has_manifests(stop: &impl Abort, alloc: Global, tree: &mut MemoryTree, row: &Large) -> bool {
     let listing = tree.list().expect(stop, "succeeds");
     let mut found = 0usize;

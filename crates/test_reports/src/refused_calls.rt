@@ -8,7 +8,7 @@ use std::alloc::Global;
 use std::io::{self, ErrorKind, Write};
 use std::process::Abort;
 
-/// Takes at most so many bytes a call, and so many in all, and then refuses.
+/// Takes at most `most` bytes a call, and `room` in all, and then refuses.
 #[derive(Drop)]
 struct Narrow {
     taken: Vec<u8>,
@@ -79,7 +79,7 @@ fn is_outcome(outcome: &Outcome, taken: &[u8], report: &str) -> bool {
     }
 }
 
-/// Whether an output with this much room takes so many bytes of the report, and that is told.
+/// Whether an output takes as many bytes of the report as it has room for, and that is told.
 fn is_cut(
     stop: &impl Abort,
     alloc: Global,

@@ -24,7 +24,7 @@ fn write_part(stop: &impl Abort, text: &mut String, part: &str, place: u64, coun
     }
 }
 
-/// The text of these parts, each of which has so many numbers or none.
+/// The text of these parts, each of which stands once, or once for each number.
 pub(crate) fn text_of(stop: &impl Abort, alloc: Global, parts: &[&str], count: u64) -> String {
     let mut text = String::new(alloc);
     for part in parts {

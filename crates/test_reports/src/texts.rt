@@ -39,7 +39,7 @@ fn keeps_items(rt: HostRuntime) {
     }
 }
 
-/// Whether a path is spelled with so many bytes, and its spelling is of it.
+/// Whether a path is spelled with `count` bytes, and its spelling is of it.
 fn is_spelled_in(stop: &impl Abort, alloc: Global, path: &str, count: usize) -> bool {
     let text = escape_path(alloc, path).expect(stop, "succeeds");
     text.len() == count

@@ -123,7 +123,7 @@ fn sums_of(
     digest_file(&mut tree, &FileEntry { path, size }, every_alg(), buffer)
 }
 
-/// The digests of a file of so many bytes are those of its bytes.
+/// The digests of a file of `size` bytes are those of its bytes.
 fn try_summed(stop: &impl Abort, alloc: Global, size: u32, buffer: &mut [u8])
     requires { 0 < length buffer.old }
 {

@@ -13,7 +13,7 @@ fn put(stop: &impl Abort, alloc: Global, tree: &mut MemoryTree, index: usize, by
     tree.put_file(path.as_str(), bytes).expect(stop, "succeeds")
 }
 
-/// A tree lists so many files of this size, and reads each, after they were put into it.
+/// A tree lists `count` files of this size, and reads each, after they were put into it.
 fn try_files(stop: &impl Abort, alloc: Global, count: usize, size: u32) {
     let bytes = bytes_of(stop, alloc, size);
     let mut tree = MemoryTree::new(alloc);

@@ -1,6 +1,6 @@
 use Rattle.std.proofs.Common.{take}
-use Rattle.bag_stages.specs.FileFaults.{HasListed}
+use Rattle.bag_stages.specs.FileFaults.{ListsPayloadManifest}
 use Rattle.bag_stages.proofs.parts.has_payload_manifest.Given as goal
 
 abbrev pub invariant-loop-entry : goal.invariant-loop-entry
-invariant-loop-entry l = HasListed (take l.entry-index l.files) → ⊥
+invariant-loop-entry l = ListsPayloadManifest (take l.entry-index l.files) → ⊥

@@ -3,7 +3,7 @@ use Rattle.std.proofs.lemmas.Result.{IfOk-weaker}
 use Rattle.bag_read.specs.declared.kind.Kind.TheVariants.{Payload}
 use Rattle.bag_text.specs.Order.{IsListOf}
 use Rattle.bag_facts.specs.FaultOrder.{fault_cmp}
-use Rattle.bag_stages.specs.CompletenessFaults.{IsMissing, IsUnlisted}
+use Rattle.bag_stages.specs.CompletenessFaults.{IsMissing, IsUnlistedFile}
 use Rattle.bag_walk.specs.Completeness.{IsAbove}
 use Rattle.bag_walk.proofs.StageSix.{none_wrong}
 use Rattle.bag_walk.proofs.UnitedLists.{cut_above, united}
@@ -20,8 +20,8 @@ returns c = IfOk-weaker c.merged.result _ _
     let alg = c.args.alg in
     let missing : IsListOf fault_cmp (IsAbove after (IsMissing bag Payload alg)) c.above-missing.result.items =
     rw c.above-missing.ensures (cut_above after (IsMissing bag Payload alg) c.in_ok-missing_of.field-0.items (c.in_ok-missing_of.ensures bag facts deep)) in
-    let unlisted : IsListOf fault_cmp (IsAbove after (IsUnlisted bag alg)) c.above-unlisted.result.items =
-    rw c.above-unlisted.ensures (cut_above after (IsUnlisted bag alg) c.in_ok-unlisted_of.field-0.items (c.in_ok-unlisted_of.ensures bag facts deep)) in
+    let unlisted : IsListOf fault_cmp (IsAbove after (IsUnlistedFile bag alg)) c.above-unlisted.result.items =
+    rw c.above-unlisted.ensures (cut_above after (IsUnlistedFile bag alg) c.in_ok-unlisted_of.field-0.items (c.in_ok-unlisted_of.ensures bag facts deep)) in
     rw (is missing.ascending unlisted.ascending)
-    (united after (IsMissing bag Payload alg) (IsUnlisted bag alg) c.above-missing.result.items c.above-unlisted.result.items missing unlisted))
+    (united after (IsMissing bag Payload alg) (IsUnlistedFile bag alg) c.above-missing.result.items c.above-unlisted.result.items missing unlisted))
     c.merged.ensures
