@@ -56,7 +56,7 @@ fn written_of(answer: Result<usize, DiskFault>, bytes: &[u8]) -> Result<usize, D
     }
 }
 
-/// Whether so many bytes are some of those that were to be written, where there were any.
+/// Whether `count` bytes are some of those that were to be written, where there were any.
 fn has_written(count: usize, bytes: &[u8]) -> bool
     ensures { IsTrue result → 0 < length bytes.now → 0 < count }
 {

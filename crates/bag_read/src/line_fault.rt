@@ -45,7 +45,7 @@ pub(crate) trait LineForm {
         ensures { IfOk result (λ read. read ≡ reads self.now number line.now) };
 }
 
-/// Reads each line of a text that isn't blank, in one pass. Room is taken at once for so many lines that read.
+/// Reads each line of a text that isn't blank, in one pass. Room is taken at once for `room` lines that read.
 pub(crate) fn read_lines<F: LineForm>(
     alloc: Global,
     form: &F,

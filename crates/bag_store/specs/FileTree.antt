@@ -14,8 +14,8 @@ use Rattle.bag_disk.specs.Refusal.{MeetsSpecial, MeetsUnnamed}
 abbrev pub disk_of : {D : Type 0} → FileTree D → D
 disk_of tree = tree.disk
 
--- what a tree of the files on a disk means, after so many failures beside those of the device, which the disk counts, where its
--- reads of the open file have given so many bytes, and its last call answered so
+-- what a tree of the files on a disk means, with this number of failures beside those of the device, which the disk counts, where
+-- its reads of the open file have given this number of bytes, and its last call answered this
 abbrev pub state_after : DiskState → ℕ → ℕ → Answer → TreeState
 state_after disk own given last = record {
   bag = bag_of disk.nodes;

@@ -14,7 +14,7 @@ tells_nothing Name = false
 tells_nothing Memory = true
 tells_nothing Device = true
 
--- what a disk means of which one call is refused by a fault, when so many failures were its own
+-- what a disk means of which one call is refused by a fault, when this number of failures was its own
 abbrev pub refusing : DiskState → DiskFault → ℕ → DiskState
 refusing state fault own = record {
   nodes = state.nodes;
