@@ -54,7 +54,7 @@ impl<D: Disk + Drop> Tree for FileTree<D> {
     ghost use Rattle.bag_tree.specs.Tree.{Keeps, MayRefuse, HasOpen, IsOpen, ReadsNext, answer_of_read};
     ghost use Rattle.bag_tree.specs.declared.answer.Answer.TheVariants.{Given, Refused};
     ghost use Rattle.bag_disk.specs.FolderWalk.{Contradiction};
-    ghost use Rattle.bag_store.specs.FileTree.{Tells, state_of};
+    ghost use Rattle.bag_store.specs.FileTree.{TellsOfDisk, state_of};
 
     ghost state = { λ tree. state_after (D.state tree.disk) tree.answered.failures tree.answered.given tree.answered.last };
 
@@ -69,7 +69,7 @@ impl<D: Disk + Drop> Tree for FileTree<D> {
         ensures last { MatchResult result (λ _. (state_of D.state self.new).last ≡ Given) (λ fault. (state_of D.state self.new).last ≡ Refused fault) }
         ensures honest { IfOk result (λ listing. IsTrue (state_of D.state self.old).honest → IsListingOf (state_of D.state self.old).bag listing) }
         ensures refused { IfErr result (MayRefuse ⊥ ⊥ (state_of D.state self.old) (state_of D.state self.new)) }
-        ensures cause { IfErr result (Tells (Contradiction (D.state (disk_of self.old))) (D.state (disk_of self.old)) (D.state (disk_of self.new))) }
+        ensures cause { IfErr result (TellsOfDisk (Contradiction (D.state (disk_of self.old))) (D.state (disk_of self.old)) (D.state (disk_of self.new))) }
     {
         match list_below(&mut self.disk, self.alloc) {
             Ok(listing) => {
@@ -92,7 +92,7 @@ impl<D: Disk + Drop> Tree for FileTree<D> {
         ensures closed { OnErr result ((state_of D.state self.new).rest ≡ None) }
         ensures not_opened { OnErr result ((state_of D.state self.new).openings ≡ (state_of D.state self.old).openings) }
         ensures refused { IfErr result (MayRefuse (file (state_of D.state self.old).bag path.now ≡ None) ⊥ (state_of D.state self.old) (state_of D.state self.new)) }
-        ensures cause { IfErr result (Tells ⊥ (D.state (disk_of self.old)) (D.state (disk_of self.new))) }
+        ensures cause { IfErr result (TellsOfDisk ⊥ (D.state (disk_of self.old)) (D.state (disk_of self.new))) }
     {
         self.disk.close();
         match open_at(&mut self.disk, path) {
@@ -116,7 +116,7 @@ impl<D: Disk + Drop> Tree for FileTree<D> {
         ensures honest { IfOk result (λ n. IsTrue (state_of D.state self.old).honest → ReadsNext (state_of D.state self.old).rest (state_of D.state self.new).rest n buffer.new) }
         ensures same { OnErr result ((state_of D.state self.new).rest ≡ (state_of D.state self.old).rest) }
         ensures refused { IfErr result (MayRefuse ⊥ ((state_of D.state self.old).rest ≡ None) (state_of D.state self.old) (state_of D.state self.new)) }
-        ensures cause { IfErr result (Tells ⊥ (D.state (disk_of self.old)) (D.state (disk_of self.new))) }
+        ensures cause { IfErr result (TellsOfDisk ⊥ (D.state (disk_of self.old)) (D.state (disk_of self.new))) }
     {
         if !self.disk.is_open() {
             return Err(self.answered.note(TreeFault::NoneOpen));
@@ -140,7 +140,7 @@ impl<D: WritableDisk + Drop> WriteTree for FileTree<D> {
     ghost use Rattle.bag_tree.specs.Changes.{HasBegun, HasChanged, IsPossible, IsSame, MayRefuseChange};
     ghost use Rattle.bag_tree.specs.Steps as step;
     ghost use Rattle.bag_store.specs.Changing.{HasFolderInTheWay};
-    ghost use Rattle.bag_store.specs.FileTree.{Tells, state_of};
+    ghost use Rattle.bag_store.specs.FileTree.{TellsOfDisk, state_of};
 
     fn make_folder(&mut self, name: &str) -> Result<(), TreeFault>
         requires { IsTrue (is_base_name name.now) }
@@ -150,7 +150,7 @@ impl<D: WritableDisk + Drop> WriteTree for FileTree<D> {
         ensures last { MatchResult result (λ _. (state_of D.state self.new).last ≡ Given) (λ fault. (state_of D.state self.new).last ≡ Refused fault) }
         ensures same { OnErr result (IsSame (state_of D.state self.old) (state_of D.state self.new)) }
         ensures refused { IfErr result (MayRefuseChange ⊥ (step.is_taken (state_of D.state self.old).bag name.now ≡ true) (state_of D.state self.old) (state_of D.state self.new)) }
-        ensures cause { IfErr result (Tells ⊥ (D.state (disk_of self.old)) (D.state (disk_of self.new))) }
+        ensures cause { IfErr result (TellsOfDisk ⊥ (D.state (disk_of self.old)) (D.state (disk_of self.new))) }
     {
         match changing::make_folder(&mut self.disk, name) {
             Ok(()) => {
@@ -171,7 +171,7 @@ impl<D: WritableDisk + Drop> WriteTree for FileTree<D> {
         ensures last { MatchResult result (λ _. (state_of D.state self.new).last ≡ Given) (λ fault. (state_of D.state self.new).last ≡ Refused fault) }
         ensures same { OnErr result (IsSame (state_of D.state self.old) (state_of D.state self.new)) }
         ensures refused { IfErr result (MayRefuseChange (step.lacks_source (state_of D.state self.old).bag top.now folder.now ≡ true) (step.has_within (state_of D.state self.old).bag (under folder.now top.now) ≡ true) (state_of D.state self.old) (state_of D.state self.new)) }
-        ensures cause { IfErr result (Tells (HasFolderInTheWay (D.state (disk_of self.old)) top.now folder.now) (D.state (disk_of self.old)) (D.state (disk_of self.new))) }
+        ensures cause { IfErr result (TellsOfDisk (HasFolderInTheWay (D.state (disk_of self.old)) top.now folder.now) (D.state (disk_of self.old)) (D.state (disk_of self.new))) }
     {
         match changing::move_in(&mut self.disk, self.alloc, top, folder) {
             Ok(()) => {
@@ -191,7 +191,7 @@ impl<D: WritableDisk + Drop> WriteTree for FileTree<D> {
         ensures last { MatchResult result (λ _. (state_of D.state self.new).last ≡ Given) (λ fault. (state_of D.state self.new).last ≡ Refused fault) }
         ensures same { OnErr result (IsSame (state_of D.state self.old) (state_of D.state self.new)) }
         ensures refused { IfErr result (MayRefuseChange (step.lacks_folder (state_of D.state self.old).bag from.now ≡ true) (step.is_taken (state_of D.state self.old).bag to.now ≡ true) (state_of D.state self.old) (state_of D.state self.new)) }
-        ensures cause { IfErr result (Tells ⊥ (D.state (disk_of self.old)) (D.state (disk_of self.new))) }
+        ensures cause { IfErr result (TellsOfDisk ⊥ (D.state (disk_of self.old)) (D.state (disk_of self.new))) }
     {
         match changing::rename_folder(&mut self.disk, from, to) {
             Ok(()) => {
@@ -212,7 +212,7 @@ impl<D: WritableDisk + Drop> WriteTree for FileTree<D> {
         ensures last { MatchResult result (λ _. (state_of D.state self.new).last ≡ Given) (λ fault. (state_of D.state self.new).last ≡ Refused fault) }
         ensures begun { OnErr result (IsSame (state_of D.state self.old) (state_of D.state self.new) ⊎ HasBegun name.now bytes.now (state_of D.state self.old) (state_of D.state self.new)) }
         ensures refused { IfErr result (MayRefuseChange ⊥ (step.is_taken (state_of D.state self.old).bag name.now ≡ true) (state_of D.state self.old) (state_of D.state self.new)) }
-        ensures cause { IfErr result (Tells ⊥ (D.state (disk_of self.old)) (D.state (disk_of self.new))) }
+        ensures cause { IfErr result (TellsOfDisk ⊥ (D.state (disk_of self.old)) (D.state (disk_of self.new))) }
         ensures kept { OnOk result (D.written (disk_of self.new) ≡ None) }
         ensures names_kept { OnOk result (IsTrue (D.is_kept (disk_of self.new))) }
     {
