@@ -1,5 +1,5 @@
 -- What is opened, seen and left behind when one source is filled, and then another.
-use Rattle.std.proofs.Common.{Bool, true, false, Option, None, Some, is_some, Bor, ◌≡◌, ◌++◌, ◌∷◌, inl, inr, ℕ, List, [], Contains, refl, ap, sym, ◌∙◌, subst, append_assoc, append-nil}
+use Rattle.std.proofs.Common.{Bool, true, false, Option, None, Some, is_some, Bor, ◌≡◌, ◌≢◌, ◌⊎◌, ◌++◌, ◌∷◌, inl, inr, ℕ, List, [], Contains, refl, ap, sym, ◌∙◌, subst, append_assoc, append-nil}
 use Rattle.std.specs.Prelude.{Result, Ok, Err, IfErr, OnOk, OnErr}
 use Rattle.std.proofs.lemmas.List.{append_cancel_left}
 use Rattle.bag_text.proofs.ListOf.{contains_behind, contains_first, contains_front, contains_back, contains_either, contains_cases, contains_nothing}
@@ -118,14 +118,18 @@ module _ (fs gs : List Fault) (old new : TreeState) (xs : List (List ℕ)) (apar
     | inr b ↦ apart f path b (within opened e path d)
   ]
 
-  -- and then it stopped
+  -- and then it stopped at one of its files
+  reached_listed : (stop : Stop) → IsOutOfMemory stop ⊎ IsReached xs old new stop.path → stop.path ≢ [] → Contains xs stop.path
+  reached_listed stop (inl memory) some = absurd (some memory.1)
+  reached_listed stop (inr (passed, rest, cut, refused)) some =
+      subst (λ l. Contains l stop.path) (sym cut) (contains_back passed (stop.path ∷ rest) stop.path (contains_first stop.path rest))
+
   pub waits_first : (stop : Stop) → IsOutOfMemory stop ⊎ IsReached xs old new stop.path → NoneWaits fs stop.path → NoneWaits (fs ++ gs) stop.path
-  waits_first stop reached waits some f path c d = elim (contains_either fs gs f c) [
-    | inl a ↦ waits some f path a d
-    | inr b ↦ elim reached [
-      | inl memory ↦ absurd (some memory.1)
-      | inr (passed, rest, cut, refused) ↦ apart f path b
-          (subst (λ l. Contains l path) (sym cut) (contains_back passed (stop.path ∷ rest) path (contains_front (stop.path ∷ []) rest path d)))
+  waits_first stop reached waits some f path c d before = elim (contains_either fs gs f c) [
+    | inl a ↦ waits some f path a d before
+    | inr b ↦ elim (contains_cases stop.path [] path d) [
+      | inl e ↦ apart f path b (subst (λ p. Contains xs p) e (reached_listed stop reached some)) before
+      | inr none ↦ absurd (contains_nothing path none)
     ]
   ]
 
