@@ -1,5 +1,5 @@
 -- What is opened, seen and left behind when one source is filled, and then another.
-use Rattle.std.proofs.Common.{Bool, true, false, Option, None, Some, is_some, Bor, ◌≡◌, ◌≢◌, ◌++◌, ◌∷◌, inl, inr, ℕ, List, [], Contains, refl, ap, sym, ◌∙◌, subst, append_assoc, append-nil}
+use Rattle.std.proofs.Common.{Bool, true, false, Option, None, Some, is_some, Bor, ◌≡◌, ◌≢◌, ◌⊎◌, ◌++◌, ◌∷◌, inl, inr, ℕ, List, [], Contains, refl, ap, sym, ◌∙◌, subst, append_assoc, append-nil}
 use Rattle.std.specs.Prelude.{Result, Ok, Err, IfErr, OnOk, OnErr}
 use Rattle.std.proofs.lemmas.List.{append_cancel_left}
 use Rattle.bag_text.proofs.ListOf.{contains_behind, contains_first, contains_front, contains_back, contains_either, contains_cases, contains_nothing}

@@ -2,7 +2,7 @@ use Rattle.std.proofs.Common.{◌++◌, ◌∙◌, [], inl, inr, ap, sym, subst}
 use Rattle.std.proofs.lemmas.Result.{on_ok_weaker, on_err_weaker, IfErr-weaker}
 use Rattle.bag_tree.proofs.Calm.{nothing_then}
 use Rattle.bag_walk.specs.Openings.{Opens}
-use Rattle.bag_walk.proofs.Filling.{again_both, again_within, behind_both, behind_first, below_same, first_front, none_before, none_left, none_shown, opened_by, opens_within, reached_both, reached_front, sees_first, sees_later, sees_second, some_shown, stop_front, stop_later, anyway_front, anyway_in_turn, waits_first}
+use Rattle.bag_walk.proofs.Filling.{again_both, again_within, opens_both, behind_both, behind_first, below_same, first_front, none_before, none_left, none_shown, opened_by, opens_within, reached_both, reached_front, sees_first, sees_later, sees_second, some_shown, stop_front, stop_later, anyway_front, anyway_in_turn, waits_first}
 use Rattle.bag_walk.proofs.Summing.{waits_found}
 use Rattle.bag_walk.proofs.then.ThenSource.fill.Goals as goal
 
@@ -222,3 +222,16 @@ returns-clause-stop g c = rw c.if-not-self.false (
     stop_later (state c.args.tree.now) (state c.fill-2.new.tree) (state c.fill-3.new.tree) (g.B.Source.todo c.fill-3.new.self) stop keeps c.in-Ok.ensures.calm
     (stops (λ honest. subst (λ bag. g.B.Source.is_of bag second) (sym keeps.bag) (of (sym keeps.honest ∙ honest)).1)))
     c.fill-3.ensures.stop)
+
+pub returns-clause-opens : goal.returns-clause-opens
+returns-clause-opens g c = rw c.if-not-self.false (
+    let state = g.T.Tree.state in
+    let old = state c.args.tree.now in
+    let mid = state c.fill-2.new.tree in
+    let xs = g.A.Source.todo c.args.self.now.first in
+    let none = none_shown c.peek.result (g.A.Source.found c.fill-2.new.self) c.is_some.result c.peek.ensures c.is_some.ensures c.if-is_some.false in
+    on_ok_weaker c.fill-3.result
+    (λ opens ordered.
+    let first : Opens xs [] old mid = subst (λ l. Opens xs l old mid) (c.in-Ok.ensures.ended ordered.0 none) (c.in-Ok.ensures.opens ordered.0) in
+    opens_both old mid (state c.fill-3.new.tree) xs (g.B.Source.todo c.args.self.now.second) (g.B.Source.todo c.fill-3.new.self) first (opens ordered.1))
+    c.fill-3.ensures.opens)
