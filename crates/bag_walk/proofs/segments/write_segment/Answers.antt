@@ -1,11 +1,13 @@
-use Rattle.std.proofs.Common.{◌+◌, inr, refl, arith}
+use Rattle.std.proofs.Common.{◌≡◌, ◌+◌, inr, refl, subst, arith, string_bytes}
 use Rattle.std.specs.Option.{option_copied}
 use Rattle.bag_tree.proofs.Calm.{nothing_asked}
 use Rattle.bag_facts.proofs.Opens.{opens_none as reads_none}
+use Rattle.bag_walk.specs.Lines.{IsLastLine}
 use Rattle.bag_walk.specs.Segments.{cursor_behind}
 use Rattle.bag_walk.proofs.Running.{memory_may_stop, stop_of_reading}
 use Rattle.bag_walk.proofs.SegmentOpenings.{opens_no_payload}
 use Rattle.bag_walk.proofs.SegmentStart.{goes_on, opens_behind, stop_of_started}
+use Rattle.bag_walk.proofs.Writing.{Appends-nil}
 use Rattle.bag_walk.proofs.segments.write_segment.Goals as goal
 
 pub returns-in-Ok-start-clause-stop : goal.returns-in-Ok-start-clause-stop
@@ -50,3 +52,11 @@ returns-then-limit-eq0-clause-opens g c = λ honest report is n within was liste
 pub returns-in_default-clause-stop : goal.returns-in_default-clause-stop
 returns-in_default-clause-stop g c =
     let state = g.T.Tree.state c.args.tree in memory_may_stop c.args.options state state c.out_of_memory.result c.out_of_memory.ensures (inr (nothing_asked state))
+
+pub returns-in-Err-clause-segment : goal.returns-in-Err-clause-segment
+returns-in-Err-clause-segment g c = λ honest report is n within was.
+    let same : n ≡ n + 0 = omega arith in
+    record {
+      writes = record { ends = (omega (arith, c.if-limit-eq0.false), omega arith); wrote = Appends-nil (g.W.Out.taken c.args.out.now) };
+      last = subst (λ k. IsLastLine (cursor_behind k report) (string_bytes c.args.lines.now.last)) same was;
+    }
