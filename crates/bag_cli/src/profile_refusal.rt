@@ -4,7 +4,7 @@ ghost use Rattle.bag_profile.specs.declared.fault.ProfileFault.TheVariants.{Memo
 ghost use Rattle.bag_walk.specs.Write.{Writes};
 ghost use Rattle.bag_cli.specs.ProfileRefusal as spec;
 ghost use Rattle.bag_cli.specs.Saying.{Says};
-ghost use Rattle.bag_cli.specs.declared.profile_refusal.ProfileRefusal.TheVariants.{Refused};
+ghost use Rattle.bag_cli.specs.declared.profile_refusal.ProfileRefusal.TheVariants as why;
 
 use crate::ReadFault;
 use crate::saying::{say_memory, say_on};
@@ -50,7 +50,7 @@ pub fn refuse_profile<E: Out>(refusal: ProfileRefusal, err: &mut E) -> u8
 
 /// Says on `err` why a profile is refused.
 fn say_fault<E: Out>(fault: ProfileFault, err: &mut E)
-    ensures { Says (E.taken err.old) (E.taken err.new) (E.has_refused err.new) (spec.refusal_line (Refused fault)) }
+    ensures { Says (E.taken err.old) (E.taken err.new) (E.has_refused err.new) (spec.refusal_line (why.Refused fault)) }
 {
     match fault {
         ProfileFault::NotJson => say_reason(said::NOT_JSON, err),
@@ -89,7 +89,7 @@ impl From<ReadFault> for ProfileRefusal {
 }
 
 impl From<ProfileFault> for ProfileRefusal {
-    ghost from_gives = { λ fault refusal. refusal ≡ Refused fault };
+    ghost from_gives = { λ fault refusal. refusal ≡ why.Refused fault };
 
     fn from(fault: ProfileFault) -> ProfileRefusal {
         ProfileRefusal::Refused(fault)

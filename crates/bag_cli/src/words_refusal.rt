@@ -15,20 +15,24 @@ pub fn refuse_words<E: Out>(usage: &Usage, err: &mut E) -> u8
     ensures said { Says (E.taken err.old) (E.taken err.new) (E.has_refused err.new) (usage_line usage.now) }
 {
     match usage {
-        Usage::Refused(text) => {
-            let text = text.as_str();
-            say_on(err, &[text, line_end(text)]);
-        }
-        Usage::NeedsValidate(option) => {
-            let name = option.name();
-            say_on(err, &[said::PROGRAM, name, said::NEEDS_VALIDATE, "\n"]);
-        }
+        Usage::Refused(text) => say_ended(text.as_str(), err),
+        Usage::NeedsValidate(option) => say_on(
+            err,
+            &[said::PROGRAM, option.name(), said::NEEDS_VALIDATE, "\n"],
+        ),
         Usage::TwoDepths => say_on(err, &[said::PROGRAM, said::TWO_DEPTHS, "\n"]),
         Usage::AfterSeveral => say_on(err, &[said::PROGRAM, said::AFTER_SEVERAL, "\n"]),
         Usage::AfterNotALine => say_on(err, &[said::PROGRAM, said::AFTER_NOT_A_LINE, "\n"]),
         Usage::Memory => say_memory(err),
     }
     usage.status()
+}
+
+/// Says a text with a line end at its end.
+fn say_ended<E: Out>(text: &str, err: &mut E)
+    ensures { Says (E.taken err.old) (E.taken err.new) (E.has_refused err.new) (ended text.now) }
+{
+    say_on(err, &[text, line_end(text)]);
 }
 
 /// The line end that a text lacks at its end, if it does.

@@ -18,4 +18,4 @@ returns-in-Ok g c =
     (done.0, done.1, inr (subst (λ info. made info plan.directories) same (subst (made c.deref.result.now) c.as_slice-directories.ensures done.2)))
 
 pub returns-in-Err : goal.returns-in-Err
-returns-in-Err g c = ([], sym (append-nil (visits_of c.args.visits.now)), inl (refl, refl, refl, λ none. c.in-Err.ensures (c.as_slice.ensures ∙ none)))
+returns-in-Err g c = ([], sym (append-nil (visits_of c.args.visits.now)), inl (refl, refl, refl, λ none. c.in-Err.ensures.some (c.as_slice.ensures ∙ none)))
