@@ -41,11 +41,18 @@ pub fn refuse_profile<E: Out>(refusal: ProfileRefusal, err: &mut E) -> u8
     ensures status { result ≡ spec.refusal_status refusal }
     ensures said { Says (E.taken err.old) (E.taken err.new) (E.has_refused err.new) (spec.refusal_line refusal) }
 {
+    say_refusal(refusal, err);
+    refusal.status()
+}
+
+/// Says on `err` why there is no profile.
+fn say_refusal<E: Out>(refusal: ProfileRefusal, err: &mut E)
+    ensures { Says (E.taken err.old) (E.taken err.new) (E.has_refused err.new) (spec.refusal_line refusal) }
+{
     match refusal {
         ProfileRefusal::Unread => say_on(err, &[said::PROGRAM, said::PROFILE_UNREAD, "\n"]),
         ProfileRefusal::Refused(fault) => say_fault(fault, err),
     }
-    refusal.status()
 }
 
 /// Says on `err` why a profile is refused.

@@ -1,5 +1,5 @@
 //! What is said where the words of a command line are refused.
-ghost use Rattle.std.specs.Prelude.{◌≡◌, ◌++◌};
+ghost use Rattle.std.specs.Prelude.{◌≡◌};
 ghost use Rattle.bag_arguments.specs.Plan.{usage_status};
 ghost use Rattle.bag_cli.specs.Saying.{Says};
 ghost use Rattle.bag_cli.specs.WordsRefusal.{ended, usage_line};
@@ -14,6 +14,14 @@ pub fn refuse_words<E: Out>(usage: &Usage, err: &mut E) -> u8
     ensures status { result ≡ usage_status usage.now }
     ensures said { Says (E.taken err.old) (E.taken err.new) (E.has_refused err.new) (usage_line usage.now) }
 {
+    say_usage(usage, err);
+    usage.status()
+}
+
+/// Says on `err` why the words are refused.
+fn say_usage<E: Out>(usage: &Usage, err: &mut E)
+    ensures { Says (E.taken err.old) (E.taken err.new) (E.has_refused err.new) (usage_line usage.now) }
+{
     match usage {
         Usage::Refused(text) => say_ended(text.as_str(), err),
         Usage::NeedsValidate(option) => say_on(
@@ -25,23 +33,15 @@ pub fn refuse_words<E: Out>(usage: &Usage, err: &mut E) -> u8
         Usage::AfterNotALine => say_on(err, &[said::PROGRAM, said::AFTER_NOT_A_LINE, "\n"]),
         Usage::Memory => say_memory(err),
     }
-    usage.status()
 }
 
 /// Says a text with a line end at its end.
 fn say_ended<E: Out>(text: &str, err: &mut E)
     ensures { Says (E.taken err.old) (E.taken err.new) (E.has_refused err.new) (ended text.now) }
 {
-    say_on(err, &[text, line_end(text)]);
-}
-
-/// The line end that a text lacks at its end, if it does.
-fn line_end(text: &str) -> &'static str
-    ensures { text.now ++ result.now ≡ ended text.now }
-{
     if text.as_bytes().ends_with(b"\n") {
-        ""
+        say_on(err, &[text]);
     } else {
-        "\n"
+        say_on(err, &[text, "\n"]);
     }
 }
