@@ -59,7 +59,7 @@ struct Enlarged<D> {
 }
 
 /// What is said of a path of which this was said.
-fn enlarged(path: &str, entry: Entry) -> Entry {
+fn enlarged_entry(path: &str, entry: Entry) -> Entry {
     match entry {
         Entry::File(_) if is_payload(path) => Entry::File(u64::MAX),
         entry => entry,
@@ -73,14 +73,14 @@ impl<D: Disk + Drop> Disk for Enlarged<D> {
 
     fn entry_at(&mut self, path: &str) -> Result<Entry, DiskFault> {
         match self.disk.entry_at(path) {
-            Ok(entry) => Ok(enlarged(path, entry)),
+            Ok(entry) => Ok(enlarged_entry(path, entry)),
             Err(fault) => Err(fault),
         }
     }
 
     fn named_entry(&mut self, path: &str) -> Result<Entry, DiskFault> {
         match self.disk.named_entry(path) {
-            Ok(entry) => Ok(enlarged(path, entry)),
+            Ok(entry) => Ok(enlarged_entry(path, entry)),
             Err(fault) => Err(fault),
         }
     }
