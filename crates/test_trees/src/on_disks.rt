@@ -61,7 +61,7 @@ fn steps_change_a_disk_in_memory(rt: HostRuntime) {
     }
 }
 
-/// Each fault of a disk, and how a step is refused by it.
+/// Each fault of a disk, and how a step is refused by it, but for what `refusal_of` says.
 const FAULTS: &[(DiskFault, TreeFault)] = &[
     (DiskFault::NotFound, TreeFault::Device),
     (DiskFault::Exists, TreeFault::Device),
@@ -89,15 +89,24 @@ const REFUSED: &[(Step, u64, &str)] = &[
     ),
 ];
 
+/// How a step is refused by a fault of its call of this number: the call that makes something is believed that something is there.
+fn refusal_of(step: Step, number: u64, (fault, wanted): (DiskFault, TreeFault)) -> TreeFault {
+    match (step, number, fault) {
+        (Step::MakeFolder(_) | Step::Create(_, _), 0, DiskFault::Exists) => TreeFault::Exists,
+        _ => wanted,
+    }
+}
+
 /// A step on the sample is refused so where a call is refused by a fault, and this is held then.
 fn try_refused(
     stop: &impl Abort,
     alloc: Global,
     (step, number, after): (Step, u64, &str),
-    (fault, wanted): (DiskFault, TreeFault),
+    row: (DiskFault, TreeFault),
 ) {
-    let disk = RefusingDisk::over(disk(stop, alloc, SAMPLE), Call::Numbered(number), fault);
+    let disk = RefusingDisk::over(disk(stop, alloc, SAMPLE), Call::Numbered(number), row.0);
     let mut tree = FileTree::over(alloc, disk);
+    let wanted = refusal_of(step, number, row);
     assert!(stop; take(&mut tree, step) == Err(wanted), "{after}");
     assert!(stop;
         contents(stop, alloc, &mut tree).as_str() == after,
