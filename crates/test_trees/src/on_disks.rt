@@ -89,10 +89,10 @@ const REFUSED: &[(Step, u64, &str)] = &[
     ),
 ];
 
-/// How a step is refused by a fault of its call of this number: the call that makes something is believed that something is there.
+/// How a step is refused by a fault of its call of this number: the one that creates a file is believed that something is there.
 fn refusal_of(step: Step, number: u64, (fault, wanted): (DiskFault, TreeFault)) -> TreeFault {
     match (step, number, fault) {
-        (Step::MakeFolder(_) | Step::Create(_, _), 0, DiskFault::Exists) => TreeFault::Exists,
+        (Step::Create(_, _), 0, DiskFault::Exists) => TreeFault::Exists,
         _ => wanted,
     }
 }
