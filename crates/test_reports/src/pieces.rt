@@ -42,20 +42,22 @@ fn is_making_refused(stop: &impl Abort, alloc: Global, size: usize, call: u64) -
 
 /// How many calls of its tree a check of a payload file of this size makes.
 fn calls_of_check(stop: &impl Abort, alloc: Global, size: usize) -> u64 {
-    let mut calls = 0u64;
-    while calls < 100 && is_check_refused(stop, alloc, size, calls.wrapping_add(1)) {
-        calls = calls.wrapping_add(1);
+    for calls in 0..100 {
+        if !is_check_refused(stop, alloc, size, calls + 1) {
+            return calls;
+        }
     }
-    calls
+    100
 }
 
 /// How many calls of its tree a making of a folder with a file of this size makes.
 fn calls_of_making(stop: &impl Abort, alloc: Global, size: usize) -> u64 {
-    let mut calls = 0u64;
-    while calls < 100 && is_making_refused(stop, alloc, size, calls.wrapping_add(1)) {
-        calls = calls.wrapping_add(1);
+    for calls in 0..100 {
+        if !is_making_refused(stop, alloc, size, calls + 1) {
+            return calls;
+        }
     }
-    calls
+    100
 }
 
 /// Sizes of files, and in how many pieces more than a byte each is read.
