@@ -9,15 +9,15 @@ use Rattle.bag_text.proofs.ListOf.{contains_either, contains_cases, contains_not
 use Rattle.bag_tree.specs.Bag.{HasFile, file}
 use Rattle.bag_tree.specs.Calm.{RefusesNothing}
 use Rattle.bag_tree.specs.Listing.{IsListingOf, size_at}
-use Rattle.bag_tree.specs.Tree.{TreeState, Keeps, OpensAtMost, IsEntryOf, FailsOver, MayRefuse, CameFromTree}
+use Rattle.bag_tree.specs.Tree.{TreeState, Keeps, OpensAtMost, IsEntryOf, FailsOver, MayRefuse}
 use Rattle.bag_tree.specs.Whole.{IsRefusedAt}
-use Rattle.bag_tree.specs.declared.answer.Answer.TheVariants.{Refused}
+use Rattle.bag_tree.specs.declared.answer.Answer.TheVariants.{Unlisted}
 use Rattle.bag_tree.specs.declared.listing.FileEntry.{FileEntry}
 use Rattle.bag_tree.specs.declared.listing.Listing.{Listing}
 use Rattle.bag_tree.specs.declared.tree_fault.Stop.{Stop}
 use Rattle.bag_tree.specs.declared.tree_fault.TreeFault.{TreeFault}
 use Rattle.bag_tree.specs.declared.tree_fault.TreeFault.TheVariants.{Device, Special, Name, NotFound, TooMany, Changed, NoneOpen, Memory, Exists}
-use Rattle.bag_tree.proofs.Calm.{memory_then, nothing_asked, nothing_then}
+use Rattle.bag_tree.proofs.Calm.{memory_then, memory_unlisted, nothing_asked, nothing_then}
 use Rattle.bag_facts.specs.Stops.{MayRefuseFacts, MayStopReading}
 use Rattle.bag_facts.specs.TagReader.{AreListed, AreTexts, IsWhole, ReadsWanted, StopsReading, read_path}
 use Rattle.bag_facts.specs.Wanted.{IsWanted, AreWanted, OpensFirst, OpensUpTo, paths_of}
@@ -25,6 +25,7 @@ use Rattle.bag_facts.specs.declared.options.Options.{Options}
 use Rattle.bag_facts.specs.declared.tag_reader.TagBytes.{TagBytes}
 use Rattle.bag_facts.proofs.ListedFiles.{own_size}
 use Rattle.bag_facts.proofs.Mapped.{take_one_more, taken_cases}
+use Rattle.bag_facts.proofs.Refusing.{wanted_some}
 use Rattle.bag_facts.proofs.WantedPaths.{wanted, are_wanted, none_wanted, wanted_joined, one_wanted, one_unwanted}
 
 pub keeps_on : (old mid new : TreeState) → Keeps old mid → Keeps mid new → Keeps old new
@@ -201,22 +202,22 @@ pub all_texts : (options : Options) (files : List FileEntry) (count : ℕ) (old 
     → ReadsSome options files count old new read → AreTexts files
 all_texts options files count old new read le h = subst AreTexts (take_all count files le) h.texts
 
-listing_refusal : (old new : TreeState) (cause : TreeFault) → MayRefuse ⊥ ⊥ old new cause → new.last ≡ Refused cause → MayRefuseFacts old new cause × CameFromTree new cause
-listing_refusal old new Changed h last = absurd h
-listing_refusal old new NoneOpen h last = absurd h
-listing_refusal old new Memory h last = (tt, tt)
-listing_refusal old new other h last = (h, last)
+pub listing_refusal : (old new : TreeState) (cause : TreeFault) → MayRefuse ⊥ ⊥ old new cause → MayRefuseFacts old new cause
+listing_refusal old new Changed h = absurd h
+listing_refusal old new NoneOpen h = absurd h
+listing_refusal old new Memory h = tt
+listing_refusal old new other h = h
 
 -- a refused listing stops reading the facts
 pub listing_stop : (options : Options) (old new : TreeState) (cause : TreeFault) (stop : Stop) → stop.cause ≡ cause → stop.path ≡ [] → new.openings ≡ old.openings → new.rest ≡ old.rest
-    → MayRefuse ⊥ ⊥ old new cause → new.last ≡ Refused cause → MayStopReading options old new stop
+    → MayRefuse ⊥ ⊥ old new cause → new.last ≡ Unlisted cause → MayStopReading options old new stop
 listing_stop options old new cause stop same none unopened left h last =
-    let both = listing_refusal old new cause h last in record {
-      cause = subst (MayRefuseFacts old new) (sym same) both.0;
-      answered = subst (CameFromTree new) (sym same) both.1;
-      path = inr (inl (none, unopened, left, subst (MayRefuse ⊥ ⊥ old new) (sym same) h));
+    let told : new.last ≡ Unlisted stop.cause = last ∙ ap Unlisted (sym same) in record {
+      cause = subst (MayRefuseFacts old new) (sym same) (listing_refusal old new cause h);
+      answered = inr (inl (none, told));
+      path = inr (inl (none, unopened, left, told, subst (MayRefuse ⊥ ⊥ old new) (sym same) h));
       memory = λ _. none;
-      wanting = λ m. inl (last ∙ ap Refused (sym same ∙ m));
+      wanting = λ m. memory_unlisted old new stop.cause told m;
     }
 
 -- what stops reading after a listing stops reading the facts
@@ -227,7 +228,7 @@ facts_stop options listing files old mid new stop k calm e listed stops =
     λ honest. subst (AreListed mid.bag) (sym e) (subst (λ bag. AreListed bag listing.files) (sym k.bag) (listed (sym k.honest ∙ honest)).files) in
     let h = later_stop options old mid new stop k calm (stops are) in record {
       cause = h.cause;
-      answered = h.answered;
+      answered = elim h.path [ inl none ↦ inl none | inr at ↦ inr (inr (wanted_some options stop.path at.0, h.answered)) ];
       path = elim h.path [ inl none ↦ inl none | inr at ↦ inr (inr at) ];
       memory = h.memory;
       wanting = h.wanting;

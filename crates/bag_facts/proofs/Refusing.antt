@@ -1,15 +1,19 @@
 -- The stop of a file that was refused, and for want of memory.
-use Rattle.std.proofs.Common.{◌≡◌, ◌≢◌, ◌∙◌, inl, inr, ℕ, List, length, Option, None, Some, true, is_some, IsTrue, refl, sym, ap, subst}
+use Rattle.std.proofs.Common.{◌≡◌, ◌≢◌, ◌∙◌, inl, inr, ℕ, List, [], length, Option, None, Some, true, false, is_some, IsTrue, refl, sym, ap, subst}
+use Rattle.std.proofs.lemmas.Bool.{and_parts}
 use Rattle.std.specs.Option.{option_map}
+use Rattle.bag_text.specs.Path.{is_path}
+use Rattle.bag_read.proofs.TagPaths.{in_base}
 use Rattle.bag_tree.specs.Bag.{HasFile, file}
 use Rattle.bag_tree.specs.Calm.{MayTellMemory, RefusesNothing}
-use Rattle.bag_tree.specs.Tree.{TreeState, CameFromTree, IsEntryOf}
+use Rattle.bag_tree.specs.Tree.{TreeState, CameFromFile, IsEntryOf}
 use Rattle.bag_tree.specs.Whole.{MayRefuseWhole}
 use Rattle.bag_tree.specs.declared.answer.Answer.TheVariants.{Refused}
 use Rattle.bag_tree.specs.declared.listing.FileEntry.{FileEntry}
 use Rattle.bag_tree.specs.declared.tree_fault.Stop.{Stop}
 use Rattle.bag_tree.specs.declared.tree_fault.TreeFault.{TreeFault}
 use Rattle.bag_tree.specs.declared.tree_fault.TreeFault.TheVariants.{NotFound, Changed, NoneOpen, Memory}
+use Rattle.bag_tree.proofs.Calm.{memory_refused}
 use Rattle.bag_facts.specs.Stops.{IsOutOfMemory, IsRefusalOf, MayRefuseFacts, MayStopReading}
 use Rattle.bag_facts.specs.TagReader.{StopsReading}
 use Rattle.bag_facts.specs.Wanted.{IsWanted}
@@ -24,14 +28,21 @@ refused_file old new entry NoneOpen is (closed, came) = absurd closed
 refused_file old new entry Memory is h = tt
 refused_file old new entry other is h = h.0
 
-pub came_from : (old new : TreeState) (entry : FileEntry) (cause : TreeFault) → MayRefuseWhole old new entry cause → CameFromTree new cause
+pub came_from : (old new : TreeState) (entry : FileEntry) (cause : TreeFault) → MayRefuseWhole old new entry cause → CameFromFile new cause
 came_from old new entry Changed (size, other) = (entry.size, size)
 came_from old new entry Memory h = tt
 came_from old new entry other h = h.1
 
 -- want of memory was the tree's own
 pub told_memory : (old new : TreeState) (cause : TreeFault) → (cause ≢ Changed → new.last ≡ Refused cause) → cause ≡ Memory → MayTellMemory old new
-told_memory old new cause answered is = inl (answered (λ changed. let clash : Memory ≡ Changed = sym is ∙ changed in cc) ∙ ap Refused is)
+told_memory old new cause answered is = memory_refused old new cause (answered (λ changed. let clash : Memory ≡ Changed = sym is ∙ changed in cc)) is
+
+pub path_some : (path : List ℕ) → is_path path ≡ true → path ≢ []
+path_some path is none = let clash : false ≡ true = sym (ap is_path none) ∙ is in cc
+
+-- the path of a tag file isn't empty
+pub wanted_some : (options : Options) (path : List ℕ) → IsWanted options path → path ≢ []
+wanted_some options path (name, at, wants) = path_some path (subst (λ p. is_path p ≡ true) at (and_parts _ _ (in_base name)).0)
 
 -- a listed file of a bag is there
 is_there : (content : Option (List ℕ)) (size : ℕ) → option_map length content ≡ Some size → is_some content ≡ true
@@ -47,7 +58,7 @@ stop_of_memory options old new stop m calm = record { cause = rw m.0 tt; answere
 
 -- and reading the facts
 pub facts_stop_of_memory : (options : Options) (old new : TreeState) (stop : Stop) → IsOutOfMemory stop → RefusesNothing old new → MayStopReading options old new stop
-facts_stop_of_memory options old new stop m calm = record { cause = rw m.0 tt; answered = rw m.0 tt; path = inl m; memory = λ _. m.1; wanting = λ _. inr calm }
+facts_stop_of_memory options old new stop m calm = record { cause = rw m.0 tt; answered = inl m; path = inl m; memory = λ _. m.1; wanting = λ _. inr calm }
 
 -- the refusal of a wanted file stops reading files
 pub stop_of_refusal : (options : Options) (entry : FileEntry) (old new : TreeState) (cause : TreeFault) (stop : Stop) → IsWanted options entry.path
@@ -55,7 +66,7 @@ pub stop_of_refusal : (options : Options) (entry : FileEntry) (old new : TreeSta
     → StopsReading options old new stop
 stop_of_refusal options entry old new cause stop w refused wanting (inl (not, same, at)) is = record {
   cause = subst (MayRefuseFacts old new) (sym same) (refused_file old new entry cause is refused);
-  answered = subst (CameFromTree new) (sym same) (came_from old new entry cause refused);
+  answered = subst (CameFromFile new) (sym same) (came_from old new entry cause refused);
   path = inr (subst (IsWanted options) (sym at) w, λ honest. subst (HasFile old.bag) (sym at) (has_entry old entry is honest));
   memory = λ m. absurd (not (sym same ∙ m));
   wanting = λ m. absurd (not (sym same ∙ m));

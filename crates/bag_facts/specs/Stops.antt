@@ -2,7 +2,8 @@
 use Rattle.std.specs.Prelude.{◌≡◌, ◌≢◌, ◌⊎◌, ◌<◌, ℕ, List, [], IsTrue}
 use Rattle.bag_tree.specs.Bag.{HasFile}
 use Rattle.bag_tree.specs.Calm.{MayTellMemory}
-use Rattle.bag_tree.specs.Tree.{TreeState, MayRefuse, FailsOver, CameFromTree, most_entries}
+use Rattle.bag_tree.specs.Tree.{TreeState, MayRefuse, FailsOver, CameFromFile, most_entries}
+use Rattle.bag_tree.specs.declared.answer.Answer.TheVariants.{Unlisted}
 use Rattle.bag_tree.specs.declared.tree_fault.Stop.{Stop}
 use Rattle.bag_tree.specs.declared.tree_fault.TreeFault.{TreeFault}
 use Rattle.bag_tree.specs.declared.tree_fault.TreeFault.TheVariants.{Device, Special, Name, NotFound, TooMany, Changed, NoneOpen, Memory, Exists}
@@ -30,20 +31,27 @@ MayRefuseFacts old new NoneOpen = ⊥
 MayRefuseFacts old new Memory = Unit {0}
 MayRefuseFacts old new Exists = ⊥
 
--- the listing was refused: no file is named, none was opened, and what was open is left so
+-- the listing was refused, and no other call since: no file is named, none was opened, and what was open is left so
 abbrev pub IsOfListing : TreeState → TreeState → Stop → Type 0
-IsOfListing old new stop = (stop.path ≡ []) × (new.openings ≡ old.openings) × (new.rest ≡ old.rest) × MayRefuse ⊥ ⊥ old new stop.cause
+IsOfListing old new stop =
+    (stop.path ≡ []) × (new.openings ≡ old.openings) × (new.rest ≡ old.rest) × (new.last ≡ Unlisted stop.cause) × MayRefuse ⊥ ⊥ old new stop.cause
 
 -- a file was refused: one that is wanted, and of an honest tree's bag
 abbrev pub IsRefusedFile : Options → TreeState → Stop → Type 0
 IsRefusedFile options old stop = IsWanted options stop.path × (IsTrue old.honest → HasFile old.bag stop.path)
+
+-- A stop tells what the tree answered last: where it names no file that the listing was refused, and where it names one that
+-- a file was. Want of memory may be the caller's own, and names none.
+abbrev pub TellsAnswer : TreeState → Stop → Type 0
+TellsAnswer new stop =
+    IsOutOfMemory stop ⊎ ((stop.path ≡ []) × (new.last ≡ Unlisted stop.cause)) ⊎ ((stop.path ≢ []) × CameFromFile new stop.cause)
 
 -- A stop tells the cause, which is the tree's own answer but for want of memory, and the file that was refused. It names
 -- none for want of memory, and where it was the listing that was refused. Want of memory is told only where the tree told it
 -- or refused nothing.
 pub record MayStopReading (options : Options) (old new : TreeState) (stop : Stop) : Type 0 where
   pub cause : MayRefuseFacts old new stop.cause
-  pub answered : CameFromTree new stop.cause
+  pub answered : TellsAnswer new stop
   pub path : IsOutOfMemory stop ⊎ IsOfListing old new stop ⊎ IsRefusedFile options old stop
   pub memory : stop.cause ≡ Memory → stop.path ≡ []
   pub wanting : stop.cause ≡ Memory → MayTellMemory old new

@@ -5,7 +5,7 @@ use Rattle.bag_read.specs.TagName.{tag_path}
 use Rattle.bag_tree.specs.Bag as bag
 use Rattle.bag_tree.specs.Calm.{MayTellMemory}
 use Rattle.bag_tree.specs.Listing.{size_at}
-use Rattle.bag_tree.specs.Tree.{TreeState, CameFromTree}
+use Rattle.bag_tree.specs.Tree.{TreeState, CameFromFile}
 use Rattle.bag_tree.specs.declared.listing.FileEntry.{FileEntry}
 use Rattle.bag_tree.specs.declared.tree_fault.Stop.{Stop}
 use Rattle.bag_tree.specs.declared.tree_fault.TreeFault.TheVariants.{Memory}
@@ -53,7 +53,7 @@ ReadsWanted options entry old new (Some read) = ReadsFile options entry old new 
 -- reading files stopped: at one that is wanted, or for want of memory
 pub record StopsReading (options : Options) (old new : TreeState) (stop : Stop) : Type 0 where
   pub cause : MayRefuseFacts old new stop.cause
-  pub answered : CameFromTree new stop.cause
+  pub answered : CameFromFile new stop.cause
   pub path : IsOutOfMemory stop ⊎ IsRefusedFile options old stop
   pub memory : stop.cause ≡ Memory → stop.path ≡ []
   pub wanting : stop.cause ≡ Memory → MayTellMemory old new

@@ -9,17 +9,20 @@ use Rattle.bag_text.proofs.ListOf.{contains_first, contains_behind, each_from_me
 use Rattle.bag_tree.specs.Bag.{Bag, file, files_of}
 use Rattle.bag_tree.specs.Listing.{IsListingOf, IsOrdered}
 use Rattle.bag_tree.specs.Calm.{RefusesNothing}
-use Rattle.bag_tree.specs.Tree.{TreeState, IsEntryOf, Keeps}
+use Rattle.bag_tree.specs.Tree.{TreeState, IsEntryOf, Keeps, MayRefuse, refusal_of}
 use Rattle.bag_tree.specs.Whole.{IsRefusedAt}
-use Rattle.bag_tree.specs.declared.answer.Answer.TheVariants.{Given, Refused}
+use Rattle.bag_tree.specs.declared.answer.Answer.TheVariants.{Unlisted}
 use Rattle.bag_tree.specs.declared.listing.FileEntry.{FileEntry}
 use Rattle.bag_tree.specs.declared.listing.Listing.{Listing}
 use Rattle.bag_tree.specs.declared.tree_fault.Stop.{Stop}
+use Rattle.bag_tree.specs.declared.tree_fault.TreeFault.{TreeFault}
 use Rattle.bag_tree.proofs.ListingLaw.{listings_are_of_the_bag}
+use Rattle.bag_facts.specs.Stops.{MayRefuseFacts}
 use Rattle.bag_facts.specs.Wanted.{paths_of}
 use Rattle.bag_facts.proofs.ListedFiles.{own_size}
 use Rattle.bag_facts.proofs.Mapped.{contains_mapped}
-use Rattle.bag_facts.proofs.Reading.{later_refusal}
+use Rattle.bag_facts.proofs.Reading.{later_refusal, listing_refusal}
+use Rattle.bag_facts.proofs.Refusing.{path_some}
 use Rattle.bag_make.specs.Made.{File, new_payload}
 use Rattle.bag_make.proofs.Entries.{at_place}
 use Rattle.bag_make.proofs.Held.{found, has_listed, one_file, content_of}
@@ -68,10 +71,27 @@ nothing_refused old mid new listed calm = record {
   failures = calm.failures ∙ listed.failures;
   plain = listed.plain;
   last = elim calm.last [
-    | inl same ↦ (λ fault is. let clash : Given ≡ Refused fault = sym listed.last ∙ sym (ap (λ (state : TreeState). state.last) same) ∙ is in cc)
+    | inl same ↦ ap (λ (state : TreeState). refusal_of state.last) same ∙ ap refusal_of listed.last
     | inr none ↦ none
   ];
 }
+
+-- where the listing was refused, nothing is planned
+pub listing_refused : (old new : TreeState) (cause : TreeFault) (stop : Stop) (fault : MakeFault) → stop.cause ≡ cause → stop.path ≡ [] → new.openings ≡ old.openings → new.rest ≡ old.rest
+    → MayRefuse ⊥ ⊥ old new cause → new.last ≡ Unlisted cause → IsStopped stop fault → MayRefuseReading old new fault
+listing_refused old new cause stop (fault_of.ReadStopped other) same none unopened left h last (is, not) =
+    let told : new.last ≡ Unlisted stop.cause = last ∙ ap Unlisted (sym same) in
+    subst (MayStopMaking old new) (sym is) (record {
+      cause = subst (MayRefuseFacts old new) (sym same) (listing_refusal old new cause h);
+      not_memory = not;
+      answered = inr (inl (none, told));
+      path = inl (none, unopened, left, told, subst (MayRefuse ⊥ ⊥ old new) (sym same) h);
+    })
+listing_refused old new cause stop fault_of.Memory same none unopened left h last is = inl (ap refusal_of last ∙ ap Some (sym same ∙ is))
+listing_refused old new cause stop fault_of.NoAlgorithm same none unopened left h last is = absurd is
+listing_refused old new cause stop fault_of.InTheWay same none unopened left h last is = absurd is
+listing_refused old new cause stop fault_of.BadValue same none unopened left h last is = absurd is
+listing_refused old new cause stop (fault_of.StepRefused place other) same none unopened left h last is = absurd is
 
 module _ (listing : Listing) (ordered : IsOrdered listing.files) where
   -- what is listed of a bag are its paths
@@ -113,21 +133,24 @@ module _ (listing : Listing) (ordered : IsOrdered listing.files) where
       subst (λ all. IsRefusedAt all path new) (from_old honest k) refused,
     )
 
+    listed_path : (path : List ℕ) → IsAtFile (paths_of listing.files) mid new path → is_path path ≡ true
+    listed_path path at =
+        let entry = contains_mapped (λ (e : FileEntry). e.path) listing.files path (at_place (paths_of listing.files) at.0 path at.1) in
+        subst (λ p. is_path p ≡ true) entry.2 (All-contains (λ (e : FileEntry). IsTrue (is_path e.path)) listing.files entry.0 ordered.paths entry.1)
+
     -- where a file is refused, nothing is planned
     pub files_refused : HasOnlyListed old mid → (stop : Stop) (fault : MakeFault) → (IsTrue old.honest → is_in_the_way old.bag ≡ false) → StopsSumming listing.files mid new stop → IsStopped stop fault
         → MayRefuseReading old new fault
     files_refused listed stop (fault_of.ReadStopped other) free h (same, not) = subst (MayStopMaking old new) (sym same) (record {
       cause = later_refusal old mid new stop.cause keeps (h.cause entries_are);
       not_memory = not;
-      answered = h.answered;
+      answered = elim h.path [
+        | inl m ↦ absurd (not m.0)
+        | inr at ↦ inr (inr (path_some stop.path (listed_path stop.path at), h.answered))
+      ];
       path = elim h.path [
         | inl m ↦ absurd (not m.0)
-        | inr at ↦
-            let entry = contains_mapped (λ (e : FileEntry). e.path) listing.files stop.path (at_place (paths_of listing.files) at.0 stop.path at.1) in
-            inr (
-              subst (λ p. is_path p ≡ true) entry.2 (All-contains (λ (e : FileEntry). IsTrue (is_path e.path)) listing.files entry.0 ordered.paths entry.1),
-              λ honest. (at_file stop.path at honest, free honest),
-            )
+        | inr at ↦ inr (listed_path stop.path at, λ honest. (at_file stop.path at honest, free honest))
       ];
     })
     files_refused listed stop fault_of.Memory free h is = elim (h.wanting is) [

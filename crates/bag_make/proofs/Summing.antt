@@ -9,7 +9,7 @@ use Rattle.bag_text.specs.declared.alg.Alg.{Alg}
 use Rattle.bag_text.proofs.ListOf.{contains_first}
 use Rattle.bag_tree.specs.Bag.{file}
 use Rattle.bag_tree.specs.Calm.{RefusesNothing}
-use Rattle.bag_tree.specs.Tree.{TreeState, CameFromTree, IsEntryOf, Keeps, OpensAtMost}
+use Rattle.bag_tree.specs.Tree.{TreeState, CameFromFile, IsEntryOf, Keeps, OpensAtMost}
 use Rattle.bag_tree.specs.Whole.{IsRefusedAt, MayRefuseWhole}
 use Rattle.bag_tree.specs.declared.answer.Answer.TheVariants.{Refused}
 use Rattle.bag_tree.specs.declared.listing.FileEntry.{FileEntry}
@@ -39,7 +39,7 @@ pub stop_of_refusal : (entry : FileEntry) (old new : TreeState) (cause : TreeFau
     → IsRefusedAt old.openings entry.path new → IsRefusalOf cause entry.path stop → StopsSumming (entry ∷ []) old new stop
 stop_of_refusal entry old new cause stop refused answered opened (inl (not, same, at)) = record {
   cause = λ are. subst (MayRefuseFacts old new) (sym same) (refused_file old new entry cause (λ honest. one_is (IsEntryOf old.bag) entry (are honest)) refused);
-  answered = subst (CameFromTree new) (sym same) (came_from old new entry cause refused);
+  answered = subst (CameFromFile new) (sym same) (came_from old new entry cause refused);
   path = inr (0, ap Some (sym at), subst (λ all. IsRefusedAt all stop.path new) (sym (append-nil old.openings)) (subst (λ path. IsRefusedAt old.openings path new) (sym at) opened));
   wanting = λ m. absurd (not (sym same ∙ m));
 }

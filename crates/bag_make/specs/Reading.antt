@@ -1,10 +1,9 @@
 -- How the files of a folder are read before a bag is made of them.
-use Rattle.std.specs.Prelude.{ℕ, ◌≡◌, ◌≢◌, ◌⊎◌, ◌++◌, true, IsTrue, map, take}
+use Rattle.std.specs.Prelude.{ℕ, ◌≡◌, ◌⊎◌, ◌++◌, true, IsTrue, None, Some, map, take}
 use Rattle.bag_tree.specs.Bag.{files_of}
-use Rattle.bag_tree.specs.Tree.{TreeState, Keeps}
-use Rattle.bag_tree.specs.declared.answer.Answer.TheVariants.{Given, Refused}
+use Rattle.bag_tree.specs.Tree.{TreeState, Keeps, refusal_of}
+use Rattle.bag_tree.specs.declared.answer.Answer.TheVariants.{Given}
 use Rattle.bag_tree.specs.declared.tree_fault.Stop.{Stop}
-use Rattle.bag_tree.specs.declared.tree_fault.TreeFault.{TreeFault}
 use Rattle.bag_tree.specs.declared.tree_fault.TreeFault.TheVariants as cause_of
 use Rattle.bag_make.specs.Plan.{is_in_the_way}
 use Rattle.bag_make.specs.Stops.{MayStopMaking}
@@ -28,11 +27,11 @@ pub record HasOnlyListed (old new : TreeState) : Type 0 where
 pub record HasRefusedNothing (old new : TreeState) : Type 0 where
   pub failures : new.failures ≡ old.failures
   pub plain : IsTrue old.honest → IsTrue old.plain
-  pub last : (fault : TreeFault) → new.last ≢ Refused fault
+  pub last : refusal_of new.last ≡ None
 
 -- the tree refused for want of memory; or it refused nothing, and there was no memory for what was read
 abbrev pub IsWantOfMemory : TreeState → TreeState → Type 0
-IsWantOfMemory old new = (new.last ≡ Refused cause_of.Memory) ⊎ HasRefusedNothing old new
+IsWantOfMemory old new = (refusal_of new.last ≡ Some cause_of.Memory) ⊎ HasRefusedNothing old new
 
 -- why nothing is planned
 abbrev pub MayRefuseReading : TreeState → TreeState → MakeFault → Type 0

@@ -3,12 +3,12 @@ use Rattle.std.specs.Prelude.{ℕ, ◌≡◌, ◌≢◌, ◌⊎◌, ◌++◌, tr
 use Rattle.bag_text.specs.Path.{is_path}
 use Rattle.bag_tree.specs.Bag.{files_of}
 use Rattle.bag_tree.specs.Calm.{MayTellMemory}
-use Rattle.bag_tree.specs.Tree.{TreeState, CameFromTree, IsEntryOf}
+use Rattle.bag_tree.specs.Tree.{TreeState, CameFromFile, IsEntryOf}
 use Rattle.bag_tree.specs.Whole.{IsRefusedAt}
 use Rattle.bag_tree.specs.declared.listing.FileEntry.{FileEntry}
 use Rattle.bag_tree.specs.declared.tree_fault.Stop.{Stop}
 use Rattle.bag_tree.specs.declared.tree_fault.TreeFault.TheVariants.{Memory}
-use Rattle.bag_facts.specs.Stops.{IsOfListing, IsOutOfMemory, MayRefuseFacts}
+use Rattle.bag_facts.specs.Stops.{IsOfListing, IsOutOfMemory, MayRefuseFacts, TellsAnswer}
 use Rattle.bag_facts.specs.Wanted.{paths_of}
 use Rattle.bag_make.specs.Plan.{is_in_the_way}
 
@@ -25,7 +25,7 @@ TellsOneFile =
 -- Summing listed files stopped at one of them, or for want of memory.
 pub record StopsSumming (files : List FileEntry) (old new : TreeState) (stop : Stop) : Type 0 where
   pub cause : (IsTrue old.honest → All (IsEntryOf old.bag) files) → MayRefuseFacts old new stop.cause
-  pub answered : CameFromTree new stop.cause
+  pub answered : CameFromFile new stop.cause
   pub path : IsOutOfMemory stop ⊎ IsAtFile (paths_of files) old new stop.path
   pub wanting : stop.cause ≡ Memory → MayTellMemory old new
 
@@ -38,5 +38,5 @@ IsOfFolder old new stop =
 pub record MayStopMaking (old new : TreeState) (stop : Stop) : Type 0 where
   pub cause : MayRefuseFacts old new stop.cause
   pub not_memory : stop.cause ≢ Memory
-  pub answered : CameFromTree new stop.cause
+  pub answered : TellsAnswer new stop
   pub path : IsOfListing old new stop ⊎ IsOfFolder old new stop

@@ -2,9 +2,9 @@
 use Rattle.std.specs.Prelude.{ℕ, suc, zero, ◌+◌, Bool, true, false, Option, None, Some, if◌then◌else◌}
 use Rattle.bag_tree.specs.Tree.{TreeState}
 use Rattle.bag_tree.specs.declared.answer.Answer.{Answer}
-use Rattle.bag_tree.specs.declared.answer.Answer.TheVariants.{Refused}
-use Rattle.bag_tree.specs.declared.tree_fault.TreeFault.{TreeFault}
+use Rattle.bag_tree.specs.declared.answer.Answer.TheVariants.{Refused, Unlisted}
 use Rattle.bag_tree.specs.declared.tree_fault.TreeFault.TheVariants.{Device, NoneOpen}
+use Rattle.bag_memory.specs.Skewed.{last_answer}
 use Rattle.bag_memory.specs.declared.calls.Calls.{Calls}
 use Rattle.bag_memory.specs.declared.calls.Due.{Due}
 use Rattle.bag_memory.specs.declared.calls.Due.TheVariants.{Never, After, Past}
@@ -39,29 +39,32 @@ abbrev pub before_calls : ℕ → Calls
 before_calls k = record { due = due_at k; shut = false; own = None }
 
 -- what a call is answered without asking the tree below
-abbrev pub own_answer : Due → Option TreeFault
-own_answer due = if is_kth due then Some Device else None
+abbrev pub own_answer : Due → Option Answer
+own_answer due = if is_kth due then Some (Refused Device) else None
+
+-- what a `list` is answered so
+abbrev pub own_of_list : Due → Option Answer
+own_of_list due = if is_kth due then Some (Unlisted Device) else None
 
 -- after one call more
 abbrev pub after_call : Calls → Calls
 after_call calls = record { due = next_due calls.due; shut = calls.shut; own = own_answer calls.due }
+
+-- after a `list` more
+abbrev pub after_listing : Calls → Calls
+after_listing calls = record { due = next_due calls.due; shut = calls.shut; own = own_of_list calls.due }
 
 -- after an `open_file` more: nothing is open where it was the refused call
 abbrev pub after_opening : Calls → Calls
 after_opening calls = record { due = next_due calls.due; shut = is_kth calls.due; own = own_answer calls.due }
 
 -- what a `read` is answered without asking the tree below
-abbrev pub own_of_read : Calls → Option TreeFault
-own_of_read calls = if is_kth calls.due then Some Device else (if calls.shut then Some NoneOpen else None)
+abbrev pub own_of_read : Calls → Option Answer
+own_of_read calls = if is_kth calls.due then Some (Refused Device) else (if calls.shut then Some (Refused NoneOpen) else None)
 
 -- after a `read` more
 abbrev pub after_read : Calls → Calls
 after_read calls = record { due = next_due calls.due; shut = calls.shut; own = own_of_read calls }
-
--- what the last call answered, of the tree below where that was asked
-abbrev pub last_of : Option TreeFault → Answer → Answer
-last_of None below = below
-last_of (Some fault) below = Refused fault
 
 -- What a tree means of which a call is refused: what the tree below means, but for the refused call, which is a failure more,
 -- for nothing being open after a refused `open_file`, and for the last answer.
@@ -75,5 +78,5 @@ failing below calls = record {
   openings = below.openings;
   rest = if calls.shut then None else below.rest;
   given = below.given;
-  last = last_of calls.own below.last;
+  last = last_answer calls.own below.last;
 }

@@ -4,7 +4,7 @@ use Rattle.bag_text.specs.Path.{is_path}
 use Rattle.bag_tree.specs.Bag.{file}
 use Rattle.bag_tree.specs.Listing.{IsOrdered, HasItsFolder, IsListingOf}
 use Rattle.bag_tree.specs.Tree.{TreeState, Keeps, MayRefuse, HasOpen, IsOpen, ReadsNext, answer_of_read}
-use Rattle.bag_tree.specs.declared.answer.Answer.TheVariants.{Given, Refused}
+use Rattle.bag_tree.specs.declared.answer.Answer.TheVariants.{Given, Refused, Unlisted}
 use Rattle.bag_tree.specs.declared.tree_fault.TreeFault.{TreeFault}
 use Rattle.bag_tree.specs.declared.listing.Listing.{Listing}
 
@@ -17,7 +17,7 @@ pub record ListCall (old new : TreeState) (answer : Result Listing TreeFault) : 
   pub ordered : IfOk answer (λ listing. IsOrdered listing.files)
   pub folder : IfOk answer HasItsFolder
   pub plain : OnOk answer (IsTrue old.honest → IsTrue old.plain)
-  pub last : MatchResult answer (λ _. new.last ≡ Given) (λ fault. new.last ≡ Refused fault)
+  pub last : MatchResult answer (λ _. new.last ≡ Given) (λ fault. new.last ≡ Unlisted fault)
   pub honest : IfOk answer (λ listing. IsTrue old.honest → IsListingOf old.bag listing)
   pub refused : IfErr answer (MayRefuse ⊥ ⊥ old new)
 

@@ -2,7 +2,7 @@
 ghost use Rattle.std.specs.Prelude.{◌≡◌};
 ghost use Rattle.bag_memory.specs.Refusals.{after_call, before_calls, is_kth, next_due};
 
-use bag_tree::TreeFault;
+use bag_tree::{Answer, TreeFault};
 
 /// Which call is refused.
 #[derive(Clone, Copy)]
@@ -21,7 +21,7 @@ pub(crate) enum Due {
 pub(crate) struct Calls {
     pub(crate) due: Due,
     pub(crate) shut: bool,
-    pub(crate) own: Option<TreeFault>,
+    pub(crate) own: Option<Answer>,
 }
 
 impl Due {
@@ -66,7 +66,11 @@ impl Calls {
         ensures counted { self.new ≡ after_call self.old }
     {
         let due = self.due.is_now();
-        self.own = if due { Some(TreeFault::Device) } else { None };
+        self.own = if due {
+            Some(Answer::Refused(TreeFault::Device))
+        } else {
+            None
+        };
         due
     }
 }

@@ -4,7 +4,7 @@ ghost use Rattle.bag_memory.specs.Refusals.{before_calls, failing};
 ghost use Rattle.bag_memory.specs.FailTree.{below_of, calls_of};
 
 use crate::calls::Calls;
-use bag_tree::{Listing, Tree, TreeFault, WriteTree};
+use bag_tree::{Answer, Listing, Tree, TreeFault, WriteTree};
 
 /// A tree of which one call is refused as `Device`, without asking the tree that it stands over.
 ///
@@ -48,7 +48,7 @@ impl<T: Tree + Drop> FailTree<T> {
 impl<T: Tree + Drop> Tree for FailTree<T> {
     ghost use Rattle.std.specs.Prelude.{◌<◌, IsErrOf, length, true, false};
     ghost use Rattle.bag_tree.specs.declared.tree_fault.TreeFault.TheVariants.{Device, NoneOpen};
-    ghost use Rattle.bag_memory.specs.Refusals.{after_call, after_opening, after_read, is_kth};
+    ghost use Rattle.bag_memory.specs.Refusals.{after_listing, after_opening, after_read, is_kth};
     ghost use Rattle.bag_memory.specs.TreeCalls.{ListCall, OpenCall, ReadCall};
 
     ghost state = { λ tree. failing (T.state tree.tree) tree.calls };
@@ -56,11 +56,12 @@ impl<T: Tree + Drop> Tree for FailTree<T> {
     ghost is_bag = { λ tree. T.is_bag tree.tree };
 
     fn list(&mut self) -> Result<Listing, TreeFault>
-        ensures counted { calls_of self.new ≡ after_call (calls_of self.old) }
+        ensures counted { calls_of self.new ≡ after_listing (calls_of self.old) }
         ensures kth { is_kth (calls_of self.old).due ≡ true → IsErrOf result Device × (below_of self.new ≡ below_of self.old) }
         ensures others { is_kth (calls_of self.old).due ≡ false → ListCall (T.state (below_of self.old)) (T.state (below_of self.new)) result }
     {
         if self.calls.is_due() {
+            self.calls.own = Some(Answer::Unlisted(TreeFault::Device));
             return Err(TreeFault::Device);
         }
         self.tree.list()
@@ -91,7 +92,7 @@ impl<T: Tree + Drop> Tree for FailTree<T> {
             return Err(TreeFault::Device);
         }
         if self.calls.shut {
-            self.calls.own = Some(TreeFault::NoneOpen);
+            self.calls.own = Some(Answer::Refused(TreeFault::NoneOpen));
             return Err(TreeFault::NoneOpen);
         }
         self.tree.read(buffer)

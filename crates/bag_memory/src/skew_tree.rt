@@ -41,7 +41,7 @@ impl SkewTree {
 
 impl Tree for SkewTree {
     ghost use Rattle.std.specs.Prelude.{◌<◌, IfOk, MatchResult, None, Some, length};
-    ghost use Rattle.bag_tree.specs.declared.answer.Answer.TheVariants.{Given, Refused};
+    ghost use Rattle.bag_tree.specs.declared.answer.Answer.TheVariants.{Given, Unlisted};
     ghost use Rattle.bag_tree.specs.declared.tree_fault.TreeFault.TheVariants.{TooMany};
     ghost use Rattle.bag_memory.specs.MemoryView.{memory_bag};
     ghost use Rattle.bag_memory.specs.MemoryLaw.{passing_is_bag};
@@ -58,7 +58,7 @@ impl Tree for SkewTree {
         ensures memory { memory_of self.new ≡ memory_of self.old }
         ensures ordered { IfOk result (λ listing. IsOrdered listing.files) }
         ensures data { IfOk result HasItsFolder }
-        ensures own { MatchResult result (λ _. own_of self.new ≡ Some Given) (λ fault. own_of self.new ≡ Some (Refused fault)) }
+        ensures own { MatchResult result (λ _. own_of self.new ≡ Some Given) (λ fault. own_of self.new ≡ Some (Unlisted fault)) }
     {
         match self.listing.take() {
             Some(listing) => {
@@ -66,7 +66,7 @@ impl Tree for SkewTree {
                 Ok(listing)
             }
             None => {
-                self.own = Some(Answer::Refused(TreeFault::TooMany));
+                self.own = Some(Answer::Unlisted(TreeFault::TooMany));
                 Err(TreeFault::TooMany)
             }
         }

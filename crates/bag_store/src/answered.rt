@@ -1,7 +1,7 @@
 //! What a tree has answered.
 ghost use Rattle.std.specs.Prelude.{◌≡◌, ◌≤◌, ◌+◌, IsTrue};
 ghost use Rattle.bag_tree.specs.Tree.{answer_of_read};
-ghost use Rattle.bag_tree.specs.declared.answer.Answer.TheVariants.{Given, Refused};
+ghost use Rattle.bag_tree.specs.declared.answer.Answer.TheVariants.{Given, Refused, Unlisted};
 ghost use Rattle.bag_store.specs.Answered.{fault_of, count_after, failure_or_memory, one_more_failure, last_count};
 
 use bag_disk::Refusal;
@@ -79,6 +79,18 @@ impl Answered {
     {
         let fault = self.fault_of(refusal);
         self.note(fault)
+    }
+
+    /// Notes that a listing was refused, and gives the fault that answers it, as `refuse` does.
+    pub(crate) fn refuse_list(&mut self, refusal: Refusal) -> TreeFault
+        ensures fault { result ≡ fault_of refusal self.old.failures }
+        ensures failures { self.new.failures ≡ count_after refusal self.old.failures }
+        ensures given { self.new.given ≡ self.old.given }
+        ensures last { self.new.last ≡ Unlisted result }
+    {
+        let fault = self.fault_of(refusal);
+        self.last = Answer::Unlisted(fault);
+        fault
     }
 
     /// Notes the fault that answers a call.

@@ -52,7 +52,7 @@ impl<D: Disk + Drop> Tree for FileTree<D> {
     ghost use Rattle.bag_tree.specs.Bag.{file};
     ghost use Rattle.bag_tree.specs.Listing.{IsOrdered, HasItsFolder, IsListingOf};
     ghost use Rattle.bag_tree.specs.Tree.{Keeps, MayRefuse, HasOpen, IsOpen, ReadsNext, answer_of_read};
-    ghost use Rattle.bag_tree.specs.declared.answer.Answer.TheVariants.{Given, Refused};
+    ghost use Rattle.bag_tree.specs.declared.answer.Answer.TheVariants.{Given, Refused, Unlisted};
     ghost use Rattle.bag_disk.specs.FolderWalk.{Contradiction};
     ghost use Rattle.bag_store.specs.FileTree.{TellsOfDisk, state_of};
 
@@ -66,7 +66,7 @@ impl<D: Disk + Drop> Tree for FileTree<D> {
         ensures ordered { IfOk result (λ listing. IsOrdered listing.files) }
         ensures data { IfOk result HasItsFolder }
         ensures plain { OnOk result (IsTrue (state_of D.state self.old).honest → IsTrue (state_of D.state self.old).plain) }
-        ensures last { MatchResult result (λ _. (state_of D.state self.new).last ≡ Given) (λ fault. (state_of D.state self.new).last ≡ Refused fault) }
+        ensures last { MatchResult result (λ _. (state_of D.state self.new).last ≡ Given) (λ fault. (state_of D.state self.new).last ≡ Unlisted fault) }
         ensures honest { IfOk result (λ listing. IsTrue (state_of D.state self.old).honest → IsListingOf (state_of D.state self.old).bag listing) }
         ensures refused { IfErr result (MayRefuse ⊥ ⊥ (state_of D.state self.old) (state_of D.state self.new)) }
         ensures cause { IfErr result (TellsOfDisk (Contradiction (D.state (disk_of self.old))) (D.state (disk_of self.old)) (D.state (disk_of self.new))) }
@@ -76,7 +76,7 @@ impl<D: Disk + Drop> Tree for FileTree<D> {
                 self.answered.give();
                 Ok(listing)
             }
-            Err(unlisted) => Err(self.answered.refuse(unlisted)),
+            Err(unlisted) => Err(self.answered.refuse_list(unlisted)),
         }
     }
 

@@ -1,8 +1,8 @@
 -- A tree that refuses nothing, and want of memory.
-use Rattle.std.proofs.Common.{◌≡◌, ◌≢◌, ◌∙◌, inl, inr, ℕ, zero, suc, refl, sym, ap}
+use Rattle.std.proofs.Common.{◌≡◌, ◌∙◌, inl, inr, ℕ, zero, suc, None, Some, refl, sym, ap}
 use Rattle.bag_tree.specs.Calm.{MayTellMemory, RefusesNothing}
-use Rattle.bag_tree.specs.Tree.{TreeState, answer_of_read}
-use Rattle.bag_tree.specs.declared.answer.Answer.TheVariants.{Given, Refused}
+use Rattle.bag_tree.specs.Tree.{TreeState, answer_of_read, refusal_of}
+use Rattle.bag_tree.specs.declared.answer.Answer.TheVariants.{Given, Refused, Unlisted}
 use Rattle.bag_tree.specs.declared.tree_fault.TreeFault.{TreeFault}
 use Rattle.bag_tree.specs.declared.tree_fault.TreeFault.TheVariants.{Memory}
 
@@ -16,7 +16,7 @@ nothing_then old mid new p q = record {
   last = elim q.last [
     | inl same ↦ elim p.last [
       | inl before ↦ inl (same ∙ before)
-      | inr none ↦ inr (λ fault is. none fault (sym (ap (λ (state : TreeState). state.last) same) ∙ is))
+      | inr none ↦ inr (ap (λ (state : TreeState). refusal_of state.last) same ∙ none)
     ]
     | inr none ↦ inr none
   ];
@@ -27,17 +27,22 @@ pub memory_then : (old mid new : TreeState) → RefusesNothing old mid → MayTe
 memory_then old mid new p (inl told) = inl told
 memory_then old mid new p (inr q) = inr (nothing_then old mid new p q)
 
-given_is_none : (fault : TreeFault) → Given ≢ Refused fault
-given_is_none fault is = cc
+-- a listing was refused for want of memory
+pub memory_unlisted : (old new : TreeState) (cause : TreeFault) → new.last ≡ Unlisted cause → cause ≡ Memory → MayTellMemory old new
+memory_unlisted old new cause last is = inl (ap refusal_of last ∙ ap Some is)
 
-read_is_none : (n : ℕ) (fault : TreeFault) → answer_of_read n ≢ Refused fault
-read_is_none zero fault is = cc
-read_is_none (suc n) fault is = cc
+-- and another call
+pub memory_refused : (old new : TreeState) (cause : TreeFault) → new.last ≡ Refused cause → cause ≡ Memory → MayTellMemory old new
+memory_refused old new cause last is = inl (ap refusal_of last ∙ ap Some is)
+
+read_is_none : (n : ℕ) → refusal_of (answer_of_read n) ≡ None
+read_is_none zero = refl
+read_is_none (suc n) = refl
 
 -- a call was answered
 pub nothing_given : (old new : TreeState) → new.failures ≡ old.failures → new.last ≡ Given → RefusesNothing old new
-nothing_given old new calm last = record { failures = calm; last = inr (λ fault is. given_is_none fault (sym last ∙ is)) }
+nothing_given old new calm last = record { failures = calm; last = inr (ap refusal_of last) }
 
 -- a read was
 pub nothing_read : (old new : TreeState) (n : ℕ) → new.failures ≡ old.failures → new.last ≡ answer_of_read n → RefusesNothing old new
-nothing_read old new n calm last = record { failures = calm; last = inr (λ fault is. read_is_none n fault (sym last ∙ is)) }
+nothing_read old new n calm last = record { failures = calm; last = inr (ap refusal_of last ∙ read_is_none n) }

@@ -1,15 +1,13 @@
 -- That a tree refuses nothing, and when want of memory may be told.
-use Rattle.std.specs.Prelude.{◌≡◌, ◌≢◌, ◌⊎◌}
-use Rattle.bag_tree.specs.Tree.{TreeState}
-use Rattle.bag_tree.specs.declared.answer.Answer.TheVariants.{Refused}
-use Rattle.bag_tree.specs.declared.tree_fault.TreeFault.{TreeFault}
+use Rattle.std.specs.Prelude.{◌≡◌, ◌⊎◌, None, Some}
+use Rattle.bag_tree.specs.Tree.{TreeState, refusal_of}
 use Rattle.bag_tree.specs.declared.tree_fault.TreeFault.TheVariants.{Memory}
 
 -- Nothing was refused: the device didn't fail, and nothing was asked of the tree, or its last answer is no refusal.
 pub record RefusesNothing (old new : TreeState) : Type 0 where
   pub failures : new.failures ≡ old.failures
-  pub last : (new ≡ old) ⊎ ((fault : TreeFault) → new.last ≢ Refused fault)
+  pub last : (new ≡ old) ⊎ (refusal_of new.last ≡ None)
 
 -- want of memory may be told: the tree told it, or it refused nothing
 abbrev pub MayTellMemory : TreeState → TreeState → Type 0
-MayTellMemory old new = (new.last ≡ Refused Memory) ⊎ RefusesNothing old new
+MayTellMemory old new = (refusal_of new.last ≡ Some Memory) ⊎ RefusesNothing old new

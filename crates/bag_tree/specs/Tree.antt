@@ -1,12 +1,12 @@
 -- What the calls of a tree answer, and what they change.
-use Rattle.std.specs.Prelude.{◌≡◌, ℕ, ◌<◌, ◌≤◌, ◌↔◌, ◌⊎◌, zero, suc, Bool, true, false, IsTrue, List, [], ◌∷◌, ◌++◌, length, take, drop, Option, Some, is_some}
+use Rattle.std.specs.Prelude.{◌≡◌, ℕ, ◌<◌, ◌≤◌, ◌↔◌, ◌⊎◌, zero, suc, Bool, true, false, IsTrue, List, [], ◌∷◌, ◌++◌, length, take, drop, Option, None, Some, is_some}
 use Rattle.std.specs.Option.{option_map}
 use Rattle.bag_tree.specs.Bag.{Bag, file}
 use Rattle.bag_tree.specs.declared.listing.FileEntry.{FileEntry}
 use Rattle.bag_tree.specs.declared.tree_fault.TreeFault.{TreeFault}
 use Rattle.bag_tree.specs.declared.tree_fault.TreeFault.TheVariants.{Device, Special, Name, NotFound, TooMany, Changed, NoneOpen, Memory, Exists}
 use Rattle.bag_tree.specs.declared.answer.Answer.{Answer}
-use Rattle.bag_tree.specs.declared.answer.Answer.TheVariants.{Given, AtEnd, Refused}
+use Rattle.bag_tree.specs.declared.answer.Answer.TheVariants.{Given, AtEnd, Unlisted, Refused}
 
 -- what a tree means
 pub record TreeState : Type 0 where
@@ -88,9 +88,16 @@ answer_of_read (suc n) = Given
 abbrev pub IsOtherSize : TreeState → ℕ → Type 0
 IsOtherSize state size = ((state.last ≡ Given) × (size < state.given)) ⊎ ((state.last ≡ AtEnd) × (state.given < size))
 
--- The tree's own calls answered so: the last with this refusal, or with more or fewer bytes than a size. Want of memory
--- may be the caller's own.
-abbrev pub CameFromTree : TreeState → TreeFault → Type 0
-CameFromTree state Changed = (size : ℕ) × IsOtherSize state size
-CameFromTree state Memory = Unit {0}
-CameFromTree state fault = state.last ≡ Refused fault
+-- the fault with which a call was refused, be it a listing or another
+abbrev pub refusal_of : Answer → Option TreeFault
+refusal_of Given = None
+refusal_of AtEnd = None
+refusal_of (Unlisted fault) = Some fault
+refusal_of (Refused fault) = Some fault
+
+-- Opening a file and reading it was answered so: the last call with this refusal, or with more or fewer bytes than a size.
+-- Want of memory may be the caller's own.
+abbrev pub CameFromFile : TreeState → TreeFault → Type 0
+CameFromFile state Changed = (size : ℕ) × IsOtherSize state size
+CameFromFile state Memory = Unit {0}
+CameFromFile state fault = state.last ≡ Refused fault

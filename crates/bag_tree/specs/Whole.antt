@@ -1,7 +1,7 @@
 -- When a whole file is refused.
 use Rattle.std.specs.Prelude.{◌≡◌, ◌⊎◌, IsTrue, None, Some, Option, List, [], ◌∷◌, ℕ, ◌++◌}
 use Rattle.bag_tree.specs.Bag.{file, HasFile}
-use Rattle.bag_tree.specs.Tree.{TreeState, HasOpen, MayRefuse, IsEntryOf, IsOtherSize, CameFromTree}
+use Rattle.bag_tree.specs.Tree.{TreeState, HasOpen, MayRefuse, IsEntryOf, IsOtherSize, CameFromFile}
 use Rattle.bag_tree.specs.declared.listing.FileEntry.{FileEntry}
 use Rattle.bag_tree.specs.declared.tree_fault.TreeFault.{TreeFault}
 use Rattle.bag_tree.specs.declared.tree_fault.TreeFault.TheVariants.{Changed}
@@ -10,7 +10,7 @@ use Rattle.bag_tree.specs.declared.tree_fault.TreeFault.TheVariants.{Changed}
 -- with another length; any other refusal but want of memory is the tree's own. The file that was opened stays open.
 abbrev pub MayRefuseWhole : TreeState → TreeState → FileEntry → TreeFault → Type 0
 MayRefuseWhole old new entry Changed = IsOtherSize new entry.size × (IsTrue old.honest → HasFile old.bag entry.path × (IsEntryOf old.bag entry → ⊥))
-MayRefuseWhole old new entry fault = MayRefuse (file old.bag entry.path ≡ None) ⊥ old new fault × CameFromTree new fault
+MayRefuseWhole old new entry fault = MayRefuse (file old.bag entry.path ≡ None) ⊥ old new fault × CameFromFile new fault
 
 -- The file was refused when these had been opened: either its opening, and no file is open, or a read of it, and it is still
 -- open.

@@ -11,6 +11,9 @@ pub enum Answer {
     Given,
     /// That the open file is at its end.
     AtEnd,
+    /// That the files weren't listed.
+    Unlisted(TreeFault),
+    /// Of any other call, that it was refused.
     Refused(TreeFault),
 }
 

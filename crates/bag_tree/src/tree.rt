@@ -4,7 +4,7 @@ ghost use Rattle.bag_text.specs.Path.{is_path};
 ghost use Rattle.bag_tree.specs.Bag.{IsBag, file};
 ghost use Rattle.bag_tree.specs.Listing.{IsOrdered, HasItsFolder, IsListingOf};
 ghost use Rattle.bag_tree.specs.Tree.{TreeState, Keeps, MayRefuse, HasOpen, IsOpen, ReadsNext, answer_of_read};
-ghost use Rattle.bag_tree.specs.declared.answer.Answer.TheVariants.{Given, Refused};
+ghost use Rattle.bag_tree.specs.declared.answer.Answer.TheVariants.{Given, Refused, Unlisted};
 
 use crate::{Listing, TreeFault};
 
@@ -23,7 +23,7 @@ pub trait Tree {
     ///
     /// `Device`, `Special` and `Name` come from the device. Something that is no file and no folder, or whose name isn't
     /// UTF-8, is never passed over by an honest tree. `TooMany` comes where there are more than 16,777,216 files and
-    /// folders. A listing opens no file, and leaves the one that is open.
+    /// folders. A listing opens no file, and leaves the one that is open. Its refusal is told from that of any other call.
     fn list(&mut self) -> Result<Listing, TreeFault>
         ensures keeps { Keeps (state self.old) (state self.new) }
         ensures calm { OnOk result ((state self.new).failures ≡ (state self.old).failures) }
@@ -32,7 +32,7 @@ pub trait Tree {
         ensures ordered { IfOk result (λ listing. IsOrdered listing.files) }
         ensures data { IfOk result HasItsFolder }
         ensures plain { OnOk result (IsTrue (state self.old).honest → IsTrue (state self.old).plain) }
-        ensures last { MatchResult result (λ _. (state self.new).last ≡ Given) (λ fault. (state self.new).last ≡ Refused fault) }
+        ensures last { MatchResult result (λ _. (state self.new).last ≡ Given) (λ fault. (state self.new).last ≡ Unlisted fault) }
         ensures honest { IfOk result (λ listing. IsTrue (state self.old).honest → IsListingOf (state self.old).bag listing) }
         ensures refused { IfErr result (MayRefuse ⊥ ⊥ (state self.old) (state self.new)) };
 

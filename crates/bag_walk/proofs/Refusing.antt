@@ -2,7 +2,7 @@
 use Rattle.std.proofs.Common.{◌≡◌, ◌≢◌, ◌∙◌, ◌∷◌, inl, inr, ℕ, List, IsTrue, sym, ap, subst}
 use Rattle.bag_tree.specs.Bag.{HasFile}
 use Rattle.bag_tree.specs.Calm.{MayTellMemory, RefusesNothing}
-use Rattle.bag_tree.specs.Tree.{TreeState, CameFromTree, IsEntryOf}
+use Rattle.bag_tree.specs.Tree.{TreeState, CameFromFile, IsEntryOf}
 use Rattle.bag_tree.specs.Whole.{MayRefuseWhole}
 use Rattle.bag_tree.specs.declared.answer.Answer.TheVariants.{Refused}
 use Rattle.bag_tree.specs.declared.listing.FileEntry.{FileEntry}
@@ -31,7 +31,7 @@ module _ (entry : FileEntry) (rest : List (List ℕ)) (old new : TreeState) (cau
   pub filling_of_refusal : IsRefusalOf cause entry.path stop → (IsTrue old.honest → IsEntryOf old.bag entry) → MayStopFilling (entry.path ∷ rest) old new stop
   filling_of_refusal (inl (not, same, at)) is = record {
     cause = subst (MayRefuseFacts old new) (sym same) (refused_file old new entry cause is refused);
-    answered = subst (CameFromTree new) (sym same) (came_from old new entry cause refused);
+    answered = subst (CameFromFile new) (sym same) (came_from old new entry cause refused);
     path = inr ((rest, ap (λ path. path ∷ rest) (sym at)), λ honest. subst (HasFile old.bag) (sym at) (has_entry old entry is honest));
     memory = λ m. absurd (not (sym same ∙ m));
     wanting = λ m. absurd (not (sym same ∙ m));
@@ -41,7 +41,7 @@ module _ (entry : FileEntry) (rest : List (List ℕ)) (old new : TreeState) (cau
   pub anyway_of_refusal : IsRefusalOf cause entry.path stop → MayStopAnyway (entry.path ∷ rest) old new stop
   anyway_of_refusal (inl (not, same, at)) = record {
     cause = subst (MayRefuseAnyway old new) (sym same) (refused_anyway old new entry cause refused);
-    answered = subst (CameFromTree new) (sym same) (came_from old new entry cause refused);
+    answered = subst (CameFromFile new) (sym same) (came_from old new entry cause refused);
     path = inr (rest, ap (λ path. path ∷ rest) (sym at));
     memory = λ m. absurd (not (sym same ∙ m));
     wanting = λ m. absurd (not (sym same ∙ m));

@@ -3,7 +3,7 @@ use Rattle.std.specs.Prelude.{ℕ, ◌-◌, ◌<◌, ◌≤◌, ◌≡◌, ⊤, 
 use Rattle.std.specs.Io.KnownBytes.{Appends}
 use Rattle.std.specs.List.{concat}
 use Rattle.bag_tree.specs.Calm.{MayTellMemory, RefusesNothing}
-use Rattle.bag_tree.specs.Tree.{TreeState, CameFromTree}
+use Rattle.bag_tree.specs.Tree.{TreeState, CameFromFile}
 use Rattle.bag_tree.specs.declared.tree_fault.Stop.{Stop}
 use Rattle.bag_tree.specs.declared.tree_fault.TreeFault.TheVariants.{Memory}
 use Rattle.bag_facts.specs.declared.fault.Fault.{Fault}
@@ -79,7 +79,7 @@ ClosesSegment request faults segment before after refused outcome =
 -- memory.
 pub record StopsWalk (todo : List (List ℕ)) (old new : TreeState) (stop : Stop) : Type 0 where
   pub cause : MayRefuseFacts old new stop.cause
-  pub answered : CameFromTree new stop.cause
+  pub answered : CameFromFile new stop.cause
   pub path : IsOutOfMemory stop ⊎ IsReached todo old new stop.path
   pub memory : stop.cause ≡ Memory → stop.path ≡ []
   pub wanting : stop.cause ≡ Memory → MayTellMemory old new

@@ -4,13 +4,13 @@ use Rattle.std.specs.List.{concat}
 use Rattle.std.specs.List.Sorted.{IsStrictlySortedBy}
 use Rattle.std.specs.Io.KnownBytes.{Appends}
 use Rattle.bag_tree.specs.Calm.{MayTellMemory}
-use Rattle.bag_tree.specs.Tree.{TreeState, CameFromTree}
+use Rattle.bag_tree.specs.Tree.{TreeState}
 use Rattle.bag_tree.specs.declared.tree_fault.Stop.{Stop}
 use Rattle.bag_tree.specs.declared.tree_fault.TreeFault.{TreeFault}
 use Rattle.bag_tree.specs.declared.tree_fault.TreeFault.TheVariants.{Device, Special, Name, Memory}
 use Rattle.bag_facts.specs.FaultOrder.{fault_cmp}
 use Rattle.bag_facts.specs.declared.fault.Fault.{Fault}
-use Rattle.bag_facts.specs.Stops.{IsRefusedFile, MayRefuseFacts}
+use Rattle.bag_facts.specs.Stops.{IsRefusedFile, MayRefuseFacts, TellsAnswer}
 use Rattle.bag_facts.specs.declared.options.Options.{Options}
 use Rattle.bag_profile.specs.Profile.{Profile}
 use Rattle.bag_report.specs.Report.{IsReport, above, first}
@@ -79,7 +79,7 @@ pub record MayLose (options : Options) (old new : TreeState) (stop : Stop) : Typ
 -- but for want of memory; where these limits are all 0 want of memory is told only where the tree told it or refused nothing.
 abbrev pub IsStopped : Options → List ℕ → TreeState → TreeState → Outcome → Type 0
 IsStopped options before old new outcome =
-    IfStopped outcome (λ stop. MayLose options old new stop × CameFromTree new stop.cause × (sum before ≡ 0 → stop.cause ≡ Memory → MayTellMemory old new))
+    IfStopped outcome (λ stop. MayLose options old new stop × TellsAnswer new stop × (sum before ≡ 0 → stop.cause ≡ Memory → MayTellMemory old new))
 
 -- What the segments of these limits write of a report, how the last ends, and which payload files they open. Each failure of
 -- the device costs one limit at most.

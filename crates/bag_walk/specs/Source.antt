@@ -3,7 +3,7 @@ use Rattle.std.specs.Prelude.{ℕ, ⊤, ◌≡◌, ◌⊎◌, ◌∷◌, Bool, t
 use Rattle.std.specs.declared.cmp.Ordering.TheVariants.{Less}
 use Rattle.bag_tree.specs.Bag.{Bag, HasFile}
 use Rattle.bag_tree.specs.Calm.{MayTellMemory}
-use Rattle.bag_tree.specs.Tree.{TreeState, CameFromTree}
+use Rattle.bag_tree.specs.Tree.{TreeState, CameFromFile}
 use Rattle.bag_tree.specs.declared.tree_fault.Stop.{Stop}
 use Rattle.bag_tree.specs.declared.tree_fault.TreeFault.{TreeFault}
 use Rattle.bag_tree.specs.declared.tree_fault.TreeFault.TheVariants.{Changed, Memory, NotFound}
@@ -41,7 +41,7 @@ IsNext todo old path = ((rest : List (List ℕ)) × (todo ≡ path ∷ rest)) ×
 -- of memory, which is told only where the tree told it or refused nothing.
 pub record MayStopFilling (todo : List (List ℕ)) (old new : TreeState) (stop : Stop) : Type 0 where
   pub cause : MayRefuseFacts old new stop.cause
-  pub answered : CameFromTree new stop.cause
+  pub answered : CameFromFile new stop.cause
   pub path : IsOutOfMemory stop ⊎ IsNext todo old stop.path
   pub memory : stop.cause ≡ Memory → stop.path ≡ []
   pub wanting : stop.cause ≡ Memory → MayTellMemory old new
@@ -55,7 +55,7 @@ MayRefuseAnyway old new cause = MayRefuseFacts old new cause
 -- Finding the first fault stopped, over any tree: at the next file, or for want of memory.
 pub record MayStopAnyway (todo : List (List ℕ)) (old new : TreeState) (stop : Stop) : Type 0 where
   pub cause : MayRefuseAnyway old new stop.cause
-  pub answered : CameFromTree new stop.cause
+  pub answered : CameFromFile new stop.cause
   pub path : IsOutOfMemory stop ⊎ ((rest : List (List ℕ)) × (todo ≡ stop.path ∷ rest))
   pub memory : stop.cause ≡ Memory → stop.path ≡ []
   pub wanting : stop.cause ≡ Memory → MayTellMemory old new

@@ -5,8 +5,14 @@ use Rattle.bag_facts.specs.Wanted.{paths_of}
 use Rattle.bag_make.specs.Made.{new_payload}
 use Rattle.bag_make.specs.Stops.{StopsSumming}
 use Rattle.bag_make.specs.Summed.{AreSummed, AreSummedFiles, OpensFirstOf}
-use Rattle.bag_make.proofs.ReadFolder.{nothing_refused, files_are, opens_folder, opened_folder, files_refused}
+use Rattle.bag_make.proofs.ReadFolder.{nothing_refused, files_are, listing_refused, opens_folder, opened_folder, files_refused}
 use Rattle.bag_make.proofs.making.read_and_plan.Goals as goal
+
+pub returns-in-Err-clause-refused : goal.returns-in-Err-clause-refused
+returns-in-Err-clause-refused g c =
+    let state = g.T.Tree.state in
+    listing_refused (state c.args.tree.now) (state c.list.new.self) c.in-Err.cause c.without_path.result c.stopped.result c.without_path.ensures.cause c.without_path.ensures.path
+    c.list.ensures.openings c.list.ensures.rest c.in-Err.ensures.refused c.in-Err.ensures.last c.stopped.ensures
 
 pub returns-in-Err-sum_files-clause-opens : goal.returns-in-Err-sum_files-clause-opens
 returns-in-Err-sum_files-clause-opens g c =
