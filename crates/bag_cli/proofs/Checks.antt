@@ -1,8 +1,9 @@
 -- Checks and their statuses.
-use Rattle.std.proofs.Common.{◌≡◌, inl, inr, ◌≤◌, ◌∷◌, ◌++◌, [], Bool, ℕ, List, Option, refl, sym, ap, ◌∙◌, subst, arith}
+use Rattle.std.proofs.Common.{◌≡◌, inl, inr, ◌≤◌, ◌∷◌, ◌++◌, [], ℕ, List, Option, refl, sym, ap, ◌∙◌, subst, arith}
 use Rattle.std.specs.Prelude.{IfSome, MatchOption, MatchResult}
 use Rattle.std.specs.declared.result.Result.{Result}
 use Rattle.std.specs.declared.result.Result.TheVariants.{Ok, Err}
+use Rattle.bag_tree.specs.Out.{OutState}
 use Rattle.bag_tree.specs.Tree.{TreeState}
 use Rattle.bag_cli.specs.Visits.{Event, Entered, Left}
 use Rattle.bag_walk.specs.Closing.{status}
@@ -24,37 +25,37 @@ abbrev pub goes : Plan → Option Profile → (List ℕ → TreeState) → Whole
 goes plan profile tree_of = λ name. IsWholeCheck plan profile (tree_of name) name
 
 -- what the status says of a check
-pub next_check : {E : Type 0} (plan : Plan) (profile : Option Profile) (tree : TreeState) (name : List ℕ) (before after : Option (List ℕ)) (refused : Bool) (visits : List Event) (checked : Result Outcome E)
-    → MatchResult checked (λ outcome. IsVisitToCheck plan profile tree name before after refused visits outcome) (λ _. HasRunOut tree name before after visits)
-    → MatchOption (whole_status checked) (IsLastCheck plan profile tree name before after refused visits) (λ n. IsWholeCheck plan profile tree name before after visits n)
-next_check plan profile tree name before after refused visits (Ok Clean) check =
-    record { refused = refused; outcome = Clean; check = check; written = refl; status_is = refl }
-next_check plan profile tree name before after refused visits (Ok (Faults n)) check =
-    record { refused = refused; outcome = Faults n; check = check; written = refl; status_is = refl }
-next_check plan profile tree name before after refused visits (Ok (Stopped n)) check =
-    record { refused = refused; outcome = Stopped n; check = check; written = refl; status_is = refl }
-next_check plan profile tree name before after refused visits (Ok (Rest n)) check =
-    record { refused = refused; outcome = Rest n; check = check; written = refl; status_is = refl }
-next_check plan profile tree name before after refused visits (Ok (Unread n stop)) check =
-    record { refused = refused; outcome = Unread n stop; check = check; written = refl; status_is = refl }
-next_check plan profile tree name before after refused visits (Ok (Unwritten n)) check = inl (n, check)
-next_check plan profile tree name before after refused visits (Err e) nothing = inr nothing
+pub next_check : {E : Type 0} (plan : Plan) (profile : Option Profile) (tree : TreeState) (name : List ℕ) (before after : OutState) (visits : List Event) (checked : Result Outcome E)
+    → MatchResult checked (λ outcome. IsVisitToCheck plan profile tree name before after visits outcome) (λ _. HasRunOut tree name before after visits)
+    → MatchOption (whole_status checked) (IsLastCheck plan profile tree name before after visits) (λ n. IsWholeCheck plan profile tree name before after visits n)
+next_check plan profile tree name before after visits (Ok Clean) check =
+    record { outcome = Clean; check = check; written = refl; status_is = refl }
+next_check plan profile tree name before after visits (Ok (Faults n)) check =
+    record { outcome = Faults n; check = check; written = refl; status_is = refl }
+next_check plan profile tree name before after visits (Ok (Stopped n)) check =
+    record { outcome = Stopped n; check = check; written = refl; status_is = refl }
+next_check plan profile tree name before after visits (Ok (Rest n)) check =
+    record { outcome = Rest n; check = check; written = refl; status_is = refl }
+next_check plan profile tree name before after visits (Ok (Unread n stop)) check =
+    record { outcome = Unread n stop; check = check; written = refl; status_is = refl }
+next_check plan profile tree name before after visits (Ok (Unwritten n)) check = inl (n, check)
+next_check plan profile tree name before after visits (Err e) nothing = inr nothing
 
 -- a run over a tree by the request of a plan is a check
-pub check_of_run : (plan : Plan) (profile : Option Profile) (old new : TreeState) (name : List ℕ) (request : Request) (before after : Option (List ℕ)) (refused : Bool) (outcome : Outcome)
-    → request ≡ request_of plan name → IsRunOver old new profile request before after refused outcome → IsCheckOf plan profile old new name before after refused outcome
-check_of_run plan profile old new name request before after refused outcome is run =
-    subst (λ request. IsRunOver old new profile request before after refused outcome) is run
+pub check_of_run : (plan : Plan) (profile : Option Profile) (old new : TreeState) (name : List ℕ) (request : Request) (before after : OutState) (outcome : Outcome)
+    → request ≡ request_of plan name → IsRunOver old new profile request before after outcome → IsCheckOf plan profile old new name before after outcome
+check_of_run plan profile old new name request before after outcome is run =
+    subst (λ request. IsRunOver old new profile request before after outcome) is run
 
 -- The folder's tree was given for it, and left as the check leaves it; or as it was given, where memory ran out.
-pub visited_check : {E : Type 0} (plan : Plan) (profile : Option Profile) (tree old new : TreeState) (name : List ℕ) (before after : Option (List ℕ)) (refused : Bool) (checked : Result Outcome E) (start mid visits : List Event)
+pub visited_check : {E : Type 0} (plan : Plan) (profile : Option Profile) (tree old new : TreeState) (name : List ℕ) (before after : OutState) (checked : Result Outcome E) (start mid visits : List Event)
     → mid ≡ start ++ Entered name ∷ [] → visits ≡ mid ++ Left new ∷ [] → old ≡ tree
-    → MatchResult checked (λ outcome. IsCheckOf plan profile old new name before after refused outcome) (λ _. (after ≡ before) × (new ≡ old))
-    → HasVisited start visits (λ visits. MatchResult checked (λ outcome. IsVisitToCheck plan profile tree name before after refused visits outcome) (λ _. HasRunOut tree name before after visits))
-visited_check plan profile tree old new name before after refused (Ok outcome) start mid visits entered left same check =
-    let check_of : TreeState → Type 0 = λ tree. IsCheckOf plan profile tree new name before after refused outcome in
+    → MatchResult checked (λ outcome. IsCheckOf plan profile old new name before after outcome) (λ _. (after ≡ before) × (new ≡ old))
+    → HasVisited start visits (λ visits. MatchResult checked (λ outcome. IsVisitToCheck plan profile tree name before after visits outcome) (λ _. HasRunOut tree name before after visits))
+visited_check plan profile tree old new name before after (Ok outcome) start mid visits entered left same check =
+    let check_of : TreeState → Type 0 = λ tree. IsCheckOf plan profile tree new name before after outcome in
     (visit_of name new, added start mid visits (Entered name ∷ []) (Left new ∷ []) entered left, (new, refl, subst check_of same check))
-visited_check plan profile tree old new name before after refused (Err e) start mid visits entered left same nothing =
+visited_check plan profile tree old new name before after (Err e) start mid visits entered left same nothing =
     (visit_of name new, added start mid visits (Entered name ∷ []) (Left new ∷ []) entered left, (nothing.0, inr (ap (visit_of name) (nothing.1 ∙ same))))
 
 status_in : (outcome : Outcome) → status outcome ≤ 3
@@ -79,12 +80,12 @@ next_status checked next is = subst (λ next. IfSome next (λ n. n ≤ 3)) (sym 
     whole_in (Err e) = tt
 
 -- a whole check has a status
-pub whole_status_in : (plan : Plan) (profile : Option Profile) (tree_of : List ℕ → TreeState) (name : List ℕ) (before after : Option (List ℕ)) (visits : List Event) (n : ℕ)
+pub whole_status_in : (plan : Plan) (profile : Option Profile) (tree_of : List ℕ → TreeState) (name : List ℕ) (before after : OutState) (visits : List Event) (n : ℕ)
     → IsWholeCheck plan profile (tree_of name) name before after visits n → n ≤ 3
 whole_status_in plan profile tree_of name before after visits n whole = subst (λ n. n ≤ 3) (sym whole.status_is) (status_in whole.outcome)
 
 -- what checks give is a status
-pub checks_status : (plan : Plan) (profile : Option Profile) (tree_of : List ℕ → TreeState) (names : List (List ℕ)) (before after : Option (List ℕ)) (refused : Bool) (visits : List Event) (n : ℕ)
-    → AreChecksOf plan profile tree_of names before after refused visits n → n ≤ 3
-checks_status plan profile tree_of names before after refused visits n checks =
-    turns_status (ends plan profile tree_of) (goes plan profile tree_of) (whole_status_in plan profile tree_of) names before after refused visits n checks
+pub checks_status : (plan : Plan) (profile : Option Profile) (tree_of : List ℕ → TreeState) (names : List (List ℕ)) (before after : OutState) (visits : List Event) (n : ℕ)
+    → AreChecksOf plan profile tree_of names before after visits n → n ≤ 3
+checks_status plan profile tree_of names before after visits n checks =
+    turns_status (ends plan profile tree_of) (goes plan profile tree_of) (whole_status_in plan profile tree_of) names before after visits n checks

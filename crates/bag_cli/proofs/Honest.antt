@@ -1,22 +1,23 @@
 -- What is told of an honest folder.
-use Rattle.std.proofs.Common.{◌⊎◌, inl, inr, ℕ, List, Bool, Option, IsTrue}
+use Rattle.std.proofs.Common.{◌⊎◌, inl, inr, ℕ, List, Bool, IsTrue}
 use Rattle.std.specs.Prelude.{Result}
 use Rattle.std.specs.declared.result.Result.TheVariants.{Ok, Err}
 use Rattle.bag_text.specs.declared.alg.Alg.{Alg}
+use Rattle.bag_tree.specs.Out.{OutState}
 use Rattle.bag_tree.specs.Tree.{TreeState}
 use Rattle.bag_tags.specs.Element.{NewElement}
 use Rattle.bag_make.specs.declared.fault.MakeFault.{MakeFault}
 use Rattle.bag_cli.specs.Honest.{HonestFoldersAreTold, IsToldMade, IsToldNotMade}
 use Rattle.bag_cli.specs.Making.{IsMake, TellsMaking}
 
-told_by : (name : List ℕ) (algs : List Alg) (info : List NewElement) (quiet : Bool) (old new : TreeState) (before after : Option (List ℕ)) (refused : Bool) (n : ℕ) (made : Result (Unit {0}) MakeFault)
-    → IsTrue old.honest → IsMake algs info old new made → TellsMaking name made quiet before after refused (Ok n)
+told_by : (name : List ℕ) (algs : List Alg) (info : List NewElement) (quiet : Bool) (old new : TreeState) (before after : OutState) (n : ℕ) (made : Result (Unit {0}) MakeFault)
+    → IsTrue old.honest → IsMake algs info old new made → TellsMaking name made quiet before after (Ok n)
     → IsToldMade name algs info quiet old.bag new.bag before after n ⊎ IsToldNotMade name algs info old new before after n
-told_by name algs info quiet old new before after refused n (Ok _) honest make tells =
+told_by name algs info quiet old new before after n (Ok _) honest make tells =
     inl (record { status = tells.0; made_bag = make.made_bag.bag honest; valid = make.valid honest; said = tells.1 })
-told_by name algs info quiet old new before after refused n (Err fault) honest make tells =
+told_by name algs info quiet old new before after n (Err fault) honest make tells =
     inr (record { status = tells.0; fault = fault; refused = make.refused; left = make.leaves honest; said = tells.1 })
 
 pub honest_folders_are_told : HonestFoldersAreTold
-honest_folders_are_told name algs info quiet old new before after refused n honest making =
-    told_by name algs info quiet old new before after refused n making.made honest making.make making.tells
+honest_folders_are_told name algs info quiet old new before after n honest making =
+    told_by name algs info quiet old new before after n making.made honest making.make making.tells

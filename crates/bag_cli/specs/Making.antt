@@ -1,8 +1,9 @@
 -- Making a folder a bag, and what is told of it.
-use Rattle.std.specs.Prelude.{ℕ, ◌≡◌, ◌⊎◌, ◌≤◌, Bool, true, IsTrue, List, [], Option, Result, MatchResult, IfErr, OnOk}
+use Rattle.std.specs.Prelude.{ℕ, ◌≡◌, ◌⊎◌, ◌≤◌, Bool, true, IsTrue, List, [], Result, MatchResult, IfErr, OnOk}
 use Rattle.std.specs.List.{list_any}
 use Rattle.std.specs.Io.KnownBytes.{Appends}
 use Rattle.bag_text.specs.declared.alg.Alg.{Alg}
+use Rattle.bag_tree.specs.Out.{OutState}
 use Rattle.bag_tree.specs.Tree.{TreeState}
 use Rattle.bag_tree.specs.declared.out.Refused.{Refused}
 use Rattle.bag_tags.specs.Element.{NewElement}
@@ -25,14 +26,14 @@ pub record IsMake (algs : List Alg) (info : List NewElement) (old new : TreeStat
   pub leaves : IfErr made (λ fault. IsTrue old.honest → Leaves algs info old.bag new.bag fault)
 
 -- the output took the line, and this is the status; or it refused, and took a proper prefix
-abbrev pub TellsMaking : List ℕ → Result (Unit {0}) MakeFault → Bool → Option (List ℕ) → Option (List ℕ) → Bool → Result ℕ Refused → Type 0
-TellsMaking name made quiet before after refused told =
+abbrev pub TellsMaking : List ℕ → Result (Unit {0}) MakeFault → Bool → OutState → OutState → Result ℕ Refused → Type 0
+TellsMaking name made quiet before after told =
     MatchResult told
-    (λ n. (n ≡ status made) × Appends before after (line name made quiet))
-    (λ _. IsCut before after (line name made quiet) × (refused ≡ true))
+    (λ n. (n ≡ status made) × Appends before.taken after.taken (line name made quiet))
+    (λ _. IsCut before.taken after.taken (line name made quiet) × (after.has_refused ≡ true))
 
 -- the folder was made a bag, or it wasn't, and that was told under this name
-pub record IsMaking (name : List ℕ) (algs : List Alg) (info : List NewElement) (quiet : Bool) (old new : TreeState) (before after : Option (List ℕ)) (refused : Bool) (told : Result ℕ Refused) : Type 0 where
+pub record IsMaking (name : List ℕ) (algs : List Alg) (info : List NewElement) (quiet : Bool) (old new : TreeState) (before after : OutState) (told : Result ℕ Refused) : Type 0 where
   pub made : Result (Unit {0}) MakeFault
   pub make : IsMake algs info old new made
-  pub tells : TellsMaking name made quiet before after refused told
+  pub tells : TellsMaking name made quiet before after told

@@ -2,6 +2,7 @@
 use Rattle.std.specs.Prelude.{ℕ, ◌≡◌, ◌≢◌, ◌⊎◌, Bool, true, List, [], ◌∷◌, Option, Some, None, Result, Ok, Err, if◌then◌else◌}
 use Rattle.std.specs.Io.KnownBytes.{Appends}
 use Rattle.bag_disk.specs.Disk.{DiskState}
+use Rattle.bag_tree.specs.Out.{OutState}
 use Rattle.bag_cli.specs.Visits.{Event, Read}
 use Rattle.bag_store.specs.FileTree.{tree_state}
 use Rattle.bag_walk.specs.Write.{IsCut}
@@ -17,52 +18,52 @@ use Rattle.bag_cli.specs.Checked.{AreChecksOf, IsSampleChecked}
 use Rattle.bag_cli.specs.Makings.{AreMakingsOf}
 
 -- the output refused in the midst of this text
-abbrev pub IsCutOff : List ℕ → Option (List ℕ) → Option (List ℕ) → Bool → List Event → ℕ → Type 0
-IsCutOff text before after refused visits n = (n ≡ 3) × (refused ≡ true) × (visits ≡ []) × IsCut before after text
+abbrev pub IsCutOff : List ℕ → OutState → OutState → List Event → ℕ → Type 0
+IsCutOff text before after visits n = (n ≡ 3) × (after.has_refused ≡ true) × (visits ≡ []) × IsCut before.taken after.taken text
 
 -- a text was written, or the output refused it
-abbrev pub IsSaid : List ℕ → Option (List ℕ) → Option (List ℕ) → Bool → List Event → ℕ → Type 0
-IsSaid text before after refused visits n = ((n ≡ 0) × (visits ≡ []) × Appends before after text) ⊎ IsCutOff text before after refused visits n
+abbrev pub IsSaid : List ℕ → OutState → OutState → List Event → ℕ → Type 0
+IsSaid text before after visits n = ((n ≡ 0) × (visits ≡ []) × Appends before.taken after.taken text) ⊎ IsCutOff text before after visits n
 
 -- the folders of a plan were checked, on disks that hold this below each base folder
-abbrev pub AreChecked : (List ℕ → DiskState) → Plan → Option Profile → Option (List ℕ) → Option (List ℕ) → Bool → List Event → ℕ → Type 0
-AreChecked below plan profile before after refused visits n =
-    AreChecksOf plan profile (λ name. tree_state (below name) 0) plan.directories before after refused visits n
+abbrev pub AreChecked : (List ℕ → DiskState) → Plan → Option Profile → OutState → OutState → List Event → ℕ → Type 0
+AreChecked below plan profile before after visits n =
+    AreChecksOf plan profile (λ name. tree_state (below name) 0) plan.directories before after visits n
 
 -- the lines that come before the checks by a profile
 abbrev pub lines_before : Bool → Profile → List ℕ
 lines_before quiet profile = if quiet then [] else unchecked_lines profile.unchecked
 
 -- its unchecked keys were written, and then the folders were checked by it; or the output refused these lines
-abbrev pub AreCheckedBy : (List ℕ → DiskState) → Plan → Profile → Option (List ℕ) → Option (List ℕ) → Bool → List Event → ℕ → Type 0
-AreCheckedBy below plan profile before after refused visits n =
-    IsCutOff (lines_before plan.quiet profile) before after refused visits n
-    ⊎ ((mid : Option (List ℕ)) × Appends before mid (lines_before plan.quiet profile) × AreChecked below plan (Some profile) mid after refused visits n)
+abbrev pub AreCheckedBy : (List ℕ → DiskState) → Plan → Profile → OutState → OutState → List Event → ℕ → Type 0
+AreCheckedBy below plan profile before after visits n =
+    IsCutOff (lines_before plan.quiet profile) before after visits n
+    ⊎ ((mid : OutState) × Appends before.taken mid.taken (lines_before plan.quiet profile) × AreChecked below plan (Some profile) mid after visits n)
 
 -- the folders were checked by the profile that was read; where none was, nothing is written
-abbrev pub IsCheckedFor : (List ℕ → DiskState) → Plan → Result Profile ProfileRefusal → Option (List ℕ) → Option (List ℕ) → Bool → List Event → ℕ → Type 0
-IsCheckedFor below plan (Ok profile) before after refused visits n = AreCheckedBy below plan profile before after refused visits n
-IsCheckedFor below plan (Err refusal) before after refused visits n = (n ≡ refusal_status refusal) × (after ≡ before) × (visits ≡ [])
+abbrev pub IsCheckedFor : (List ℕ → DiskState) → Plan → Result Profile ProfileRefusal → OutState → OutState → List Event → ℕ → Type 0
+IsCheckedFor below plan (Ok profile) before after visits n = AreCheckedBy below plan profile before after visits n
+IsCheckedFor below plan (Err refusal) before after visits n = (n ≡ refusal_status refusal) × (after ≡ before) × (visits ≡ [])
 
 -- the folders were checked, by the profile of a file where there is a path of one, which was read once, before them
-abbrev pub IsChecked : (List ℕ → DiskState) → (List ℕ → Option (List ℕ) → Type 0) → Plan → Option (List ℕ) → Option (List ℕ) → Option (List ℕ) → Bool → List Event → ℕ → Type 0
-IsChecked below file plan None before after refused visits n = AreChecked below plan None before after refused visits n
-IsChecked below file plan (Some path) before after refused visits n =
-    (read : Result Profile ProfileRefusal) × (own : List Event) × (visits ≡ Read path ∷ own) × IsRead (file path) read × IsCheckedFor below plan read before after refused own n
+abbrev pub IsChecked : (List ℕ → DiskState) → (List ℕ → Option (List ℕ) → Type 0) → Plan → Option (List ℕ) → OutState → OutState → List Event → ℕ → Type 0
+IsChecked below file plan None before after visits n = AreChecked below plan None before after visits n
+IsChecked below file plan (Some path) before after visits n =
+    (read : Result Profile ProfileRefusal) × (own : List Event) × (visits ≡ Read path ∷ own) × IsRead (file path) read × IsCheckedFor below plan read before after own n
 
 -- the folders of a plan were made bags, on disks that hold this below each base folder; or memory for the elements, of which
 -- there are some, ran out
-abbrev pub AreMade : (List ℕ → DiskState) → Plan → Option (List ℕ) → Option (List ℕ) → Bool → List Event → ℕ → Type 0
-AreMade below plan before after refused visits n =
-    ((n ≡ 3) × (after ≡ before) × (visits ≡ []) × (plan.info ≢ [])) ⊎ AreMakingsOf plan (λ name. tree_state (below name) 0) plan.directories before after refused visits n
+abbrev pub AreMade : (List ℕ → DiskState) → Plan → OutState → OutState → List Event → ℕ → Type 0
+AreMade below plan before after visits n =
+    ((n ≡ 3) × (after ≡ before) × (visits ≡ []) × (plan.info ≢ [])) ⊎ AreMakingsOf plan (λ name. tree_state (below name) 0) plan.directories before after visits n
 
 -- this was done for a plan, on disks that hold this below each base folder, where files have these bytes
-abbrev pub IsDoneBy : Action → (List ℕ → DiskState) → (List ℕ → Option (List ℕ) → Type 0) → Plan → Option (List ℕ) → Option (List ℕ) → Bool → List Event → ℕ → Type 0
-IsDoneBy Sample below file plan before after refused visits n = IsSampleChecked plan before after refused n × (visits ≡ [])
-IsDoneBy (Help text) below file plan before after refused visits n = IsSaid text before after refused visits n
-IsDoneBy Check below file plan before after refused visits n = IsChecked below file plan plan.profile before after refused visits n
-IsDoneBy Make below file plan before after refused visits n = AreMade below plan before after refused visits n
+abbrev pub IsDoneBy : Action → (List ℕ → DiskState) → (List ℕ → Option (List ℕ) → Type 0) → Plan → OutState → OutState → List Event → ℕ → Type 0
+IsDoneBy Sample below file plan before after visits n = IsSampleChecked plan before after n × (visits ≡ [])
+IsDoneBy (Help text) below file plan before after visits n = IsSaid text before after visits n
+IsDoneBy Check below file plan before after visits n = IsChecked below file plan plan.profile before after visits n
+IsDoneBy Make below file plan before after visits n = AreMade below plan before after visits n
 
 -- what a plan says was done, on disks that hold this below each base folder, where files have these bytes
-abbrev pub IsPerformed : (List ℕ → DiskState) → (List ℕ → Option (List ℕ) → Type 0) → Plan → Option (List ℕ) → Option (List ℕ) → Bool → List Event → ℕ → Type 0
-IsPerformed below file plan before after refused visits n = IsDoneBy plan.action below file plan before after refused visits n
+abbrev pub IsPerformed : (List ℕ → DiskState) → (List ℕ → Option (List ℕ) → Type 0) → Plan → OutState → OutState → List Event → ℕ → Type 0
+IsPerformed below file plan before after visits n = IsDoneBy plan.action below file plan before after visits n

@@ -1,7 +1,8 @@
 -- What checks and makings of honest disks tell.
-use Rattle.std.specs.Prelude.{ℕ, ◌≡◌, ◌≢◌, Bool, IsTrue, List, [], ◌∷◌, Option, None, length, map, min}
+use Rattle.std.specs.Prelude.{ℕ, ◌≡◌, ◌≢◌, IsTrue, List, [], ◌∷◌, Option, None, length, map, min}
 use Rattle.std.specs.Io.KnownBytes.{Appends}
 use Rattle.std.specs.List.{concat}
+use Rattle.bag_tree.specs.Out.{OutState}
 use Rattle.bag_tree.specs.Bag.{Bag}
 use Rattle.bag_tree.specs.Tree.{TreeState}
 use Rattle.bag_disk.specs.Disk.{DiskState}
@@ -31,30 +32,30 @@ told_lines request faults = lines_of_run request (shown_of request faults) (idea
 
 -- Unless a read, a write or a growth was refused, the output took the lines of the bag's report above the cursor, up to the
 -- limit, and the closing line, and the status tells whether there are faults.
-abbrev pub TellsReport : Plan → Option Profile → Bag → List ℕ → Option (List ℕ) → Option (List ℕ) → ℕ → Type 0
+abbrev pub TellsReport : Plan → Option Profile → Bag → List ℕ → OutState → OutState → ℕ → Type 0
 TellsReport plan profile bag name before after n =
     n ≢ 3 → (report : List Fault) → IsReport (check_of bag profile (request_of plan name)) report
     → (n ≡ status (ideal (request_of plan name) (above plan.after report)))
-    × Appends before after (concat (told_lines (request_of plan name) (above plan.after report)))
+    × Appends before.taken after.taken (concat (told_lines (request_of plan name) (above plan.after report)))
 
 -- the law: over an honest disk, the check of one directory tells the report of the bag that stands there
 abbrev pub HonestDisksAreTold : Type 0
 HonestDisksAreTold =
-    (plan : Plan) (profile : Option Profile) (below : List ℕ → DiskState) (name : List ℕ) (before after : Option (List ℕ)) (refused : Bool) (visits : List Event) (n : ℕ)
-    → IsTrue (below name).honest → AreChecksOf plan profile (λ name. tree_state (below name) 0) (name ∷ []) before after refused visits n
+    (plan : Plan) (profile : Option Profile) (below : List ℕ → DiskState) (name : List ℕ) (before after : OutState) (visits : List Event) (n : ℕ)
+    → IsTrue (below name).honest → AreChecksOf plan profile (λ name. tree_state (below name) 0) (name ∷ []) before after visits n
     → TellsReport plan profile (bag_of (below name).nodes) name before after n
 
 -- The folder's tree was left as the bag that the plan makes of what stood there, it has no fault where its size can be told, and
 -- that was said but for a quiet making.
-abbrev pub TellsMade : Plan → Bag → List ℕ → Option (List ℕ) → Option (List ℕ) → List Event → Type 0
+abbrev pub TellsMade : Plan → Bag → List ℕ → OutState → OutState → List Event → Type 0
 TellsMade plan bag name before after visits =
     (new : TreeState) × (visits ≡ visit_of name new) × IsToldMade name plan.algs (map element_of plan.info) plan.quiet bag new.bag before after 0
 
 -- the law: over an honest disk, the making of one directory with status 0 left it a bag, and told that
 abbrev pub HonestFoldersAreMade : Type 0
 HonestFoldersAreMade =
-    (plan : Plan) (below : List ℕ → DiskState) (name : List ℕ) (before after : Option (List ℕ)) (refused : Bool) (visits : List Event)
-    → IsTrue (below name).honest → AreMakingsOf plan (λ name. tree_state (below name) 0) (name ∷ []) before after refused visits 0
+    (plan : Plan) (below : List ℕ → DiskState) (name : List ℕ) (before after : OutState) (visits : List Event)
+    → IsTrue (below name).honest → AreMakingsOf plan (λ name. tree_state (below name) 0) (name ∷ []) before after visits 0
     → TellsMade plan (bag_of (below name).nodes) name before after visits
 
 -- a plan that checks one directory, without a profile

@@ -19,7 +19,7 @@ pub(crate) fn report_sample<O, E>(alloc: Global, plan: &Plan, out: &mut O, err: 
 where
     O: Out,
     E: Out,
-    ensures { IsSampleChecked plan.now (O.taken out.old) (O.taken out.new) (O.has_refused out.new) result }
+    ensures { IsSampleChecked plan.now (O.state out.old) (O.state out.new) result }
 {
     let checked = check_sample(alloc, plan, out);
     status_of_whole(&checked, err).unwrap_or(REFUSED)

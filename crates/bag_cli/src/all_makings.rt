@@ -30,7 +30,7 @@ where
     O: Out,
     E: Out,
     ensures { HasVisited (visits_of visits.old) (visits_of visits.new)
-        (λ own. AreMade (D.below (disks_of folders.now)) plan.now (O.taken out.old) (O.taken out.new) (O.has_refused out.new) own result) }
+        (λ own. AreMade (D.below (disks_of folders.now)) plan.now (O.state out.old) (O.state out.new) own result) }
 {
     match elements(alloc, plan.info.as_slice()) {
         Ok(info) => {
@@ -76,8 +76,8 @@ impl Makings<'_> {
     ) -> Result<Result<u8, Refused>, AllocError>
         ensures { HasVisited (visits_of visits.old) (visits_of visits.new) (λ own. MatchResult result
             (λ told. IsTold self.now.plan.now self.now.info.now (tree_state (D.below (disks_of folders.now) directory.now) 0) directory.now
-            (O.taken out.old) (O.taken out.new) (O.has_refused out.new) own told)
-            (λ _. (O.taken out.new ≡ O.taken out.old) × (own ≡ NotGiven directory.now ∷ []))) }
+            (O.state out.old) (O.state out.new) own told)
+            (λ _. (O.state out.new ≡ O.state out.old) × (own ≡ NotGiven directory.now ∷ []))) }
     {
         let plan = self.plan;
         let tree = folders.enter(alloc, directory, visits)?;

@@ -28,7 +28,7 @@ where
     O: Out,
     E: Out,
     ensures { HasVisited (visits_of visits.old) (visits_of visits.new) (λ own. IsChecked (D.below (disks_of folders.now)) (D.file (disks_of folders.now)) plan.now
-        plan.now.profile (O.taken out.old) (O.taken out.new) (O.has_refused out.new) own result) }
+        plan.now.profile (O.state out.old) (O.state out.new) own result) }
 {
     let Some(path) = &plan.profile else {
         let checks = Checks {
@@ -59,7 +59,7 @@ where
     O: Out,
     E: Out,
     ensures { HasVisited (visits_of visits.old) (visits_of visits.new)
-        (λ own. AreCheckedBy (D.below (disks_of folders.now)) plan.now profile.now (O.taken out.old) (O.taken out.new) (O.has_refused out.new) own result) }
+        (λ own. AreCheckedBy (D.below (disks_of folders.now)) plan.now profile.now (O.state out.old) (O.state out.new) own result) }
 {
     match say_unchecked(plan.quiet, profile, out) {
         Ok(()) => {
@@ -77,7 +77,7 @@ where
 
 /// Says which keys of a profile aren't checked, unless it is to be quiet.
 fn say_unchecked<O: Out>(quiet: bool, profile: &Profile, out: &mut O) -> Result<(), Refused>
-    ensures { Writes (O.taken out.old) (O.taken out.new) (O.has_refused out.new) (lines_before quiet profile.now) result }
+    ensures { Writes (O.state out.old) (O.state out.new) (lines_before quiet profile.now) result }
 {
     if quiet {
         Ok(())

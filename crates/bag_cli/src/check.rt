@@ -28,8 +28,8 @@ pub(crate) fn check_folder<D: Disks, O: Out>(
 ) -> Result<Outcome, AllocError>
     ensures { HasVisited (visits_of visits.old) (visits_of visits.new) (λ own. MatchResult result
         (λ outcome. IsVisitToCheck plan.now (option_copied profile.entry) (tree_state (D.below (disks_of folders.now) directory.now) 0) directory.now
-        (O.taken out.old) (O.taken out.new) (O.has_refused out.new) own outcome)
-        (λ _. HasRunOut (tree_state (D.below (disks_of folders.now) directory.now) 0) directory.now (O.taken out.old) (O.taken out.new) own)) }
+        (O.state out.old) (O.state out.new) own outcome)
+        (λ _. HasRunOut (tree_state (D.below (disks_of folders.now) directory.now) 0) directory.now (O.state out.old) (O.state out.new) own)) }
 {
     let tree = folders.enter(alloc, directory, visits)?;
     let (tree, checked) = check_tree(alloc, tree, plan, profile, directory, out);
@@ -44,8 +44,8 @@ pub(crate) fn check_sample<O: Out>(
     out: &mut O,
 ) -> Result<Outcome, AllocError>
     ensures { MatchResult result
-        (λ outcome. IsCheckOfSample plan.now (O.taken out.old) (O.taken out.new) (O.has_refused out.new) outcome)
-        (λ _. O.taken out.new ≡ O.taken out.old) }
+        (λ outcome. IsCheckOfSample plan.now (O.state out.old) (O.state out.new) outcome)
+        (λ _. O.state out.new ≡ O.state out.old) }
 {
     let tree = sample_tree(alloc)?;
     let (_tree, checked) = check_tree(alloc, tree, plan, None, "sample", out);
@@ -63,8 +63,8 @@ fn check_tree<T: Tree, O: Out>(
 ) -> (T, Result<Outcome, AllocError>)
     ensures { MatchResult result.1
         (λ outcome. IsCheckOf plan.now (option_copied profile.entry) (T.state tree) (T.state result.0) name.now
-        (O.taken out.old) (O.taken out.new) (O.has_refused out.new) outcome)
-        (λ _. (O.taken out.new ≡ O.taken out.old) × (T.state result.0 ≡ T.state tree)) }
+        (O.state out.old) (O.state out.new) outcome)
+        (λ _. (O.state out.new ≡ O.state out.old) × (T.state result.0 ≡ T.state tree)) }
 {
     match request_for(alloc, plan, name) {
         Ok(request) => {

@@ -1,5 +1,6 @@
 //! What is done with folders, one after the other.
-ghost use Rattle.std.specs.Prelude.{◌≤◌, ℕ, Bool, List, Option, IfSome, MatchOption};
+ghost use Rattle.std.specs.Prelude.{◌≤◌, ℕ, List, IfSome, MatchOption};
+ghost use Rattle.bag_tree.specs.Out.{OutState};
 ghost use Rattle.bag_tree.specs.Tree.{TreeState};
 ghost use Rattle.bag_cli.specs.Folders.{disks_of, visits_of};
 ghost use Rattle.bag_cli.specs.Visits.{Event};
@@ -14,12 +15,12 @@ use std::alloc::Global;
 
 /// What is done with one folder after the other.
 pub(crate) trait Task {
-    /// What was done with the tree of a folder of this name, where that was the last: with what the output took before and after it,
-    /// whether the output has refused, and the visits.
-    ghost ends: { Self → TreeState → List ℕ → Option (List ℕ) → Option (List ℕ) → Bool → List Event → Type 0 };
+    /// What was done with the tree of a folder of this name, where that was the last: with the output before and after it, and the
+    /// visits.
+    ghost ends: { Self → TreeState → List ℕ → OutState → OutState → List Event → Type 0 };
 
     /// What was done with it where the next folder comes, with its status.
-    ghost goes: { Self → TreeState → List ℕ → Option (List ℕ) → Option (List ℕ) → List Event → ℕ → Type 0 };
+    ghost goes: { Self → TreeState → List ℕ → OutState → OutState → List Event → ℕ → Type 0 };
 
     /// Does it with a folder, and says on `err` what was refused beside what it writes to `out`. Gives the status where all of that
     /// was written.
@@ -34,8 +35,8 @@ pub(crate) trait Task {
     ) -> Option<u8>
         ensures status { IfSome result (λ status. status ≤ 3) }
         ensures done { HasVisited (visits_of visits.old) (visits_of visits.new) (λ own. MatchOption result
-            (ends self.now (tree_state (D.below (disks_of folders.now) directory.now) 0) directory.now (O.taken out.old) (O.taken out.new) (O.has_refused out.new) own)
-            (λ status. goes self.now (tree_state (D.below (disks_of folders.now) directory.now) 0) directory.now (O.taken out.old) (O.taken out.new) own status)) };
+            (ends self.now (tree_state (D.below (disks_of folders.now) directory.now) 0) directory.now (O.state out.old) (O.state out.new) own)
+            (λ status. goes self.now (tree_state (D.below (disks_of folders.now) directory.now) 0) directory.now (O.state out.old) (O.state out.new) own status)) };
 }
 
 /// Does a task with folders, one after the other, up to the first of which not all was written. Gives the greatest status.
@@ -56,7 +57,7 @@ where
     ensures { HasVisited (visits_of visits.old) (visits_of visits.new) (λ own. AreInTurn
         (λ name. T.ends task.now (tree_state (D.below (disks_of folders.now) name) 0) name)
         (λ name. T.goes task.now (tree_state (D.below (disks_of folders.now) name) 0) name)
-        directories.now (O.taken out.old) (O.taken out.new) (O.has_refused out.new) own result) }
+        directories.now (O.state out.old) (O.state out.new) own result) }
 {
     let mut greatest = 0;
     for directory in directories {

@@ -23,7 +23,7 @@ pub fn make_and_tell<T: WriteTree, W: Out>(
     quiet: bool,
     out: &mut W,
 ) -> (T, Result<u8, Refused>)
-    ensures { IsMaking name.now algs info.now quiet (T.state tree) (T.state result.0) (W.taken out.old) (W.taken out.new) (W.has_refused out.new) result.1 }
+    ensures { IsMaking name.now algs info.now quiet (T.state tree) (T.state result.0) (W.state out.old) (W.state out.new) result.1 }
 {
     let (tree, made) = make(alloc, tree, algs, info);
     let told = tell(name, &made, quiet, out);
@@ -37,7 +37,7 @@ fn tell<W: Out>(
     quiet: bool,
     out: &mut W,
 ) -> Result<u8, Refused>
-    ensures { TellsMaking name.now made.now quiet (W.taken out.old) (W.taken out.new) (W.has_refused out.new) result }
+    ensures { TellsMaking name.now made.now quiet (W.state out.old) (W.state out.new) result }
 {
     put_making(name, made, quiet, out)?;
     Ok(status(made))

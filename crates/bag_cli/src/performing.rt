@@ -42,7 +42,7 @@ where
     E: Out,
     ensures status { result ≤ 3 }
     ensures performed { HasVisited (visits_of visits.old) (visits_of visits.new)
-        (λ own. IsPerformed (D.below (disks_of folders.now)) (D.file (disks_of folders.now)) plan.now (O.taken out.old) (O.taken out.new) (O.has_refused out.new) own result) }
+        (λ own. IsPerformed (D.below (disks_of folders.now)) (D.file (disks_of folders.now)) plan.now (O.state out.old) (O.state out.new) own result) }
 {
     match &plan.action {
         Action::Sample => report_sample(alloc, plan, out, err),
@@ -54,7 +54,7 @@ where
 
 /// Writes a text.
 fn say<O: Out, E: Out>(text: &str, out: &mut O, err: &mut E) -> u8
-    ensures { IsSaid text.now (O.taken out.old) (O.taken out.new) (O.has_refused out.new) [] result }
+    ensures { IsSaid text.now (O.state out.old) (O.state out.new) [] result }
 {
     match put_pieces(out, &[text]) {
         Ok(()) => 0,

@@ -39,7 +39,7 @@ impl ProfileRefusal {
 /// Says on `err` why there is no profile, in a line, and gives the exit status. It takes no memory.
 pub fn refuse_profile<E: Out>(refusal: ProfileRefusal, err: &mut E) -> u8
     ensures status { result ≡ spec.refusal_status refusal }
-    ensures said { Says (E.taken err.old) (E.taken err.new) (E.has_refused err.new) (spec.refusal_line refusal) }
+    ensures said { Says (E.state err.old) (E.state err.new) (spec.refusal_line refusal) }
 {
     say_refusal(refusal, err);
     refusal.status()
@@ -47,7 +47,7 @@ pub fn refuse_profile<E: Out>(refusal: ProfileRefusal, err: &mut E) -> u8
 
 /// Says on `err` why there is no profile.
 fn say_refusal<E: Out>(refusal: ProfileRefusal, err: &mut E)
-    ensures { Says (E.taken err.old) (E.taken err.new) (E.has_refused err.new) (spec.refusal_line refusal) }
+    ensures { Says (E.state err.old) (E.state err.new) (spec.refusal_line refusal) }
 {
     match refusal {
         ProfileRefusal::Unread => say_on(err, &[said::PROGRAM, said::PROFILE_UNREAD, "\n"]),
@@ -57,7 +57,7 @@ fn say_refusal<E: Out>(refusal: ProfileRefusal, err: &mut E)
 
 /// Says on `err` why a profile is refused.
 fn say_fault<E: Out>(fault: ProfileFault, err: &mut E)
-    ensures { Says (E.taken err.old) (E.taken err.new) (E.has_refused err.new) (spec.refusal_line (why.Refused fault)) }
+    ensures { Says (E.state err.old) (E.state err.new) (spec.refusal_line (why.Refused fault)) }
 {
     match fault {
         ProfileFault::NotJson => say_reason(said::NOT_JSON, err),
@@ -71,14 +71,14 @@ fn say_fault<E: Out>(fault: ProfileFault, err: &mut E)
 
 /// Says on `err` that a profile is refused for this reason.
 fn say_reason<E: Out>(reason: &str, err: &mut E)
-    ensures { Says (E.taken err.old) (E.taken err.new) (E.has_refused err.new) (spec.refused_profile reason.now) }
+    ensures { Says (E.state err.old) (E.state err.new) (spec.refused_profile reason.now) }
 {
     say_on(err, &[said::PROGRAM, said::PROFILE, reason, "\n"]);
 }
 
 /// Hands the line about the key of a profile whose value has a wrong shape to an output.
 fn put_wrong_shape<E: Out>(key: &str, err: &mut E) -> Result<(), Refused>
-    ensures { Writes (E.taken err.old) (E.taken err.new) (E.has_refused err.new) (spec.wrong_shape_line key.now) result }
+    ensures { Writes (E.state err.old) (E.state err.new) (spec.wrong_shape_line key.now) result }
 {
     put_pieces(err, &[said::PROGRAM, said::PROFILE, said::WRONG_SHAPE])?;
     put_line(key, &["\n"], err)

@@ -8,21 +8,21 @@ use bag_walk::put_pieces;
 
 /// Says the pieces of a text.
 pub(crate) fn say_on<E: Out>(err: &mut E, pieces: &[&str])
-    ensures { Says (E.taken err.old) (E.taken err.new) (E.has_refused err.new) (text_of pieces.now) }
+    ensures { Says (E.state err.old) (E.state err.new) (text_of pieces.now) }
 {
     let _ = put_pieces(err, pieces);
 }
 
 /// Says that the output refused.
 pub(crate) fn say_refused<E: Out>(err: &mut E)
-    ensures { Says (E.taken err.old) (E.taken err.new) (E.has_refused err.new) output_refused }
+    ensures { Says (E.state err.old) (E.state err.new) output_refused }
 {
     say_on(err, &[said::PROGRAM, said::OUTPUT_REFUSED, "\n"]);
 }
 
 /// Says that memory ran out.
 pub(crate) fn say_memory<E: Out>(err: &mut E)
-    ensures { Says (E.taken err.old) (E.taken err.new) (E.has_refused err.new) out_of_memory }
+    ensures { Says (E.state err.old) (E.state err.new) out_of_memory }
 {
     say_on(err, &[said::PROGRAM, said::OUT_OF_MEMORY, "\n"]);
 }

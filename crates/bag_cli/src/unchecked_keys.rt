@@ -9,7 +9,7 @@ use bag_walk::{put_line, put_pieces};
 
 /// Hands the output a line for each key of the profile that isn't checked, in their order. It takes no memory.
 pub fn write_unchecked<O: Out>(profile: &Profile, out: &mut O) -> Result<(), Refused>
-    ensures { Writes (O.taken out.old) (O.taken out.new) (O.has_refused out.new) (spec.unchecked_lines profile.now.unchecked) result }
+    ensures { Writes (O.state out.old) (O.state out.new) (spec.unchecked_lines profile.now.unchecked) result }
 {
     for key in profile.unchecked() {
         put_unchecked(key.as_str(), out)?;
@@ -19,7 +19,7 @@ pub fn write_unchecked<O: Out>(profile: &Profile, out: &mut O) -> Result<(), Ref
 
 /// Hands the line of a key to the output.
 fn put_unchecked<O: Out>(key: &str, out: &mut O) -> Result<(), Refused>
-    ensures { Writes (O.taken out.old) (O.taken out.new) (O.has_refused out.new) (spec.unchecked_line key.now) result }
+    ensures { Writes (O.state out.old) (O.state out.new) (spec.unchecked_line key.now) result }
 {
     put_pieces(out, &[said::UNCHECKED])?;
     put_line(key, &["\n"], out)

@@ -29,7 +29,7 @@ where
     O: Out,
     E: Out,
     ensures { HasVisited (visits_of visits.old) (visits_of visits.new)
-        (λ own. IsProgram (D.below (disks_of folders.now)) (D.file (disks_of folders.now)) (texts words.now) (O.taken out.old) (O.taken out.new) (O.has_refused out.new) own result) }
+        (λ own. IsProgram (D.below (disks_of folders.now)) (D.file (disks_of folders.now)) (texts words.now) (O.state out.old) (O.state out.new) own result) }
 {
     match plan_of(alloc, words) {
         Ok(plan) => perform(alloc, folders, &plan, visits, out, err),
@@ -53,7 +53,7 @@ where
     O: Out,
     E: Out,
     ensures { HasVisited (visits_of visits.old) (visits_of visits.new)
-        (λ own. IsStarted (R.answers rt.now) (D.below (disks_of folders.now)) (D.file (disks_of folders.now)) (O.taken out.old) (O.taken out.new) (O.has_refused out.new) own result) }
+        (λ own. IsStarted (R.answers rt.now) (D.below (disks_of folders.now)) (D.file (disks_of folders.now)) (O.state out.old) (O.state out.new) own result) }
 {
     match asked_words(rt.alloc(), rt) {
         Ok(words) => run_words(rt, folders, &words, visits, out, err),
@@ -76,7 +76,7 @@ where
     O: Out,
     E: Out,
     ensures { HasVisited (visits_of visits.old) (visits_of visits.new)
-        (λ own. IsProgramOrNone (D.below (disks_of folders.now)) (D.file (disks_of folders.now)) (map string_bytes words.now) (O.taken out.old) (O.taken out.new) (O.has_refused out.new) own result) }
+        (λ own. IsProgramOrNone (D.below (disks_of folders.now)) (D.file (disks_of folders.now)) (map string_bytes words.now) (O.state out.old) (O.state out.new) own result) }
 {
     match texts_of(rt.alloc(), words) {
         Ok(texts) => program(rt.alloc(), folders, &texts, visits, out, err),

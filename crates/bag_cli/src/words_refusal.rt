@@ -12,7 +12,7 @@ use bag_tree::Out;
 /// Says on `err` why the words are refused, in a line or, of clap, some lines, and gives the exit status. It takes no memory.
 pub fn refuse_words<E: Out>(usage: &Usage, err: &mut E) -> u8
     ensures status { result ≡ usage_status usage.now }
-    ensures said { Says (E.taken err.old) (E.taken err.new) (E.has_refused err.new) (usage_line usage.now) }
+    ensures said { Says (E.state err.old) (E.state err.new) (usage_line usage.now) }
 {
     say_usage(usage, err);
     usage.status()
@@ -20,7 +20,7 @@ pub fn refuse_words<E: Out>(usage: &Usage, err: &mut E) -> u8
 
 /// Says on `err` why the words are refused.
 fn say_usage<E: Out>(usage: &Usage, err: &mut E)
-    ensures { Says (E.taken err.old) (E.taken err.new) (E.has_refused err.new) (usage_line usage.now) }
+    ensures { Says (E.state err.old) (E.state err.new) (usage_line usage.now) }
 {
     match usage {
         Usage::Refused(text) => say_ended(text.as_str(), err),
@@ -37,7 +37,7 @@ fn say_usage<E: Out>(usage: &Usage, err: &mut E)
 
 /// Says a text with a line end at its end.
 fn say_ended<E: Out>(text: &str, err: &mut E)
-    ensures { Says (E.taken err.old) (E.taken err.new) (E.has_refused err.new) (ended text.now) }
+    ensures { Says (E.state err.old) (E.state err.new) (ended text.now) }
 {
     if text.as_bytes().ends_with(b"\n") {
         say_on(err, &[text]);

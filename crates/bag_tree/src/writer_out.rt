@@ -23,8 +23,8 @@ pub struct WriterOut<W: Write> {
 impl<W: Write> WriterOut<W> {
     /// An output over a writer, which hasn't refused.
     pub fn new(writer: W) -> WriterOut<W>
-        ensures taken { ⟦<WriterOut<W> as Out>⟧.taken result ≡ Some (unwrap_or (W.contents writer) []) }
-        ensures ready { ⟦<WriterOut<W> as Out>⟧.has_refused result ≡ false }
+        ensures taken { (⟦<WriterOut<W> as Out>⟧.state result).taken ≡ Some (unwrap_or (W.contents writer) []) }
+        ensures ready { (⟦<WriterOut<W> as Out>⟧.state result).has_refused ≡ false }
     {
         WriterOut::holding(writer)
     }
@@ -33,8 +33,8 @@ impl<W: Write> WriterOut<W> {
     fn holding(writer: W) -> WriterOut<W>
         ghost held: { List ℕ }
         requires { IsHeard W.contents writer held }
-        ensures taken { ⟦<WriterOut<W> as Out>⟧.taken result ≡ Some held }
-        ensures ready { ⟦<WriterOut<W> as Out>⟧.has_refused result ≡ false }
+        ensures taken { (⟦<WriterOut<W> as Out>⟧.state result).taken ≡ Some held }
+        ensures ready { (⟦<WriterOut<W> as Out>⟧.state result).has_refused ≡ false }
     {
         WriterOut {
             writer,
@@ -45,7 +45,7 @@ impl<W: Write> WriterOut<W> {
 
     /// The writer, which has what was taken.
     pub fn into_inner(self) -> W
-        ensures { Tells W.contents → W.contents result ≡ ⟦<WriterOut<W> as Out>⟧.taken self }
+        ensures { Tells W.contents → W.contents result ≡ (⟦<WriterOut<W> as Out>⟧.state self).taken }
     {
         let WriterOut {
             writer,
@@ -57,9 +57,7 @@ impl<W: Write> WriterOut<W> {
 }
 
 impl<W: Write> Out for WriterOut<W> {
-    ghost taken = { λ out. Some out.heard.bytes };
-
-    ghost has_refused = { λ out. out.refused };
+    ghost state = { λ out. record { taken = Some out.heard.bytes; has_refused = out.refused } };
 
     fn put(&mut self, bytes: &[u8]) -> Result<usize, Refused> {
         if self.refused {

@@ -1,6 +1,7 @@
 -- The closing line behind a segment.
-use Rattle.std.proofs.Common.{◌≡◌, ◌<◌, ◌≤◌, ◌++◌, ◌∷◌, ℕ, zero, suc, Bool, List, [], inl, inr, None, Some, Option, length, min, take, slice_get, refl, sym, ap, ◌∙◌, subst, arith}
+use Rattle.std.proofs.Common.{◌≡◌, ◌<◌, ◌≤◌, ◌++◌, ◌∷◌, ℕ, zero, suc, List, [], inl, inr, None, Some, Option, length, min, take, slice_get, refl, sym, ap, ◌∙◌, subst, arith}
 use Rattle.std.specs.List.{concat}
+use Rattle.bag_tree.specs.Out.{OutState}
 use Rattle.bag_tree.specs.declared.tree_fault.Stop.{Stop}
 use Rattle.bag_facts.specs.declared.fault.Fault.{Fault}
 use Rattle.bag_walk.specs.Closing.{closing}
@@ -29,15 +30,15 @@ lines_of_first faults last (suc n) zero less within = absurd (omega arith)
 lines_of_first [] last (suc n) (suc m) less within = absurd (omega arith)
 lines_of_first (f ∷ faults) last (suc n) (suc m) less within = ap (λ lines. written_line f ∷ lines) (lines_of_first faults last n m (omega arith) (omega arith))
 
-module _ (request : Request) (faults : List Fault) (before mid : Option (List ℕ)) (first : Bool) (segment : Segment) where
+module _ (request : Request) (faults : List Fault) (before mid : OutState) (segment : Segment) where
   abbrev IsSo : Type 0
-  IsSo = IsSegment faults (limit_of request) before mid first segment
+  IsSo = IsSegment faults (limit_of request) before mid segment
 
   ends_by : (end : SegmentEnd) → segment.end ≡ end → IsSo → EndsSegment faults (limit_of request) segment.written end
   ends_by end is s = subst (EndsSegment faults (limit_of request) segment.written) is s.ends
 
-  wrote_by : (end : SegmentEnd) → segment.end ≡ end → IsSo → WroteFirst faults segment.written before mid first end
-  wrote_by end is s = subst (WroteFirst faults segment.written before mid first) is s.wrote
+  wrote_by : (end : SegmentEnd) → segment.end ≡ end → IsSo → WroteFirst faults segment.written before mid end
+  wrote_by end is s = subst (WroteFirst faults segment.written before mid) is s.wrote
 
   read_by : (end : SegmentEnd) → segment.end ≡ end → IsRead end → IsRead segment.end
   read_by end is read = subst IsRead (sym is) read
@@ -45,23 +46,23 @@ module _ (request : Request) (faults : List Fault) (before mid : Option (List �
   abbrev Tells : Stop → Type 0
   Tells stop = segment.end ≡ Unread stop
 
-  pub closes_full : (after : Option (List ℕ)) (refused : Bool) (result : Outcome) → segment.end ≡ Full → Closes request (outcome.Stopped segment.written) mid after refused result → IsSo → ClosesSegment request faults segment before after refused result
-  closes_full after refused result is closes s =
+  pub closes_full : (after : OutState) (result : Outcome) → segment.end ≡ Full → Closes request (outcome.Stopped segment.written) mid after result → IsSo → ClosesSegment request faults segment before after result
+  closes_full after result is closes s =
       let ends = ends_by Full is s in (
-        closed_report request Tells faults segment.written before mid after refused (outcome.Stopped segment.written) result ends.1 (refl, ends.0) (λ reached. absurd reached) (wrote_by Full is s) closes,
+        closed_report request Tells faults segment.written before mid after (outcome.Stopped segment.written) result ends.1 (refl, ends.0) (λ reached. absurd reached) (wrote_by Full is s) closes,
         λ answered. read_by Full is tt,
       )
 
-  pub closes_at_end : (after : Option (List ℕ)) (refused : Bool) (result : Outcome) → segment.end ≡ AtEnd → Closes request (ended request.after segment.written) mid after refused result → IsSo → ClosesSegment request faults segment before after refused result
-  closes_at_end after refused result is closes s =
+  pub closes_at_end : (after : OutState) (result : Outcome) → segment.end ≡ AtEnd → Closes request (ended request.after segment.written) mid after result → IsSo → ClosesSegment request faults segment before after result
+  closes_at_end after result is closes s =
       let ends = ends_by AtEnd is s in (
-        closed_report request Tells faults segment.written before mid after refused (ended request.after segment.written) result (omega (arith, ends.1)) (end_may_end request Tells segment.written ends.0) (λ reached. ends.1)
+        closed_report request Tells faults segment.written before mid after (ended request.after segment.written) result (omega (arith, ends.1)) (end_may_end request Tells segment.written ends.0) (λ reached. ends.1)
             (wrote_by AtEnd is s) closes,
         λ answered. read_by AtEnd is tt,
       )
 
-  pub closes_unread : (stop : Stop) (after : Option (List ℕ)) (refused : Bool) (result : Outcome) → segment.end ≡ Unread stop → Closes request (outcome.Unread segment.written stop) mid after refused result → IsSo → ClosesSegment request faults segment before after refused result
-  closes_unread stop after refused result is closes s =
+  pub closes_unread : (stop : Stop) (after : OutState) (result : Outcome) → segment.end ≡ Unread stop → Closes request (outcome.Unread segment.written stop) mid after result → IsSo → ClosesSegment request faults segment before after result
+  closes_unread stop after result is closes s =
       let ends = ends_by (Unread stop) is s in
       let n : ℕ = segment.written in (
         record {
@@ -70,14 +71,14 @@ module _ (request : Request) (faults : List Fault) (before mid : Option (List �
           within = ends.1;
           may_end = (refl, ends.0, is);
           all = λ reached. absurd reached;
-          wrote = wrote_closed request Tells (take n faults) before mid after refused (outcome.Unread n stop) result
+          wrote = wrote_closed request Tells (take n faults) before mid after (outcome.Unread n stop) result
               (subst (λ k. MayEnd request k Tells (outcome.Unread n stop)) (sym (take_length n faults ends.1)) (refl, ends.0, is)) (wrote_by (Unread stop) is s) closes;
         },
         λ answered. absurd answered,
       )
 
   -- the output refused a line
-  pub closes_unwritten : segment.end ≡ Unwritten → IsSo → ClosesSegment request faults segment before mid first (outcome.Unwritten segment.written)
+  pub closes_unwritten : segment.end ≡ Unwritten → IsSo → ClosesSegment request faults segment before mid (outcome.Unwritten segment.written)
   closes_unwritten is s =
       let ends = ends_by Unwritten is s in
       let (is_refused, (bytes, (part, more, at, some, all), taken)) = wrote_by Unwritten is s in
@@ -110,9 +111,9 @@ module _ (request : Request) (faults : List Fault) (before mid : Option (List �
       )
 
 -- a closing line leaves the outcome's stop
-pub told_by : (P : Stop → Type 0) (request : Request) (ending result : Outcome) (before after : Option (List ℕ)) (refused : Bool) → Closes request ending before after refused result → IfStopped ending P → IfStopped result P
-told_by P request ending result before after refused (inl c) told = subst (λ o. IfStopped o P) (sym c.0) told
-told_by P request ending result before after refused (inr c) told = subst (λ o. IfStopped o P) (sym c.0) tt
+pub told_by : (P : Stop → Type 0) (request : Request) (ending result : Outcome) (before after : OutState) → Closes request ending before after result → IfStopped ending P → IfStopped result P
+told_by P request ending result before after (inl c) told = subst (λ o. IfStopped o P) (sym c.0) told
+told_by P request ending result before after (inr c) told = subst (λ o. IfStopped o P) (sym c.0) tt
 
 pub end_has_no_stop : (P : Stop → Type 0) (cursor : Option Fault) (n : ℕ) → IfStopped (ended cursor n) P
 end_has_no_stop P None zero = tt

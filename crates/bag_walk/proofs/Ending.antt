@@ -4,6 +4,7 @@ use Rattle.std.proofs.lemmas.Bool.Decides.{nat_tests}
 use Rattle.std.proofs.lemmas.Grind.{common_steps}
 use Rattle.std.specs.List.{concat}
 use Rattle.std.specs.Io.KnownBytes.{Appends}
+use Rattle.bag_tree.specs.Out.{OutState}
 use Rattle.bag_tree.specs.declared.tree_fault.Stop.{Stop}
 use Rattle.bag_facts.specs.declared.fault.Fault.{Fault}
 use Rattle.bag_walk.specs.Closing.{closing, count_of}
@@ -27,14 +28,14 @@ take-take n i faults h = grind (arith, common_steps)
 
 module _ (request : Request) (Stops : Stop → Type 0) where
   -- the closing line was taken
-  wrote_all : (n : ℕ) (shown : List Fault) (old new : Option (List ℕ)) (refused : Bool) (ending : Outcome)
-      → MayEnd request n Stops ending → Appends old new (concat (lines_of_run request shown ending)) → Wrote request shown ending old new refused ending
-  wrote_all n shown old new refused Clean m t = (refl, t)
-  wrote_all n shown old new refused (Faults k) m t = (refl, t)
-  wrote_all n shown old new refused (Stopped k) m t = (refl, t)
-  wrote_all n shown old new refused (Rest k) m t = (refl, t)
-  wrote_all n shown old new refused (Unread k stop) m t = (refl, t)
-  wrote_all n shown old new refused (Unwritten k) m t = absurd m
+  wrote_all : (n : ℕ) (shown : List Fault) (old new : OutState) (ending : Outcome)
+      → MayEnd request n Stops ending → Appends old.taken new.taken (concat (lines_of_run request shown ending)) → Wrote request shown ending old new ending
+  wrote_all n shown old new Clean m t = (refl, t)
+  wrote_all n shown old new (Faults k) m t = (refl, t)
+  wrote_all n shown old new (Stopped k) m t = (refl, t)
+  wrote_all n shown old new (Rest k) m t = (refl, t)
+  wrote_all n shown old new (Unread k stop) m t = (refl, t)
+  wrote_all n shown old new (Unwritten k) m t = absurd m
 
   counted : (n : ℕ) (ending : Outcome) → MayEnd request n Stops ending → count_of ending ≡ n
   counted n Clean m = sym m.0
@@ -45,32 +46,32 @@ module _ (request : Request) (Stops : Stop → Type 0) where
   counted n (Unwritten k) m = absurd m
 
   -- a run closes
-  pub wrote_closed : (shown : List Fault) (old mid new : Option (List ℕ)) (refused : Bool) (ending result : Outcome)
-      → MayEnd request (length shown) Stops ending → Appends old mid (concat (written shown)) → Closes request ending mid new refused result
-      → Wrote request shown ending old new refused result
-  wrote_closed shown old mid new refused ending result m t (inl c) =
-      subst (Wrote request shown ending old new refused) (sym c.0)
-      (wrote_all (length shown) shown old new refused ending m
-      (subst (Appends old new) (sym (concat-append_one (written shown) (closing request ending))) (Appends-append old mid new (concat (written shown)) (closing request ending) t c.1)))
-  wrote_closed shown old mid new refused ending result m t (inr c) =
+  pub wrote_closed : (shown : List Fault) (old mid new : OutState) (ending result : Outcome)
+      → MayEnd request (length shown) Stops ending → Appends old.taken mid.taken (concat (written shown)) → Closes request ending mid new result
+      → Wrote request shown ending old new result
+  wrote_closed shown old mid new ending result m t (inl c) =
+      subst (Wrote request shown ending old new) (sym c.0)
+      (wrote_all (length shown) shown old new ending m
+      (subst (Appends old.taken new.taken) (sym (concat-append_one (written shown) (closing request ending))) (Appends-append old.taken mid.taken new.taken (concat (written shown)) (closing request ending) t c.1)))
+  wrote_closed shown old mid new ending result m t (inr c) =
       let last : List ℕ = closing request ending in
       let at : slice_get (lines_of_run request shown ending) (count_of ending) ≡ Some last = rw (counted (length shown) ending m) (last_of_run last shown) in
-      let before : Appends old mid (concat (take (count_of ending) (lines_of_run request shown ending))) =
+      let before : Appends old.taken mid.taken (concat (take (count_of ending) (lines_of_run request shown ending))) =
       rw (counted (length shown) ending m, all_of_run last shown) t in
-      subst (Wrote request shown ending old new refused) (sym c.0) (c.1, cut_at (lines_of_run request shown ending) (count_of ending) last old mid new at before c.2)
+      subst (Wrote request shown ending old new) (sym c.0) (c.1, cut_at (lines_of_run request shown ending) (count_of ending) last old.taken mid.taken new.taken at before c.2)
 
   -- the report was written as far as the ending says
-  pub closed_report : (faults : List Fault) (n : ℕ) (old mid new : Option (List ℕ)) (refused : Bool) (ending result : Outcome)
+  pub closed_report : (faults : List Fault) (n : ℕ) (old mid new : OutState) (ending result : Outcome)
       → n ≤ length faults → MayEnd request n Stops ending → (ReachesEnd ending → n ≡ length faults)
-      → Appends old mid (concat (written (take n faults))) → Closes request ending mid new refused result
-      → WritesReport request faults Stops old new refused result
-  closed_report faults n old mid new refused ending result within m all t c = record {
+      → Appends old.taken mid.taken (concat (written (take n faults))) → Closes request ending mid new result
+      → WritesReport request faults Stops old new result
+  closed_report faults n old mid new ending result within m all t c = record {
     count = n;
     ending = ending;
     within = within;
     may_end = m;
     all = all;
-    wrote = wrote_closed (take n faults) old mid new refused ending result (subst (λ k. MayEnd request k Stops ending) (sym (take_length n faults within)) m) t c;
+    wrote = wrote_closed (take n faults) old mid new ending result (subst (λ k. MayEnd request k Stops ending) (sym (take_length n faults within)) m) t c;
   }
 
   ended_may_end : (after : Option Fault) (n : ℕ) → request.after ≡ after → n < limit_of request → MayEnd request n Stops (ended after n)
@@ -100,11 +101,11 @@ module _ (request : Request) (Stops : Stop → Type 0) where
   ideal_all faults = ideal_all_by (length faults) (nat_le (limit_of request) (length faults)) refl
 
   -- the output refused a fault's line
-  pub cut_report : (faults : List Fault) (i : ℕ) (d : Fault) (old mid new : Option (List ℕ)) (refused : Bool)
-      → i < length faults → i < limit_of request → refused ≡ true
-      → Appends old mid (concat (written (take i faults))) → IsCut mid new (written_line (get_or faults i d))
-      → WritesReport request faults Stops old new refused (Unwritten i)
-  cut_report faults i d old mid new refused inside below is t cut =
+  pub cut_report : (faults : List Fault) (i : ℕ) (d : Fault) (old mid new : OutState)
+      → i < length faults → i < limit_of request → new.has_refused ≡ true
+      → Appends old.taken mid.taken (concat (written (take i faults))) → IsCut mid.taken new.taken (written_line (get_or faults i d))
+      → WritesReport request faults Stops old new (Unwritten i)
+  cut_report faults i d old mid new inside below is t cut =
       let n : ℕ = min (limit_of request) (length faults) in
       let shown : List Fault = take n faults in
       let last : List ℕ = closing request (ideal request faults) in
@@ -118,5 +119,5 @@ module _ (request : Request) (Stops : Stop → Type 0) where
         within = omega arith;
         may_end = ideal_may_end faults;
         all = ideal_all faults;
-        wrote = (is, cut_at (written shown ++ last ∷ []) i (written_line (get_or faults i d)) old mid new at (rw front t) cut);
+        wrote = (is, cut_at (written shown ++ last ∷ []) i (written_line (get_or faults i d)) old.taken mid.taken new.taken at (rw front t) cut);
       }

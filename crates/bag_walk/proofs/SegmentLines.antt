@@ -1,10 +1,11 @@
 -- A segment of a report, line after line.
-use Rattle.std.proofs.Common.{◌≡◌, ◌<◌, ◌≤◌, ◌+◌, ◌-◌, ◌++◌, ◌∷◌, ◌⊎◌, inl, inr, ℕ, zero, suc, Bool, true, List, [], Option, None, Some, Contains, length, take, drop, slice_get, IsTrue, refl, sym, ap, ◌∙◌, subst, arith, append-nil, append_assoc}
+use Rattle.std.proofs.Common.{◌≡◌, ◌<◌, ◌≤◌, ◌+◌, ◌-◌, ◌++◌, ◌∷◌, ◌⊎◌, inl, inr, ℕ, zero, suc, true, List, [], Option, None, Some, Contains, length, take, drop, slice_get, IsTrue, refl, sym, ap, ◌∙◌, subst, arith, append-nil, append_assoc}
 use Rattle.std.specs.Io.KnownBytes.{Appends}
 use Rattle.std.specs.List.{concat}
 use Rattle.std.proofs.lemmas.List.{length-append, map-append, append_cancel_left}
 use Rattle.std.proofs.Math.Seq.{take-append_seam}
 use Rattle.bag_text.proofs.ListOf.{contains_behind, contains_either}
+use Rattle.bag_tree.specs.Out.{OutState}
 use Rattle.bag_tree.specs.Bag.{Bag}
 use Rattle.bag_tree.specs.Calm.{MayTellMemory, RefusesNothing}
 use Rattle.bag_tree.specs.Tree.{TreeState, Keeps}
@@ -103,26 +104,26 @@ lines_before [] rest = refl
 lines_before (g ∷ given) rest = ap (λ lines. written_line g ∷ lines) (lines_before given rest)
 
 -- one line more
-pub one_line_more : (given : List Fault) (f : Fault) (old mid new : Option (List ℕ)) → Appends old mid (concat (written given)) → Appends mid new (written_line f)
-    → Appends old new (concat (written (given ++ f ∷ [])))
+pub one_line_more : (given : List Fault) (f : Fault) (old mid new : OutState) → Appends old.taken mid.taken (concat (written given)) → Appends mid.taken new.taken (written_line f)
+    → Appends old.taken new.taken (concat (written (given ++ f ∷ [])))
 one_line_more given f old mid new t more =
-    subst (Appends old new) (sym (ap concat (map-append written_line given (f ∷ [])) ∙ concat-append_one (written given) (written_line f)))
-    (Appends-append old mid new (concat (written given)) (written_line f) t more)
+    subst (Appends old.taken new.taken) (sym (ap concat (map-append written_line given (f ∷ [])) ∙ concat-append_one (written given) (written_line f)))
+    (Appends-append old.taken mid.taken new.taken (concat (written given)) (written_line f) t more)
 
 -- so many faults were given and written; of a bag that is seen they are the first
-pub record HasWritten (limit count : ℕ) (IsOf IsOfNow : Bag → Type 0) (left left_now : Bag → List Fault) (todo todo_now : List (List ℕ)) (old now : TreeState) (before after : Option (List ℕ)) (line line_now : List ℕ) : Type 0 where
+pub record HasWritten (limit count : ℕ) (IsOf IsOfNow : Bag → Type 0) (left left_now : Bag → List Fault) (todo todo_now : List (List ℕ)) (old now : TreeState) (before after : OutState) (line line_now : List ℕ) : Type 0 where
   pub keeps : Keeps old now
   pub calm : RefusesNothing old now
   pub within : count ≤ limit
   pub given : List Fault
   pub count_is : length given ≡ count
-  pub written_so_far : Appends before after (concat (written given))
+  pub written_so_far : Appends before.taken after.taken (concat (written given))
   pub last : (rest : List Fault) → IsLastOf (given ++ rest) count line line_now
   pub opens : Opens todo todo_now old now
   pub behind : (bag : Bag) → IsOf bag → Sees old todo bag → OpensNoneBehind (drop (count - 1) (left bag)) old now
   pub seen : (bag : Bag) → IsOf bag → Sees old todo bag → IsOfNow bag × (left bag ≡ given ++ left_now bag)
 
-module _ (limit count : ℕ) (IsOf IsOfNow : Bag → Type 0) (left left_now : Bag → List Fault) (todo todo_now : List (List ℕ)) (old now new : TreeState) (before mid : Option (List ℕ)) (line line_now : List ℕ)
+module _ (limit count : ℕ) (IsOf IsOfNow : Bag → Type 0) (left left_now : Bag → List Fault) (todo todo_now : List (List ℕ)) (old now new : TreeState) (before mid : OutState) (line line_now : List ℕ)
     (has : HasWritten limit count IsOf IsOfNow left left_now todo todo_now old now before mid line line_now) where
   pub sees_now : (bag : Bag) → Sees old todo bag → Sees now todo_now bag
   sees_now bag sees = sees_later old now todo_now bag has.keeps (sees_second old has.opens.opened todo_now bag (subst (λ l. Sees old l bag) has.opens.left sees))
@@ -140,31 +141,31 @@ module _ (limit count : ℕ) (IsOf IsOfNow : Bag → Type 0) (left left_now : Ba
       inr (reached_on old now new todo todo_now todo_new has.opens stop.path reached, λ of. stop_later old now new todo_new stop has.keeps has.calm (h (of_now of)))
 
   -- so many lines were written
-  pub lines_written : (rest : List Fault) → Appends before mid (concat (written (take count (has.given ++ rest))))
+  pub lines_written : (rest : List Fault) → Appends before.taken mid.taken (concat (written (take count (has.given ++ rest))))
   lines_written rest =
-      subst (λ xs. Appends before mid (concat (written xs))) (sym (ap (λ n. take n (has.given ++ rest)) (sym has.count_is) ∙ take-append_seam has.given rest)) has.written_so_far
+      subst (λ xs. Appends before.taken mid.taken (concat (written xs))) (sym (ap (λ n. take n (has.given ++ rest)) (sym has.count_is) ∙ take-append_seam has.given rest)) has.written_so_far
 
   size : (rest : List Fault) → length (has.given ++ rest) ≡ count + length rest
   size rest = length-append has.given rest ∙ ap (λ n. n + length rest) has.count_is
 
-  pub ends_full : (rest : List Fault) (refused : Bool) (segment : Segment) → limit ≤ count → segment ≡ record { written = count; end = Full } → IsSegment (has.given ++ rest) limit before mid refused segment
-  ends_full rest refused segment reached is = rw is (record { ends = (omega (arith, has.within, reached), omega (arith, size rest)); wrote = lines_written rest })
+  pub ends_full : (rest : List Fault) (segment : Segment) → limit ≤ count → segment ≡ record { written = count; end = Full } → IsSegment (has.given ++ rest) limit before mid segment
+  ends_full rest segment reached is = rw is (record { ends = (omega (arith, has.within, reached), omega (arith, size rest)); wrote = lines_written rest })
 
-  pub ends_at_end : (refused : Bool) (segment : Segment) → count < limit → segment ≡ record { written = count; end = AtEnd } → IsSegment (has.given ++ []) limit before mid refused segment
-  ends_at_end refused segment less is = rw is (record { ends = (less, omega (arith, size [])); wrote = lines_written [] })
+  pub ends_at_end : (segment : Segment) → count < limit → segment ≡ record { written = count; end = AtEnd } → IsSegment (has.given ++ []) limit before mid segment
+  ends_at_end segment less is = rw is (record { ends = (less, omega (arith, size [])); wrote = lines_written [] })
 
-  pub ends_unread : (rest : List Fault) (refused : Bool) (stop : Stop) (segment : Segment) → count < limit → segment ≡ record { written = count; end = Unread stop } → IsSegment (has.given ++ rest) limit before mid refused segment
-  ends_unread rest refused stop segment less is = rw is (record { ends = (less, omega (arith, size rest)); wrote = lines_written rest })
+  pub ends_unread : (rest : List Fault) (stop : Stop) (segment : Segment) → count < limit → segment ≡ record { written = count; end = Unread stop } → IsSegment (has.given ++ rest) limit before mid segment
+  ends_unread rest stop segment less is = rw is (record { ends = (less, omega (arith, size rest)); wrote = lines_written rest })
 
-  pub ends_unwritten : (f : Fault) (rest : List Fault) (refused : Bool) (after : Option (List ℕ)) (segment : Segment) → count < limit → refused ≡ true → IsCut mid after (written_line f)
-      → segment ≡ record { written = count; end = Unwritten } → IsSegment (has.given ++ f ∷ rest) limit before after refused segment
-  ends_unwritten f rest refused after segment less is_refused cut is = rw is (record {
+  pub ends_unwritten : (f : Fault) (rest : List Fault) (after : OutState) (segment : Segment) → count < limit → after.has_refused ≡ true → IsCut mid.taken after.taken (written_line f)
+      → segment ≡ record { written = count; end = Unwritten } → IsSegment (has.given ++ f ∷ rest) limit before after segment
+  ends_unwritten f rest after segment less is_refused cut is = rw is (record {
     ends = (less, omega (arith, size (f ∷ rest)));
     wrote = (
       is_refused,
-      cut_at (written (has.given ++ f ∷ rest)) count (written_line f) before mid after
+      cut_at (written (has.given ++ f ∷ rest)) count (written_line f) before.taken mid.taken after.taken
           (ap (slice_get (written (has.given ++ f ∷ rest))) (sym has.count_is) ∙ line_at has.given rest f)
-          (subst (λ lines. Appends before mid (concat lines)) (sym (ap (λ n. take n (written (has.given ++ f ∷ rest))) (sym has.count_is) ∙ lines_before has.given (f ∷ rest))) has.written_so_far)
+          (subst (λ lines. Appends before.taken mid.taken (concat lines)) (sym (ap (λ n. take n (written (has.given ++ f ∷ rest))) (sym has.count_is) ∙ lines_before has.given (f ∷ rest))) has.written_so_far)
           cut,
     );
   })

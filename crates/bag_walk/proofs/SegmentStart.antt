@@ -1,9 +1,10 @@
 -- A segment over a walk that was started behind others.
-use Rattle.std.proofs.Common.{◌≡◌, ◌<◌, ◌≤◌, ◌+◌, ℕ, inl, Bool, true, List, [], length, drop, filter, Option, None, IsTrue, sym, ap, ◌∙◌, subst}
+use Rattle.std.proofs.Common.{◌≡◌, ◌<◌, ◌≤◌, ◌+◌, ℕ, inl, true, List, [], length, drop, filter, Option, None, IsTrue, sym, ap, ◌∙◌, subst}
 use Rattle.std.specs.Cmp.Lexicographic.{nat_list_cmp_total}
 use Rattle.bag_text.specs.Path.{is_payload_path}
 use Rattle.bag_text.specs.Text.{text_cmp}
 use Rattle.bag_text.proofs.ListOf.{one_list}
+use Rattle.bag_tree.specs.Out.{OutState}
 use Rattle.bag_tree.specs.Bag.{Bag}
 use Rattle.bag_tree.specs.Calm.{RefusesNothing}
 use Rattle.bag_tree.specs.Tree.{TreeState, Keeps}
@@ -53,13 +54,13 @@ module _ (old mid new : TreeState) (profile : Option Profile) (options : Options
         (above_report started.seen profile (asking_of options after) report (subst (λ bag. IsReport (record { bag = bag; profile = profile; options = options }) report) (sym (started.honest honest)) is))
         ∙ ap (λ cursor. above cursor report) behind ∙ above_behind n report is.ascending within
 
-    pub goes_on : (limit : ℕ) (before then : Option (List ℕ)) (refused : Bool) (line next : List ℕ) (segment : Segment) → IsLastLine (cursor_behind n report) line
-        → ((bag : Bag) → IsOf bag → Sees mid todo bag → IsSegment (left bag) limit before then refused segment)
+    pub goes_on : (limit : ℕ) (before then : OutState) (line next : List ℕ) (segment : Segment) → IsLastLine (cursor_behind n report) line
+        → ((bag : Bag) → IsOf bag → Sees mid todo bag → IsSegment (left bag) limit before then segment)
         → ((bag : Bag) → IsOf bag → Sees mid todo bag → IsLastOf (left bag) segment.written line next)
-        → GoesOn report n limit before then refused next segment
-    goes_on limit before then refused line next segment was seen last =
+        → GoesOn report n limit before then next segment
+    goes_on limit before then line next segment was seen last =
         let sees = sees_of old mid new profile (asking_of options after) IsOf left todo started k (inl honest) in record {
-          writes = subst (λ faults. IsSegment faults limit before then refused segment) left_behind (seen started.seen started.of sees);
+          writes = subst (λ faults. IsSegment faults limit before then segment) left_behind (seen started.seen started.of sees);
           last = last_later n segment.written report line next was (subst (λ faults. IsLastOf faults segment.written line next) left_behind (last started.seen started.of sees));
         }
 
@@ -73,13 +74,13 @@ module _ (old mid new : TreeState) (profile : Option Profile) (options : Options
         (not_passed_listed check_seen after listed (subst (λ bag. AreListed options bag listed) (sym (started.honest honest)) are))
         ∙ ap (λ cursor. not_passed cursor listed) behind
 
-    pub opens_behind : OpensWanted options old mid → (others : List (List ℕ)) → OpensAgain todo others mid new → (limit : ℕ) → 0 < limit → (before then : Option (List ℕ)) (refused : Bool) (segment : Segment)
-        → ((bag : Bag) → IsOf bag → Sees mid todo bag → IsSegment (left bag) limit before then refused segment)
+    pub opens_behind : OpensWanted options old mid → (others : List (List ℕ)) → OpensAgain todo others mid new → (limit : ℕ) → 0 < limit → (before then : OutState) (segment : Segment)
+        → ((bag : Bag) → IsOf bag → Sees mid todo bag → IsSegment (left bag) limit before then segment)
         → ((bag : Bag) → IsOf bag → Sees mid todo bag → OpensNoneBehind (still_to_come segment (left bag)) mid new)
         → (listed : List (List ℕ)) → AreListed options old.bag listed
         → OpensInSegment listed (cursor_behind n report) (cursor_behind (n + segment.written) report) old new segment.end
-    opens_behind read others again limit some before then refused segment seen none listed are =
+    opens_behind read others again limit some before then segment seen none listed are =
         let sees = sees_of old mid new profile (asking_of options after) IsOf left todo started k (inl honest) in
-        let s = subst (λ faults. IsSegment faults limit before then refused segment) left_behind (seen started.seen started.of sees) in
+        let s = subst (λ faults. IsSegment faults limit before then segment) left_behind (seen started.seen started.of sees) in
         let b = subst (λ faults. OpensNoneBehind (still_to_come segment faults) mid new) left_behind (none started.seen started.of sees) in
         opens_front old mid new options todo others read again n limit report segment some s.ends b listed (cursor_behind n report) (payload_left listed are)

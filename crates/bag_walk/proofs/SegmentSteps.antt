@@ -1,9 +1,10 @@
 -- Segment after segment of a report.
-use Rattle.std.proofs.Common.{◌≡◌, ◌<◌, ◌≤◌, ◌+◌, ◌-◌, ◌++◌, ◌∷◌, inl, inr, ℕ, zero, suc, Bool, true, false, List, [], length, take, drop, get_or, slice_get, None, Some, Option, refl, sym, ap, ◌∙◌, subst, arith, true≢false, append_assoc}
+use Rattle.std.proofs.Common.{◌≡◌, ◌<◌, ◌≤◌, ◌+◌, ◌-◌, ◌++◌, ◌∷◌, inl, inr, ℕ, zero, suc, true, false, List, [], length, take, drop, get_or, slice_get, None, Some, refl, sym, ap, ◌∙◌, subst, arith, true≢false, append_assoc}
 use Rattle.std.specs.List.{concat, sum}
 use Rattle.std.specs.List.Sorted.{IsStrictlySortedBy}
 use Rattle.std.specs.Io.KnownBytes.{Appends}
 use Rattle.std.proofs.lemmas.List.{append_cancel_left, drop_more, drop_all, map-append, take-append-drop, length-drop}
+use Rattle.bag_tree.specs.Out.{OutState}
 use Rattle.bag_tree.specs.Bag.{HasFile}
 use Rattle.bag_tree.specs.Calm.{MayTellMemory}
 use Rattle.bag_tree.specs.Tree.{TreeState, Keeps}
@@ -91,23 +92,23 @@ last_later n (suc k) report old new was (f, at, is) =
 
 -- ---- what was written
 
-module _ (n k : ℕ) (report : List Fault) (began before after : Option (List ℕ)) (so : Appends began before (concat (written (first n report)))) where
-  whole : Appends before after (concat (written (take k (drop n report)))) → Appends began after (concat (written (first (n + k) report)))
+module _ (n k : ℕ) (report : List Fault) (began before after : OutState) (so : Appends began.taken before.taken (concat (written (first n report)))) where
+  whole : Appends before.taken after.taken (concat (written (take k (drop n report)))) → Appends began.taken after.taken (concat (written (first (n + k) report)))
   whole more =
-      subst (Appends began after)
+      subst (Appends began.taken after.taken)
       (sym (concat_joined (written (take n report)) (written (take k (drop n report)))) ∙ ap concat (sym (map-append written_line (take n report) (take k (drop n report))) ∙ ap written (take_joined n k report)))
-      (Appends-append began before after (concat (written (take n report))) _ so more)
+      (Appends-append began.taken before.taken after.taken (concat (written (take n report))) _ so more)
 
   -- what a segment wrote behind what others wrote
-  pub wrote_on : (refused : Bool) (end : SegmentEnd) → WroteFirst (drop n report) k before after refused end → WroteSegments (n + k) report began after refused (outcome_at (n + k) end)
-  wrote_on refused end_of.Full more = whole more
-  wrote_on refused end_of.AtEnd more = wrote_ended (n + k) (whole more)
+  pub wrote_on : (end : SegmentEnd) → WroteFirst (drop n report) k before after end → WroteSegments (n + k) report began after (outcome_at (n + k) end)
+  wrote_on end_of.Full more = whole more
+  wrote_on end_of.AtEnd more = wrote_ended (n + k) (whole more)
     where
-      wrote_ended : (m : ℕ) → Appends began after (concat (written (first (n + k) report))) → WroteSegments (n + k) report began after refused (ended None m)
+      wrote_ended : (m : ℕ) → Appends began.taken after.taken (concat (written (first (n + k) report))) → WroteSegments (n + k) report began after (ended None m)
       wrote_ended zero t = t
       wrote_ended (suc m) t = t
-  wrote_on refused (end_of.Unread stop) more = whole more
-  wrote_on refused end_of.Unwritten (is, (bytes, (part, rest, at, some, all), taken)) = (
+  wrote_on (end_of.Unread stop) more = whole more
+  wrote_on end_of.Unwritten (is, (bytes, (part, rest, at, some, all), taken)) = (
     is,
     (
       concat (written (take n report)) ++ bytes,
@@ -122,7 +123,7 @@ module _ (n k : ℕ) (report : List Fault) (began before after : Option (List �
             (ap (λ l. concat l ++ concat (take k (written (drop n report)))) (lines_taken n report)
             ∙ sym (concat_joined (take n (written report)) (take k (written (drop n report)))) ∙ ap concat (lines_joined n k report)),
       ),
-      Appends-append began before after (concat (written (take n report))) bytes so taken,
+      Appends-append began.taken before.taken after.taken (concat (written (take n report))) bytes so taken,
     ),
   )
     where
@@ -191,20 +192,20 @@ last_is_no_stop options limits old new n end_of.Unwritten last = tt
 -- ---- segment after segment
 
 -- the segments of the first limits
-pub record SoFar (options : Options) (report : List Fault) (limits : List ℕ) (i : ℕ) (old now : TreeState) (count : ℕ) (line : List ℕ) (before after : Option (List ℕ)) (outcome : Outcome) : Type 0 where
+pub record SoFar (options : Options) (report : List Fault) (limits : List ℕ) (i : ℕ) (old now : TreeState) (count : ℕ) (line : List ℕ) (before after : OutState) (outcome : Outcome) : Type 0 where
   pub lost : ℕ
   pub unread : ℕ
   pub few_lost : old.failures + lost ≤ now.failures
   pub gone : i ≤ length limits
   pub within : count ≤ length report
   pub last : IsLastLine (cursor_behind count report) line
-  pub wrote : Appends before after (concat (written (first count report)))
-  pub shown : (refused : Bool) → WroteSegments count report before after refused outcome
+  pub wrote : Appends before.taken after.taken (concat (written (first count report)))
+  pub shown : WroteSegments count report before after outcome
   pub follows : (new : TreeState) → Keeps now new → (u r n : ℕ) (last : Outcome) → SegmentsFrom report (MayLose options old new) lost unread count outcome (drop i limits) u r n last
       → AreSegments report (MayLose options old new) limits u r n last
   pub opens : (listed : List (List ℕ)) → AreListed options old.bag listed → OpenedSoFar listed i unread (cursor_behind count report) old now
 
-pub so_far_none : (options : Options) (report : List Fault) (limits : List ℕ) (old : TreeState) (line : List ℕ) (before : Option (List ℕ)) → line ≡ []
+pub so_far_none : (options : Options) (report : List Fault) (limits : List ℕ) (old : TreeState) (line : List ℕ) (before : OutState) → line ≡ []
     → SoFar options report limits 0 old old 0 line before before (Stopped 0)
 so_far_none options report limits old line before none = record {
   lost = 0;
@@ -213,27 +214,27 @@ so_far_none options report limits old line before none = record {
   gone = omega arith;
   within = omega arith;
   last = none;
-  wrote = Appends-nil before;
-  shown = λ refused. Appends-nil before;
+  wrote = Appends-nil before.taken;
+  shown = Appends-nil before.taken;
   follows = λ new k u r n last rest. rest;
   opens = λ listed are. opened_none listed old;
 }
 
-module _ (options : Options) (report : List Fault) (limits : List ℕ) (i : ℕ) (old now : TreeState) (count : ℕ) (line : List ℕ) (before after : Option (List ℕ)) (outcome : Outcome)
+module _ (options : Options) (report : List Fault) (limits : List ℕ) (i : ℕ) (old now : TreeState) (count : ℕ) (line : List ℕ) (before after : OutState) (outcome : Outcome)
     (so : SoFar options report limits i old now count line before after outcome) (kept : Keeps old now) (sorted : IsStrictlySortedBy fault_cmp report) where
   -- all limits were gone through
-  pub all_segments : length limits ≤ i → (refused : Bool) → RunsOfSegments options report limits old now before after refused outcome
-  all_segments past refused = record {
+  pub all_segments : length limits ≤ i → RunsOfSegments options report limits old now before after outcome
+  all_segments past = record {
     lost = so.lost;
     unread = so.unread;
     count = count;
     segments = so.follows now (keeps_itself now) so.lost so.unread count outcome (rw (drop_all i limits past) (refl, refl, refl, refl));
     few_lost = so.few_lost;
-    wrote = so.shown refused;
+    wrote = so.shown;
     opens = λ listed are. few_of listed i so.unread (length limits) (cursor_behind count report) old now (so.opens listed are) so.gone;
   }
 
-  module _ (m : ℕ) (new : TreeState) (k : ℕ) (next : List ℕ) (then : Option (List ℕ)) (refused : Bool) (less : i < length limits) (is : m ≡ get_or limits i 0) (keeps : Keeps now new)
+  module _ (m : ℕ) (new : TreeState) (k : ℕ) (next : List ℕ) (then : OutState) (less : i < length limits) (is : m ≡ get_or limits i 0) (keeps : Keeps now new)
       (last : IsLastLine (cursor_behind (count + k) report) next) where
     at_limit : drop i limits ≡ m ∷ drop (i + 1) limits
     at_limit = drop_more limits i 0 less ∙ ap (λ limit. limit ∷ drop (i + 1) limits) (sym is)
@@ -250,7 +251,7 @@ module _ (options : Options) (report : List Fault) (limits : List ℕ) (i : ℕ)
         few_with_last listed i so.unread (cursor_behind count report) (cursor_behind (count + k) report) old now new end (so.opens listed are) (front listed are) (length limits) less
 
     -- one segment more, behind which others follow
-    pub one_segment_more : (end : SegmentEnd) → is_last end ≡ false → EndsSegment (drop count report) m k end → WroteFirst (drop count report) k after then refused end → IfUnread end (MayStop options now new)
+    pub one_segment_more : (end : SegmentEnd) → is_last end ≡ false → EndsSegment (drop count report) m k end → WroteFirst (drop count report) k after then end → IfUnread end (MayStop options now new)
         → OpensFront end → SoFar options report limits (i + 1) old new (count + k) next before then (outcome_at (count + k) end)
     one_segment_more end_of.Full goes ends wrote stops front = record {
       lost = so.lost;
@@ -260,7 +261,7 @@ module _ (options : Options) (report : List Fault) (limits : List ℕ) (i : ℕ)
       within = omega (arith, ends.1, left, so.within);
       last = last;
       wrote = whole count k report before after then so.wrote wrote;
-      shown = λ other. whole count k report before after then so.wrote wrote;
+      shown = whole count k report before after then so.wrote wrote;
       follows = λ end keep u r n last rest.
           let P : ℕ → Type 0 = λ w. SegmentsFrom report (MayLose options old end) so.lost so.unread (count + w) (Stopped (count + w)) (drop (i + 1) limits) u r n last in
           so.follows end (keeps_on now new end keeps keep) u r n last (rw at_limit (inl (omega (arith, ends.0, ends.1, left), subst P ends.0 rest)));
@@ -278,7 +279,7 @@ module _ (options : Options) (report : List Fault) (limits : List ℕ) (i : ℕ)
           within = omega (arith, ends.1, left, so.within);
           last = last;
           wrote = whole count k report before after then so.wrote wrote;
-          shown = λ other. whole count k report before after then so.wrote wrote;
+          shown = whole count k report before after then so.wrote wrote;
           follows = λ end keep u r n last rest.
               so.follows end (keeps_on now new end keeps keep) u r n last
               (rw at_limit (inr (inr (inl (k, stop, ends.0, omega (arith, ends.1, left, so.within), may_lose options old now new end kept keep stop stops, rest)))));
@@ -288,8 +289,8 @@ module _ (options : Options) (report : List Fault) (limits : List ℕ) (i : ℕ)
     one_segment_more end_of.Unwritten goes ends wrote stops front = absurd (true≢false goes)
 
     -- and one behind which none follows
-    pub last_segment : (end : SegmentEnd) → is_last end ≡ true → EndsSegment (drop count report) m k end → WroteFirst (drop count report) k after then refused end → OpensFront end
-        → RunsOfSegments options report limits old new before then refused (outcome_at (count + k) end)
+    pub last_segment : (end : SegmentEnd) → is_last end ≡ true → EndsSegment (drop count report) m k end → WroteFirst (drop count report) k after then end → OpensFront end
+        → RunsOfSegments options report limits old new before then (outcome_at (count + k) end)
     last_segment end_of.Full ends_all ends wrote front = absurd (true≢false (sym ends_all))
     last_segment end_of.AtEnd ends_all ends wrote front =
         let all : count + k ≡ length report = omega (arith, ends.1, left, so.within) in record {
@@ -299,7 +300,7 @@ module _ (options : Options) (report : List Fault) (limits : List ℕ) (i : ℕ)
           segments = so.follows new keeps so.lost so.unread (count + k) (ended None (count + k))
               (rw at_limit (inr (inl (omega (arith, ends.0, ends.1, left), refl, refl, all, ap (ended None) all))));
           few_lost = omega (arith, so.few_lost, keeps.failures);
-          wrote = wrote_on count k report before after then so.wrote refused end_of.AtEnd wrote;
+          wrote = wrote_on count k report before after then so.wrote end_of.AtEnd wrote;
           opens = few_then end_of.AtEnd front;
         }
     last_segment (end_of.Unread stop) ends_all ends wrote front = absurd (true≢false (sym ends_all))
@@ -310,6 +311,6 @@ module _ (options : Options) (report : List Fault) (limits : List ℕ) (i : ℕ)
       segments = so.follows new keeps so.lost so.unread (count + k) (Unwritten (count + k))
           (rw at_limit (inr (inr (inr (k, ends.0, omega (arith, ends.1, left), refl, refl, refl, refl)))));
       few_lost = omega (arith, so.few_lost, keeps.failures);
-      wrote = wrote_on count k report before after then so.wrote refused end_of.Unwritten wrote;
+      wrote = wrote_on count k report before after then so.wrote end_of.Unwritten wrote;
       opens = few_then end_of.Unwritten front;
     }

@@ -1,6 +1,7 @@
 -- A run over a walk, by its segment.
-use Rattle.std.proofs.Common.{◌≡◌, ◌≤◌, ◌-◌, inl, inr, ℕ, Bool, List, Option, min, sym, subst, arith}
+use Rattle.std.proofs.Common.{◌≡◌, ◌≤◌, ◌-◌, inl, inr, ℕ, List, min, sym, subst, arith}
 use Rattle.bag_tree.specs.Calm.{RefusesNothing}
+use Rattle.bag_tree.specs.Out.{OutState}
 use Rattle.bag_tree.specs.Tree.{TreeState}
 use Rattle.bag_tree.specs.declared.tree_fault.Stop.{Stop}
 use Rattle.bag_facts.specs.declared.fault.Fault.{Fault}
@@ -45,10 +46,10 @@ module _ (todo left : List (List ℕ)) (old new : TreeState) where
   stops_segment IsOf Unwritten stops = tt
 
   -- what a segment says of it is so of the run
-  pub calmly : (request : Request) (faults : List Fault) (IsOf : Type 0) (segment : Segment) (before after : Option (List ℕ)) (refused : Bool) (outcome : Outcome)
-      → ClosesSegment request faults segment before after refused outcome → IfUnread segment.end (MayStopWalk IsOf todo left old new) → (IsRead segment.end → RefusesNothing old new)
-      → WritesCalmly request faults (MayStopRun IsOf todo old new) old new before after refused outcome
-  calmly request faults IsOf segment before after refused outcome (w, read) stops calm = (
+  pub calmly : (request : Request) (faults : List Fault) (IsOf : Type 0) (segment : Segment) (before after : OutState) (outcome : Outcome)
+      → ClosesSegment request faults segment before after outcome → IfUnread segment.end (MayStopWalk IsOf todo left old new) → (IsRead segment.end → RefusesNothing old new)
+      → WritesCalmly request faults (MayStopRun IsOf todo old new) old new before after outcome
+  calmly request faults IsOf segment before after outcome (w, read) stops calm = (
     record {
       count = w.count;
       ending = w.ending;

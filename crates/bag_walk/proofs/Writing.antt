@@ -1,12 +1,12 @@
 -- A text is written piece by piece.
-use Rattle.std.proofs.Common.{◌≡◌, ℕ, zero, suc, get_or, ◌∷◌, ◌+◌, ◌<◌, ◌++◌, Bool, List, [], length, take, drop, Option, None, Some, refl, ap, sym, ◌∙◌, subst, append_assoc, append-nil, take-append-drop, length-append, arith}
+use Rattle.std.proofs.Common.{◌≡◌, ℕ, zero, suc, get_or, ◌∷◌, ◌+◌, ◌<◌, ◌++◌, List, [], length, take, drop, Option, None, Some, refl, ap, sym, ◌∙◌, subst, append_assoc, append-nil, take-append-drop, length-append, arith}
 use Rattle.std.proofs.lemmas.Grind.{common_steps}
 use Rattle.std.proofs.Math.Seq.{take-append-add}
 use Rattle.std.proofs.lemmas.Result.{MatchResult-weaker}
-use Rattle.std.specs.Prelude.{Result, Err}
+use Rattle.std.specs.Prelude.{Result}
 use Rattle.std.specs.Io.KnownBytes.{Appends, Keeps}
 use Rattle.std.specs.Borrow.{Bor}
-use Rattle.bag_tree.specs.Out.{Takes}
+use Rattle.bag_tree.specs.Out.{OutState}
 use Rattle.bag_tree.specs.declared.out.Refused.{Refused}
 use Rattle.bag_walk.specs.Write.{IsCut, IsTaken, Writes, text_of}
 
@@ -29,11 +29,11 @@ Appends-keeps (Some xs) (Some ys) None text p k = absurd k
 Appends-keeps (Some xs) (Some ys) (Some zs) text p k = k ∙ p
 
 -- a call took some more
-pub taken_more : (old mid new : Option (List ℕ)) (text rest : List ℕ) (n : ℕ) → IsTaken old mid text rest → Takes mid new rest n → IsTaken old new text (drop n rest)
-taken_more old mid new text rest n so_far piece = record {
+pub taken_more : (old mid new : Option (List ℕ)) (text rest : List ℕ) (n : ℕ) → IsTaken old mid text rest → Appends mid new (take n rest) → IsTaken old new text (drop n rest)
+taken_more old mid new text rest n so_far more = record {
   front = so_far.front ++ take n rest;
   joins = so_far.joins ∙ ap (λ xs. so_far.front ++ xs) (sym (take-append-drop n rest)) ∙ sym (append_assoc so_far.front (take n rest) (drop n rest));
-  taken = Appends-append old mid new so_far.front (take n rest) so_far.taken piece.appended;
+  taken = Appends-append old mid new so_far.front (take n rest) so_far.taken more;
 }
 
 take_front : (text front rest : List ℕ) → text ≡ front ++ rest → take (length front) text ≡ front
@@ -57,10 +57,6 @@ IsCut-append old new first second cut =
     let within : cut.0 < length first = cut.1 in
     (cut.0, omega (arith, length-append first second), subst (Appends old new) (sym (take_in_first first second cut.0 within)) cut.2)
 
--- what was taken where a second part was cut off
-pub taken_past : (old mid new : Option (List ℕ)) (first second : List ℕ) (n : ℕ) → Appends old mid first → Appends mid new (take n second) → Appends old new (take (length first + n) (first ++ second))
-taken_past old mid new first second n taken more = subst (Appends old new) (sym (take_past_first first second n)) (Appends-append old mid new first (take n second) taken more)
-
 -- and so is one whose second part was cut off
 pub append-IsCut : (old mid new : Option (List ℕ)) (first second : List ℕ) → Appends old mid first → IsCut mid new second → IsCut old new (first ++ second)
 append-IsCut old mid new first second taken cut =
@@ -68,19 +64,16 @@ append-IsCut old mid new first second taken cut =
     (length first + cut.0, omega (arith, length-append first second), subst (Appends old new) (sym (take_past_first first second cut.0)) (Appends-append old mid new first (take cut.0 second) taken cut.2))
 
 -- a second text after a first
-pub writes_after : (old mid new : Option (List ℕ)) (refused : Bool) (first second : List ℕ) (result : Result (Unit {0}) Refused) → Writes mid new refused second result → Appends old mid first → Writes old new refused (first ++ second) result
-writes_after old mid new refused first second result w taken =
-    MatchResult-weaker result w (λ _ all. Appends-append old mid new first second taken all) (λ _ part. (append-IsCut old mid new first second taken part.0, part.1))
-
--- a first text that was cut off
-pub cut_before : (old new : Option (List ℕ)) (refused : Bool) (first second : List ℕ) (e : Refused) → Writes old new refused first (Err e) → Writes old new refused (first ++ second) (Err e)
-cut_before old new refused first second e part = (IsCut-append old new first second part.0, part.1)
+pub writes_after : (old mid new : OutState) (first second : List ℕ) (result : Result (Unit {0}) Refused) → Writes mid new second result → Appends old.taken mid.taken first → Writes old new (first ++ second) result
+writes_after old mid new first second result w taken =
+    MatchResult-weaker result w (λ _ all. Appends-append old.taken mid.taken new.taken first second taken all)
+    (λ _ part. (append-IsCut old.taken mid.taken new.taken first second taken part.0, part.1))
 
 -- a third text after two that were taken
-pub writes_third : (old mid new : Option (List ℕ)) (refused : Bool) (first second third : List ℕ) (result : Result (Unit {0}) Refused) → Writes mid new refused third result → Appends old mid (first ++ second)
-    → Writes old new refused (first ++ (second ++ third)) result
-writes_third old mid new refused first second third result w taken =
-    subst (λ text. Writes old new refused text result) (append_assoc first second third) (writes_after old mid new refused (first ++ second) third result w taken)
+pub writes_third : (old mid new : OutState) (first second third : List ℕ) (result : Result (Unit {0}) Refused) → Writes mid new third result → Appends old.taken mid.taken (first ++ second)
+    → Writes old new (first ++ (second ++ third)) result
+writes_third old mid new first second third result w taken =
+    subst (λ text. Writes old new text result) (append_assoc first second third) (writes_after old mid new (first ++ second) third result w taken)
 
 -- a third text after two of which not all was taken
 pub cut_third : (old new : Option (List ℕ)) (first second third : List ℕ) → IsCut old new (first ++ second) → IsCut old new (first ++ (second ++ third))
@@ -99,10 +92,6 @@ pieces_cut old mid new pieces i d h taken cut =
     subst (IsCut old new) (sym (text_split pieces i d h))
     (append-IsCut old mid new (text_of (take i pieces)) ((get_or pieces i d).now ++ text_of (drop (suc i) pieces)) taken (IsCut-append mid new (get_or pieces i d).now (text_of (drop (suc i) pieces)) cut))
 
--- nothing of a text was taken yet
-pub taken_none : (old : Option (List ℕ)) (text rest : List ℕ) → text ≡ rest → IsTaken old old text rest
-taken_none old text rest e = record { front = []; joins = e; taken = Appends-nil old }
-
 -- one more piece of a text was taken
 pub taken_piece : (old mid new : Option (List ℕ)) (text rest piece after : List ℕ) → IsTaken old mid text rest → rest ≡ piece ++ after → Appends mid new piece → IsTaken old new text after
 taken_piece old mid new text rest piece after so_far e more = record {
@@ -116,8 +105,3 @@ pub cut_piece : (old mid new : Option (List ℕ)) (text rest piece after : List 
 cut_piece old mid new text rest piece after so_far e cut =
     subst (IsCut old new) (sym (so_far.joins ∙ ap (λ xs. so_far.front ++ xs) e))
     (append-IsCut old mid new so_far.front (piece ++ after) so_far.taken (IsCut-append mid new piece after cut))
-
--- all of a text was taken
-pub taken_all : (old new : Option (List ℕ)) (text rest : List ℕ) → IsTaken old new text rest → rest ≡ [] → Appends old new text
-taken_all old new text rest so_far e =
-    subst (Appends old new) (sym (so_far.joins ∙ ap (λ xs. so_far.front ++ xs) e ∙ append-nil so_far.front)) so_far.taken

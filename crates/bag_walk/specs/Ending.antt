@@ -1,7 +1,8 @@
 -- What is written of faults that are shown, and how a run may end.
-use Rattle.std.specs.Prelude.{zero, suc, ⊤, ℕ, ◌<◌, ◌≡◌, ◌≢◌, Bool, true, List, [], ◌∷◌, ◌++◌, Option, Some, None, length, map, slice_get, take, if◌then◌else◌, nat_le, unwrap_or, codes}
+use Rattle.std.specs.Prelude.{zero, suc, ⊤, ℕ, ◌<◌, ◌≡◌, ◌≢◌, true, List, [], ◌∷◌, ◌++◌, Option, Some, None, length, map, slice_get, take, if◌then◌else◌, nat_le, unwrap_or, codes}
 use Rattle.std.specs.List.{concat}
 use Rattle.std.specs.Io.KnownBytes.{Appends}
+use Rattle.bag_tree.specs.Out.{OutState}
 use Rattle.bag_tree.specs.declared.tree_fault.Stop.{Stop}
 use Rattle.bag_facts.specs.FaultLine.{fault_line}
 use Rattle.bag_facts.specs.declared.fault.Fault.{Fault}
@@ -30,11 +31,11 @@ IsCutAt n lines bytes =
 
 -- The run wrote all of its text and answered so; or the output refused, and took n whole lines of that text and a
 -- proper part of the next.
-abbrev pub Wrote : Request → List Fault → Outcome → Option (List ℕ) → Option (List ℕ) → Bool → Outcome → Type 0
-Wrote request shown ending before after refused (Unwritten n) =
-    (refused ≡ true) × ((bytes : List ℕ) × IsCutAt n (lines_of_run request shown ending) bytes × Appends before after bytes)
-Wrote request shown ending before after refused outcome =
-    (outcome ≡ ending) × Appends before after (concat (lines_of_run request shown ending))
+abbrev pub Wrote : Request → List Fault → Outcome → OutState → OutState → Outcome → Type 0
+Wrote request shown ending before after (Unwritten n) =
+    (after.has_refused ≡ true) × ((bytes : List ℕ) × IsCutAt n (lines_of_run request shown ending) bytes × Appends before.taken after.taken bytes)
+Wrote request shown ending before after outcome =
+    (outcome ≡ ending) × Appends before.taken after.taken (concat (lines_of_run request shown ending))
 
 abbrev pub limit_of : Request → ℕ
 limit_of request = unwrap_or request.limit 18446744073709551615

@@ -1,8 +1,9 @@
 -- A segment of a report: the lines of its first faults.
-use Rattle.std.specs.Prelude.{ℕ, ◌-◌, ◌<◌, ◌≤◌, ◌≡◌, ⊤, ◌⊎◌, Bool, true, List, [], Option, length, take, drop}
+use Rattle.std.specs.Prelude.{ℕ, ◌-◌, ◌<◌, ◌≤◌, ◌≡◌, ⊤, ◌⊎◌, true, List, [], length, take, drop}
 use Rattle.std.specs.Io.KnownBytes.{Appends}
 use Rattle.std.specs.List.{concat}
 use Rattle.bag_tree.specs.Calm.{MayTellMemory, RefusesNothing}
+use Rattle.bag_tree.specs.Out.{OutState}
 use Rattle.bag_tree.specs.Tree.{TreeState, CameFromFile}
 use Rattle.bag_tree.specs.declared.tree_fault.Stop.{Stop}
 use Rattle.bag_tree.specs.declared.tree_fault.TreeFault.TheVariants.{Memory}
@@ -26,15 +27,15 @@ EndsSegment faults limit n (Unread stop) = (n < limit) × (n ≤ length faults)
 EndsSegment faults limit n Unwritten = (n < limit) × (n < length faults)
 
 -- the lines of the first n faults were written, and where the output refused a proper part of the next line
-abbrev pub WroteFirst : List Fault → ℕ → Option (List ℕ) → Option (List ℕ) → Bool → SegmentEnd → Type 0
-WroteFirst faults n before after refused Unwritten =
-    (refused ≡ true) × ((bytes : List ℕ) × IsCutAt n (written faults) bytes × Appends before after bytes)
-WroteFirst faults n before after refused end = Appends before after (concat (written (take n faults)))
+abbrev pub WroteFirst : List Fault → ℕ → OutState → OutState → SegmentEnd → Type 0
+WroteFirst faults n before after Unwritten =
+    (after.has_refused ≡ true) × ((bytes : List ℕ) × IsCutAt n (written faults) bytes × Appends before.taken after.taken bytes)
+WroteFirst faults n before after end = Appends before.taken after.taken (concat (written (take n faults)))
 
 -- a segment of these faults
-pub record IsSegment (faults : List Fault) (limit : ℕ) (before after : Option (List ℕ)) (refused : Bool) (segment : Segment) : Type 0 where
+pub record IsSegment (faults : List Fault) (limit : ℕ) (before after : OutState) (segment : Segment) : Type 0 where
   pub ends : EndsSegment faults limit segment.written segment.end
-  pub wrote : WroteFirst faults segment.written before after refused segment.end
+  pub wrote : WroteFirst faults segment.written before after segment.end
 
 -- the tree and memory refused nothing
 abbrev pub IsRead : SegmentEnd → Type 0
@@ -70,9 +71,9 @@ abbrev pub StopsAt : Segment → Stop → Type 0
 StopsAt segment stop = segment.end ≡ Unread stop
 
 -- the lines of the first of these faults and a closing line were written, which tells of a stop that the segment tells of
-abbrev pub ClosesSegment : Request → List Fault → Segment → Option (List ℕ) → Option (List ℕ) → Bool → Outcome → Type 0
-ClosesSegment request faults segment before after refused outcome =
-    (writes : WritesReport request faults (StopsAt segment) before after refused outcome)
+abbrev pub ClosesSegment : Request → List Fault → Segment → OutState → OutState → Outcome → Type 0
+ClosesSegment request faults segment before after outcome =
+    (writes : WritesReport request faults (StopsAt segment) before after outcome)
     × (IsAnswered writes.ending → IsRead segment.end)
 
 -- Why a run over a walk stops whose source is of an honest tree's bag: at a file that was to be opened, or for want of
@@ -88,6 +89,6 @@ abbrev pub MayStopRun : Type 0 → List (List ℕ) → TreeState → TreeState �
 MayStopRun IsOf todo old new stop = RunsOut old new stop ⊎ (IsOf → StopsWalk todo old new stop)
 
 -- the lines of the first of these faults and a closing line were written, and nothing was refused where the run was answered
-abbrev pub WritesCalmly : Request → List Fault → (Stop → Type 0) → TreeState → TreeState → Option (List ℕ) → Option (List ℕ) → Bool → Outcome → Type 0
-WritesCalmly request faults Stops old new before after refused outcome =
-    (writes : WritesReport request faults Stops before after refused outcome) × (IsAnswered writes.ending → RefusesNothing old new)
+abbrev pub WritesCalmly : Request → List Fault → (Stop → Type 0) → TreeState → TreeState → OutState → OutState → Outcome → Type 0
+WritesCalmly request faults Stops old new before after outcome =
+    (writes : WritesReport request faults Stops before after outcome) × (IsAnswered writes.ending → RefusesNothing old new)

@@ -4,6 +4,7 @@ use Rattle.std.specs.List.{concat}
 use Rattle.std.specs.List.Sorted.{IsStrictlySortedBy}
 use Rattle.std.specs.Io.KnownBytes.{Appends}
 use Rattle.bag_tree.specs.Calm.{MayTellMemory}
+use Rattle.bag_tree.specs.Out.{OutState}
 use Rattle.bag_tree.specs.Tree.{TreeState}
 use Rattle.bag_tree.specs.declared.tree_fault.Stop.{Stop}
 use Rattle.bag_tree.specs.declared.tree_fault.TreeFault.{TreeFault}
@@ -64,10 +65,10 @@ abbrev pub AreSegments : List Fault → (Stop → Type 0) → List ℕ → ℕ �
 AreSegments report Stops limits u r n outcome = SegmentsFrom report Stops 0 0 0 (Stopped 0) limits u r n outcome
 
 -- the lines of the first n faults were written, and where the output refused a proper part of the next line
-abbrev pub WroteSegments : ℕ → List Fault → Option (List ℕ) → Option (List ℕ) → Bool → Outcome → Type 0
-WroteSegments n report before after refused (Unwritten k) =
-    (refused ≡ true) × ((bytes : List ℕ) × IsCutAt n (written report) bytes × Appends before after bytes)
-WroteSegments n report before after refused outcome = Appends before after (concat (written (first n report)))
+abbrev pub WroteSegments : ℕ → List Fault → OutState → OutState → Outcome → Type 0
+WroteSegments n report before after (Unwritten k) =
+    (after.has_refused ≡ true) × ((bytes : List ℕ) × IsCutAt n (written report) bytes × Appends before.taken after.taken bytes)
+WroteSegments n report before after outcome = Appends before.taken after.taken (concat (written (first n report)))
 
 -- why a segment may stop, by what the tree was before all of them and after: it names a file that a run reads, or none
 pub record MayLose (options : Options) (old new : TreeState) (stop : Stop) : Type 0 where
@@ -83,20 +84,20 @@ IsStopped options before old new outcome =
 
 -- What the segments of these limits write of a report, how the last ends, and which payload files they open. Each failure of
 -- the device costs one limit at most.
-pub record RunsOfSegments (options : Options) (report : List Fault) (limits : List ℕ) (old new : TreeState) (before after : Option (List ℕ)) (refused : Bool) (outcome : Outcome) : Type 0 where
+pub record RunsOfSegments (options : Options) (report : List Fault) (limits : List ℕ) (old new : TreeState) (before after : OutState) (outcome : Outcome) : Type 0 where
   pub lost : ℕ
   pub unread : ℕ
   pub count : ℕ
   pub segments : AreSegments report (MayLose options old new) limits lost unread count outcome
   pub few_lost : old.failures + lost ≤ new.failures
-  pub wrote : WroteSegments count report before after refused outcome
+  pub wrote : WroteSegments count report before after outcome
   pub opens : (listed : List (List ℕ)) → AreListed options old.bag listed → OpensFew listed (length limits) unread old new
 
 -- the theorem of segments, by the report of the bag
-abbrev pub RunsInSegments : TreeState → TreeState → Option Profile → Options → List ℕ → Option (List ℕ) → Option (List ℕ) → Bool → Outcome → Type 0
-RunsInSegments old new profile options limits before after refused outcome =
+abbrev pub RunsInSegments : TreeState → TreeState → Option Profile → Options → List ℕ → OutState → OutState → Outcome → Type 0
+RunsInSegments old new profile options limits before after outcome =
     IsTrue old.honest → (report : List Fault) → IsReport (record { bag = old.bag; profile = profile; options = options }) report
-    → RunsOfSegments options report limits old new before after refused outcome
+    → RunsOfSegments options report limits old new before after outcome
 
 -- whether no further segment follows
 abbrev pub is_last : SegmentEnd → Bool
@@ -113,6 +114,6 @@ outcome_at n (end_of.Unread stop) = Unread n stop
 outcome_at n end_of.Unwritten = Unwritten n
 
 -- A segment behind the first n faults of a report, which leaves the line of the last fault that was written.
-pub record GoesOn (report : List Fault) (n limit : ℕ) (before after : Option (List ℕ)) (refused : Bool) (line : List ℕ) (segment : Segment) : Type 0 where
-  pub writes : IsSegment (drop n report) limit before after refused segment
+pub record GoesOn (report : List Fault) (n limit : ℕ) (before after : OutState) (line : List ℕ) (segment : Segment) : Type 0 where
+  pub writes : IsSegment (drop n report) limit before after segment
   pub last : IsLastLine (cursor_behind (n + segment.written) report) line

@@ -34,7 +34,7 @@ pub(crate) fn end_of_report(after: Option<&Fault>, written: u64) -> Outcome
 /// Writes the closing line of an outcome, and answers how the run ended: so, or `Unwritten` with the same number of
 /// fault lines. It takes no memory.
 pub(crate) fn close<W: Out>(request: &Request, ending: Outcome, out: &mut W) -> Outcome
-    ensures { Closes request.now ending (W.taken out.old) (W.taken out.new) (W.has_refused out.new) result }
+    ensures { Closes request.now ending (W.state out.old) (W.state out.new) result }
 {
     match put_closing(request, &ending, out) {
         Ok(()) => ending,

@@ -45,8 +45,8 @@ pub fn run<T: Tree, W: Out>(
     ensures stopped { StopsInTurn (T.state tree) (T.state result.0) (option_copied profile.entry) request result.1 }
     ensures unlooked { LooksNoFurther (T.state tree) (T.state result.0) (option_copied profile.entry) request }
     ensures untouched { request.limit ≡ Some 0 → result.0 ≡ tree }
-    ensures run { IsRun (T.state tree) (T.state result.0) (option_copied profile.entry) request (W.taken out.old) (W.taken out.new) (W.has_refused out.new) result.1 }
-    ensures by_report { IsRunByReport (T.state tree) (T.state result.0) (option_copied profile.entry) request (W.taken out.old) (W.taken out.new) (W.has_refused out.new) result.1 }
+    ensures run { IsRun (T.state tree) (T.state result.0) (option_copied profile.entry) request (W.state out.old) (W.state out.new) result.1 }
+    ensures by_report { IsRunByReport (T.state tree) (T.state result.0) (option_copied profile.entry) request (W.state out.old) (W.state out.new) result.1 }
 {
     run_over(alloc, tree, profile, &request, out)
 }
@@ -66,7 +66,7 @@ fn run_over<T: Tree, W: Out>(
     ensures stopped { StopsInTurn (T.state tree) (T.state result.0) (option_copied profile.entry) request.now result.1 }
     ensures unlooked { LooksNoFurther (T.state tree) (T.state result.0) (option_copied profile.entry) request.now }
     ensures untouched { request.now.limit ≡ Some 0 → result.0 ≡ tree }
-    ensures run { IsRun (T.state tree) (T.state result.0) (option_copied profile.entry) request.now (W.taken out.old) (W.taken out.new) (W.has_refused out.new) result.1 }
+    ensures run { IsRun (T.state tree) (T.state result.0) (option_copied profile.entry) request.now (W.state out.old) (W.state out.new) result.1 }
 {
     if limit_of(request) == 0 {
         return (tree, close(request, Outcome::Stopped(0), out));
@@ -97,10 +97,10 @@ fn run_of_walk<T: Tree, S: InOrder<T> + Drop, W: Out>(
     ensures seen { (bag : Bag) → S.is_of bag walk.source → Sees (T.state walk.tree) (S.todo walk.source) bag
         → WritesCalmly request.now (to_give (shown_by walk.is_shown (S.found walk.source)) (S.remaining bag walk.source))
         (MayStopRun (IsTrue (T.state walk.tree).honest → S.is_of (T.state walk.tree).bag walk.source) (S.todo walk.source) (T.state walk.tree) (T.state result.0))
-        (T.state walk.tree) (T.state result.0) (W.taken out.old) (W.taken out.new) (W.has_refused out.new) result.1 }
+        (T.state walk.tree) (T.state result.0) (W.state out.old) (W.state out.new) result.1 }
     ensures unseen { (faults : List Spoken) × WritesCalmly request.now faults
         (MayStopRun (IsTrue (T.state walk.tree).honest → S.is_of (T.state walk.tree).bag walk.source) (S.todo walk.source) (T.state walk.tree) (T.state result.0))
-        (T.state walk.tree) (T.state result.0) (W.taken out.old) (W.taken out.new) (W.has_refused out.new) result.1 }
+        (T.state walk.tree) (T.state result.0) (W.state out.old) (W.state out.new) result.1 }
     ensures waits { IfStopped result.1 (λ stop. (bag : Bag) → S.is_of bag walk.source → Sees (T.state walk.tree) (S.todo walk.source) bag
         → NoneWaits (drop (count_of result.1) (to_give (shown_by walk.is_shown (S.found walk.source)) (S.remaining bag walk.source))) stop.path) }
     ensures stop { IfStopped result.1 (MayStopRun (IsTrue (T.state walk.tree).honest → S.is_of (T.state walk.tree).bag walk.source) (S.todo walk.source) (T.state walk.tree) (T.state result.0)) }

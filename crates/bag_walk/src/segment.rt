@@ -1,7 +1,8 @@
 //! The lines of a report's faults, each written when its fault is found.
-ghost use Rattle.std.specs.Prelude.{◌≡◌, ℕ, List, Option, IsTrue, drop, string_bytes};
+ghost use Rattle.std.specs.Prelude.{◌≡◌, List, IsTrue, drop, string_bytes};
 ghost use Rattle.bag_tree.specs.Bag.{Bag};
 ghost use Rattle.bag_tree.specs.Calm.{RefusesNothing};
+ghost use Rattle.bag_tree.specs.Out.{OutState};
 ghost use Rattle.bag_tree.specs.Tree.{Keeps};
 ghost use Rattle.bag_facts.specs.declared.fault.Fault.{Fault as Spoken};
 ghost use Rattle.bag_facts.specs.Stops.{IsOutOfMemory};
@@ -62,10 +63,10 @@ pub(crate) fn write_faults<T: Tree, S: InOrder<T>, W: Out>(
     ensures waits { IfUnread result.end (λ stop. (bag : Bag) → S.is_of bag walk.old.source → Sees (T.state walk.old.tree) (S.todo walk.old.source) bag
         → NoneWaits (drop result.written (to_give (shown_by walk.old.is_shown (S.found walk.old.source)) (S.remaining bag walk.old.source))) stop.path) }
     ensures seen { (bag : Bag) → S.is_of bag walk.old.source → Sees (T.state walk.old.tree) (S.todo walk.old.source) bag
-        → IsSegment (to_give (shown_by walk.old.is_shown (S.found walk.old.source)) (S.remaining bag walk.old.source)) limit (W.taken out.old) (W.taken out.new) (W.has_refused out.new) result }
+        → IsSegment (to_give (shown_by walk.old.is_shown (S.found walk.old.source)) (S.remaining bag walk.old.source)) limit (W.state out.old) (W.state out.new) result }
     ensures last { (bag : Bag) → S.is_of bag walk.old.source → Sees (T.state walk.old.tree) (S.todo walk.old.source) bag
         → IsLastOf (to_give (shown_by walk.old.is_shown (S.found walk.old.source)) (S.remaining bag walk.old.source)) result.written (string_bytes lines.old.last) (string_bytes lines.new.last) }
-    ensures unseen { (faults : List Spoken) × IsSegment faults limit (W.taken out.old) (W.taken out.new) (W.has_refused out.new) result }
+    ensures unseen { (faults : List Spoken) × IsSegment faults limit (W.state out.old) (W.state out.new) result }
     ensures stop { IfUnread result.end (MayStopWalk (IsTrue (T.state walk.old.tree).honest → S.is_of (T.state walk.old.tree).bag walk.old.source)
         (S.todo walk.old.source) (S.todo walk.new.source) (T.state walk.old.tree) (T.state walk.new.tree)) }
 {
@@ -107,9 +108,9 @@ pub(crate) fn write_faults<T: Tree, S: InOrder<T>, W: Out>(
 
 /// Writes the closing line of a run whose lines were written so.
 pub(crate) fn close_segment<W: Out>(request: &Request, segment: Segment, out: &mut W) -> Outcome
-    ensures closes { (faults : List Spoken) (began : Option (List ℕ))
-        → IsSegment faults (limit_of request.now) began (W.taken out.old) (W.has_refused out.old) segment
-        → ClosesSegment request.now faults segment began (W.taken out.new) (W.has_refused out.new) result }
+    ensures closes { (faults : List Spoken) (began : OutState)
+        → IsSegment faults (limit_of request.now) began (W.state out.old) segment
+        → ClosesSegment request.now faults segment began (W.state out.new) result }
     ensures count { count_of result ≡ segment.written }
     ensures stop { IfStopped result (StopsAt segment) }
 {

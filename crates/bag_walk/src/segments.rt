@@ -68,7 +68,7 @@ pub fn run_segments<T: Tree, W: Out>(
     ensures keeps { Keeps (T.state tree) (T.state result.0) }
     ensures untouched { sum limits.now ≡ 0 → result.0 ≡ tree }
     ensures stop { spec.IsStopped options (take (length limits.now - 1) limits.now) (T.state tree) (T.state result.0) result.1 }
-    ensures segments { spec.RunsInSegments (T.state tree) (T.state result.0) (option_copied profile.entry) options limits.now (W.taken out.old) (W.taken out.new) (W.has_refused out.new) result.1 }
+    ensures segments { spec.RunsInSegments (T.state tree) (T.state result.0) (option_copied profile.entry) options limits.now (W.state out.old) (W.state out.new) result.1 }
 {
     let mut tree = tree;
     let mut lines = Lines::new(alloc);
@@ -104,7 +104,7 @@ fn write_segment<T: Tree, W: Out>(
     ensures segment { IsTrue (T.state tree).honest → (report : List Spoken)
         → IsReport (record { bag = (T.state tree).bag; profile = option_copied profile.entry; options = options }) report
         → (n : ℕ) → n ≤ length report → IsLastLine (spec.cursor_behind n report) (string_bytes lines.old.last)
-        → spec.GoesOn report n limit (W.taken out.old) (W.taken out.new) (W.has_refused out.new) (string_bytes lines.new.last) result.1 }
+        → spec.GoesOn report n limit (W.state out.old) (W.state out.new) (string_bytes lines.new.last) result.1 }
     ensures opens { IsTrue (T.state tree).honest → (report : List Spoken)
         → IsReport (record { bag = (T.state tree).bag; profile = option_copied profile.entry; options = options }) report
         → (n : ℕ) → n ≤ length report → IsLastLine (spec.cursor_behind n report) (string_bytes lines.old.last)
@@ -148,7 +148,7 @@ fn segment_of_walk<T: Tree, S: InOrder<T> + Drop, W: Out>(
         → OpensNoneBehind (still_to_come result.1 (to_give (shown_by walk.is_shown (S.found walk.source)) (S.remaining bag walk.source))) (T.state walk.tree) (T.state result.0) }
     ensures stop { IfUnread result.1.end (MayStopRun (IsTrue (T.state walk.tree).honest → S.is_of (T.state walk.tree).bag walk.source) (S.todo walk.source) (T.state walk.tree) (T.state result.0)) }
     ensures seen { (bag : Bag) → S.is_of bag walk.source → Sees (T.state walk.tree) (S.todo walk.source) bag
-        → IsSegment (to_give (shown_by walk.is_shown (S.found walk.source)) (S.remaining bag walk.source)) limit (W.taken out.old) (W.taken out.new) (W.has_refused out.new) result.1 }
+        → IsSegment (to_give (shown_by walk.is_shown (S.found walk.source)) (S.remaining bag walk.source)) limit (W.state out.old) (W.state out.new) result.1 }
     ensures last { (bag : Bag) → S.is_of bag walk.source → Sees (T.state walk.tree) (S.todo walk.source) bag
         → IsLastOf (to_give (shown_by walk.is_shown (S.found walk.source)) (S.remaining bag walk.source)) result.1.written (string_bytes lines.old.last) (string_bytes lines.new.last) }
 {

@@ -44,7 +44,7 @@ pub fn checked<O: Out, E: Out>(
     err: &mut E,
 ) -> u8
     ensures { (name : List ℕ) → IsCheckOfOne plan.now name
-        → TellsReport plan.now None (bag_of (state_of held.now).nodes) name (O.taken out.old) (O.taken out.new) result }
+        → TellsReport plan.now None (bag_of (state_of held.now).nodes) name (O.state out.old) (O.state out.new) result }
 {
     honest_disks_are_told();
     let disks = SameDisks { held };

@@ -13,7 +13,7 @@ returns-in-Ok g c =
     let tree_of : List ℕ → TreeState = λ name. tree_state (g.D.Disks.below (disks_of c.args.folders.now) name) 0 in
     let done = c.do_in_turn.ensures in
     let made : List NewElement → List (List ℕ) → Type 0 = λ info names. AreInTurn (λ name. IsLastMaking plan info (tree_of name) name) (λ name. IsWholeMaking plan info (tree_of name) name)
-    names (g.O.Out.taken c.args.out.now) (g.O.Out.taken c.do_in_turn.new.out) (g.O.Out.has_refused c.do_in_turn.new.out) done.0 c.do_in_turn.result in
+    names (g.O.Out.state c.args.out.now) (g.O.Out.state c.do_in_turn.new.out) done.0 c.do_in_turn.result in
     let same : c.deref.result.now ≡ map element_of plan.info = c.deref.ensures.value ∙ c.in-Ok.ensures.elements ∙ ap (map element_of) c.as_slice.ensures in
     (done.0, done.1, inr (subst (λ info. made info plan.directories) same (subst (made c.deref.result.now) c.as_slice-directories.ensures done.2)))
 

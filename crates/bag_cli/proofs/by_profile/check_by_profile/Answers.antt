@@ -18,7 +18,7 @@ returns-in-Ok g c =
     let read = subst (λ path. IsRead (file path) (Ok c.in-Ok.profile)) c.as_str.ensures c.in-Ok.ensures.profile in (
       Read path ∷ done.0,
       added before mid (visits_of c.check_by.new.visits) (Read path ∷ []) done.0 entered done.1,
-      checked_by_path (g.D.Disks.below (disks_of c.args.folders.now)) file c.args.plan.now c.args.plan.now.profile path (Ok c.in-Ok.profile) _ _ _ done.0 c.check_by.result c.in-Some.is read done.2,
+      checked_by_path (g.D.Disks.below (disks_of c.args.folders.now)) file c.args.plan.now c.args.plan.now.profile path (Ok c.in-Ok.profile) (g.O.Out.state c.args.out.now) (g.O.Out.state c.check_by.new.out) done.0 c.check_by.result c.in-Some.is read done.2,
     )
 
 pub returns-in-Err : goal.returns-in-Err
@@ -29,6 +29,6 @@ returns-in-Err g c =
     let read = subst (λ path. IsRead (file path) (Err c.in-Err.refusal)) c.as_str.ensures c.in-Err.ensures.profile in (
       Read path ∷ [],
       entered,
-      checked_by_path (g.D.Disks.below (disks_of c.args.folders.now)) file c.args.plan.now c.args.plan.now.profile path (Err c.in-Err.refusal) _ _ (g.O.Out.has_refused c.args.out.now) []
+      checked_by_path (g.D.Disks.below (disks_of c.args.folders.now)) file c.args.plan.now c.args.plan.now.profile path (Err c.in-Err.refusal) (g.O.Out.state c.args.out.now) (g.O.Out.state c.args.out.now) []
           c.refuse_profile.result c.in-Some.is read (c.refuse_profile.ensures.status, refl, refl),
     )

@@ -10,11 +10,11 @@ use Rattle.bag_cli.proofs.check.check_folder.Goals as goal
 pub returns-in_err-tree : goal.returns-in_err-tree
 returns-in_err-tree g c =
     let p = err_from_is_err_and c.from_residual.result c.from_residual.ensures.1 in
-    (NotGiven c.args.directory.now ∷ [], c.in_err-tree.ensures.refused, rw p.1 (refl {a = g.O.Out.taken c.args.out.now}, inl (refl {a = NotGiven c.args.directory.now ∷ []})))
+    (NotGiven c.args.directory.now ∷ [], c.in_err-tree.ensures.refused, rw p.1 (refl {a = g.O.Out.state c.args.out.now}, inl (refl {a = NotGiven c.args.directory.now ∷ []})))
 
 pub returns : goal.returns
 returns g c =
     let tree = tree_state (g.D.Disks.below (disks_of c.args.folders.now) c.args.directory.now) 0 in
-    visited_check c.args.plan.now (option_copied c.args.profile) tree _ _ c.args.directory.now (g.O.Out.taken c.args.out.now) (g.O.Out.taken c.check_tree-tree.new.out)
-    (g.O.Out.has_refused c.check_tree-tree.new.out) c.check_tree-tree.result.1 (visits_of c.args.visits.now) (visits_of c.enter.new.visits) (visits_of c.leave.new.visits)
+    visited_check c.args.plan.now (option_copied c.args.profile) tree _ _ c.args.directory.now (g.O.Out.state c.args.out.now) (g.O.Out.state c.check_tree-tree.new.out)
+    c.check_tree-tree.result.1 (visits_of c.args.visits.now) (visits_of c.enter.new.visits) (visits_of c.leave.new.visits)
     c.in_ok-tree.ensures.entered c.leave.ensures c.in_ok-tree.ensures.state c.check_tree-tree.ensures

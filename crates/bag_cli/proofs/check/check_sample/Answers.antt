@@ -1,7 +1,8 @@
-use Rattle.std.proofs.Common.{◌≡◌, Bool, ℕ, List, Option, None, refl, subst}
+use Rattle.std.proofs.Common.{◌≡◌, None, refl, subst}
 use Rattle.std.specs.Prelude.{MatchResult, codes}
 use Rattle.std.specs.declared.result.Result.{Result}
 use Rattle.std.specs.declared.result.Result.TheVariants.{Ok, Err}
+use Rattle.bag_tree.specs.Out.{OutState}
 use Rattle.bag_tree.specs.Tree.{TreeState}
 use Rattle.bag_memory.specs.MemoryView.{state_of}
 use Rattle.bag_walk.specs.declared.outcome.Outcome.{Outcome}
@@ -11,15 +12,15 @@ use Rattle.bag_cli.specs.Sample.{sample_state}
 use Rattle.bag_cli.proofs.check.check_sample.Goals as goal
 
 -- the check of a tree that is the sample
-of_sample : {E : Type 0} (plan : Plan) (tree new : TreeState) (before after : Option (List ℕ)) (refused : Bool) (checked : Result Outcome E)
+of_sample : {E : Type 0} (plan : Plan) (tree new : TreeState) (before after : OutState) (checked : Result Outcome E)
     → tree ≡ sample_state → new.failures ≡ 0
-    → MatchResult checked (λ outcome. IsCheckOf plan None tree new (codes "sample") before after refused outcome) (λ _. (after ≡ before) × (new ≡ tree))
-    → MatchResult checked (λ outcome. IsCheckOfSample plan before after refused outcome) (λ _. after ≡ before)
-of_sample plan tree new before after refused (Ok outcome) same calm check =
-    (new, calm, subst (λ tree. IsCheckOf plan None tree new (codes "sample") before after refused outcome) same check)
-of_sample plan tree new before after refused (Err e) same calm nothing = nothing.0
+    → MatchResult checked (λ outcome. IsCheckOf plan None tree new (codes "sample") before after outcome) (λ _. (after ≡ before) × (new ≡ tree))
+    → MatchResult checked (λ outcome. IsCheckOfSample plan before after outcome) (λ _. after ≡ before)
+of_sample plan tree new before after (Ok outcome) same calm check =
+    (new, calm, subst (λ tree. IsCheckOf plan None tree new (codes "sample") before after outcome) same check)
+of_sample plan tree new before after (Err e) same calm nothing = nothing.0
 
 pub returns : goal.returns
 returns g c =
-    of_sample c.args.plan.now _ (state_of c.check_tree-tree.result.0) (g.O.Out.taken c.args.out.now) (g.O.Out.taken c.check_tree-tree.new.out)
-    (g.O.Out.has_refused c.check_tree-tree.new.out) c.check_tree-tree.result.1 c.in_ok-tree.ensures refl c.check_tree-tree.ensures
+    of_sample c.args.plan.now _ (state_of c.check_tree-tree.result.0) (g.O.Out.state c.args.out.now) (g.O.Out.state c.check_tree-tree.new.out)
+    c.check_tree-tree.result.1 c.in_ok-tree.ensures refl c.check_tree-tree.ensures

@@ -14,7 +14,7 @@ loop-directory-init g c =
     let goes : Whole = λ name. g.T.Task.goes c.args.task.now (tree_of name) name in
     record {
       most = omega arith;
-      turns = ([], sym (append-nil (visits_of c.args.visits.now)), none_yet ends goes c.args.directories.now (g.O.Out.taken c.args.out.now));
+      turns = ([], sym (append-nil (visits_of c.args.visits.now)), none_yet ends goes c.args.directories.now (g.O.Out.state c.args.out.now));
     }
 
 pub returns-in-None : goal.returns-in-None
@@ -23,12 +23,11 @@ returns-in-None g c =
     let ends : Last = λ name. g.T.Task.ends c.args.task.now (tree_of name) name in
     let goes : Whole = λ name. g.T.Task.goes c.args.task.now (tree_of name) name in
     let name = c.directory-item.result in
-    let now = g.O.Out.taken c.loop-directory.out in
-    let after = g.O.Out.taken c.do_in.new.out in
-    let refused = g.O.Out.has_refused c.do_in.new.out in
+    let now = g.O.Out.state c.loop-directory.out in
+    let after = g.O.Out.state c.do_in.new.out in
     let done = c.in-None.ensures.done in
-    let last = subst (λ name. ends name now after refused done.0) c.as_str.ensures done.2 in
-    looped_last ends goes c.args.directories.now c.loop-directory.directory-index name (g.O.Out.taken c.args.out.now) now after refused
+    let last = subst (λ name. ends name now after done.0) c.as_str.ensures done.2 in
+    looped_last ends goes c.args.directories.now c.loop-directory.directory-index name (g.O.Out.state c.args.out.now) now after
     (visits_of c.args.visits.now) (visits_of c.loop-directory.visits) (visits_of c.do_in.new.visits) done.0
     c.loop-directory.greatest c.loop-directory-test.true c.directory-item.is c.loop-directory.invariant.most c.loop-directory.invariant.turns done.1 last
 
@@ -38,15 +37,15 @@ loop-directory-preserved g c =
     let ends : Last = λ name. g.T.Task.ends c.args.task.now (tree_of name) name in
     let goes : Whole = λ name. g.T.Task.goes c.args.task.now (tree_of name) name in
     let name = c.directory-item.result in
-    let now = g.O.Out.taken c.loop-directory.out in
-    let next = g.O.Out.taken c.do_in.new.out in
+    let now = g.O.Out.state c.loop-directory.out in
+    let next = g.O.Out.state c.do_in.new.out in
     let status = c.in-Some.status in
     let done = c.in-Some.ensures.done in
     let most : c.max-greatest.result ≡ max c.loop-directory.greatest status = search rules in
     let whole = subst (λ name. goes name now next done.0 status) c.as_str.ensures done.2 in
     record {
       most = omega (arith, most, c.in-Some.ensures.status, c.loop-directory.invariant.most);
-      turns = looped_more ends goes c.args.directories.now c.loop-directory.directory-index name (g.O.Out.taken c.args.out.now) now next
+      turns = looped_more ends goes c.args.directories.now c.loop-directory.directory-index name (g.O.Out.state c.args.out.now) now next
           (visits_of c.args.visits.now) (visits_of c.loop-directory.visits) (visits_of c.do_in.new.visits) done.0 c.loop-directory.greatest status c.max-greatest.result
           c.loop-directory-test.true c.directory-item.is most c.loop-directory.invariant.turns done.1 whole;
     }
@@ -57,6 +56,6 @@ returns g c =
     let ends : Last = λ name. g.T.Task.ends c.args.task.now (tree_of name) name in
     let goes : Whole = λ name. g.T.Task.goes c.args.task.now (tree_of name) name in
     looped_all ends goes c.args.directories.now c.loop-directory.directory-index
-    (g.O.Out.taken c.args.out.now) (g.O.Out.taken c.loop-directory.out) (g.O.Out.has_refused c.loop-directory.out)
+    (g.O.Out.state c.args.out.now) (g.O.Out.state c.loop-directory.out)
     (visits_of c.args.visits.now) (visits_of c.loop-directory.visits) c.loop-directory.greatest
     (drop_all c.loop-directory.directory-index c.args.directories.now c.loop-directory-test.false) c.loop-directory.invariant.turns

@@ -11,5 +11,5 @@ invariant-loop-directory g l = record {
   turns :
       let tree_of : List ℕ → TreeState = λ name. tree_state (g.D.Disks.below (disks_of l.fn.folders) name) 0 in
       Looped (λ name. g.T.Task.ends l.task (tree_of name) name) (λ name. g.T.Task.goes l.task (tree_of name) name) l.directories l.directory-index
-      (g.O.Out.taken l.fn.out) (g.O.Out.taken l.out) (visits_of l.fn.visits) (visits_of l.visits) l.greatest;
+      (g.O.Out.state l.fn.out) (g.O.Out.state l.out) (visits_of l.fn.visits) (visits_of l.visits) l.greatest;
 }

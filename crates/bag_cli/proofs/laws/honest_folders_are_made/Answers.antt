@@ -1,4 +1,5 @@
-use Rattle.std.proofs.Common.{◌≡◌, inl, inr, ◌++◌, ℕ, List, Option, Ok, IsTrue, map, sym, ap, ◌∙◌, subst, append-nil, arith}
+use Rattle.std.proofs.Common.{◌≡◌, inl, inr, ◌++◌, ℕ, List, Ok, IsTrue, map, sym, ap, ◌∙◌, subst, append-nil, arith}
+use Rattle.bag_tree.specs.Out.{OutState}
 use Rattle.bag_disk.specs.Disk.{DiskState}
 use Rattle.bag_cli.specs.Visits.{Event}
 use Rattle.bag_store.specs.DiskBag.{bag_of}
@@ -11,23 +12,22 @@ use Rattle.bag_cli.specs.Told.{TellsMade}
 use Rattle.bag_cli.proofs.laws.honest_folders_are_made.Goals as goal
 
 -- a whole making with status 0
-whole : HonestFoldersAreTold → (plan : Plan) (below : List ℕ → DiskState) (name : List ℕ) (before after : Option (List ℕ)) (visits : List Event) (n : ℕ)
+whole : HonestFoldersAreTold → (plan : Plan) (below : List ℕ → DiskState) (name : List ℕ) (before after : OutState) (visits : List Event) (n : ℕ)
     → IsTrue (below name).honest → n ≡ 0 → IsWholeMaking plan (map element_of plan.info) (tree_state (below name) 0) name before after visits n
     → TellsMade plan (bag_of (below name).nodes) name before after visits
 whole law plan below name before after visits n honest zero_is making =
     let tree = tree_state (below name) 0 in
-    let told = making.1 in
     let info = map element_of plan.info in
-    let made : IsMaking name plan.algs info plan.quiet tree told.new before after making.0 (Ok 0) =
-    subst (λ n. IsMaking name plan.algs info plan.quiet tree told.new before after making.0 (Ok n)) zero_is told.making in
-    elim (law name plan.algs info plan.quiet tree told.new before after making.0 0 honest made) as (λ _. TellsMade plan (bag_of (below name).nodes) name before after visits) [
-      | inl is ↦ (told.new, told.visit, is)
+    let made : IsMaking name plan.algs info plan.quiet tree making.new before after (Ok 0) =
+    subst (λ n. IsMaking name plan.algs info plan.quiet tree making.new before after (Ok n)) zero_is making.making in
+    elim (law name plan.algs info plan.quiet tree making.new before after 0 honest made) as (λ _. TellsMade plan (bag_of (below name).nodes) name before after visits) [
+      | inl is ↦ (making.new, making.visit, is)
       | inr not ↦ absurd (omega (arith, not.status))
     ]
 
 pub returns : goal.returns
-returns c plan below name before after refused visits honest (inl last) = absurd (omega (arith, last.0))
-returns c plan below name before after refused visits honest (inr on) =
+returns c plan below name before after visits honest (inl last) = absurd (omega (arith, last.0))
+returns c plan below name before after visits honest (inr on) =
     let bag = bag_of (below name).nodes in
     let none = on.others in
     let own = whole c.honest_folders_are_told.ensures plan below name before on.mid on.own on.first honest (omega (arith, on.greatest)) on.whole in

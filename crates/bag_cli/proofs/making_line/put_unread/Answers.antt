@@ -10,4 +10,4 @@ returns-in_err-put_line g c =
     rw p.1 (cut_third _ _ (field c.args.name.now) (codes " not made: read ") _ c.in_err-put_line.ensures.0, c.in_err-put_line.ensures.1)
 
 pub returns : goal.returns
-returns g c = writes_third _ _ _ _ (field c.args.name.now) (codes " not made: read ") _ _ c.put_cause.ensures c.in_ok-put_line.ensures
+returns g c = writes_third (g.W.Out.state c.args.out.now) (g.W.Out.state c.put_line.new.out) (g.W.Out.state c.put_cause.new.out) (field c.args.name.now) (codes " not made: read ") _ _ c.put_cause.ensures c.in_ok-put_line.ensures

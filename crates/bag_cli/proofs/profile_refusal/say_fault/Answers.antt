@@ -6,8 +6,9 @@ use Rattle.bag_cli.proofs.profile_refusal.say_fault.Goals as goal
 
 pub returns-in-WrongShape : goal.returns-in-WrongShape
 returns-in-WrongShape g c =
-    rw c.in-WrongShape.is (subst (λ key. Says (g.E.Out.taken c.args.err.now) (g.E.Out.taken c.put_wrong_shape.new.err) (g.E.Out.has_refused c.put_wrong_shape.new.err) (wrong_shape_line key)) c.name.ensures
-    (says_of _ _ _ _ c.put_wrong_shape.result c.put_wrong_shape.ensures))
+    let old = g.E.Out.state c.args.err.now in
+    let new = g.E.Out.state c.put_wrong_shape.new.err in
+    rw c.in-WrongShape.is (subst (λ key. Says old new (wrong_shape_line key)) c.name.ensures (says_of old new _ c.put_wrong_shape.result c.put_wrong_shape.ensures))
 
 pub returns-in-NotJson : goal.returns-in-NotJson
 returns-in-NotJson g c = rw c.in-NotJson.is c.say_reason.ensures

@@ -8,8 +8,8 @@ pub returns-in-Ok : goal.returns-in-Ok
 returns-in-Ok g c =
     let done = c.program.ensures in
     let program_of : List (List ℕ) → Type 0 = λ words.
-    IsProgram (g.D.Disks.below (disks_of c.args.folders.now)) (g.D.Disks.file (disks_of c.args.folders.now)) words (g.O.Out.taken c.args.out.now) (g.O.Out.taken c.program.new.out)
-    (g.O.Out.has_refused c.program.new.out) done.0 c.program.result in
+    IsProgram (g.D.Disks.below (disks_of c.args.folders.now)) (g.D.Disks.file (disks_of c.args.folders.now)) words (g.O.Out.state c.args.out.now) (g.O.Out.state c.program.new.out)
+    done.0 c.program.result in
     (done.0, done.1, inr (subst program_of (ap texts c.deref.ensures.value ∙ c.in-Ok.ensures) done.2))
 
 pub returns-in-Err : goal.returns-in-Err

@@ -4,4 +4,4 @@ use Rattle.bag_walk.specs.Write.{IsTaken}
 use Rattle.bag_walk.proofs.closing.put_field.Given as goal
 
 abbrev pub invariant-loop-piece : goal.invariant-loop-piece
-invariant-loop-piece g l = IsTaken (g.W.Out.taken l.fn.out) (g.W.Out.taken l.out) (field l.text) (encoded_text l.piece-iterator)
+invariant-loop-piece g l = IsTaken (g.W.Out.state l.fn.out).taken (g.W.Out.state l.out).taken (field l.text) (encoded_text l.piece-iterator)

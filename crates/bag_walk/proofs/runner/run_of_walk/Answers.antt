@@ -27,7 +27,7 @@ returns-clause-seen g c = λ bag h sees.
     let s = rw c.limit_of.ensures at c.write_faults-segment.ensures.seen bag h sees in
     rw c.into_tree.ensures
     (calmly (g.S.Source.todo walk.source) (g.S.Source.todo c.write_faults-segment.new.walk.source) (state walk.tree) (state c.write_faults-segment.new.walk.tree)
-    c.args.request.now _ (IsTrue (state walk.tree).honest → g.S.Source.is_of (state walk.tree).bag walk.source) c.write_faults-segment.result _ _ _ _
+    c.args.request.now _ (IsTrue (state walk.tree).honest → g.S.Source.is_of (state walk.tree).bag walk.source) c.write_faults-segment.result _ _ _
     (c.close_segment-outcome.ensures.closes _ _ s) c.write_faults-segment.ensures.stop c.write_faults-segment.ensures.calm)
 
 pub returns-clause-unseen : goal.returns-clause-unseen
@@ -38,7 +38,7 @@ returns-clause-unseen g c =
     rw c.into_tree.ensures (
       s.0,
       calmly (g.S.Source.todo walk.source) (g.S.Source.todo c.write_faults-segment.new.walk.source) (state walk.tree) (state c.write_faults-segment.new.walk.tree)
-          c.args.request.now s.0 (IsTrue (state walk.tree).honest → g.S.Source.is_of (state walk.tree).bag walk.source) c.write_faults-segment.result _ _ _ _
+          c.args.request.now s.0 (IsTrue (state walk.tree).honest → g.S.Source.is_of (state walk.tree).bag walk.source) c.write_faults-segment.result _ _ _
           (c.close_segment-outcome.ensures.closes _ _ s.1) c.write_faults-segment.ensures.stop c.write_faults-segment.ensures.calm,
     )
 

@@ -22,7 +22,7 @@ given-init g c =
       within = omega arith;
       given = [];
       count_is = refl;
-      written_so_far = Appends-nil (g.W.Out.taken c.args.out.now);
+      written_so_far = Appends-nil (g.W.Out.state c.args.out.now).taken;
       last = λ rest. refl;
       opens = opens_nothing state (g.S.Source.todo c.args.walk.now.source);
       behind = λ bag h sees. none_opened state _;
@@ -38,15 +38,15 @@ given-preserved g c =
     let f = c.in-Some.fault.now in
     let opens = c.in-Ok.ensures.opens in
     let one_back : c.given.written + 1 - 1 ≡ c.given.written = omega arith in
-    let line : Appends (g.W.Out.taken c.given.out) (g.W.Out.taken c.put_all.new.out) _ =
-    subst (λ (text : List ℕ). Appends (g.W.Out.taken c.given.out) (g.W.Out.taken c.put_all.new.out) text) (c.as_bytes.ensures.value ∙ c.in-Ok-fill.ensures.next) c.in_default-put_all.ensures in
+    let line : Appends (g.W.Out.state c.given.out).taken (g.W.Out.state c.put_all.new.out).taken _ =
+    subst (λ (text : List ℕ). Appends (g.W.Out.state c.given.out).taken (g.W.Out.state c.put_all.new.out).taken text) (c.as_bytes.ensures.value ∙ c.in-Ok-fill.ensures.next) c.in_default-put_all.ensures in
     record {
       keeps = keeps_on (state start.tree) (state c.given.walk.tree) (state new.tree) has.keeps c.step.ensures.keeps;
       calm = nothing_then (state start.tree) (state c.given.walk.tree) (state new.tree) has.calm c.in-Ok.ensures.calm;
       within = omega (arith, c.given-test.true);
       given = has.given ++ f ∷ [];
       count_is = length-append has.given (f ∷ []) ∙ ap (λ n. n + 1) has.count_is;
-      written_so_far = one_line_more has.given f (g.W.Out.taken c.args.out.now) (g.W.Out.taken c.given.out) (g.W.Out.taken c.put_all.new.out) has.written_so_far line;
+      written_so_far = one_line_more has.given f (g.W.Out.state c.args.out.now) (g.W.Out.state c.given.out) (g.W.Out.state c.put_all.new.out) has.written_so_far line;
       last = λ rest. last_given has.given rest f c.given.written _ _ has.count_is (c.fill.ensures.fault, c.turn.ensures ∙ c.in-Ok-fill.ensures.next);
       opens = opens_on (state start.tree) (state c.given.walk.tree) (state new.tree) (g.S.Source.todo start.source) (g.S.Source.todo c.given.walk.source) (g.S.Source.todo new.source) has.opens opens;
       behind = λ bag h sees.
@@ -83,7 +83,7 @@ pub returns-in-Err-clause-seen : goal.returns-in-Err-clause-seen
 returns-in-Err-clause-seen g c = λ bag h sees.
     let has = c.given.invariant in
     rw (left_is c.args.limit c.given.written _ _ _ _ _ _ _ _ (g.T.Tree.state c.step.new.self.tree) _ _ _ _ has bag h sees)
-    (ends_unread c.args.limit c.given.written _ _ _ _ _ _ _ _ (g.T.Tree.state c.step.new.self.tree) _ _ _ _ has _ _ c.in-Err.stop _ c.given-test.true refl)
+    (ends_unread c.args.limit c.given.written _ _ _ _ _ _ _ _ (g.T.Tree.state c.step.new.self.tree) _ _ _ _ has _ c.in-Err.stop _ c.given-test.true refl)
 
 pub returns-in-Err-clause-stop : goal.returns-in-Err-clause-stop
 returns-in-Err-clause-stop g c =
@@ -113,7 +113,7 @@ returns-in_default-clause-seen g c = λ bag h sees.
     let new = c.step.new.self in
     let next = c.in-Ok.ensures.next bag (has.seen bag h sees).0 (sees_now c.args.limit c.given.written _ _ _ _ _ _ _ _ (state new.tree) _ _ _ _ has bag sees) in
     rw (left_at_end c.args.limit c.given.written _ _ _ _ _ _ _ _ (state new.tree) _ _ _ _ has bag h sees (shown_by new.is_shown (g.S.Source.found new.source)) next.1.0 (sym c.shown.ensures ∙ ap option_copied c.in_default.is))
-    (ends_at_end c.args.limit c.given.written _ _ _ _ _ _ _ _ (state new.tree) _ _ _ _ has _ _ c.given-test.true refl)
+    (ends_at_end c.args.limit c.given.written _ _ _ _ _ _ _ _ (state new.tree) _ _ _ _ has _ c.given-test.true refl)
 
 pub returns-in_default-fill-clause-opens : goal.returns-in_default-fill-clause-opens
 returns-in_default-fill-clause-opens g c =
@@ -138,7 +138,7 @@ returns-in_default-fill-clause-seen g c = λ bag h sees.
     let state = g.T.Tree.state in
     let new = c.step.new.self in
     rw (left_is c.args.limit c.given.written _ _ _ _ _ _ _ _ (state new.tree) _ _ _ _ has bag h sees)
-    (ends_unread c.args.limit c.given.written _ _ _ _ _ _ _ _ (state new.tree) _ _ _ _ has _ _ c.out_of_memory.result _ c.given-test.true refl)
+    (ends_unread c.args.limit c.given.written _ _ _ _ _ _ _ _ (state new.tree) _ _ _ _ has _ c.out_of_memory.result _ c.given-test.true refl)
 
 pub returns-in-Err-put_all-clause-opens : goal.returns-in-Err-put_all-clause-opens
 returns-in-Err-put_all-clause-opens g c =
@@ -160,9 +160,9 @@ returns-in-Err-put_all-clause-behind g c = λ bag h sees.
 pub returns-in-Err-put_all-clause-unseen : goal.returns-in-Err-put_all-clause-unseen
 returns-in-Err-put_all-clause-unseen g c =
     let has = c.given.invariant in
-    let cut = subst (λ (text : List ℕ). IsCut (g.W.Out.taken c.given.out) (g.W.Out.taken c.put_all.new.out) text) (c.as_bytes.ensures.value ∙ c.in-Ok-fill.ensures.next) c.in-Err-put_all.ensures.0 in (
+    let cut = subst (λ (text : List ℕ). IsCut (g.W.Out.state c.given.out).taken (g.W.Out.state c.put_all.new.out).taken text) (c.as_bytes.ensures.value ∙ c.in-Ok-fill.ensures.next) c.in-Err-put_all.ensures.0 in (
       has.given ++ c.in-Some.fault.now ∷ [],
-      ends_unwritten c.args.limit c.given.written _ _ _ _ _ _ _ _ (g.T.Tree.state c.step.new.self.tree) _ _ _ _ has c.in-Some.fault.now [] _ _ _ c.given-test.true c.in-Err-put_all.ensures.1 cut refl,
+      ends_unwritten c.args.limit c.given.written _ _ _ _ _ _ _ _ (g.T.Tree.state c.step.new.self.tree) _ _ _ _ has c.in-Some.fault.now [] (g.W.Out.state c.put_all.new.out) _ c.given-test.true c.in-Err-put_all.ensures.1 cut refl,
     )
 
 pub returns-in-Err-put_all-clause-seen : goal.returns-in-Err-put_all-clause-seen
@@ -172,10 +172,10 @@ returns-in-Err-put_all-clause-seen g c = λ bag h sees.
     let new = c.step.new.self in
     let f = c.in-Some.fault.now in
     let next = c.in-Ok.ensures.next bag (has.seen bag h sees).0 (sees_now c.args.limit c.given.written _ _ _ _ _ _ _ _ (state new.tree) _ _ _ _ has bag sees) in
-    let cut = subst (λ (text : List ℕ). IsCut (g.W.Out.taken c.given.out) (g.W.Out.taken c.put_all.new.out) text) (c.as_bytes.ensures.value ∙ c.in-Ok-fill.ensures.next) c.in-Err-put_all.ensures.0 in
+    let cut = subst (λ (text : List ℕ). IsCut (g.W.Out.state c.given.out).taken (g.W.Out.state c.put_all.new.out).taken text) (c.as_bytes.ensures.value ∙ c.in-Ok-fill.ensures.next) c.in-Err-put_all.ensures.0 in
     rw (left_at c.args.limit c.given.written _ _ _ _ _ _ _ _ (state new.tree) _ _ _ _ has bag h sees (shown_by new.is_shown (g.S.Source.found new.source)) next.1.0
     f (sym c.shown.ensures ∙ ap option_copied c.in-Some.is))
-    (ends_unwritten c.args.limit c.given.written _ _ _ _ _ _ _ _ (state new.tree) _ _ _ _ has f _ _ _ _ c.given-test.true c.in-Err-put_all.ensures.1 cut refl)
+    (ends_unwritten c.args.limit c.given.written _ _ _ _ _ _ _ _ (state new.tree) _ _ _ _ has f _ (g.W.Out.state c.put_all.new.out) _ c.given-test.true c.in-Err-put_all.ensures.1 cut refl)
 
 pub returns-in-Err-clause-last : goal.returns-in-Err-clause-last
 returns-in-Err-clause-last g c = λ bag h sees.

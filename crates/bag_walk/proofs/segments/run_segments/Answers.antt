@@ -11,15 +11,15 @@ use Rattle.bag_walk.proofs.segments.run_segments.Goals as goal
 pub returns-then-last-clause-segments : goal.returns-then-last-clause-segments
 returns-then-last-clause-segments g c = λ honest report is.
     let state = g.T.Tree.state in
-    let taken = g.W.Out.taken in
+    let out = g.W.Out.state in
     let has = c.loop-limit.invariant in
     let step = c.write_segment-left in
     let so = has.so_far honest report is in
     let is_now = subst (λ bag. IsReport (record { bag = bag; profile = option_copied c.args.profile; options = c.args.options }) report) (sym has.keeps.bag) is in
     let s = step.ensures.segment (has.keeps.honest ∙ honest) report is_now c.loop-limit.written so.within so.last in
-    subst (RunsOfSegments c.args.options report c.args.limits.now (state c.args.tree) (state step.result.0) (taken c.args.out.now) (taken step.new.out) (g.W.Out.has_refused step.new.out)) (sym c.outcome-outcome.ensures)
-    (last_segment c.args.options report c.args.limits.now c.loop-limit.limit-index (state c.args.tree) (state c.loop-limit.tree) c.loop-limit.written _ (taken c.args.out.now) (taken c.loop-limit.out) c.loop-limit.outcome so has.keeps is.ascending
-    _ (state step.result.0) step.result.1.written _ (taken step.new.out) (g.W.Out.has_refused step.new.out) c.loop-limit-test.true refl step.ensures.keeps s.last
+    subst (RunsOfSegments c.args.options report c.args.limits.now (state c.args.tree) (state step.result.0) (out c.args.out.now) (out step.new.out)) (sym c.outcome-outcome.ensures)
+    (last_segment c.args.options report c.args.limits.now c.loop-limit.limit-index (state c.args.tree) (state c.loop-limit.tree) c.loop-limit.written _ (out c.args.out.now) (out c.loop-limit.out) c.loop-limit.outcome so has.keeps is.ascending
+    _ (state step.result.0) step.result.1.written _ (out step.new.out) c.loop-limit-test.true refl step.ensures.keeps s.last
     step.result.1.end (sym c.is_last-last.ensures ∙ c.if-last.true) s.writes.ends s.writes.wrote
     (λ listed are.
     step.ensures.opens (has.keeps.honest ∙ honest) report is_now c.loop-limit.written so.within so.last listed (subst (λ bag. AreListed c.args.options bag listed) (sym has.keeps.bag) are)))
@@ -27,7 +27,7 @@ returns-then-last-clause-segments g c = λ honest report is.
 pub loop-limit-preserved : goal.loop-limit-preserved
 loop-limit-preserved g c =
     let state = g.T.Tree.state in
-    let taken = g.W.Out.taken in
+    let out = g.W.Out.state in
     let has = c.loop-limit.invariant in
     let step = c.write_segment-left in
     let i = c.loop-limit.limit-index in
@@ -49,9 +49,9 @@ loop-limit-preserved g c =
           let so = has.so_far honest report is in
           let is_now = subst (λ bag. IsReport (record { bag = bag; profile = option_copied c.args.profile; options = c.args.options }) report) (sym has.keeps.bag) is in
           let s = step.ensures.segment (has.keeps.honest ∙ honest) report is_now n so.within so.last in
-          subst (SoFar c.args.options report c.args.limits.now (i + 1) (state c.args.tree) (state step.result.0) (n + step.result.1.written) _ (taken c.args.out.now) (taken step.new.out)) (sym c.outcome-outcome.ensures)
-          (one_segment_more c.args.options report c.args.limits.now i (state c.args.tree) (state c.loop-limit.tree) n _ (taken c.args.out.now) (taken c.loop-limit.out) c.loop-limit.outcome so has.keeps is.ascending
-          _ (state step.result.0) step.result.1.written _ (taken step.new.out) (g.W.Out.has_refused step.new.out) c.loop-limit-test.true refl step.ensures.keeps s.last
+          subst (SoFar c.args.options report c.args.limits.now (i + 1) (state c.args.tree) (state step.result.0) (n + step.result.1.written) _ (out c.args.out.now) (out step.new.out)) (sym c.outcome-outcome.ensures)
+          (one_segment_more c.args.options report c.args.limits.now i (state c.args.tree) (state c.loop-limit.tree) n _ (out c.args.out.now) (out c.loop-limit.out) c.loop-limit.outcome so has.keeps is.ascending
+          _ (state step.result.0) step.result.1.written _ (out step.new.out) c.loop-limit-test.true refl step.ensures.keeps s.last
           step.result.1.end (sym c.is_last-last.ensures ∙ c.if-last.false) s.writes.ends s.writes.wrote step.ensures.stop
           (λ listed are. step.ensures.opens (has.keeps.honest ∙ honest) report is_now n so.within so.last listed (subst (λ bag. AreListed c.args.options bag listed) (sym has.keeps.bag) are)));
     }
@@ -59,8 +59,8 @@ loop-limit-preserved g c =
 pub returns-clause-segments : goal.returns-clause-segments
 returns-clause-segments g c = λ honest report is.
     let state = g.T.Tree.state in
-    all_segments c.args.options report c.args.limits.now c.loop-limit.limit-index (state c.args.tree) (state c.loop-limit.tree) c.loop-limit.written _ (g.W.Out.taken c.args.out.now) (g.W.Out.taken c.loop-limit.out) c.loop-limit.outcome
-    (c.loop-limit.invariant.so_far honest report is) c.loop-limit.invariant.keeps is.ascending c.loop-limit-test.false (g.W.Out.has_refused c.loop-limit.out)
+    all_segments c.args.options report c.args.limits.now c.loop-limit.limit-index (state c.args.tree) (state c.loop-limit.tree) c.loop-limit.written _ (g.W.Out.state c.args.out.now) (g.W.Out.state c.loop-limit.out) c.loop-limit.outcome
+    (c.loop-limit.invariant.so_far honest report is) c.loop-limit.invariant.keeps is.ascending c.loop-limit-test.false
 
 pub loop-limit-init : goal.loop-limit-init
 loop-limit-init g c =
@@ -71,7 +71,7 @@ loop-limit-init g c =
       untouched = λ none. refl;
       gone = omega arith;
       stop = tt;
-      so_far = λ honest report is. so_far_none c.args.options report c.args.limits.now state _ (g.W.Out.taken c.args.out.now) c.new-lines.ensures;
+      so_far = λ honest report is. so_far_none c.args.options report c.args.limits.now state _ (g.W.Out.state c.args.out.now) c.new-lines.ensures;
     }
 
 pub overflow_add-written : goal.overflow_add-written

@@ -17,5 +17,5 @@ invariant-loop-limit g l = record {
   stop : IsStopped l.fn.options (take (l.limit-index - 1) l.limits) (g.T.Tree.state l.fn.tree) (g.T.Tree.state l.tree) l.outcome;
   so_far : IsTrue (g.T.Tree.state l.fn.tree).honest → (report : List Fault)
       → IsReport (record { bag = (g.T.Tree.state l.fn.tree).bag; profile = option_copied l.profile; options = l.fn.options }) report
-      → SoFar l.fn.options report l.limits l.limit-index (g.T.Tree.state l.fn.tree) (g.T.Tree.state l.tree) l.written (string_bytes l.lines.last) (g.W.Out.taken l.fn.out) (g.W.Out.taken l.out) l.outcome;
+      → SoFar l.fn.options report l.limits l.limit-index (g.T.Tree.state l.fn.tree) (g.T.Tree.state l.tree) l.written (string_bytes l.lines.last) (g.W.Out.state l.fn.out) (g.W.Out.state l.out) l.outcome;
 }

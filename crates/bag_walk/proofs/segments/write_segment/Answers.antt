@@ -22,7 +22,7 @@ returns-in-Ok-start-clause-segment g c = λ honest report is n within was.
     let state = g.T.Tree.state in
     let begun = c.in-Ok-start.ensures in
     goes_on (state c.args.tree) (state c.in-Ok-start.walk.tree) (state c.segment_of_walk.result.0) (option_copied c.args.profile) c.args.options c.in-Ok.after _ _ _ begun.started begun.keeps
-    honest report is n within (c.in-Ok.ensures _ was) c.args.limit _ _ _ _ _ c.segment_of_walk.result.1 was c.segment_of_walk.ensures.seen c.segment_of_walk.ensures.last
+    honest report is n within (c.in-Ok.ensures _ was) c.args.limit _ _ _ _ c.segment_of_walk.result.1 was c.segment_of_walk.ensures.seen c.segment_of_walk.ensures.last
 
 pub returns-in-Err-clause-stop : goal.returns-in-Err-clause-stop
 returns-in-Err-clause-stop g c = let state = g.T.Tree.state in stop_of_reading c.args.options (state c.args.tree) (state c.in-Err.tree) c.in-Err.stop c.in-Err.ensures.stop
@@ -33,7 +33,7 @@ returns-in-Ok-start-clause-opens g c = λ honest report is n within was listed a
     let begun = c.in-Ok-start.ensures in
     let then = c.segment_of_walk.ensures in
     opens_behind (state c.args.tree) (state c.in-Ok-start.walk.tree) (state c.segment_of_walk.result.0) (option_copied c.args.profile) c.args.options c.in-Ok.after _ _ _ begun.started begun.keeps
-    honest report is n within (c.in-Ok.ensures _ was) begun.opens _ then.opens.1 c.args.limit (omega (arith, c.if-limit-eq0.false)) _ _ _ c.segment_of_walk.result.1 then.seen then.behind listed are
+    honest report is n within (c.in-Ok.ensures _ was) begun.opens _ then.opens.1 c.args.limit (omega (arith, c.if-limit-eq0.false)) _ _ c.segment_of_walk.result.1 then.seen then.behind listed are
 
 pub returns-in-Err-clause-opens : goal.returns-in-Err-clause-opens
 returns-in-Err-clause-opens g c = λ honest report is n within was listed are.
@@ -57,6 +57,6 @@ pub returns-in-Err-clause-segment : goal.returns-in-Err-clause-segment
 returns-in-Err-clause-segment g c = λ honest report is n within was.
     let same : n ≡ n + 0 = omega arith in
     record {
-      writes = record { ends = (omega (arith, c.if-limit-eq0.false), omega arith); wrote = Appends-nil (g.W.Out.taken c.args.out.now) };
+      writes = record { ends = (omega (arith, c.if-limit-eq0.false), omega arith); wrote = Appends-nil (g.W.Out.state c.args.out.now).taken };
       last = subst (λ k. IsLastLine (cursor_behind k report) (string_bytes c.args.lines.now.last)) same was;
     }

@@ -17,13 +17,12 @@ returns-clause-done g c =
     let profile = option_copied c.args.self.now.profile in
     let tree = tree_state (g.D.Disks.below (disks_of c.args.folders.now) c.args.directory.now) 0 in
     let name = c.args.directory.now in
-    let before = g.O.Out.taken c.args.out.now in
-    let after = g.O.Out.taken c.check_folder-checked.new.out in
-    let refused = g.O.Out.has_refused c.check_folder-checked.new.out in
+    let before = g.O.Out.state c.args.out.now in
+    let after = g.O.Out.state c.check_folder-checked.new.out in
     let done = c.check_folder-checked.ensures in
-    let next = next_check plan profile tree name before after refused done.0 c.check_folder-checked.result done.2 in (
+    let next = next_check plan profile tree name before after done.0 c.check_folder-checked.result done.2 in (
       done.0,
       done.1,
-      subst (λ status. MatchOption status (IsLastCheck plan profile tree name before after refused done.0) (λ n. IsWholeCheck plan profile tree name before after done.0 n))
+      subst (λ status. MatchOption status (IsLastCheck plan profile tree name before after done.0) (λ n. IsWholeCheck plan profile tree name before after done.0 n))
           (sym c.status_of_whole.ensures) next,
     )
