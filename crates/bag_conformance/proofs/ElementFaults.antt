@@ -15,7 +15,7 @@ use Rattle.bag_tree.specs.Bag.{Bag, file}
 use Rattle.bag_facts.specs.declared.fault.Fault.{Fault}
 use Rattle.bag_facts.specs.Facts.{rules_in}
 use Rattle.bag_facts.specs.TagFacts.{IsReadOf, IsMetadataOf}
-use Rattle.bag_facts.specs.declared.metadata.Metadata.{Metadata}
+use Rattle.bag_facts.specs.declared.tag_facts.Metadata.{Metadata}
 use Rattle.bag_facts.proofs.Mapped.{kept, passed}
 use Rattle.bag_profile.specs.Profile.{Profile}
 use Rattle.bag_profile.specs.declared.label.LabelRule.{LabelRule}

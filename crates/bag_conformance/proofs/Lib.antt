@@ -10,7 +10,7 @@ pub mod ItemFaults
 pub mod LabelRule
 pub mod Manifests
 pub mod Parts
-pub mod Rules
+pub mod ListRules
 pub mod RulesInTurn
 pub mod TagFiles
 pub mod WholeBag

@@ -1,4 +1,4 @@
--- The entries of a manifest.
+-- The entries of a manifest, as it was read and as they are found.
 use Rattle.std.proofs.Common.{◌≡◌, ◌≢◌, ◌<◌, ◌≤◌, ℕ, List, [], Bool, true, false, Option, None, Some, MatchOption, Bor, refl, ap, sym, ◌∙◌, subst, ◌↔◌, Contains, IsTrue, Result, Err, length, get_or, arith}
 use Rattle.std.specs.List.{HoldsAt}
 use Rattle.std.specs.Option.{is_some, option_copied}
@@ -19,9 +19,10 @@ use Rattle.bag_read.specs.declared.manifest.ManifestEntry.{ManifestEntry}
 use Rattle.bag_read.specs.LineFault.{AreFaults}
 use Rattle.bag_read.specs.Manifest.{IsEntry, IsManifestFault}
 use Rattle.bag_read.proofs.ManifestEntries.{entry_of_path_once}
-use Rattle.bag_facts.specs.TagFacts.{IsManifestOf, AreByPath, entry_paths}
+use Rattle.bag_facts.specs.TagFacts.{IsManifestOf, AreByPath, entry_paths, AreEntriesOf, IsManifestNamed, IsReadOf}
 use Rattle.bag_facts.proofs.ByPath.{sorted_once, found, text_same}
 use Rattle.bag_facts.proofs.Mapped.{mapped_contains}
+use Rattle.bag_facts.specs.declared.tag_facts.Manifest.{Manifest}
 
 some_entry : ManifestEntry
 some_entry = record { line = 0; digest = []; path = [] }
@@ -65,3 +66,16 @@ pub named_found : (entries seen : List ManifestEntry) (path : List ℕ) (o : Opt
 named_found entries seen path None b same is none = rw (is, sym same) (λ e. cc, λ c. absurd (none c))
 named_found entries seen path (Some x) b same is there =
     rw (is, sym same) (λ _. subst (Contains (entry_paths seen)) there.1 (mapped_contains (λ e. e.path) seen x.now there.0), λ _. refl)
+
+module _ (rules : Rules) (kind : Kind) (alg : Alg) where
+  -- one that is there
+  pub entries_read : (content : Option (List ℕ)) (m : Manifest) → IsReadOf (IsManifestNamed rules kind alg) content (Some m) → AreEntriesOf rules kind alg content m.entries
+  entries_read None m read = absurd read
+  entries_read (Some bytes) m read =
+      subst (λ a. IsListOf (on (λ e. e.path) text_cmp) (IsEntry rules kind a (lines_of_file bytes)) m.entries) read.2
+      (subst (λ k. IsListOf (on (λ e. e.path) text_cmp) (IsEntry rules k m.alg (lines_of_file bytes)) m.entries) read.1 read.0.entries)
+
+  -- one that isn't there
+  pub nothing_read : (content : Option (List ℕ)) → IsReadOf (IsManifestNamed rules kind alg) content None → AreEntriesOf rules kind alg content []
+  nothing_read None read = refl
+  nothing_read (Some bytes) read = absurd read

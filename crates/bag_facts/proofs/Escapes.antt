@@ -6,7 +6,7 @@ use Rattle.std.proofs.lemmas.Bool.{agree_below, agree_below_at}
 use Rattle.std.proofs.lemmas.Bool.Decides.{nat_tests}
 use Rattle.percent_encoding.specs.AsciiSet.{contains, should_percent_encode}
 use Rattle.percent_encoding.specs.Percent.{percent_encode, percent_encode_byte, encode_byte}
-use Rattle.bag_facts.specs.declared.field.TheConstants.{ESCAPED}
+use Rattle.bag_facts.specs.declared.fault.TheConstants.{ESCAPED}
 use Rattle.bag_facts.specs.FaultLine.{is_encoded, encoded, field}
 
 table : agree_below (contains ESCAPED) is_encoded 128 ≡ true

@@ -5,7 +5,7 @@ use Rattle.std.specs.Str.{bytes_eq}
 use Rattle.std.specs.List.{flat_map}
 use Rattle.percent_encoding.specs.Percent.{percent_encode, percent_encode_byte}
 use Rattle.percent_encoding.specs.AsciiSet.{should_percent_encode}
-use Rattle.bag_facts.specs.declared.field.TheConstants.{ESCAPED, ESCAPED_HYPHEN}
+use Rattle.bag_facts.specs.declared.fault.TheConstants.{ESCAPED, ESCAPED_HYPHEN}
 use Rattle.bag_facts.specs.FaultLine.{encoded, field}
 
 not_empty : (x : ℕ) (t : List ℕ) → (length (x ∷ t) == 0) ≡ true → ⊥

@@ -7,7 +7,6 @@ pub mod Codes
 pub mod Cut
 pub mod Earlier
 pub mod Entries
-pub mod EntriesRead
 pub mod Escapes
 pub mod FieldPieces
 pub mod Known

@@ -8,7 +8,7 @@ use Rattle.percent_encoding.specs.Percent.{percent_decode}
 use Rattle.percent_encoding.proofs.PercentLemmas.{IsByte, round_trip}
 use Rattle.bag_text.specs.declared.code.Code.{Code}
 use Rattle.bag_text.specs.Code.{number, word}
-use Rattle.bag_facts.specs.declared.field.TheConstants.{ESCAPED}
+use Rattle.bag_facts.specs.declared.fault.TheConstants.{ESCAPED}
 use Rattle.bag_facts.specs.FaultLine.{encoded, field, alg_field, line_field, LinesTellFaultsApart}
 use Rattle.bag_facts.proofs.Algs.{same_alg_field}
 use Rattle.bag_facts.proofs.Bytes.{utf8_bytes}

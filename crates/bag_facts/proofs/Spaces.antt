@@ -13,7 +13,7 @@ use Rattle.bag_text.specs.Alg.{name}
 use Rattle.bag_text.specs.declared.alg.Alg.{Alg}
 use Rattle.bag_text.specs.declared.code.Code.{Code}
 use Rattle.bag_text.specs.Code.{number, word}
-use Rattle.bag_facts.specs.declared.field.TheConstants.{ESCAPED}
+use Rattle.bag_facts.specs.declared.fault.TheConstants.{ESCAPED}
 use Rattle.bag_facts.specs.FaultLine.{encoded, field, alg_field, line_field}
 use Rattle.bag_facts.proofs.Algs.{each_alg}
 use Rattle.bag_facts.proofs.Codes.{small_number, word_test}

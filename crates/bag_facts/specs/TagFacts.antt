@@ -19,9 +19,9 @@ use Rattle.bag_read.specs.declared.kind.Kind.{Kind}
 use Rattle.bag_read.specs.declared.manifest.ManifestEntry.{ManifestEntry}
 use Rattle.bag_read.specs.declared.tag_name.TagName.{TagName}
 use Rattle.bag_read.specs.declared.tag_name.TagName.TheVariants as name
-use Rattle.bag_facts.specs.declared.fetch_list.FetchList.{FetchList}
-use Rattle.bag_facts.specs.declared.manifest.Manifest.{Manifest}
-use Rattle.bag_facts.specs.declared.metadata.Metadata.{Metadata}
+use Rattle.bag_facts.specs.declared.tag_facts.FetchList.{FetchList}
+use Rattle.bag_facts.specs.declared.tag_facts.Manifest.{Manifest}
+use Rattle.bag_facts.specs.declared.tag_facts.Metadata.{Metadata}
 use Rattle.bag_facts.specs.declared.tag_facts.TagFacts.{TagFacts}
 use Rattle.bag_facts.specs.declared.tag_facts.TagFacts.TheVariants as facts
 use Rattle.bag_facts.specs.declared.tag_reader.TagBytes.{TagBytes}

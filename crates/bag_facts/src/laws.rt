@@ -1,9 +1,9 @@
 //! Laws of the definitions, each the contract of a function that gives nothing.
 ghost use Rattle.bag_facts.specs.EarlierReports.{EarlierFaultsKeepTheirOrder, EarlierLinesKeepTheirFaults};
 ghost use Rattle.bag_facts.specs.FaultLine.{LinesTellFaultsApart};
-ghost use Rattle.bag_facts.specs.FaultOrder.{FaultsAreOrdered, OneOfThreeHolds, EqualFaultsAreOne, AscendingFaultsAreOne, IsFault};
+ghost use Rattle.bag_facts.specs.FaultOrder.{FaultsAreOrdered, OneOfThreeHolds, EqualFaultsAreOne, AscendingFaultsAreOne};
 
-use crate::Fault;
+pub use crate::fault::every_fault_is_one;
 
 /// The order of faults is total, and faults that tie are one fault.
 pub fn faults_are_ordered()
@@ -36,12 +36,3 @@ pub fn earlier_reports_hold()
     ensures order { EarlierFaultsKeepTheirOrder }
     ensures lines { EarlierLinesKeepTheirFaults }
 {}
-
-/// Every fault has UTF-8 texts, and a line number that fits 64 bits.
-pub fn every_fault_is_one(fault: &Fault)
-    ensures { IsFault fault.now }
-{
-    let _path = fault.path.as_str();
-    let _line = fault.line;
-    let _detail = fault.detail.as_str();
-}

@@ -5,7 +5,6 @@ pub mod Fetch
 pub mod FetchLine
 pub mod FetchReasons
 pub mod Info
-pub mod InfoLine
 pub mod InfoPlaces
 pub mod InfoReader
 pub mod InfoSplit

@@ -5,7 +5,7 @@ ghost use Rattle.std.specs.Option.{option_copied};
 ghost use Rattle.bag_text.specs.Text as texts;
 ghost use Rattle.bag_read.specs.Declaration as spec;
 
-use crate::line_parts::{after_prefix, is_digits};
+use crate::line_fault::{after_prefix, is_digits};
 use bag_text::is_blank;
 
 /// The version that line 1 declares, where it reads.

@@ -7,8 +7,9 @@ ghost use Rattle.bag_read.specs.LineFault.{AreFaults};
 ghost use Rattle.bag_read.specs.Fetch as spec;
 ghost use Rattle.bag_read.specs.Fetch.{IsFetch, IsFetchFault};
 
-use crate::line_fault::{LineForm, Parsed, Why, read_lines, refuse, unread};
-use crate::line_parts::{decode_path, is_digits, without_prefix};
+use crate::line_fault::{
+    LineForm, Parsed, Why, decode_path, is_digits, read_lines, refuse, unread, without_prefix,
+};
 use bag_text::{Code, Rules, Text, check_path, is_payload, split_at_blanks, text_of};
 use std::alloc::{AllocError, Global};
 

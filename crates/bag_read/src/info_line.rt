@@ -1,7 +1,7 @@
 //! What a line of `bag-info.txt` is (RFC 8493, 2.2.2).
 ghost use Rattle.std.specs.Prelude.{◌≡◌, MatchOption, Some, None};
 ghost use Rattle.bag_read.specs.Info as spec;
-ghost use Rattle.bag_read.specs.InfoLine.{HasKind};
+ghost use Rattle.bag_read.specs.InfoSplit.{HasKind};
 
 use bag_text::{Rules, begins_with_blank, ends_with_blank, is_blank_line};
 

@@ -25,7 +25,6 @@ mod info_reader;
 mod kind;
 pub mod laws;
 mod line_fault;
-mod line_parts;
 mod manifest;
 mod manifest_name;
 mod oxum;

@@ -1,10 +1,17 @@
-//! What a tag file says and what is wrong with it, line by line.
-ghost use Rattle.std.specs.Prelude.{◌≡◌, ◌∷◌, [], ℕ, List, Result, Err, IfOk};
-ghost use Rattle.bag_text.specs.Lines as cut;
+//! What a tag file says and what is wrong with it, line by line, and what its lines are made of: texts in front of others and
+//! behind them, spelled paths, and numbers in ASCII digits.
+ghost use Rattle.std.specs.Prelude.{◌≡◌, ◌∷◌, [], ℕ, List, Result, Err, IfOk, ◌≢◌, ◌++◌, MatchOption};
+ghost use Rattle.std.specs.Char.{is_ascii_digit};
+ghost use Rattle.std.specs.List.{list_all};
+ghost use Rattle.std.specs.Option.{option_copied};
 ghost use Rattle.bag_read.specs.LineFault.{entries_read, faults_read, not_utf8};
-ghost use Rattle.bag_read.specs.Reason.{Reason};
+ghost use Rattle.bag_read.specs.Reason.{Reason, decoded_or};
+ghost use Rattle.bag_text.specs.Spelling.{unescaped};
+ghost use Rattle.bag_text.specs.Lines as cut;
+ghost use Rattle.bag_text.specs.Number as number;
+ghost use Rattle.bag_text.specs.Text as spec;
 
-use bag_text::{Code, Items, Text, is_blank_line, lines};
+use bag_text::{Code, Items, PathFault, Rules, Text, is_blank_line, lines, unescape_path};
 use std::alloc::{AllocError, Global};
 
 /// A fault of a tag file. Lines count from 1; the line is 0 where the fault is of the whole file.
@@ -95,4 +102,57 @@ pub(crate) fn unread<T>(alloc: Global) -> Result<Parsed<T>, AllocError>
         items: Items::new(alloc),
         faults,
     })
+}
+
+/// What stands after a prefix, where the text has it.
+pub(crate) fn after_prefix<'a>(text: &'a str, prefix: &str) -> Option<&'a str>
+    ensures { option_copied result ≡ spec.after_prefix prefix.now text.now }
+{
+    text.strip_prefix(prefix)
+}
+
+/// What stands before a suffix, where the text has it.
+pub(crate) fn before_suffix<'a>(text: &'a str, suffix: &str) -> Option<&'a str>
+    ensures { MatchOption result ((front : List ℕ) → text.now ≢ front ++ suffix.now) (λ front. text.now ≡ front.now ++ suffix.now) }
+{
+    text.strip_suffix(suffix)
+}
+
+/// The text without a prefix, where it has it.
+pub(crate) fn without_prefix<'a>(text: &'a str, prefix: &str) -> &'a str
+    ensures { result.now ≡ spec.without_prefix prefix.now text.now }
+{
+    match after_prefix(text, prefix) {
+        Some(rest) => rest,
+        None => text,
+    }
+}
+
+/// The path that is spelled; where an escape in it is bad, this code, with the spelling.
+pub(crate) fn decode_path(
+    alloc: Global,
+    rules: Rules,
+    spelling: &str,
+    bad_escape: Code,
+) -> Result<Result<Text, Why>, AllocError>
+    ensures { IfOk result (λ path. path ≡ decoded_or bad_escape (unescaped rules spelling.now) spelling.now) }
+{
+    match unescape_path(alloc, rules, spelling) {
+        Ok(path) => Ok(Ok(Text::from_string(path))),
+        Err(PathFault::BadEscape) => refuse(alloc, bad_escape, spelling),
+        Err(PathFault::Memory) => Err(AllocError),
+    }
+}
+
+/// One or more ASCII digits.
+pub(crate) fn is_digits(text: &str) -> bool
+    ensures { result ≡ number.is_digits text.now }
+{
+    !text.is_empty() && has_digits_only(text)
+}
+
+fn has_digits_only(text: &str) -> bool
+    ensures { result ≡ list_all is_ascii_digit text.now }
+{
+    text.as_bytes().iter().all(|b| b.is_ascii_digit())
 }

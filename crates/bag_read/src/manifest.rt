@@ -11,8 +11,9 @@ ghost use Rattle.bag_read.specs.Manifest as spec;
 ghost use Rattle.bag_read.specs.Manifest.{IsEntry, IsManifestFault};
 ghost use Rattle.bag_read.specs.Repeats.{IsReadOnce};
 
-use crate::line_fault::{LineForm, Parsed, Why, read_lines, refuse, unread};
-use crate::line_parts::{decode_path, without_prefix};
+use crate::line_fault::{
+    LineForm, Parsed, Why, decode_path, read_lines, refuse, unread, without_prefix,
+};
 use crate::manifest_name::is_manifest_name;
 use crate::repeats::{are_different, repeated_lines};
 use crate::{Digest, Kind};

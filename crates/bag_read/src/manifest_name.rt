@@ -6,7 +6,7 @@ ghost use Rattle.std.specs.Option.{is_some};
 ghost use Rattle.bag_read.specs.ManifestName as spec;
 
 use crate::Kind;
-use crate::line_parts::{after_prefix, before_suffix};
+use crate::line_fault::{after_prefix, before_suffix};
 
 /// What a manifest's name ends with.
 pub(crate) const SUFFIX: &str = ".txt";

@@ -2,7 +2,7 @@
 ghost use Rattle.std.specs.Prelude.{◌≡◌};
 ghost use Rattle.bag_read.specs.Oxum as spec;
 
-use crate::line_parts::is_digits;
+use crate::line_fault::is_digits;
 
 /// How many bytes the payload has, and how many files.
 #[derive(Clone, Copy, Debug, PartialEq, Eq)]

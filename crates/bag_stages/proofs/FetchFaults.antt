@@ -31,8 +31,8 @@ use Rattle.bag_facts.specs.FaultOrder.{fault_cmp}
 use Rattle.bag_facts.proofs.Ordered.{fault_cmp_total, fault_cmp_same}
 use Rattle.bag_facts.specs.Facts.{rules_in, IsByV10, IsByV097}
 use Rattle.bag_facts.specs.TagFacts.{entry_paths, AreByPath, IsFetchListOf, IsManifestNamed, IsReadOf}
-use Rattle.bag_facts.specs.declared.fetch_list.FetchList.{FetchList}
-use Rattle.bag_facts.specs.declared.manifest.Manifest.{Manifest}
+use Rattle.bag_facts.specs.declared.tag_facts.FetchList.{FetchList}
+use Rattle.bag_facts.specs.declared.tag_facts.Manifest.{Manifest}
 use Rattle.bag_stages.specs.FaultFields.{in_file, in_line, At}
 use Rattle.bag_stages.specs.FetchFaults.{AreByLine, AreFetched, IsNotNamed, IsNotNamedAmong, IsNotInAny, IsNotInManifest, IsNotInSome, IsNotListed, not_in_manifest}
 use Rattle.bag_stages.specs.FetchStage.{fetch_txt, FetchFaultsAreOfStageFour, FetchHolds, HasFetch, InFetch, IsOfFetch}

@@ -37,7 +37,7 @@ use Rattle.bag_facts.specs.TagReader.{AreListed}
 use Rattle.bag_facts.specs.Wanted.{paths_of}
 use Rattle.bag_facts.specs.declared.facts.Facts.{Facts}
 use Rattle.bag_facts.specs.declared.options.Depth.TheVariants.{Declaration}
-use Rattle.bag_facts.specs.declared.manifest.Manifest.{Manifest}
+use Rattle.bag_facts.specs.declared.tag_facts.Manifest.{Manifest}
 use Rattle.bag_facts.specs.declared.tag_facts.TagFacts.{TagFacts}
 use Rattle.bag_facts.specs.declared.tag_facts.TagFacts.TheVariants as facts
 use Rattle.bag_facts.proofs.ListedFiles.{file_listed, listed_file}

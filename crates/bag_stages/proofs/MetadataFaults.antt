@@ -20,7 +20,7 @@ use Rattle.bag_facts.specs.FaultOrder.{fault_cmp}
 use Rattle.bag_facts.proofs.Ordered.{fault_cmp_total, fault_cmp_same}
 use Rattle.bag_facts.specs.Facts.{rules_in}
 use Rattle.bag_facts.specs.TagFacts.{IsReadOf, IsMetadataOf}
-use Rattle.bag_facts.specs.declared.metadata.Metadata.{Metadata}
+use Rattle.bag_facts.specs.declared.tag_facts.Metadata.{Metadata}
 use Rattle.bag_stages.specs.FaultFields.{in_file, in_line, InFile}
 use Rattle.bag_stages.specs.Metadata.{bag_info_txt}
 use Rattle.bag_stages.specs.MetadataStage.{MetadataHolds, IsOfMetadata, MetadataFaultsAreOfStageThree}

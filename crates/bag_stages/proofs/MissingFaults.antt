@@ -14,7 +14,7 @@ use Rattle.bag_facts.specs.Facts.{rules_in}
 use Rattle.bag_facts.specs.TagFacts.{entry_paths, AreByPath, IsManifestNamed, IsReadOf}
 use Rattle.bag_facts.specs.TagReader.{AreListed}
 use Rattle.bag_facts.specs.Wanted.{paths_of}
-use Rattle.bag_facts.specs.declared.manifest.Manifest.{Manifest}
+use Rattle.bag_facts.specs.declared.tag_facts.Manifest.{Manifest}
 use Rattle.bag_facts.proofs.ListedFiles.{file_listed, listed_file}
 use Rattle.bag_stages.specs.TagFiles.{manifest_of, Names}
 use Rattle.bag_stages.proofs.ReadManifest.{by_path, names_entry, entry_names, names_nothing}

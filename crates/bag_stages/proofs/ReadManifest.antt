@@ -11,7 +11,7 @@ use Rattle.bag_read.specs.declared.kind.Kind.{Kind}
 use Rattle.bag_tree.specs.Bag.{Bag, file}
 use Rattle.bag_facts.specs.Facts.{rules_in}
 use Rattle.bag_facts.specs.TagFacts.{entry_paths, AreByPath, IsManifestNamed, IsReadOf}
-use Rattle.bag_facts.specs.declared.manifest.Manifest.{Manifest}
+use Rattle.bag_facts.specs.declared.tag_facts.Manifest.{Manifest}
 use Rattle.bag_stages.specs.TagFiles.{manifest_of, HasSupported, Names}
 use Rattle.bag_stages.proofs.FetchFaults as fetch
 use Rattle.bag_stages.proofs.ManifestFaults as of_bytes

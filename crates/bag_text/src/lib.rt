@@ -19,7 +19,6 @@
 mod alg;
 mod alg_set;
 mod blank;
-mod byte_search;
 mod code;
 mod items;
 mod label;
@@ -30,7 +29,6 @@ mod read_text;
 mod rules;
 pub mod said;
 mod sort_key;
-mod spelling;
 mod text;
 
 pub use alg::Alg;
@@ -42,9 +40,8 @@ pub use code::Code;
 pub use items::Items;
 pub use label::same_label;
 pub use line_cut::Lines;
-pub use path::{Unsafe, check_path, is_payload};
+pub use path::{PathFault, Unsafe, check_path, escape_path, is_payload, unescape_path};
 pub use read_text::{BYTE_ORDER_MARK, NotUtf8, lines, text_of};
 pub use rules::Rules;
 pub use sort_key::{common_front, key_behind};
-pub use spelling::{PathFault, escape_path, unescape_path};
 pub use text::Text;

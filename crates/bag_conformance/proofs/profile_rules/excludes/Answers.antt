@@ -1,4 +1,4 @@
-use Rattle.bag_conformance.proofs.Rules.{excludes_none, excludes_some}
+use Rattle.bag_conformance.proofs.ListRules.{excludes_none, excludes_some}
 use Rattle.bag_conformance.proofs.profile_rules.excludes.Goals as goal
 
 pub returns-in-Some : goal.returns-in-Some

@@ -1,5 +1,5 @@
 use Rattle.std.proofs.Common.{[], refl}
-use Rattle.bag_conformance.proofs.Rules.{lists_none, lists_some}
+use Rattle.bag_conformance.proofs.ListRules.{lists_none, lists_some}
 use Rattle.bag_conformance.proofs.profile_rules.listed.Goals as goal
 
 pub returns-in-Some : goal.returns-in-Some

@@ -1,4 +1,4 @@
-use Rattle.bag_conformance.proofs.Rules.{matches_none_none, matches_none_some}
+use Rattle.bag_conformance.proofs.ListRules.{matches_none_none, matches_none_some}
 use Rattle.bag_conformance.proofs.profile_rules.matches_none.Goals as goal
 
 pub returns-in_default : goal.returns-in_default

@@ -2,7 +2,7 @@ use Rattle.bag_tree.specs.Bag.{file}
 use Rattle.bag_read.specs.TagName.{tag_path}
 use Rattle.bag_read.specs.declared.tag_name.TagName.TheVariants.{Manifest}
 use Rattle.bag_facts.specs.Facts.{rules_in}
-use Rattle.bag_facts.proofs.EntriesRead.{entries_read, nothing_read}
+use Rattle.bag_facts.proofs.Entries.{entries_read, nothing_read}
 use Rattle.bag_facts.proofs.facts.Facts.entries.Goals as goal
 
 pub returns-in-Some-clause-entries : goal.returns-in-Some-clause-entries

@@ -1,5 +1,0 @@
-use Rattle.memchr.specs.Find.{Nowhere, Passes, is_byte2}
-use Rattle.bag_text.proofs.byte_search.first_of_two.Given as goal
-
-abbrev pub invariant-loop-place : goal.invariant-loop-place
-invariant-loop-place l = Nowhere (Passes (is_byte2 l.a l.b) l.bytes) 0 l.place

@@ -1,7 +1,0 @@
-use Rattle.std.proofs.Common.{◌≡◌, not, take}
-use Rattle.std.specs.List.{list_all}
-use Rattle.memchr.specs.Find.{is_byte2}
-use Rattle.bag_text.proofs.byte_search.has_neither.Given as goal
-
-abbrev pub invariant-loop-byte : goal.invariant-loop-byte
-invariant-loop-byte l = l.all ≡ list_all (λ c. not (is_byte2 l.a l.b c)) (take l.byte-index l.bytes)

@@ -1,5 +1,0 @@
-use Rattle.std.proofs.Common.{refl}
-use Rattle.bag_text.proofs.spelling.PathFaultFromAllocError.from.Goals as goal
-
-pub returns : goal.returns
-returns c = refl

@@ -1,7 +1,0 @@
-use Rattle.std.proofs.Common.{◌≡◌, string_bytes}
-use Rattle.std.specs.Str.{encode_utf8_all}
-use Rattle.bag_text.specs.Spelling.{escape}
-use Rattle.bag_text.proofs.spelling.escape_path.Given as goal
-
-abbrev pub invariant-loop-c : goal.invariant-loop-c
-invariant-loop-c l = string_bytes l.text ≡ escape (encode_utf8_all l.yielded)
