@@ -4,7 +4,7 @@ ghost use Rattle.bag_facts.specs.FaultLine.{field};
 ghost use Rattle.bag_walk.specs.Closing as spec;
 ghost use Rattle.bag_walk.specs.Write.{Writes, text_of};
 
-use crate::write::{put_all, put_pieces};
+use crate::segment::{put_all, put_pieces};
 use crate::{Outcome, Request};
 use bag_facts::{Depth, field_pieces};
 use bag_text::said;

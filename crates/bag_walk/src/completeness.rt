@@ -12,7 +12,7 @@ ghost use Rattle.bag_profile.specs.Profile.{Profile};
 ghost use Rattle.bag_walk.specs.Completeness.{IsAbove, IsOfAlg, IsOfSomeAlg, IsSoughtAbove, IsStageAbove};
 ghost use Rattle.bag_walk.specs.Source.{first_of};
 
-use crate::ascending::{above, merged};
+use crate::fixed::{above, merged};
 use crate::{Fixed, InOrder, Quiet, Source};
 use bag_facts::{Facts, Fault};
 use bag_read::Kind;

@@ -18,41 +18,31 @@
 //! faults are asked for, once for all its algorithms, and none behind the fault that is given. Segments add up to one report.
 #![tactic(auto)]
 
-mod ascending;
 mod closing;
 mod completeness;
 mod cursor;
 mod files;
 mod fixed;
 pub mod laws;
-mod lines;
 mod merge;
 mod next;
 mod outcome;
-mod queue;
-mod report_writer;
 mod runner;
 mod segment;
 mod segments;
 mod source;
-mod start;
 mod steps;
-mod then;
 mod to_sum;
 mod validity;
-mod walk;
-mod write;
 
 pub use closing::put_line;
 pub use completeness::Completeness;
-pub use fixed::Fixed;
+pub use fixed::{Fixed, Then};
 pub use merge::Merge;
 pub use outcome::{Outcome, Request, status};
 pub use runner::run;
+pub use segment::put_pieces;
 pub use segments::run_segments;
 pub use source::{InOrder, Quiet, Source};
-pub use start::{Sources, Walk};
-pub use steps::Steps;
-pub use then::Then;
+pub use steps::{Sources, Steps, Walk};
 pub use validity::Validity;
-pub use write::put_pieces;

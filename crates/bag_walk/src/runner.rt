@@ -15,9 +15,7 @@ ghost use Rattle.bag_walk.specs.Segment.{MayStopRun, WritesCalmly};
 ghost use Rattle.bag_walk.specs.Stops.{IfStopped};
 
 use crate::cursor::copy_of_cursor;
-use crate::lines::Lines;
-use crate::report_writer::close;
-use crate::segment::{close_segment, out_of_memory, write_faults};
+use crate::segment::{Lines, close, close_segment, out_of_memory, write_faults};
 use crate::{InOrder, Outcome, Request, Steps, Walk};
 use bag_report::{Fault, Profile};
 use bag_tree::{Out, Tree};

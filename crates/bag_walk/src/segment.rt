@@ -1,5 +1,6 @@
 //! The lines of a report's faults, each written when its fault is found.
-ghost use Rattle.std.specs.Prelude.{◌≡◌, List, IsTrue, drop, string_bytes};
+ghost use Rattle.std.specs.Prelude.{◌≡◌, List, IsTrue, drop, string_bytes, [], IfOk, OnOk, Option, ℕ};
+ghost use Rattle.std.specs.Option.{option_copied};
 ghost use Rattle.bag_tree.specs.Bag.{Bag};
 ghost use Rattle.bag_tree.specs.Calm.{RefusesNothing};
 ghost use Rattle.bag_tree.specs.Out.{OutState};
@@ -7,20 +8,24 @@ ghost use Rattle.bag_tree.specs.Tree.{Keeps};
 ghost use Rattle.bag_facts.specs.declared.fault.Fault.{Fault as Spoken};
 ghost use Rattle.bag_facts.specs.Stops.{IsOutOfMemory};
 ghost use Rattle.bag_walk.specs.Closing.{count_of};
-ghost use Rattle.bag_walk.specs.Ending.{limit_of};
+ghost use Rattle.bag_walk.specs.Ending.{limit_of, written_line, ended};
 ghost use Rattle.bag_walk.specs.Openings.{NoneWaits, OpensAgain, OpensNoneBehind};
 ghost use Rattle.bag_walk.specs.Source.{Sees};
 ghost use Rattle.bag_walk.specs.Steps.{shown_by, to_give};
-ghost use Rattle.bag_walk.specs.Lines.{IsLastOf};
+ghost use Rattle.bag_walk.specs.Lines.{IsLastOf, IsLastLine};
 ghost use Rattle.bag_walk.specs.Segment.{ClosesSegment, IfUnread, IsRead, IsSegment, MayStopWalk, StopsAt, still_to_come};
 ghost use Rattle.bag_walk.specs.Stops.{IfStopped};
+ghost use Rattle.bag_facts.specs.FaultOrder.{IsFault};
+ghost use Rattle.bag_walk.specs.Writer.{Closes};
+ghost use Rattle.bag_walk.specs.Write.{Writes, text_of};
 
-use crate::lines::Lines;
-use crate::report_writer::{close, end_of_report};
-use crate::write::put_all;
+use crate::closing::put_closing;
 use crate::{InOrder, Outcome, Request, Steps};
+use bag_facts::Fault;
+use bag_facts::laws::every_fault_is_one;
 use bag_tree::{Out, Refused, Stop, Tree, TreeFault};
-use std::alloc::Global;
+use std::alloc::{AllocError, Global};
+use std::mem;
 
 /// How a segment of a report ended.
 #[derive(Debug, Drop)]
@@ -128,4 +133,108 @@ pub(crate) fn out_of_memory(alloc: Global) -> Stop
     ensures { IsOutOfMemory result }
 {
     Stop::without_path(alloc, TreeFault::Memory)
+}
+
+/// The line that was written last, none at first, and a buffer for the next. Each ends in LF.
+#[derive(Debug, Drop)]
+pub(crate) struct Lines {
+    pub(crate) last: String,
+    pub(crate) next: String,
+}
+
+impl Lines {
+    /// Before the first line.
+    pub(crate) fn new(alloc: Global) -> Lines
+        ensures { string_bytes result.last ≡ [] }
+    {
+        Lines {
+            last: String::new(alloc),
+            next: String::new(alloc),
+        }
+    }
+
+    /// Puts a fault's line into the buffer.
+    pub(crate) fn fill(&mut self, fault: &Fault) -> Result<(), AllocError>
+        ensures last { string_bytes self.new.last ≡ string_bytes self.old.last }
+        ensures next { OnOk result (string_bytes self.new.next ≡ written_line fault.now) }
+        ensures fault { IsFault fault.now }
+    {
+        every_fault_is_one(fault);
+        fill_line(&mut self.next, fault)
+    }
+
+    /// Makes the line in the buffer the last.
+    pub(crate) fn turn(&mut self)
+        ensures { string_bytes self.new.last ≡ string_bytes self.old.next }
+    {
+        mem::swap(&mut self.last, &mut self.next);
+    }
+
+    /// The fault whose line was written last, if one was. Fails only where memory runs out.
+    pub(crate) fn last_fault(&self, alloc: Global) -> Result<Option<Fault>, AllocError>
+        ensures { (last : Option Spoken) → IsLastLine last (string_bytes self.now.last) → IfOk result (λ fault. fault ≡ last) }
+    {
+        let Some(line) = self.last.as_str().strip_suffix("\n") else {
+            return Ok(None);
+        };
+        match Fault::from_line(alloc, line) {
+            Ok(fault) => Ok(Some(fault)),
+            Err(_) => Err(AllocError),
+        }
+    }
+}
+
+/// Puts a fault's line with its end, an LF, in place of what the buffer held. It takes memory only where the line is longer
+/// than the buffer.
+pub(crate) fn fill_line(line: &mut String, fault: &Fault) -> Result<(), AllocError>
+    ensures { OnOk result (string_bytes line.new ≡ written_line fault.now) }
+{
+    line.clear();
+    fault.append_line(line)?;
+    line.push_str("\n")
+}
+
+/// How a run ends that has shown all faults above a cursor, and has written `written` of them.
+pub(crate) fn end_of_report(after: Option<&Fault>, written: u64) -> Outcome
+    ensures { result ≡ ended (option_copied after.entry) written }
+{
+    match (after, written) {
+        (Some(_), _) => Outcome::Rest(written),
+        (None, 0) => Outcome::Clean,
+        (None, _) => Outcome::Faults(written),
+    }
+}
+
+/// Writes the closing line of an outcome, and answers how the run ended: so, or `Unwritten` with the same number of
+/// fault lines. It takes no memory.
+pub(crate) fn close<W: Out>(request: &Request, ending: Outcome, out: &mut W) -> Outcome
+    ensures { Closes request.now ending (W.state out.old) (W.state out.new) result }
+{
+    match put_closing(request, &ending, out) {
+        Ok(()) => ending,
+        Err(Refused) => Outcome::Unwritten(ending.count()),
+    }
+}
+
+/// Hands all bytes to the output, in one write where it takes them whole.
+pub(crate) fn put_all<W: Out>(out: &mut W, bytes: &[u8]) -> Result<(), Refused>
+    ensures { Writes (W.state out.old) (W.state out.new) bytes.now result }
+{
+    let mut rest = bytes;
+    while !rest.is_empty() {
+        let count = out.put(rest)?;
+        let (_, after) = rest.split_at(count);
+        rest = after;
+    }
+    Ok(())
+}
+
+/// Hands the pieces of a text to the output. It takes no memory.
+pub fn put_pieces<W: Out>(out: &mut W, pieces: &[&str]) -> Result<(), Refused>
+    ensures { Writes (W.state out.old) (W.state out.new) (text_of pieces.now) result }
+{
+    for piece in pieces {
+        put_all(out, piece.as_bytes())?;
+    }
+    Ok(())
 }

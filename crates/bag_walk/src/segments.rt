@@ -14,9 +14,7 @@ ghost use Rattle.bag_walk.specs.SegmentOpenings.{AreListed, OpensInSegment};
 ghost use Rattle.bag_walk.specs.Stops.{MayStop};
 ghost use Rattle.bag_walk.specs.Segments as spec;
 
-use crate::lines::Lines;
-use crate::report_writer::end_of_report;
-use crate::segment::{Segment, SegmentEnd, out_of_memory, write_faults};
+use crate::segment::{Lines, Segment, SegmentEnd, end_of_report, out_of_memory, write_faults};
 use crate::{InOrder, Outcome, Steps, Walk};
 use bag_report::{Options, Profile};
 use bag_tree::{Out, Tree};

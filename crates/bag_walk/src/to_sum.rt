@@ -11,7 +11,7 @@ ghost use Rattle.bag_report.specs.Report.{above};
 ghost use Rattle.bag_walk.specs.Source.{MayStopAnyway, MayStopFilling};
 ghost use Rattle.bag_walk.specs.ToSum.{faults_in};
 
-use crate::ascending::above;
+use crate::fixed::above;
 use bag_facts::{Fault, refusal_of};
 use bag_stages::{Expected, faults_by};
 use bag_text::{AlgSet, Items};

@@ -3,7 +3,7 @@ use Rattle.std.specs.Option.{option_copied}
 use Rattle.std.proofs.lemmas.Fn.{filter_same}
 use Rattle.bag_report.specs.Report.{is_above}
 use Rattle.bag_walk.proofs.UnitedLists.{above_none}
-use Rattle.bag_walk.proofs.ascending.above.Goals as goal
+use Rattle.bag_walk.proofs.fixed.above.Goals as goal
 
 pub returns-in-Some : goal.returns-in-Some
 returns-in-Some c =

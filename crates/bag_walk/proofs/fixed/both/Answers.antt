@@ -1,5 +1,5 @@
 use Rattle.bag_walk.proofs.UnitedLists.{all_taken, none_taken, one_taken}
-use Rattle.bag_walk.proofs.ascending.both.Goals as goal
+use Rattle.bag_walk.proofs.fixed.both.Goals as goal
 
 pub loop-fault-init : goal.loop-fault-init
 loop-fault-init c = λ p q. rw c.in_ok-merged.ensures.items (none_taken c.args.faults.items c.args.others.items p q)

@@ -2,7 +2,7 @@ use Rattle.std.proofs.Common.{◌+◌, length}
 use Rattle.std.specs.List.Sorted.{IsStrictlySortedBy}
 use Rattle.bag_facts.specs.FaultOrder.{fault_cmp}
 use Rattle.bag_walk.proofs.UnitedLists.{HasTaken}
-use Rattle.bag_walk.proofs.ascending.both.Given as goal
+use Rattle.bag_walk.proofs.fixed.both.Given as goal
 
 abbrev pub invariant-loop-fault : goal.invariant-loop-fault
 invariant-loop-fault l =

@@ -1,6 +1,6 @@
 use Rattle.std.proofs.Common.{rules}
 use Rattle.bag_walk.proofs.UnitedLists.{nothing_by_length, nothing_union, union_nothing}
-use Rattle.bag_walk.proofs.ascending.merged.Goals as goal
+use Rattle.bag_walk.proofs.fixed.merged.Goals as goal
 
 pub returns-then-is_empty : goal.returns-then-is_empty
 returns-then-is_empty c = λ p q. rw (nothing_by_length c.args.others.items (search rules)) (union_nothing c.args.faults.items p)

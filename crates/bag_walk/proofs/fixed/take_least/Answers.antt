@@ -3,7 +3,7 @@ use Rattle.std.specs.declared.cmp.Ordering.TheVariants.{Less, Equal, Greater}
 use Rattle.bag_walk.specs.Merge.{fronts}
 use Rattle.bag_walk.specs.Source.{first_of}
 use Rattle.bag_walk.proofs.UnitedLists.{front_is, popped_is, popped_rest, takes_equal, takes_greater, takes_less}
-use Rattle.bag_walk.proofs.ascending.take_least.Goals as goal
+use Rattle.bag_walk.proofs.fixed.take_least.Goals as goal
 
 pub returns-in-Less-clause-least : goal.returns-in-Less-clause-least
 returns-in-Less-clause-least c = λ p q.

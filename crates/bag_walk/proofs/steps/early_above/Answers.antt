@@ -3,7 +3,7 @@ use Rattle.std.specs.Option.{option_copied}
 use Rattle.bag_report.specs.Report.{Check}
 use Rattle.bag_walk.specs.Start.{AreAheadBefore}
 use Rattle.bag_walk.proofs.Stages.{none_before, one_stage_more}
-use Rattle.bag_walk.proofs.start.early_above.Goals as goal
+use Rattle.bag_walk.proofs.steps.early_above.Goals as goal
 
 pub loop-stage-init : goal.loop-stage-init
 loop-stage-init c = λ bag facts.

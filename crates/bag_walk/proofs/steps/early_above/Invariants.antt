@@ -2,7 +2,7 @@ use Rattle.std.specs.Option.{option_copied}
 use Rattle.bag_tree.specs.Bag.{Bag}
 use Rattle.bag_facts.specs.Facts.{IsFactsOf}
 use Rattle.bag_walk.specs.Start.{AreAheadBefore}
-use Rattle.bag_walk.proofs.start.early_above.Given as goal
+use Rattle.bag_walk.proofs.steps.early_above.Given as goal
 
 abbrev pub invariant-loop-stage : goal.invariant-loop-stage
 invariant-loop-stage l =

@@ -3,7 +3,7 @@ use Rattle.std.specs.Option.{option_copied}
 use Rattle.bag_report.specs.Report.{Check}
 use Rattle.bag_walk.specs.Completeness.{IsStageAbove}
 use Rattle.bag_walk.proofs.Stages.{stage_ahead}
-use Rattle.bag_walk.proofs.start.stage_above.Goals as goal
+use Rattle.bag_walk.proofs.steps.stage_above.Goals as goal
 
 pub returns : goal.returns
 returns c = λ bag facts.

@@ -1,7 +1,7 @@
 use Rattle.std.proofs.Common.{IsSome, sym, subst}
 use Rattle.bag_walk.specs.Openings.{NoneBehind}
 use Rattle.bag_walk.proofs.Filling.{taken_first}
-use Rattle.bag_walk.proofs.then.ThenSource.advance.Goals as goal
+use Rattle.bag_walk.proofs.fixed.ThenSource.advance.Goals as goal
 
 pub returns-then-self-clause-rest : goal.returns-then-self-clause-rest
 returns-then-self-clause-rest g c = rw c.if-self.true (λ bag h.

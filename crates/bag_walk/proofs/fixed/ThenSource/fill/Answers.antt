@@ -4,7 +4,7 @@ use Rattle.bag_tree.proofs.Calm.{nothing_then}
 use Rattle.bag_walk.specs.Openings.{Opens}
 use Rattle.bag_walk.proofs.Filling.{again_both, again_within, opens_both, behind_both, behind_first, below_same, first_front, none_before, none_left, none_shown, opened_by, opens_within, reached_both, reached_front, sees_first, sees_later, sees_second, some_shown, stop_front, stop_later, anyway_front, anyway_in_turn, waits_first}
 use Rattle.bag_walk.proofs.Summing.{waits_found}
-use Rattle.bag_walk.proofs.then.ThenSource.fill.Goals as goal
+use Rattle.bag_walk.proofs.fixed.ThenSource.fill.Goals as goal
 
 pub returns-in-Err-clause-same : goal.returns-in-Err-clause-same
 returns-in-Err-clause-same g c = rw c.if-not-self.false (λ bag h sees.

@@ -1,6 +1,6 @@
 use Rattle.std.proofs.Common.{◌++◌, sym, ap, codes, ◌∙◌}
 use Rattle.bag_walk.proofs.LastLines.{read_cursor}
-use Rattle.bag_walk.proofs.lines.Lines.last_fault.Goals as goal
+use Rattle.bag_walk.proofs.segment.Lines.last_fault.Goals as goal
 
 pub returns-in-Ok : goal.returns-in-Ok
 returns-in-Ok c = λ last is.

@@ -6,7 +6,7 @@ use Rattle.bag_report.specs.Report.{Check}
 use Rattle.bag_walk.specs.ToSum.{faults_of_files, paths_to_sum}
 use Rattle.bag_walk.proofs.Sources.{seventh, to_open}
 use Rattle.bag_walk.proofs.Stages.{all_joined, complete_below, early_below, late_behind, none_to_open, sums_below}
-use Rattle.bag_walk.proofs.start.Walk+T.sources_of.Goals as goal
+use Rattle.bag_walk.proofs.steps.Walk+T.sources_of.Goals as goal
 
 pub returns-clause-of : goal.returns-clause-of
 returns-clause-of g c = rw (c.new-7.ensures, c.new-6.ensures, c.new-5.ensures, c.new-4.ensures, c.new-3.ensures) (λ bag h.

@@ -2,7 +2,7 @@ use Rattle.std.proofs.Common.{inr}
 use Rattle.std.specs.Option.{option_copied}
 use Rattle.bag_facts.proofs.Opens.{opens_all_first}
 use Rattle.bag_walk.proofs.Sources.{started}
-use Rattle.bag_walk.proofs.start.Walk+T.sources_over.Goals as goal
+use Rattle.bag_walk.proofs.steps.Walk+T.sources_over.Goals as goal
 
 pub returns-in-Ok-clause-started : goal.returns-in-Ok-clause-started
 returns-in-Ok-clause-started g c =
