@@ -1,8 +1,7 @@
 -- A refusal is told of one file.
-use Rattle.std.proofs.Common.{ℕ, ◌≡◌, ◌<◌, ◌+◌, ◌++◌, ◌∷◌, inl, inr, List, [], Option, Some, None, is_some, true, false, take, length, slice_get, ap, sym, ◌∙◌, subst, arith, length-append}
-use Rattle.std.proofs.lemmas.List.{append_cancel_left, length-take}
+use Rattle.std.proofs.Common.{ℕ, ◌≡◌, ◌<◌, ◌+◌, ◌++◌, ◌∷◌, inl, inr, List, [], Option, Some, None, is_some, true, false, take, length, slice_get, ap, sym, ◌∙◌, arith, length-append}
+use Rattle.std.proofs.lemmas.List.{length-take}
 use Rattle.std.proofs.lemmas.Option.{slice_get_within}
-use Rattle.bag_tree.specs.Tree.{TreeState}
 use Rattle.bag_make.specs.Stops.{TellsOneFile}
 
 -- as many files were opened before

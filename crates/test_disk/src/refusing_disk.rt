@@ -1,5 +1,6 @@
 //! A disk of which one call is refused.
-ghost use Rattle.std.specs.Prelude.{◌≡◌};
+ghost use Rattle.std.specs.Prelude.{◌≡◌, if◌then◌else◌};
+ghost use Rattle.std.specs.Result.{result_err};
 ghost use Rattle.test_disk.specs.Refusing.{is_due, is_refused, one_less, refusing};
 
 use bag_disk::{Disk, DiskFault, Entry, Failures, Refusal, WritableDisk};
@@ -25,10 +26,13 @@ pub struct RefusingDisk<D> {
     fault: DiskFault,
     /// Its own, beside those of the disk that it stands on.
     failures: Failures,
+    /// How the disk that it stands on refused the last call that was passed to it, where it did.
+    told: Option<DiskFault>,
 }
 
 impl<D: Disk + Drop> RefusingDisk<D> {
-    ghost use Rattle.test_disk.specs.RefusingDisk.{below_of, call_of, fault_of};
+    ghost use Rattle.std.specs.Prelude.{None};
+    ghost use Rattle.test_disk.specs.RefusingDisk.{below_of, call_of, fault_of, told_of};
 
     /// The disk, of which this call is refused by this fault.
     pub fn over(disk: D, call: Call, fault: DiskFault) -> RefusingDisk<D>
@@ -36,12 +40,14 @@ impl<D: Disk + Drop> RefusingDisk<D> {
         ensures below { below_of result ≡ disk }
         ensures call { call_of result ≡ call }
         ensures fault { fault_of result ≡ fault }
+        ensures told { told_of result ≡ None }
     {
         RefusingDisk {
             disk,
             call,
             fault,
             failures: Failures::none(),
+            told: None,
         }
     }
 
@@ -54,6 +60,15 @@ impl<D: Disk + Drop> RefusingDisk<D> {
             Call::Numbered(_) | Call::Past => false,
         }
     }
+}
+
+/// Notes how the disk below refused a call, where it did, and gives what it answered.
+fn note<T>(told: &mut Option<DiskFault>, answer: Result<T, DiskFault>) -> Result<T, DiskFault>
+    ensures same { result ≡ answer }
+    ensures told { told.new ≡ result_err answer }
+{
+    *told = answer.as_ref().err().copied();
+    answer
 }
 
 impl Call {
@@ -80,7 +95,7 @@ impl<D: Disk + Drop> Disk for RefusingDisk<D> {
     ghost use Rattle.std.specs.Prelude.{◌<◌, IsErrOf, IsTrue, false, is_some, length};
     ghost use Rattle.bag_text.specs.Path.{is_path};
     ghost use Rattle.test_disk.specs.DiskCalls.{ClosesFile, Enters, LooksAt, LooksAtNamed, NamesNext, Opens, Reads};
-    ghost use Rattle.test_disk.specs.RefusingDisk.{below_of, call_of, fault_of, own_of};
+    ghost use Rattle.test_disk.specs.RefusingDisk.{below_of, call_of, fault_of, own_of, told_of};
     ghost use Rattle.bag_disk.specs.Refusal.{at_known, failures_after, of_name, of_path};
 
     ghost state = { λ disk. refusing (D.state disk.disk) disk.fault disk.failures.count };
@@ -95,12 +110,13 @@ impl<D: Disk + Drop> Disk for RefusingDisk<D> {
             × (own_of self.new ≡ failures_after (of_path (fault_of self.old)) (own_of self.old)) }
         ensures passed { is_refused (call_of self.old) path.now ≡ false
             → LooksAt (D.state (below_of self.old)) (D.state (below_of self.new)) path.now result × (own_of self.new ≡ own_of self.old) }
+        ensures told { told_of self.new ≡ (if is_refused (call_of self.old) path.now then told_of self.old else result_err result) }
     {
         if self.refuses_entry(path) {
             self.failures.refuse(Refusal::of_path(self.fault));
             return Err(self.fault);
         }
-        self.disk.entry_at(path)
+        note(&mut self.told, self.disk.entry_at(path))
     }
 
     fn named_entry(&mut self, path: &str) -> Result<Entry, DiskFault>
@@ -111,12 +127,13 @@ impl<D: Disk + Drop> Disk for RefusingDisk<D> {
             × (own_of self.new ≡ failures_after (at_known (fault_of self.old)) (own_of self.old)) }
         ensures passed { is_refused (call_of self.old) path.now ≡ false
             → LooksAtNamed (D.state (below_of self.old)) (D.state (below_of self.new)) path.now result × (own_of self.new ≡ own_of self.old) }
+        ensures told { told_of self.new ≡ (if is_refused (call_of self.old) path.now then told_of self.old else result_err result) }
     {
         if self.refuses_entry(path) {
             self.failures.refuse(Refusal::at_known(self.fault));
             return Err(self.fault);
         }
-        self.disk.named_entry(path)
+        note(&mut self.told, self.disk.named_entry(path))
     }
 
     fn enter(&mut self, folder: &str) -> Result<(), DiskFault>
@@ -126,12 +143,13 @@ impl<D: Disk + Drop> Disk for RefusingDisk<D> {
             × (own_of self.new ≡ failures_after (at_known (fault_of self.old)) (own_of self.old)) }
         ensures passed { is_due (call_of self.old) ≡ false
             → Enters (D.state (below_of self.old)) (D.state (below_of self.new)) folder.now result × (own_of self.new ≡ own_of self.old) }
+        ensures told { told_of self.new ≡ (if is_due (call_of self.old) then told_of self.old else result_err result) }
     {
         if self.call.is_due() {
             self.failures.refuse(Refusal::at_known(self.fault));
             return Err(self.fault);
         }
-        self.disk.enter(folder)
+        note(&mut self.told, self.disk.enter(folder))
     }
 
     fn next_name(&mut self) -> Result<Option<Text>, DiskFault>
@@ -140,12 +158,13 @@ impl<D: Disk + Drop> Disk for RefusingDisk<D> {
         ensures due { IsTrue (is_due (call_of self.old)) → IsErrOf result (fault_of self.old) × (below_of self.new ≡ below_of self.old)
             × (own_of self.new ≡ failures_after (of_name (fault_of self.old)) (own_of self.old)) }
         ensures passed { is_due (call_of self.old) ≡ false → NamesNext (D.state (below_of self.old)) (D.state (below_of self.new)) result × (own_of self.new ≡ own_of self.old) }
+        ensures told { told_of self.new ≡ (if is_due (call_of self.old) then told_of self.old else result_err result) }
     {
         if self.call.is_due() {
             self.failures.refuse(Refusal::of_name(self.fault));
             return Err(self.fault);
         }
-        self.disk.next_name()
+        note(&mut self.told, self.disk.next_name())
     }
 
     fn open(&mut self, path: &str) -> Result<(), DiskFault>
@@ -157,13 +176,14 @@ impl<D: Disk + Drop> Disk for RefusingDisk<D> {
             × (own_of self.new ≡ failures_after (of_path (fault_of self.old)) (own_of self.old)) }
         ensures passed { is_due (call_of self.old) ≡ false
             → Opens (D.state (below_of self.old)) (D.state (below_of self.new)) path.now result × (own_of self.new ≡ own_of self.old) }
+        ensures told { told_of self.new ≡ (if is_due (call_of self.old) then told_of self.old else result_err result) }
     {
         if self.call.is_due() {
             self.disk.close();
             self.failures.refuse(Refusal::of_path(self.fault));
             return Err(self.fault);
         }
-        self.disk.open(path)
+        note(&mut self.told, self.disk.open(path))
     }
 
     fn is_open(&self) -> bool {
@@ -174,6 +194,7 @@ impl<D: Disk + Drop> Disk for RefusingDisk<D> {
         ensures call { call_of self.new ≡ call_of self.old }
         ensures fault { fault_of self.new ≡ fault_of self.old }
         ensures own { own_of self.new ≡ own_of self.old }
+        ensures told { told_of self.new ≡ told_of self.old }
         ensures closes { ClosesFile (D.state (below_of self.old)) (D.state (below_of self.new)) }
     {
         self.disk.close();
@@ -188,12 +209,13 @@ impl<D: Disk + Drop> Disk for RefusingDisk<D> {
             × (own_of self.new ≡ failures_after (at_known (fault_of self.old)) (own_of self.old)) }
         ensures passed { is_due (call_of self.old) ≡ false
             → Reads (D.state (below_of self.old)) (D.state (below_of self.new)) (length buffer.old) buffer.new result × (own_of self.new ≡ own_of self.old) }
+        ensures told { told_of self.new ≡ (if is_due (call_of self.old) then told_of self.old else result_err result) }
     {
         if self.call.is_due() {
             self.failures.refuse(Refusal::at_known(self.fault));
             return Err(self.fault);
         }
-        self.disk.read(buffer)
+        note(&mut self.told, self.disk.read(buffer))
     }
 }
 
@@ -201,7 +223,7 @@ impl<D: WritableDisk + Drop> WritableDisk for RefusingDisk<D> {
     ghost use Rattle.std.specs.Prelude.{IsErrOf, IsTrue, false, is_some};
     ghost use Rattle.bag_text.specs.Path.{is_path};
     ghost use Rattle.test_disk.specs.DiskCalls.{Creates, MakesFolderAt, Renames, Syncs, SyncsFolder, Writes};
-    ghost use Rattle.test_disk.specs.RefusingDisk.{below_of, call_of, fault_of, own_of};
+    ghost use Rattle.test_disk.specs.RefusingDisk.{below_of, call_of, fault_of, own_of, told_of};
     ghost use Rattle.bag_disk.specs.Refusal.{at_known, failures_after, of_making};
 
     ghost written = { λ disk. D.written disk.disk };
@@ -217,12 +239,13 @@ impl<D: WritableDisk + Drop> WritableDisk for RefusingDisk<D> {
         ensures passed { is_due (call_of self.old) ≡ false
             → MakesFolderAt (D.state (below_of self.old)) (D.state (below_of self.new)) (D.written (below_of self.old)) (D.written (below_of self.new))
             (D.is_kept (below_of self.old)) (D.is_kept (below_of self.new)) path.now result × (own_of self.new ≡ own_of self.old) }
+        ensures told { told_of self.new ≡ (if is_due (call_of self.old) then told_of self.old else result_err result) }
     {
         if self.call.is_due() {
             self.failures.refuse(Refusal::of_making(self.fault));
             return Err(self.fault);
         }
-        self.disk.make_folder(path)
+        note(&mut self.told, self.disk.make_folder(path))
     }
 
     fn rename(&mut self, from: &str, to: &str) -> Result<(), DiskFault>
@@ -235,12 +258,13 @@ impl<D: WritableDisk + Drop> WritableDisk for RefusingDisk<D> {
         ensures passed { is_due (call_of self.old) ≡ false
             → Renames (D.state (below_of self.old)) (D.state (below_of self.new)) (D.written (below_of self.old)) (D.written (below_of self.new))
             (D.is_kept (below_of self.old)) (D.is_kept (below_of self.new)) from.now to.now result × (own_of self.new ≡ own_of self.old) }
+        ensures told { told_of self.new ≡ (if is_due (call_of self.old) then told_of self.old else result_err result) }
     {
         if self.call.is_due() {
             self.failures.refuse(Refusal::at_known(self.fault));
             return Err(self.fault);
         }
-        self.disk.rename(from, to)
+        note(&mut self.told, self.disk.rename(from, to))
     }
 
     fn create(&mut self, path: &str) -> Result<(), DiskFault>
@@ -252,12 +276,13 @@ impl<D: WritableDisk + Drop> WritableDisk for RefusingDisk<D> {
         ensures passed { is_due (call_of self.old) ≡ false
             → Creates (D.state (below_of self.old)) (D.state (below_of self.new)) (D.written (below_of self.old)) (D.written (below_of self.new))
             (D.is_kept (below_of self.old)) (D.is_kept (below_of self.new)) path.now result × (own_of self.new ≡ own_of self.old) }
+        ensures told { told_of self.new ≡ (if is_due (call_of self.old) then told_of self.old else result_err result) }
     {
         if self.call.is_due() {
             self.failures.refuse(Refusal::of_making(self.fault));
             return Err(self.fault);
         }
-        self.disk.create(path)
+        note(&mut self.told, self.disk.create(path))
     }
 
     fn write(&mut self, bytes: &[u8]) -> Result<usize, DiskFault>
@@ -269,12 +294,13 @@ impl<D: WritableDisk + Drop> WritableDisk for RefusingDisk<D> {
         ensures passed { is_due (call_of self.old) ≡ false
             → Writes (D.state (below_of self.old)) (D.state (below_of self.new)) (D.written (below_of self.old)) (D.written (below_of self.new))
             (D.is_kept (below_of self.old)) (D.is_kept (below_of self.new)) bytes.now result × (own_of self.new ≡ own_of self.old) }
+        ensures told { told_of self.new ≡ (if is_due (call_of self.old) then told_of self.old else result_err result) }
     {
         if self.call.is_due() {
             self.failures.refuse(Refusal::at_known(self.fault));
             return Err(self.fault);
         }
-        self.disk.write(bytes)
+        note(&mut self.told, self.disk.write(bytes))
     }
 
     fn sync(&mut self) -> Result<(), DiskFault>
@@ -286,12 +312,13 @@ impl<D: WritableDisk + Drop> WritableDisk for RefusingDisk<D> {
         ensures passed { is_due (call_of self.old) ≡ false
             → Syncs (D.state (below_of self.old)) (D.state (below_of self.new)) (D.written (below_of self.old)) (D.written (below_of self.new))
             (D.is_kept (below_of self.old)) (D.is_kept (below_of self.new)) result × (own_of self.new ≡ own_of self.old) }
+        ensures told { told_of self.new ≡ (if is_due (call_of self.old) then told_of self.old else result_err result) }
     {
         if self.call.is_due() {
             self.failures.refuse(Refusal::at_known(self.fault));
             return Err(self.fault);
         }
-        self.disk.sync()
+        note(&mut self.told, self.disk.sync())
     }
 
     fn sync_folder(&mut self, folder: &str) -> Result<(), DiskFault>
@@ -302,11 +329,12 @@ impl<D: WritableDisk + Drop> WritableDisk for RefusingDisk<D> {
         ensures passed { is_due (call_of self.old) ≡ false
             → SyncsFolder (D.state (below_of self.old)) (D.state (below_of self.new)) (D.written (below_of self.old)) (D.written (below_of self.new))
             (D.is_kept (below_of self.old)) (D.is_kept (below_of self.new)) folder.now result × (own_of self.new ≡ own_of self.old) }
+        ensures told { told_of self.new ≡ (if is_due (call_of self.old) then told_of self.old else result_err result) }
     {
         if self.call.is_due() {
             self.failures.refuse(Refusal::at_known(self.fault));
             return Err(self.fault);
         }
-        self.disk.sync_folder(folder)
+        note(&mut self.told, self.disk.sync_folder(folder))
     }
 }
