@@ -9,11 +9,12 @@
 //!
 //! Of RFC 8493 it keeps the declaration (2.1.1), the parts of a bag (2.1, 2.3 and 2.4), the metadata and the payload's
 //! size in it (2.2.2), the list of files to fetch (2.2.3), manifests whose lines are right (2.1.3, 2.2.1), and complete and
-//! valid bags (3). A module finds the faults of one stage, and the page of `specs` with its name says what they are. No file
-//! is opened: the stage of digests takes those of one file after the other.
+//! valid bags (3). The module of a stage finds its faults, and the page of `specs` with its name and `Stage` says what they
+//! are; of the seventh `sum_faults` and `ValidityStage`. No file is opened: the stage of digests takes those of one file after
+//! the other.
 //!
-//! Each stage's faults are found exactly, without options but for clashes of names, of facts that were read beyond the
-//! declaration, but for stage 1. The algorithms whose manifests name a file are exactly the expected ones, and of its digests
+//! Each stage's faults are found exactly. Only clashes of names depend on an option, and only stage 1 can do with facts of
+//! the declaration alone. The algorithms whose manifests name a file are exactly the expected ones, and of its digests
 //! the seventh stage's faults are found exactly.
 #![tactic(auto)]
 

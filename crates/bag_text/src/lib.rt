@@ -1,4 +1,4 @@
-//! Texts, lines and paths of bags, and what bags and reports name by a fixed word.
+//! Texts, lines and paths of bags, the algorithms and fault codes by their names, and the program's own texts.
 //!
 //! ```
 //! for (number, line) in lines(text_of(&bytes)?) {
@@ -9,7 +9,8 @@
 //! ```
 //!
 //! Of RFC 8493 it keeps how lines of tag files end (2.3), what a path is (2.1.2, 5.1), how manifests spell it (2.1.3), and the
-//! algorithms that can be computed (2.4). `Text` and `Items` own their memory; contracts see them as bytes and as items.
+//! algorithms that can be computed (2.4); by the rules of either version where they differ (`Rules`). `Text` and `Items` own
+//! their memory; contracts see them as bytes and as items.
 //!
 //! Each call of `Text` and `Items` is exact, by the bytes and items that contracts see; where memory runs out a list stays as
 //! it was. Codes and algorithms have their numbers and names, and are found by them; a set has its members and no others. Lines

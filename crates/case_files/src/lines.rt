@@ -1,5 +1,6 @@
 //! The lines of a case file.
-use std::alloc::{AllocError, Global};
+use crate::bytes::Bytes;
+use std::alloc::Global;
 
 /// What a line says, by its first word.
 #[derive(Clone, Copy, PartialEq, Eq)]
@@ -97,15 +98,14 @@ fn line_of(place: usize, line: &str) -> Line<'_> {
 }
 
 /// The lines of a text that say something: all but empty ones and those that begin with `#`.
-pub fn lines_of(alloc: Global, text: &str) -> Result<Vec<Line<'_>>, AllocError> {
+pub fn lines_of<'a>(alloc: Global, text: &'a str, mistakes: &mut Bytes) -> Vec<Line<'a>> {
     let mut lines = Vec::new(alloc);
     for (place, line) in text.lines().enumerate() {
-        match line.as_bytes() {
-            [] | [b'#', ..] => {}
-            _ => lines.push(line_of(place, line))?,
+        if !line.is_empty() & !line.starts_with('#') {
+            mistakes.keep(lines.push(line_of(place, line)));
         }
     }
-    Ok(lines)
+    lines
 }
 
 /// The lines behind a place that are wanted of the entry there.
@@ -123,7 +123,7 @@ impl<'a> Part<'a> {
     /// The first part of lines.
     pub fn of(lines: &'a [Line<'a>]) -> Part<'a> {
         for (place, line) in lines.iter().enumerate() {
-            if line.word == Word::Then {
+            if matches!(line.word, Word::Then) {
                 return Part {
                     lines: lines.get(..place).unwrap_or(lines),
                     rest: lines.get(place.saturating_add(1)..),

@@ -21,9 +21,7 @@ pub fn words_of<'a>(alloc: Global, text: &'a str, mistakes: &mut Bytes) -> Vec<&
         let Some((word, after)) = first_word(rest) else {
             break;
         };
-        if words.push(word).is_err() {
-            mistakes.fail(Mistake::Memory);
-        }
+        mistakes.keep(words.push(word));
         rest = after.trim_start_matches(' ');
     }
     if !rest.is_empty() {

@@ -6,16 +6,23 @@ use case_files::{
 };
 use std::alloc::Global;
 
+/// Where what is put belongs.
+#[derive(Clone, Copy)]
+enum Place<'a> {
+    Nowhere,
+    /// To a bag: then it goes into each folder that begins with that.
+    Bag,
+    /// Into the last folder of the case.
+    Folder(&'a str),
+}
+
 /// What a file has said up to an entry.
 #[derive(Drop)]
-pub(crate) struct Session {
+pub(crate) struct Session<'a> {
     texts: Texts,
     /// What stands in the folders of the case, and beside them.
     world: World,
-    /// The last of these folders, with a `/` behind its name.
-    folder: Bytes,
-    /// Whether what is put belongs to a bag: then it goes into each folder that begins with that.
-    is_bag: bool,
+    place: Place<'a>,
     /// What reads the rows of the case.
     reader: Option<Reader>,
 }
@@ -25,13 +32,12 @@ fn sight_of<'a>(file: &'a str, texts: &'a Texts, entry: Entry<'a>) -> Sight<'a> 
     Sight { file, texts, entry }
 }
 
-impl Session {
-    pub(crate) fn new(alloc: Global) -> Session {
+impl<'a> Session<'a> {
+    pub(crate) fn new(alloc: Global) -> Session<'a> {
         Session {
             texts: Texts::new(alloc),
             world: World::new(alloc),
-            folder: Bytes::new(alloc),
-            is_bag: false,
+            place: Place::Nowhere,
             reader: None,
         }
     }
@@ -50,7 +56,7 @@ impl Session {
     }
 
     /// Follows an entry, before which these lines stand.
-    pub(crate) fn follow<'a>(
+    pub(crate) fn follow(
         &mut self,
         rt: &HostRuntime,
         file: &str,
@@ -59,21 +65,18 @@ impl Session {
         report: &mut Report,
     ) {
         match entry.line.word {
-            Word::Run => {
-                let sight = sight_of(file, &self.texts, entry);
-                run(rt, &sight, &mut self.world, report);
-            }
+            Word::Run => run_entry(rt, file, &self.texts, entry, &mut self.world, report),
             Word::File | Word::Folder | Word::Link | Word::Opened => self.put(rt, entry, report),
-            Word::Beside => put(rt, &self.texts, &[], entry, &mut self.world, report),
+            Word::Beside => put(rt, &self.texts, "", entry, &mut self.world, report),
             Word::Text => name_text(&mut self.texts, entry, report),
             _ if !entry.below.is_empty() => report.text.fail(Mistake::Unasked),
-            Word::Row => self.read_row(file, entry, report),
+            Word::Row => read_row(&self.texts, self.reader, file, entry, report),
             _ => self.begin(rt, lines, entry.line, report),
         }
     }
 
     /// Begins a case, a bag, a folder or rows.
-    fn begin<'a>(
+    fn begin(
         &mut self,
         rt: &HostRuntime,
         lines: &'a [Line<'a>],
@@ -85,105 +88,103 @@ impl Session {
                 report.cases = report.cases.saturating_add(1);
                 self.end(rt, report);
             }
-            Word::Bag => self.is_bag = true,
-            Word::In => {
-                let words = words_of(rt.alloc(), line.rest, &mut report.text);
-                self.begin_folder(rt, lines, &words, report);
-            }
-            Word::Read => {
-                let words = words_of(rt.alloc(), line.rest, &mut report.text);
-                self.read_by(&words, report);
-            }
+            Word::Bag => self.place = Place::Bag,
+            Word::In => self.begin_folder(rt, lines, line.rest, report),
+            Word::Read => self.reader = reader_of(rt.alloc(), line.rest, report),
             _ => report.text.fail(Mistake::Entry),
         }
     }
 
-    /// `read READER`: what reads the rows below.
-    fn read_by(&mut self, words: &[&str], report: &mut Report) {
-        self.reader = Reader::of(words);
-        if self.reader.is_none() {
-            report.text.fail(Mistake::Command);
-        }
-    }
-
     /// `in FOLDER BAG..`: begins a folder, in memory and on the disk, which holds what the named bags do.
-    fn begin_folder<'a>(
+    fn begin_folder(
         &mut self,
         rt: &HostRuntime,
         lines: &'a [Line<'a>],
-        words: &[&str],
+        text: &'a str,
         report: &mut Report,
     ) {
+        let words = words_of(rt.alloc(), text, &mut report.text);
         let Some((name, bags)) = words.split_first() else {
             report.text.fail(Mistake::Command);
             return;
         };
-        self.is_bag = false;
-        self.folder = Bytes::new(rt.alloc());
-        self.folder.put(*name);
-        self.folder.put("/");
+        self.place = Place::Folder(*name);
         self.world.make_folder(rt, *name, report);
         for bag in bags {
-            let folder = &self.folder.held;
-            put_bag(
-                rt,
-                &self.texts,
-                folder,
-                lines,
-                *bag,
-                &mut self.world,
-                report,
-            );
+            let world = &mut self.world;
+            put_bag(rt, &self.texts, *name, lines, *bag, world, report);
         }
     }
 
     /// Ends the case before, and removes its folders and files.
     pub(crate) fn end(&mut self, rt: &HostRuntime, report: &mut Report) {
-        self.is_bag = false;
+        self.place = Place::Nowhere;
         self.reader = None;
-        self.folder.held.clear();
         self.world.remove(rt, report);
     }
 
     /// Puts something into the last folder; of a bag it is only seen whether it can be read.
     fn put(&mut self, rt: &HostRuntime, entry: Entry<'_>, report: &mut Report) {
-        if self.is_bag {
-            let _ = spelled(&self.texts, &[], entry, report);
-        } else if self.folder.held.is_empty() {
-            report.text.fail(Mistake::Place);
-        } else {
-            let folder = &self.folder.held;
-            put(rt, &self.texts, folder, entry, &mut self.world, report);
+        match self.place {
+            Place::Nowhere => report.text.fail(Mistake::Place),
+            Place::Bag => {
+                let _ = spelled(&self.texts, "", entry, report);
+            }
+            Place::Folder(folder) => {
+                put(rt, &self.texts, folder, entry, &mut self.world, report);
+            }
         }
     }
+}
 
-    /// Reads a row, as `LEFT => RIGHT`, and compares what is read.
-    fn read_row(&self, file: &str, entry: Entry<'_>, report: &mut Report) {
-        match (self.reader, entry.line.rest.split_once("=>")) {
-            (Some(reader), Some((left, right))) => {
-                let sight = sight_of(file, &self.texts, entry);
-                read(
-                    reader,
-                    left.trim_matches(' '),
-                    right.trim_matches(' '),
-                    &sight,
-                    report,
-                );
-            }
-            _ => report.text.fail(Mistake::Row),
+/// Runs the command of an entry.
+fn run_entry(
+    rt: &HostRuntime,
+    file: &str,
+    texts: &Texts,
+    entry: Entry<'_>,
+    world: &mut World,
+    report: &mut Report,
+) {
+    run(rt, &sight_of(file, texts, entry), world, report);
+}
+
+/// `read READER`: what reads the rows below.
+fn reader_of(alloc: Global, text: &str, report: &mut Report) -> Option<Reader> {
+    let words = words_of(alloc, text, &mut report.text);
+    let reader = Reader::of(&words);
+    if reader.is_none() {
+        report.text.fail(Mistake::Command);
+    }
+    reader
+}
+
+/// Reads a row, as `LEFT => RIGHT`, and compares what is read.
+fn read_row(
+    texts: &Texts,
+    reader: Option<Reader>,
+    file: &str,
+    entry: Entry<'_>,
+    report: &mut Report,
+) {
+    match (reader, entry.line.rest.split_once("=>")) {
+        (Some(reader), Some((left, right))) => {
+            let sight = sight_of(file, texts, entry);
+            read(reader, left, right, &sight, report);
         }
+        _ => report.text.fail(Mistake::Row),
     }
 }
 
 /// Compares what is read of what one text spells with what another one does.
 fn read(reader: Reader, left: &str, right: &str, sight: &Sight<'_>, report: &mut Report) {
     let texts = sight.texts;
-    let bytes = texts.bytes(left);
+    let bytes = texts.bytes(left.trim_matches(' '));
     report.note(&bytes);
     let mut found = Bytes::new(texts.alloc);
     reader.read(texts.alloc, &bytes.held, &mut found);
     let found = Answer::of(texts.alloc, found, 0);
-    let wanted = Answer::of(texts.alloc, texts.bytes(right), 0);
+    let wanted = Answer::of(texts.alloc, texts.bytes(right.trim_matches(' ')), 0);
     report.compare(sight, "read", &wanted, &found);
 }
 
@@ -209,11 +210,13 @@ fn value_of(texts: &Texts, value: Option<&str>, below: &[Line<'_>]) -> Bytes {
     }
 }
 
-/// The path at which an entry puts something, below a folder, and what that holds.
-fn spelled(texts: &Texts, folder: &[u8], entry: Entry<'_>, report: &mut Report) -> (Bytes, Bytes) {
+/// The path at which an entry puts something, below a folder unless its name is empty, and what that holds.
+fn spelled(texts: &Texts, folder: &str, entry: Entry<'_>, report: &mut Report) -> (Bytes, Bytes) {
     let (name, value) = name_and_value(entry.line.rest);
     let mut path = Bytes::new(texts.alloc);
-    path.put_bytes(folder);
+    if !folder.is_empty() {
+        path.show(&folder, "/");
+    }
     texts.add_text(name, &mut path);
     report.note(&path);
     let bytes = value_of(texts, value, entry.below);
@@ -225,7 +228,7 @@ fn spelled(texts: &Texts, folder: &[u8], entry: Entry<'_>, report: &mut Report) 
 fn put(
     rt: &HostRuntime,
     texts: &Texts,
-    folder: &[u8],
+    folder: &str,
     entry: Entry<'_>,
     world: &mut World,
     report: &mut Report,
@@ -240,7 +243,7 @@ fn put(
 fn put_bag<'a>(
     rt: &HostRuntime,
     texts: &Texts,
-    folder: &[u8],
+    folder: &str,
     lines: &'a [Line<'a>],
     name: &str,
     world: &mut World,

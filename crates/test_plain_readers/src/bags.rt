@@ -1,6 +1,6 @@
 //! Generated bags of versions 1.0 and 0.97, and what a plain check of their names and digests finds: for each path it looks
 //! through all names and all manifests, and it compares each pair of names.
-use crate::checks::{DECLARATION, OLDER_DECLARATION, lines_behind, lines_found, put};
+use crate::checks::{DECLARATION, OLDER_DECLARATION, lines_found, put};
 use crate::drawn::mixed;
 use bag_report::{Depth, Options};
 use bag_store::MemoryTree;
@@ -312,7 +312,7 @@ fn tree_of(stop: &impl Abort, alloc: Global, bag: u64) -> MemoryTree {
 /// Whether a check of the bag of a number finds what the plain check finds.
 fn is_alike(stop: &impl Abort, alloc: Global, bag: u64, options: Options) -> bool {
     let tree = tree_of(stop, alloc, bag);
-    let found = lines_found(stop, alloc, tree, None, options, "67");
+    let found = lines_found(stop, alloc, tree, None, (options, None), "67");
     found == plain_lines(stop, alloc, bag, options)
 }
 
@@ -329,7 +329,8 @@ fn lines_from(stop: &impl Abort, alloc: Global, lines: &str, first: usize) -> St
 fn goes_on(stop: &impl Abort, alloc: Global, bag: u64, options: Options) -> bool {
     let lines = plain_lines(stop, alloc, bag, options);
     for (place, line) in lines.as_str().lines().enumerate() {
-        let found = lines_behind(stop, alloc, tree_of(stop, alloc, bag), options, line, "67");
+        let tree = tree_of(stop, alloc, bag);
+        let found = lines_found(stop, alloc, tree, None, (options, Some(line)), "67");
         if found != lines_from(stop, alloc, lines.as_str(), place.wrapping_add(1)) {
             return false;
         }

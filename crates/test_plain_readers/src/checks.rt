@@ -19,58 +19,36 @@ pub(crate) fn put(stop: &impl Abort, tree: &mut MemoryTree, path: &str, bytes: &
     tree.put_file(path, bytes).expect(stop, "succeeds")
 }
 
-/// What a check of a tree writes, above a fault where one is given.
-fn report(
-    stop: &impl Abort,
-    alloc: Global,
-    tree: MemoryTree,
-    profile: Option<&Profile>,
-    options: Options,
-    after: Option<Fault>,
-) -> String {
-    let request = Request {
+/// A request for the faults of a bag, above the fault of a line where one is given.
+fn request_of(stop: &impl Abort, alloc: Global, options: Options, after: Option<&str>) -> Request {
+    let after = match after {
+        Some(line) => Some(Fault::from_line(alloc, line).expect(stop, "succeeds")),
+        None => None,
+    };
+    Request {
         options,
         after,
         limit: None,
         quiet: false,
         name: Text::from_str(alloc, "d").expect(stop, "succeeds"),
-    };
-    let mut out = WriterOut::new(Vec::<u8>::new(alloc));
-    let (_tree, _outcome) = run(alloc, tree, profile, request, &mut out);
-    String::from_utf8(out.into_inner()).expect(stop, "succeeds")
+    }
 }
 
-/// What it writes of the faults whose lines begin with one of these digits.
+/// What a check writes of the faults whose lines begin with one of these digits.
 pub(crate) fn lines_found(
     stop: &impl Abort,
     alloc: Global,
     tree: MemoryTree,
     profile: Option<&Profile>,
-    options: Options,
+    (options, after): (Options, Option<&str>),
     digits: &str,
 ) -> String {
-    let report = report(stop, alloc, tree, profile, options, None);
-    picked(stop, alloc, report.as_str(), digits)
-}
-
-/// What it writes of them above the fault of a line.
-pub(crate) fn lines_behind(
-    stop: &impl Abort,
-    alloc: Global,
-    tree: MemoryTree,
-    options: Options,
-    line: &str,
-    digits: &str,
-) -> String {
-    let after = Fault::from_line(alloc, line).expect(stop, "succeeds");
-    let report = report(stop, alloc, tree, None, options, Some(after));
-    picked(stop, alloc, report.as_str(), digits)
-}
-
-/// The lines of a report that begin with one of these digits.
-fn picked(stop: &impl Abort, alloc: Global, report: &str, digits: &str) -> String {
+    let request = request_of(stop, alloc, options, after);
+    let mut out = WriterOut::new(Vec::<u8>::new(alloc));
+    let (_tree, _outcome) = run(alloc, tree, profile, request, &mut out);
+    let report = String::from_utf8(out.into_inner()).expect(stop, "succeeds");
     let mut text = String::new(alloc);
-    for line in report.lines() {
+    for line in report.as_str().lines() {
         if digits.contains(line.get(..1).unwrap_or("-")) {
             write!(text, "{line}\n").expect(stop, "succeeds");
         }

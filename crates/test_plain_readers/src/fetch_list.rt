@@ -1,8 +1,8 @@
 //! A plain reader of `fetch.txt` that tries each prefix of a line, by the rules of each version, over some hundred texts, and one of
 //! thousands of lines; and the paths that it reads in all short spellings.
-use crate::parts::combined;
+use crate::parts::{combined, write_faults};
 use bag_read::read_fetch;
-use bag_text::{Rules, trim, unescape_path};
+use bag_text::{Rules, escape_path, trim, unescape_path};
 use std::alloc::Global;
 use std::process::Abort;
 
@@ -14,10 +14,7 @@ fn said(stop: &impl Abort, alloc: Global, rules: Rules, bytes: &[u8]) -> String 
         let (line, url, length, path) = (entry.line, &entry.url, &entry.length, &entry.path);
         write!(text, "{line} {url} {length} {path}|").expect(stop, "succeeds");
     }
-    for fault in parsed.faults.as_slice() {
-        let (code, line, detail) = (fault.code.number(), fault.line, &fault.detail);
-        write!(text, "{code} {line} {detail}|").expect(stop, "succeeds");
-    }
+    write_faults(stop, parsed.faults.as_slice(), &mut text);
     text
 }
 
@@ -199,6 +196,15 @@ fn reads_all_short_spellings(rt: HostRuntime) {
             );
         }
     }
+}
+
+#[test]
+fn spells_a_long_path(rt: HostRuntime) {
+    let path = "%".repeat(rt.alloc(), 100_000).expect(&rt, "succeeds");
+    let text = escape_path(rt.alloc(), path.as_str()).expect(&rt, "succeeds");
+    assert!(rt; text.len() == 300_000);
+    let read = unescape_path(rt.alloc(), Rules::V10, text.as_str()).expect(&rt, "succeeds");
+    assert!(rt; read == path);
 }
 
 /// What may stand in a line before its path, part by part.

@@ -1,6 +1,6 @@
 //! A plain reader of `bag-info.txt` that looks back from each line, by the rules of each version, over all metadata of four lines
 //! of eight sorts, over lines that are put together from parts, and over thousands of lines.
-use crate::parts::combined;
+use crate::parts::{combined, write_faults};
 use bag_read::read_info;
 use bag_text::{Rules, trim};
 use std::alloc::Global;
@@ -14,10 +14,7 @@ fn said(stop: &impl Abort, alloc: Global, rules: Rules, bytes: &[u8]) -> String 
         let (line, label, value) = (element.line, &element.label, &element.value);
         write!(text, "{line}<{label}><{value}>|").expect(stop, "succeeds");
     }
-    for fault in parsed.faults.as_slice() {
-        let (code, line, detail) = (fault.code.number(), fault.line, &fault.detail);
-        write!(text, "{code} {line} {detail}|").expect(stop, "succeeds");
-    }
+    write_faults(stop, parsed.faults.as_slice(), &mut text);
     text
 }
 

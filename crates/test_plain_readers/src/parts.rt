@@ -1,4 +1,5 @@
-//! Texts that are put together from parts.
+//! Texts that are put together from parts, and what readers say of faults.
+use bag_read::LineFault;
 use std::alloc::Global;
 use std::process::Abort;
 
@@ -22,4 +23,12 @@ pub(crate) fn combined(stop: &impl Abort, alloc: Global, parts: &[&[&str]]) -> V
         texts = with_each(stop, alloc, &texts, choices);
     }
     texts
+}
+
+/// Writes each fault's code, line and detail.
+pub(crate) fn write_faults(stop: &impl Abort, faults: &[LineFault], text: &mut String) {
+    for fault in faults {
+        let (code, line, detail) = (fault.code.number(), fault.line, &fault.detail);
+        write!(text, "{code} {line} {detail}|").expect(stop, "succeeds");
+    }
 }

@@ -205,7 +205,7 @@ fn found(stop: &impl Abort, alloc: Global) -> String {
     let profile = Profile::read(alloc, profile_text(stop, alloc).as_bytes()).expect(
         stop, "succeeds",
     );
-    lines_found(stop, alloc, tree, Some(&profile), options, "8")
+    lines_found(stop, alloc, tree, Some(&profile), (options, None), "8")
 }
 
 #[test]

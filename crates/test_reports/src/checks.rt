@@ -1,11 +1,13 @@
 //! Bags in memory, and what checks of them write.
-use bag_report::{Fault, Options};
+use bag_report::{Depth, Fault, Options};
 use bag_store::{MemoryTree, Tree, WriterOut};
 use bag_text::{Text, check_path};
 use bag_walk::{Request, run, status};
 use std::alloc::Global;
+use std::collections::BTreeMap;
 use std::io::Write;
 use std::process::Abort;
+use test_disk::{MemoryDisk, Node};
 
 /// Paths, each with the bytes of its file.
 pub(crate) type Files = &'static [(&'static str, &'static [u8])];
@@ -15,6 +17,19 @@ pub(crate) const DECLARED: Files = &[(
     "bagit.txt",
     b"BagIt-Version: 1.0\nTag-File-Character-Encoding: UTF-8\n",
 )];
+
+/// A file that holds `a`, to which two manifests give the digests of `abc`.
+pub(crate) const WRONG: Files = &[
+    ("data/x", b"a"),
+    (
+        "manifest-md5.txt",
+        b"900150983cd24fb0d6963f7d28e17f72  data/x\n",
+    ),
+    (
+        "manifest-sha1.txt",
+        b"a9993e364706816aba3e25717850c26c9cd0d89d  data/x\n",
+    ),
+];
 
 /// Puts a file into a tree. A text that isn't a path is refused.
 pub(crate) fn put(stop: &impl Abort, tree: &mut MemoryTree, path: &str, bytes: &[u8]) {
@@ -52,6 +67,30 @@ pub(crate) fn tree_of(stop: &impl Abort, alloc: Global, files: Files) -> MemoryT
     tree
 }
 
+/// Puts something on a disk's places.
+fn put_node(
+    stop: &impl Abort,
+    alloc: Global,
+    nodes: &mut BTreeMap<Vec<u8>, Node>,
+    path: &str,
+    node: Node,
+) {
+    let key = path.as_bytes().to_vec(alloc).expect(stop, "succeeds");
+    let put: Result<_, _> = nodes.insert(key, node);
+    put.expect(stop, "succeeds");
+}
+
+/// The disk of such a bag.
+pub(crate) fn disk_of(stop: &impl Abort, alloc: Global, files: Files) -> MemoryDisk {
+    let mut nodes = BTreeMap::new(alloc);
+    put_node(stop, alloc, &mut nodes, "data", Node::Folder);
+    for (path, bytes) in DECLARED.iter().chain(files) {
+        let node = Node::File(bytes.to_vec(alloc).expect(stop, "succeeds"));
+        put_node(stop, alloc, &mut nodes, path, node);
+    }
+    MemoryDisk::holding(alloc, nodes).expect(stop, "a disk")
+}
+
 /// The paths that a tree opened, each with its line's end.
 pub(crate) fn opened(stop: &impl Abort, alloc: Global, tree: &MemoryTree) -> String {
     let mut text = String::new(alloc);
@@ -60,6 +99,22 @@ pub(crate) fn opened(stop: &impl Abort, alloc: Global, tree: &MemoryTree) -> Str
         text.push('\n').expect(stop, "succeeds");
     }
     text
+}
+
+/// How bags are checked where names that clash aren't looked for.
+pub(crate) fn options_of(depth: Depth) -> Options {
+    Options {
+        depth,
+        clashes: false,
+    }
+}
+
+/// The fault of a line, where there is one.
+pub(crate) fn cursor(stop: &impl Abort, alloc: Global, line: Option<&str>) -> Option<Fault> {
+    match line {
+        Some(line) => Some(Fault::from_line(alloc, line).expect(stop, "succeeds")),
+        None => None,
+    }
 }
 
 /// A request for the faults of a bag called `d`.
@@ -77,6 +132,11 @@ pub(crate) fn request_of(
         quiet: false,
         name: Text::from_str(alloc, "d").expect(stop, "succeeds"),
     }
+}
+
+/// A request for all of them, but for names that clash.
+pub(crate) fn request_at(stop: &impl Abort, alloc: Global, depth: Depth) -> Request {
+    request_of(stop, alloc, options_of(depth), None, None)
 }
 
 /// The tree after a check, and what the check wrote, with its exit status behind.

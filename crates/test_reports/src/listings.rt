@@ -1,28 +1,17 @@
 //! Trees that list what isn't there, and sizes that add up to more than 64 bits can hold.
 ghost use Rattle.test_disk.specs.MemoryDisk.{not_honest};
 
-use crate::checks::{DECLARED, Files, checked, request_of, tree_of};
+use crate::checks::{Files, checked, disk_of, request_at, tree_of};
 use bag_disk::{Disk, DiskFault, Entry};
-use bag_report::{Depth, Options};
+use bag_report::Depth;
 use bag_store::{FileTree, SkewTree, Tree};
 use bag_text::{Text, is_payload};
 use std::alloc::Global;
-use std::collections::BTreeMap;
 use std::process::Abort;
-use test_disk::{MemoryDisk, Node};
-
-/// How trees here are checked.
-fn options_of(depth: Depth) -> Options {
-    Options {
-        depth,
-        clashes: false,
-    }
-}
 
 /// What a whole check of a tree writes.
 fn written<T: Tree + Drop>(stop: &impl Abort, alloc: Global, tree: T, depth: Depth) -> String {
-    let request = request_of(stop, alloc, options_of(depth), None, None);
-    let (_tree, text) = checked(stop, alloc, tree, request);
+    let (_tree, text) = checked(stop, alloc, tree, request_at(stop, alloc, depth));
     text
 }
 
@@ -118,32 +107,9 @@ const SIZED: Files = &[
     ("manifest-sha256.txt", b""),
 ];
 
-/// Puts files on a disk's places.
-fn put_nodes(stop: &impl Abort, alloc: Global, nodes: &mut BTreeMap<Vec<u8>, Node>, files: Files) {
-    for (path, bytes) in files {
-        let node = Node::File(bytes.to_vec(alloc).expect(stop, "succeeds"));
-        let key = path.as_bytes().to_vec(alloc).expect(stop, "succeeds");
-        let put: Result<_, _> = nodes.insert(key, node);
-        put.expect(stop, "succeeds");
-    }
-}
-
-/// The disk of these files.
-fn disk(stop: &impl Abort, alloc: Global) -> Option<MemoryDisk> {
-    let mut nodes = BTreeMap::new(alloc);
-    let data = b"data".to_vec(alloc).expect(stop, "succeeds");
-    let put: Result<_, _> = nodes.insert(data, Node::Folder);
-    put.expect(stop, "succeeds");
-    put_nodes(stop, alloc, &mut nodes, DECLARED);
-    put_nodes(stop, alloc, &mut nodes, SIZED);
-    MemoryDisk::holding(alloc, nodes)
-}
-
 #[test]
 fn sizes_add_up_without_loss(rt: HostRuntime) {
-    let disk = disk(&rt, rt.alloc())
-        .ok_or("no disk")
-        .expect(&rt, "succeeds");
+    let disk = disk_of(&rt, rt.alloc(), SIZED);
     let tree = FileTree::over(rt.alloc(), Enlarged { disk });
     let text = written(&rt, rt.alloc(), tree, Depth::Fast);
     let wanted = "304 oxum-differs bag-info.txt - 1 0.2:36893488147419103230.2\nd has faults: 1\n1";

@@ -1,6 +1,6 @@
 //! Which files a check opens: at each depth those that it must, in the order in which it reads them, and no others.
-use crate::checks::{Files, checked, opened, request_of, tree_of};
-use bag_report::{Depth, Fault, Options};
+use crate::checks::{Files, WRONG, checked, cursor, opened, request_of, tree_of};
+use bag_report::{Depth, Options};
 use std::alloc::Global;
 use std::process::Abort;
 
@@ -51,20 +51,7 @@ const EACH_KIND_LINES: &str =
      601 payload-file-missing data/c sha1 - -\n\
      d has faults: 6\n1";
 
-/// A file with the digests of another one by two algorithms.
-const WRONG: Files = &[
-    ("data/x", b"a"),
-    (
-        "manifest-md5.txt",
-        b"900150983cd24fb0d6963f7d28e17f72  data/x\n",
-    ),
-    (
-        "manifest-sha1.txt",
-        b"a9993e364706816aba3e25717850c26c9cd0d89d  data/x\n",
-    ),
-];
-
-/// The lines of its faults.
+/// The lines of the faults of `WRONG`.
 const FIRST: &str =
     "701 payload-sum-differs data/x md5 - 900150983cd24fb0d6963f7d28e17f72:0cc175b9c0f1b6a831c399e269772661";
 
@@ -175,14 +162,6 @@ const ROWS: &[Row] = &[
         output: "d rest done, faults: 0\n1",
     },
 ];
-
-/// The fault of a row's line.
-fn cursor(stop: &impl Abort, alloc: Global, line: Option<&str>) -> Option<Fault> {
-    match line {
-        Some(line) => Some(Fault::from_line(alloc, line).expect(stop, "succeeds")),
-        None => None,
-    }
-}
 
 /// Whether a check opens what a row says, and writes it, whether names that clash are looked for or not.
 fn is_right(stop: &impl Abort, alloc: Global, row: &Row, clashes: bool) -> bool {

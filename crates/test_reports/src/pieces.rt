@@ -1,19 +1,14 @@
 //! In which pieces contents are read and reports are written: a file by 65,536 bytes, by checks and by makings, and a fault's line
 //! in one write.
-use crate::checks::{Files, put_letters, request_of, tree_of};
+use crate::checks::{Files, WRONG, put_letters, request_at, tree_of};
 use bag_make::make;
-use bag_report::{Depth, Options};
+use bag_report::Depth;
 use bag_store::{FailTree, MemoryTree, WriterOut};
 use bag_text::{Alg, AlgSet};
 use bag_walk::{Outcome, run};
 use std::alloc::Global;
 use std::io::{self, Write};
 use std::process::Abort;
-
-const FULL: Options = Options {
-    depth: Depth::Full,
-    clashes: false,
-};
 
 /// A manifest that names the file of each bag, with the digest of another one.
 const LISTED: Files = &[(
@@ -25,7 +20,7 @@ const LISTED: Files = &[(
 fn is_check_refused(stop: &impl Abort, alloc: Global, size: usize, call: u64) -> bool {
     let mut tree = tree_of(stop, alloc, LISTED);
     put_letters(stop, alloc, &mut tree, "data/x", size);
-    let request = request_of(stop, alloc, FULL, None, None);
+    let request = request_at(stop, alloc, Depth::Full);
     let mut out = WriterOut::new(Vec::<u8>::new(alloc));
     let (_tree, outcome) = run(alloc, FailTree::new(tree, call), None, request, &mut out);
     matches!(outcome, Outcome::Unread(_, _))
@@ -105,20 +100,7 @@ impl Write for Marked {
     }
 }
 
-/// A file that holds `a`, to which two manifests give the digests of `abc`.
-const WRONG: Files = &[
-    ("data/x", b"a"),
-    (
-        "manifest-md5.txt",
-        b"900150983cd24fb0d6963f7d28e17f72  data/x\n",
-    ),
-    (
-        "manifest-sha1.txt",
-        b"a9993e364706816aba3e25717850c26c9cd0d89d  data/x\n",
-    ),
-];
-
-/// The lines of its two faults, a mark behind each.
+/// The lines of the two faults of `WRONG`, a mark behind each.
 const WRITES: &[u8] =
     b"701 payload-sum-differs data/x md5 - 900150983cd24fb0d6963f7d28e17f72:0cc175b9c0f1b6a831c399e269772661
 |701 payload-sum-differs data/x sha1 - a9993e364706816aba3e25717850c26c9cd0d89d:86f7e437faa5a7fce15d1ddcb9eaeaea377667b8
@@ -129,7 +111,7 @@ fn each_line_of_a_fault_is_one_write(rt: HostRuntime) {
     let taken = Vec::new(rt.alloc());
     let mut out = WriterOut::new(Marked { taken });
     let tree = tree_of(&rt, rt.alloc(), WRONG);
-    let request = request_of(&rt, rt.alloc(), FULL, None, None);
+    let request = request_at(&rt, rt.alloc(), Depth::Full);
     let (_tree, outcome) = run(rt.alloc(), tree, None, request, &mut out);
     assert!(rt; matches!(outcome, Outcome::Faults(2)));
     let taken = out.into_inner().taken;

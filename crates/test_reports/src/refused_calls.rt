@@ -1,7 +1,7 @@
 //! Reports to outputs that take a byte at a time and run out of room, and a check by a profile of which each call of the tree is refused.
-use crate::checks::{Files, request_of, tree_of};
+use crate::checks::{Files, WRONG, request_at, tree_of};
 use bag_profile::Profile;
-use bag_report::{Depth, Options};
+use bag_report::Depth;
 use bag_store::{FailTree, WriterOut};
 use bag_walk::{Outcome, run};
 use std::alloc::Global;
@@ -46,19 +46,8 @@ const REPORTS: [(Files, Depth, &str); 2] = [
 d has faults: 2
 ",
     ),
-    // a file that holds `a`, to which two manifests give the digests of `abc`
     (
-        &[
-            ("data/x", b"a"),
-            (
-                "manifest-md5.txt",
-                b"900150983cd24fb0d6963f7d28e17f72  data/x\n",
-            ),
-            (
-                "manifest-sha1.txt",
-                b"a9993e364706816aba3e25717850c26c9cd0d89d  data/x\n",
-            ),
-        ],
+        WRONG,
         Depth::Full,
         "701 payload-sum-differs data/x md5 - 900150983cd24fb0d6963f7d28e17f72:0cc175b9c0f1b6a831c399e269772661
 701 payload-sum-differs data/x sha1 - a9993e364706816aba3e25717850c26c9cd0d89d:86f7e437faa5a7fce15d1ddcb9eaeaea377667b8
@@ -87,11 +76,7 @@ fn is_cut(
     most: usize,
     room: usize,
 ) -> bool {
-    let options = Options {
-        depth,
-        clashes: false,
-    };
-    let request = request_of(stop, alloc, options, None, None);
+    let request = request_at(stop, alloc, depth);
     let taken = Vec::new(alloc);
     let mut out = WriterOut::new(Narrow { taken, most, room });
     let (_tree, outcome) = run(alloc, tree_of(stop, alloc, files), None, request, &mut out);
@@ -145,11 +130,7 @@ d has faults: 5
 /// What a check by the profile writes over a tree of which the call of this number is refused.
 fn checked_by(stop: &impl Abort, alloc: Global, profile: &Profile, call: u64) -> Vec<u8> {
     let tree = FailTree::new(tree_of(stop, alloc, FETCHED), call);
-    let options = Options {
-        depth: Depth::Full,
-        clashes: false,
-    };
-    let request = request_of(stop, alloc, options, None, None);
+    let request = request_at(stop, alloc, Depth::Full);
     let mut out = WriterOut::new(Vec::<u8>::new(alloc));
     let (_tree, _) = run(alloc, tree, Some(profile), request, &mut out);
     out.into_inner()

@@ -1,13 +1,16 @@
-//! Reports in segments: what they write, how they end, and which files they open.
+//! Reports in segments: what they write, how they end, which files they open, and what comes where a call of a tree or of a disk is
+//! refused.
 ghost use Rattle.std.specs.Prelude.{◌<◌, ◌^◌, sum};
 
-use crate::checks::{Files, opened, tree_of};
+use crate::checks::{Files, WRONG, disk_of, opened, options_of, tree_of};
 use crate::walks::EACH_TWICE;
-use bag_report::{Depth, Options};
-use bag_store::{FailTree, Tree, WriterOut};
+use bag_disk::DiskFault;
+use bag_report::Depth;
+use bag_store::{FailTree, FileTree, Tree, WriterOut};
 use bag_walk::{Outcome, run_segments};
 use std::alloc::Global;
 use std::process::Abort;
+use test_disk::{Call, RefusingDisk};
 
 /// A manifest of which no line can be read.
 const UNREAD_LINES: Files = &[(
@@ -21,20 +24,8 @@ const UNREAD: &str = "503 manifest-escape manifest-md5.txt md5 1 data/%2541
 505 manifest-outside-payload manifest-md5.txt md5 4 data
 ";
 
-/// A file that holds `a`, to which two manifests give the digests of `abc`.
-const WRONG_DIGESTS: Files = &[
-    ("data/x", b"a"),
-    (
-        "manifest-md5.txt",
-        b"900150983cd24fb0d6963f7d28e17f72  data/x\n",
-    ),
-    (
-        "manifest-sha1.txt",
-        b"a9993e364706816aba3e25717850c26c9cd0d89d  data/x\n",
-    ),
-];
-
-const WRONG: &str =
+/// The faults of `WRONG`.
+const WRONG_DIGESTS: &str =
     "701 payload-sum-differs data/x md5 - 900150983cd24fb0d6963f7d28e17f72:0cc175b9c0f1b6a831c399e269772661
 701 payload-sum-differs data/x sha1 - a9993e364706816aba3e25717850c26c9cd0d89d:86f7e437faa5a7fce15d1ddcb9eaeaea377667b8
 ";
@@ -48,10 +39,7 @@ fn in_segments<T: Tree + Drop>(
 ) -> (T, String, Outcome)
     requires { sum limits.now < 2 ^ 64 }
 {
-    let options = Options {
-        depth: Depth::Full,
-        clashes: false,
-    };
+    let options = options_of(Depth::Full);
     let mut out = WriterOut::new(Vec::<u8>::new(alloc));
     let (tree, outcome) = run_segments(alloc, tree, None, options, limits, &mut out);
     let text = String::from_utf8(out.into_inner()).expect(stop, "succeeds");
@@ -71,9 +59,9 @@ fn limits_are_taken_in_order(rt: HostRuntime) {
 
 /// Whether segments of which a call of the tree is refused write both faults.
 fn is_made_up_for(stop: &impl Abort, alloc: Global, call: u64) -> bool {
-    let tree = FailTree::new(tree_of(stop, alloc, WRONG_DIGESTS), call);
+    let tree = FailTree::new(tree_of(stop, alloc, WRONG), call);
     let (_tree, text, outcome) = in_segments(stop, alloc, tree, &[1, 1, 1, 1]);
-    text.as_str() == WRONG && matches!(outcome, Outcome::Faults(2))
+    text.as_str() == WRONG_DIGESTS && matches!(outcome, Outcome::Faults(2))
 }
 
 #[test]
@@ -81,9 +69,9 @@ fn each_call_is_refused_in_turn(rt: HostRuntime) {
     for call in 1..40 {
         assert!(rt; is_made_up_for(&rt, rt.alloc(), call), "call {call}");
     }
-    let tree = tree_of(&rt, rt.alloc(), WRONG_DIGESTS);
+    let tree = tree_of(&rt, rt.alloc(), WRONG);
     let (_tree, text, outcome) = in_segments(&rt, rt.alloc(), tree, &[1, 1]);
-    assert!(rt; text.as_str() == WRONG && matches!(outcome, Outcome::Stopped(2)));
+    assert!(rt; text.as_str() == WRONG_DIGESTS && matches!(outcome, Outcome::Stopped(2)));
 }
 
 /// The faults of three files, to each of which two manifests give other digests.
@@ -107,4 +95,32 @@ fn few_files_are_opened_again(rt: HostRuntime) {
         .lines()
         .filter(|path| path.starts_with("data/"));
     assert!(rt; payload.count() <= 9);
+}
+
+/// Whether segments over the disk of these files, of which the call of this number is refused, write the whole report and come to
+/// its end.
+fn are_whole(stop: &impl Abort, alloc: Global, refused: (u64, DiskFault), limits: &[u64]) -> bool
+    requires { sum limits.now < 2 ^ 64 }
+{
+    let (call, fault) = refused;
+    let disk = disk_of(stop, alloc, EACH_TWICE);
+    let disk = RefusingDisk::over(disk, Call::Numbered(call), fault);
+    let (_tree, text, outcome) = in_segments(stop, alloc, FileTree::over(alloc, disk), limits);
+    text.as_str() == TWICE && matches!(outcome, Outcome::Faults(6))
+}
+
+/// More calls than seven segments make.
+const CALLS: u64 = 200;
+
+#[test]
+fn one_segment_more_makes_up_for_a_refused_call(rt: HostRuntime) {
+    for fault in [DiskFault::Device, DiskFault::Memory] {
+        for call in 0..CALLS {
+            assert!(rt;
+                are_whole(&rt, rt.alloc(), (call, fault), &[1, 1, 1, 1, 1, 1, 1, 1]),
+                "call {call}"
+            );
+        }
+        assert!(rt; are_whole(&rt, rt.alloc(), (CALLS, fault), &[1, 1, 1, 1, 1, 1, 1]));
+    }
 }

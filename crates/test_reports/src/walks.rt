@@ -1,6 +1,6 @@
 //! Walks over the faults of a bag, one at a time: what each step gives, which files it opens, and how it goes on after a refusal.
-use crate::checks::{Files, opened, tree_of};
-use bag_report::{Depth, Fault, Options};
+use crate::checks::{Files, cursor, opened, options_of, tree_of};
+use bag_report::{Depth, Fault};
 use bag_store::{FailTree, MemoryTree, Stop, Tree};
 use bag_walk::Walk;
 use std::alloc::Global;
@@ -18,17 +18,6 @@ pub(crate) const EACH_TWICE: Files = &[
     (
         "manifest-sha1.txt",
         b"da39a3ee5e6b4b0d3255bfef95601890afd80709  data/a\nda39a3ee5e6b4b0d3255bfef95601890afd80709  data/b\nda39a3ee5e6b4b0d3255bfef95601890afd80709  data/c\n",
-    ),
-];
-
-/// The same files, with one manifest.
-const EACH_ONCE: Files = &[
-    ("data/a", b"a"),
-    ("data/b", b"a"),
-    ("data/c", b"a"),
-    (
-        "manifest-md5.txt",
-        b"92eb5ffee6ae2fec3ad71c777531578f  data/a\n92eb5ffee6ae2fec3ad71c777531578f  data/b\n92eb5ffee6ae2fec3ad71c777531578f  data/c\n",
     ),
 ];
 
@@ -65,15 +54,8 @@ fn walk_over<T: Tree + Drop>(
     tree: T,
     after: Option<&str>,
 ) -> Option<Walk<T>> {
-    let options = Options {
-        depth: Depth::Full,
-        clashes: false,
-    };
-    let cursor = match after {
-        Some(line) => Some(Fault::from_line(alloc, line).expect(stop, "succeeds")),
-        None => None,
-    };
-    Walk::start(alloc, tree, None, options, cursor).ok()
+    let after = cursor(stop, alloc, after);
+    Walk::start(alloc, tree, None, options_of(Depth::Full), after).ok()
 }
 
 /// The files that are opened before any step.
@@ -175,10 +157,12 @@ fn steps_open_no_file_behind_their_fault(rt: HostRuntime) {
     }
 }
 
-/// What the steps of a walk give of which a call of the tree is refused, with the files that were opened behind.
+/// What the steps of a walk over the files with one manifest give of which a call of the tree is refused, with the files that were
+/// opened behind.
 fn refused_at(stop: &impl Abort, alloc: Global, call: u64) -> String {
     let mut text = String::new(alloc);
-    let tree = FailTree::new(tree_of(stop, alloc, EACH_ONCE), call);
+    let each_once = EACH_TWICE.get(..4).unwrap_or(&[]);
+    let tree = FailTree::new(tree_of(stop, alloc, each_once), call);
     let Some(mut walk) = walk_over(stop, alloc, tree, None) else {
         text.push_str("none\n").expect(stop, "succeeds");
         return text;

@@ -1,5 +1,5 @@
 //! What stands at paths, disks in memory that hold it, and what trees list and read.
-use bag_store::{FileEntry, Listing, Tree, TreeFault, read_whole};
+use bag_store::{FileEntry, Tree, TreeFault, read_whole};
 use bag_text::Text;
 use std::alloc::Global;
 use std::collections::BTreeMap;
@@ -48,49 +48,45 @@ pub(crate) fn disk(stop: &impl Abort, alloc: Global, places: &[Place]) -> Memory
     maybe_disk(stop, alloc, places).expect(stop, "a disk")
 }
 
-fn write_sizes(stop: &impl Abort, listing: &Listing, text: &mut String) {
-    write!(text, "{}", listing.has_data).expect(stop, "succeeds");
-    for file in listing.files.as_slice() {
-        let path = file.path.as_str();
-        let size = file.size;
-        write!(text, ", {path} {size}").expect(stop, "succeeds");
-    }
-}
-
-/// The listing of a tree as a text, each file with its size, or the word of its refusal.
-pub(crate) fn listed<T: Tree>(stop: &impl Abort, alloc: Global, tree: &mut T) -> String {
-    let mut text = String::new(alloc);
-    match tree.list() {
-        Ok(listing) => write_sizes(stop, &listing, &mut text),
-        Err(fault) => text.push_str(fault.word()).expect(stop, "succeeds"),
-    }
-    text
-}
-
-fn write_texts<T: Tree>(
+/// Writes what a file of a tree holds, behind `=`.
+fn write_text<T: Tree>(
     stop: &impl Abort,
     alloc: Global,
     tree: &mut T,
-    listing: &Listing,
+    file: &FileEntry,
     text: &mut String,
 ) {
-    write!(text, "{}", listing.has_data).expect(stop, "succeeds");
-    for file in listing.files.as_slice() {
-        let bytes = read_whole(alloc, tree, file).expect(stop, "succeeds");
-        let path = file.path.as_str();
-        let held = str::from_utf8(bytes.as_slice()).unwrap_or("not UTF-8");
-        write!(text, ", {path}={held}").expect(stop, "succeeds");
-    }
+    let bytes = read_whole(alloc, tree, file).expect(stop, "succeeds");
+    let held = str::from_utf8(bytes.as_slice()).unwrap_or("not UTF-8");
+    write!(text, "={held}").expect(stop, "succeeds");
 }
 
-/// The listing of a tree as a text, each file with what it holds, or the word of its refusal.
-pub(crate) fn contents<T: Tree>(stop: &impl Abort, alloc: Global, tree: &mut T) -> String {
-    let mut text = String::new(alloc);
-    match tree.list() {
-        Ok(listing) => write_texts(stop, alloc, tree, &listing, &mut text),
-        Err(fault) => text.push_str(fault.word()).expect(stop, "succeeds"),
+/// The listing of a tree as a text, each file with its size or with what it holds, or the word of its refusal.
+fn told<T: Tree>(stop: &impl Abort, alloc: Global, tree: &mut T, has_texts: bool) -> String {
+    let listing = match tree.list() {
+        Ok(listing) => listing,
+        Err(fault) => return String::from_str(alloc, fault.word()).expect(stop, "succeeds"),
+    };
+    let mut text = format!(in alloc; "{}", listing.has_data).expect(stop, "succeeds");
+    for file in listing.files.as_slice() {
+        write!(text, ", {}", file.path).expect(stop, "succeeds");
+        if has_texts {
+            write_text(stop, alloc, tree, file, &mut text);
+        } else {
+            write!(text, " {}", file.size).expect(stop, "succeeds");
+        }
     }
     text
+}
+
+/// The listing of a tree, each file with its size.
+pub(crate) fn listed<T: Tree>(stop: &impl Abort, alloc: Global, tree: &mut T) -> String {
+    told(stop, alloc, tree, false)
+}
+
+/// The listing of a tree, each file with what it holds.
+pub(crate) fn contents<T: Tree>(stop: &impl Abort, alloc: Global, tree: &mut T) -> String {
+    told(stop, alloc, tree, true)
 }
 
 /// Whether opening and reading a whole file of a tree ends so, where it is listed with this size.

@@ -28,8 +28,6 @@ mod programs;
 #[cfg(test)]
 mod refusals;
 #[cfg(test)]
-mod refused_segments;
-#[cfg(test)]
 mod steps;
 #[cfg(test)]
 mod stores;

@@ -1,17 +1,13 @@
 //! The program over disks in memory.
-ghost use Rattle.std.specs.Prelude.{◌≡◌, None};
-ghost use Rattle.test_disk.specs.MemoryDisk.{fresh, state_of};
-
 use crate::checked;
 use crate::held::Held::{File, Folder};
 use crate::held::{Place, disk};
+use crate::same_disks::SameDisks;
 use bag_arguments::plan_of;
-use bag_cli::{Disks, Folders, ProfileRefusal, ReadFault, WriterOut, program, refuse_profile};
+use bag_cli::{Folders, ProfileRefusal, WriterOut, program, refuse_profile};
 use bag_profile::ProfileFault;
-use std::alloc::{AllocError, Global};
+use std::alloc::Global;
 use std::process::Abort;
-use std::str;
-use test_disk::MemoryDisk;
 
 /// What stands on a disk.
 const DECLARED: &[Place] = &[
@@ -71,36 +67,10 @@ fn an_honest_disk_has_its_report(rt: HostRuntime) {
     }
 }
 
-/// Disks that hold the same below each base folder. Below `no memory` there is none, for want of memory, and beside them there is no
-/// file.
-#[derive(Clone, Copy)]
-struct ScarceDisks<'a> {
-    held: &'a MemoryDisk,
-}
-
-impl<'a> Disks for ScarceDisks<'a> {
-    type Disk = MemoryDisk;
-
-    ghost below = { λ disks _. fresh (state_of disks.held.now).nodes };
-
-    ghost file = { λ _ _ bytes. bytes ≡ None };
-
-    fn disk(&self, alloc: Global, base: &str) -> Result<MemoryDisk, AllocError> {
-        if base == "no memory" {
-            return Err(AllocError);
-        }
-        self.held.fresh_copy(alloc)
-    }
-
-    fn read_file(&self, _alloc: Global, _path: &str, _most: u32) -> Result<Vec<u8>, ReadFault> {
-        Err(ReadFault::Unread)
-    }
-}
-
 /// What the program writes for words over disks that hold a declaration, what it says beside that, and the status.
 fn told(stop: &impl Abort, alloc: Global, words: &[&str]) -> String {
     let held = disk(stop, alloc, DECLARED);
-    let disks = ScarceDisks { held: &held };
+    let disks = SameDisks { held: &held };
     let (folders, mut visits) = Folders::of(&disks);
     let mut out = WriterOut::new(Vec::<u8>::new(alloc));
     let mut err = WriterOut::new(Vec::<u8>::new(alloc));

@@ -10,10 +10,10 @@ use bag_tree::Out;
 use std::alloc::{AllocError, Global};
 use test_disk::MemoryDisk;
 
-/// Disks that hold the same below each base folder, and no file beside them.
+/// Disks that hold the same below each base folder, and no file beside them. Below `no memory` there is none, for want of memory.
 #[derive(Drop)]
-struct SameDisks<'a> {
-    held: &'a MemoryDisk,
+pub(crate) struct SameDisks<'a> {
+    pub(crate) held: &'a MemoryDisk,
 }
 
 impl<'a> Disks for SameDisks<'a> {
@@ -23,7 +23,10 @@ impl<'a> Disks for SameDisks<'a> {
 
     ghost file = { λ _ _ bytes. bytes ≡ None };
 
-    fn disk(&self, alloc: Global, _base: &str) -> Result<MemoryDisk, AllocError> {
+    fn disk(&self, alloc: Global, base: &str) -> Result<MemoryDisk, AllocError> {
+        if base == "no memory" {
+            return Err(AllocError);
+        }
         self.held.fresh_copy(alloc)
     }
 
