@@ -29,22 +29,15 @@ impl Bytes {
 
     /// Whether these are the same bytes, without a mistake.
     pub fn is_same(&self, other: &Bytes) -> bool {
-        (self.held.as_slice() == other.held.as_slice())
-            & self.mistake.is_none()
-            & other.mistake.is_none()
+        self.held.as_slice() == other.held.as_slice()
+            && self.mistake.is_none()
+            && other.mistake.is_none()
     }
 
     /// Notes a mistake, unless there was one before.
     pub fn fail(&mut self, mistake: Mistake) {
         if self.mistake.is_none() {
             self.mistake = Some(mistake);
-        }
-    }
-
-    /// Notes that memory ran out, where it did.
-    pub fn keep<E: Drop>(&mut self, done: Result<(), E>) {
-        if done.is_err() {
-            self.fail(Mistake::Memory);
         }
     }
 
@@ -64,24 +57,6 @@ impl Bytes {
     pub fn show<T: Display>(&mut self, value: &T, behind: &str) {
         if write!(self.held, "{value}{behind}").is_err() {
             self.fail(Mistake::Memory);
-        }
-    }
-
-    /// Adds what a value shows itself as, and a space.
-    pub fn field<T: Display>(&mut self, value: &T) {
-        self.show(value, " ");
-    }
-
-    /// Adds what a value shows itself as, and a `|`.
-    pub fn end<T: Display>(&mut self, value: &T) {
-        self.show(value, "|");
-    }
-
-    /// Adds a text, and behind it what a value shows itself as, where there is one.
-    pub fn show_some<T: Display>(&mut self, front: &str, value: &Option<T>) {
-        if let Some(value) = value {
-            self.put(front);
-            self.show(value, "");
         }
     }
 }

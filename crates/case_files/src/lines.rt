@@ -1,6 +1,5 @@
 //! The lines of a case file.
-use crate::bytes::Bytes;
-use std::alloc::Global;
+use std::alloc::{AllocError, Global};
 
 /// What a line says, by its first word.
 #[derive(Clone, Copy, PartialEq, Eq)]
@@ -98,14 +97,15 @@ fn line_of(place: usize, line: &str) -> Line<'_> {
 }
 
 /// The lines of a text that say something: all but empty ones and those that begin with `#`.
-pub fn lines_of<'a>(alloc: Global, text: &'a str, mistakes: &mut Bytes) -> Vec<Line<'a>> {
+pub fn lines_of(alloc: Global, text: &str) -> Result<Vec<Line<'_>>, AllocError> {
     let mut lines = Vec::new(alloc);
     for (place, line) in text.lines().enumerate() {
-        if !line.is_empty() & !line.starts_with('#') {
-            mistakes.keep(lines.push(line_of(place, line)));
+        match line.as_bytes() {
+            [] | [b'#', ..] => {}
+            _ => lines.push(line_of(place, line))?,
         }
     }
-    lines
+    Ok(lines)
 }
 
 /// The lines behind a place that are wanted of the entry there.
@@ -123,7 +123,7 @@ impl<'a> Part<'a> {
     /// The first part of lines.
     pub fn of(lines: &'a [Line<'a>]) -> Part<'a> {
         for (place, line) in lines.iter().enumerate() {
-            if matches!(line.word, Word::Then) {
+            if line.word == Word::Then {
                 return Part {
                     lines: lines.get(..place).unwrap_or(lines),
                     rest: lines.get(place.saturating_add(1)..),

@@ -1,11 +1,9 @@
 //! What words of the command line ask for.
 use crate::bytes::Bytes;
 use crate::shown::Shown;
-use crate::words::words_of;
-use bag_arguments::{Action, Plan, Usage, plan_of};
+use bag_arguments::{Action, Plan, Usage};
 use bag_facts::Depth;
 use bag_text::Alg;
-use std::alloc::Global;
 
 fn action_word(action: &Action) -> &'static str {
     match action {
@@ -31,12 +29,18 @@ fn put_check(plan: &Plan, out: &mut Bytes) {
     if plan.options.clashes {
         out.put("|clashes");
     }
-    out.show_some("|profile ", &plan.profile);
+    if let Some(file) = &plan.profile {
+        out.put("|profile ");
+        out.put(file.as_str());
+    }
     if let Some(fault) = &plan.after {
         out.put("|after ");
         fault.put_in(out);
     }
-    out.show_some("|limit ", &plan.limit);
+    if let Some(limit) = &plan.limit {
+        out.put("|limit ");
+        out.show(limit, "");
+    }
     out.put(if plan.quiet { "|quiet|" } else { "|" });
 }
 
@@ -44,39 +48,36 @@ fn put_check(plan: &Plan, out: &mut Bytes) {
 fn put_making(plan: &Plan, out: &mut Bytes) {
     for alg in &Alg::ALL {
         if plan.algs.has(*alg) {
-            out.show(&" ", alg.name());
+            out.put(" ");
+            out.put(alg.name());
         }
     }
     for item in plan.info.as_slice() {
         out.put("|");
         out.show(&item.label, "=");
-        out.show(&item.value, "");
+        out.put(item.value.as_str());
     }
 }
 
-/// What a plan says.
-fn put_said(plan: &Plan, out: &mut Bytes) {
-    out.put(action_word(&plan.action));
-    for directory in plan.directories.as_slice() {
-        out.show(&" ", directory.as_str());
+/// What words ask for.
+impl Shown for Plan {
+    fn put_in(&self, out: &mut Bytes) {
+        out.put(action_word(&self.action));
+        for directory in self.directories.as_slice() {
+            out.put(" ");
+            out.put(directory.as_str());
+        }
+        put_check(self, out);
+        put_making(self, out);
     }
-    put_check(plan, out);
-    put_making(plan, out);
 }
 
 /// Why words are refused: `refused` where the program takes no such words.
-fn put_usage(usage: &Usage, out: &mut Bytes) {
-    match usage {
-        Usage::Refused(_) => out.put("refused"),
-        _ => out.show(usage, ""),
-    }
-}
-
-/// What words of the command line ask for, or why they are refused.
-pub(crate) fn put_plan(alloc: Global, text: &str, out: &mut Bytes) {
-    let words = words_of(alloc, text, out);
-    match plan_of(alloc, &words) {
-        Ok(plan) => put_said(&plan, out),
-        Err(usage) => put_usage(&usage, out),
+impl Shown for Usage {
+    fn put_in(&self, out: &mut Bytes) {
+        match self {
+            Usage::Refused(_) => out.put("refused"),
+            _ => out.show(self, ""),
+        }
     }
 }

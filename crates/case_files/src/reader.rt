@@ -1,13 +1,15 @@
 //! What a row is read by.
 use crate::bytes::Bytes;
 use crate::mistake::Mistake;
-use crate::plans::put_plan;
 use crate::spelled;
 use crate::tag_files::manifest_name;
-use crate::written::{put_info, put_manifest};
+use crate::words::words_of;
+use crate::written::pairs_of;
+use bag_arguments::plan_of;
 use bag_facts::Fault;
 use bag_profile::Profile;
 use bag_read::{Kind, read_declaration, read_fetch, read_info, read_manifest};
+use bag_tags::{write_info, write_manifest};
 use bag_text::{Alg, Rules, escape_path, text_of, unescape_path};
 use std::alloc::Global;
 
@@ -111,17 +113,11 @@ fn named(readers: &[(&str, Reader)], word: &str) -> Option<Reader> {
 impl Reader {
     /// The reader that words ask for, as `manifest md5`; with `0.97` behind them by the rules of that version.
     pub fn of(words: &[&str]) -> Option<Reader> {
-        match words.split_last() {
-            Some((last, words)) if *last == "0.97" => Reader::newer(words)?.older(),
-            _ => Reader::newer(words),
-        }
-    }
-
-    /// The reader that words ask for, by the rules of version 1.0.
-    fn newer(words: &[&str]) -> Option<Reader> {
         match words {
             [word] => named(ONE_WORD, *word),
+            [word, "0.97"] => named(ONE_WORD, *word)?.older(),
             [word, alg] => Reader::of_alg(*word, *alg),
+            [word, alg, "0.97"] => Reader::of_alg(*word, *alg)?.older(),
             _ => None,
         }
     }
@@ -182,9 +178,18 @@ impl Reader {
     /// Adds what is read in a text.
     fn read_text(self, alloc: Global, text: &str, out: &mut Bytes) {
         match self {
-            Reader::WriteInfo => put_info(alloc, text, out),
-            Reader::WriteManifest(kind, alg) => put_manifest(alloc, kind, alg, text, out),
-            Reader::Plan => put_plan(alloc, text, out),
+            Reader::WriteInfo => {
+                let elements = pairs_of(alloc, text, out);
+                out.take(write_info(alloc, &elements));
+            }
+            Reader::WriteManifest(kind, alg) => {
+                let entries = pairs_of(alloc, text, out);
+                out.take(write_manifest(alloc, kind, alg, &entries));
+            }
+            Reader::Plan => {
+                let words = words_of(alloc, text, out);
+                out.take(plan_of(alloc, &words));
+            }
             Reader::Line => out.take(Fault::from_line(alloc, text)),
             Reader::Escape => out.take(escape_path(alloc, text)),
             Reader::Unescape(rules) => out.take(unescape_path(alloc, rules, text)),

@@ -73,42 +73,31 @@ impl Report {
         }
     }
 
-    /// The exit status: 2 where the files can't be followed further, and 1 where an answer differed.
-    pub fn status(&self) -> u8 {
-        match self.text.mistake {
-            Some(_) => 2,
-            None => u8::from(self.differ != 0),
-        }
-    }
-
-    /// Adds the counts, in a line, unless there is a mistake. Gives the exit status.
-    pub fn close(&mut self) -> u8 {
-        let status = self.status();
-        if status < 2 {
-            let text = &mut self.text;
-            text.show(&self.cases, " cases, ");
-            text.show(&self.answers, " answers, ");
-            text.show(&self.differ, " differ\n");
-        }
-        status
+    /// Adds the counts, in a line.
+    pub fn close(&mut self) {
+        let text = &mut self.text;
+        text.show(&self.cases, " cases, ");
+        text.show(&self.answers, " answers, ");
+        text.show(&self.differ, " differ\n");
     }
 }
 
 impl Sight<'_> {
     /// The number of the line that says what differs: the first whose bytes aren't found, or else the entry's.
     fn number(&self, wanted: &Answer, found: &Answer) -> usize {
+        let written = front(&wanted.written.held, &found.written.held);
+        let told = front(&wanted.told.held, &found.told.held);
         if !wanted.written.is_same(&found.written) {
-            self.number_in(Word::Written, &wanted.written, &found.written)
+            self.number_at(Word::Written, written)
         } else if !wanted.told.is_same(&found.told) {
-            self.number_in(Word::Told, &wanted.told, &found.told)
+            self.number_at(Word::Told, told)
         } else {
-            self.number_in(Word::Status, &wanted.told, &found.told)
+            self.number_at(Word::Status, 0)
         }
     }
 
-    /// The number of the line that begins with a word and has the first byte that two outputs don't share.
-    fn number_in(&self, word: Word, wanted: &Bytes, found: &Bytes) -> usize {
-        let place = front(&wanted.held, &found.held);
+    /// The number of the line that begins with a word and has the byte at a place.
+    fn number_at(&self, word: Word, place: usize) -> usize {
         let mut number = self.entry.line.number;
         let mut bytes = Bytes::new(self.texts.alloc);
         for line in self.entry.below {
@@ -145,8 +134,8 @@ fn back(a: &[u8], b: &[u8]) -> usize {
 
 /// Adds what differs in two answers.
 fn put_differences(text: &mut Bytes, wanted: &Answer, found: &Answer) {
-    put_difference(text, ("- | ", "+ | "), &wanted.written, &found.written);
-    put_difference(text, ("- ! ", "+ ! "), &wanted.told, &found.told);
+    put_difference(text, "|", &wanted.written.held, &found.written.held);
+    put_difference(text, "!", &wanted.told.held, &found.told.held);
     if wanted.status != found.status {
         text.put("- ? ");
         text.show(&wanted.status, "\n+ ? ");
@@ -154,9 +143,8 @@ fn put_differences(text: &mut Bytes, wanted: &Answer, found: &Answer) {
     }
 }
 
-/// Adds the lines in which a wanted text and the one that was found differ, each behind a mark.
-fn put_difference(text: &mut Bytes, (less, more): (&str, &str), wanted: &Bytes, found: &Bytes) {
-    let (wanted, found) = (wanted.held.as_slice(), found.held.as_slice());
+/// Adds the lines in which a wanted text and the one that was found differ.
+fn put_difference(text: &mut Bytes, word: &str, wanted: &[u8], found: &[u8]) {
     let start = front(wanted, found);
     // the line end before, where there is one, is the same in both
     let before = start.saturating_sub(1);
@@ -166,15 +154,17 @@ fn put_difference(text: &mut Bytes, (less, more): (&str, &str), wanted: &Bytes, 
     );
     let wanted = wanted.get(start..wanted.len().saturating_sub(end));
     let found = found.get(start..found.len().saturating_sub(end));
-    put_lines(text, less, wanted.unwrap_or(&[]));
-    put_lines(text, more, found.unwrap_or(&[]));
+    put_lines(text, "- ", word, wanted.unwrap_or(&[]));
+    put_lines(text, "+ ", word, found.unwrap_or(&[]));
 }
 
-/// Adds lines with a mark before each, and `\` behind the last where it has no end.
-fn put_lines(text: &mut Bytes, mark: &str, bytes: &[u8]) {
+/// Adds lines with a mark and a word before each, and `\` behind the last where it has no end.
+fn put_lines(text: &mut Bytes, mark: &str, word: &str, bytes: &[u8]) {
     let lines = str::from_utf8(bytes).unwrap_or("(bytes that are no text)\n");
     for line in lines.split_inclusive('\n') {
-        text.show(&mark, line);
+        text.show(&mark, word);
+        text.put(" ");
+        text.put(line);
     }
     if !lines.is_empty() && !lines.ends_with('\n') {
         text.put("\\\n");

@@ -1,8 +1,12 @@
 //! What the readers and writers answer, as rows want it.
 use crate::bytes::Bytes;
-use bag_facts::Fault;
-use bag_text::Text;
-use std::fmt::Display;
+use crate::mistake::Mistake;
+use bag_facts::{CursorFault, Fault};
+use bag_profile::ProfileFault;
+use bag_tags::WriteFault;
+use bag_text::{PathFault, Text};
+use bag_tree::HexFault;
+use std::alloc::AllocError;
 
 /// What is put into bytes as a row wants it.
 pub trait Shown {
@@ -11,10 +15,10 @@ pub trait Shown {
 
 impl Bytes {
     /// Adds what was answered.
-    pub fn take<T: Shown + Drop, E: Display + Drop>(&mut self, answer: Result<T, E>) {
+    pub fn take<T: Shown + Drop, E: Shown + Drop>(&mut self, answer: Result<T, E>) {
         match &answer {
             Ok(value) => value.put_in(self),
-            Err(refusal) => self.show(refusal, ""),
+            Err(refusal) => refusal.put_in(self),
         }
     }
 }
@@ -31,6 +35,12 @@ impl Shown for Text {
     }
 }
 
+impl Shown for Vec<u8> {
+    fn put_in(&self, out: &mut Bytes) {
+        out.put_bytes(self);
+    }
+}
+
 impl Shown for Fault {
     fn put_in(&self, out: &mut Bytes) {
         let alloc = out.alloc;
@@ -44,6 +54,45 @@ impl Shown for Vec<Fault> {
         for fault in self {
             fault.put_in(out);
             out.put("\n");
+        }
+    }
+}
+
+impl Shown for AllocError {
+    fn put_in(&self, out: &mut Bytes) {
+        out.fail(Mistake::Memory);
+    }
+}
+
+impl Shown for HexFault {
+    fn put_in(&self, out: &mut Bytes) {
+        out.show(self, "");
+    }
+}
+
+impl Shown for PathFault {
+    fn put_in(&self, out: &mut Bytes) {
+        out.show(self, "");
+    }
+}
+
+impl Shown for CursorFault {
+    fn put_in(&self, out: &mut Bytes) {
+        out.show(self, "");
+    }
+}
+
+impl Shown for ProfileFault {
+    fn put_in(&self, out: &mut Bytes) {
+        out.show(self, "");
+    }
+}
+
+impl Shown for WriteFault {
+    fn put_in(&self, out: &mut Bytes) {
+        match self {
+            WriteFault::BadValue => out.put("bad value"),
+            WriteFault::Memory => out.fail(Mistake::Memory),
         }
     }
 }

@@ -21,7 +21,7 @@ pub(crate) fn hex_of(alloc: Global, alg: Alg, bytes: &[u8]) -> Result<String, He
 pub(crate) fn oxum(text: &str, out: &mut Bytes) {
     match oxum_of(text) {
         Some(oxum) => {
-            out.field(&oxum.octets);
+            out.show(&oxum.octets, " ");
             out.show(&oxum.streams, "");
         }
         None => out.put("none"),
@@ -47,7 +47,7 @@ pub(crate) fn parted(line: &str, out: &mut Bytes) {
 pub(crate) fn algorithm(name: &str, out: &mut Bytes) {
     match Alg::from_name(name) {
         Some(alg) => {
-            out.field(&alg.hex_len());
+            out.show(&alg.hex_len(), " ");
             out.show(&alg.rank(), "");
         }
         None => out.put("none"),

@@ -9,9 +9,9 @@ use bag_text::Text;
 /// Each fault's code, line and detail.
 fn put_faults(faults: &[LineFault], out: &mut Bytes) {
     for fault in faults {
-        out.field(&fault.code.number());
-        out.field(&fault.line);
-        out.end(&fault.detail);
+        out.show(&fault.code.number(), " ");
+        out.show(&fault.line, " ");
+        out.show(&fault.detail, "|");
     }
 }
 
@@ -25,8 +25,8 @@ fn or_none(text: &Option<Text>) -> &str {
 /// What `bagit.txt` declares: the version, the encoding, and the faults.
 impl Shown for Declaration {
     fn put_in(&self, out: &mut Bytes) {
-        out.field(&or_none(&self.version));
-        out.end(&or_none(&self.encoding));
+        out.show(&or_none(&self.version), " ");
+        out.show(&or_none(&self.encoding), "|");
         put_faults(self.faults.as_slice(), out);
     }
 }
@@ -47,10 +47,10 @@ impl Shown for Parsed<Element> {
 impl Shown for Parsed<FetchEntry> {
     fn put_in(&self, out: &mut Bytes) {
         for entry in self.items.as_slice() {
-            out.field(&entry.line);
-            out.field(&entry.url);
-            out.field(&entry.length);
-            out.end(&entry.path);
+            out.show(&entry.line, " ");
+            out.show(&entry.url, " ");
+            out.show(&entry.length, " ");
+            out.show(&entry.path, "|");
         }
         put_faults(self.faults.as_slice(), out);
     }
@@ -61,10 +61,10 @@ impl Shown for Parsed<ManifestEntry> {
     fn put_in(&self, out: &mut Bytes) {
         let alloc = out.alloc;
         for entry in self.items.as_slice() {
-            out.field(&entry.line);
+            out.show(&entry.line, " ");
             out.take(entry.digest.to_text(alloc));
             out.put(" ");
-            out.end(&entry.path);
+            out.show(&entry.path, "|");
         }
         put_faults(self.faults.as_slice(), out);
     }

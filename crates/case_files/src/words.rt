@@ -21,7 +21,9 @@ pub fn words_of<'a>(alloc: Global, text: &'a str, mistakes: &mut Bytes) -> Vec<&
         let Some((word, after)) = first_word(rest) else {
             break;
         };
-        mistakes.keep(words.push(word));
+        if words.push(word).is_err() {
+            mistakes.fail(Mistake::Memory);
+        }
         rest = after.trim_start_matches(' ');
     }
     if !rest.is_empty() {

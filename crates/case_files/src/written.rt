@@ -1,31 +1,8 @@
 //! Pairs of texts, of which tag files are written.
 use crate::bytes::Bytes;
 use crate::mistake::Mistake;
-use bag_read::Kind;
-use bag_tags::{WriteFault, write_info, write_manifest};
-use bag_text::{Alg, Text};
+use bag_text::Text;
 use std::alloc::Global;
-
-/// Adds the metadata of which a text has the labels and values.
-pub(crate) fn put_info(alloc: Global, text: &str, out: &mut Bytes) {
-    let elements = pairs_of(alloc, text, out);
-    put_written(write_info(alloc, &elements), out);
-}
-
-/// Adds the manifest of which a text has the digests and paths.
-pub(crate) fn put_manifest(alloc: Global, kind: Kind, alg: Alg, text: &str, out: &mut Bytes) {
-    let entries = pairs_of(alloc, text, out);
-    put_written(write_manifest(alloc, kind, alg, &entries), out);
-}
-
-/// Adds what was written, or that a value can't be.
-fn put_written(written: Result<Vec<u8>, WriteFault>, out: &mut Bytes) {
-    match written {
-        Ok(bytes) => out.put_bytes(&bytes),
-        Err(WriteFault::BadValue) => out.put("bad value"),
-        Err(WriteFault::Memory) => out.fail(Mistake::Memory),
-    }
-}
 
 /// A text that is kept.
 fn kept(alloc: Global, text: &str, mistakes: &mut Bytes) -> Text {
@@ -39,7 +16,7 @@ fn kept(alloc: Global, text: &str, mistakes: &mut Bytes) -> Text {
 }
 
 /// The pairs of a text whose parts have `|` between them.
-fn pairs_of(alloc: Global, text: &str, mistakes: &mut Bytes) -> Vec<(Text, Text)> {
+pub(crate) fn pairs_of(alloc: Global, text: &str, mistakes: &mut Bytes) -> Vec<(Text, Text)> {
     if !text.is_empty() && text.split('|').count() % 2 != 0 {
         mistakes.fail(Mistake::Row);
     }
@@ -51,7 +28,9 @@ fn pairs_of(alloc: Global, text: &str, mistakes: &mut Bytes) -> Vec<(Text, Text)
         };
         let (back, after) = behind.split_once('|').unwrap_or((behind, ""));
         let pair = (kept(alloc, front, mistakes), kept(alloc, back, mistakes));
-        mistakes.keep(pairs.push(pair));
+        if pairs.push(pair).is_err() {
+            mistakes.fail(Mistake::Memory);
+        }
         rest = after;
     }
     pairs

@@ -20,7 +20,6 @@ pub(crate) enum Verb {
     Write,
     /// Writes the faults of one stage.
     Stage,
-    Unknown,
 }
 
 /// How commands begin that have no number.
@@ -44,19 +43,19 @@ const VERBS: &[(&str, Verb)] = &[
 ];
 
 /// What a command does, and its words, as of `ROOM=10 bagit --validate d`. Behind the last word stands a space.
-pub(crate) fn verb_of(text: &str) -> (Verb, &str) {
+pub(crate) fn verb_of(text: &str) -> Option<(Verb, &str)> {
     for (start, verb) in VERBS {
         if let Some(words) = text.strip_prefix(*start) {
-            return (*verb, words);
+            return Some((*verb, words));
         }
     }
-    let (room, words) = text.split_once(" bagit ").unwrap_or(("", ""));
-    (room_of(room), words)
+    verb_with_room(text)
 }
 
-fn room_of(word: &str) -> Verb {
-    match word.strip_prefix("ROOM=").unwrap_or("").parse::<usize>() {
-        Ok(room) => Verb::RunWithRoom(room),
-        Err(_) => Verb::Unknown,
+fn verb_with_room(text: &str) -> Option<(Verb, &str)> {
+    let (room, words) = text.strip_prefix("ROOM=")?.split_once(" bagit ")?;
+    match room.parse::<usize>() {
+        Ok(room) => Some((Verb::RunWithRoom(room), words)),
+        Err(_) => None,
     }
 }

@@ -3,6 +3,13 @@ use crate::session::Session;
 use case_files::{Answer, Bytes, Entry, Line, Mistake, Report, Word, below, lines_of};
 use std::fs;
 
+/// How far a file was followed. The line is 0 where none of it was.
+#[derive(Clone, Copy)]
+pub(crate) struct Place<'a> {
+    pub(crate) file: &'a str,
+    pub(crate) line: usize,
+}
+
 /// What is found where a file of cases runs another one.
 trait Others {
     fn found(&self, rt: &HostRuntime, file: &str) -> Answer;
@@ -14,62 +21,42 @@ struct Followed;
 /// No other file is run.
 struct Refused;
 
-/// What is printed for files, and the status. What differs is told on the error output too, of which the gate shows the end.
-pub(crate) fn run_files(rt: &HostRuntime, files: &[String]) -> Answer {
-    let mut report = Report::new(rt.alloc());
-    let mut told = Bytes::new(rt.alloc());
-    follow_files(rt, files, &mut told, &mut report);
-    let status = report.close();
-    if status == 1 {
-        told.put_bytes(&report.text.held);
-    }
-    let written = Bytes::of(rt.alloc(), report.text.held);
-    Answer {
-        written,
-        told,
-        status,
-    }
-}
-
-/// Follows files one after another, up to what can't be followed.
-fn follow_files(rt: &HostRuntime, files: &[String], told: &mut Bytes, report: &mut Report) {
+/// Follows files one after another, up to what can't be followed, and adds the counts at the end.
+pub(crate) fn run_files<'a>(
+    rt: &HostRuntime,
+    files: &'a [String],
+    report: &mut Report,
+) -> Place<'a> {
+    let mut line = 0;
     for file in files {
-        if report.text.mistake.is_none() {
-            follow_file(rt, &Followed, file.as_str(), told, report);
+        let file = file.as_str();
+        follow_file(rt, &Followed, file, &mut line, report);
+        if report.text.mistake.is_some() {
+            return Place { file, line };
         }
     }
+    report.close();
+    Place { file: "", line: 0 }
 }
 
-/// Follows the entries of a file. Where one of them can't be followed, that is told.
+/// Follows the entries of a file. Notes the line of each.
 fn follow_file<O: Others>(
     rt: &HostRuntime,
     others: &O,
     file: &str,
-    told: &mut Bytes,
+    line: &mut usize,
     report: &mut Report,
 ) {
-    // none of the file was followed yet
-    let mut number = 0;
+    *line = 0;
     match fs::read_to_string(rt, file) {
-        Ok(text) => {
-            let lines = lines_of(rt.alloc(), text.as_str(), &mut report.text);
-            follow_lines(rt, others, file, &lines, &mut number, report);
-        }
+        Ok(text) => match lines_of(rt.alloc(), text.as_str()) {
+            Ok(lines) => follow_lines(rt, others, file, &lines, line, report),
+            Err(_) => report.text.fail(Mistake::Memory),
+        },
         Err(error) => report.text.fail(Mistake::of(&error)),
     }
-    tell_mistake(file, number, report, told);
 }
 
-/// Tells why a file can't be followed beyond a line, where it can't.
-fn tell_mistake(file: &str, number: usize, report: &Report, told: &mut Bytes) {
-    if let Some(mistake) = report.text.mistake {
-        told.show(&file, ":");
-        told.show(&number, ": ");
-        told.show(&mistake.text(), "\n");
-    }
-}
-
-/// Follows the entries in lines up to one that can't be followed. Notes the number of each.
 fn follow_lines<'a, O: Others>(
     rt: &HostRuntime,
     others: &O,
@@ -79,48 +66,28 @@ fn follow_lines<'a, O: Others>(
     report: &mut Report,
 ) {
     let mut session = Session::new(rt.alloc());
-    follow_entries(rt, others, file, lines, number, &mut session, report);
-    session.end(rt, report);
-}
-
-fn follow_entries<'a, O: Others>(
-    rt: &HostRuntime,
-    others: &O,
-    file: &str,
-    lines: &'a [Line<'a>],
-    number: &mut usize,
-    session: &mut Session<'a>,
-    report: &mut Report,
-) {
     for (place, line) in lines.iter().enumerate() {
         // the first line of a file is an entry, whatever it says
-        if report.text.mistake.is_none() & ((place == 0) | !line.word.is_wanted()) {
+        if place == 0 || !line.word.is_wanted() {
             *number = line.number;
             let below = below(lines, place);
             let entry = Entry { line: *line, below };
-            let before = lines.get(..place).unwrap_or(&[]);
-            follow_entry(rt, others, file, before, entry, session, report);
+            match other_of(entry) {
+                Some(other) => {
+                    let found = others.found(rt, other);
+                    session.compare(file, entry, "this program", &found, report);
+                }
+                None => {
+                    let before = lines.get(..place).unwrap_or(&[]);
+                    session.follow(rt, file, before, entry, report);
+                }
+            }
+            if report.text.mistake.is_some() {
+                return;
+            }
         }
     }
-}
-
-/// Follows an entry, before which these lines stand.
-fn follow_entry<'a, O: Others>(
-    rt: &HostRuntime,
-    others: &O,
-    file: &str,
-    before: &'a [Line<'a>],
-    entry: Entry<'a>,
-    session: &mut Session<'a>,
-    report: &mut Report,
-) {
-    match other_of(entry) {
-        Some(other) => {
-            let found = others.found(rt, other);
-            session.compare(file, entry, "this program", &found, report);
-        }
-        None => session.follow(rt, file, before, entry, report),
-    }
+    session.end(rt, report);
 }
 
 /// The file that an entry runs, where it runs one.
@@ -135,9 +102,21 @@ impl Others for Followed {
     /// What this program prints for a file alone, and its status.
     fn found(&self, rt: &HostRuntime, file: &str) -> Answer {
         let mut report = Report::new(rt.alloc());
+        let mut line = 0;
+        follow_file(rt, &Refused, file, &mut line, &mut report);
         let mut told = Bytes::new(rt.alloc());
-        follow_file(rt, &Refused, file, &mut told, &mut report);
-        let status = report.close();
+        let status = match report.text.mistake {
+            None => {
+                report.close();
+                u8::from(report.differ != 0)
+            }
+            Some(mistake) => {
+                told.show(&file, ":");
+                told.show(&line, ": ");
+                told.show(&mistake.text(), "\n");
+                2
+            }
+        };
         let written = Bytes::of(rt.alloc(), report.text.held);
         Answer {
             written,

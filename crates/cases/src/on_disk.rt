@@ -3,6 +3,7 @@ use case_files::Word;
 use std::io::{self, ErrorKind};
 use std::os::unix::fs::symlink;
 use std::{fs, str};
+use test_disk::Node;
 
 /// Makes a folder anew.
 pub(crate) fn make_folder(rt: &HostRuntime, name: &str) -> io::Result<()> {
@@ -33,10 +34,10 @@ fn link(rt: &HostRuntime, path: &str, bytes: &[u8]) -> io::Result<()> {
     }
 }
 
-/// Removes the file or the folder that stands at a path.
-pub(crate) fn remove(rt: &HostRuntime, path: &str) -> io::Result<()> {
-    match fs::remove_file(rt, path) {
-        Ok(()) => Ok(()),
-        Err(_) => fs::remove_dir_all(rt, path),
+/// Removes what stands at a path.
+pub(crate) fn remove(rt: &HostRuntime, path: &str, node: &Node) -> io::Result<()> {
+    match node {
+        Node::Folder => fs::remove_dir_all(rt, path),
+        Node::File(_) | Node::Other => fs::remove_file(rt, path),
     }
 }

@@ -6,23 +6,16 @@ use case_files::{
 };
 use std::alloc::Global;
 
-/// Where what is put belongs.
-#[derive(Clone, Copy)]
-enum Place<'a> {
-    Nowhere,
-    /// To a bag: then it goes into each folder that begins with that.
-    Bag,
-    /// Into the last folder of the case.
-    Folder(&'a str),
-}
-
 /// What a file has said up to an entry.
 #[derive(Drop)]
-pub(crate) struct Session<'a> {
+pub(crate) struct Session {
     texts: Texts,
     /// What stands in the folders of the case, and beside them.
     world: World,
-    place: Place<'a>,
+    /// The last of these folders, with a `/` behind its name.
+    folder: Bytes,
+    /// Whether what is put belongs to a bag: then it goes into each folder that begins with that.
+    is_bag: bool,
     /// What reads the rows of the case.
     reader: Option<Reader>,
 }
@@ -32,12 +25,13 @@ fn sight_of<'a>(file: &'a str, texts: &'a Texts, entry: Entry<'a>) -> Sight<'a> 
     Sight { file, texts, entry }
 }
 
-impl<'a> Session<'a> {
-    pub(crate) fn new(alloc: Global) -> Session<'a> {
+impl Session {
+    pub(crate) fn new(alloc: Global) -> Session {
         Session {
             texts: Texts::new(alloc),
             world: World::new(alloc),
-            place: Place::Nowhere,
+            folder: Bytes::new(alloc),
+            is_bag: false,
             reader: None,
         }
     }
@@ -56,7 +50,7 @@ impl<'a> Session<'a> {
     }
 
     /// Follows an entry, before which these lines stand.
-    pub(crate) fn follow(
+    pub(crate) fn follow<'a>(
         &mut self,
         rt: &HostRuntime,
         file: &str,
@@ -65,18 +59,21 @@ impl<'a> Session<'a> {
         report: &mut Report,
     ) {
         match entry.line.word {
-            Word::Run => run_entry(rt, file, &self.texts, entry, &mut self.world, report),
+            Word::Run => {
+                let sight = sight_of(file, &self.texts, entry);
+                run(rt, &sight, &mut self.world, report);
+            }
             Word::File | Word::Folder | Word::Link | Word::Opened => self.put(rt, entry, report),
-            Word::Beside => put(rt, &self.texts, "", entry, &mut self.world, report),
+            Word::Beside => put(rt, &self.texts, &[], entry, &mut self.world, report),
             Word::Text => name_text(&mut self.texts, entry, report),
             _ if !entry.below.is_empty() => report.text.fail(Mistake::Unasked),
-            Word::Row => read_row(&self.texts, self.reader, file, entry, report),
+            Word::Row => self.read_row(file, entry, report),
             _ => self.begin(rt, lines, entry.line, report),
         }
     }
 
     /// Begins a case, a bag, a folder or rows.
-    fn begin(
+    fn begin<'a>(
         &mut self,
         rt: &HostRuntime,
         lines: &'a [Line<'a>],
@@ -88,103 +85,105 @@ impl<'a> Session<'a> {
                 report.cases = report.cases.saturating_add(1);
                 self.end(rt, report);
             }
-            Word::Bag => self.place = Place::Bag,
-            Word::In => self.begin_folder(rt, lines, line.rest, report),
-            Word::Read => self.reader = reader_of(rt.alloc(), line.rest, report),
+            Word::Bag => self.is_bag = true,
+            Word::In => {
+                let words = words_of(rt.alloc(), line.rest, &mut report.text);
+                self.begin_folder(rt, lines, &words, report);
+            }
+            Word::Read => {
+                let words = words_of(rt.alloc(), line.rest, &mut report.text);
+                self.read_by(&words, report);
+            }
             _ => report.text.fail(Mistake::Entry),
         }
     }
 
+    /// `read READER`: what reads the rows below.
+    fn read_by(&mut self, words: &[&str], report: &mut Report) {
+        self.reader = Reader::of(words);
+        if self.reader.is_none() {
+            report.text.fail(Mistake::Command);
+        }
+    }
+
     /// `in FOLDER BAG..`: begins a folder, in memory and on the disk, which holds what the named bags do.
-    fn begin_folder(
+    fn begin_folder<'a>(
         &mut self,
         rt: &HostRuntime,
         lines: &'a [Line<'a>],
-        text: &'a str,
+        words: &[&str],
         report: &mut Report,
     ) {
-        let words = words_of(rt.alloc(), text, &mut report.text);
         let Some((name, bags)) = words.split_first() else {
             report.text.fail(Mistake::Command);
             return;
         };
-        self.place = Place::Folder(*name);
+        self.is_bag = false;
+        self.folder = Bytes::new(rt.alloc());
+        self.folder.put(*name);
+        self.folder.put("/");
         self.world.make_folder(rt, *name, report);
         for bag in bags {
-            let world = &mut self.world;
-            put_bag(rt, &self.texts, *name, lines, *bag, world, report);
+            let folder = &self.folder.held;
+            put_bag(
+                rt,
+                &self.texts,
+                folder,
+                lines,
+                *bag,
+                &mut self.world,
+                report,
+            );
         }
     }
 
     /// Ends the case before, and removes its folders and files.
     pub(crate) fn end(&mut self, rt: &HostRuntime, report: &mut Report) {
-        self.place = Place::Nowhere;
+        self.is_bag = false;
         self.reader = None;
+        self.folder.held.clear();
         self.world.remove(rt, report);
     }
 
     /// Puts something into the last folder; of a bag it is only seen whether it can be read.
     fn put(&mut self, rt: &HostRuntime, entry: Entry<'_>, report: &mut Report) {
-        match self.place {
-            Place::Nowhere => report.text.fail(Mistake::Place),
-            Place::Bag => {
-                let _ = spelled(&self.texts, "", entry, report);
-            }
-            Place::Folder(folder) => {
-                put(rt, &self.texts, folder, entry, &mut self.world, report);
-            }
+        if self.is_bag {
+            let _ = spelled(&self.texts, &[], entry, report);
+        } else if self.folder.held.is_empty() {
+            report.text.fail(Mistake::Place);
+        } else {
+            let folder = &self.folder.held;
+            put(rt, &self.texts, folder, entry, &mut self.world, report);
         }
     }
-}
 
-/// Runs the command of an entry.
-fn run_entry(
-    rt: &HostRuntime,
-    file: &str,
-    texts: &Texts,
-    entry: Entry<'_>,
-    world: &mut World,
-    report: &mut Report,
-) {
-    run(rt, &sight_of(file, texts, entry), world, report);
-}
-
-/// `read READER`: what reads the rows below.
-fn reader_of(alloc: Global, text: &str, report: &mut Report) -> Option<Reader> {
-    let words = words_of(alloc, text, &mut report.text);
-    let reader = Reader::of(&words);
-    if reader.is_none() {
-        report.text.fail(Mistake::Command);
-    }
-    reader
-}
-
-/// Reads a row, as `LEFT => RIGHT`, and compares what is read.
-fn read_row(
-    texts: &Texts,
-    reader: Option<Reader>,
-    file: &str,
-    entry: Entry<'_>,
-    report: &mut Report,
-) {
-    match (reader, entry.line.rest.split_once("=>")) {
-        (Some(reader), Some((left, right))) => {
-            let sight = sight_of(file, texts, entry);
-            read(reader, left, right, &sight, report);
+    /// Reads a row, as `LEFT => RIGHT`, and compares what is read.
+    fn read_row(&self, file: &str, entry: Entry<'_>, report: &mut Report) {
+        match (self.reader, entry.line.rest.split_once("=>")) {
+            (Some(reader), Some((left, right))) => {
+                let sight = sight_of(file, &self.texts, entry);
+                read(
+                    reader,
+                    left.trim_matches(' '),
+                    right.trim_matches(' '),
+                    &sight,
+                    report,
+                );
+            }
+            _ => report.text.fail(Mistake::Row),
         }
-        _ => report.text.fail(Mistake::Row),
     }
 }
 
 /// Compares what is read of what one text spells with what another one does.
 fn read(reader: Reader, left: &str, right: &str, sight: &Sight<'_>, report: &mut Report) {
     let texts = sight.texts;
-    let bytes = texts.bytes(left.trim_matches(' '));
+    let bytes = texts.bytes(left);
     report.note(&bytes);
     let mut found = Bytes::new(texts.alloc);
     reader.read(texts.alloc, &bytes.held, &mut found);
     let found = Answer::of(texts.alloc, found, 0);
-    let wanted = Answer::of(texts.alloc, texts.bytes(right.trim_matches(' ')), 0);
+    let wanted = Answer::of(texts.alloc, texts.bytes(right), 0);
     report.compare(sight, "read", &wanted, &found);
 }
 
@@ -210,13 +209,11 @@ fn value_of(texts: &Texts, value: Option<&str>, below: &[Line<'_>]) -> Bytes {
     }
 }
 
-/// The path at which an entry puts something, below a folder unless its name is empty, and what that holds.
-fn spelled(texts: &Texts, folder: &str, entry: Entry<'_>, report: &mut Report) -> (Bytes, Bytes) {
+/// The path at which an entry puts something, below a folder, and what that holds.
+fn spelled(texts: &Texts, folder: &[u8], entry: Entry<'_>, report: &mut Report) -> (Bytes, Bytes) {
     let (name, value) = name_and_value(entry.line.rest);
     let mut path = Bytes::new(texts.alloc);
-    if !folder.is_empty() {
-        path.show(&folder, "/");
-    }
+    path.put_bytes(folder);
     texts.add_text(name, &mut path);
     report.note(&path);
     let bytes = value_of(texts, value, entry.below);
@@ -228,7 +225,7 @@ fn spelled(texts: &Texts, folder: &str, entry: Entry<'_>, report: &mut Report) -
 fn put(
     rt: &HostRuntime,
     texts: &Texts,
-    folder: &str,
+    folder: &[u8],
     entry: Entry<'_>,
     world: &mut World,
     report: &mut Report,
@@ -243,7 +240,7 @@ fn put(
 fn put_bag<'a>(
     rt: &HostRuntime,
     texts: &Texts,
-    folder: &str,
+    folder: &[u8],
     lines: &'a [Line<'a>],
     name: &str,
     world: &mut World,

@@ -1,40 +1,32 @@
 //! The faults of one stage.
-use crate::running::Command;
 use crate::world::World;
 use bag_facts::{Depth, Facts, Options};
 use bag_profile::Profile;
 use bag_report::stage_faults;
 use bag_store::MemoryTree;
-use case_files::{Answer, Bytes, Mistake, Report};
+use case_files::{Answer, Bytes, Mistake, Report, Sight};
 
-/// What is asked for, by its name.
-const DEPTHS: &[(&str, Depth, bool)] = &[
-    ("declaration", Depth::Declaration, false),
-    ("fast", Depth::Fast, false),
-    ("complete", Depth::Complete, false),
-    ("full", Depth::Full, false),
-    ("declaration+clashes", Depth::Declaration, true),
-    ("fast+clashes", Depth::Fast, true),
-    ("complete+clashes", Depth::Complete, true),
-    ("full+clashes", Depth::Full, true),
+/// The depths by their names.
+const DEPTHS: &[(&str, Depth)] = &[
+    ("declaration", Depth::Declaration),
+    ("fast", Depth::Fast),
+    ("complete", Depth::Complete),
+    ("full", Depth::Full),
 ];
 
+/// What a word asks for, as `complete` or `complete+clashes`.
 fn options_of(word: &str) -> Option<Options> {
-    for (known, depth, clashes) in DEPTHS {
-        if *known == word {
-            let (depth, clashes) = (*depth, *clashes);
+    let (name, clashes) = match word.strip_suffix("+clashes") {
+        Some(name) => (name, true),
+        None => (word, false),
+    };
+    for (known, depth) in DEPTHS {
+        if *known == name {
+            let depth = *depth;
             return Some(Options { depth, clashes });
         }
     }
     None
-}
-
-/// The stage that is asked for, the depths, and the folder.
-#[derive(Clone, Copy)]
-struct Asked<'a> {
-    stage: u8,
-    depths: &'a str,
-    folder: &'a str,
 }
 
 /// Adds the lines of the faults of a stage of a tree, beside a profile where there is one.
@@ -46,77 +38,67 @@ fn put_stage(
     out: &mut Bytes,
 ) {
     let alloc = out.alloc;
-    match &Facts::read(alloc, tree, options) {
-        Ok(facts) => out.take(stage_faults(alloc, facts, profile, stage)),
+    match Facts::read(alloc, tree, options) {
+        Ok(facts) => out.take(stage_faults(alloc, &facts, profile, stage)),
         Err(_) => out.fail(Mistake::Memory),
     }
 }
 
 /// Compares the faults of a stage at each depth.
 fn see_depths(
-    command: &Command<'_>,
+    sight: &Sight<'_>,
     tree: &mut MemoryTree,
     profile: Option<&Profile>,
-    asked: Asked<'_>,
+    (number, depths): (&str, &str),
     report: &mut Report,
 ) {
-    for depth in asked.depths.split(',') {
-        let mut found = Bytes::new(command.sight.texts.alloc);
-        match options_of(depth) {
-            Some(options) => put_stage(tree, options, profile, asked.stage, &mut found),
-            None => found.fail(Mistake::Command),
+    let alloc = sight.texts.alloc;
+    for depth in depths.split(',') {
+        let mut found = Bytes::new(alloc);
+        match (options_of(depth), number.parse::<u8>()) {
+            (Some(options), Ok(stage)) => put_stage(tree, options, profile, stage, &mut found),
+            _ => found.fail(Mistake::Command),
         }
-        let found = Answer::of(command.sight.texts.alloc, found, 0);
-        report.see(command.sight, depth, &found);
+        let found = Answer::of(alloc, found, 0);
+        report.see(sight, depth, &found);
     }
 }
 
-fn see_tree(
-    command: &Command<'_>,
+/// The same, for a folder that can be a tree.
+fn see_folder(
+    sight: &Sight<'_>,
+    name: &str,
     profile: Option<&Profile>,
-    asked: Asked<'_>,
+    asked: (&str, &str),
     world: &World,
     report: &mut Report,
 ) {
-    let mut tree = world.tree(asked.folder, &mut report.text);
-    see_depths(command, &mut tree, profile, asked, report);
-}
-
-/// The same, by the profile in a file.
-fn see_by_profile(
-    command: &Command<'_>,
-    file: &str,
-    asked: Asked<'_>,
-    world: &World,
-    report: &mut Report,
-) {
-    let bytes = world.file(file).unwrap_or(b"");
-    match &Profile::read(command.sight.texts.alloc, bytes) {
-        Ok(profile) => see_tree(command, Some(profile), asked, world, report),
-        Err(_) => report.text.fail(Mistake::Name),
+    if !world.has_tree(name) {
+        report.text.fail(Mistake::Name);
+        return;
+    }
+    match world.tree(name) {
+        Ok(mut tree) => see_depths(sight, &mut tree, profile, asked, report),
+        Err(_) => report.text.fail(Mistake::Memory),
     }
 }
 
 /// `stage NUMBER DEPTH,.. FOLDER [PROFILE]`: the lines of the faults of one stage, the same at each depth.
-pub(crate) fn see_stage(command: &Command<'_>, world: &World, report: &mut Report) {
-    let [number, depths, folder, files @ ..] = command.words else {
-        report.text.fail(Mistake::Command);
-        return;
-    };
-    let stage = number.parse::<u8>();
-    if stage.is_err() | (files.len() > 1) {
-        report.text.fail(Mistake::Command);
-    }
-    if !world.has_tree(*folder) {
-        report.text.fail(Mistake::Name);
-    }
-    let asked = Asked {
-        stage: stage.unwrap_or(0),
-        depths: *depths,
-        folder: *folder,
-    };
-    match files.first() {
-        Some(file) => see_by_profile(command, *file, asked, world, report),
-        None => see_tree(command, None, asked, world, report),
+pub(crate) fn see_stage(sight: &Sight<'_>, words: &[&str], world: &World, report: &mut Report) {
+    match words {
+        [number, depths, name] => {
+            see_folder(sight, *name, None, (*number, *depths), world, report);
+        }
+        [number, depths, name, file] => match world.file(*file) {
+            Some(bytes) => match Profile::read(sight.texts.alloc, bytes) {
+                Ok(profile) => {
+                    let asked = (*number, *depths);
+                    see_folder(sight, *name, Some(&profile), asked, world, report);
+                }
+                Err(_) => report.text.fail(Mistake::Name),
+            },
+            None => report.text.fail(Mistake::Name),
+        },
+        _ => report.text.fail(Mistake::Command),
     }
 }

@@ -3,19 +3,16 @@ ghost use Rattle.std.specs.Prelude.{None};
 ghost use Rattle.bag_store.specs.Tree.{Keeps};
 ghost use Rattle.cases.specs.Checked.{IsChecked};
 
-use crate::answers::put_listing;
-use crate::running::Command;
-use crate::turns::{Turns, see_turns};
 use crate::world::World;
 use bag_cli::{Action, Plan, Usage, make_and_tell, plan_of};
 use bag_store::{FailTree, MemoryTree, Tree, WriteTree, WriterOut};
 use bag_text::Text;
 use bag_walk::{Request, run, status};
-use case_files::{Answer, Bytes, Mistake, Report};
+use case_files::{Answer, Bytes, Mistake, Report, Sight};
 use std::alloc::{AllocError, Global};
 
 /// Whether what a plan asks for can be done over trees: folders that can be trees are checked without a profile, or made bags.
-fn are_trees(plan: &Plan, world: &World) -> bool {
+pub(crate) fn are_trees(plan: &Plan, world: &World) -> bool {
     for directory in plan.directories.as_slice() {
         if !world.has_tree(directory.as_str()) {
             return false;
@@ -92,7 +89,7 @@ fn done<T: WriteTree + Drop>(
 
 /// Does with a folder what a plan says, over a tree of which the call of a number is refused, or none for 0. Gives the tree after that,
 /// and adds what is written, and the exit status.
-fn do_over_tree(
+pub(crate) fn do_over_tree(
     alloc: Global,
     plan: &Plan,
     world: &World,
@@ -100,63 +97,33 @@ fn do_over_tree(
     call: u64,
     answer: &mut Answer,
 ) -> Result<MemoryTree, AllocError> {
-    let tree = FailTree::new(world.tree(name, &mut answer.written), call);
+    let tree = FailTree::new(world.tree(name)?, call);
     let (tree, written, status) = done(alloc, plan, name, tree)?;
     answer.written.put_bytes(&written);
     answer.status = answer.status.max(status);
     Ok(tree.into_inner())
 }
 
-/// Does what the words of a command ask for over trees in memory, where they can be trees: with each call refused in turn, or with
-/// none, and then what a making leaves is kept.
+/// Does with each folder what the words say, as a tree in memory, where they can be one, and keeps what a making leaves.
 pub(crate) fn see_in_trees(
-    command: &Command<'_>,
-    in_turn: bool,
+    sight: &Sight<'_>,
+    words: &[&str],
     world: &mut World,
     report: &mut Report,
 ) {
-    match &plan_of(command.sight.texts.alloc, command.words) {
-        Ok(plan) => see_plan(command, in_turn, plan, world, report),
-        Err(usage) => refuse(in_turn, usage, report),
-    }
-}
-
-/// Words that ask for nothing are only looked at where no call is refused.
-fn refuse(in_turn: bool, usage: &Usage, report: &mut Report) {
-    if in_turn | matches!(usage, Usage::Memory) {
-        report.text.fail(Mistake::Command);
-    }
-}
-
-fn see_plan(
-    command: &Command<'_>,
-    in_turn: bool,
-    plan: &Plan,
-    world: &mut World,
-    report: &mut Report,
-) {
-    if in_turn {
-        see_in_turn(command, plan, world, report);
-    } else {
-        see_once(command, plan, world, report);
-    }
-}
-
-fn see_in_turn(command: &Command<'_>, plan: &Plan, world: &World, report: &mut Report) {
-    if are_trees(plan, world) {
-        let alloc = command.sight.texts.alloc;
-        see_turns(command.sight, &RefusedTrees { alloc, plan, world }, report);
-    } else {
-        report.text.fail(Mistake::Command);
+    match plan_of(sight.texts.alloc, words) {
+        Ok(plan) => see_plan(sight, &plan, world, report),
+        Err(Usage::Memory) => report.text.fail(Mistake::Memory),
+        Err(_) => {}
     }
 }
 
 /// Does what a plan says, where that can be done over trees.
-fn see_once(command: &Command<'_>, plan: &Plan, world: &mut World, report: &mut Report) {
+fn see_plan(sight: &Sight<'_>, plan: &Plan, world: &mut World, report: &mut Report) {
     if !are_trees(plan, world) {
         return;
     }
-    let alloc = command.sight.texts.alloc;
+    let alloc = sight.texts.alloc;
     let mut found = Answer::of(alloc, Bytes::new(alloc), 0);
     for directory in plan.directories.as_slice() {
         let name = directory.as_str();
@@ -165,33 +132,5 @@ fn see_once(command: &Command<'_>, plan: &Plan, world: &mut World, report: &mut 
             Err(_) => report.text.fail(Mistake::Memory),
         }
     }
-    report.see(command.sight, "in a tree in memory", &found);
-}
-
-/// A plan over trees of which each call is refused in turn.
-#[derive(Drop)]
-struct RefusedTrees<'a> {
-    alloc: Global,
-    plan: &'a Plan,
-    world: &'a World,
-}
-
-impl Turns for RefusedTrees<'_> {
-    /// Behind what is written stand the files that a making leaves, each with its size.
-    fn answer_at(&self, call: u64) -> Answer {
-        let alloc = self.alloc;
-        let mut answer = Answer::of(alloc, Bytes::new(alloc), 0);
-        for directory in self.plan.directories.as_slice() {
-            let name = directory.as_str();
-            match do_over_tree(alloc, self.plan, self.world, name, call, &mut answer) {
-                Ok(mut tree) => {
-                    if matches!(self.plan.action, Action::Make) {
-                        put_listing(&mut tree, true, &mut answer.written);
-                    }
-                }
-                Err(_) => answer.written.fail(Mistake::Memory),
-            }
-        }
-        answer
-    }
+    report.see(sight, "in a tree in memory", &found);
 }

@@ -1,56 +1,93 @@
 //! Calls that are refused in turn: the first, the second, and so on, up to the first run of which none is.
-use crate::answers::answer_to;
-use crate::running::Command;
+use crate::answers::{answer_to, put_listing};
 use crate::shelf::Refusing;
+use crate::trees::{are_trees, do_over_tree};
 use crate::world::World;
+use bag_cli::{Action, Plan, plan_of};
 use bag_disk::DiskFault;
-use case_files::{Answer, Bytes, Entry, Part, Report, Sight};
+use case_files::{Answer, Bytes, Entry, Mistake, Part, Report, Sight};
 use std::alloc::Global;
 use std::str;
 
 /// A number of calls that no command makes.
 const MANY: u64 = 2000;
 
-/// A command of which each call is refused in turn.
-pub(crate) trait Turns {
-    /// What is answered where the call of a number is refused, from 1.
-    fn answer_at(&self, call: u64) -> Answer;
-}
-
-/// The program over disks in memory of which each call is refused in turn, by a fault.
-#[derive(Drop)]
-struct RefusedDisks<'a> {
+/// A command of which each call is refused in turn: those of a disk by a fault, or else those of a tree.
+#[derive(Clone, Copy)]
+struct Turns<'a> {
     alloc: Global,
-    fault: DiskFault,
+    fault: Option<DiskFault>,
     words: &'a [&'a str],
+    plan: &'a Plan,
     world: &'a World,
 }
 
-impl Turns for RefusedDisks<'_> {
+impl Turns<'_> {
+    /// What is answered where the call of a number is refused, from 1.
     fn answer_at(&self, call: u64) -> Answer {
-        let refusing = Refusing {
-            disks: self.world,
-            call: call.saturating_sub(1),
-            fault: self.fault,
-        };
-        answer_to(self.alloc, &refusing, self.words, usize::MAX)
+        match self.fault {
+            None => self.over_tree(call),
+            Some(fault) => {
+                let (disks, call) = (self.world, call.saturating_sub(1));
+                let refusing = Refusing { disks, call, fault };
+                answer_to(self.alloc, &refusing, self.words, usize::MAX)
+            }
+        }
+    }
+
+    /// What is answered over a tree; behind it the files that a making leaves, each with its size.
+    fn over_tree(&self, call: u64) -> Answer {
+        let mut answer = Answer::of(self.alloc, Bytes::new(self.alloc), 0);
+        for directory in self.plan.directories.as_slice() {
+            let name = directory.as_str();
+            match do_over_tree(self.alloc, self.plan, self.world, name, call, &mut answer) {
+                Ok(mut tree) => {
+                    if matches!(self.plan.action, Action::Make) {
+                        put_listing(&mut tree, true, &mut answer.written);
+                    }
+                }
+                Err(_) => answer.written.fail(Mistake::Memory),
+            }
+        }
+        answer
     }
 }
 
-/// Compares what the program answers over disks in memory where each call is refused in turn.
-pub(crate) fn see_on_disk(
-    command: &Command<'_>,
-    fault: DiskFault,
+/// Compares the answers that come with those that are wanted: each of them has to come, one after another, each for one call or
+/// more, and the last where no call is refused.
+pub(crate) fn see_in_turn(
+    sight: &Sight<'_>,
+    fault: Option<DiskFault>,
+    words: &[&str],
     world: &World,
     report: &mut Report,
 ) {
-    let turns = RefusedDisks {
-        alloc: command.sight.texts.alloc,
+    match plan_of(sight.texts.alloc, words) {
+        Ok(plan) => see_plan(sight, fault, words, &plan, world, report),
+        Err(_) => report.text.fail(Mistake::Command),
+    }
+}
+
+fn see_plan(
+    sight: &Sight<'_>,
+    fault: Option<DiskFault>,
+    words: &[&str],
+    plan: &Plan,
+    world: &World,
+    report: &mut Report,
+) {
+    if fault.is_none() && !are_trees(plan, world) {
+        report.text.fail(Mistake::Command);
+        return;
+    }
+    let turns = Turns {
+        alloc: sight.texts.alloc,
         fault,
-        words: command.words,
+        words: &*words,
+        plan,
         world,
     };
-    see_turns(command.sight, &turns, report);
+    see_turns(sight, &turns, report);
 }
 
 /// What a part of the lines below an entry wants: all but the last have the status 3, where it isn't given, and the last has 0.
@@ -66,9 +103,7 @@ fn is_wanted(sight: &Sight<'_>, part: Option<Part<'_>>, found: &Answer) -> bool 
     }
 }
 
-/// Compares the answers that come with those that are wanted: each of them has to come, one after another, each for one call or
-/// more, and the last where no call is refused.
-pub(crate) fn see_turns<T: Turns>(sight: &Sight<'_>, turns: &T, report: &mut Report) {
+fn see_turns(sight: &Sight<'_>, turns: &Turns<'_>, report: &mut Report) {
     let mut next = Part::of(sight.entry.below);
     let mut last = None;
     for call in 1..MANY {

@@ -1,23 +1,19 @@
 //! What stands in the folder in which a case runs, in memory and on the disk.
 use crate::on_disk;
+use bag_disk::path_in;
 use bag_store::{Listing, MemoryTree, Tree, read_whole};
 use bag_text::check_path;
-use case_files::{Bytes, Mistake, Report, Word};
+use case_files::{Mistake, Report, Word};
 use std::alloc::{AllocError, Global};
 use std::collections::BTreeMap;
 use std::{io, str};
 use test_disk::{MemoryDisk, Node};
 
-/// What stands in a folder, by its paths there.
-type Nodes = BTreeMap<Vec<u8>, Node>;
-
-/// What stands in the folder in which a case runs.
+/// What stands in the folder in which a case runs, by its paths.
 #[derive(Drop)]
 pub(crate) struct World {
     alloc: Global,
-    folders: BTreeMap<String, Nodes>,
-    /// The files beside the folders.
-    beside: BTreeMap<String, Vec<u8>>,
+    pub(crate) nodes: BTreeMap<String, Node>,
     /// The path of a file, and what it holds when it is opened, in place of what is listed.
     pub(crate) opened: Option<(String, Vec<u8>)>,
     /// Whether each of the folders can be a tree: it has no link, no path that isn't one in a bag, and an empty folder only right in it.
@@ -34,25 +30,6 @@ pub(crate) fn below<'a>(path: &'a str, folder: &str) -> Option<&'a str> {
     }
 }
 
-/// The name of a folder, and a path in it.
-fn parted(path: &str) -> (&str, &str) {
-    path.split_once('/').unwrap_or((path, ""))
-}
-
-/// Whether a folder can stand in a tree though no file stands in it.
-fn stands_in_trees(path: &str) -> bool {
-    let (_, name) = parted(path);
-    (name == "data") | (name == ".bagit-new")
-}
-
-/// The bytes of the file at a path in a folder.
-fn file_in<'a>(nodes: &'a Nodes, path: &str) -> Option<&'a [u8]> {
-    match nodes.get(path.as_bytes()) {
-        Some(Node::File(bytes)) => Some(bytes.as_slice()),
-        _ => None,
-    }
-}
-
 /// Notes the mistake of an answer of the system, where it is one.
 fn note(answer: &io::Result<()>, report: &mut Report) {
     if let Err(error) = answer {
@@ -65,8 +42,7 @@ impl World {
     pub(crate) fn new(alloc: Global) -> World {
         World {
             alloc,
-            folders: BTreeMap::new(alloc),
-            beside: BTreeMap::new(alloc),
+            nodes: BTreeMap::new(alloc),
             opened: None,
             has_trees: true,
             disks: BTreeMap::new(alloc),
@@ -76,10 +52,7 @@ impl World {
     /// Makes a folder anew.
     pub(crate) fn make_folder(&mut self, rt: &HostRuntime, name: &str, report: &mut Report) {
         note(&on_disk::make_folder(rt, name), report);
-        let nodes = BTreeMap::new(self.alloc);
-        report
-            .text
-            .keep(insert(self.alloc, &mut self.folders, name, nodes));
+        self.hold(name, Node::Folder, report);
     }
 
     /// Puts something at a path, in memory and on the disk, with the folders that the path leads through.
@@ -102,7 +75,7 @@ impl World {
 
     fn put_in_memory(&mut self, word: Word, path: &str, bytes: Vec<u8>, report: &mut Report) {
         match word {
-            Word::File => {
+            Word::File | Word::Beside => {
                 self.has_trees &= check_path(path).is_ok();
                 self.hold(path, Node::File(bytes), report);
             }
@@ -110,18 +83,12 @@ impl World {
                 self.has_trees &= stands_in_trees(path);
                 self.hold(path, Node::Folder, report);
             }
-            Word::Beside => self.hold_beside(path, bytes, report),
             Word::Opened => self.open_as(path, bytes, report),
             _ => {
                 self.has_trees = false;
                 self.hold(path, Node::Other, report);
             }
         }
-    }
-
-    fn hold_beside(&mut self, path: &str, bytes: Vec<u8>, report: &mut Report) {
-        let held = insert(self.alloc, &mut self.beside, path, bytes);
-        report.text.keep(held);
     }
 
     /// Has a file hold something else when it is opened. In a case one file can.
@@ -135,145 +102,159 @@ impl World {
 
     /// Has something stand at a path, and folders on its way.
     fn hold(&mut self, path: &str, node: Node, report: &mut Report) {
-        let (folder, rest) = parted(path);
-        match self.folders.get_mut(folder) {
-            Some(nodes) => report.text.keep(hold_at(self.alloc, nodes, rest, node)),
-            None => report.text.fail(Mistake::Place),
+        let alloc = self.alloc;
+        if hold_parents(alloc, &mut self.nodes, path).is_err()
+            || hold_node(alloc, &mut self.nodes, path, node).is_err()
+        {
+            report.text.fail(Mistake::Memory);
         }
     }
 
     /// Makes the disks of the folders.
-    pub(crate) fn make_disks(&mut self, report: &mut Report) {
+    pub(crate) fn make_disks(&mut self) -> Result<(), AllocError> {
         self.disks.clear();
-        for (name, nodes) in self.folders.iter() {
-            report.text.keep(put_disk(self.alloc, name.as_str(), nodes, &mut self.disks));
+        for (path, node) in self.nodes.iter() {
+            if matches!(node, Node::Folder) && !path.contains('/') {
+                put_disk(self.alloc, &self.nodes, path.as_str(), &mut self.disks)?;
+            }
         }
+        Ok(())
     }
 
     /// The bytes of the file at a path.
     pub(crate) fn file(&self, path: &str) -> Option<&[u8]> {
-        let (folder, rest) = parted(path);
-        match self.folders.get(folder) {
-            Some(nodes) => file_in(nodes, rest),
-            None => match self.beside.get(path) {
-                Some(bytes) => Some(bytes.as_slice()),
-                None => None,
-            },
+        match self.nodes.get(path) {
+            Some(Node::File(bytes)) => Some(bytes.as_slice()),
+            _ => None,
         }
     }
 
     /// Whether a folder can be a tree.
     pub(crate) fn has_tree(&self, name: &str) -> bool {
-        self.has_trees && self.opened.is_none() && self.folders.contains_key(name)
+        self.has_trees && self.opened.is_none() && self.nodes.contains_key(name)
     }
 
     /// The tree that holds what a folder does.
-    pub(crate) fn tree(&self, name: &str, mistakes: &mut Bytes) -> MemoryTree {
+    pub(crate) fn tree(&self, name: &str) -> Result<MemoryTree, AllocError> {
         let mut tree = MemoryTree::new(self.alloc);
-        if let Some(nodes) = self.folders.get(name) {
-            fill(&mut tree, nodes, mistakes);
+        for (path, node) in self.nodes.iter() {
+            if let Some(path) = below(path.as_str(), name) {
+                put_in_tree(&mut tree, path, node)?;
+            }
         }
-        tree
+        Ok(tree)
     }
 
     /// Has a folder hold what a tree does.
     pub(crate) fn keep(&mut self, name: &str, tree: &mut MemoryTree, report: &mut Report) {
-        match (self.folders.get_mut(name), tree.list()) {
-            (Some(nodes), Ok(listing)) => {
-                nodes.clear();
-                hold_files(self.alloc, nodes, tree, &listing, &mut report.text);
+        self.nodes
+            .retain(|path, _| below(path.as_str(), name).is_none());
+        match tree.list() {
+            Ok(listing) => self.hold_files(name, tree, &listing, report),
+            Err(_) => report.text.fail(Mistake::Memory),
+        }
+    }
+
+    fn hold_files(
+        &mut self,
+        name: &str,
+        tree: &mut MemoryTree,
+        listing: &Listing,
+        report: &mut Report,
+    ) {
+        if listing.has_data {
+            self.hold_below(name, "data", Node::Folder, report);
+        }
+        for entry in listing.files.as_slice() {
+            match read_whole(self.alloc, tree, entry) {
+                Ok(bytes) => {
+                    self.hold_below(name, entry.path.as_str(), Node::File(bytes), report);
+                }
+                Err(_) => report.text.fail(Mistake::Memory),
             }
-            _ => report.text.fail(Mistake::Memory),
+        }
+    }
+
+    fn hold_below(&mut self, name: &str, path: &str, node: Node, report: &mut Report) {
+        match path_in(self.alloc, name, path) {
+            Ok(path) => self.hold(path.as_str(), node, report),
+            Err(_) => report.text.fail(Mistake::Memory),
         }
     }
 
     /// Removes all that stands there.
     pub(crate) fn remove(&mut self, rt: &HostRuntime, report: &mut Report) {
-        remove_each(rt, &self.folders, report);
-        remove_each(rt, &self.beside, report);
-        *self = World::new(self.alloc);
+        for (path, node) in self.nodes.iter() {
+            if !path.contains('/') {
+                note(&on_disk::remove(rt, path.as_str(), node), report);
+            }
+        }
+        self.nodes.clear();
+        self.opened = None;
+        self.has_trees = true;
     }
 }
 
-/// Puts something among what has names.
-fn insert<T: Drop>(
+/// What stands below a folder.
+fn nodes_below(
     alloc: Global,
-    named: &mut BTreeMap<String, T>,
-    name: &str,
-    value: T,
-) -> Result<(), AllocError> {
-    let _ = named.insert(String::from_str(alloc, name)?, value)?;
-    Ok(())
-}
-
-/// Removes from the disk what has these names.
-fn remove_each<T>(rt: &HostRuntime, named: &BTreeMap<String, T>, report: &mut Report) {
-    for name in named.keys() {
-        note(&on_disk::remove(rt, name.as_str()), report);
+    nodes: &BTreeMap<String, Node>,
+    folder: &str,
+) -> Result<BTreeMap<Vec<u8>, Node>, AllocError> {
+    let mut held = BTreeMap::new(alloc);
+    for (path, node) in nodes.iter() {
+        if let Some(path) = below(path.as_str(), folder) {
+            let _ = held.insert(path.as_bytes().to_vec(alloc)?, node.clone()?)?;
+        }
     }
+    Ok(held)
 }
 
 /// Puts the disk of a folder among disks, where what the folder holds can stand on one.
 fn put_disk(
     alloc: Global,
-    name: &str,
-    nodes: &Nodes,
+    nodes: &BTreeMap<String, Node>,
+    folder: &str,
     disks: &mut BTreeMap<String, MemoryDisk>,
 ) -> Result<(), AllocError> {
-    match MemoryDisk::holding(alloc, nodes.clone()?) {
-        Some(disk) => insert(alloc, disks, name, disk),
-        None => Ok(()),
+    let name = String::from_str(alloc, folder)?;
+    if let Some(disk) = MemoryDisk::holding(alloc, nodes_below(alloc, nodes, folder)?) {
+        let _ = disks.insert(name, disk)?;
+    }
+    Ok(())
+}
+
+/// Whether a folder can stand in a tree though no file stands in it.
+fn stands_in_trees(path: &str) -> bool {
+    match path.split_once('/') {
+        Some((_, name)) => name == "data" || name == ".bagit-new",
+        None => false,
     }
 }
 
-/// Has something stand at a path, and folders on its way.
-fn hold_at(alloc: Global, nodes: &mut Nodes, path: &str, node: Node) -> Result<(), AllocError> {
-    hold_parents(alloc, nodes, path)?;
-    hold_node(alloc, nodes, path, node)
-}
-
-fn hold_node(alloc: Global, nodes: &mut Nodes, path: &str, node: Node) -> Result<(), AllocError> {
-    let _ = nodes.insert(path.as_bytes().to_vec(alloc)?, node)?;
+/// Has something stand at a path.
+fn hold_node(
+    alloc: Global,
+    nodes: &mut BTreeMap<String, Node>,
+    path: &str,
+    node: Node,
+) -> Result<(), AllocError> {
+    let _ = nodes.insert(String::from_str(alloc, path)?, node)?;
     Ok(())
 }
 
 /// Has folders stand on the way of a path.
-fn hold_parents(alloc: Global, nodes: &mut Nodes, path: &str) -> Result<(), AllocError> {
+fn hold_parents(
+    alloc: Global,
+    nodes: &mut BTreeMap<String, Node>,
+    path: &str,
+) -> Result<(), AllocError> {
     for (at, byte) in path.as_bytes().iter().enumerate() {
         if *byte == b'/' {
             hold_node(alloc, nodes, path.get(..at).unwrap_or(""), Node::Folder)?;
         }
     }
     Ok(())
-}
-
-/// Has a folder hold the files of a tree.
-fn hold_files(
-    alloc: Global,
-    nodes: &mut Nodes,
-    tree: &mut MemoryTree,
-    listing: &Listing,
-    mistakes: &mut Bytes,
-) {
-    if listing.has_data {
-        mistakes.keep(hold_node(alloc, nodes, "data", Node::Folder));
-    }
-    for entry in listing.files.as_slice() {
-        match read_whole(alloc, tree, entry) {
-            Ok(bytes) => {
-                mistakes.keep(hold_at(alloc, nodes, entry.path.as_str(), Node::File(bytes)));
-            }
-            Err(_) => mistakes.fail(Mistake::Memory),
-        }
-    }
-}
-
-/// Puts what stands in a folder into a tree.
-fn fill(tree: &mut MemoryTree, nodes: &Nodes, mistakes: &mut Bytes) {
-    for (path, node) in nodes.iter() {
-        let path = str::from_utf8(path).unwrap_or("");
-        mistakes.keep(put_in_tree(tree, path, node));
-    }
 }
 
 /// Puts what stands at a path into a tree.
