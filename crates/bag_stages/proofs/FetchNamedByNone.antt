@@ -1,5 +1,5 @@
 -- The files to fetch that no payload manifest names.
-use Rattle.std.proofs.Common.{◌≡◌, ◌∷◌, ℕ, List, [], None, refl, sym, ap, subst, Contains}
+use Rattle.std.proofs.Common.{◌≡◌, ◌∷◌, ℕ, List, [], None, refl, ap, subst, Contains}
 use Rattle.bag_text.specs.Order.{IsListOf}
 use Rattle.bag_text.proofs.ListOf.{contains_first, contains_nothing, nothing_listed, one_listed, same_members}
 use Rattle.bag_text.specs.declared.alg.Alg.{Alg}

@@ -1,5 +1,5 @@
 -- Whether payload manifests name a path, one after another.
-use Rattle.std.proofs.Common.{◌≡◌, ◌<◌, ◌≤◌, ◌+◌, ℕ, inl, inr, length, take, get_or, sym, subst, Contains}
+use Rattle.std.proofs.Common.{◌<◌, ◌≤◌, ◌+◌, ℕ, inl, inr, length, take, get_or, sym, subst, Contains}
 use Rattle.std.proofs.lemmas.List.{get_or_default}
 use Rattle.bag_text.specs.Alg.{algs}
 use Rattle.bag_text.specs.declared.alg.Alg.{Alg}

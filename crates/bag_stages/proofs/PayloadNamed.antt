@@ -1,11 +1,19 @@
 -- Manifests that name the payload's files and no other.
-use Rattle.std.proofs.Common.{◌≡◌, ◌<◌, ◌+◌, inl, inr, ℕ, List, [], ◌∷◌, ◌++◌, true, false, length, take, get_or, Some, refl, sym, ap, ◌∙◌, subst, append_assoc}
+use Rattle.std.proofs.Common.{◌≡◌, ◌≢◌, ◌↔◌, if◌then◌else◌, Bool, ◌<◌, ◌≤◌, ◌+◌, inl, inr, ℕ, List, [], ◌∷◌, ◌++◌, true, false, cond, Contains, length, take, drop, get_or, Some, None, refl, sym, ap, ◌∙◌, subst, append_assoc, append-nil, take-append-drop, take_all, IsTrue, ◌==◌, arith}
+use Rattle.std.proofs.lemmas.Bool.Decides.{nat_tests}
+use Rattle.std.proofs.lemmas.List.{append_cancel_left, map-append}
+use Rattle.std.proofs.lemmas.List.Elements.{filter-append}
+use Rattle.std.proofs.lemmas.List.Kept.{IsStrictlySortedBy-filter}
+use Rattle.std.specs.Cmp.Lexicographic.{nat_list_cmp_total}
+use Rattle.bag_text.specs.Text.{text_cmp}
 use Rattle.bag_text.specs.Path.{is_payload_path}
 use Rattle.bag_text.specs.declared.alg.Alg.{Alg}
 use Rattle.bag_text.specs.declared.code.Code.TheVariants.{PayloadFileMissing, PayloadFileNotListed}
-use Rattle.bag_text.proofs.ListOf.{contains_back, contains_cases, contains_either, contains_front, contains_nothing}
-use Rattle.bag_read.specs.declared.kind.Kind.TheVariants.{Payload}
+use Rattle.bag_text.proofs.ListOf.{same_lists}
+use Rattle.bag_read.specs.declared.kind.Kind.TheVariants.{Payload, Tag}
+use Rattle.bag_read.specs.declared.manifest.ManifestEntry.{ManifestEntry}
 use Rattle.bag_tree.specs.Bag.{Bag, file}
+use Rattle.bag_tree.specs.Listing.{IsOrdered}
 use Rattle.bag_tree.specs.declared.listing.FileEntry.{FileEntry}
 use Rattle.bag_facts.specs.declared.fault.Fault.{Fault}
 use Rattle.bag_facts.specs.Facts.{rules_in}
@@ -14,92 +22,107 @@ use Rattle.bag_facts.specs.TagReader.{AreListed}
 use Rattle.bag_facts.specs.Wanted.{paths_of}
 use Rattle.bag_facts.specs.declared.tag_facts.Manifest.{Manifest}
 use Rattle.bag_facts.proofs.ListedFiles.{file_listed, listed_file}
-use Rattle.bag_facts.proofs.Mapped.{take_one_more}
-use Rattle.bag_stages.specs.TagFiles.{manifest_of}
-use Rattle.bag_stages.proofs.ReadManifest.{names_entry, entry_names}
+use Rattle.bag_facts.proofs.ByPath.{paths_ascend}
+use Rattle.bag_facts.proofs.Mapped.{kept, passed, take_one_more}
+use Rattle.bag_stages.specs.TagFiles.{manifest_of, Names}
+use Rattle.bag_stages.proofs.NamesByKind.{names_by_kind}
+use Rattle.bag_stages.proofs.ReadManifest.{by_path, entry_names, is_absent, is_there, names_entry}
 use Rattle.bag_stages.specs.CompletenessFaults.{IsMissing, IsUnlistedFile, IsWrong}
-use Rattle.bag_stages.specs.PayloadNamed.{AreNamed, GoesOn, IsNamedExactly}
+use Rattle.bag_stages.specs.PayloadNamed.{GoesOn, IsExact, IsNamedExactly, payload_paths, StopsAt}
 use Rattle.bag_stages.proofs.MissingFaults as missing
 use Rattle.bag_stages.proofs.UnlistedFaults as unlisted
 
--- the names before the rest are of these files, and of each payload file among them
-pub record AreNamedBefore (names files rest : List (List ℕ)) : Type 0 where
-  pub front : List (List ℕ)
-  pub parts : names ≡ front ++ rest
-  pub are : AreNamed front files
+of_payload : (b : Bool) → Payload ≡ (if b then Payload else Tag) → b ≡ true
+of_payload true e = refl
+of_payload false e = cc
 
-pub none_before : (names : List (List ℕ)) → AreNamedBefore names [] names
-none_before names = record {
-  front = [];
-  parts = refl;
-  are = record { listed = λ path c. c; named = λ path c is. c };
-}
+-- the names before the rest are those of the payload files among these
+abbrev pub AreBefore : List (List ℕ) → List (List ℕ) → List (List ℕ) → Type 0
+AreBefore names files rest = names ≡ payload_paths files ++ rest
 
-one_more : (front files : List (List ℕ)) (path : List ℕ) → AreNamed front files → AreNamed (front ++ path ∷ []) (files ++ path ∷ [])
-one_more front files path are = record {
-  listed = λ p c. elim (contains_either front (path ∷ []) p c) [
-    | inl a ↦ contains_front files (path ∷ []) p (are.listed p a)
-    | inr b ↦ contains_back files (path ∷ []) p b
-  ];
-  named = λ p c is. elim (contains_either files (path ∷ []) p c) [
-    | inl a ↦ contains_front front (path ∷ []) p (are.named p a is)
-    | inr b ↦ contains_back front (path ∷ []) p b
-  ];
-}
+payload_more : (files : List (List ℕ)) (path : List ℕ) → is_payload_path path ≡ true → payload_paths (files ++ path ∷ []) ≡ payload_paths files ++ path ∷ []
+payload_more files path is = filter-append is_payload_path files (path ∷ []) ∙ ap (λ b. payload_paths files ++ cond b (path ∷ []) []) is
 
-other_more : (front files : List (List ℕ)) (path : List ℕ) → is_payload_path path ≡ false → AreNamed front files → AreNamed front (files ++ path ∷ [])
-other_more front files path not are = record {
-  listed = λ p c. contains_front files (path ∷ []) p (are.listed p c);
-  named = λ p c is. elim (contains_either files (path ∷ []) p c) [
-    | inl a ↦ are.named p a is
-    | inr b ↦ elim (contains_cases path [] p b) [
-      | inl same ↦ (let clash : true ≡ false = sym is ∙ ap is_payload_path (sym same) ∙ not in cc)
-      | inr d ↦ absurd (contains_nothing p d)
-    ]
-  ];
-}
+other_more : (files : List (List ℕ)) (path : List ℕ) → is_payload_path path ≡ false → payload_paths (files ++ path ∷ []) ≡ payload_paths files
+other_more files path not =
+    filter-append is_payload_path files (path ∷ []) ∙ ap (λ b. payload_paths files ++ cond b (path ∷ []) []) not ∙ append-nil (payload_paths files)
 
 -- one file more
-pub named_more : (names files rest after : List (List ℕ)) (path : List ℕ) → AreNamedBefore names files rest → GoesOn rest path after → AreNamedBefore names (files ++ path ∷ []) after
-named_more names files rest after path before (inl e) = record {
-  front = before.front ++ path ∷ [];
-  parts = before.parts ∙ ap (λ xs. before.front ++ xs) e ∙ sym (append_assoc before.front (path ∷ []) after);
-  are = one_more before.front files path before.are;
-}
-named_more names files rest after path before (inr (not, e)) = record {
-  front = before.front;
-  parts = before.parts ∙ ap (λ xs. before.front ++ xs) (sym e);
-  are = other_more before.front files path not before.are;
-}
+before_more : (names files rest after : List (List ℕ)) (path : List ℕ) → AreBefore names files rest → GoesOn rest path after → AreBefore names (files ++ path ∷ []) after
+before_more names files rest after path before (inl (is, e)) =
+    before ∙ ap (λ xs. payload_paths files ++ xs) e ∙ sym (append_assoc (payload_paths files) (path ∷ []) after) ∙ ap (λ xs. xs ++ after) (sym (payload_more files path is))
+before_more names files rest after path before (inr (not, e)) =
+    before ∙ ap (λ xs. payload_paths files ++ xs) (sym e) ∙ ap (λ xs. xs ++ after) (sym (other_more files path not))
 
 paths_more : (files : List FileEntry) (i : ℕ) (file : FileEntry) → i < length files → file ≡ get_or files i file → paths_of (take (i + 1) files) ≡ paths_of (take i files) ++ file.path ∷ []
-paths_more files i file within here = ap paths_of (take_one_more files i file within here) ∙ mapped (take i files)
-  where
-    mapped : (xs : List FileEntry) → paths_of (xs ++ file ∷ []) ≡ paths_of xs ++ file.path ∷ []
-    mapped [] = refl
-    mapped (x ∷ xs) = ap (λ rest. x.path ∷ rest) (mapped xs)
+paths_more files i file within here = ap paths_of (take_one_more files i file within here) ∙ map-append (λ (e : FileEntry). e.path) (take i files) (file ∷ [])
 
-pub named_so_far : (names rest after : List (List ℕ)) (files : List FileEntry) (i : ℕ) (file : FileEntry) → i < length files → file ≡ get_or files i file
-    → AreNamedBefore names (paths_of (take i files)) rest → GoesOn rest file.path after → AreNamedBefore names (paths_of (take (i + 1) files)) after
-named_so_far names rest after files i file within here before on =
-    subst (λ paths. AreNamedBefore names paths after) (sym (paths_more files i file within here)) (named_more names (paths_of (take i files)) rest after file.path before on)
+module _ (names rest : List (List ℕ)) (files : List FileEntry) (i : ℕ) (file : FileEntry) (within : i < length files) (here : file ≡ get_or files i file) where
+  pub before_next : (after : List (List ℕ)) → AreBefore names (paths_of (take i files)) rest → GoesOn rest file.path after → AreBefore names (paths_of (take (i + 1) files)) after
+  before_next after before on =
+      subst (λ paths. AreBefore names paths after) (sym (paths_more files i file within here)) (before_more names (paths_of (take i files)) rest after file.path before on)
 
-no_more : (front : List (List ℕ)) → front ++ [] ≡ front
-no_more [] = refl
-no_more (x ∷ xs) = ap (λ rest. x ∷ rest) (no_more xs)
+  -- where the names stop they are others
+  pub others_there : AreBefore names (paths_of (take i files)) rest → StopsAt rest file.path → names ≢ payload_paths (paths_of files)
+  others_there before stops same =
+      let front = payload_paths (paths_of (take i files)) in
+      let behind = payload_paths (paths_of (drop (i + 1) files)) in
+      let parts : paths_of files ≡ paths_of (take (i + 1) files) ++ paths_of (drop (i + 1) files) =
+      ap paths_of (sym (take-append-drop (i + 1) files)) ∙ map-append (λ (e : FileEntry). e.path) (take (i + 1) files) (drop (i + 1) files) in
+      let all : payload_paths (paths_of files) ≡ (front ++ file.path ∷ []) ++ behind =
+      ap payload_paths parts ∙ filter-append is_payload_path (paths_of (take (i + 1) files)) (paths_of (drop (i + 1) files))
+      ∙ ap (λ xs. xs ++ behind) (ap payload_paths (paths_more files i file within here) ∙ payload_more (paths_of (take i files)) file.path stops.0) in
+      stops.1 behind (append_cancel_left front rest (file.path ∷ behind) (sym before ∙ same ∙ all ∙ append_assoc front (file.path ∷ []) behind))
 
--- which are all
-pub all_named : (names files rest : List (List ℕ)) → rest ≡ [] → AreNamedBefore names files rest → AreNamed names files
-all_named names files rest none before = subst (λ xs. AreNamed xs files) (sym (before.parts ∙ ap (λ xs. before.front ++ xs) none ∙ no_more before.front)) before.are
+-- behind all files they are the same where nothing is left
+module _ (names : List (List ℕ)) (files : List FileEntry) (i : ℕ) (end : length files ≤ i) (none_left : Bool) where
+  pub all_before : (rest : List ManifestEntry) → AreBefore names (paths_of (take i files)) (entry_paths rest) → none_left ≡ (length rest == 0)
+      → IsTrue none_left ↔ (names ≡ payload_paths (paths_of files))
+  all_before [] before is = (
+    λ holds. before ∙ append-nil (payload_paths (paths_of (take i files))) ∙ ap (λ xs. payload_paths (paths_of xs)) (take_all i files end),
+    λ same. is,
+  )
+  all_before (entry ∷ rest) before is = (
+    λ holds.
+        let more : (length (entry ∷ rest) == 0) ≡ false = grind (arith, nat_tests) in
+        let clash : true ≡ false = sym holds ∙ is ∙ more in cc,
+    λ same.
+        let front = payload_paths (paths_of files) in
+        let all : front ≡ front ++ entry_paths (entry ∷ rest) =
+        sym same ∙ before ∙ ap (λ xs. payload_paths (paths_of xs) ++ entry_paths (entry ∷ rest)) (take_all i files end) in
+        let clash : [] ≡ entry_paths (entry ∷ rest) = append_cancel_left front [] (entry_paths (entry ∷ rest)) (append-nil front ∙ all) in cc,
+  )
 
 module _ (bag : Bag) (alg : Alg) where
   -- the payload manifest that was read
-  pub read_exactly : (m : Manifest) (files : List FileEntry) → IsReadOf (IsManifestNamed (rules_in bag) Payload alg) (file bag (manifest_of Payload alg)) (Some m) → AreListed bag files
-      → AreNamed (entry_paths m.entries) (paths_of files) → IsNamedExactly bag alg
-  read_exactly m files read listed are = record {
-    listed = λ path named. listed_file bag files path listed (are.listed path (names_entry bag Payload alg m read path named));
-    named = λ path h. entry_names bag Payload alg m read path (are.named path (file_listed bag files path listed h.0) h.1);
-  }
+  module _ (m : Manifest) (files : List FileEntry) (read : IsReadOf (IsManifestNamed (rules_in bag) Payload alg) (file bag (manifest_of Payload alg)) (Some m))
+      (listed : AreListed bag files) where
+    pub read_exactly : entry_paths m.entries ≡ payload_paths (paths_of files) → IsExact bag alg
+    read_exactly same = (
+      is_there bag Payload alg m read,
+      record {
+        listed = λ path named.
+            listed_file bag files path listed (kept is_payload_path (paths_of files) path (subst (λ xs. Contains xs path) same (names_entry bag Payload alg m read path named))).1;
+        named = λ path h.
+            entry_names bag Payload alg m read path (subst (λ xs. Contains xs path) (sym same) (passed is_payload_path (paths_of files) path h.1 (file_listed bag files path listed h.0)));
+      },
+    )
+
+    is_payload_name : (path : List ℕ) → Names bag Payload alg path → is_payload_path path ≡ true
+    is_payload_name path named = of_payload (is_payload_path path) (names_by_kind bag Payload alg path named)
+
+    pub exactly_read : IsOrdered files → IsExact bag alg → entry_paths m.entries ≡ payload_paths (paths_of files)
+    exactly_read ordered (there, exact) =
+        same_lists text_cmp nat_list_cmp_total (entry_paths m.entries) (payload_paths (paths_of files)) (paths_ascend (λ (e : ManifestEntry). e.path) m.entries (by_path bag Payload alg m read))
+        (IsStrictlySortedBy-filter text_cmp is_payload_path (paths_of files) ordered.ascending)
+        (λ path c. let named = entry_names bag Payload alg m read path c in
+        passed is_payload_path (paths_of files) path (is_payload_name path named) (file_listed bag files path listed (exact.listed path named)))
+        (λ path c. let both = kept is_payload_path (paths_of files) path c in
+        names_entry bag Payload alg m read path (exact.named path (listed_file bag files path listed both.1, both.0)))
+
+  -- it isn't there
+  pub none_exact : IsReadOf (IsManifestNamed (rules_in bag) Payload alg) (file bag (manifest_of Payload alg)) None → ¬ (IsExact bag alg)
+  none_exact read exact = is_absent bag Payload alg read exact.0
 
   -- it is wrong about no file
   pub nothing_wrong : IsNamedExactly bag alg → (f : Fault) → ¬ (IsWrong bag alg f)

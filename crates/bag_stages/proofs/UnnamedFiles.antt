@@ -1,7 +1,7 @@
 -- Payload files that no payload manifest names.
-use Rattle.std.proofs.Common.{◌≡◌, ◌∷◌, ℕ, List, [], None, refl, subst, Contains}
+use Rattle.std.proofs.Common.{List, [], None}
 use Rattle.bag_text.specs.Order.{IsListOf}
-use Rattle.bag_text.proofs.ListOf.{contains_first, contains_nothing, nothing_listed, same_members}
+use Rattle.bag_text.proofs.ListOf.{nothing_listed, same_members}
 use Rattle.bag_text.specs.declared.alg.Alg.{Alg}
 use Rattle.bag_text.specs.declared.code.Code.TheVariants.{PayloadFileNotListed}
 use Rattle.bag_read.specs.declared.kind.Kind.TheVariants.{Payload}

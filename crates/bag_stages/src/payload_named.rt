@@ -1,10 +1,10 @@
 //! What payload manifests say of the payload's files that isn't so.
-ghost use Rattle.std.specs.Prelude.{IfOk, IfSome, IsTrue};
+ghost use Rattle.std.specs.Prelude.{◌≡◌, ◌↔◌, IfOk, IsTrue, MatchOption};
 ghost use Rattle.bag_facts.specs.Facts.{OfBag};
 ghost use Rattle.bag_facts.specs.TagFacts.{entry_paths};
 ghost use Rattle.bag_facts.specs.Wanted.{paths_of};
 ghost use Rattle.bag_stages.specs.CompletenessFaults.{HasEachOnce, IsWrong, IsWrongOfSome};
-ghost use Rattle.bag_stages.specs.PayloadNamed.{AreNamed, GoesOn, IsNamedExactly};
+ghost use Rattle.bag_stages.specs.PayloadNamed.{GoesOn, IsExact, payload_paths, StopsAt};
 
 use crate::missing::missing_of;
 use crate::unlisted::unlisted_of;
@@ -43,7 +43,7 @@ fn faults_of(alloc: Global, facts: &Facts, alg: Alg) -> Result<Vec<Fault>, Alloc
 /// Whether the payload manifest of an algorithm is there and names the payload's files and no other, so that it has no fault
 /// of completeness. The facts are read for more than the declaration.
 pub fn is_exact(facts: &Facts, alg: Alg) -> bool
-    ensures { OfBag facts.now (λ bag. IsTrue result → IsNamedExactly bag alg) }
+    ensures { OfBag facts.now (λ bag. IsTrue result ↔ IsExact bag alg) }
 {
     match facts.manifest(Kind::Payload, alg) {
         Some(manifest) => are_named(manifest.entries.as_slice(), facts.listing.files.as_slice()),
@@ -53,7 +53,7 @@ pub fn is_exact(facts: &Facts, alg: Alg) -> bool
 
 /// Whether entries are those of the payload files among these files, in their order.
 fn are_named(entries: &[ManifestEntry], files: &[FileEntry]) -> bool
-    ensures { IsTrue result → AreNamed (entry_paths entries.now) (paths_of files.now) }
+    ensures { IsTrue result ↔ (entry_paths entries.now ≡ payload_paths (paths_of files.now)) }
 {
     let mut rest = entries;
     for file in files {
@@ -65,18 +65,20 @@ fn are_named(entries: &[ManifestEntry], files: &[FileEntry]) -> bool
     rest.is_empty()
 }
 
-/// The entries that are left behind a file: the first has its path, or it isn't of the payload.
+/// The entries that are left behind a file: all of them where it isn't of the payload, and else those behind the first, which has
+/// its path.
 fn behind<'a>(entries: &'a [ManifestEntry], path: &Text) -> Option<&'a [ManifestEntry]>
-    ensures { IfSome result (λ rest. GoesOn (entry_paths entries.now) path.now (entry_paths rest.now)) }
+    ensures { MatchOption result (StopsAt (entry_paths entries.now) path.now) (λ rest. GoesOn (entry_paths entries.now) path.now (entry_paths rest.now)) }
 {
-    if let Some((first, rest)) = entries.split_first() {
-        if first.path == *path {
-            return Some(rest);
-        }
+    if !is_payload(path.as_str()) {
+        return Some(entries);
     }
-    if is_payload(path.as_str()) {
-        None
+    let Some((first, rest)) = entries.split_first() else {
+        return None;
+    };
+    if first.path == *path {
+        Some(rest)
     } else {
-        Some(entries)
+        None
     }
 }

@@ -1,4 +1,3 @@
-use Rattle.std.proofs.Common.{◌≢◌}
 use Rattle.bag_read.specs.declared.kind.Kind.TheVariants.{Payload}
 use Rattle.bag_facts.specs.Facts.{OfBag}
 use Rattle.bag_stages.specs.TagFiles.{Names}

@@ -1,11 +1,24 @@
+use Rattle.std.proofs.Common.{◌≡◌, true, false, refl}
 use Rattle.bag_facts.specs.TagFacts.{entry_paths}
-use Rattle.bag_stages.proofs.PayloadNamed.{named_so_far, none_before}
+use Rattle.bag_stages.proofs.PayloadNamed.{all_before, before_next, others_there}
 use Rattle.bag_stages.proofs.payload_named.are_named.Goals as goal
 
 pub loop-file-init : goal.loop-file-init
-loop-file-init c = none_before (entry_paths c.args.entries.now)
+loop-file-init c = refl
 
 pub loop-file-preserved : goal.loop-file-preserved
 loop-file-preserved c =
-    named_so_far (entry_paths c.args.entries.now) (entry_paths c.loop-file.rest.now) (entry_paths c.in-Some.after.now) c.args.files.now c.loop-file.file-index c.file-item.result
-    c.loop-file-test.true c.file-item.is c.loop-file.invariant c.in-Some.ensures
+    before_next (entry_paths c.args.entries.now) (entry_paths c.loop-file.rest.now) c.args.files.now c.loop-file.file-index c.file-item.result
+    c.loop-file-test.true c.file-item.is (entry_paths c.in-Some.after.now) c.loop-file.invariant c.in-Some.ensures
+
+pub returns-in_default : goal.returns-in_default
+returns-in_default c = (
+  λ holds. let clash : false ≡ true = holds in cc,
+  λ same. absurd (others_there (entry_paths c.args.entries.now) (entry_paths c.loop-file.rest.now) c.args.files.now c.loop-file.file-index c.file-item.result
+      c.loop-file-test.true c.file-item.is c.loop-file.invariant c.in_default.ensures same),
+)
+
+pub returns : goal.returns
+returns c =
+    all_before (entry_paths c.args.entries.now) c.args.files.now c.loop-file.file-index c.loop-file-test.false c.is_empty.result c.loop-file.rest.now
+    c.loop-file.invariant c.is_empty.ensures

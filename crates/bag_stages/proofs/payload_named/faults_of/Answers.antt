@@ -5,7 +5,7 @@ use Rattle.bag_stages.proofs.payload_named.faults_of.Goals as goal
 
 pub returns-then-is_exact : goal.returns-then-is_exact
 returns-then-is_exact c = λ bag facts deep.
-    rw c.new.ensures.items (nothing_once (IsWrong bag c.args.alg) (nothing_wrong bag c.args.alg (c.is_exact.ensures bag facts deep c.if-is_exact.true)))
+    rw c.new.ensures.items (nothing_once (IsWrong bag c.args.alg) (nothing_wrong bag c.args.alg ((c.is_exact.ensures bag facts deep).0 c.if-is_exact.true).1))
 
 pub returns : goal.returns
 returns c = λ bag facts deep.

@@ -1,7 +1,19 @@
-use Rattle.bag_stages.proofs.PayloadNamed.{read_exactly}
+use Rattle.std.proofs.Common.{◌≡◌, true, false}
+use Rattle.bag_stages.proofs.PayloadNamed.{exactly_read, none_exact, read_exactly}
 use Rattle.bag_stages.proofs.payload_named.is_exact.Goals as goal
 
 pub returns-in-Some : goal.returns-in-Some
-returns-in-Some c = λ bag facts deep holds.
-    read_exactly bag c.args.alg c.in-Some.manifest.now c.as_slice-in-Some.result.now (c.in-Some.ensures bag facts deep) (rw c.as_slice-in-Some.ensures facts.listing.files)
-    (rw c.as_slice.ensures at (c.are_named.ensures holds))
+returns-in-Some c = λ bag facts deep.
+    let m = c.in-Some.manifest.now in
+    let files = c.args.facts.now.listing.files in
+    let read = c.in-Some.ensures bag facts deep in
+    let same = rw (c.as_slice.ensures, c.as_slice-in-Some.ensures) at c.are_named.ensures in (
+      λ holds. read_exactly bag c.args.alg m files read facts.listing.files (same.0 holds),
+      λ exact. same.1 (exactly_read bag c.args.alg m files read facts.listing.files facts.ordered exact),
+    )
+
+pub returns-in-None : goal.returns-in-None
+returns-in-None c = λ bag facts deep. (
+  λ holds. let clash : false ≡ true = holds in cc,
+  λ exact. absurd (none_exact bag c.args.alg (c.in-None.ensures bag facts deep) exact),
+)

@@ -11,7 +11,7 @@ use Rattle.bag_walk.proofs.completeness.of_payload.Goals as goal
 
 pub returns-then-is_exact : goal.returns-then-is_exact
 returns-then-is_exact c = λ bag facts deep.
-    rw c.new.ensures.items (none_wrong (option_copied c.args.after) bag c.args.alg (c.is_exact.ensures bag facts deep c.if-is_exact.true))
+    rw c.new.ensures.items (none_wrong (option_copied c.args.after) bag c.args.alg ((c.is_exact.ensures bag facts deep).0 c.if-is_exact.true).1)
 
 pub returns : goal.returns
 returns c = IfOk-weaker c.merged.result _ _
