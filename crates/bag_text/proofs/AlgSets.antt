@@ -1,20 +1,12 @@
 -- Sets of algorithms.
-use Rattle.std.proofs.Common.{◌≡◌, ◌≢◌, ◌↔◌, ◌⊎◌, inl, inr, ℕ, zero, suc, ◌-◌, ◌<◌, Bool, true, false, not, ◌||◌, List, [], ◌∷◌, filter, map, Contains, IsTrue, refl, sym, ap, subst, ◌∙◌, length, arith, get_or, set, rules, ◌+◌, ◌++◌, take, cond, append-nil}
+use Rattle.bag_text.proofs.Common.{◌≡◌, ◌↔◌, ◌⊎◌, inl, inr, ℕ, zero, suc, ◌-◌, ◌<◌, Bool, true, false, not, ◌||◌, List, [], ◌∷◌, filter, map, IsTrue, refl, sym, ap, subst, ◌∙◌, length, arith, get_or, set, rules, ◌+◌, ◌++◌, take, cond, append-nil, list_any, nat_tests, get_or-set_at, get_or-set_other, take_more, filter-append, algs, rank, EachIsListed, ListAscends, NameIsReadAgain, NamesTellApart, same_alg, has_member, with_member, IsTable, flag, members, same_alg_same, has_each, has_member-filter, flags_are}
+use Rattle.std.proofs.Common.{Contains}
 use Rattle.std.specs.Bool.{beq}
-use Rattle.std.specs.List.{list_any}
 use Rattle.std.specs.List.Sorted.{IsStrictlySortedBy}
-use Rattle.std.proofs.lemmas.Bool.Decides.{nat_tests}
-use Rattle.std.proofs.lemmas.Grind.{get_or-set_at}
-use Rattle.std.proofs.lemmas.List.{get_or-set_other, take_more}
-use Rattle.std.proofs.lemmas.List.Elements.{filter-append}
 use Rattle.std.proofs.lemmas.Map.Views.{Contains-from_any}
 use Rattle.bag_text.specs.declared.alg.Alg.{Alg}
 use Rattle.bag_text.specs.declared.alg.Alg.TheVariants.{Md5}
 use Rattle.bag_text.specs.declared.alg_set.AlgSet.TheInside.{Inside}
-use Rattle.bag_text.specs.Alg.{algs, rank, EachIsListed, ListAscends, NameIsReadAgain, NamesTellApart}
-use Rattle.bag_text.specs.AlgList.{same_alg, has_member, with_member}
-use Rattle.bag_text.specs.AlgSet.{IsTable, flag, members}
-use Rattle.bag_text.specs.AlgTable.{same_alg_same, has_each, has_member-filter, flags_are}
 
 pub same_alg_self : (a : Alg) → same_alg a a ≡ true
 same_alg_self a = grind (arith, nat_tests)
@@ -56,12 +48,8 @@ rank_positive _ = omega arith
 
 more_at : (flags : List Bool) (alg a : Alg) (same : Bool) → length flags ≡ length algs → same_alg a alg ≡ same
     → get_or (set flags (rank alg - 1) true) (rank a - 1) false ≡ (same || get_or flags (rank a - 1) false)
-more_at flags alg a true long s =
-    let at : rank a ≡ rank alg = grind (arith, nat_tests) in
-    get_or-set_at flags (rank alg - 1) (rank a - 1) true false (ap (λ n. n - 1) at) (omega (arith, rank_within alg))
-more_at flags alg a false long s =
-    let other : rank a ≢ rank alg = grind (arith, nat_tests) in
-    get_or-set_other flags (rank alg - 1) (rank a - 1) true false (λ e. other (omega (arith, rank_positive a, rank_positive alg)))
+more_at flags alg a true long s = grind (arith, nat_tests, get_or-set_at, rank_within)
+more_at flags alg a false long s = grind (arith, nat_tests, get_or-set_other, rank_positive)
 
 -- one more flag
 flag_more : (s : Inside) (alg a : Alg) → IsTable s → flag (record { flags = set s.flags (rank alg - 1) true }) a ≡ (same_alg a alg || flag s a)

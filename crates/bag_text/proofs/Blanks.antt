@@ -1,12 +1,5 @@
 -- Where a text may be cut beside blanks.
-use Rattle.std.proofs.Common.{◌≡◌, ℕ, zero, suc, ◌+◌, ◌-◌, ◌<◌, ◌≤◌, Bool, true, false, not, nat_lt, List, length, get_or, reverse, subst, ap, ◌∙◌, refl, arith}
-use Rattle.std.specs.List.{prefix_len, suffix_len}
-use Rattle.std.specs.Str.{IsUtf8, IsCharBoundary}
-use Rattle.std.proofs.lemmas.Bool.Decides.{nat_tests}
-use Rattle.std.proofs.lemmas.List.{get_or-reverse}
-use Rattle.std.proofs.lemmas.List.Sums.{prefix_len_passes, prefix_len_stops, prefix_len-le-length, suffix_len-le-length}
-use Rattle.std.proofs.lemmas.Str.{IsCharBoundary-start, IsCharBoundary-end, IsCharBoundary-before_ascii, IsCharBoundary-after_ascii}
-use Rattle.bag_text.specs.Text.{is_blank}
+use Rattle.bag_text.proofs.Common.{◌≡◌, ℕ, zero, suc, ◌+◌, ◌-◌, ◌<◌, ◌≤◌, Bool, true, false, not, nat_lt, List, length, get_or, reverse, subst, ap, ◌∙◌, refl, arith, prefix_len, suffix_len, IsUtf8, IsCharBoundary, nat_tests, get_or-reverse, prefix_len_passes, prefix_len_stops, prefix_len-le-length, suffix_len-le-length, IsCharBoundary-start, IsCharBoundary-end, IsCharBoundary-before_ascii, IsCharBoundary-after_ascii, is_blank}
 
 blank_small : (c : ℕ) → is_blank c ≡ true → c < 128
 blank_small c e = grind (arith, nat_tests)
@@ -38,10 +31,8 @@ pub trailing_boundary : (t : List ℕ) → IsCharBoundary t (length t - suffix_l
 trailing_boundary t = before_blanks t _ refl
 
 before_blank_at : (t : List ℕ) (n : ℕ) (b : Bool) → nat_lt n (length t) ≡ b → n ≤ length t → (n < length t → get_or t n 0 < 128) → IsCharBoundary t n
-before_blank_at t n true e h small =
-    let within : n < length t = grind (arith, nat_tests) in IsCharBoundary-before_ascii t n within (small within)
-before_blank_at t n false e h small =
-    let end : length t ≡ n = grind (arith, nat_tests) in subst (IsCharBoundary t) end (IsCharBoundary-end t)
+before_blank_at t n true e h small = grind (arith, nat_tests)
+before_blank_at t n false e h small = grind (arith, nat_tests)
 
 not_false : (b : Bool) → not b ≡ false → b ≡ true
 not_false true e = refl
@@ -49,7 +40,4 @@ not_false false e = cc
 
 -- and before the first blank
 pub before_blank_boundary : (t : List ℕ) → IsCharBoundary t (prefix_len (λ c. not (is_blank c)) t)
-before_blank_boundary t =
-    let n = prefix_len (λ c. not (is_blank c)) t in
-    before_blank_at t n (nat_lt n (length t)) refl (prefix_len-le-length (λ c. not (is_blank c)) t)
-    (λ within. blank_small _ (not_false _ (prefix_len_stops (λ c. not (is_blank c)) t 0 within)))
+before_blank_boundary t = grind (arith, before_blank_at, nat_lt, prefix_len-le-length, blank_small, not_false, prefix_len_stops)

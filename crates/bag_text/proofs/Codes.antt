@@ -1,6 +1,5 @@
 -- Codes in the table of codes are found by their numbers.
-use Rattle.std.proofs.Common.{◌≡◌, List, [], ◌∷◌, ℕ, Bool, true, false, cond, Option, None, Some, unwrap_or, find, map, ◌==◌, refl, sym, ap, ◌∙◌, Bor}
-use Rattle.std.specs.Option.{option_map}
+use Rattle.bag_text.proofs.Common.{◌≡◌, List, [], ◌∷◌, ℕ, Bool, true, false, cond, Option, None, Some, unwrap_or, find, map, ◌==◌, refl, sym, ap, ◌∙◌, Bor, option_map}
 use Rattle.bag_text.specs.Code.{number, word, all_codes, words}
 use Rattle.bag_text.specs.declared.code.Code.{Code}
 use Rattle.bag_text.specs.declared.code.Code.TheVariants.{NoDeclaration, DeclarationNotUtf8, DeclarationLineCount, DeclarationLine, VersionUnsupported, EncodingUnsupported, NoPayloadFolder, NoPayloadManifest, AlgorithmUnsupported, NotUtf8, InfoLine, OxumMalformed, OxumAgain, OxumDiffers, NoOxum, FetchLine, FetchEscape, FetchUnsafePath, FetchOutsidePayload, FetchNotInManifest, ManifestLine, DigestLength, ManifestEscape, ManifestUnsafePath, ManifestOutsidePayload, TagmanifestNamesPayload, TagmanifestNamesTagmanifest, NamedAgain, PayloadManifestNotListed, PayloadFileMissing, TagFileMissing, PayloadFileNotListed, NameClash, PayloadSumDiffers, TagSumDiffers, ProfileIdentifier, LabelRequired, LabelRepeated, ValueNotAllowed, ManifestRequired, ManifestNotAllowed, TagmanifestRequired, TagmanifestNotAllowed, TagFileRequired, TagFileNotAllowed, FetchNotAllowed, VersionNotAccepted, SerializationRequired}

@@ -1,8 +1,5 @@
 -- The longest front of two texts.
-use Rattle.std.proofs.Common.{◌≡◌, ◌≢◌, ℕ, suc, ◌+◌, ◌==◌, ◌≤◌, Bool, true, false, cond, List, [], ◌∷◌, ◌++◌, length, take, refl, sym, ap, ◌∙◌, subst, arith}
-use Rattle.std.specs.List.{common_prefix_len}
-use Rattle.std.proofs.lemmas.Bool.Decides.{nat_tests}
-use Rattle.bag_text.specs.SortKey.{common_front, IsFront, IsLongestFront, CommonFrontIsTheLongest}
+use Rattle.bag_text.proofs.Common.{◌≡◌, ◌≢◌, ℕ, suc, ◌+◌, ◌==◌, ◌≤◌, Bool, true, false, cond, List, [], ◌∷◌, ◌++◌, length, take, refl, sym, ◌∙◌, subst, arith, common_prefix_len, nat_tests, common_front, IsFront, IsLongestFront, CommonFrontIsTheLongest}
 
 first_same : (x c : ℕ) (xs ys : List ℕ) → x ∷ xs ≡ c ∷ ys → x ≡ c
 first_same x c xs ys e = cc
@@ -21,12 +18,10 @@ fronts_of_unlike x y xs ys h (c ∷ other) (r, e) (s, i) = absurd (h (first_same
 fronts_of_more : (x y : ℕ) (front xs ys : List ℕ) → ((other : List ℕ) → IsFront other xs → IsFront other ys → length other ≤ length front)
     → (other : List ℕ) → IsFront other (x ∷ xs) → IsFront other (y ∷ ys) → length other ≤ length (x ∷ front)
 fronts_of_more x y front xs ys h [] f g = omega arith
-fronts_of_more x y front xs ys h (c ∷ other) (r, e) (s, i) =
-    let within = h other (r, rest_same x c xs (other ++ r) e) (s, rest_same y c ys (other ++ s) i) in omega (arith, within)
+fronts_of_more x y front xs ys h (c ∷ other) (r, e) (s, i) = grind (arith, rest_same)
 
 longest_more : (x y : ℕ) (front xs ys : List ℕ) → x ≡ y → IsLongestFront front xs ys → IsLongestFront (x ∷ front) (x ∷ xs) (y ∷ ys)
-longest_more x y front xs ys same ((r, e), (s, i), h) =
-    ((r, ap (λ t. x ∷ t) e), (s, ap (λ c. c ∷ ys) (sym same) ∙ ap (λ t. x ∷ t) i), fronts_of_more x y front xs ys h)
+longest_more x y front xs ys same ((r, e), (s, i), h) = grind (arith, fronts_of_more x y front xs ys h)
 
 unlike : (x y : ℕ) → (x == y) ≡ false → x ≢ y
 unlike x y e same = grind (arith, nat_tests, e, same)

@@ -1,13 +1,7 @@
 -- The first byte that passes a test, by a search of bytes.
-use Rattle.std.proofs.Common.{◌≡◌, ℕ, zero, suc, ◌+◌, ◌-◌, ◌<◌, ◌≤◌, Bool, true, false, not, List, [], ◌∷◌, length, get_or, take, drop, refl, sym, ap, ◌∙◌, inl, inr, arith, Option, None, Some, position}
-use Rattle.std.specs.Prelude.{All, IfNone}
-use Rattle.std.specs.List.{list_all, prefix_len}
+use Rattle.bag_text.proofs.Common.{◌≡◌, ℕ, zero, suc, ◌+◌, ◌-◌, ◌<◌, ◌≤◌, Bool, true, false, not, List, [], ◌∷◌, length, get_or, take, drop, refl, sym, ap, ◌∙◌, inl, inr, arith, Option, None, Some, position, IfNone, list_all, prefix_len, cases_lt, nat_tests, get_or_default, get_or-take, get_or-drop, length-take-le, length-drop, list_all_at, IsFirstByte, Nowhere, Passes}
+use Rattle.std.specs.Prelude.{All}
 use Rattle.std.specs.Option.{unwrap_or}
-use Rattle.std.proofs.lemmas.Bool.{cases_lt}
-use Rattle.std.proofs.lemmas.Bool.Decides.{nat_tests}
-use Rattle.std.proofs.lemmas.List.{get_or_default, get_or-take, get_or-drop, length-take-le, length-drop}
-use Rattle.std.proofs.lemmas.List.Folds.{list_all_at}
-use Rattle.memchr.specs.Find.{IsFirstByte, Nowhere, Passes}
 
 abbrev fails : (ℕ → Bool) → ℕ → Bool
 fails p = λ x. not (p x)
@@ -32,9 +26,7 @@ not_true false h = refl
 -- what a search for a byte found is where the first one is
 pub first_byte : (p : ℕ → Bool) (xs : List ℕ) (r : Option ℕ) → IsFirstByte p xs r → r ≡ position p xs
 first_byte p xs None h = rw (no_place_len p xs (λ i l. not_true _ (h i (omega arith) l))) (grind (arith, nat_tests))
-first_byte p xs (Some k) h =
-    let l : k < length xs = h.0.high in
-    rw (place_len p xs k l h.1 (λ i b. not_true _ (h.0.before i (omega arith) b))) (grind (arith, nat_tests, l))
+first_byte p xs (Some k) h = grind (arith, place_len, not_true, nat_tests)
 
 -- and where there is none, no byte passes
 pub no_byte : (p : ℕ → Bool) (xs : List ℕ) (r : Option ℕ) → IsFirstByte p xs r → IfNone r (All (λ b. p b ≡ false) xs)

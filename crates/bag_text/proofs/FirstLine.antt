@@ -1,25 +1,11 @@
 -- The first line of a text, and the lines that follow it.
-use Rattle.std.proofs.Common.{◌≡◌, ◌≢◌, ℕ, zero, suc, ◌+◌, ◌<◌, ◌^◌, ◌≤◌, Bool, true, false, cond, ◌&&◌, List, [], ◌∷◌, ◌++◌, length, get_or, take, drop, refl, ap, sym, ◌∙◌, subst, lit<, arith, eqb, Some, position, append_assoc}
-use Rattle.std.specs.List.{onto_first, starts_with}
-use Rattle.std.proofs.lemmas.Grind.{common_steps}
-use Rattle.std.proofs.lemmas.Bool.Decides.{nat_tests}
-use Rattle.std.proofs.lemmas.List.Elements.{recursion_from_All}
+use Rattle.bag_text.proofs.Common.{◌≡◌, ℕ, zero, suc, ◌+◌, ◌<◌, ◌^◌, ◌≤◌, Bool, true, false, cond, ◌&&◌, List, [], ◌∷◌, ◌++◌, length, get_or, take, drop, refl, ap, sym, ◌∙◌, subst, lit<, arith, eqb, Some, position, append_assoc, onto_first, starts_with, common_steps, nat_tests, recursion_from_All, IsCharBoundary-before_ascii, IsCharBoundary-after_ascii, IsUtf8, IsCharBoundary, is_line_end, end_len, lines, IsEnd, HasNoEnd}
 use Rattle.std.proofs.lemmas.List.Quantifiers.{position-Some}
-use Rattle.std.proofs.lemmas.Str.{IsCharBoundary-before_ascii, IsCharBoundary-after_ascii}
-use Rattle.std.specs.Str.{IsUtf8, IsCharBoundary}
-use Rattle.bag_text.specs.LineEnd.{is_line_end, end_len}
-use Rattle.bag_text.specs.Lines.{lines, IsEnd, HasNoEnd}
-use Rattle.bag_text.proofs.LineLaws.{IsPlain, lines_plain, lines_end, lines_line, last_line}
+use Rattle.bag_text.proofs.LineLaws.{IsPlain, lines_plain, lines_end, lines_line}
 
 -- a text splits as its first line, that line's end and the rest
 pub lines_split : (line end after : List ℕ) → HasNoEnd line → IsEnd end after → lines (line ++ end ++ after) ≡ line ∷ lines after
-lines_split line end after plain is =
-    ap lines (append_assoc line end after)
-    ∙ lines_line line (end ++ after) (lines after) (recursion_from_All _ line plain) (lines_end end after is)
-
--- a text without an end is one line
-pub lines_alone : (line : List ℕ) → HasNoEnd line → line ≢ [] → lines line ≡ line ∷ []
-lines_alone line plain some = last_line line (recursion_from_All _ line plain) some
+lines_split line end after plain is = search (arith, append_assoc, lines_line, recursion_from_All, lines_end)
 
 end_small : (c : ℕ) → is_line_end c ≡ true → c < 128
 end_small c e = grind (arith, nat_tests)
@@ -61,21 +47,15 @@ plain_at : (c : ℕ) → is_line_end c ≡ false → IsPlain c
 plain_at c e = ((λ feed. grind (arith, nat_tests)), (λ back. grind (arith, nat_tests)))
 
 end_len-cons : (c : ℕ) (t : List ℕ) (i : ℕ) → end_len (c ∷ t) (suc i) ≡ end_len t i
-end_len-cons c t i =
-    let step : suc i + 1 ≡ suc (i + 1) = omega arith in
-    ap (λ j. cond (eqb (get_or t i 0) 13 && eqb (get_or (c ∷ t) j 0) 10) 2 1) step
+end_len-cons c t i = grind arith
 
 after_end-cons : (c : ℕ) (t : List ℕ) (i : ℕ) → drop (suc i + end_len (c ∷ t) (suc i)) (c ∷ t) ≡ drop (i + end_len t i) t
-after_end-cons c t i =
-    let step : suc i + end_len (c ∷ t) (suc i) ≡ suc (i + end_len t i) = omega (arith, end_len-cons c t i) in
-    ap (λ j. drop j (c ∷ t)) step
+after_end-cons c t i = grind (arith, end_len-cons)
 
 -- the lines of a text whose first line ends at this place
 pub lines_from_end : (t : List ℕ) (i : ℕ) → i < length t → is_line_end (get_or t i 0) ≡ true → ((k : ℕ) → k < i → is_line_end (get_or t k 0) ≡ false) → lines t ≡ take i t ∷ lines (drop (i + end_len t i) t)
 lines_from_end [] i l e n = absurd (omega arith)
-lines_from_end (c ∷ t) zero l e n =
-    let step : 0 + end_len (c ∷ t) 0 ≡ end_len (c ∷ t) 0 = omega arith in
-    after_front c t _ _ refl refl e ∙ ap (λ j. [] ∷ lines (drop j (c ∷ t))) (sym step)
+lines_from_end (c ∷ t) zero l e n = grind (arith, after_front)
 lines_from_end (c ∷ t) (suc i) l e n =
     lines_plain c t (plain_at c (n 0 (omega arith)))
     ∙ ap (onto_first c) (lines_from_end t i (omega arith) e (λ k h. n (suc k) (omega arith)))

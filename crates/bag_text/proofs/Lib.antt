@@ -1,6 +1,7 @@
 pub mod AlgSets
 pub mod Blanks
 pub mod Codes
+pub mod Common
 pub mod CommonFronts
 pub mod FirstByte
 pub mod FirstLine

@@ -1,18 +1,10 @@
 -- Spellings in which the ends of lines alone are escaped.
-use Rattle.std.proofs.Common.{◌≡◌, ◌≢◌, ◌<◌, ◌≤◌, ℕ, suc, List, [], ◌∷◌, ◌++◌, length, get_or, Option, Some, None, Bool, true, false, refl, sym, ap, subst, ◌∙◌, inl, inr, arith, unwrap_or, ◌==◌, append-nil, append_assoc, eqb, nat_lt, bytes_eq, ◌&&◌, lit<}
-use Rattle.std.specs.Char.{to_ascii_lowercase}
-use Rattle.std.specs.Str.{IsUtf8, IsCharBoundary}
-use Rattle.std.proofs.lemmas.Bool.Decides.{nat_tests}
-use Rattle.std.proofs.lemmas.Str.{IsCharBoundary-after_ascii}
+use Rattle.bag_text.proofs.Common.{◌≡◌, ◌≢◌, ◌<◌, ◌≤◌, ℕ, suc, List, [], ◌∷◌, ◌++◌, length, get_or, Option, Some, None, Bool, true, false, refl, sym, ap, subst, ◌∙◌, inl, inr, arith, unwrap_or, ◌==◌, append-nil, append_assoc, nat_lt, bytes_eq, ◌&&◌, lit<, to_ascii_lowercase, IsUtf8, IsCharBoundary, nat_tests, IsCharBoundary-after_ascii, percent, line_end, BeginsWithNone, SpellsLineEnds, with_line_ends, UnescapedIsSpelled}
 use Rattle.bag_text.proofs.SpellingLaws.{strict_spellings}
-use Rattle.bag_text.specs.Spelling.{percent, line_end, BeginsWithNone, SpellsLineEnds, with_line_ends, UnescapedIsSpelled}
 use Rattle.bag_text.specs.declared.rules.Rules.TheVariants.{V10, V097}
 
 is_percent : (c : ℕ) → (c == percent) ≡ true → c ≡ percent
 is_percent c h = grind (arith, h)
-
-not_percent : (c : ℕ) → c ≢ percent → (c == percent) ≡ false
-not_percent c h = grind (arith, h)
 
 -- where a % begins no escape, it is itself, as every other character is
 by_percent : (c d e : ℕ) (s : List ℕ) (mark : Bool) (o : Option ℕ) → (c == percent) ≡ mark → line_end d e ≡ o → (mark ≡ true → o ≡ None)
@@ -42,10 +34,8 @@ other_in_front c s other = plain_in_front c s (other_begins_none c s other)
 
 spelled_is_read : (path s : List ℕ) → SpellsLineEnds s path → with_line_ends s ≡ path
 spelled_is_read [] s is = ap with_line_ends is
-spelled_is_read (c ∷ path) s (rest, more, inl (high, low, is, stands)) =
-    ap with_line_ends is ∙ escape_in_front c high low rest stands ∙ ap (λ x. c ∷ x) (spelled_is_read path rest more)
-spelled_is_read (c ∷ path) s (rest, more, inr (is, none)) =
-    ap with_line_ends is ∙ plain_in_front c rest (subst BeginsWithNone is none) ∙ ap (λ x. c ∷ x) (spelled_is_read path rest more)
+spelled_is_read (c ∷ path) s (rest, more, inl (high, low, is, stands)) = grind (arith, escape_in_front, spelled_is_read path rest more)
+spelled_is_read (c ∷ path) s (rest, more, inr (is, none)) = grind (arith, plain_in_front c rest (subst BeginsWithNone is none), spelled_is_read path rest more)
 
 -- one or two characters begin no escape
 short_begins_none : (c : ℕ) → BeginsWithNone (c ∷ [])
@@ -58,18 +48,13 @@ plain_spells : (c : ℕ) (s : List ℕ) → BeginsWithNone (c ∷ s) → SpellsL
 plain_spells c s none more = subst (SpellsLineEnds (c ∷ s)) (sym (plain_in_front c s none)) (s, more, inr (refl, none))
 
 other_digits : (c d e : ℕ) (s : List ℕ) → line_end d e ≡ None → BeginsWithNone (c ∷ d ∷ e ∷ s)
-other_digits c d e s nothing x rest (high, low, is, stands) =
-    let first : d ≡ high = cc in let second : e ≡ low = cc in
-    let clash : Some x ≡ None = sym stands ∙ sym (ap (λ z. line_end z low) first) ∙ sym (ap (line_end d) second) ∙ nothing in cc
+other_digits c d e s nothing x rest (high, low, is, stands) = grind arith
 
 spells_three : (c d e : ℕ) (s : List ℕ) (mark : Bool) (o : Option ℕ) → (c == percent) ≡ mark → line_end d e ≡ o → SpellsLineEnds s (with_line_ends s)
     → SpellsLineEnds (d ∷ e ∷ s) (with_line_ends (d ∷ e ∷ s)) → SpellsLineEnds (c ∷ d ∷ e ∷ s) (with_line_ends (c ∷ d ∷ e ∷ s))
-spells_three c d e s true (Some x) m is short long =
-    let same : c ∷ d ∷ e ∷ s ≡ percent ∷ d ∷ e ∷ s = ap (λ p. p ∷ d ∷ e ∷ s) (is_percent c m) in
-    subst (SpellsLineEnds (c ∷ d ∷ e ∷ s)) (sym (ap with_line_ends same ∙ escape_in_front x d e s is)) (s, short, inl (d, e, same, is))
+spells_three c d e s true (Some x) m is short long = grind (arith, is_percent, escape_in_front)
 spells_three c d e s true None m is short long = plain_spells c (d ∷ e ∷ s) (other_digits c d e s is) long
-spells_three c d e s false o m is short long =
-    plain_spells c (d ∷ e ∷ s) (other_begins_none c (d ∷ e ∷ s) (λ same. let clash : true ≡ false = sym (ap (λ z. z == percent) same) ∙ m in cc)) long
+spells_three c d e s false o m is short long = grind (arith, plain_spells, other_begins_none)
 
 read_is_spelled : (s : List ℕ) → SpellsLineEnds s (with_line_ends s)
 read_is_spelled [] = refl
@@ -79,18 +64,14 @@ read_is_spelled (c ∷ d ∷ e ∷ s) = spells_three c d e s (c == percent) (lin
 
 pub spellings : UnescapedIsSpelled
 spellings V10 s path = strict_spellings s path
-spellings V097 s path = (
-  λ w. ap {B = Option (List ℕ)} Some (spelled_is_read path s w),
-  λ e. subst (SpellsLineEnds s) (ap (λ o. unwrap_or o []) e) (read_is_spelled s),
-)
+spellings V097 s path = grind (arith, spelled_is_read, unwrap_or, read_is_spelled)
 
 -- ---- reading piece by piece
 
 -- what stands before the first % is read as itself
 pub read_front : (front rest : List ℕ) → ((i : ℕ) → i < length front → get_or front i 0 ≢ percent) → with_line_ends (front ++ rest) ≡ front ++ with_line_ends rest
 read_front [] rest h = refl
-read_front (c ∷ front) rest h =
-    other_in_front c (front ++ rest) (h 0 (omega arith)) ∙ ap (λ x. c ∷ x) (read_front front rest (λ i l. h (suc i) (omega arith)))
+read_front (c ∷ front) rest h = other_in_front c (front ++ rest) (h 0 (omega arith)) ∙ ap (λ x. c ∷ x) (read_front front rest (λ i l. h (suc i) (omega arith)))
 
 pub read_whole : (t : List ℕ) → ((i : ℕ) → i < length t → get_or t i 0 ≢ percent) → with_line_ends t ≡ t
 read_whole t h = ap with_line_ends (sym (append-nil t)) ∙ read_front t [] h ∙ append-nil t
@@ -99,9 +80,7 @@ read_whole t h = ap with_line_ends (sym (append-nil t)) ∙ read_front t [] h �
 pub read_more : (t path rest plain after more new : List ℕ) (c : ℕ) → with_line_ends t ≡ path ++ with_line_ends rest → rest ≡ plain ++ percent ∷ after
     → ((i : ℕ) → i < length plain → get_or plain i 0 ≢ percent) → with_line_ends (percent ∷ after) ≡ c ∷ with_line_ends more → new ≡ (path ++ plain) ++ c ∷ []
     → with_line_ends t ≡ new ++ with_line_ends more
-read_more t path rest plain after more new c read is none here now =
-    read ∙ ap (λ x. path ++ x) (ap with_line_ends is ∙ read_front plain (percent ∷ after) none ∙ ap (λ x. plain ++ x) here)
-    ∙ sym (append_assoc path plain (c ∷ with_line_ends more)) ∙ sym (append_assoc (path ++ plain) (c ∷ []) (with_line_ends more)) ∙ ap (λ x. x ++ with_line_ends more) (sym now)
+read_more t path rest plain after more new c read is none here now = grind (arith, read_front, append_assoc)
 
 -- and the rest, in which there is no %
 pub read_all : (t path rest new : List ℕ) → with_line_ends t ≡ path ++ with_line_ends rest → ((i : ℕ) → i < length rest → get_or rest i 0 ≢ percent) → new ≡ path ++ rest
@@ -118,9 +97,7 @@ never true c e = ap (λ x. x && true) e
 never false c e = refl
 
 never_escaped : (d e k : ℕ) → 128 ≤ e → k < 128 → (c : ℕ) → bytes_eq (to_ascii_lowercase d ∷ to_ascii_lowercase e ∷ []) (c ∷ k ∷ []) ≡ false
-never_escaped d e k h l c =
-    let other : eqb e k ≡ false = grind (arith, nat_tests) in
-    rw (lower_large e h) (never (eqb (to_ascii_lowercase d) c) (eqb e k) other)
+never_escaped d e k h l c = grind (arith, nat_tests, lower_large, never)
 
 line_end_large : (d e : ℕ) → 128 ≤ e → line_end d e ≡ None
 line_end_large d e h = rw (never_escaped d e 97 h (lit< tt) 48, never_escaped d e 100 h (lit< tt) 48) refl

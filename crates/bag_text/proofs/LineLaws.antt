@@ -1,8 +1,5 @@
 -- The lines of a text are its only cut.
-use Rattle.std.proofs.Common.{◌≡◌, ◌≢◌, ℕ, List, [], ◌∷◌, ◌++◌, Bool, true, false, refl, sym, ap, subst, ◌∙◌, inl, inr, arith, ◌==◌, nat_eq, cond, append_assoc}
-use Rattle.std.specs.List.{onto_first, starts_with, AllByRecursion, slice_index_or}
-use Rattle.std.proofs.lemmas.List.Elements.{recursion_from_All, All-from_recursion, All-cons}
-use Rattle.bag_text.specs.Lines.{line_feed, carriage_return, lines, IsEnd, Cut, LinesAreTheOnlyCut}
+use Rattle.bag_text.proofs.Common.{◌≡◌, ◌≢◌, ℕ, List, [], ◌∷◌, ◌++◌, Bool, true, false, refl, sym, ap, subst, ◌∙◌, inl, inr, arith, ◌==◌, nat_eq, append_assoc, onto_first, starts_with, AllByRecursion, slice_index_or, recursion_from_All, All-from_recursion, line_feed, carriage_return, lines, IsEnd, Cut, LinesAreTheOnlyCut}
 
 -- what is known of one character of a line
 abbrev pub IsPlain : ℕ → Type 0
@@ -22,8 +19,7 @@ line_feed_in_front (c ∷ t) h = grind (arith, is_not c t h)
 pub lines_end : (end after : List ℕ) → IsEnd end after → lines (end ++ after) ≡ [] ∷ lines after
 lines_end end after (inl feed) = ap (λ e. lines (e ++ after)) feed
 lines_end end after (inr (inl both_ends)) = ap (λ e. lines (e ++ after)) both_ends
-lines_end end after (inr (inr (alone, none))) =
-    ap (λ e. lines (e ++ after)) alone ∙ ap (λ b. cond b (lines after) ([] ∷ lines after)) (line_feed_in_front after none)
+lines_end end after (inr (inr (alone, none))) = grind (arith, line_feed_in_front)
 
 -- a line and its end are read as one line
 pub lines_line : (line rest : List ℕ) (others : List (List ℕ)) → AllByRecursion IsPlain line → lines rest ≡ [] ∷ others → lines (line ++ rest) ≡ line ∷ others
@@ -41,26 +37,16 @@ last_line (c ∷ line) plain some = lines_last c line plain
 
 cut_is_lines : (all : List (List ℕ)) (t : List ℕ) → Cut t all → all ≡ lines t
 cut_is_lines [] t cut = sym (ap lines cut)
-cut_is_lines (line ∷ rest) t (plain, inl (whole, some, none)) =
-    ap (λ r. line ∷ r) none ∙ sym (ap lines whole ∙ last_line line (recursion_from_All _ line plain) some)
+cut_is_lines (line ∷ rest) t (plain, inl (whole, some, none)) = grind (arith, last_line, recursion_from_All)
 cut_is_lines (line ∷ rest) t (plain, inr (end, after, is, parts, more)) =
     let read : lines (line ++ (end ++ after)) ≡ line ∷ lines after = lines_line line (end ++ after) (lines after) (recursion_from_All _ line plain) (lines_end end after is) in
     ap (λ r. line ∷ r) (cut_is_lines rest after more) ∙ sym (ap lines (parts ∙ append_assoc line end after) ∙ read)
 
 -- a plain character in front of the first line
 cut_plain : (c : ℕ) (t : List ℕ) (all : List (List ℕ)) → IsPlain c → Cut t all → Cut (c ∷ t) (onto_first c all)
-cut_plain c t [] plain cut =
-    (All-from_recursion IsPlain (c ∷ []) (plain, tt), inl (ap (λ u. c ∷ u) cut, cons_is_some, refl))
-  where
-    cons_is_some : c ∷ [] ≢ []
-    cons_is_some e = cc
-cut_plain c t (line ∷ rest) plain (clean, inl (whole, some, none)) =
-    (All-cons IsPlain c line plain clean, inl (ap (λ u. c ∷ u) whole, cons_is_some, none))
-  where
-    cons_is_some : c ∷ line ≢ []
-    cons_is_some e = cc
-cut_plain c t (line ∷ rest) plain (clean, inr (end, after, is, parts, more)) =
-    (All-cons IsPlain c line plain clean, inr (end, after, is, ap (λ u. c ∷ u) parts, more))
+cut_plain c t [] plain cut = grind arith
+cut_plain c t (line ∷ rest) plain (clean, inl (whole, some, none)) = grind arith
+cut_plain c t (line ∷ rest) plain (clean, inr (end, after, is, parts, more)) = grind arith
 
 -- an end in front of the lines
 cut_end : (end after : List ℕ) (all : List (List ℕ)) → IsEnd end after → Cut after all → Cut (end ++ after) ([] ∷ all)
@@ -88,11 +74,8 @@ cut_in_front : (c : ℕ) (t : List ℕ) (feed back : Bool) → (c == line_feed) 
     → Cut t (lines t) → Cut (carriage_return ∷ t) (lines (carriage_return ∷ t)) → Cut (c ∷ t) (lines (c ∷ t))
 cut_in_front c t true back h k cut returned =
     subst (λ x. Cut (x ∷ t) (lines (x ∷ t))) (sym (is_feed c line_feed h)) (cut_end (line_feed ∷ []) t (lines t) (inl refl) cut)
-cut_in_front c t false true h k cut returned =
-    subst (λ x. Cut (x ∷ t) (lines (x ∷ t))) (sym (is_feed c carriage_return k)) returned
-cut_in_front c t false false h k cut returned =
-    let plain : IsPlain c = (is_no c line_feed h, is_no c carriage_return k) in
-    subst (Cut (c ∷ t)) (sym (lines_plain c t plain)) (cut_plain c t (lines t) plain cut)
+cut_in_front c t false true h k cut returned = grind (arith, is_feed)
+cut_in_front c t false false h k cut returned = grind (arith, is_no, lines_plain, cut_plain)
 
 cut_return_alone : Cut (carriage_return ∷ []) (lines (carriage_return ∷ []))
 cut_return_alone = cut_end (carriage_return ∷ []) [] [] (inr (inr (refl, nothing_follows))) refl
@@ -103,8 +86,7 @@ cut_return_alone = cut_end (carriage_return ∷ []) [] [] (inr (inr (refl, nothi
 lines_are_cut : (t : List ℕ) → Cut t (lines t)
 lines_are_cut [] = refl
 lines_are_cut (c ∷ []) = cut_in_front c [] _ _ refl refl refl cut_return_alone
-lines_are_cut (c ∷ d ∷ u) =
-    cut_in_front c (d ∷ u) _ _ refl refl (lines_are_cut (d ∷ u)) (cut_return d u _ refl (lines_are_cut (d ∷ u)) (lines_are_cut u))
+lines_are_cut (c ∷ d ∷ u) = cut_in_front c (d ∷ u) _ _ refl refl (lines_are_cut (d ∷ u)) (cut_return d u _ refl (lines_are_cut (d ∷ u)) (lines_are_cut u))
 
 -- a text is cut into its lines, and into no others
 pub only_cut : LinesAreTheOnlyCut

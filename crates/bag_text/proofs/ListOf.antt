@@ -1,8 +1,5 @@
 -- Ascending lists of sets: of nothing, of one, of two sets of which one lies below the other, and that there is one.
-use Rattle.std.proofs.Common.{◌≡◌, zero, suc, ◌⊎◌, inl, inr, List, [], ◌∷◌, ◌++◌, refl, ap, sym, ◌∙◌, subst, arith, Option, None, Some}
-use Rattle.std.specs.Prelude.{Contains}
-use Rattle.std.specs.Option.{option_to_list}
-use Rattle.std.specs.List.{AllByRecursion}
+use Rattle.bag_text.proofs.Common.{◌≡◌, zero, suc, ◌⊎◌, inl, inr, List, [], ◌∷◌, ◌++◌, refl, ap, sym, ◌∙◌, subst, arith, Option, None, Some, Contains, option_to_list, AllByRecursion}
 use Rattle.std.specs.List.Sorted.{IsStrictlySortedBy}
 use Rattle.std.specs.Cmp.{IsTotalOrder}
 use Rattle.std.specs.declared.cmp.Ordering.{Ordering}
@@ -76,13 +73,7 @@ module _ {A : Type 0} (cmp : A → A → Ordering) where
   -- the list of one member
   pub one_listed : (Member : A → Type 0) (x : A) → Member x → ((y : A) → Member y → y ≡ x) → IsListOf cmp Member (x ∷ [])
   unfolding IsStrictlySortedBy
-  one_listed Member x is only = record {
-    ascending = (tt, tt);
-    members = λ y. (
-      λ c. elim (contains_cases x [] y c) [ inl e ↦ subst Member e is | inr d ↦ absurd (contains_nothing y d) ],
-      λ m. subst (Contains (x ∷ [])) (sym (only y m)) (contains_first x []),
-    );
-  }
+  one_listed Member x is only = grind (arith, contains_cases, contains_nothing, contains_first)
 
   -- the list of a set of one member at most
   pub only_listed : (Member : A → Type 0) (o : Option A) → IsOnly Member o → IsListOf cmp Member (option_to_list o)
@@ -124,8 +115,7 @@ module _ {A : Type 0} (cmp : A → A → Ordering) where
 
     -- a member behind the first of one list stands behind the same first of the other
     behind_too : (x y : A) (xs ys : List A) → x ≡ y → AllByRecursion (λ z. cmp x z ≡ Less) xs → ((z : A) → Contains (x ∷ xs) z → Contains (y ∷ ys) z) → (z : A) → Contains xs z → Contains ys z
-    behind_too x y xs ys e less to z c =
-        elim (contains_cases y ys z (to z (contains_behind x xs z c))) [ inl h ↦ absurd (never_itself x z (e ∙ h) (member_has _ xs z less c)) | inr d ↦ d ]
+    behind_too x y xs ys e less to z c = grind (arith, contains_cases y ys z (to z (contains_behind x xs z c)), member_has _ xs z less c, contains_behind, never_itself)
 
     -- two ascending lists with the same members are one
     pub same_lists : (xs ys : List A) → IsStrictlySortedBy cmp xs → IsStrictlySortedBy cmp ys → ((z : A) → Contains xs z → Contains ys z) → ((z : A) → Contains ys z → Contains xs z) → xs ≡ ys

@@ -1,11 +1,6 @@
 -- Paths that are read byte by byte.
-use Rattle.std.proofs.Common.{◌≡◌, ◌≢◌, ℕ, suc, ◌+◌, ◌<◌, Bool, true, false, not, cond, ◌&&◌, ◌||◌, IsTrue, List, [], ◌∷◌, ◌++◌, length, get_or, drop, refl, sym, ap, ◌∙◌, subst, eqb, arith, append_assoc, append-nil}
-use Rattle.std.specs.List.{list_all, onto_first}
-use Rattle.std.proofs.Math.Seq.{drop-cons, drop-length}
-use Rattle.bag_text.specs.Path.{slash, components, is_component, is_path}
+use Rattle.bag_text.proofs.Common.{◌≡◌, ◌≢◌, ℕ, suc, ◌+◌, ◌<◌, Bool, true, false, not, cond, ◌&&◌, ◌||◌, IsTrue, List, [], ◌∷◌, ◌++◌, length, get_or, drop, refl, sym, ap, ◌∙◌, eqb, arith, append_assoc, append-nil, list_all, onto_first, drop-cons, slash, components, is_component, is_path, Part, Empty, Dot, TwoDots, Name}
 use Rattle.bag_text.specs.PathPart.{part_of, with_byte, is_name}
-use Rattle.bag_text.specs.declared.path.Part.{Part}
-use Rattle.bag_text.specs.declared.path.Part.TheVariants.{Empty, Dot, TwoDots, Name}
 use Rattle.bag_text.proofs.Paths.{is_slash, some_component}
 
 second_byte : (b : Bool) (c : ℕ) → cond (b && eqb c 46) TwoDots Name ≡ with_byte (cond b Dot Name) c
@@ -71,9 +66,6 @@ and_true : (b : Bool) → (b && true) ≡ b
 and_true true = refl
 and_true false = refl
 
-good_end : (p : List ℕ) → are_good p [] ≡ is_name (part_of p)
-good_end p = ap (λ x. is_component x && true) (append-nil p) ∙ and_true (is_component p) ∙ name_test p
-
 -- the components before place k are good, and the one that begins there is this so far
 abbrev pub IsReadTo : Part → List ℕ → ℕ → Type 0
 IsReadTo part t k = (p : List ℕ) × (part ≡ part_of p) × (is_path t ≡ are_good p (drop k t))
@@ -85,32 +77,20 @@ at : (t : List ℕ) (k : ℕ) → k < length t → drop k t ≡ get_or t k 0 ∷
 at t k h = let step : suc k ≡ k + 1 = omega arith in drop-cons t k 0 h ∙ ap (λ j. get_or t k 0 ∷ drop j t) step
 
 pub read_byte : (part : Part) (t : List ℕ) (k : ℕ) → k < length t → is_slash (get_or t k 0) ≡ false → IsReadTo part t k → IsReadTo (with_byte part (get_or t k 0)) t (k + 1)
-read_byte part t k h other (p, is, good) = (
-  p ++ get_or t k 0 ∷ [],
-  ap (λ x. with_byte x (get_or t k 0)) is ∙ sym (part_more p (get_or t k 0)),
-  good ∙ ap (are_good p) (at t k h) ∙ good_byte p (get_or t k 0) (drop (k + 1) t) other,
-)
+read_byte part t k h other (p, is, good) = grind (arith, part_more, at, good_byte)
 
 slash_read : (part : Part) (t : List ℕ) (k : ℕ) → k < length t → is_slash (get_or t k 0) ≡ true → IsReadTo part t k → is_path t ≡ (is_name part && are_good [] (drop (k + 1) t))
-slash_read part t k h slash (p, is, good) =
-    good ∙ ap (are_good p) (at t k h) ∙ good_slash p (get_or t k 0) (drop (k + 1) t) slash ∙ ap (λ x. is_name x && are_good [] (drop (k + 1) t)) (sym is)
+slash_read part t k h slash (p, is, good) = grind (arith, at, good_slash)
 
 pub read_slash : (part : Part) (t : List ℕ) (k : ℕ) → k < length t → is_slash (get_or t k 0) ≡ true → is_name part ≡ true → IsReadTo part t k → IsReadTo Empty t (k + 1)
 read_slash part t k h slash name read = ([], refl, slash_read part t k h slash read ∙ ap (λ b. b && are_good [] (drop (k + 1) t)) name)
-
-pub read_bad : (part : Part) (t : List ℕ) (k : ℕ) → k < length t → is_slash (get_or t k 0) ≡ true → is_name part ≡ false → IsReadTo part t k → is_path t ≡ false
-read_bad part t k h slash bad read = slash_read part t k h slash read ∙ ap (λ b. b && are_good [] (drop (k + 1) t)) bad
-
-pub read_end : (part : Part) (t : List ℕ) (k : ℕ) → k ≡ length t → IsReadTo part t k → is_path t ≡ is_name part
-read_end part t k end (p, is, good) = good ∙ ap (are_good p) (ap (λ j. drop j t) end ∙ drop-length t) ∙ good_end p ∙ ap is_name (sym is)
 
 -- of components that don't begin with a dot, what is read where one begins or behind its first byte
 plain_byte : (begins is_end is_dot : Bool) (t : List ℕ) (k : ℕ) → k < length t → is_slash (get_or t k 0) ≡ is_end → eqb (get_or t k 0) 46 ≡ is_dot
     → IsReadTo (cond begins Empty Name) t k → IsTrue (not (begins && (is_end || is_dot))) → IsReadTo (cond is_end Empty Name) t (k + 1)
 plain_byte true true is_dot t k h slash dot read w = cc
 plain_byte true false true t k h slash dot read w = cc
-plain_byte true false false t k h slash dot read w =
-    subst (λ (x : Part). IsReadTo x t (k + 1)) (ap (λ b. cond b Dot Name) dot) (read_byte Empty t k h slash read)
+plain_byte true false false t k h slash dot read w = grind (arith, read_byte Empty t k h slash read)
 plain_byte false true is_dot t k h slash dot read w = read_slash Name t k h slash refl read
 plain_byte false false is_dot t k h slash dot read w = read_byte Name t k h slash read
 

@@ -1,11 +1,6 @@
 -- Paths and their components.
-use Rattle.std.proofs.Common.{◌≡◌, ◌≢◌, ℕ, Bool, true, false, cond, List, [], ◌∷◌, length, refl, sym, ap, subst, ◌∙◌, eqb, arith, All}
-use Rattle.std.specs.List.{onto_first, AllByRecursion, AllPass, join_with_byte}
-use Rattle.std.proofs.lemmas.Bool.Decides.{nat_tests}
-use Rattle.std.proofs.lemmas.List.Elements.{recursion_from_All, All-from_recursion}
+use Rattle.bag_text.proofs.Common.{◌≡◌, ◌≢◌, ℕ, Bool, true, false, cond, List, [], ◌∷◌, length, refl, sym, ap, subst, ◌∙◌, eqb, arith, All, onto_first, AllByRecursion, AllPass, join_with_byte, nat_tests, recursion_from_All, All-from_recursion, AllPass-from_list_all, list_all-from_AllPass, slash, components, is_component, PathsAreJoinedComponents}
 use Rattle.std.proofs.lemmas.List.Splits.{slice_split_none, slice_split_at, length-slice_split, join_with_byte-slice_split}
-use Rattle.std.proofs.lemmas.List.Sums.{AllPass-from_list_all, list_all-from_AllPass}
-use Rattle.bag_text.specs.Path.{slash, components, is_component, PathsAreJoinedComponents}
 
 abbrev pub is_slash : ℕ → Bool
 is_slash c = eqb c slash
@@ -26,9 +21,7 @@ clean_fails part clean k d l = not_slash _ (clean k d l)
 -- components that are joined are cut again
 split_join : (part : List ℕ) (parts : List (List ℕ)) → AllByRecursion IsClean (part ∷ parts) → components (join_with_byte slash (part ∷ parts)) ≡ part ∷ parts
 split_join part [] clean = slice_split_none is_slash part (clean_fails part clean.0)
-split_join part (next ∷ parts) clean =
-    slice_split_at is_slash part slash (join_with_byte slash (next ∷ parts)) (clean_fails part clean.0) refl
-    ∙ ap (λ more. part ∷ more) (split_join next parts clean.1)
+split_join part (next ∷ parts) clean = grind (arith, slice_split_at, clean_fails, split_join next parts clean.1)
 
 joined_again : (parts : List (List ℕ)) → parts ≢ [] → AllByRecursion IsClean parts → components (join_with_byte slash parts) ≡ parts
 joined_again [] some clean = absurd (some refl)

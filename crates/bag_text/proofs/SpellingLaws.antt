@@ -1,8 +1,5 @@
 -- Spellings of paths.
-use Rattle.std.proofs.Common.{◌≡◌, ◌≢◌, ◌↔◌, ℕ, List, [], ◌∷◌, ◌++◌, Option, Some, None, Bool, true, false, refl, sym, ap, subst, ◌∙◌, inl, inr, arith, unwrap_or, is_some, ◌==◌}
-use Rattle.std.proofs.lemmas.Bool.Decides.{nat_tests}
-use Rattle.bag_text.specs.Lines.{line_feed, carriage_return}
-use Rattle.bag_text.specs.Spelling.{percent, escaped, SpellsStrictly, both, itself, unescaped_strictly, escape_one, escape, EscapedIsReadAgain}
+use Rattle.bag_text.proofs.Common.{◌≡◌, ◌≢◌, ◌↔◌, ℕ, List, [], ◌∷◌, ◌++◌, Option, Some, None, Bool, true, false, refl, sym, ap, subst, ◌∙◌, inl, inr, arith, unwrap_or, is_some, ◌==◌, nat_tests, line_feed, carriage_return, percent, escaped, SpellsStrictly, both, itself, unescaped_strictly, escape_one, escape, EscapedIsReadAgain}
 
 some_is_not_none : {A : Type 0} (x : A) → Some x ≡ None → ⊥
 some_is_not_none x e = let h : true ≡ false = ap is_some e in cc
@@ -22,12 +19,8 @@ unescaped_plain c (d ∷ e ∷ s) h = grind (arith, h)
 
 spelled_is_unescaped : (path s : List ℕ) → SpellsStrictly s path → unescaped_strictly s ≡ Some path
 spelled_is_unescaped [] s w = ap unescaped_strictly w
-spelled_is_unescaped (c ∷ path) s (front, rest, parts, inl (other, alone), more) =
-    let text : s ≡ c ∷ rest = parts ∙ ap (λ f. f ++ rest) alone in
-    ap unescaped_strictly text ∙ unescaped_plain c rest other ∙ ap (both (Some c)) (spelled_is_unescaped path rest more)
-spelled_is_unescaped (c ∷ path) s (front, rest, parts, inr (high, low, escape, stands), more) =
-    let text : s ≡ percent ∷ high ∷ low ∷ rest = parts ∙ ap (λ f. f ++ rest) escape in
-    ap unescaped_strictly text ∙ ap (λ o. both o (unescaped_strictly rest)) stands ∙ ap (both (Some c)) (spelled_is_unescaped path rest more)
+spelled_is_unescaped (c ∷ path) s (front, rest, parts, inl (other, alone), more) = grind (arith, unescaped_plain, spelled_is_unescaped path rest more)
+spelled_is_unescaped (c ∷ path) s (front, rest, parts, inr (high, low, escape, stands), more) = grind (arith, spelled_is_unescaped path rest more)
 
 -- where both are there, so is each
 both_there : (o : Option ℕ) (os : Option (List ℕ)) (path : List ℕ) → both o os ≡ Some path

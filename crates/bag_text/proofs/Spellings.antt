@@ -1,14 +1,7 @@
 -- Reading and writing spellings piece by piece.
-use Rattle.std.proofs.Common.{◌≡◌, ◌≢◌, ◌↔◌, IsTrue, ℕ, suc, ◌<◌, ◌≤◌, List, [], ◌∷◌, ◌++◌, length, get_or, Option, Some, None, Bool, true, false, not, ◌&&◌, ◌||◌, refl, sym, ap, ◌∙◌, arith, eqb, append_assoc, append-nil, encode_utf8, nat_lt, lit<}
-use Rattle.std.specs.Char.{to_ascii_lowercase}
-use Rattle.std.specs.List.{list_all}
-use Rattle.std.specs.Option.{option_map}
-use Rattle.std.specs.Str.{IsUtf8, IsCharBoundary, NoCharPasses, encode_utf8_all, bytes_eq}
-use Rattle.std.proofs.lemmas.Bool.Decides.{nat_tests}
+use Rattle.bag_text.proofs.Common.{◌≡◌, ◌≢◌, ◌↔◌, IsTrue, ℕ, suc, ◌<◌, ◌≤◌, List, [], ◌∷◌, ◌++◌, length, get_or, Option, Some, None, Bool, true, false, not, ◌&&◌, ◌||◌, refl, sym, ap, ◌∙◌, arith, eqb, append_assoc, append-nil, encode_utf8, nat_lt, lit<, to_ascii_lowercase, list_all, option_map, IsUtf8, IsCharBoundary, NoCharPasses, encode_utf8_all, nat_tests, list_all_at, NoCharPasses-byte, encodes-append, IsCharBoundary-after_ascii, percent, escaped, both, unescaped_strictly, escape_one, escape}
+use Rattle.std.specs.Str.{bytes_eq}
 use Rattle.std.proofs.lemmas.List.Concat.{flat_map-append}
-use Rattle.std.proofs.lemmas.List.Folds.{list_all_at}
-use Rattle.std.proofs.lemmas.Str.{NoCharPasses-byte, encodes-append, IsCharBoundary-after_ascii}
-use Rattle.bag_text.specs.Spelling.{percent, escaped, both, unescaped_strictly, escape_one, escape}
 use Rattle.bag_text.proofs.SpellingLaws.{unescaped_plain}
 
 -- a character that is escaped
@@ -39,8 +32,7 @@ escape_more cs c = ap escape (encodes-append cs (c ∷ []) ∙ ap (λ x. encode_
 -- and what is written for it stands behind the others
 pub escape_behind : (cs : List ℕ) (c : ℕ) (text new written : List ℕ) → new ≡ text ++ written → text ≡ escape (encode_utf8_all cs) → escape (encode_utf8 c) ≡ written
     → new ≡ escape (encode_utf8_all (cs ++ c ∷ []))
-escape_behind cs c text new written now so_far one =
-    now ∙ ap (λ x. x ++ written) so_far ∙ ap (λ x. escape (encode_utf8_all cs) ++ x) (sym one) ∙ sym (escape_more cs c)
+escape_behind cs c text new written now so_far one = grind (arith, escape_more)
 
 both_front : (c : ℕ) (front : List ℕ) (o : Option (List ℕ)) → both (Some c) (option_map (λ more. front ++ more) o) ≡ option_map (λ more. c ∷ front ++ more) o
 both_front c front None = refl
@@ -63,15 +55,12 @@ unescaped_whole t h = ap unescaped_strictly (sym (append-nil t)) ∙ unescaped_f
 
 -- a text without a % is read as itself
 pub unescaped_without : (t : List ℕ) → list_all (λ c. not (eqb c percent)) t ≡ true → unescaped_strictly t ≡ Some t
-unescaped_without t none =
-    unescaped_whole t
-    (λ i l same. (let clash : true ≡ false = sym none ∙ list_all_at (λ c. not (eqb c percent)) t i 0 l (ap (λ c. not (eqb c percent)) same) in cc))
+unescaped_without t none = grind (arith, unescaped_whole, list_all_at)
 
 -- the path as far as it is read, one more piece and one more character
 pub read_more : (path plain : List ℕ) (c : ℕ) (o : Option (List ℕ)) → option_map (λ more. path ++ more) (option_map (λ more. plain ++ more) (both (Some c) o)) ≡ option_map (λ more. ((path ++ plain) ++ c ∷ []) ++ more) o
 read_more path plain c None = refl
-read_more path plain c (Some more) =
-    ap {B = Option (List ℕ)} Some (sym (append_assoc path plain (c ∷ more)) ∙ sym (append_assoc (path ++ plain) (c ∷ []) more))
+read_more path plain c (Some more) = grind (arith, append_assoc)
 
 lower_large : (c : ℕ) → 128 ≤ c → to_ascii_lowercase c ≡ c
 lower_large c h = grind (arith, nat_tests)
@@ -81,9 +70,7 @@ never true c e = ap (λ x. x && true) e
 never false c e = refl
 
 never_escaped : (d e k : ℕ) → 128 ≤ e → k < 128 → (c : ℕ) → bytes_eq (to_ascii_lowercase d ∷ to_ascii_lowercase e ∷ []) (c ∷ k ∷ []) ≡ false
-never_escaped d e k h l c =
-    let other : eqb e k ≡ false = grind (arith, nat_tests) in
-    rw (lower_large e h) (never (eqb (to_ascii_lowercase d) c) (eqb e k) other)
+never_escaped d e k h l c = grind (arith, nat_tests, lower_large, never)
 
 escaped_large : (d e : ℕ) → 128 ≤ e → escaped d e ≡ None
 escaped_large d e h = rw (never_escaped d e 97 h (lit< tt) 48, never_escaped d e 100 h (lit< tt) 48, never_escaped d e 53 h (lit< tt) 50) refl
@@ -101,8 +88,7 @@ cut_escape (d ∷ e ∷ s) u h = ap (λ o. both o (unescaped_strictly s)) (secon
 -- a bad escape behind what is read
 pub read_none : (t path rest plain after : List ℕ) → unescaped_strictly t ≡ option_map (λ more. path ++ more) (unescaped_strictly rest) → rest ≡ plain ++ percent ∷ after
     → ((i : ℕ) → i < length plain → get_or plain i 0 ≢ percent) → unescaped_strictly (percent ∷ after) ≡ None → unescaped_strictly t ≡ None
-read_none t path rest plain after read is none bad =
-    read ∙ ap (option_map (λ more. path ++ more)) (ap unescaped_strictly is ∙ unescaped_front plain (percent ∷ after) none ∙ ap (option_map (λ more. plain ++ more)) bad)
+read_none t path rest plain after read is none bad = grind (arith, unescaped_front)
 
 -- text in front, or one character, makes no difference to whether there is a bad escape
 nothing_put : (front : List ℕ) (o : Option (List ℕ)) → (option_map (λ more. front ++ more) o ≡ None) ↔ (o ≡ None)
@@ -122,18 +108,12 @@ none_before rest plain after is none bad = ap unescaped_strictly is ∙ unescape
 pub none_behind : (t rest plain after more : List ℕ) (c : ℕ) → (unescaped_strictly t ≡ None) ↔ (unescaped_strictly rest ≡ None) → rest ≡ plain ++ percent ∷ after
     → ((i : ℕ) → i < length plain → get_or plain i 0 ≢ percent) → unescaped_strictly (percent ∷ after) ≡ both (Some c) (unescaped_strictly more)
     → (unescaped_strictly t ≡ None) ↔ (unescaped_strictly more ≡ None)
-none_behind t rest plain after more c alike is none here =
-    let read = ap unescaped_strictly is ∙ unescaped_front plain (percent ∷ after) none ∙ ap (option_map (λ x. plain ++ x)) here in (
-      (λ e. (nothing_behind c _).0 ((nothing_put plain _).0 (sym read ∙ alike.0 e))),
-      (λ e. alike.1 (read ∙ (nothing_put plain _).1 ((nothing_behind c _).1 e))),
-    )
+none_behind t rest plain after more c alike is none here = grind (arith, unescaped_front, nothing_behind, nothing_put)
 
 -- where no % is left, none is bad
 pub none_whole : (t rest : List ℕ) → (unescaped_strictly t ≡ None) ↔ (unescaped_strictly rest ≡ None) → ((i : ℕ) → i < length rest → get_or rest i 0 ≢ percent)
     → IsTrue false ↔ (unescaped_strictly t ≡ None)
-none_whole t rest alike none =
-    let whole = unescaped_whole rest none in
-    (λ e. cc, λ e. let clash : Some rest ≡ None = sym whole ∙ alike.0 e in cc)
+none_whole t rest alike none = grind (arith, unescaped_whole)
 
 -- an escape behind what is read
 pub read_escape : (t path rest plain after more new : List ℕ) (c : ℕ) → unescaped_strictly t ≡ option_map (λ more. path ++ more) (unescaped_strictly rest) → rest ≡ plain ++ percent ∷ after

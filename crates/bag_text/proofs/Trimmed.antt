@@ -1,11 +1,6 @@
 -- What trimming takes from a text.
-use Rattle.std.proofs.Common.{◌≡◌, ℕ, suc, ◌+◌, ◌-◌, Bool, true, false, cond, List, [], ◌∷◌, ◌++◌, length, take, drop, reverse, refl, sym, ap, ◌∙◌, subst, arith, append_assoc, length-drop}
-use Rattle.std.specs.List.{list_all, prefix_len, suffix_len}
-use Rattle.std.proofs.lemmas.Bool.{and_parts}
-use Rattle.std.proofs.lemmas.List.{take-append-drop, reverse-append, reverse-reverse, length-reverse}
-use Rattle.std.proofs.lemmas.List.Folds.{list_all-append}
-use Rattle.std.proofs.Math.Seq.{take-append_seam}
-use Rattle.bag_text.specs.Text.{is_blank, without_leading_blanks, without_trailing_blanks}
+use Rattle.bag_text.proofs.Common.{◌≡◌, ℕ, suc, ◌+◌, ◌-◌, Bool, true, false, cond, List, [], ◌∷◌, ◌++◌, length, take, drop, reverse, refl, sym, ap, ◌∙◌, subst, arith, append_assoc, list_all, prefix_len, suffix_len, and_parts, take-append-drop, reverse-append, reverse-reverse, length-reverse, list_all-append, take-append_seam, is_blank, without_leading_blanks, without_trailing_blanks}
+use Rattle.std.proofs.Common.{length-drop}
 use Rattle.bag_text.specs.Trim.{BeginsWithNoBlank, EndsWithNoBlank, TrimTakesOuterBlanks}
 
 module _ (p : ℕ → Bool) where
@@ -54,9 +49,7 @@ module _ (p : ℕ → Bool) where
         ∙ reverse-append (take (suffix_len p t) (reverse t)) (drop (suffix_len p t) (reverse t))
 
     kept_is : take (length t - suffix_len p t) t ≡ kept
-    kept_is =
-        let long : length t - suffix_len p t ≡ length kept = omega (arith, length-reverse (drop (suffix_len p t) (reverse t)), length-drop (suffix_len p t) (reverse t), length-reverse t) in
-        ap (λ n. take n t) long ∙ ap (take (length kept)) cut ∙ take-append_seam kept gone
+    kept_is = grind (arith, length-reverse, length-drop, cut, take-append_seam)
 
     gone_passes : list_all p gone ≡ true
     gone_passes = all_reversed (take (suffix_len p t) (reverse t)) (front_passes (reverse t))

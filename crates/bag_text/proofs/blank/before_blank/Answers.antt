@@ -1,6 +1,4 @@
-use Rattle.std.proofs.Common.{◌∙◌, arith}
-use Rattle.std.proofs.lemmas.Grind.{common_steps}
-use Rattle.bag_text.specs.Text.{is_blank}
+use Rattle.bag_text.proofs.Common.{◌∙◌, arith, common_steps, is_blank}
 use Rattle.bag_text.proofs.FirstByte.{first_len}
 use Rattle.bag_text.proofs.blank.before_blank.Goals as goal
 

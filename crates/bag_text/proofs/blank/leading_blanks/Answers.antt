@@ -1,5 +1,4 @@
-use Rattle.std.proofs.Common.{arith}
-use Rattle.std.proofs.lemmas.Grind.{common_steps}
+use Rattle.bag_text.proofs.Common.{arith, common_steps}
 use Rattle.bag_text.proofs.blank.leading_blanks.Goals as goal
 
 pub returns-clause-within : goal.returns-clause-within

@@ -1,4 +1,4 @@
-use Rattle.std.proofs.Common.{rules}
+use Rattle.bag_text.proofs.Common.{rules}
 use Rattle.bag_text.proofs.label.same_label.Goals as goal
 
 pub returns : goal.returns

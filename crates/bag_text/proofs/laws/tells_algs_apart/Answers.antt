@@ -1,4 +1,4 @@
-use Rattle.bag_text.specs.AlgTable.{same_rank}
+use Rattle.bag_text.proofs.Common.{same_rank}
 use Rattle.bag_text.proofs.AlgSets.{name_is_read_again, names_tell_apart}
 use Rattle.bag_text.proofs.laws.tells_algs_apart.Goals as goal
 

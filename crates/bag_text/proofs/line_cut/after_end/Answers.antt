@@ -1,5 +1,4 @@
-use Rattle.std.proofs.Common.{arith}
-use Rattle.std.proofs.lemmas.Grind.{common_steps}
+use Rattle.bag_text.proofs.Common.{arith, common_steps}
 use Rattle.bag_text.proofs.line_cut.after_end.Goals as goal
 
 pub returns-then-eq-clause-value : goal.returns-then-eq-clause-value

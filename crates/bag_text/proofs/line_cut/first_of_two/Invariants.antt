@@ -1,4 +1,4 @@
-use Rattle.memchr.specs.Find.{Nowhere, Passes, is_byte2}
+use Rattle.bag_text.proofs.Common.{Nowhere, Passes, is_byte2}
 use Rattle.bag_text.proofs.line_cut.first_of_two.Given as goal
 
 abbrev pub invariant-loop-place : goal.invariant-loop-place

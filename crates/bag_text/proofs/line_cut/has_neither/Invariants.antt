@@ -1,6 +1,4 @@
-use Rattle.std.proofs.Common.{◌≡◌, not, take}
-use Rattle.std.specs.List.{list_all}
-use Rattle.memchr.specs.Find.{is_byte2}
+use Rattle.bag_text.proofs.Common.{◌≡◌, not, take, list_all, is_byte2}
 use Rattle.bag_text.proofs.line_cut.has_neither.Given as goal
 
 abbrev pub invariant-loop-byte : goal.invariant-loop-byte

@@ -1,5 +1,4 @@
-use Rattle.std.proofs.Common.{◌≡◌, ◌∙◌, sym, ◌+◌, ◌-◌, ◌≤◌, arith, rules, length}
-use Rattle.memchr.specs.Find.{is_byte2}
+use Rattle.bag_text.proofs.Common.{◌≡◌, ◌∙◌, sym, ◌+◌, ◌-◌, ◌≤◌, arith, rules, length, is_byte2}
 use Rattle.bag_text.proofs.FirstByte.{block_fails}
 use Rattle.bag_text.proofs.line_cut.len_without.Goals as goal
 

@@ -1,4 +1,4 @@
-use Rattle.bag_text.specs.LineEnd.{is_line_end}
+use Rattle.bag_text.proofs.Common.{is_line_end}
 use Rattle.bag_text.proofs.FirstByte.{first_byte, no_byte}
 use Rattle.bag_text.proofs.line_cut.line_end.Goals as goal
 

@@ -1,8 +1,5 @@
-use Rattle.std.proofs.Common.{◌≡◌, ◌+◌, sym, ◌∙◌, ap, arith, Some, position, subst, take, drop}
-use Rattle.bag_text.specs.LineEnd.{is_line_end, end_len}
+use Rattle.bag_text.proofs.Common.{◌≡◌, ◌+◌, sym, ◌∙◌, ap, arith, Some, position, subst, take, drop, is_line_end, end_len, common_steps, IsCharBoundary}
 use Rattle.bag_text.proofs.FirstLine.{found, cut_before_end, cut_after_end, lines_from_end, one_line}
-use Rattle.std.proofs.lemmas.Grind.{common_steps}
-use Rattle.std.specs.Str.{IsCharBoundary}
 use Rattle.bag_text.proofs.line_cut.split_line.Goals as goal
 use Rattle.bag_text.proofs.line_cut.split_line.Goals.{In-Some, After-after_end}
 

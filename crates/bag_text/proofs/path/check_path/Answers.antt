@@ -1,5 +1,4 @@
-use Rattle.std.proofs.Common.{◌≡◌, ◌∙◌, sym, ap, subst, true, ◌+◌, ◌<◌, length, get_or}
-use Rattle.bag_text.specs.declared.path.Part.{Part}
+use Rattle.bag_text.proofs.Common.{◌≡◌, ◌∙◌, sym, ap, subst, true, ◌+◌, ◌<◌, length, get_or, Part}
 use Rattle.bag_text.proofs.Paths.{is_slash, not_slash}
 use Rattle.bag_text.proofs.PathReading.{IsReadTo, read_start, read_byte, read_slash}
 use Rattle.bag_text.proofs.path.check_path.Goals.{then-byte-ne-SLASH, else-byte-ne-SLASH+then-is_name}

@@ -1,6 +1,4 @@
-use Rattle.std.proofs.Common.{◌≡◌, ◌++◌, ◌∷◌, [], ap, ◌∙◌, lit<, rules, string_bytes, encode_utf8}
-use Rattle.std.proofs.lemmas.Str.{encode_ascii}
-use Rattle.std.proofs.lemmas.Str.Pattern.{split_parts}
+use Rattle.bag_text.proofs.Common.{◌≡◌, ◌++◌, ◌∷◌, [], ap, ◌∙◌, lit<, rules, string_bytes, encode_utf8, encode_ascii, split_parts}
 use Rattle.bag_text.proofs.Spellings.{read_none, read_escape, read_all}
 use Rattle.bag_text.proofs.path.decode.Goals as goal
 

@@ -1,7 +1,4 @@
-use Rattle.std.proofs.Common.{◌≡◌, ◌++◌, length, string_bytes}
-use Rattle.std.specs.Option.{option_map}
-use denote.Text.{Utf8}
-use denote.Shadow.{shadow}
+use Rattle.bag_text.proofs.Common.{◌≡◌, ◌++◌, length, string_bytes, option_map, Utf8, shadow}
 use Rattle.bag_text.specs.Spelling as spec
 use Rattle.bag_text.proofs.path.decode.Given as goal
 

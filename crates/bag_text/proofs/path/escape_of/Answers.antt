@@ -1,6 +1,4 @@
-use Rattle.std.proofs.Common.{arith}
-use Rattle.std.proofs.lemmas.Bool.Decides.{nat_tests}
-use Rattle.std.proofs.lemmas.Grind.{common_steps}
+use Rattle.bag_text.proofs.Common.{arith, nat_tests, common_steps}
 use Rattle.bag_text.proofs.Spellings.{escape-encode}
 use Rattle.bag_text.proofs.path.escape_of.Goals as goal
 

@@ -1,6 +1,4 @@
-use Rattle.std.proofs.Common.{◌≡◌, string_bytes}
-use Rattle.std.specs.Str.{encode_utf8_all}
-use Rattle.bag_text.specs.Spelling.{escape}
+use Rattle.bag_text.proofs.Common.{◌≡◌, string_bytes, encode_utf8_all, escape}
 use Rattle.bag_text.proofs.path.escape_path.Given as goal
 
 abbrev pub invariant-loop-c : goal.invariant-loop-c

@@ -1,5 +1,4 @@
-use Rattle.std.proofs.Common.{lit<, refl, rules}
-use Rattle.std.proofs.lemmas.Str.Pattern.{split_parts}
+use Rattle.bag_text.proofs.Common.{lit<, refl, rules, split_parts}
 use Rattle.bag_text.proofs.Spellings.{none_before, none_behind, none_whole}
 use Rattle.bag_text.proofs.path.has_bad_escape.Goals as goal
 

@@ -1,5 +1,4 @@
-use Rattle.std.proofs.Common.{cond, IsTrue}
-use Rattle.bag_text.specs.declared.path.Part.TheVariants.{Empty, Name}
+use Rattle.bag_text.proofs.Common.{cond, IsTrue, Empty, Name}
 use Rattle.bag_text.proofs.PathReading.{IsReadTo}
 use Rattle.bag_text.proofs.path.is_plain.Given as goal
 

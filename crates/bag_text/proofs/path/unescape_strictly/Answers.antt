@@ -1,5 +1,4 @@
-use Rattle.std.proofs.Common.{rules, ◌≡◌, ◌∙◌, sym, ap, Some, Option, List, ℕ}
-use Rattle.bag_text.specs.Spelling.{unescaped_strictly}
+use Rattle.bag_text.proofs.Common.{rules, ◌≡◌, ◌∙◌, sym, ap, Some, Option, List, ℕ, unescaped_strictly}
 use Rattle.bag_text.proofs.Spellings.{unescaped_without}
 use Rattle.bag_text.proofs.path.unescape_strictly.Goals as goal
 

@@ -1,5 +1,4 @@
-use Rattle.std.proofs.Common.{arith}
-use Rattle.std.proofs.lemmas.Grind.{common_steps}
+use Rattle.bag_text.proofs.Common.{arith, common_steps}
 use Rattle.bag_text.proofs.Utf8.{utf8_texts}
 use Rattle.bag_text.proofs.read_text.text_of.Goals as goal
 

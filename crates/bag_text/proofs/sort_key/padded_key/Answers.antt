@@ -1,6 +1,5 @@
-use Rattle.std.proofs.Common.{◌≡◌, ◌∙◌, ◌++◌, ap, drop, length, replicate}
+use Rattle.bag_text.proofs.Common.{◌≡◌, ◌∙◌, ◌++◌, ap, drop, length, replicate, front_of_sixteen}
 use Rattle.std.specs.Int.{from_be_bytes, w128}
-use Rattle.bag_text.specs.SortKey.{front_of_sixteen}
 use Rattle.bag_text.proofs.SortKeys.{padded}
 use Rattle.bag_text.proofs.sort_key.padded_key.Goals as goal
 

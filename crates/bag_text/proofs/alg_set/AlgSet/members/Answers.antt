@@ -1,5 +1,4 @@
-use Rattle.bag_text.specs.Alg.{rank_cmp, algs}
-use Rattle.bag_text.specs.AlgSet.{flag}
+use Rattle.bag_text.proofs.Common.{rank_cmp, algs, flag}
 use Rattle.std.proofs.lemmas.List.Kept.{IsStrictlySortedBy-filter}
 use Rattle.bag_text.proofs.AlgSets.{list_ascends, member_more, no_member_more}
 use Rattle.bag_text.proofs.alg_set.AlgSet.members.Goals as goal

@@ -1,5 +1,4 @@
-use Rattle.std.proofs.Common.{◌≡◌, take, filter}
-use Rattle.bag_text.specs.AlgList.{has_member}
+use Rattle.bag_text.proofs.Common.{◌≡◌, take, filter, has_member}
 use Rattle.bag_text.proofs.alg_set.AlgSet.members.Given as goal
 
 abbrev pub invariant-loop-alg : goal.invariant-loop-alg

@@ -1,4 +1,4 @@
-use Rattle.bag_text.specs.AlgSet.{flag}
+use Rattle.bag_text.proofs.Common.{flag}
 use Rattle.bag_text.proofs.AlgSets.{members_more, Contains-with_member}
 use Rattle.bag_text.proofs.alg_set.AlgSet.with.Goals as goal
 

@@ -1,4 +1,4 @@
-use Rattle.std.proofs.Common.{refl}
+use Rattle.bag_text.proofs.Common.{refl}
 use Rattle.bag_text.proofs.path.PathFaultFromAllocError.from.Goals as goal
 
 pub returns : goal.returns
