@@ -1,21 +1,9 @@
 -- Paths as they are written in manifests.
-use Rattle.std.proofs.Common.{◌≡◌, ◌≢◌, ℕ, Bool, true, false, ◌||◌, ◌==◌, List, [], ◌∷◌, ◌++◌, refl, ap, sym, ◌∙◌, subst, Option, Some, None, arith, codes, eqb}
-use Rattle.std.specs.List.{list_any}
-use Rattle.std.specs.Str.{IsUtf8, is_utf8, chars, encode_utf8_all, all_scalars}
-use Rattle.std.specs.Char.{IsScalar, encode_utf8}
-use Rattle.std.proofs.lemmas.Bool.Decides.{nat_tests}
+use Rattle.bag_tags.proofs.Common.{◌≡◌, ◌≢◌, ℕ, Bool, true, false, ◌==◌, List, [], ◌∷◌, ◌++◌, refl, ap, sym, ◌∙◌, subst, Option, Some, None, arith, codes, eqb, list_any, IsUtf8, encode_utf8_all, all_scalars, IsScalar, nat_tests, list_any-append, IsUtf8-append, IsUtf8-nil, IsUtf8-encode, IsUtf8-from_is_utf8, is_line_end, is_path, percent, unescaped_strictly, both, escape_one, escape, is_blank, unescaped_plain, read_again, BeginsUnblank, both_true, begins_with_mark}
+use Rattle.std.specs.Str.{is_utf8, chars}
+use Rattle.std.specs.Char.{encode_utf8}
 use Rattle.std.proofs.lemmas.List.Concat.{flat_map-append}
-use Rattle.std.proofs.lemmas.List.Folds.{list_any-append}
-use Rattle.std.proofs.lemmas.Str.{IsUtf8-append, IsUtf8-nil, IsUtf8-encode, IsUtf8-from_is_utf8}
-use Rattle.bag_text.specs.LineEnd.{is_line_end}
-use Rattle.bag_text.specs.Path.{is_path}
-use Rattle.bag_text.specs.Spelling.{percent, unescaped_strictly, both, escape_one, escape}
-use Rattle.bag_text.specs.Text.{is_blank}
-use Rattle.bag_text.proofs.SpellingLaws.{unescaped_plain, read_again}
 use Rattle.bag_text.proofs.Spellings.{escape-encode}
-use Rattle.bag_read.specs.LineParts.{BeginsUnblank}
-use Rattle.bag_read.proofs.PickedOut.{both_true}
-use Rattle.bag_tags.specs.Entry.{begins_with_mark}
 
 -- a character as it is written has no line end
 one_line : (c : ℕ) (feed back mark : Bool) → (c == 10) ≡ feed → (c == 13) ≡ back → (c == 37) ≡ mark → list_any is_line_end (escape_one c) ≡ false
@@ -26,9 +14,7 @@ one_line c false false false f b m = rw (f, b, m) (rw (f, b) refl)
 
 pub no_end_written : (path : List ℕ) → list_any is_line_end (escape path) ≡ false
 no_end_written [] = refl
-no_end_written (c ∷ path) =
-    list_any-append is_line_end (escape_one c) (escape path)
-    ∙ ap (λ b. b || list_any is_line_end (escape path)) (one_line c _ _ _ refl refl refl) ∙ no_end_written path
+no_end_written (c ∷ path) = grind (arith, list_any-append, one_line, no_end_written path)
 
 feed_utf8 : IsUtf8 (escape (encode_utf8 10))
 unfolding is_utf8 chars encode_utf8
@@ -92,9 +78,7 @@ module _ (path : List ℕ) where
   module _ (unmarked : begins_with_mark path ≡ false) where
     -- it begins with no *
     pub no_star : (more : List ℕ) → escape path ≢ codes "*" ++ more
-    no_star more e =
-        let (rest, is, _) = plain_first 42 more path star_no_percent (spelled (42 ∷ more) e) in
-        never (sym (ap begins_with_mark is) ∙ unmarked)
+    no_star more e = let (rest, is, _) = plain_first 42 more path star_no_percent (spelled (42 ∷ more) e) in never (sym (ap begins_with_mark is) ∙ unmarked)
 
     first_by : (c : ℕ) (more : List ℕ) (b : Bool) → is_blank c ≡ b → escape path ≡ c ∷ more → b ≡ false
     first_by c more false e h = refl

@@ -1,18 +1,7 @@
 -- Texts of hex digits in lower case.
-use Rattle.std.proofs.Common.{◌≡◌, ◌≢◌, ℕ, zero, suc, ◌<◌, Bool, true, false, not, ◌==◌, List, [], ◌∷◌, ◌++◌, length, get_or, refl, ap, sym, ◌∙◌, arith, lit<}
-use Rattle.std.specs.Char.{is_ascii_hexdigit, to_ascii_lowercase}
-use Rattle.std.specs.List.{list_all, list_any}
-use Rattle.std.specs.Str.{IsUtf8, str_to_ascii_lowercase}
-use Rattle.std.proofs.lemmas.Bool.Decides.{nat_tests}
-use Rattle.std.proofs.lemmas.Str.{IsUtf8-from_ascii}
+use Rattle.bag_tags.proofs.Common.{◌≡◌, ◌≢◌, ℕ, zero, suc, ◌<◌, Bool, true, false, not, ◌==◌, List, [], ◌∷◌, ◌++◌, length, get_or, refl, ap, sym, ◌∙◌, arith, lit<, is_ascii_hexdigit, to_ascii_lowercase, list_all, list_any, IsUtf8, str_to_ascii_lowercase, nat_tests, IsUtf8-from_ascii, is_line_end, is_blank, has_mark, Alg, or_false, not_false, both_true, is_lower_hex_digit, is_bad_digest}
 use Rattle.bag_text.specs.Alg.{hex_len}
-use Rattle.bag_text.specs.LineEnd.{is_line_end}
-use Rattle.bag_text.specs.Text.{is_blank, has_mark}
-use Rattle.bag_text.specs.declared.alg.Alg.{Alg}
 use Rattle.bag_text.specs.declared.alg.Alg.TheVariants.{Md5}
-use Rattle.bag_read.proofs.LineParts.{or_false, not_false}
-use Rattle.bag_read.proofs.PickedOut.{both_true}
-use Rattle.bag_tags.specs.Entry.{is_lower_hex_digit, is_bad_digest}
 
 digit_hex : (c : ℕ) → is_lower_hex_digit c ≡ true → is_ascii_hexdigit c ≡ true
 digit_hex c e = (both_true (is_ascii_hexdigit c) _ e).0
@@ -60,8 +49,7 @@ module _ (t : List ℕ) (digits : list_all is_lower_hex_digit t ≡ true) where
 
 pub no_hex_end : (t : List ℕ) → list_all is_lower_hex_digit t ≡ true → list_any is_line_end t ≡ false
 no_hex_end [] e = refl
-no_hex_end (c ∷ t) e =
-    let two = both_true (is_lower_hex_digit c) (list_all is_lower_hex_digit t) e in rw (digit_plain c two.0) (no_hex_end t two.1)
+no_hex_end (c ∷ t) e = let two = both_true (is_lower_hex_digit c) (list_all is_lower_hex_digit t) e in rw (digit_plain c two.0) (no_hex_end t two.1)
 
 pub low_hex : (t : List ℕ) → list_all is_lower_hex_digit t ≡ true → t ≡ str_to_ascii_lowercase t
 low_hex [] e = refl
@@ -71,8 +59,7 @@ low_hex (c ∷ t) e =
 
 pub no_hex_mark : (t rest : List ℕ) → t ≢ [] → list_all is_lower_hex_digit t ≡ true → has_mark (t ++ rest) ≡ false
 no_hex_mark [] rest some e = absurd (some refl)
-no_hex_mark (c ∷ t) rest some e =
-    rw (digit_no_mark c (both_true (is_lower_hex_digit c) (list_all is_lower_hex_digit t) e).0) refl
+no_hex_mark (c ∷ t) rest some e = grind (arith, digit_no_mark, both_true)
 
 module _ (alg : Alg) (t : List ℕ) (good : is_bad_digest alg t ≡ false) where
   parts : (not (length t == hex_len alg) ≡ false) × (not (list_all is_lower_hex_digit t) ≡ false)

@@ -1,19 +1,9 @@
 -- The line of an element that can be written, as it is read.
-use Rattle.std.proofs.Common.{◌≡◌, ◌≢◌, ℕ, suc, ◌+◌, Bool, true, false, not, ◌&&◌, ◌||◌, ◌==◌, List, [], ◌∷◌, ◌++◌, length, take, drop, map, refl, ap, ◌∙◌, Some, arith, codes, bytes_eq, append_assoc}
+use Rattle.bag_tags.proofs.Common.{◌≡◌, ◌≢◌, ℕ, suc, ◌+◌, Bool, true, false, not, ◌&&◌, ◌||◌, ◌==◌, List, [], ◌∷◌, ◌++◌, length, take, drop, map, refl, ap, ◌∙◌, Some, arith, codes, append_assoc, AllByRecursion, list_any, list_all, before_first, after_first, position_or_len, IsUtf8, nat_tests, list_any-append, IsUtf8-append, IsUtf8-from_is_utf8, is_line_end, is_blank, ends_with_blank, has_mark, trim, IsText, V10, is_colon, is_label, split, begins_element, leading_continuations, value_of_parts, or_false, empty_test, not_empty, NewElement, info_line, has_outer_blank, is_bad_label, is_bad_value, is_bad_element}
 use Rattle.std.specs.Char.{encode_utf8}
-use Rattle.std.specs.List.{AllByRecursion, list_any, list_all, before_first, after_first, position_or_len}
-use Rattle.std.specs.Str.{IsUtf8, is_utf8, chars}
-use Rattle.std.proofs.lemmas.Bool.Decides.{nat_tests}
-use Rattle.std.proofs.lemmas.List.Folds.{list_any-append}
-use Rattle.std.proofs.lemmas.Str.{IsUtf8-append, IsUtf8-from_is_utf8}
-use Rattle.bag_text.specs.LineEnd.{is_line_end}
+use Rattle.std.specs.Str.{is_utf8, chars}
 use Rattle.bag_text.specs.Rules.{is_after_colon}
-use Rattle.bag_text.specs.Text.{is_blank, ends_with_blank, has_mark, trim, IsText}
-use Rattle.bag_text.specs.declared.rules.Rules.TheVariants.{V10}
-use Rattle.bag_read.specs.Info.{is_colon, is_label, split, begins_element, leading_continuations, value_of_parts}
 use Rattle.bag_read.proofs.Fronts.{front_len, take_front}
-use Rattle.bag_read.proofs.LineParts.{or_false, empty_test, not_empty}
-use Rattle.bag_tags.specs.Element.{NewElement, info_line, has_outer_blank, is_bad_label, is_bad_value, is_bad_element}
 use Rattle.bag_tags.proofs.TrimmedTexts.{trimmed, trim_behind, first_unblank, ends_unblank}
 use Rattle.bag_tags.proofs.WrittenLines.{IsWritten, behind}
 
@@ -29,12 +19,7 @@ record GoodLabel (t : List ℕ) : Type 0 where
   no_mark : has_mark t ≡ false
 
 good_label : (t : List ℕ) → is_bad_label t ≡ false → GoodLabel t
-good_label t e =
-    let (four, mark) = or_false (bytes_eq t [] || list_any is_colon t || list_any is_line_end t || has_outer_blank t) (has_mark t) e in
-    let (three, outer) = or_false (bytes_eq t [] || list_any is_colon t || list_any is_line_end t) (has_outer_blank t) four in
-    let (two, end) = or_false (bytes_eq t [] || list_any is_colon t) (list_any is_line_end t) three in
-    let (one, colon) = or_false (bytes_eq t []) (list_any is_colon t) two in
-    record { some = not_empty t one; no_colon = colon; no_end = end; is_trimmed = trimmed t outer; no_mark = mark }
+good_label t e = grind (arith, or_false, not_empty, trimmed)
 
 none_passes : (p : ℕ → Bool) (t : List ℕ) → list_any p t ≡ false → list_all (λ c. not (p c)) t ≡ true
 none_passes p [] e = refl
@@ -42,9 +27,7 @@ none_passes p (c ∷ t) e = let two = or_false (p c) (list_any p t) e in rw (two
 
 drop_past : (xs : List ℕ) (c : ℕ) (ys : List ℕ) → drop (length xs + 1) (xs ++ c ∷ ys) ≡ ys
 drop_past [] c ys = refl
-drop_past (x ∷ xs) c ys =
-    let step : suc (length xs) + 1 ≡ suc (length xs + 1) = omega arith in
-    ap (λ n. drop n (x ∷ xs ++ c ∷ ys)) step ∙ drop_past xs c ys
+drop_past (x ∷ xs) c ys = grind (arith, drop_past xs c ys)
 
 zero_suc : (n : ℕ) → (0 == suc n) ≡ false
 zero_suc n = grind (arith, nat_tests)
@@ -117,15 +100,10 @@ module _ (label value : List ℕ) where
     line_begins = ap begins_element line_is ∙ begins_some label good.some good.is_trimmed
 
     marked_nowhere : (rest : List ℕ) → has_mark (info_line element ++ rest) ≡ false
-    marked_nowhere rest =
-        ap (λ l. has_mark (l ++ rest)) line_is ∙ ap has_mark (append_assoc label (58 ∷ behind_label) rest)
-        ∙ mark_in_label label (behind_label ++ rest) good.some good.no_mark
+    marked_nowhere rest = grind (arith, line_is, append_assoc, mark_in_label)
 
     no_line_end : list_any is_line_end value ≡ false → list_any is_line_end (info_line element) ≡ false
-    no_line_end e =
-        list_any-append is_line_end (label ++ codes ": ") value
-        ∙ ap (λ b. b || list_any is_line_end value) (list_any-append is_line_end label (codes ": ") ∙ ap (λ b. b || false) good.no_end)
-        ∙ e
+    no_line_end e = grind (arith, list_any-append)
 
 -- the value of a part that stands behind a colon and a space
 pub value_again : (value : List ℕ) → has_outer_blank value ≡ false → value_of_parts ((32 ∷ value) ∷ []) ≡ value

@@ -1,25 +1,12 @@
 -- The elements that are written are read again, and no others, with no fault.
-use Rattle.std.proofs.Common.{◌≡◌, ℕ, inl, inr, Bool, true, false, not, ◌&&◌, List, [], ◌∷◌, map, ap, sym, ◌∙◌, subst, Some, None}
-use Rattle.std.specs.List.{AllByRecursion, list_any}
-use Rattle.std.proofs.lemmas.List.Elements.{recursion_from_All}
-use Rattle.bag_text.specs.Lines.{lines_of_file, IsLine}
-use Rattle.bag_text.specs.Text.{IsText, is_blank_line, begins_with_blank}
-use Rattle.bag_text.specs.declared.rules.Rules.TheVariants.{V10}
-use Rattle.bag_text.specs.declared.code.Code.{Code}
-use Rattle.bag_text.specs.declared.code.Code.TheVariants.{NotUtf8, InfoLine}
-use Rattle.bag_read.specs.Info.{begins_element, continuations, split, value_of_parts, InfoFault, IsElement}
-use Rattle.bag_read.specs.declared.line_fault.LineFault.{LineFault}
+use Rattle.bag_tags.proofs.Common.{arith, ◌≡◌, ℕ, inl, inr, Bool, true, false, not, ◌&&◌, List, [], ◌∷◌, map, ap, sym, ◌∙◌, subst, Some, None, AllByRecursion, list_any, recursion_from_All, lines_of_file, IsLine, IsText, V10, Code, NotUtf8, InfoLine, begins_element, continuations, split, value_of_parts, InfoFault, IsElement, LineFault, or_false, NewElement, info_line, info_text, is_bad_element, StandsOn, InfoIsReadAgain}
 use Rattle.bag_read.specs.declared.info.Element.{Element}
-use Rattle.bag_read.proofs.LineParts.{or_false}
-use Rattle.bag_tags.specs.Element.{NewElement, info_line, info_text, is_bad_element}
-use Rattle.bag_tags.specs.ReadAgain.{StandsOn, InfoIsReadAgain}
 use Rattle.bag_tags.proofs.InfoLines.{IsGood, splits, begins, part_is_value, written, no_continuation}
 use Rattle.bag_tags.proofs.WrittenLines.{IsWritten, at_place, file_lines, is_text, line_of_item, item_on_line}
 
 good_each : (elements : List NewElement) → AllByRecursion (λ e. IsText e.0 × IsText e.1) elements → list_any is_bad_element elements ≡ false → AllByRecursion IsGood elements
 good_each [] texts e = tt
-good_each (x ∷ xs) texts e =
-    let two = or_false (is_bad_element x) (list_any is_bad_element xs) e in ((two.0, texts.0.0, texts.0.1), good_each xs texts.1 two.1)
+good_each (x ∷ xs) texts e = let two = or_false (is_bad_element x) (list_any is_bad_element xs) e in ((two.0, texts.0.0, texts.0.1), good_each xs texts.1 two.1)
 
 written_each : (elements : List NewElement) → AllByRecursion IsGood elements → AllByRecursion (IsWritten info_line) elements
 written_each [] all = tt
@@ -41,8 +28,7 @@ module _ (elements : List NewElement) (all : AllByRecursion IsGood elements) whe
   good_at n x (k, at, is) = at_place IsGood elements k x all is
 
   value_at : (n : ℕ) (x : NewElement) → StandsOn elements n x → value_of_parts ((32 ∷ x.1) ∷ continuations here n) ≡ x.1
-  value_at n x stands =
-      ap (λ more. value_of_parts ((32 ∷ x.1) ∷ more)) (no_continuation elements n all) ∙ part_is_value x (good_at n x stands)
+  value_at n x stands = grind (arith, part_is_value x (good_at n x stands), no_continuation, good_at)
 
   to : (e : Element) → IsElement V10 here e → StandsOn elements e.line (e.label, e.value)
   to e (line, part, is, first, cut, whole) =
@@ -73,8 +59,7 @@ module _ (elements : List NewElement) (all : AllByRecursion IsGood elements) whe
   no_fault : (code : Code) (f : LineFault) → InfoFault V10 code bytes f → ⊥
   no_fault NotUtf8 f w = let clash : true ≡ false = sym (is_text info_line elements (written_each elements all)) ∙ w.2 in cc
   no_fault InfoLine f (line, detail, is, inl cut) = (no_fault_at f.line line (subst (λ ls. IsLine ls f.line line) lines_are is)).1 cut.1
-  no_fault InfoLine f (line, detail, is, inr orphan) =
-      no_both (is_blank_line line) (begins_with_blank line) orphan.0 (no_fault_at f.line line (subst (λ ls. IsLine ls f.line line) lines_are is)).0
+  no_fault InfoLine f (line, detail, is, inr orphan) = grind (arith, no_both, no_fault_at, lines_are)
   no_fault other f w = w
 
 pub info_again : InfoIsReadAgain

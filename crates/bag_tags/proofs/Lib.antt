@@ -1,3 +1,4 @@
+pub mod Common
 pub mod DeclarationReadAgain
 pub mod DistinctPaths
 pub mod EscapedPaths

@@ -1,34 +1,15 @@
 -- The line of an entry that can be written, as it is read.
-use Rattle.std.proofs.Common.{◌≡◌, ◌≢◌, ℕ, inr, true, false, not, ◌&&◌, ◌||◌, List, [], ◌++◌, length, refl, ap, sym, ◌∙◌, codes, append_assoc, nat_lt, bytes_eq}
+use Rattle.bag_tags.proofs.Common.{arith, ◌≡◌, ◌≢◌, ℕ, inr, true, false, not, ◌&&◌, List, [], ◌++◌, refl, ap, sym, ◌∙◌, codes, append_assoc, nat_lt, list_any, IsUtf8, list_any-append, IsUtf8-append, IsUtf8-from_is_utf8, is_line_end, is_path, is_payload_path, escape, IsText, has_mark, V10, Alg, strict_spellings, read_again, IsCut, or_false, not_false, not_true, both_true, Reads, Kind, Payload, Tag, named_is, NewEntry, entry_line, is_bad_digest, is_bad_path, is_bad_entry, is_tag_manifest, may_name, begins_with_mark}
 use Rattle.std.specs.Char.{encode_utf8}
-use Rattle.std.specs.List.{list_any}
-use Rattle.std.specs.Str.{IsUtf8, is_utf8, chars}
-use Rattle.std.proofs.lemmas.List.Folds.{list_any-append}
-use Rattle.std.proofs.lemmas.Str.{IsUtf8-append, IsUtf8-from_is_utf8}
-use Rattle.bag_text.specs.LineEnd.{is_line_end}
-use Rattle.bag_text.specs.Path.{is_path, is_payload_path, first_component, components}
-use Rattle.bag_text.specs.Spelling.{escape}
-use Rattle.bag_text.specs.Text.{IsText, has_mark}
-use Rattle.bag_text.specs.declared.rules.Rules.TheVariants.{V10}
-use Rattle.bag_text.specs.declared.alg.Alg.{Alg}
-use Rattle.bag_text.proofs.SpellingLaws.{strict_spellings, read_again}
-use Rattle.bag_read.specs.LineParts.{IsCut}
-use Rattle.bag_read.proofs.LineParts.{or_false, not_false, not_true}
-use Rattle.bag_read.proofs.PickedOut.{both_true}
-use Rattle.bag_read.specs.Manifest.{Reads}
+use Rattle.std.specs.Str.{is_utf8, chars}
 use Rattle.bag_read.specs.ManifestLine.{IsSpelling, MayName, ReadsAs}
-use Rattle.bag_read.specs.declared.kind.Kind.{Kind}
-use Rattle.bag_read.specs.declared.kind.Kind.TheVariants.{Payload, Tag}
 use Rattle.bag_read.proofs.ManifestLineParts.{lines_read}
-use Rattle.bag_read.proofs.ManifestName.{named_is}
-use Rattle.bag_tags.specs.Entry.{NewEntry, entry_line, is_bad_digest, is_bad_path, is_bad_entry, is_tag_manifest, may_name, begins_with_mark}
 use Rattle.bag_tags.proofs.EscapedPaths.{no_end_written, written_utf8, no_star, begins_unblank, no_dot_slash}
 use Rattle.bag_tags.proofs.HexTexts.{all_hex, no_blank, hex_utf8, no_hex_end, low_hex, no_hex_mark, digest_length, digest_digits, digest_some}
 use Rattle.bag_tags.proofs.WrittenLines.{IsWritten}
 
 payload_safe : (path : List ℕ) → is_payload_path path ≡ true → is_path path ≡ true
-payload_safe path e =
-    (both_true (is_path path) _ (both_true (is_path path && bytes_eq (first_component path) (codes "data")) (nat_lt 1 (length (components path))) e).0).0
+payload_safe path e = grind (arith, both_true, nat_lt)
 
 module _ (path : List ℕ) (e : may_name Tag path ≡ true) where
   tag_parts : (is_path path && not (is_payload_path path) ≡ true) × (not (is_tag_manifest path) ≡ true)
@@ -84,50 +65,23 @@ module _ (kind : Kind) (alg : Alg) (entry : NewEntry) (good : is_bad_entry kind 
   some_path = path_some path is_safe_path
 
   cut : IsCut (entry_line entry) digest (escape path)
-  cut = record {
-    blanks = codes "  ";
-    text_is = refl;
-    some_part = digest_some alg digest parts.0;
-    no_blank = no_blank digest (digest_digits alg digest parts.0);
-    some_blank = spaces_some;
-    only_blanks = refl;
-    begins = begins_unblank path path_parts.1 some_path;
-  }
+  cut = grind (arith, digest_some, no_blank, digest_digits, spaces_some, begins_unblank, some_path)
 
   spelling : IsSpelling (escape path) (escape path)
   spelling = (escape path, inr (refl, no_star path path_parts.1), inr (refl, no_dot_slash path is_safe_path))
 
   reads_as : ReadsAs V10 kind alg (entry_line entry) digest path
-  reads_as = record {
-    hex = digest;
-    rest = escape path;
-    spelling = escape path;
-    parts = cut;
-    only_digits = all_hex digest (digest_digits alg digest parts.0);
-    hex_length = digest_length alg digest parts.0;
-    in_lower_case = low_hex digest (digest_digits alg digest parts.0);
-    written = spelling;
-    spelled = (strict_spellings (escape path) path).1 (read_again path);
-    is_safe = is_safe_path;
-    may_name = place kind path may;
-  }
+  reads_as = grind (arith, spelling, parts, cut, all_hex, digest_digits, digest_length, low_hex, strict_spellings, read_again, is_safe_path, place, may)
 
   -- the line reads as the entry
   pub reads : Reads V10 kind alg (entry_line entry) digest path
   reads = (lines_read V10 kind alg (entry_line entry) digest path).1 reads_as
 
   no_line_end : list_any is_line_end (entry_line entry) ≡ false
-  no_line_end =
-      list_any-append is_line_end (digest ++ codes "  ") (escape path)
-      ∙ ap (λ b. b || list_any is_line_end (escape path))
-      (list_any-append is_line_end digest (codes "  ") ∙ ap (λ b. b || false) (no_hex_end digest (digest_digits alg digest parts.0)))
-      ∙ no_end_written path
+  no_line_end = grind (arith, list_any-append, no_hex_end, digest_digits, no_end_written)
 
   marked_nowhere : (rest : List ℕ) → has_mark (entry_line entry ++ rest) ≡ false
-  marked_nowhere rest =
-      ap (λ l. has_mark (l ++ rest)) (append_assoc digest (codes "  ") (escape path))
-      ∙ ap has_mark (append_assoc digest (codes "  " ++ escape path) rest)
-      ∙ no_hex_mark digest (codes "  " ++ escape path ++ rest) (digest_some alg digest parts.0) (digest_digits alg digest parts.0)
+  marked_nowhere rest = grind (arith, append_assoc, no_hex_mark, digest_some, digest_digits)
 
   pub written : IsText path → IsWritten entry_line entry
   written text = (

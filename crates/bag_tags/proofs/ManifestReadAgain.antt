@@ -1,26 +1,8 @@
 -- The entries that are written are read again, and no others, with no fault.
-use Rattle.std.proofs.Common.{◌≡◌, ℕ, zero, suc, ◌-◌, inl, inr, true, false, List, [], ◌∷◌, map, take, refl, ap, sym, ◌∙◌, subst, Some, Result, Ok, Err, arith, bytes_eq, option_map}
-use Rattle.std.specs.Prelude.{Contains}
-use Rattle.std.specs.List.{AllByRecursion, list_any, slice_get}
-use Rattle.std.proofs.lemmas.List.Elements.{recursion_from_All}
-use Rattle.std.proofs.lemmas.Map.Keys.{IsDistinct-head, IsDistinct-tail}
-use Rattle.std.proofs.lemmas.Option.{slice_get-map}
-use Rattle.std.proofs.lemmas.Slice.Eq.{bytes_eq-Decides}
-use Rattle.bag_text.specs.Lines.{lines_of_file, IsLine}
-use Rattle.bag_text.specs.Text.{IsText}
-use Rattle.bag_text.specs.declared.rules.Rules.TheVariants.{V10}
-use Rattle.bag_text.specs.declared.alg.Alg.{Alg}
-use Rattle.bag_text.specs.declared.code.Code.{Code}
-use Rattle.bag_text.specs.declared.code.Code.TheVariants.{NotUtf8, NamedAgain}
+use Rattle.bag_tags.proofs.Common.{◌≡◌, ℕ, zero, suc, ◌-◌, inl, inr, true, false, List, [], ◌∷◌, map, take, refl, ap, sym, ◌∙◌, subst, Some, Result, Ok, Err, arith, bytes_eq, option_map, Contains, AllByRecursion, list_any, slice_get, recursion_from_All, IsDistinct-head, IsDistinct-tail, slice_get-map, bytes_eq-Decides, lines_of_file, IsLine, IsText, V10, Alg, Code, NotUtf8, NamedAgain, LineFault, or_false, Reads, named, named_before, manifest_line, IsEntry, ManifestFault, Kind, NewEntry, entry_line, manifest_text, is_bad_entry, paths, NamesEachOnce, StandsOn, ManifestIsReadAgain}
 use Rattle.bag_text.proofs.ListOf.{contains_cases, contains_nothing}
 use Rattle.bag_read.specs.Reason.{Reason}
-use Rattle.bag_read.specs.declared.line_fault.LineFault.{LineFault}
-use Rattle.bag_read.proofs.LineParts.{or_false}
-use Rattle.bag_read.specs.Manifest.{Reads, named, named_before, manifest_line, IsEntry, ManifestFault}
-use Rattle.bag_read.specs.declared.kind.Kind.{Kind}
 use Rattle.bag_read.specs.declared.manifest.ManifestEntry.{ManifestEntry}
-use Rattle.bag_tags.specs.Entry.{NewEntry, entry_line, manifest_text, is_bad_entry, paths, NamesEachOnce}
-use Rattle.bag_tags.specs.ReadAgain.{StandsOn, ManifestIsReadAgain}
 use Rattle.bag_tags.proofs.ManifestLines.{reads, written}
 use Rattle.bag_tags.proofs.WrittenLines.{IsWritten, at_place, file_lines, is_text, line_of_item, item_on_line}
 
@@ -79,10 +61,7 @@ module _ (kind : Kind) (alg : Alg) where
     reads_at n x (k, at, is) = reads kind alg x (at_place IsGood entries k x all is).0
 
     first_named : (n : ℕ) (x : NewEntry) → StandsOn entries n x → ¬ (Contains (named_before V10 kind alg here n) x.1)
-    first_named n x (k, at, is) c =
-        let before : n - 1 ≡ k = omega (arith, at) in
-        let names : named_before V10 kind alg here n ≡ paths (take k entries) = ap (λ j. named V10 kind alg (take j here)) before ∙ ap (named V10 kind alg) (take_map k entries) ∙ named_each (take k entries) (taken IsGood k entries all) in
-        apart entries k x once is (subst (λ ps. Contains ps x.1) names c)
+    first_named n x (k, at, is) c = grind (arith, take_map, named_each, taken, apart)
 
     same_entry : (n : ℕ) (line digest path : List ℕ) → IsLine here n line → Reads V10 kind alg line digest path → StandsOn entries n (digest, path)
     same_entry n line digest path is read =

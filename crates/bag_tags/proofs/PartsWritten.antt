@@ -1,6 +1,5 @@
 -- What stands behind a text where a line isn't written whole.
-use Rattle.std.proofs.Common.{◌≡◌, ℕ, List, [], ◌++◌, refl, sym, ◌∙◌, append_assoc, Result, Ok, Err, OnErr}
-use Rattle.std.proofs.lemmas.List.{append-nil}
+use Rattle.bag_tags.proofs.Common.{◌≡◌, ℕ, List, [], ◌++◌, refl, sym, ◌∙◌, append_assoc, Result, Ok, Err, OnErr, append-nil}
 use Rattle.bag_tags.specs.Line.{HasPartOf}
 
 pub on_err : {T E : Type 0} (r : Result T E) (P : Type 0) → P → OnErr r P

@@ -1,13 +1,6 @@
 -- Texts that trimming leaves as they are.
-use Rattle.std.proofs.Common.{◌≡◌, ℕ, suc, ◌+◌, ◌-◌, ◌≤◌, Bool, true, false, List, ◌∷◌, length, drop, get_or, reverse, refl, ap, sym, ◌∙◌, arith, length-take, length-drop}
-use Rattle.std.specs.List.{prefix_len, suffix_len}
-use Rattle.std.proofs.lemmas.List.{get_or-reverse, length-reverse}
+use Rattle.bag_tags.proofs.Common.{◌≡◌, ℕ, ◌+◌, ◌-◌, ◌≤◌, Bool, true, false, List, ◌∷◌, length, drop, get_or, reverse, refl, ap, sym, ◌∙◌, arith, length-take, length-drop, prefix_len, suffix_len, get_or-reverse, length-reverse, slice_get-get_or, bytes_eq-Decides, is_blank, trim, without_trailing_blanks, is_some_blank, ends_with_blank, not_false, has_outer_blank}
 use Rattle.std.proofs.lemmas.List.Sums.{prefix_len_stops, suffix_len-le-length}
-use Rattle.std.proofs.lemmas.Option.{slice_get-get_or}
-use Rattle.std.proofs.lemmas.Slice.Eq.{bytes_eq-Decides}
-use Rattle.bag_text.specs.Text.{is_blank, trim, without_trailing_blanks, is_some_blank, ends_with_blank}
-use Rattle.bag_read.proofs.LineParts.{not_false}
-use Rattle.bag_tags.specs.Element.{has_outer_blank}
 
 -- a text without a blank at its ends stays as it is
 pub trimmed : (t : List ℕ) → has_outer_blank t ≡ false → trim t ≡ t
@@ -15,14 +8,10 @@ trimmed t e = (bytes_eq-Decides (trim t) t).0 (not_false _ e)
 
 -- a blank in front is trimmed away
 pub trim_behind : (t : List ℕ) → trim (32 ∷ t) ≡ trim t
-trim_behind t =
-    let more : 1 + prefix_len is_blank t ≡ suc (prefix_len is_blank t) = omega arith in
-    ap (λ n. without_trailing_blanks (drop n (32 ∷ t))) more
+trim_behind t = grind arith
 
 trim_short : (t : List ℕ) → length (trim t) ≤ length t - prefix_len is_blank t
-trim_short t =
-    let d = drop (prefix_len is_blank t) t in
-    omega (arith, length-take (length d - suffix_len is_blank d) d, length-drop (prefix_len is_blank t) t)
+trim_short t = grind (arith, length-take, length-drop)
 
 first_by : (c : ℕ) (t : List ℕ) (b : Bool) → is_blank c ≡ b → trim (c ∷ t) ≡ c ∷ t → b ≡ false
 first_by c t false e h = refl

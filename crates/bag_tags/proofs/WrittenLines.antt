@@ -1,19 +1,9 @@
 -- Lines that are written, each with an LF behind it, are the lines that are read.
-use Rattle.std.proofs.Common.{◌≡◌, ℕ, zero, suc, ◌-◌, inl, Bool, true, false, cond, List, [], ◌∷◌, ◌++◌, drop, map, flat_map, append_assoc, refl, ap, sym, ◌∙◌, subst, Option, Some, None, arith, option_map}
+use Rattle.bag_tags.proofs.Common.{◌≡◌, ℕ, zero, suc, ◌-◌, Bool, true, false, cond, List, [], ◌∷◌, ◌++◌, drop, map, flat_map, append_assoc, refl, ap, sym, ◌∙◌, subst, Option, Some, None, arith, option_map, AllByRecursion, list_any, slice_get, IsUtf8, nat_tests, All-from_recursion, slice_get-map, IsUtf8-append, IsUtf8-nil, IsUtf8-from_is_utf8, is_utf8-from_IsUtf8, is_line_end, line_feed, lines, lines_of_text, lines_of_file, HasNoEnd, IsLine, IsText, has_mark, or_false, StandsOn}
 use Rattle.std.specs.Char.{encode_utf8}
-use Rattle.std.specs.List.{AllByRecursion, list_any, slice_get}
-use Rattle.std.specs.Str.{IsUtf8, is_utf8, chars}
-use Rattle.std.proofs.lemmas.Bool.Decides.{nat_tests}
-use Rattle.std.proofs.lemmas.List.Elements.{All-from_recursion}
-use Rattle.std.proofs.lemmas.Option.{slice_get-map}
-use Rattle.std.proofs.lemmas.Str.{IsUtf8-append, IsUtf8-nil, IsUtf8-from_is_utf8, is_utf8-from_IsUtf8}
-use Rattle.bag_text.specs.LineEnd.{is_line_end}
-use Rattle.bag_text.specs.Lines.{line_feed, lines, lines_of_text, lines_of_file, HasNoEnd, IsLine}
-use Rattle.bag_text.specs.Text.{IsText, has_mark}
+use Rattle.std.specs.Str.{is_utf8, chars}
 use Rattle.bag_text.proofs.FirstLine.{lines_split}
 use Rattle.bag_text.proofs.LineLaws.{IsPlain}
-use Rattle.bag_read.proofs.LineParts.{or_false}
-use Rattle.bag_tags.specs.ReadAgain.{StandsOn}
 
 plain_one : (c : ℕ) → is_line_end c ≡ false → IsPlain c
 plain_one c e = ((λ feed. grind (arith, nat_tests)), (λ back. grind (arith, nat_tests)))
@@ -71,8 +61,7 @@ module _ (line : Pair → List ℕ) where
 
   lines_again : (items : List Pair) → AllByRecursion IsWritten items → lines (text items) ≡ map line items
   lines_again [] all = refl
-  lines_again (x ∷ xs) all =
-      lines_split (line x) (line_feed ∷ []) (text xs) (no_end (line x) all.0.1) (inl refl) ∙ ap (λ more. line x ∷ more) (lines_again xs all.1)
+  lines_again (x ∷ xs) all = grind (arith, lines_split, no_end, lines_again xs all.1)
 
   pub file_lines : (items : List Pair) → AllByRecursion IsWritten items → lines_of_file (text items) ≡ map line items
   file_lines items all = file_by (text items) _ _ (is_text items all) (no_mark items all) ∙ lines_again items all
@@ -83,11 +72,7 @@ module _ (line : Pair → List ℕ) where
 
   -- a line that is read is that of an item, on its place
   pub line_of_item : (items : List Pair) (n : ℕ) (l : List ℕ) → IsLine (map line items) n l → (x : Pair) × StandsOn items n x × (l ≡ line x)
-  line_of_item items n l (some, e) =
-      let (x, here, is) = found items (n - 1) l _ refl (sym (slice_get-map line items (n - 1)) ∙ e) in
-      (x, (n - 1, omega arith, here), is)
+  line_of_item items n l (some, e) = grind (arith, found, slice_get-map)
 
   pub item_on_line : (items : List Pair) (n : ℕ) (x : Pair) → StandsOn items n x → IsLine (map line items) n (line x)
-  item_on_line items n x (k, at, here) =
-      let before : n - 1 ≡ k = omega arith in
-      (omega arith, ap (slice_get (map line items)) before ∙ slice_get-map line items k ∙ ap (option_map line) here)
+  item_on_line items n x (k, at, here) = grind (arith, slice_get-map)

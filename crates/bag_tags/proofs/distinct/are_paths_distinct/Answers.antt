@@ -1,7 +1,4 @@
-use Rattle.std.proofs.Common.{subst, sym, bytes_eq}
-use Rattle.std.specs.Prelude.{◌↔◌, IsTrue}
-use Rattle.std.specs.List.{IsDistinct}
-use Rattle.bag_tags.specs.Distinct.{AreAscending}
+use Rattle.bag_tags.proofs.Common.{subst, sym, bytes_eq, ◌↔◌, IsTrue, IsDistinct, AreAscending}
 use Rattle.bag_tags.proofs.DistinctPaths.{distinct_by_order}
 use Rattle.bag_tags.proofs.distinct.are_paths_distinct.Goals as goal
 

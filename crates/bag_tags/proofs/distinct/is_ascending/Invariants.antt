@@ -1,7 +1,4 @@
-use Rattle.std.proofs.Common.{◌≡◌, ℕ, ◌+◌, ◌<◌, List, get_or}
-use Rattle.std.specs.Borrow.{Bor}
-use Rattle.std.specs.declared.cmp.Ordering.TheVariants.{Less}
-use Rattle.bag_text.specs.Text.{text_cmp}
+use Rattle.bag_tags.proofs.Common.{◌≡◌, ℕ, ◌+◌, ◌<◌, List, get_or, Bor, Less, text_cmp}
 use Rattle.bag_tags.proofs.distinct.is_ascending.Given as goal
 
 abbrev pub invariant-loop-k : goal.invariant-loop-k

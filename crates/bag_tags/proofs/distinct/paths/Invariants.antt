@@ -1,5 +1,4 @@
-use Rattle.std.proofs.Common.{◌≡◌, take}
-use Rattle.bag_tags.specs.Distinct.{texts_of}
+use Rattle.bag_tags.proofs.Common.{◌≡◌, take, texts_of}
 use Rattle.bag_tags.specs.Entry as spec
 use Rattle.bag_tags.proofs.distinct.paths.Given as goal
 

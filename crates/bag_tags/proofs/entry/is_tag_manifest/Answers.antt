@@ -1,6 +1,4 @@
-use Rattle.std.proofs.Common.{◌∙◌}
-use Rattle.bag_read.specs.declared.kind.Kind.TheVariants.{Tag}
-use Rattle.bag_read.proofs.ManifestName.{has_alg}
+use Rattle.bag_tags.proofs.Common.{◌∙◌, Tag, has_alg}
 use Rattle.bag_tags.proofs.entry.is_tag_manifest.Goals as goal
 
 pub returns : goal.returns

@@ -1,6 +1,4 @@
-use Rattle.std.proofs.Common.{sym, ap, ◌∙◌}
-use Rattle.std.proofs.lemmas.List.Folds.{list_any_at}
-use Rattle.bag_tags.specs.Element.{is_bad_element}
+use Rattle.bag_tags.proofs.Common.{sym, ap, ◌∙◌, list_any_at, is_bad_element}
 use Rattle.bag_tags.proofs.info.has_bad_element.Goals as goal
 
 pub returns-then-is_bad_element : goal.returns-then-is_bad_element

@@ -1,6 +1,4 @@
-use Rattle.std.proofs.Common.{◌≡◌, false, take}
-use Rattle.std.specs.List.{list_any}
-use Rattle.bag_tags.specs.Element.{is_bad_element}
+use Rattle.bag_tags.proofs.Common.{◌≡◌, false, take, list_any, is_bad_element}
 use Rattle.bag_tags.proofs.info.has_bad_element.Given as goal
 
 abbrev pub invariant-loop-element : goal.invariant-loop-element

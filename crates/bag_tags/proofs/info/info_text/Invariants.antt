@@ -1,4 +1,4 @@
-use Rattle.std.proofs.Common.{◌≡◌, take, string_bytes}
+use Rattle.bag_tags.proofs.Common.{◌≡◌, take, string_bytes}
 use Rattle.bag_tags.specs.Element as spec
 use Rattle.bag_tags.proofs.info.info_text.Given as goal
 

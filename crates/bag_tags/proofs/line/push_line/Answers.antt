@@ -1,5 +1,4 @@
-use Rattle.std.proofs.Common.{◌∷◌, [], ap, ◌++◌, ◌∙◌}
-use Rattle.bag_text.specs.Lines.{line_feed}
+use Rattle.bag_tags.proofs.Common.{◌∷◌, [], ap, ◌++◌, ◌∙◌, line_feed}
 use Rattle.bag_tags.proofs.PartsWritten.{on_err, no_part, front_part, two_parts}
 use Rattle.bag_tags.proofs.line.push_line.Goals as goal
 

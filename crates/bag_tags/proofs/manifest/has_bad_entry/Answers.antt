@@ -1,6 +1,4 @@
-use Rattle.std.proofs.Common.{sym, ap, ◌∙◌}
-use Rattle.std.proofs.lemmas.List.Folds.{list_any_at}
-use Rattle.bag_tags.specs.Entry.{is_bad_entry}
+use Rattle.bag_tags.proofs.Common.{sym, ap, ◌∙◌, list_any_at, is_bad_entry}
 use Rattle.bag_tags.proofs.manifest.has_bad_entry.Goals as goal
 
 pub returns-then-is_bad_entry : goal.returns-then-is_bad_entry

@@ -1,6 +1,4 @@
-use Rattle.std.proofs.Common.{◌≡◌, false, take}
-use Rattle.std.specs.List.{list_any}
-use Rattle.bag_tags.specs.Entry.{is_bad_entry}
+use Rattle.bag_tags.proofs.Common.{◌≡◌, false, take, list_any, is_bad_entry}
 use Rattle.bag_tags.proofs.manifest.has_bad_entry.Given as goal
 
 abbrev pub invariant-loop-entry : goal.invariant-loop-entry

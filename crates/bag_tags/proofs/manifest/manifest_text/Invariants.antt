@@ -1,4 +1,4 @@
-use Rattle.std.proofs.Common.{◌≡◌, take, string_bytes}
+use Rattle.bag_tags.proofs.Common.{◌≡◌, take, string_bytes}
 use Rattle.bag_tags.specs.Entry as spec
 use Rattle.bag_tags.proofs.manifest.manifest_text.Given as goal
 
