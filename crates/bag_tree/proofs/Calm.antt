@@ -1,8 +1,6 @@
 -- A tree that refuses nothing, and want of memory.
-use Rattle.std.proofs.Common.{◌≡◌, ◌∙◌, inl, inr, ℕ, zero, suc, None, Some, refl, sym, ap}
+use Rattle.bag_tree.proofs.Common.{arith, ◌≡◌, ◌∙◌, inl, inr, ℕ, zero, suc, None, Some, refl, ap, TreeState, answer_of_read, refusal_of, Given, Refused, Unlisted}
 use Rattle.bag_tree.specs.Calm.{MayTellMemory, RefusesNothing}
-use Rattle.bag_tree.specs.Tree.{TreeState, answer_of_read, refusal_of}
-use Rattle.bag_tree.specs.declared.answer.Answer.TheVariants.{Given, Refused, Unlisted}
 use Rattle.bag_tree.specs.declared.tree_fault.TreeFault.{TreeFault}
 use Rattle.bag_tree.specs.declared.tree_fault.TreeFault.TheVariants.{Memory}
 
@@ -11,16 +9,7 @@ nothing_asked old = record { failures = refl; last = inl refl }
 
 -- and then nothing either
 pub nothing_then : (old mid new : TreeState) → RefusesNothing old mid → RefusesNothing mid new → RefusesNothing old new
-nothing_then old mid new p q = record {
-  failures = q.failures ∙ p.failures;
-  last = elim q.last [
-    | inl same ↦ elim p.last [
-      | inl before ↦ inl (same ∙ before)
-      | inr none ↦ inr (ap (λ (state : TreeState). refusal_of state.last) same ∙ none)
-    ]
-    | inr none ↦ inr none
-  ];
-}
+nothing_then old mid new p q = grind arith
 
 -- and then want of memory was told
 pub memory_then : (old mid new : TreeState) → RefusesNothing old mid → MayTellMemory mid new → MayTellMemory old new

@@ -1,15 +1,10 @@
 -- The value of each hash function has its length, and consists of bytes.
-use Rattle.std.proofs.Common.{◌≡◌, ℕ, zero, suc, ◌+◌, ◌*◌, ◌/◌, ◌<◌, ◌≤◌, List, [], ◌∷◌, ◌++◌, length, take, refl, arith, slice_index, length-append, length-take-le}
-use Rattle.std.specs.Prelude.{All}
+use Rattle.bag_tree.proofs.Common.{◌≡◌, ℕ, zero, suc, ◌+◌, ◌*◌, ◌/◌, ◌<◌, ◌≤◌, List, ◌++◌, length, take, refl, arith, slice_index, length-append, length-take-le, All, All-nil, All-cons, All-append, All-take, Alg, Md5, Sha1, Sha224, Sha256, Sha384, Sha512, hash, hash_len}
 use Rattle.std.specs.Int.{w32, w64, byte_at, to_le_bytes, to_be_bytes, bytes_low_first, bytes_high_first}
-use Rattle.std.proofs.lemmas.List.Elements.{All-nil, All-cons, All-append, All-take}
 use Rattle.md5.specs.Md5 as by_md5
 use Rattle.sha1.specs.Sha1 as by_sha1
 use Rattle.sha2.specs.Sha256 as by_sha256
 use Rattle.sha2.specs.Sha512 as by_sha512
-use Rattle.bag_text.specs.declared.alg.Alg.{Alg}
-use Rattle.bag_text.specs.declared.alg.Alg.TheVariants.{Md5, Sha1, Sha224, Sha256, Sha384, Sha512}
-use Rattle.bag_tree.specs.Digest.{hash, hash_len}
 
 abbrev pub AreBytes : List ℕ → Type 0
 AreBytes bytes = All (λ b. b < 256) bytes

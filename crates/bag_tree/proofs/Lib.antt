@@ -1,4 +1,5 @@
 pub mod Calm
+pub mod Common
 pub mod HashValues
 pub mod ListingLaw
 pub mod Moving

@@ -1,18 +1,8 @@
 -- An ordered listing of a bag is the list of its files.
-use Rattle.std.proofs.Common.{◌≡◌, ℕ, List, [], ◌∷◌, length, Bool, true, false, cond, ◌&&◌, Option, Some, refl, ap, sym, ◌∙◌, subst, map, is_lt}
-use Rattle.std.specs.Option.{option_map}
-use Rattle.std.specs.List.{AllByRecursion}
+use Rattle.bag_tree.proofs.Common.{arith, ◌≡◌, ℕ, List, [], ◌∷◌, length, Bool, true, false, cond, ◌&&◌, Option, Some, refl, ap, sym, ◌∙◌, subst, map, option_map, AllByRecursion, find, is_sorted, entries_sorted, get-entries, below_all, same_entries, is_lt, Less, nat_list_cmp_total, T, and_from, text_cmp, files_of}
+use Rattle.std.proofs.Common.{is_lt}
 use Rattle.std.specs.List.Sorted.{IsStrictlySortedBy}
-use Rattle.std.specs.FinMap.{find, is_sorted, entries_sorted, get-entries}
-use Rattle.std.specs.FinMap.Entries.{below_all, same_entries}
-use Rattle.std.specs.Ordering.{eq_by_cmp, is_lt}
-use Rattle.std.specs.declared.cmp.Ordering.TheVariants.{Less}
-use Rattle.std.specs.Cmp.Lexicographic.{nat_list_cmp_total}
-use Rattle.std.proofs.Math.Dec.{T}
-use Rattle.std.proofs.lemmas.Bool.{and_from}
-use Rattle.bag_text.specs.Text.{text_cmp}
-use Rattle.bag_tree.specs.Bag.{files_of}
-use Rattle.bag_tree.specs.Listing.{ListingsAreOfTheBag, size_at, entry_at}
+use Rattle.bag_tree.specs.Listing.{ListingsAreOfTheBag, size_at}
 use Rattle.bag_tree.specs.declared.listing.FileEntry.{FileEntry}
 use Rattle.bag_tree.proofs.SameText.{exact_texts, same_test}
 
@@ -48,16 +38,11 @@ map-cond f false x o = refl
 
 find-pairs : (files : List FileEntry) (q : List ℕ) → find text_cmp q (map pair_of files) ≡ size_at files q
 find-pairs [] q = refl
-find-pairs (e ∷ files) q =
-    ap (cond (eq_by_cmp text_cmp q e.path) (Some e.size)) (find-pairs files q)
-    ∙ ap (λ b. cond b (Some e.size) (size_at files q)) (sym (same_test e.path q))
-    ∙ sym (map-cond (λ (entry : FileEntry). entry.size) _ e (entry_at files q))
+find-pairs (e ∷ files) q = grind (arith, same_test, map-cond, find-pairs files q)
 
 find-with_length : (es : List (List ℕ × List ℕ)) (q : List ℕ) → find text_cmp q (map with_length es) ≡ option_map length (find text_cmp q es)
 find-with_length [] q = refl
-find-with_length (e ∷ es) q =
-    ap (cond (eq_by_cmp text_cmp q e.0) (Some (length e.1))) (find-with_length es q)
-    ∙ sym (map-cond length (eq_by_cmp text_cmp q e.0) e.1 (find text_cmp q es))
+find-with_length (e ∷ es) q = grind (arith, map-cond, find-with_length es q)
 
 entries-pairs : (files : List FileEntry) → map entry_of (map pair_of files) ≡ files
 entries-pairs [] = refl

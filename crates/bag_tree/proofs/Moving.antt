@@ -1,15 +1,7 @@
 -- What stands where, after something was moved with all that is below it.
-use Rattle.std.proofs.Common.{◌≡◌, ℕ, List, [], ◌∷◌, length, length-append, drop, Option, None, Some, is_some, cond, Bool, true, false, inl, inr, refl, ap, sym, ◌∙◌, arith}
-use Rattle.std.proofs.lemmas.Bool.{and_parts, false≢true}
-use Rattle.std.proofs.lemmas.List.Prefix.{front_rest}
+use Rattle.bag_tree.proofs.Common.{◌≡◌, ℕ, List, [], ◌∷◌, length, length-append, drop, Option, None, Some, is_some, cond, Bool, true, false, inl, inr, refl, ap, sym, ◌∙◌, arith, and_parts, false≢true, front_rest, find, is_sorted, get-empty, get-entries, get-insert, entries_sorted, nat_list_cmp_total, eq_by_cmp, text_cmp, slash, under, ByPath, is_within, moved, renamed, with_renamed, MovedIsThere}
 use Rattle.std.specs.FinMap as map
-use Rattle.std.specs.FinMap.{find, is_sorted, get-empty, get-entries, get-insert, entries_sorted}
-use Rattle.std.specs.Cmp.Lexicographic.{nat_list_cmp_total}
-use Rattle.std.specs.Ordering.{eq_by_cmp}
-use Rattle.bag_text.specs.Text.{text_cmp}
-use Rattle.bag_text.specs.Path.{slash, under}
 use Rattle.bag_tree.proofs.SameText.{one_text, text_itself}
-use Rattle.bag_tree.specs.Moved.{ByPath, is_within, moved, renamed, with_renamed, MovedIsThere}
 use Rattle.bag_tree.proofs.PathEntries.{none_below, t_true}
 use Rattle.bag_tree.proofs.Within.{within_cases, itself_within, under_within, goes_itself, goes_under, stays}
 

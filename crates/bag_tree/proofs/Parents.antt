@@ -1,13 +1,10 @@
 -- The folder that a path stands in.
-use Rattle.std.proofs.Common.{◌≡◌, ℕ, ◌+◌, ◌<◌, ◌≤◌, ◌==◌, Bool, true, false, IsUtf8, List, [], ◌∷◌, ◌++◌, length, take, nat_lt, All, add_comm, add-one, refl, ap, sym, ◌∙◌, arith, ⊎_elim}
-use Rattle.std.specs.List.{list_all, position_or_len, before_first, after_first, count_by}
-use Rattle.std.proofs.lemmas.Bool.{and_parts, and_from, ltb-true, lt-ltb, cases_lt, eqb-true}
-use Rattle.std.proofs.lemmas.List.Elements.{All-head, All-tail}
+use Rattle.bag_tree.proofs.Common.{◌≡◌, ℕ, ◌+◌, ◌<◌, ◌≤◌, ◌==◌, Bool, true, false, IsUtf8, List, [], ◌∷◌, ◌++◌, length, take, nat_lt, add_comm, add-one, refl, ap, ◌∙◌, arith, ⊎_elim, position_or_len, before_first, and_parts, and_from, ltb-true, lt-ltb, cases_lt, eqb-true, All-head, All-tail, slash, components, is_path, is_base_name, first_component, under}
+use Rattle.std.proofs.Common.{All}
 use Rattle.std.proofs.lemmas.List.Splits.{slice_split_none, slice_split_at, slice_split_first, length-slice_split}
 use Rattle.std.proofs.lemmas.List.Sums.{passes_at_first, fails_before_first}
 use Rattle.std.proofs.lemmas.Str.{IsUtf8-take, IsCharBoundary-before_ascii}
 use Rattle.std.proofs.lemmas.List.{get_or-take, length-take}
-use Rattle.bag_text.specs.Path.{slash, components, is_component, is_path, is_base_name, first_component, under}
 
 abbrev pub is_slash : ℕ → Bool
 is_slash c = c == slash
@@ -21,9 +18,7 @@ none_until : (p : ℕ → Bool) (xs : List ℕ) → length xs ≤ position_or_le
 none_until p xs none k d within = fails_before_first p xs k d (omega arith)
 
 none_before : (p : ℕ → Bool) (xs : List ℕ) → All (λ x. p x ≡ false) (before_first p xs)
-none_before p xs k d within =
-    let below : k < position_or_len p xs = omega (arith, length-take (position_or_len p xs) xs) in
-    ap p (get_or-take (position_or_len p xs) xs k d below) ∙ fails_before_first p xs k d below
+none_before p xs k d within = grind (arith, length-take, get_or-take, fails_before_first)
 
 first_before : (p : ℕ → Bool) (xs : List ℕ) (y : ℕ) (ys : List ℕ) → All (λ x. p x ≡ false) xs → p y ≡ true → before_first p (xs ++ y ∷ ys) ≡ xs
 first_before p [] y ys none here = rw here refl
@@ -33,54 +28,33 @@ first_before p (x ∷ xs) y ys none here =
 
 -- a slash parts a path in two or more
 parted : (path : List ℕ) → position_or_len is_slash path < length path → 1 < length (components path)
-parted path place =
-    let parts : components path ≡ before_first is_slash path ∷ components (after_first is_slash path) = slice_split_first is_slash path 0 place in
-    let more : length (components (after_first is_slash path)) ≡ count_by is_slash (after_first is_slash path) + 1 = length-slice_split is_slash (after_first is_slash path) in
-    omega (arith, ap length parts)
+parted path place = grind (arith, slice_split_first, length-slice_split)
 
 -- a name has no slash
 name_has_none : (name : List ℕ) → is_base_name name ≡ true → All (λ c. is_slash c ≡ false) name
-name_has_none name is =
-    let one : length (components name) ≡ 1 = eqb-true (length (components name)) 1 (and_parts (is_path name) (length (components name) == 1) is).1 in
-    ⊎_elim (λ place. let two : 1 < length (components name) = parted name place in absurd (omega arith)) (λ past. none_until is_slash name past) (cases_lt (position_or_len is_slash name) (length name))
+name_has_none name is = grind (arith, eqb-true, and_parts, ⊎_elim, parted, none_until, cases_lt)
 
 -- what stands under a name is in the folder of that name
 pub under_in_folder : (top rest : List ℕ) → is_base_name top ≡ true → is_in_folder (under top rest) ≡ true
-under_in_folder top rest is =
-    let parts : components (under top rest) ≡ top ∷ components rest = slice_split_at is_slash top slash rest (name_has_none top is) refl in
-    let more : length (components rest) ≡ count_by is_slash rest + 1 = length-slice_split is_slash rest in
-    lt-ltb 1 (length (components (under top rest))) (omega (arith, ap length parts))
+under_in_folder top rest is = grind (arith, slice_split_at, name_has_none, length-slice_split, lt-ltb)
 
 pub first-under : (top rest : List ℕ) → is_base_name top ≡ true → first_component (under top rest) ≡ top
 first-under top rest is = first_before is_slash top slash rest (name_has_none top is) refl
 
 -- a path in a folder has a slash
 pub slash_within : (path : List ℕ) → is_in_folder path ≡ true → position_or_len is_slash path < length path
-slash_within path within =
-    let two : 1 < length (components path) = ltb-true 1 (length (components path)) within in
-    ⊎_elim (λ place. place)
-    (λ past. let alone : components path ≡ path ∷ [] = slice_split_none is_slash path (none_until is_slash path past) in absurd (omega (arith, ap length alone)))
-    (cases_lt (position_or_len is_slash path) (length path))
+slash_within path within = grind (arith, ltb-true, ⊎_elim, slice_split_none, none_until, cases_lt)
 
 -- a path with a slash is in a folder, and one with none isn't
 pub in_folder : (path : List ℕ) → position_or_len is_slash path < length path → is_in_folder path ≡ true
 in_folder path place = lt-ltb 1 (length (components path)) (parted path place)
 
 pub not_in_folder : (path : List ℕ) → position_or_len is_slash path ≡ length path → is_in_folder path ≡ false
-not_in_folder path past =
-    let alone : components path ≡ path ∷ [] = slice_split_none is_slash path (none_until is_slash path (omega arith)) in
-    ap (λ (parts : List (List ℕ)). nat_lt 1 (length parts)) alone
+not_in_folder path past = grind (arith, slice_split_none, none_until, nat_lt)
 
 -- the first component of a path in a folder is a name, and a text where the path is one
 pub first_is_base_name : (path : List ℕ) → is_path path ≡ true → is_in_folder path ≡ true → is_base_name (first_component path) ≡ true
-first_is_base_name path is within =
-    let first = first_component path in
-    let parts : components path ≡ first ∷ components (after_first is_slash path) = slice_split_first is_slash path 0 (slash_within path within) in
-    let component : is_component first ≡ true = (and_parts _ _ (sym (ap (list_all is_component) parts) ∙ is)).0 in
-    let alone : components first ≡ first ∷ [] = slice_split_none is_slash first (none_before is_slash path) in
-    let path_is : is_path first ≡ true = rw alone (and_from _ _ component refl) in
-    let one : (length (components first) == 1) ≡ true = rw alone refl in
-    and_from _ _ path_is one
+first_is_base_name path is within = grind (arith, slice_split_first, slash_within, and_parts, slice_split_none, none_before, and_from)
 
 pub first_is_text : (path : List ℕ) → IsUtf8 path → is_in_folder path ≡ true → IsUtf8 (first_component path)
 first_is_text path text within =

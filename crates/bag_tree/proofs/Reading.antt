@@ -1,10 +1,6 @@
 -- A file is read piece by piece.
-use Rattle.std.proofs.Common.{◌≡◌, ◌<◌, ◌≤◌, ◌+◌, ◌++◌, [], Some, Option, List, ℕ, zero, suc, true, is_some, length, length-append, unwrap_or, arith, take, drop, ap, sym, ◌∙◌, refl, Result, Ok, Err, append_assoc, append-nil, take-append-drop}
-use Rattle.std.specs.Option.{option_map}
+use Rattle.bag_tree.proofs.Common.{◌≡◌, ◌<◌, ◌+◌, ◌++◌, [], Some, Option, List, ℕ, zero, suc, true, is_some, length, length-append, unwrap_or, arith, take, drop, ap, ◌∙◌, refl, Result, Ok, Err, append_assoc, append-nil, take-append-drop, option_map, ReadsNext, answer_of_read, HasRead, Given}
 use Rattle.std.specs.Result.{IfErr, OnErr}
-use Rattle.bag_tree.specs.Tree.{ReadsNext, answer_of_read}
-use Rattle.bag_tree.specs.Whole.{HasRead}
-use Rattle.bag_tree.specs.declared.answer.Answer.TheVariants.{Given}
 
 -- a read of nothing ends the file
 pub read_all : (content rest after : Option (List ℕ)) (bytes buffer : List ℕ) → HasRead content bytes rest → ReadsNext rest after 0 buffer → content ≡ Some bytes
@@ -14,10 +10,7 @@ read_all content rest after bytes buffer read ends =
 
 -- a read of some bytes
 pub read_more : (content rest after : Option (List ℕ)) (bytes buffer : List ℕ) (n : ℕ) → HasRead content bytes rest → ReadsNext rest after n buffer → HasRead content (bytes ++ take n buffer) after
-read_more content rest after bytes buffer n read piece =
-    let at = piece.from_open read.left read.is_open in
-    let joins : bytes ++ read.left ≡ (bytes ++ take n buffer) ++ drop n read.left = rw at.0 (sym (ap (λ xs. bytes ++ xs) (take-append-drop n read.left)) ∙ sym (append_assoc bytes (take n read.left) (drop n read.left))) in
-    record { left = drop n read.left; is_open = at.1; whole = read.whole ∙ ap Some joins }
+read_more content rest after bytes buffer n read piece = grind (arith, take-append-drop n read.left, append_assoc bytes (take n read.left) (drop n read.left))
 
 -- a read of some bytes gives what was asked for
 pub given_some : (n : ℕ) → 0 < n → answer_of_read n ≡ Given
@@ -27,26 +20,12 @@ given_some (suc n) some = refl
 -- the file that a read of some more bytes is of has at least as many
 pub longer_than : (content rest after : Option (List ℕ)) (bytes buffer : List ℕ) (n size : ℕ) → HasRead content bytes rest → ReadsNext rest after n buffer → size < length bytes + n
     → (is_some content ≡ true) × (option_map length content ≡ Some size → ⊥)
-longer_than content rest after bytes buffer n size read piece more =
-    let at = piece.from_open read.left read.is_open in (
-      ap is_some read.whole,
-      λ is.
-          let whole : length (bytes ++ read.left) ≡ size = ap (λ o. unwrap_or o 0) (sym (ap (option_map length) read.whole) ∙ is) in
-          let parts : length bytes + length read.left ≡ size = sym (length-append bytes read.left) ∙ whole in
-          let within : n ≤ length read.left = at.2 in
-          omega arith,
-    )
+longer_than content rest after bytes buffer n size read piece more = grind (arith, unwrap_or, length-append)
 
 -- the file that ends after these bytes has as many
 pub ended_after : (content rest after : Option (List ℕ)) (bytes buffer : List ℕ) (size : ℕ) → HasRead content bytes rest → ReadsNext rest after 0 buffer → length bytes < size
     → (is_some content ≡ true) × (option_map length content ≡ Some size → ⊥)
-ended_after content rest after bytes buffer size read piece fewer =
-    let whole : content ≡ Some bytes = read_all content rest after bytes buffer read piece in (
-      ap is_some whole,
-      λ is.
-          let same : length bytes ≡ size = ap (λ o. unwrap_or o 0) (sym (ap (option_map length) whole) ∙ is) in
-          omega arith,
-    )
+ended_after content rest after bytes buffer size read piece fewer = grind (arith, read_all content rest after bytes buffer read piece, unwrap_or)
 
 pub on_error : {T E : Type 0} (r : Result T E) (P : Type 0) → P → OnErr r P
 on_error (Ok y) P p = tt

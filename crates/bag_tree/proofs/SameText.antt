@@ -1,14 +1,8 @@
 -- Texts that compare alike are one.
-use Rattle.std.proofs.Common.{◌≡◌, ℕ, List, true, refl, ap, sym, arith}
+use Rattle.bag_tree.proofs.Common.{◌≡◌, ℕ, List, true, refl, ap, sym, arith, slice_cmp-IsAntisymmetric, nat_cmp-IsAntisymmetric, IsAntisymmetric, nat_cmp, eq_by_cmp, is_eq, nat_list_cmp_total, bytes_eq, nat_tests, text_cmp}
 use Rattle.std.specs.BTreeMap.{is_at}
-use Rattle.std.specs.FinMap.{slice_cmp-IsAntisymmetric, nat_cmp-IsAntisymmetric, IsAntisymmetric}
-use Rattle.std.specs.Ordering.{nat_cmp, eq_by_cmp, is_eq}
 use Rattle.std.specs.Cmp.{Equal-is, tied_itself}
-use Rattle.std.specs.Cmp.Lexicographic.{nat_list_cmp_total}
-use Rattle.std.specs.Str.{bytes_eq}
 use Rattle.std.proofs.lemmas.Cmp.{same_from_slice_cmp}
-use Rattle.std.proofs.lemmas.Bool.Decides.{nat_tests}
-use Rattle.bag_text.specs.Text.{text_cmp}
 
 pub exact_texts : IsAntisymmetric text_cmp
 exact_texts = slice_cmp-IsAntisymmetric nat_cmp-IsAntisymmetric

@@ -1,13 +1,6 @@
 -- Sums by their algorithms.
-use Rattle.std.proofs.Common.{◌≡◌, ◌∙◌, ◌-◌, ℕ, List, Option, Some, None, Contains, get_or, refl, ap, take}
-use Rattle.std.specs.Option.{option_map}
-use Rattle.hex.specs.Hex.{encode_lower}
-use Rattle.bag_text.specs.Alg.{rank}
-use Rattle.bag_text.specs.declared.alg.Alg.{Alg}
-use Rattle.bag_text.specs.declared.alg.Alg.TheVariants.{Md5}
-use Rattle.bag_tree.specs.Digest.{digest, hash_len, sum_at, AreSumsOf}
+use Rattle.bag_tree.proofs.Common.{arith, ◌≡◌, ◌-◌, ℕ, List, Option, Some, None, Contains, get_or, refl, ap, take, option_map, encode_lower, rank, Alg, Md5, digest, hash_len, sum_at, AreSumsOf, IsHashWhere}
 use Rattle.bag_tree.specs.Sums.{shown}
-use Rattle.bag_tree.specs.Digests.{IsHashWhere}
 
 -- a value in hex, without the zeros behind it
 abbrev spelled : Alg → Option (List ℕ) → Option (List ℕ)
@@ -28,7 +21,4 @@ spelled_other asked alg bytes (Some value) is lacks = absurd (lacks is.0)
 -- the values of all algorithms, in hex
 pub sums_of_hashes : (asked : List Alg) (bytes : List ℕ) (digests : List (Option (List ℕ)))
     → ((alg : Alg) → IsHashWhere asked alg bytes (get_or digests (rank alg - 1) None)) → AreSumsOf asked bytes (shown (record { digests = digests }))
-sums_of_hashes asked bytes digests are = record {
-  each = λ alg has. shown_at digests alg ∙ spelled_asked asked alg bytes _ (are alg) has;
-  no_other = λ alg lacks. shown_at digests alg ∙ spelled_other asked alg bytes _ (are alg) lacks;
-}
+sums_of_hashes asked bytes digests are = grind (arith, shown_at, spelled_asked, spelled_other)

@@ -1,7 +1,5 @@
 -- Hashers that take bytes, one after another.
-use Rattle.std.proofs.Common.{◌≡◌, ◌≢◌, ℕ, ◌<◌, ◌≤◌, ◌+◌, List, ◌++◌, Option, None, length, get_or, set, subst, arith, below_more, get_or-set_same, get_or-set_other}
-use Rattle.bag_text.specs.declared.alg.Alg.{Alg}
-use Rattle.bag_tree.specs.Digests.{HoldsWhere}
+use Rattle.bag_tree.proofs.Common.{◌≡◌, ◌≢◌, ℕ, ◌<◌, ◌≤◌, ◌+◌, List, ◌++◌, Option, None, length, get_or, set, subst, arith, below_more, get_or-set_same, get_or-set_other, Alg, HoldsWhere}
 use Rattle.bag_tree.specs.declared.hasher.Hasher.{Hasher}
 
 -- what is held in place of a message is the message and these bytes

@@ -1,14 +1,6 @@
 -- What is at a path or below it, and where it goes.
-use Rattle.std.proofs.Common.{◌≡◌, ℕ, ◌||◌, List, [], ◌∷◌, ◌++◌, append_assoc, length, drop, cond, true, false, nat_eq, ◌⊎◌, inl, inr, refl, ap, sym, ◌∙◌}
-use Rattle.std.proofs.lemmas.Bool.{or_left, or_right}
-use Rattle.std.proofs.lemmas.Bool.Decides.{Decides-eqb}
-use Rattle.std.proofs.lemmas.List.Prefix.{front_rest}
-use Rattle.std.proofs.lemmas.Slice.Eq.{starts_is}
-use Rattle.std.specs.List.{starts_with}
-use Rattle.std.specs.Str.{bytes_eq}
-use Rattle.bag_text.specs.Path.{slash, under}
+use Rattle.bag_tree.proofs.Common.{arith, ◌≡◌, ℕ, ◌||◌, List, [], ◌∷◌, ◌++◌, append_assoc, length, drop, cond, true, false, nat_eq, ◌⊎◌, inl, inr, refl, ap, sym, ◌∙◌, or_left, or_right, Decides-eqb, front_rest, starts_is, starts_with, bytes_eq, slash, under, is_within, renamed}
 use Rattle.bag_tree.proofs.SameText.{one_text, text_itself, same_test}
-use Rattle.bag_tree.specs.Moved.{is_within, renamed}
 
 pub prefix_test : (p t : List ℕ) → (starts_with nat_eq t p ≡ true → t ≡ p ++ drop (length p) t) × ((rest : List ℕ) → t ≡ p ++ rest → starts_with nat_eq t p ≡ true)
 prefix_test p t = starts_is Decides-eqb t p (starts_with nat_eq t p) refl
@@ -30,10 +22,7 @@ pub under_within : (top rest : List ℕ) → is_within top (under top rest) ≡ 
 under_within top rest = or_right (bytes_eq (under top rest) top) _ ((prefix_test (top ++ slash ∷ []) (under top rest)).1 rest (sym (append_assoc top (slash ∷ []) rest)))
 
 pub not_within : (top k : List ℕ) → (IsWithin top k → ⊥) → is_within top k ≡ false
-not_within top k none = elim (is_within top k) as (λ b. is_within top k ≡ b → b ≡ false) [
-  | true ↦ λ is. absurd (none (within_cases top k is))
-  | false ↦ λ _. refl
-] refl
+not_within top k none = grind (arith, within_cases)
 
 no_rest : (top : List ℕ) → drop (length top) top ≡ []
 no_rest [] = refl
@@ -48,16 +37,10 @@ pub goes_itself : (from to : List ℕ) → renamed from to from ≡ to
 goes_itself from to = ap (λ b. cond b (to ++ drop (length from) from) from) (itself_within from) ∙ ap (λ t. to ++ t) (no_rest from) ∙ nil_append to
 
 pub goes_under : (from to rest : List ℕ) → renamed from to (under from rest) ≡ under to rest
-goes_under from to rest =
-    ap (λ b. cond b (to ++ drop (length from) (under from rest)) (under from rest)) (under_within from rest)
-    ∙ ap (λ t. to ++ t) (front_rest (under from rest) from (slash ∷ rest) refl)
+goes_under from to rest = grind (arith, under_within, front_rest)
 
 pub stays : (from to k : List ℕ) → is_within from k ≡ false → renamed from to k ≡ k
 stays from to k outside = ap (λ b. cond b (to ++ drop (length from) k) k) outside
-
--- what follows a path in one that is within it
-pub goes_after : (from to k rest : List ℕ) → is_within from k ≡ true → k ≡ from ++ rest → renamed from to k ≡ to ++ rest
-goes_after from to k rest within parts = ap (λ b. cond b (to ++ drop (length from) k) k) within ∙ ap (λ t. to ++ t) (front_rest k from rest parts)
 
 same_front : (top r s : List ℕ) → top ++ r ≡ top ++ s → r ≡ s
 same_front top r s e = sym (front_rest (top ++ r) top r refl) ∙ ap (drop (length top)) e ∙ front_rest (top ++ s) top s refl
@@ -65,18 +48,11 @@ same_front top r s e = sym (front_rest (top ++ r) top r refl) ∙ ap (drop (leng
 -- what follows it is nothing, or begins with a slash
 pub within_after : (top k rest : List ℕ) → k ≡ top ++ rest → (rest ≡ []) ⊎ (starts_with nat_eq rest (slash ∷ []) ≡ true) → is_within top k ≡ true
 within_after top k rest parts (inl none) = ap (is_within top) (parts ∙ ap (λ r. top ++ r) none ∙ nil_append top) ∙ itself_within top
-within_after top k rest parts (inr marked) =
-    ap (is_within top) (parts ∙ ap (λ r. top ++ r) ((prefix_test (slash ∷ []) rest).0 marked)) ∙ under_within top (drop 1 rest)
+within_after top k rest parts (inr marked) = grind (arith, prefix_test, under_within)
 
 pub not_after : (top k rest : List ℕ) → k ≡ top ++ rest → (rest ≡ [] → ⊥) → (starts_with nat_eq rest (slash ∷ []) ≡ true → ⊥) → is_within top k ≡ false
-not_after top k rest parts some unmarked = not_within top k (λ is. elim is [
-  | inl itself ↦ some (same_front top rest [] (sym parts ∙ itself ∙ sym (nil_append top)))
-  | inr below ↦ unmarked ((prefix_test (slash ∷ []) rest).1 below.0 (same_front top rest (slash ∷ below.0) (sym parts ∙ below.1)))
-])
+not_after top k rest parts some unmarked = grind (arith, nil_append top, not_within, same_front, prefix_test)
 
 -- nothing is within what isn't in front of it
 pub not_in_front : (top k : List ℕ) → ((rest : List ℕ) → k ≡ top ++ rest → ⊥) → is_within top k ≡ false
-not_in_front top k none = not_within top k (λ is. elim is [
-  | inl itself ↦ none [] (itself ∙ sym (nil_append top))
-  | inr below ↦ none (slash ∷ below.0) below.1
-])
+not_in_front top k none = grind (arith, nil_append top, not_within)

@@ -1,5 +1,4 @@
-use Rattle.std.proofs.Common.{rules, inl, inr, ap, is_some, ◌∙◌, ◌++◌, take, refl, sym, subst, arith, IsTrue}
-use Rattle.std.proofs.lemmas.Grind.{common_steps}
+use Rattle.bag_tree.proofs.Common.{rules, inl, inr, ap, is_some, ◌∙◌, ◌++◌, take, refl, sym, subst, arith, IsTrue, common_steps}
 use Rattle.bag_tree.proofs.Calm.{nothing_read}
 use Rattle.bag_tree.proofs.Reading.{on_error, read_all, read_more, given_some, longer_than, ended_after}
 use Rattle.bag_tree.proofs.file_sums.digest_file.Goals as goal

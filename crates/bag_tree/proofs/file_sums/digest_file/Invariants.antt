@@ -1,5 +1,4 @@
-use Rattle.std.proofs.Common.{◌≡◌, ◌+◌, ◌∷◌, ◌++◌, []}
-use Rattle.bag_tree.specs.Tree.{Keeps, HasOpen}
+use Rattle.bag_tree.proofs.Common.{◌≡◌, ◌+◌, ◌∷◌, ◌++◌, [], Keeps, HasOpen}
 use Rattle.bag_tree.specs.FileSums.{HasTakenSome}
 use Rattle.bag_tree.proofs.file_sums.digest_file.Given as goal
 

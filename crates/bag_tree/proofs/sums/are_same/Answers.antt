@@ -1,6 +1,4 @@
-use Rattle.std.proofs.Common.{◌∙◌, rules, sym, ap}
-use Rattle.std.proofs.lemmas.Slice.Eq.{bytes_eq-Decides}
-use Rattle.hex.specs.Hex.{IsBytes, encode_lower}
+use Rattle.bag_tree.proofs.Common.{◌∙◌, rules, sym, ap, bytes_eq-Decides, IsBytes, encode_lower}
 use Rattle.bag_tree.proofs.Spelled.{one_spelled}
 use Rattle.bag_tree.proofs.sums.are_same.Goals as goal
 

@@ -1,5 +1,4 @@
-use Rattle.std.proofs.Common.{rules, inl, inr, ap, is_some, ◌∙◌, arith, sym, subst, IsTrue}
-use Rattle.std.proofs.lemmas.Grind.{common_steps}
+use Rattle.bag_tree.proofs.Common.{rules, inl, inr, ap, is_some, ◌∙◌, arith, sym, subst, IsTrue, common_steps}
 use Rattle.bag_tree.proofs.Calm.{nothing_read}
 use Rattle.bag_tree.proofs.Reading.{any_error, on_error, read_all, read_more, given_some, longer_than, ended_after}
 use Rattle.bag_tree.proofs.whole.read_pieces.Goals as goal

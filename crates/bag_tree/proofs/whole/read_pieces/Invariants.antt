@@ -1,7 +1,4 @@
-use Rattle.std.proofs.Common.{◌≡◌, ◌∷◌, ◌++◌, [], IsTrue, vec_len, ◌-◌, ◌≤◌}
-use Rattle.bag_tree.specs.Bag.{file}
-use Rattle.bag_tree.specs.Tree.{Keeps, HasOpen}
-use Rattle.bag_tree.specs.Whole.{HasRead}
+use Rattle.bag_tree.proofs.Common.{◌≡◌, ◌∷◌, ◌++◌, [], IsTrue, vec_len, ◌-◌, ◌≤◌, file, Keeps, HasOpen, HasRead}
 use Rattle.bag_tree.proofs.whole.read_pieces.Given as goal
 
 abbrev pub invariant-loop-bytes : goal.invariant-loop-bytes

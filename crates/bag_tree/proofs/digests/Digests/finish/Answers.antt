@@ -1,6 +1,4 @@
-use Rattle.std.proofs.Common.{◌-◌, None}
-use Rattle.bag_text.specs.Alg.{rank}
-use Rattle.bag_text.proofs.AlgSets.{rank_within}
+use Rattle.bag_tree.proofs.Common.{◌-◌, None, rank, rank_within}
 use Rattle.bag_tree.proofs.SumsOf.{sums_of_hashes}
 use Rattle.bag_tree.proofs.digests.Digests.finish.Goals as goal
 

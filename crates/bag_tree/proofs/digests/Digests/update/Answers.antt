@@ -1,6 +1,4 @@
-use Rattle.std.proofs.Common.{rules, arith, ◌<◌}
-use Rattle.std.proofs.lemmas.List.Elements.{All-append, All-from_get_or}
-use Rattle.bag_text.proofs.AlgSets.{rank_within}
+use Rattle.bag_tree.proofs.Common.{rules, arith, ◌<◌, All-append, All-from_get_or, rank_within}
 use Rattle.bag_tree.proofs.Updates.{one_more}
 use Rattle.bag_tree.proofs.digests.Digests.update.Goals as goal
 

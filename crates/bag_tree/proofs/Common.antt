@@ -1,0 +1,51 @@
+-- The names that this crate's proofs cite, passed on from one place. Declares nothing.
+pub use Rattle.std.proofs.Common.{Bool, Contains, Err, IsTrue, IsUtf8, List, MutBor, None, Ok, Option, Result, Some, [], add-one, add_comm, ap, append-nil, append_assoc, arith, below_more, cond, drop, false, get_or, get_or-set_other, get_or-set_same, inl, inr, is_some, length, length-append, length-take-le, map, nat_eq, nat_lt, refl, rules, set, slice_index, subst, suc, sym, take, take-append-drop, true, unwrap_or, vec_len, zero, ℕ, ⊎_elim, ◌&&◌, ◌*◌, ◌++◌, ◌+◌, ◌-◌, ◌/◌, ◌<◌, ◌==◌, ◌^◌, ◌||◌, ◌∙◌, ◌∷◌, ◌≡◌, ◌≢◌, ◌≤◌, ◌⊎◌}
+pub use Rattle.std.proofs.Math.Dec.{T}
+pub use Rattle.std.proofs.lemmas.Bool.{and_from, and_parts, cases_lt, eqb-true, false≢true, lt-ltb, ltb-true, or_left, or_right}
+pub use Rattle.std.proofs.lemmas.Bool.Decides.{Decides-eqb, nat_tests}
+pub use Rattle.std.proofs.lemmas.Grind.{common_steps}
+pub use Rattle.std.proofs.lemmas.List.Elements.{All-append, All-cons, All-from_get_or, All-head, All-nil, All-tail, All-take}
+pub use Rattle.std.proofs.lemmas.List.Prefix.{front_rest}
+pub use Rattle.std.proofs.lemmas.Slice.Eq.{bytes_eq-Decides, starts_is}
+pub use Rattle.std.specs.Cmp.Lexicographic.{nat_list_cmp_total}
+pub use Rattle.std.specs.FinMap.{IsAntisymmetric, entries_sorted, find, get-empty, get-entries, get-insert, is_sorted, nat_cmp-IsAntisymmetric, slice_cmp-IsAntisymmetric}
+pub use Rattle.std.specs.FinMap.Entries.{below_all, same_entries}
+pub use Rattle.std.specs.List.{AllByRecursion, before_first, position_or_len, starts_with}
+pub use Rattle.std.specs.Option.{option_map}
+pub use Rattle.std.specs.Ordering.{eq_by_cmp, is_eq, is_lt, nat_cmp}
+pub use Rattle.std.specs.Prelude.{All}
+pub use Rattle.std.specs.Str.{bytes_eq}
+pub use Rattle.std.specs.declared.cmp.Ordering.TheVariants.{Equal, Greater, Less}
+pub use Rattle.bag_text.proofs.AlgSets.{rank_within}
+pub use Rattle.bag_text.specs.Alg.{algs, rank}
+pub use Rattle.bag_text.specs.Path.{components, first_component, is_base_name, is_path, slash, under}
+pub use Rattle.bag_text.specs.Text.{text_cmp}
+pub use Rattle.bag_text.specs.declared.alg.Alg.{Alg}
+pub use Rattle.bag_text.specs.declared.alg.Alg.TheVariants.{Md5, Sha1, Sha224, Sha256, Sha384, Sha512}
+pub use Rattle.hex.specs.Hex.{IsBytes, encode_lower}
+pub use base.Logic.{SProp, emp, ent, fst∗, id⊢, sep, via}
+pub use contract.Monad.{Fun}
+pub use contract.Running.{tables}
+pub use denote.Steps.{closes, nothing, opens}
+pub use denote.Triple.Entry.{on_entry}
+pub use denote.Triple.Spec.{Meets, triple_of}
+pub use denote.Triple.Table.{entered}
+pub use denote.Triple.Walked.{AllGo, Goes-none_slice, Goes-ref, Stays, Walks, ends_at, says, stay_none_slice, stay_ref, walk_Meets, walk_of, walked}
+pub use mir.Val.{Val, vcons, vnil, vptr, vstruct, vunit}
+pub use prog.Memory.{Memory}
+pub use prog.Routine.{Routine}
+pub use prog.Wp.{Calls, Loops, Tables, WpFn}
+pub use seplogic.Ra.Ura.{Ura}
+pub use sound.WpLaws.{WpFn-mono}
+pub use types.ByLocal.{alloc_all, free_all, get, look_at, pass_all, sets}
+pub use types.Kit.{ !, by, done, feq_i, fjoin, fjoin3, frame, fsplit, fsplit3, join, keep, move, qed, raw, split, suffices, use1, ‵, ◌$◌, ◌∵◌, ◌⊛◌}
+pub use types.Logic.{Logic}
+pub use types.Run.{and_then, enter, no_more, of_opd, returns, unit_lit}
+pub use Rattle.bag_tree.specs.Bag.{file, files_of}
+pub use Rattle.bag_tree.specs.Digest.{AreSumsOf, digest, hash, hash_len, sum_at}
+pub use Rattle.bag_tree.specs.Digests.{HoldsWhere, IsHashWhere}
+pub use Rattle.bag_tree.specs.Moved.{ByPath, MovedIsThere, is_within, moved, renamed, with_renamed}
+pub use Rattle.bag_tree.specs.Tree.{HasOpen, Keeps, ReadsNext, TreeState, answer_of_read, refusal_of}
+pub use Rattle.bag_tree.specs.Whole.{HasRead}
+pub use Rattle.bag_tree.specs.declared.answer.Answer.TheVariants.{Given, Refused, Unlisted}
+pub use Rattle.bag_tree.specs.declared.heard.Heard.{Heard}
