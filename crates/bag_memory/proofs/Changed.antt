@@ -1,18 +1,9 @@
 -- How many files and folders a bag has after a change.
-use Rattle.std.proofs.Common.{◌≡◌, ℕ, ◌+◌, ◌-◌, ◌≤◌, ◌==◌, ◌&&◌, Bool, true, false, not, cond, nat_lt, List, [], ◌∷◌, Option, None, length, refl, ap, sym, ◌∙◌, arith}
+use Rattle.bag_memory.proofs.Common.{◌≡◌, ℕ, ◌+◌, ◌-◌, ◌≤◌, ◌&&◌, Bool, true, false, not, cond, nat_lt, List, [], ◌∷◌, Option, None, length, refl, ap, ◌∙◌, arith, nat_list_cmp_total, text_cmp, and_parts, or_right, eqb-true, false≢true, is_base_name, Bag, has_folder, folders_for, state_after, HasChanged, Files, make_folder, move_in, rename_folder, create, is_taken, lacks_folder, lacks_source, moved, renamed, with_renamed}
 use Rattle.std.specs.FinMap as map
 use Rattle.std.specs.FinSet as set
-use Rattle.std.specs.Cmp.Lexicographic.{nat_list_cmp_total}
-use Rattle.bag_text.specs.Text.{text_cmp}
-use Rattle.std.proofs.lemmas.Bool.{and_parts, or_right, eqb-true, false≢true}
-use Rattle.bag_text.specs.Path.{components, first_component, is_base_name, is_path, under}
-use Rattle.bag_tree.specs.Bag.{Bag, has_file, has_folder}
 use Rattle.bag_tree.specs.declared.answer.Answer.{Answer}
 use Rattle.bag_tree.specs.declared.answer.Answer.TheVariants.{Given}
-use Rattle.bag_memory.specs.Memory.{folders_for, state_after}
-use Rattle.bag_tree.specs.Changes.{HasChanged}
-use Rattle.bag_tree.specs.Steps.{Files, make_folder, move_in, rename_folder, create, is_taken, lacks_folder, lacks_source}
-use Rattle.bag_tree.specs.Moved.{moved, renamed, with_renamed}
 use Rattle.bag_memory.proofs.InMemory.{folder_stays}
 
 one_more : (b : Bool) (n m : ℕ) → m ≡ cond b n (n + 1) → m ≤ n + 1
@@ -66,29 +57,15 @@ pub count_created : (name bytes : List ℕ) (bag : Bag) → count (create name b
 count_created name bytes bag = let more = files_more bag.files name bytes in omega (arith, more)
 
 pub count_moved : (top folder : List ℕ) (bag : Bag) → count (move_in top folder bag) ≤ count bag + 0
-count_moved top folder bag =
-    let files = files_moved top (under folder top) bag.files in
-    let folders = folders_less bag.folders top in
-    omega (arith, files, folders)
+count_moved top folder bag = grind (arith, files_moved, folders_less)
 
 pub count_renamed : (from to : List ℕ) (bag : Bag) → has_folder bag from ≡ true → count (rename_folder from to bag) ≤ count bag + 0
-count_renamed from to bag has =
-    let files = files_moved from to bag.files in
-    let folders = folders_renamed bag.folders from to has in
-    omega (arith, files, folders)
+count_renamed from to bag has = grind (arith, files_moved, folders_renamed)
 
 -- a tree in memory was changed
 pub memory_changed : (step : Bag → Bag) (more : ℕ) (old new : Bag) (openings : List (List ℕ)) (rest : Option (List ℕ)) (given : ℕ) (last : Answer)
     → new ≡ step old → count (step old) ≤ count old + more → HasChanged step more (state_after old openings rest given last) (state_after new openings None given Given)
-memory_changed step more old new openings rest given last same few = record {
-  bag = λ _. same;
-  plain = λ _ plain. plain;
-  honest = refl;
-  entries = λ _. let as_many = ap (λ b. count b) same in omega (arith, as_many, few);
-  failures = omega arith;
-  openings = refl;
-  rest = refl;
-}
+memory_changed step more old new openings rest given last same few = grind arith
 
 pub not_lacking : (b : Bool) → not b ≡ false → b ≡ true
 not_lacking true e = refl
@@ -100,11 +77,8 @@ folder_there bag top folder there = (and_parts _ _ (not_lacking (has_folder bag 
 
 -- a folder that is there hasn't a free name
 pub free_differs : (bag : Bag) (from to : List ℕ) → lacks_folder bag from ≡ false → is_taken bag to ≡ false → to ≡ from → ⊥
-free_differs bag from to there free same =
-    false≢true (sym free ∙ or_right (has_file bag to) _ (ap (has_folder bag) same ∙ not_lacking (has_folder bag from) there))
+free_differs bag from to there free same = grind (arith, false≢true, or_right, not_lacking)
 
 -- a name of the base folder stands in no folder
 pub no_folder_for_name : (folders : set.FinSet text_cmp) (name : List ℕ) → is_base_name name ≡ true → folders ≡ folders_for folders name
-no_folder_for_name folders name is =
-    let one : length (components name) ≡ 1 = eqb-true (length (components name)) 1 (and_parts (is_path name) (length (components name) == 1) is).1 in
-    sym (ap (λ n. cond (nat_lt 1 n) (set.insert folders (first_component name)) folders) one)
+no_folder_for_name folders name is = grind (arith, eqb-true, and_parts, nat_lt)

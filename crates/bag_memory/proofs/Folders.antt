@@ -1,22 +1,11 @@
 -- The folder that a file brings with it, and that is taken back.
-use Rattle.std.proofs.Common.{◌≡◌, ℕ, ◌<◌, ◌&&◌, ◌||◌, Bool, true, false, not, cond, List, length, refl, ap, sym, ◌∙◌}
-use Rattle.std.specs.List.{list_any, position_or_len}
+use Rattle.bag_memory.proofs.Common.{arith, ◌≡◌, ℕ, ◌<◌, ◌&&◌, ◌||◌, Bool, true, false, not, cond, List, length, refl, ap, sym, ◌∙◌, list_any, position_or_len, contains-insert, contains-remove, contains-from_list, same_set, eq_by_cmp, eq_by_cmp_equiv, nat_list_cmp_total, is_at, text_cmp, first_component, folder_set, folders_for, exact_texts, one_text}
 use Rattle.std.specs.FinSet as set
-use Rattle.std.specs.FinSet.{contains-insert, contains-remove, contains-from_list, same_set}
-use Rattle.std.specs.Ordering.{eq_by_cmp}
-use Rattle.std.specs.Cmp.{eq_by_cmp_equiv}
-use Rattle.std.specs.Cmp.Lexicographic.{nat_list_cmp_total}
-use Rattle.std.specs.BTreeMap.{is_at}
-use Rattle.bag_text.specs.Text.{text_cmp}
-use Rattle.bag_text.specs.Path.{first_component}
-use Rattle.bag_memory.specs.Memory.{folder_set, folders_for}
-use Rattle.bag_tree.proofs.SameText.{exact_texts, one_text}
 use Rattle.bag_memory.proofs.Parents.{is_slash, in_folder, not_in_folder}
 
 -- the folder of a path with a slash
 pub parent_put : (folders : set.FinSet text_cmp) (name path : List ℕ) → position_or_len is_slash path < length path → name ≡ first_component path → set.insert folders name ≡ folders_for folders path
-parent_put folders name path place is =
-    ap (set.insert folders) is ∙ sym (ap (λ b. cond b (set.insert folders (first_component path)) folders) (in_folder path place))
+parent_put folders name path place is = grind (arith, in_folder)
 
 pub no_parent : (folders : set.FinSet text_cmp) (path : List ℕ) → position_or_len is_slash path ≡ length path → folders ≡ folders_for folders path
 no_parent folders path past = sym (ap (λ b. cond b (set.insert folders (first_component path)) folders) (not_in_folder path past))

@@ -1,19 +1,7 @@
 -- The bag of a tree in memory is a bag.
-use Rattle.std.proofs.Common.{◌≡◌, ℕ, ◌<◌, ◌||◌, true, false, cond, List, [], ◌∷◌, Some, is_some, All, IsUtf8, Result, Ok, Err, OnOk, OnErr, Fits, w8, get_or, refl, ap, sym, ◌∙◌, subst, arith}
+use Rattle.bag_memory.proofs.Common.{◌≡◌, ℕ, ◌<◌, ◌||◌, true, false, cond, List, [], ◌∷◌, Some, is_some, All, IsUtf8, Result, Ok, Err, OnOk, OnErr, Fits, w8, get_or, refl, ap, sym, ◌∙◌, subst, arith, get-insert, get-empty, contains-insert, contains-empty, eq_by_cmp, nat_list_cmp_total, and_from, lt-ltb, or_left, or_right, false≢true, All-head, All-tail, All-from_get_or, is_utf8-from_IsUtf8, text_cmp, is_path, is_base_name, under, first_component, Bag, file, has_folder, PassesAsBag, empty_bag, with_file, with_folder, folders_for, is_in_folder, is_text_path, is_text_name, are_bytes, bag_of, folder_set, one_text, text_itself}
 use Rattle.std.specs.FinMap as map
-use Rattle.std.specs.FinMap.{get-insert, get-empty}
 use Rattle.std.specs.FinSet as set
-use Rattle.std.specs.FinSet.{contains-insert, contains-empty}
-use Rattle.std.specs.Ordering.{eq_by_cmp}
-use Rattle.std.specs.Cmp.Lexicographic.{nat_list_cmp_total}
-use Rattle.std.proofs.lemmas.Bool.{and_from, lt-ltb, or_left, or_right, false≢true}
-use Rattle.std.proofs.lemmas.List.Elements.{All-head, All-tail, All-from_get_or}
-use Rattle.std.proofs.lemmas.Str.{is_utf8-from_IsUtf8}
-use Rattle.bag_text.specs.Text.{text_cmp}
-use Rattle.bag_text.specs.Path.{is_path, is_base_name, under, first_component}
-use Rattle.bag_tree.specs.Bag.{Bag, file, has_folder}
-use Rattle.bag_memory.specs.Memory.{PassesAsBag, empty_bag, with_file, with_folder, folders_for, is_in_folder, is_text_path, is_text_name, are_bytes, bag_of, file_map, folder_set}
-use Rattle.bag_tree.proofs.SameText.{one_text, text_itself}
 use Rattle.bag_memory.proofs.Parents.{under_in_folder, first-under, first_is_name}
 
 pub are_bytes_from : (bytes : List ℕ) → All (λ b. b < 256) bytes → are_bytes bytes ≡ true
@@ -86,19 +74,13 @@ file_passes bag path bytes is are passes = elim (is_in_folder path) as (λ b. is
 -- what a bag becomes passes too
 pub file_put_passes : (old new : Bag) (path bytes : List ℕ) → new.files ≡ map.insert old.files path bytes → new.folders ≡ folders_for old.folders path
     → is_text_path path ≡ true → are_bytes bytes ≡ true → PassesAsBag old → PassesAsBag new
-file_put_passes old new path bytes files folders is are passes =
-    let same : with_file old path bytes ≡ new = λ i. record { files = sym files i; folders = sym folders i } in
-    subst PassesAsBag same (file_passes old path bytes is are passes)
+file_put_passes old new path bytes files folders is are passes = grind (arith, file_passes)
 
 pub folder_put_passes : {E : Type 0} (r : Result (Unit {0}) E) (files : List (List ℕ × List ℕ)) (old new : List (List ℕ)) (name : List ℕ)
     → OnOk r (folder_set new ≡ set.insert (folder_set old) name) → OnErr r (folder_set new ≡ folder_set old)
     → is_text_name name ≡ true → PassesAsBag (bag_of files old) → PassesAsBag (bag_of files new)
-folder_put_passes (Ok u) files old new name put refused is passes =
-    let same : with_folder (bag_of files old) name ≡ bag_of files new = λ i. record { files = file_map files; folders = sym put i } in
-    subst PassesAsBag same (folder_passes (bag_of files old) name is passes)
-folder_put_passes (Err e) files old new name put refused is passes =
-    let same : bag_of files old ≡ bag_of files new = λ i. record { files = file_map files; folders = sym refused i } in
-    subst PassesAsBag same passes
+folder_put_passes (Ok u) files old new name put refused is passes = grind (arith, folder_passes (bag_of files old) name is passes)
+folder_put_passes (Err e) files old new name put refused is passes = grind arith
 
 -- the bytes of a slice
 pub bytes_below : (bytes : List ℕ) → ((i : ℕ) → Fits w8 (get_or bytes i 0)) → are_bytes bytes ≡ true

@@ -1,4 +1,5 @@
 pub mod Changed
+pub mod Common
 mod Counting
 pub mod Folders
 pub mod InMemory

@@ -1,27 +1,11 @@
 -- A listing of files in memory.
-use Rattle.std.proofs.Common.{◌≡◌, ℕ, ◌&&◌, List, [], ◌∷◌, ◌++◌, length, codes, get_or, nat_lt, Contains, eqb-true, Bool, true, false, cond, ◌||◌, Option, Some, is_some, IsTrue, All, refl, ap, sym, ◌∙◌, subst, map}
-use Rattle.std.specs.Option.{option_map}
-use Rattle.std.specs.List.{list_any, position_or_len, after_first}
+use Rattle.bag_memory.proofs.Common.{arith, ◌≡◌, ℕ, ◌&&◌, List, [], ◌∷◌, ◌++◌, length, codes, get_or, nat_lt, Contains, Bool, true, false, cond, ◌||◌, Option, Some, is_some, IsTrue, All, refl, ap, sym, ◌∙◌, subst, map, option_map, list_any, position_or_len, after_first, lookup, is_at, get, find, from_entries, get-from_entries, eq_by_cmp_equiv, nat_list_cmp_total, eq_by_cmp, and_parts, All-nil, All-cons, All-contains, passes_at_first, split_at_first, text_cmp, slash, components, first_component, is_path, is_payload_path, under, has_file, has_folder, IsOrdered, HasItsFolder, size_at, listed, bag_of, PassesAsBag, exact_texts, one_text, same_test, text_itself}
+use Rattle.std.proofs.Common.{eqb-true}
 use Rattle.std.specs.List.Sorted.{IsStrictlySortedBy}
-use Rattle.std.specs.Map.{lookup}
-use Rattle.std.specs.BTreeMap.{is_at}
 use Rattle.std.specs.Str.{bytes_eq}
-use Rattle.std.specs.FinMap.{get, find, from_entries, get-from_entries}
 use Rattle.bag_tree.specs.declared.listing.FileEntry.{FileEntry}
 use Rattle.std.specs.FinSet as set
-use Rattle.std.specs.Cmp.{eq_by_cmp_equiv}
-use Rattle.std.specs.Cmp.Lexicographic.{nat_list_cmp_total}
-use Rattle.std.specs.Ordering.{eq_by_cmp}
-use Rattle.std.proofs.lemmas.Bool.{and_parts}
-use Rattle.std.proofs.lemmas.List.Elements.{All-nil, All-cons, All-contains}
-use Rattle.std.proofs.lemmas.List.Sums.{passes_at_first, split_at_first}
-use Rattle.bag_text.specs.Text.{text_cmp}
-use Rattle.bag_text.specs.Path.{slash, components, first_component, is_path, is_payload_path, under}
-use Rattle.bag_tree.specs.Bag.{has_file, has_folder}
-use Rattle.bag_tree.specs.Listing.{IsOrdered, HasItsFolder, size_at, entry_at}
 use Rattle.bag_tree.specs.declared.listing.Listing.{Listing}
-use Rattle.bag_memory.specs.Memory.{listed, bag_of, PassesAsBag}
-use Rattle.bag_tree.proofs.SameText.{exact_texts, one_text, same_test, text_itself}
 use Rattle.bag_memory.proofs.Parents.{is_slash, slash_within}
 use Rattle.bag_memory.proofs.MemoryFiles.{file_at}
 
@@ -74,9 +58,7 @@ one_more false e rest others h = h
 
 listed_size : (es : List (List ℕ × List ℕ)) (q : List ℕ) → size_at (listed es) q ≡ option_map length (lookup (is_at (text_cmp q)) es)
 listed_size [] q = refl
-listed_size (e ∷ es) q =
-    ap (λ b. option_map (λ (x : FileEntry). x.size) (cond b (Some (record { path = e.0; size = length e.1 })) (entry_at (listed es) q))) (same_test e.0 q)
-    ∙ one_more (is_at (text_cmp q) e.0) e (entry_at (listed es) q) (lookup (is_at (text_cmp q)) es) (listed_size es q)
+listed_size (e ∷ es) q = grind (arith, same_test, one_more, listed_size es q)
 
 pub listed_files : (es : List (List ℕ × List ℕ)) (q : List ℕ) → size_at (listed es) q ≡ option_map length (get (from_entries {R = text_cmp} es) q)
 listed_files es q = listed_size es q ∙ ap (option_map length) (sym (file_at es q))

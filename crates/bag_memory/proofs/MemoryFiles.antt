@@ -1,16 +1,6 @@
 -- What files and folders in memory stand for.
-use Rattle.std.proofs.Common.{◌≡◌, ℕ, List, [], ◌∷◌, true, false, cond, Option, None, Some, is_some, length, take, drop, min, ◌+◌, ◌<◌, arith, refl, ap, sym, ◌∙◌}
-use Rattle.std.specs.FinMap.{find, get, insert, from_entries, get-from_entries, get-insert, same_map}
-use Rattle.std.specs.Cmp.Lexicographic.{nat_list_cmp_total}
-use Rattle.std.specs.Cmp.{eq_by_cmp_equiv}
+use Rattle.bag_memory.proofs.Common.{◌≡◌, ℕ, List, [], ◌∷◌, true, false, cond, Option, None, Some, is_some, length, take, drop, min, ◌+◌, ◌<◌, arith, refl, ap, sym, ◌∙◌, find, get, insert, from_entries, get-from_entries, get-insert, same_map, nat_list_cmp_total, eq_by_cmp_equiv, lookup, is_at, text_cmp, rest_of, bag_of, ReadsNext, exact_texts}
 use Rattle.std.proofs.lemmas.Grind.{common_steps}
-use Rattle.std.specs.Map.{lookup}
-use Rattle.std.specs.Option.{option_map}
-use Rattle.std.specs.BTreeMap.{is_at}
-use Rattle.bag_text.specs.Text.{text_cmp}
-use Rattle.bag_memory.specs.Memory.{rest_of, bag_of}
-use Rattle.bag_tree.specs.Tree.{ReadsNext}
-use Rattle.bag_tree.proofs.SameText.{exact_texts}
 
 find_lookup : (es : List (List ℕ × List ℕ)) (q : List ℕ) → find text_cmp q es ≡ lookup (is_at (text_cmp q)) es
 find_lookup [] q = refl
@@ -23,8 +13,7 @@ file_at es q = get-from_entries nat_list_cmp_total es q ∙ find_lookup es q
 -- the rest of the open file
 pub rest_at : (files : List (List ℕ × List ℕ)) (folders : List (List ℕ)) (file : Option (List ℕ)) (path content : List ℕ) (at : ℕ)
     → file ≡ Some path → lookup (is_at (text_cmp path)) files ≡ Some content → rest_of (bag_of files folders) file at ≡ Some (drop at content)
-rest_at files folders file path content at is place =
-    ap (λ path. rest_of (bag_of files folders) path at) is ∙ ap (option_map (drop at)) (file_at files path ∙ place)
+rest_at files folders file path content at is place = grind (arith, file_at)
 
 -- entries that differ at one path make maps that differ there
 pub one_put : (es fs : List (List ℕ × List ℕ)) (k v : List ℕ)
@@ -51,9 +40,4 @@ drop-drop i n xs = grind (arith, common_steps)
 
 -- a piece of a file was copied
 pub reads_piece : (content old buffer : List ℕ) (at n : ℕ) → n ≡ min (length (drop at content)) (length old) → 0 < length old → take n buffer ≡ take n (drop at content) → ReadsNext (Some (drop at content)) (Some (drop (at + n) content)) n buffer
-reads_piece content old buffer at n e some copied = record {
-  from_open = λ bytes is.
-      let same : drop at content ≡ bytes = cc in
-      rw (← same) (copied, ap Some (drop-drop at n content), omega arith, (λ zero. no_length (drop at content) (omega arith), λ none. omega (arith, ap length none)));
-  some = (drop at content, refl);
-}
+reads_piece content old buffer at n e some copied = grind (arith, drop-drop, no_length)

@@ -1,30 +1,14 @@
 -- A bag in which something was moved is a bag.
-use Rattle.std.proofs.Common.{◌≡◌, ℕ, ◌<◌, ◌+◌, ◌==◌, lit<, zero, suc, slice_index, get_or, length-append, ◌++◌, Bool, true, false, not, cond, List, [], ◌∷◌, Some, is_some, length, drop, IsUtf8, inl, inr, refl, ap, sym, ◌∙◌, subst, is_lt, append_assoc, arith}
+use Rattle.bag_memory.proofs.Common.{◌≡◌, ℕ, ◌<◌, ◌+◌, ◌==◌, lit<, zero, suc, slice_index, get_or, length-append, ◌++◌, Bool, true, false, not, cond, List, [], ◌∷◌, Some, is_some, length, drop, IsUtf8, inl, inr, refl, ap, sym, ◌∙◌, subst, is_lt, append_assoc, arith, find, is_sorted, entries_sorted, get-entries, get-insert, get-empty, below_all, AllByRecursion, list_all, Less, Equal, Greater, eq_by_cmp, is_eq, ordering_reverse, nat_list_cmp_total, T, and_parts, and_from, eqb-true, ltb-true, false≢true, IsUtf8-append, IsUtf8-from_ascii, IsUtf8-from_is_utf8, is_utf8-from_IsUtf8, IsUtf8-drop, IsCharBoundary-after_ascii, text_cmp, slash, components, is_component, is_path, is_base_name, first_component, under, Bag, file, has_folder, files_of, PassesAsBag, is_text_path, is_text_name, are_bytes, Files, move_in, rename_folder, is_within, renamed, with_renamed, moved, one_text, text_itself}
 use Rattle.std.specs.FinMap as fin
-use Rattle.std.specs.FinMap.{find, is_sorted, entries_sorted, get-entries, get-insert, get-empty}
-use Rattle.std.specs.FinMap.Entries.{below_all}
 use Rattle.std.specs.FinSet as set
-use Rattle.std.specs.List.{AllByRecursion, list_all}
 use Rattle.std.specs.declared.cmp.Ordering.{Ordering}
-use Rattle.std.specs.declared.cmp.Ordering.TheVariants.{Less, Equal, Greater}
-use Rattle.std.specs.Ordering.{eq_by_cmp, is_eq, ordering_reverse}
-use Rattle.std.specs.Cmp.Lexicographic.{nat_list_cmp_total}
-use Rattle.std.proofs.Math.Dec.{T}
-use Rattle.std.proofs.lemmas.Bool.{and_parts, and_from, eqb-true, ltb-true, false≢true}
 use Rattle.std.proofs.lemmas.List.Prefix.{front_rest}
-use Rattle.std.proofs.lemmas.Str.{IsUtf8-append, IsUtf8-from_ascii, IsUtf8-from_is_utf8, is_utf8-from_IsUtf8, IsUtf8-drop, IsCharBoundary-after_ascii}
 use Rattle.std.proofs.lemmas.List.Splits.{slice_split_none, slice_split_at}
-use Rattle.bag_text.specs.Text.{text_cmp}
-use Rattle.bag_text.specs.Path.{slash, components, is_component, is_path, is_base_name, first_component, under}
-use Rattle.bag_tree.specs.Bag.{Bag, file, has_folder, files_of}
-use Rattle.bag_memory.specs.Memory.{PassesAsBag, is_text_path, is_text_name, are_bytes}
-use Rattle.bag_tree.specs.Steps.{Files, move_in, rename_folder}
-use Rattle.bag_tree.specs.Moved.{is_within, renamed, with_renamed, moved}
 use Rattle.bag_tree.proofs.Within.{within_cases, under_within, goes_itself, goes_under, stays}
 use Rattle.bag_memory.proofs.MemoryFiles.{some_from}
 use Rattle.bag_memory.proofs.Parents.{is_slash, name_has_none, first-under, under_in_folder}
 use Rattle.bag_memory.proofs.InMemory.{folder_stays, folder_cases, folder_is_there}
-use Rattle.bag_tree.proofs.SameText.{one_text, text_itself}
 
 abbrev IsFound : List (List ℕ × List ℕ) → List ℕ × List ℕ → Type 0
 IsFound es e = find text_cmp e.0 es ≡ Some e.1
@@ -78,9 +62,7 @@ parts_under : (top rest : List ℕ) → is_base_name top ≡ true → components
 parts_under top rest base = slice_split_at is_slash top slash rest (name_has_none top base) refl
 
 name_is_component : (name : List ℕ) → is_base_name name ≡ true → is_component name ≡ true
-name_is_component name base =
-    let alone : components name ≡ name ∷ [] = slice_split_none is_slash name (name_has_none name base) in
-    (and_parts _ _ (sym (ap (list_all is_component) alone) ∙ (and_parts _ _ base).0)).0
+name_is_component name base = grind (arith, slice_split_none, is_slash, name_has_none, and_parts)
 
 -- a path under a folder
 under_is_path : (folder path : List ℕ) → is_text_name folder ≡ true → is_text_path path ≡ true → is_text_path (under folder path) ≡ true
@@ -134,22 +116,7 @@ good : (bag : Bag) (folders : set.FinSet text_cmp) (from to path content : List 
     → (is_within from path ≡ true → (first rest : List ℕ) → is_base_name first ≡ true → renamed from to path ≡ under first rest → set.contains folders first ≡ true)
     → ((q : List ℕ) → (q ≡ from → ⊥) → has_folder bag q ≡ true → set.contains folders q ≡ true)
     → PassesAsBag bag → file bag path ≡ Some content → IsGood folders (renamed from to path) content
-good bag folders from to path content inside below others passes at =
-    let path_is = passes.paths path (ap is_some at) in
-    elim (is_within from path) as (λ b. is_within from path ≡ b → IsGood folders (renamed from to path) content) [
-      | true ↦ λ within. record {
-        path_is = inside within path_is;
-        bytes = passes.bytes path content at;
-        parent = below within;
-      }
-      | false ↦ λ outside. subst (λ q. IsGood folders q content) (sym (stays from to path outside)) (record {
-        path_is = path_is;
-        bytes = passes.bytes path content at;
-        parent = λ first rest is same. others first
-            (λ one. false≢true (sym outside ∙ ap (is_within from) same ∙ ap (λ q. is_within from (under q rest)) one ∙ under_within from rest))
-            (passes.parents first rest is (subst (λ q. is_some (file bag q) ≡ true) same (ap is_some at)));
-      })
-    ] refl
+good bag folders from to path content inside below others passes at = grind (arith, stays, false≢true, one, under_within)
 
 passes_from : (bag : Bag) (folders : set.FinSet text_cmp) (from to : List ℕ)
     → ((path content : List ℕ) → file bag path ≡ Some content → IsGood folders (renamed from to path) content)
@@ -173,10 +140,7 @@ passes_from bag folders from to goods names =
 
 -- where a path goes that is moved into a folder
 goes_in : (top folder path : List ℕ) → is_within top path ≡ true → renamed top (under folder top) path ≡ under folder path
-goes_in top folder path within = elim (within_cases top path within) [
-  | inl itself ↦ ap (renamed top (under folder top)) itself ∙ goes_itself top (under folder top) ∙ ap (under folder) (sym itself)
-  | inr below ↦ ap (renamed top (under folder top)) below.1 ∙ goes_under top (under folder top) below.0 ∙ append_assoc folder (slash ∷ top) (slash ∷ below.0) ∙ ap (under folder) (sym below.1)
-]
+goes_in top folder path within = grind (arith, within_cases, goes_itself, goes_under, append_assoc)
 
 one_folder : (folder path first rest : List ℕ) → is_base_name folder ≡ true → is_base_name first ≡ true → under folder path ≡ under first rest → folder ≡ first
 one_folder folder path first rest is first_is same = sym (first-under folder path is) ∙ ap first_component same ∙ first-under first rest first_is

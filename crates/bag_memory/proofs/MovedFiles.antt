@@ -1,16 +1,6 @@
 -- Files in memory, in the order of their paths.
-use Rattle.std.proofs.Common.{◌≡◌, ℕ, ◌∷◌, [], List, true, refl, ap, sym, ◌∙◌, subst, map, is_lt}
-use Rattle.std.specs.FinMap.{is_sorted, entries, entries_sorted, get-entries, get-from_entries}
-use Rattle.std.specs.FinMap.Entries.{below_all, same_entries}
-use Rattle.std.specs.List.{AllByRecursion}
+use Rattle.bag_memory.proofs.Common.{◌≡◌, ℕ, ◌∷◌, [], List, true, refl, ap, sym, ◌∙◌, subst, map, is_lt, is_sorted, entries, entries_sorted, get-entries, get-from_entries, below_all, same_entries, AllByRecursion, Less, nat_list_cmp_total, T, and_from, text_cmp, file_map, exact_texts}
 use Rattle.std.specs.List.Sorted.{IsStrictlySortedBy}
-use Rattle.std.specs.declared.cmp.Ordering.TheVariants.{Less}
-use Rattle.std.specs.Cmp.Lexicographic.{nat_list_cmp_total}
-use Rattle.std.proofs.Math.Dec.{T}
-use Rattle.std.proofs.lemmas.Bool.{and_from}
-use Rattle.bag_text.specs.Text.{text_cmp}
-use Rattle.bag_memory.specs.Memory.{file_map}
-use Rattle.bag_tree.proofs.SameText.{exact_texts}
 
 below : (path : List ℕ) (es : List (List ℕ × List ℕ)) → AllByRecursion (λ y. text_cmp path y ≡ Less) (map (λ e. e.0) es) → below_all text_cmp path es ≡ true
 below path [] h = refl

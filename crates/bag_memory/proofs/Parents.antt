@@ -1,13 +1,7 @@
 -- The folder that a path in UTF-8 stands in.
-use Rattle.std.proofs.Common.{◌≡◌, ◌<◌, ◌==◌, ℕ, true, false, List, length, All, arith, ⊎_elim}
-use Rattle.std.specs.List.{position_or_len}
-use Rattle.std.proofs.lemmas.Bool.{and_parts, and_from, eqb-true, ltb-true, cases_lt}
-use Rattle.std.proofs.lemmas.List.Sums.{fails_before_first}
-use Rattle.std.proofs.lemmas.Str.{IsUtf8-from_is_utf8, is_utf8-from_IsUtf8}
-use Rattle.bag_text.specs.Path.{components, is_path, is_base_name, first_component}
+use Rattle.bag_memory.proofs.Common.{◌≡◌, ◌<◌, ◌==◌, ℕ, true, false, List, length, All, arith, ⊎_elim, position_or_len, and_parts, and_from, eqb-true, ltb-true, cases_lt, fails_before_first, IsUtf8-from_is_utf8, is_utf8-from_IsUtf8, components, is_path, is_base_name, first_component, is_in_folder, is_text_path, is_text_name}
 use Rattle.bag_tree.proofs.Parents.{first_is_base_name, first_is_text}
 pub use Rattle.bag_tree.proofs.Parents.{is_slash, under_in_folder, first-under, slash_within, in_folder, not_in_folder}
-use Rattle.bag_memory.specs.Memory.{is_in_folder, is_text_path, is_text_name}
 
 -- the first component of a path in a folder is a name
 pub first_is_name : (path : List ℕ) → is_text_path path ≡ true → is_in_folder path ≡ true → is_text_name (first_component path) ≡ true

@@ -1,13 +1,8 @@
 -- What the tree below leaves of a call that isn't refused.
-use Rattle.std.proofs.Common.{◌≡◌, ◌⊎◌, inl, inr, ℕ, List, zero, suc, true, false, Bool, cond, Option, None, Result, Ok, Err, OnErr, refl, ap, ◌∙◌, arith}
-use Rattle.bag_tree.specs.Bag.{Bag}
-use Rattle.bag_tree.specs.Tree.{TreeState}
+use Rattle.bag_memory.proofs.Common.{◌≡◌, ◌⊎◌, inl, inr, ℕ, List, zero, suc, true, false, Bool, cond, Option, Result, Ok, Err, OnErr, refl, arith, Bag, TreeState, HasBegun, HasChanged, IsSame, after_call, failing, is_kth, next_due, refused_calls, Never, After, Past}
 use Rattle.bag_tree.specs.declared.tree_fault.TreeFault.{TreeFault}
-use Rattle.bag_tree.specs.Changes.{HasBegun, HasChanged, IsSame}
-use Rattle.bag_memory.specs.Refusals.{after_call, failing, is_kth, next_due, refused_calls}
 use Rattle.bag_memory.specs.declared.calls.Calls.{Calls}
 use Rattle.bag_memory.specs.declared.calls.Due.{Due}
-use Rattle.bag_memory.specs.declared.calls.Due.TheVariants.{Never, After, Past}
 
 none_more : (due : Due) → is_kth due ≡ false → refused_calls (next_due due) ≡ refused_calls due
 none_more Never e = refl
@@ -20,29 +15,10 @@ none_open true rest = refl
 none_open false rest = refl
 
 same_above : (old new : TreeState) (calls : Calls) → is_kth calls.due ≡ false → IsSame old new → IsSame (failing old calls) (failing new (after_call calls))
-same_above old new calls passes same = record {
-  keeps = record {
-    bag = same.keeps.bag;
-    plain = same.keeps.plain;
-    honest = same.keeps.honest;
-    entries = same.keeps.entries;
-    failures = let more = same.keeps.failures in let none = none_more calls.due passes in omega (arith, more, none);
-  };
-  openings = same.openings;
-  rest = ap (λ rest. cond calls.shut None rest) same.rest;
-  given = same.given;
-}
+same_above old new calls passes same = grind (arith, none_more)
 
 changed_above : (step : Bag → Bag) (more : ℕ) (old new : TreeState) (calls : Calls) → is_kth calls.due ≡ false → HasChanged step more old new → HasChanged step more (failing old calls) (failing new (after_call calls))
-changed_above step more old new calls passes changed = record {
-  bag = changed.bag;
-  plain = changed.plain;
-  honest = changed.honest;
-  entries = changed.entries;
-  failures = let more = changed.failures in let none = none_more calls.due passes in omega (arith, more, none);
-  openings = changed.openings;
-  rest = ap (λ rest. cond calls.shut None rest) changed.rest ∙ none_open calls.shut None;
-}
+changed_above step more old new calls passes changed = grind (arith, none_more, none_open)
 
 left_above : (name bytes : List ℕ) (old new : TreeState) (calls : Calls) → is_kth calls.due ≡ false
     → IsSame old new ⊎ HasBegun name bytes old new

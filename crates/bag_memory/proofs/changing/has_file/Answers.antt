@@ -1,4 +1,4 @@
-use Rattle.std.proofs.Common.{◌∙◌, ap, sym, is_some}
+use Rattle.bag_memory.proofs.Common.{◌∙◌, ap, sym, is_some}
 use Rattle.bag_memory.proofs.MemoryFiles.{file_at}
 use Rattle.bag_memory.proofs.changing.has_file.Goals as goal
 

@@ -1,6 +1,5 @@
-use Rattle.std.proofs.Common.{◌∙◌, sym}
+use Rattle.bag_memory.proofs.Common.{◌∙◌, sym, nat_list_cmp_total}
 use Rattle.std.specs.FinSet as set
-use Rattle.std.specs.Cmp.Lexicographic.{nat_list_cmp_total}
 use Rattle.bag_memory.proofs.changing.is_folder.Goals as goal
 
 pub returns : goal.returns

@@ -1,8 +1,6 @@
-use Rattle.std.proofs.Common.{◌∙◌, ◌≡◌, sym, ap, lit<, true, false, None, Some}
-use Rattle.std.specs.Cmp.Lexicographic.{nat_list_cmp_total}
+use Rattle.bag_memory.proofs.Common.{arith, ◌∙◌, ◌≡◌, sym, ap, lit<, true, false, None, Some, nat_list_cmp_total, folder_set}
 use Rattle.std.specs.FinSet as set
 use Rattle.std.proofs.lemmas.Str.Pattern.{split_once_first}
-use Rattle.bag_memory.specs.Memory.{folder_set}
 use Rattle.bag_memory.proofs.Folders.{parent_put, no_parent, put_and_taken, put_again}
 use Rattle.bag_memory.proofs.folder_set.put_parent.Goals as goal
 
@@ -17,10 +15,7 @@ returns-then-contains-clause-put c =
     sym (put_again folders c.in_ok-name.name old) ∙ parent_put folders c.in_ok-name.name c.args.path.now cut.0 (c.in_ok-name.ensures ∙ cut.1)
 
 pub returns-clause-put : goal.returns-clause-put
-returns-clause-put c =
-    let folders = folder_set c.args.folders.now.keys in
-    let cut = split_once_first 47 c.args.path.now (Some (c.in-Some.folder, c.in-Some.field-0-1)) c.in-Some.ensures.cases (lit< tt) in
-    c.in_ok-insert_folder.ensures.put ∙ ap (set.insert folders) c.in_ok-copy.ensures ∙ parent_put folders c.in_ok-name.name c.args.path.now cut.0 (c.in_ok-name.ensures ∙ cut.1)
+returns-clause-put c = grind (arith, split_once_first, lit<, parent_put)
 
 pub returns-clause-added : goal.returns-clause-added
 returns-clause-added c =

@@ -1,6 +1,4 @@
-use Rattle.std.proofs.Common.{◌≡◌}
-use Rattle.std.specs.List.{list_any}
-use Rattle.bag_tree.specs.Moved.{is_within}
+use Rattle.bag_memory.proofs.Common.{◌≡◌, list_any, is_within}
 use Rattle.bag_memory.proofs.moved.has_within.Given as goal
 
 abbrev pub invariant-loop-path : goal.invariant-loop-path

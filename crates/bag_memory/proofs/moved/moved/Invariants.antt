@@ -1,7 +1,4 @@
-use Rattle.std.proofs.Common.{◌≡◌}
-use Rattle.std.specs.FinMap.{empty}
-use Rattle.bag_memory.specs.Memory.{file_map}
-use Rattle.bag_tree.specs.Moved.{with_renamed}
+use Rattle.bag_memory.proofs.Common.{◌≡◌, empty, file_map, with_renamed}
 use Rattle.bag_memory.proofs.moved.moved.Given as goal
 
 abbrev pub invariant-loop-path : goal.invariant-loop-path

@@ -1,6 +1,5 @@
-use Rattle.std.proofs.Common.{◌∙◌, ap}
+use Rattle.bag_memory.proofs.Common.{◌∙◌, ap, bag_of, file_map}
 use Rattle.std.specs.FinMap as map
-use Rattle.bag_memory.specs.Memory.{bag_of, file_map}
 use Rattle.bag_memory.proofs.InMemory.{file_put_passes, bytes_below, text_path_of}
 use Rattle.bag_memory.proofs.memory_tree.MemoryTree.put_file.Goals as goal
 

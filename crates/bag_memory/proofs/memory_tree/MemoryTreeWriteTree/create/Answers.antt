@@ -1,7 +1,4 @@
-use Rattle.std.proofs.Common.{◌≡◌}
-use Rattle.std.proofs.lemmas.Bool.{and_parts}
-use Rattle.bag_memory.specs.Memory.{bag_of, folder_set}
-use Rattle.bag_tree.specs.Steps.{create}
+use Rattle.bag_memory.proofs.Common.{◌≡◌, and_parts, bag_of, folder_set, create}
 use Rattle.bag_memory.proofs.Changed.{memory_changed, count_created, no_folder_for_name}
 use Rattle.bag_memory.proofs.InMemory.{file_put_passes, bytes_below, text_path_of}
 use Rattle.bag_memory.proofs.memory_tree.MemoryTreeWriteTree.create.Goals as goal

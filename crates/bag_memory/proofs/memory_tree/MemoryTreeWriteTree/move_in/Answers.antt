@@ -1,6 +1,4 @@
-use Rattle.std.proofs.Common.{◌≡◌, sym, subst}
-use Rattle.bag_memory.specs.Memory.{PassesAsBag, bag_of}
-use Rattle.bag_tree.specs.Steps.{move_in}
+use Rattle.bag_memory.proofs.Common.{◌≡◌, sym, subst, PassesAsBag, bag_of, move_in}
 use Rattle.bag_memory.proofs.Changed.{memory_changed, count_moved, folder_there}
 use Rattle.bag_memory.proofs.InMemory.{text_name_of}
 use Rattle.bag_memory.proofs.MovedBag.{move_passes}

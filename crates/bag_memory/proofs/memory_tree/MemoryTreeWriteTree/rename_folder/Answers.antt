@@ -1,7 +1,5 @@
-use Rattle.std.proofs.Common.{◌≡◌, sym, subst}
+use Rattle.bag_memory.proofs.Common.{◌≡◌, sym, subst, PassesAsBag, bag_of, rename_folder}
 use Rattle.std.specs.FinSet as set
-use Rattle.bag_memory.specs.Memory.{PassesAsBag, bag_of}
-use Rattle.bag_tree.specs.Steps.{rename_folder}
 use Rattle.bag_memory.proofs.Changed.{memory_changed, count_renamed, not_lacking, free_differs}
 use Rattle.bag_memory.proofs.InMemory.{text_name_of}
 use Rattle.bag_memory.proofs.MovedBag.{rename_passes}
