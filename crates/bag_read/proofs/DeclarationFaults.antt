@@ -1,17 +1,5 @@
 -- The faults of a declaration: first of the whole file, then of each line.
-use Rattle.std.proofs.Common.{◌≡◌, ◌≢◌, ℕ, suc, ◌≤◌, ◌⊎◌, inl, inr, Bool, true, false, ◌==◌, List, [], ◌∷◌, length, refl, ap, sym, ◌∙◌, subst, codes, Some, None, Option, arith, lit<, cond, ◌-◌}
-use Rattle.std.specs.Prelude.{decimal, nat_le, option_and_then}
-use Rattle.std.specs.List.{slice_get}
-use Rattle.std.specs.declared.cmp.Ordering.TheVariants.{Less}
-use Rattle.bag_text.specs.Text.{IsText, IsNoText, has_mark, same_label}
-use Rattle.bag_text.specs.Lines.{lines_of_file}
-use Rattle.bag_text.specs.declared.code.Code.{Code}
-use Rattle.bag_text.specs.declared.code.Code.TheVariants.{DeclarationNotUtf8, DeclarationLineCount, DeclarationLine, VersionUnsupported, EncodingUnsupported}
-use Rattle.std.proofs.lemmas.Bool.Decides.{nat_tests}
-use Rattle.bag_text.proofs.ListOf.{only_listed, one_listed, one_more, same_members, only_from_some}
-use Rattle.bag_read.specs.declared.line_fault.LineFault.{LineFault}
-use Rattle.bag_read.specs.LineFault.{AreFaults, line_fault_cmp, line_fault}
-use Rattle.bag_read.specs.Declaration.{IsDeclarationFault, DeclarationFault, IsUnread, version_of, encoding_of, declared_version, declared_encoding, is_supported_version}
+use Rattle.bag_read.proofs.Common.{◌≡◌, ◌≢◌, ℕ, suc, ◌≤◌, ◌⊎◌, inl, inr, Bool, true, false, ◌==◌, List, [], ◌∷◌, length, refl, ap, sym, ◌∙◌, subst, codes, Some, None, Option, arith, lit<, cond, ◌-◌, decimal, nat_le, option_and_then, slice_get, Less, IsText, IsNoText, has_mark, same_label, lines_of_file, Code, DeclarationNotUtf8, DeclarationLineCount, DeclarationLine, VersionUnsupported, EncodingUnsupported, nat_tests, only_listed, one_listed, one_more, same_members, only_from_some, LineFault, AreFaults, line_fault_cmp, line_fault, IsDeclarationFault, DeclarationFault, IsUnread, version_of, encoding_of, is_supported_version}
 use Rattle.bag_read.proofs.FaultOrder.{is_fault, line_below, code_below}
 use Rattle.bag_read.specs.DeclarationFaults.{utf8_fault, mark_fault, count_fault, version_fault, encoding_fault, on_line, text_faults}
 
@@ -70,31 +58,20 @@ module _ (bytes : List ℕ) (text : IsText bytes) where
   mark_is f h = mark_go (has_mark bytes) f refl h
 
   is_mark : (f : LineFault) → Mark f → mark_fault bytes ≡ Some f
-  is_mark f (c, h) =
-      let row : DeclarationFault DeclarationNotUtf8 bytes f = subst (λ code. DeclarationFault code bytes f) c h in
-      elim row [
-        | inl x ↦ absurd (no_text x.2)
-        | inr x ↦ rw x.3 (ap Some (sym (is_fault f 0 DeclarationNotUtf8 (codes "bom") x.0 c x.1)))
-      ]
+  is_mark f (c, h) = grind (arith, no_text, is_fault)
 
   mark_line : (f : LineFault) → Mark f → f.line ≡ 0
-  mark_line f (c, h) =
-      let row : DeclarationFault DeclarationNotUtf8 bytes f = subst (λ code. DeclarationFault code bytes f) c h in
-      elim row [ inl x ↦ x.0 | inr x ↦ x.0 ]
+  mark_line f (c, h) = grind arith
 
   count_go : (b : Bool) (f : LineFault) → (length lines == 2) ≡ b → cond b None (Some (line_fault 0 DeclarationLineCount (decimal (length lines)))) ≡ Some f → Count f
   count_go true f e h = cc
-  count_go false f e h =
-      let same : line_fault 0 DeclarationLineCount (decimal (length lines)) ≡ f = cc in
-      subst Count same (refl, (refl, refl, text, other_number (length lines) 2 e))
+  count_go false f e h = grind (arith, other_number (length lines) 2 e)
 
   count_is : (f : LineFault) → count_fault (length lines) ≡ Some f → Count f
   count_is f h = count_go (length lines == 2) f refl h
 
   is_count : (f : LineFault) → Count f → count_fault (length lines) ≡ Some f
-  is_count f (c, h) =
-      let row : DeclarationFault DeclarationLineCount bytes f = subst (λ code. DeclarationFault code bytes f) c h in
-      rw (number_test (length lines) 2 row.3) (ap Some (sym (is_fault f 0 DeclarationLineCount (decimal (length lines)) row.0 c row.1)))
+  is_count f (c, h) = grind (arith, number_test, is_fault)
 
   count_line : (f : LineFault) → Count f → f.line ≡ 0
   count_line f (c, h) = let row : DeclarationFault DeclarationLineCount bytes f = subst (λ code. DeclarationFault code bytes f) c h in row.0
@@ -102,9 +79,7 @@ module _ (bytes : List ℕ) (text : IsText bytes) where
   -- the first line
   version_go : (line version : List ℕ) (b : Bool) (f : LineFault) → slice_get lines 0 ≡ Some line → version_of line ≡ Some version → is_supported_version version ≡ b → cond b None (Some (line_fault 1 VersionUnsupported version)) ≡ Some f → First f
   version_go line version true f e r s h = cc
-  version_go line version false f e r s h =
-      let same : line_fault 1 VersionUnsupported version ≡ f = cc in
-      subst First same (refl, (refl, ap (option_and_then version_of) e ∙ r, s))
+  version_go line version false f e r s h = grind arith
 
   version_read : (line : List ℕ) (o : Option (List ℕ)) (f : LineFault) → slice_get lines 0 ≡ Some line → version_of line ≡ o → version_fault o ≡ Some f → First f
   version_read line None f e r h = let same : line_fault 1 DeclarationLine [] ≡ f = cc in subst First same (refl, inl (refl, refl, (line, (lit< tt, e), r)))
@@ -125,11 +100,9 @@ module _ (bytes : List ℕ) (text : IsText bytes) where
   first_code DeclarationNotUtf8 f c l (inl x) = absurd (no_text x.2)
   first_code DeclarationNotUtf8 f c l (inr x) = let zero_line = x.0 in absurd (omega arith)
   first_code DeclarationLineCount f c l x = let zero_line = x.0 in absurd (omega arith)
-  first_code DeclarationLine f c l (inl (one, d, (line, (some, e), r))) =
-      ap first_line_fault e ∙ ap version_fault r ∙ ap Some (sym (is_fault f 1 DeclarationLine [] l c d))
+  first_code DeclarationLine f c l (inl (one, d, (line, (some, e), r))) = grind (arith, is_fault)
   first_code DeclarationLine f c l (inr x) = let two = x.0 in absurd (omega arith)
-  first_code VersionUnsupported f c l (one, d, s) =
-      declares_version (slice_get lines 0) f.detail d ∙ rw s (ap Some (sym (is_fault f 1 VersionUnsupported f.detail l c refl)))
+  first_code VersionUnsupported f c l (one, d, s) = grind (arith, declares_version (slice_get lines 0) f.detail d, is_fault f 1 VersionUnsupported f.detail l c refl)
   first_code EncodingUnsupported f c l x = let two = x.0 in absurd (omega arith)
   first_code other f c l h = absurd h
 
@@ -139,9 +112,7 @@ module _ (bytes : List ℕ) (text : IsText bytes) where
   -- the second line
   encoding_go : (line encoding : List ℕ) (b : Bool) (f : LineFault) → slice_get lines 1 ≡ Some line → encoding_of line ≡ Some encoding → same_label encoding (codes "UTF-8") ≡ b → cond b None (Some (line_fault 2 EncodingUnsupported encoding)) ≡ Some f → Second f
   encoding_go line encoding true f e r s h = cc
-  encoding_go line encoding false f e r s h =
-      let same : line_fault 2 EncodingUnsupported encoding ≡ f = cc in
-      subst Second same (refl, (refl, ap (option_and_then encoding_of) e ∙ r, s))
+  encoding_go line encoding false f e r s h = grind arith
 
   encoding_read : (line : List ℕ) (o : Option (List ℕ)) (f : LineFault) → slice_get lines 1 ≡ Some line → encoding_of line ≡ o → encoding_fault o ≡ Some f → Second f
   encoding_read line None f e r h = let same : line_fault 2 DeclarationLine [] ≡ f = cc in subst Second same (refl, inr (refl, refl, (line, (lit< tt, e), r)))
@@ -163,11 +134,9 @@ module _ (bytes : List ℕ) (text : IsText bytes) where
   second_code DeclarationNotUtf8 f c l (inr x) = let zero_line = x.0 in absurd (omega arith)
   second_code DeclarationLineCount f c l x = let zero_line = x.0 in absurd (omega arith)
   second_code DeclarationLine f c l (inl x) = let one = x.0 in absurd (omega arith)
-  second_code DeclarationLine f c l (inr (two, d, (line, (some, e), r))) =
-      ap second_line_fault e ∙ ap encoding_fault r ∙ ap Some (sym (is_fault f 2 DeclarationLine [] l c d))
+  second_code DeclarationLine f c l (inr (two, d, (line, (some, e), r))) = grind (arith, is_fault)
   second_code VersionUnsupported f c l x = let one = x.0 in absurd (omega arith)
-  second_code EncodingUnsupported f c l (two, d, s) =
-      declares_encoding (slice_get lines 1) f.detail d ∙ rw s (ap Some (sym (is_fault f 2 EncodingUnsupported f.detail l c refl)))
+  second_code EncodingUnsupported f c l (two, d, s) = grind (arith, declares_encoding (slice_get lines 1) f.detail d, is_fault f 2 EncodingUnsupported f.detail l c refl)
   second_code other f c l h = absurd h
 
   is_encoding_fault : (f : LineFault) → Second f → second_line_fault (slice_get lines 1) ≡ Some f
@@ -239,9 +208,3 @@ module _ (bytes : List ℕ) (other : IsNoText bytes) where
   -- the one fault of a file that isn't UTF-8
   pub faults_of_no_text : AreFaults (IsDeclarationFault bytes) (utf8_fault ∷ [])
   faults_of_no_text = one_listed line_fault_cmp (IsDeclarationFault bytes) utf8_fault (inl (refl, refl, other)) (λ f h. utf8_code f.code f refl h)
-
-  pub no_version : declared_version bytes ≡ None
-  no_version = ap (option_and_then version_of) (no_line 0)
-
-  pub no_encoding : declared_encoding bytes ≡ None
-  no_encoding = ap (option_and_then encoding_of) (no_line 1)

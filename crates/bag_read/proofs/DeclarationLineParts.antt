@@ -1,16 +1,6 @@
 -- The two lines of the declaration and their parts.
-use Rattle.std.proofs.Common.{◌≡◌, ◌≢◌, ℕ, Bool, true, false, not, ◌==◌, cond, List, [], ◌∷◌, ◌++◌, length, drop, refl, ap, ◌∙◌, subst, codes, Option, Some, None, bytes_eq, nat_eq, arith}
-use Rattle.std.specs.Prelude.{IsTrue, option_and_then}
-use Rattle.std.specs.Char.{is_ascii_digit}
-use Rattle.std.specs.List.{list_all, starts_with, before_first, after_first}
-use Rattle.std.specs.Str.{byte}
-use Rattle.std.proofs.lemmas.Bool.Decides.{nat_tests}
-use Rattle.bag_text.specs.Number.{is_digits}
-use Rattle.bag_text.specs.Text.{after_prefix, is_blank}
-use Rattle.bag_read.specs.Declaration.{when, is_version, is_encoding}
-use Rattle.bag_read.specs.LineParts.{AreDigits}
+use Rattle.bag_read.proofs.Common.{◌≡◌, ◌≢◌, ℕ, Bool, true, false, not, ◌==◌, cond, List, [], ◌∷◌, ◌++◌, refl, ap, subst, codes, Option, Some, None, bytes_eq, nat_eq, arith, IsTrue, option_and_then, is_ascii_digit, list_all, before_first, after_first, byte, nat_tests, is_digits, after_prefix, is_blank, when, is_version, is_encoding, AreDigits, VersionLinesReadAsTheirParts, EncodingLinesReadAsTheirParts}
 use Rattle.bag_read.proofs.AreDigits.{are_digits, digits_are}
-use Rattle.bag_read.specs.DeclarationLine.{VersionLinesReadAsTheirParts, EncodingLinesReadAsTheirParts}
 use Rattle.bag_read.proofs.FirstMark.{cut_before, before_is, behind_is}
 use Rattle.bag_read.proofs.Fronts.{drop_front}
 use Rattle.bag_read.proofs.LineParts.{not_empty, empty_test, not_true}
@@ -59,11 +49,7 @@ module _ (test : List ℕ → Bool) (label line value : List ℕ) where
   labelled e = let two = then_some test (after_prefix label line) value e in (after_is label line value two.0, two.1)
 
   pub labelled_back : line ≡ label ++ value → test value ≡ true → option_and_then (when test) (after_prefix label line) ≡ Some value
-  labelled_back at good =
-      let there : starts_with nat_eq line label ≡ true = (prefix_test label line).1 value at in
-      let after : drop (length label) line ≡ value = ap (drop (length label)) at ∙ drop_front label value in
-      ap (λ b. option_and_then (when test) (cond b (Some (drop (length label) line)) None)) there
-      ∙ ap (when test) after ∙ ap (λ b. cond b (Some value) None) good
+  labelled_back at good = grind (arith, nat_eq, prefix_test, drop_front)
 
 pub version_lines : VersionLinesReadAsTheirParts
 version_lines line version = (

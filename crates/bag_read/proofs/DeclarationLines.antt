@@ -1,6 +1,5 @@
 -- The first lines of a text.
-use Rattle.std.proofs.Common.{◌≡◌, ℕ, ◌+◌, List, [], ◌∷◌, refl, ap}
-use Rattle.std.specs.List.{enumerate_from}
+use Rattle.bag_read.proofs.Common.{◌≡◌, ℕ, ◌+◌, List, [], ◌∷◌, refl, ap, enumerate_from}
 
 pub no_lines : (n : ℕ) (all : List (List ℕ)) → enumerate_from n all ≡ [] → all ≡ []
 no_lines n [] e = refl

@@ -1,8 +1,6 @@
 -- A line of the declaration declares one text, or is faulty.
-use Rattle.std.proofs.Common.{◌≡◌, ◌↔◌, ◌⊎◌, inl, inr, ℕ, List, Option, Some, None, refl, sym, ◌∙◌, arith}
-use Rattle.bag_text.specs.Lines.{lines_of_file, IsLine}
-use Rattle.bag_read.specs.Declaration.{version_of, encoding_of, IsUnread}
-use Rattle.bag_read.specs.DeclarationLine.{DeclaresOne, DeclaresNone, IsFaulty, IsVersionLine, IsEncodingLine, LinesDeclareOrAreFaulty}
+use Rattle.bag_read.proofs.Common.{◌≡◌, ◌⊎◌, inl, inr, ℕ, List, Option, Some, None, refl, sym, ◌∙◌, arith, lines_of_file, IsLine, version_of, encoding_of, IsUnread, DeclaresOne, DeclaresNone, IsFaulty, IsVersionLine, IsEncodingLine, LinesDeclareOrAreFaulty}
+use Rattle.std.proofs.Common.{◌↔◌}
 use Rattle.bag_read.proofs.DeclarationLineParts.{version_lines, encoding_lines}
 
 -- where a line declares what is read of it, and is faulty just where nothing is read of it
@@ -28,16 +26,10 @@ module _ (Declares : List ℕ → List ℕ → Type 0) (reading : List ℕ → O
   one_or_faulty line there = by_reading line (reading line) there refl
 
 first_unread : (bytes : List ℕ) → IsFaulty bytes 1 ↔ IsUnread version_of bytes 1
-first_unread bytes = (
-  λ faulty. elim faulty [ inl x ↦ x.2 | inr x ↦ (let two = x.0 in absurd (omega arith)) ],
-  λ some. inl (refl, refl, some),
-)
+first_unread bytes = grind arith
 
 second_unread : (bytes : List ℕ) → IsFaulty bytes 2 ↔ IsUnread encoding_of bytes 2
-second_unread bytes = (
-  λ faulty. elim faulty [ inl x ↦ (let one = x.0 in absurd (omega arith)) | inr x ↦ x.2 ],
-  λ some. inr (refl, refl, some),
-)
+second_unread bytes = grind arith
 
 pub declare_or_faulty : LinesDeclareOrAreFaulty
 declare_or_faulty = (

@@ -1,15 +1,5 @@
 -- Line faults and their order.
-use Rattle.std.proofs.Common.{◌≡◌, ℕ, ◌<◌, inl, inr, List, refl, ap, sym, ◌∙◌}
-use Rattle.std.specs.Ordering.{nat_cmp, ordering_reverse}
-use Rattle.std.specs.Cmp.{nat_cmp_is}
-use Rattle.std.specs.declared.cmp.Ordering.TheVariants.{Less, Equal, Greater}
-use Rattle.std.proofs.Math.Nat.{eq-or-lt_of_le}
-use Rattle.std.proofs.lemmas.Bool.{cases_lt}
-use Rattle.std.proofs.lemmas.Cmp.{nat_cmp_total}
-use Rattle.bag_text.specs.Code.{number}
-use Rattle.bag_text.specs.declared.code.Code.{Code}
-use Rattle.bag_read.specs.declared.line_fault.LineFault.{LineFault}
-use Rattle.bag_read.specs.LineFault.{line_fault, line_fault_cmp}
+use Rattle.bag_read.proofs.Common.{arith, ◌≡◌, ℕ, ◌<◌, List, refl, sym, nat_cmp, nat_cmp_is, Less, Equal, eq-or-lt_of_le, cases_lt, number, Code, LineFault, line_fault, line_fault_cmp}
 
 -- a fault is its three parts
 pub is_fault : (f : LineFault) (line : ℕ) (code : Code) (detail : List ℕ) → f.line ≡ line → f.code ≡ code → f.detail ≡ detail → f ≡ line_fault line code detail
@@ -23,14 +13,7 @@ same m n h = sym (nat_cmp_is m n Equal h)
 
 -- a number is lower than another where the order says so
 pub lower : (m n : ℕ) → nat_cmp m n ≡ Less → m < n
-lower m n e =
-    elim (cases_lt m n) [
-      | inl h ↦ h
-      | inr h ↦ elim (eq-or-lt_of_le h) [
-        | inl s ↦ (let clash : Less ≡ Equal = sym e ∙ same m n (sym s) in cc)
-        | inr l ↦ (let clash : Less ≡ Greater = sym e ∙ nat_cmp_total.antisymm m n ∙ ap ordering_reverse (less n m l) in cc)
-      ]
-    ]
+lower m n e = grind (arith, cases_lt, eq-or-lt_of_le, same, less)
 
 -- a fault of an earlier line
 pub line_below : (f g : LineFault) → f.line < g.line → line_fault_cmp f g ≡ Less

@@ -1,18 +1,5 @@
 -- The entries and the faults of fetch.txt.
-use Rattle.std.proofs.Common.{◌≡◌, ℕ, true, false, List, [], ◌∷◌, refl, ap, sym, ◌∙◌, subst, Result, Ok, Err}
-use Rattle.std.specs.Ordering.{nat_cmp, on}
-use Rattle.bag_text.specs.Lines.{IsLine, lines_of_file}
-use Rattle.bag_text.specs.Text.{IsText, IsNoText}
-use Rattle.bag_text.specs.Order.{IsListOf}
-use Rattle.bag_text.specs.declared.rules.Rules.{Rules}
-use Rattle.bag_text.specs.declared.code.Code.{Code}
-use Rattle.bag_text.specs.declared.code.Code.TheVariants.{NotUtf8}
-use Rattle.bag_text.proofs.ListOf.{nothing_listed, one_listed, same_members}
-use Rattle.bag_read.specs.Reason.{Reason}
-use Rattle.bag_read.specs.LineFault.{AreFaults, line_fault_cmp, not_utf8, entries_read, faults_read}
-use Rattle.bag_read.specs.Fetch.{url_of, length_of, fetch_line, entry, entry_in, Reads, HasReason, IsFetch, IsFetchFault, FetchFault}
-use Rattle.bag_read.specs.declared.line_fault.LineFault.{LineFault}
-use Rattle.bag_read.specs.declared.fetch.FetchEntry.{FetchEntry}
+use Rattle.bag_read.proofs.Common.{arith, ◌≡◌, ℕ, true, false, List, [], ◌∷◌, refl, ap, sym, ◌∙◌, Ok, nat_cmp, on, IsLine, lines_of_file, IsText, IsNoText, IsListOf, Rules, Code, NotUtf8, nothing_listed, one_listed, same_members, AreFaults, line_fault_cmp, not_utf8, entries_read, faults_read, url_of, length_of, fetch_line, entry, entry_in, HasReason, IsFetch, IsFetchFault, FetchFault, LineFault, FetchEntry}
 use Rattle.bag_read.proofs.FaultOrder.{is_fault}
 use Rattle.bag_read.proofs.FetchLine.{IsReasonCode, reason_code}
 use Rattle.bag_read.proofs.LinesRead.{IsRead, IsUnread, entries_listed, faults_listed}
@@ -25,23 +12,17 @@ line_of e = e.line
 module _ (rules : Rules) where
   -- what a line that reads says
   entry_parts : (n : ℕ) (line : List ℕ) (e : FetchEntry) → entry_in rules n line ≡ Ok e → (path : List ℕ) × (fetch_line rules line ≡ Ok path) × (entry n (url_of line) (length_of line) path ≡ e)
-  entry_parts n line e h =
-      let p = bind_ok (fetch_line rules line) _ e h in
-      (p.0, p.1, ok_same (entry n (url_of line) (length_of line) p.0) e p.2)
+  entry_parts n line e h = grind (arith, bind_ok, ok_same)
 
   numbered : (n : ℕ) (line : List ℕ) (e : FetchEntry) → entry_in rules n line ≡ Ok e → line_of e ≡ n
   numbered n line e h = sym (ap line_of (entry_parts n line e h).2)
 
   module _ (all : List (List ℕ)) where
     is_fetch : (e : FetchEntry) → IsRead (entry_in rules) all line_of e → IsFetch rules all e
-    is_fetch e (line, at, (some, is)) =
-        let p = entry_parts e.line line e is in
-        (line, at, subst (λ (x : FetchEntry). Reads rules line x.url x.length x.path) p.2 (some, refl, refl, p.1))
+    is_fetch e (line, at, (some, is)) = grind (arith, entry_parts)
 
     fetch_is : (e : FetchEntry) → IsFetch rules all e → IsRead (entry_in rules) all line_of e
-    fetch_is e (line, at, (some, url, size, is)) =
-        let made : entry_in rules e.line line ≡ Ok e = rw is (ap {B = Result FetchEntry Reason} Ok (λ i. record { line = e.line; url = sym url i; length = sym size i; path = e.path })) in
-        (line, at, (some, made))
+    fetch_is e (line, at, (some, url, size, is)) = grind arith
 
     -- the entries of a file's lines
     pub entries_of_lines : IsListOf (on (λ e. e.line) nat_cmp) (IsFetch rules all) (entries_read (entry_in rules) all)
@@ -56,15 +37,11 @@ module _ (rules : Rules) where
     row other f r h = h
 
     fault_read : (f : LineFault) → IsUnread (entry_in rules) all f → IsFetchFault rules bytes f
-    fault_read f (line, at, (some, is)) =
-        let reason = bind_err (fetch_line rules line) (entry f.line (url_of line) (length_of line)) (f.code, f.detail) is in
-        row f.code f (reason_code rules line (f.code, f.detail) reason) (line, at, (some, reason))
+    fault_read f (line, at, (some, is)) = grind (arith, bind_err, row, reason_code)
 
     from_code : (code : Code) (f : LineFault) → f.code ≡ code → FetchFault rules code bytes f → IsUnread (entry_in rules) all f
     from_code NotUtf8 f e h = let clash : true ≡ false = sym is_utf8 ∙ h.2 in cc
-    from_code code f e (line, at, (some, reason)) =
-        let is : fetch_line rules line ≡ Err (f.code, f.detail) = reason ∙ ap (λ (k : Code). Err (k, f.detail)) (sym e) in
-        (line, at, (some, rw is refl))
+    from_code code f e (line, at, (some, reason)) = grind arith
 
     -- the faults of a file that is UTF-8
     pub faults_of_text : AreFaults (IsFetchFault rules bytes) (faults_read (entry_in rules) all)

@@ -1,14 +1,6 @@
 -- One line of fetch.txt.
-use Rattle.std.proofs.Common.{◌≡◌, ℕ, true, false, [], codes, List, subst, refl, sym, ◌∙◌, Result, Ok, Err}
-use Rattle.bag_text.specs.Text.{before_blank, after_blanks, without_prefix}
-use Rattle.bag_text.specs.Spelling.{unescaped}
-use Rattle.bag_text.specs.Path.{is_payload_path, is_path}
-use Rattle.bag_text.specs.declared.rules.Rules.{Rules}
-use Rattle.bag_text.specs.declared.code.Code.{Code}
-use Rattle.bag_text.specs.declared.code.Code.TheVariants.{FetchLine, FetchEscape, FetchUnsafePath, FetchOutsidePayload}
-use Rattle.bag_read.specs.Reason.{Reason, ◌>>=◌, decoded_or}
-use Rattle.bag_read.specs.Fetch.{url_of, length_of, written_of, lacks_part, spelling_of, fetched_path, path_spelled, fetch_line, entry, entry_in}
-use Rattle.bag_read.specs.declared.fetch.FetchEntry.{FetchEntry}
+use Rattle.bag_read.proofs.Common.{◌≡◌, ℕ, true, false, [], codes, List, subst, refl, sym, ◌∙◌, Result, Ok, Err, before_blank, after_blanks, without_prefix, unescaped, is_payload_path, is_path, Rules, Code, FetchLine, FetchEscape, FetchUnsafePath, FetchOutsidePayload, Reason, ◌>>=◌, decoded_or, url_of, length_of, written_of, lacks_part, spelling_of, fetched_path, path_spelled, entry, entry_in, FetchEntry}
+use Rattle.bag_read.specs.Fetch.{fetch_line}
 use Rattle.bag_read.proofs.Reason.{IsReasonOf, then_reason, chosen, decoded_reason}
 
 module _ (rules : Rules) where

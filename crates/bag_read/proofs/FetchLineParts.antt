@@ -1,17 +1,6 @@
 -- A line of fetch.txt and its parts.
-use Rattle.std.proofs.Common.{◌≡◌, ◌≢◌, ℕ, ◌⊎◌, inl, inr, Bool, true, false, not, ◌&&◌, ◌||◌, cond, List, [], refl, sym, ap, ◌∙◌, subst, codes, length, Some, Result, Ok, Err, bytes_eq, nat_lt}
-use Rattle.std.specs.Prelude.{IsTrue}
-use Rattle.std.proofs.lemmas.Slice.Eq.{bytes_eq-Decides}
-use Rattle.bag_text.specs.Number.{is_digits}
-use Rattle.bag_text.specs.Path.{is_path, is_payload_path, first_component, components}
-use Rattle.bag_text.specs.Spelling.{unescaped}
-use Rattle.bag_text.specs.Text.{is_blank_line, before_blank, after_blanks, without_prefix}
-use Rattle.bag_text.specs.declared.rules.Rules.{Rules}
-use Rattle.bag_text.specs.declared.code.Code.TheVariants.{FetchLine, FetchEscape, FetchOutsidePayload, FetchUnsafePath}
-use Rattle.bag_text.proofs.LineEnds.{spellings}
-use Rattle.bag_read.specs.Reason.{Reason, ◌>>=◌, decoded_or}
-use Rattle.bag_read.specs.LineParts.{IsWithout}
-use Rattle.bag_read.specs.Fetch.{url_of, length_of, written_of, is_length, lacks_part, spelling_of, fetched_path, fetch_line}
+use Rattle.bag_read.proofs.Common.{arith, ◌≡◌, ◌≢◌, ℕ, ◌⊎◌, inl, inr, Bool, true, false, not, ◌&&◌, ◌||◌, cond, List, [], refl, sym, ap, ◌∙◌, subst, codes, length, Some, Result, Ok, Err, bytes_eq, nat_lt, IsTrue, bytes_eq-Decides, is_digits, is_path, is_payload_path, first_component, components, unescaped, is_blank_line, before_blank, after_blanks, without_prefix, Rules, FetchLine, FetchEscape, FetchOutsidePayload, FetchUnsafePath, spellings, Reason, decoded_or, IsWithout, url_of, length_of, written_of, is_length, lacks_part, spelling_of, fetched_path}
+use Rattle.bag_read.specs.Fetch.{fetch_line}
 use Rattle.bag_read.specs.FetchLine.{IsLength, ReadsAs, FetchLinesReadAsTheirParts, OnlyReads, HasOnlyReason, FetchLinesReadOrHaveOneReason}
 use Rattle.bag_read.proofs.AreDigits.{are_digits, digits_are}
 use Rattle.bag_read.proofs.LineParts.{or_false, not_false, not_empty, empty_test, is_cut, cut_part, cut_rest, not_blank, begins_some, is_without, without_alone}
@@ -24,11 +13,7 @@ either_true false b e = inr e
 
 -- a length
 pub length_told : (t : List ℕ) → is_length t ≡ true → IsLength t
-length_told t e =
-    elim (either_true (bytes_eq t (codes "-")) (is_digits t) e) [
-      | inl h ↦ inl ((bytes_eq-Decides t (codes "-")).0 h)
-      | inr h ↦ inr (are_digits t h)
-    ]
+length_told t e = grind (arith, either_true, bytes_eq-Decides, are_digits)
 
 pub told_length : (t : List ℕ) → IsLength t → is_length t ≡ true
 told_length t (inl e) = rw ((bytes_eq-Decides t (codes "-")).1 e) refl
@@ -49,10 +34,7 @@ abbrev pub HasTests : List ℕ → List ℕ → List ℕ → Type 0
 HasTests url size written = (url ≢ []) × (is_length size ≡ true) × (written ≢ [])
 
 pub has_parts : (url size written : List ℕ) → lacks_part url size written ≡ false → HasTests url size written
-has_parts url size written e =
-    let outer = or_false (bytes_eq url [] || not (is_length size)) (bytes_eq written []) e in
-    let inner = or_false (bytes_eq url []) (not (is_length size)) outer.0 in
-    (not_empty url inner.0, not_false _ inner.1, not_empty written outer.1)
+has_parts url size written e = grind (arith, or_false, not_empty, not_false)
 
 pub lacks_none : (url size written : List ℕ) → HasTests url size written → lacks_part url size written ≡ false
 lacks_none url size written (some, told, follows) = rw (empty_test url some, told, empty_test written follows) refl
@@ -71,9 +53,7 @@ pub payload_is_path : (path : List ℕ) → is_payload_path path ≡ true → is
 payload_is_path path e = (both_true (is_path path) (bytes_eq (first_component path) (codes "data")) (both_true (is_path path && bytes_eq (first_component path) (codes "data")) (nat_lt 1 (length (components path))) e).0).0
 
 payload_fetched : (path : List ℕ) → is_payload_path path ≡ true → fetched_path path ≡ Ok path
-payload_fetched path e =
-    ap (λ b. cond {A = Result (List ℕ) Reason} b (cond (is_payload_path path) (Ok path) (Err (FetchOutsidePayload, path))) (Err (FetchUnsafePath, path))) (payload_is_path path e)
-    ∙ ap (λ b. cond {A = Result (List ℕ) Reason} b (Ok path) (Err (FetchOutsidePayload, path))) e
+payload_fetched path e = grind (arith, payload_is_path)
 
 module _ (rules : Rules) where
   -- a line that reads, and its parts
@@ -111,23 +91,14 @@ module _ (rules : Rules) where
     written_is = ap after_blanks behind_is ∙ cut_rest r.behind size r.written r.length_next
 
     has_all : HasTests (url_of line) (length_of line) (written_of line)
-    has_all = (
-      subst (λ t. t ≢ []) (sym url_is) r.url_first.some_part,
-      ap is_length size_is ∙ told_length size r.length_told,
-      subst (λ t. t ≢ []) (sym written_is) (begins_some r.written r.length_next.begins),
-    )
+    has_all = grind (arith, url_is, size_is, told_length, written_is, begins_some)
 
     spelling_is : spelling_of line ≡ Ok r.spelling
-    spelling_is =
-        ap (λ b. cond {A = Result (List ℕ) Reason} b (Err (FetchLine, [])) (Ok (without_prefix (codes "./") (written_of line)))) (lacks_none (url_of line) (length_of line) (written_of line) has_all)
-        ∙ ap {B = Result (List ℕ) Reason} Ok (ap (without_prefix (codes "./")) written_is ∙ without_alone (codes "./") r.written r.spelling r.dot_slash)
+    spelling_is = grind (arith, lacks_none, has_all, written_is, without_alone)
 
     pub path_is : fetch_line rules line ≡ Ok path
     unfolding fetch_line
-    path_is =
-        ap (λ s. s >>= λ spelling. decoded_or FetchEscape (unescaped rules spelling) spelling >>= λ path. fetched_path path) spelling_is
-        ∙ ap (λ o. decoded_or FetchEscape o r.spelling >>= λ path. fetched_path path) ((spellings rules r.spelling path).0 r.spelled)
-        ∙ payload_fetched path r.in_payload
+    path_is = grind (arith, spelling_is, spellings, payload_fetched)
 
   result_by : (line : List ℕ) (r : Result (List ℕ) Reason) → is_blank_line line ≡ false → fetch_line rules line ≡ r → OnlyReads rules line ⊎ HasOnlyReason rules line
   result_by line (Ok x) some e = inl (

@@ -1,15 +1,7 @@
 -- The first reason why a line of fetch.txt doesn't read.
-use Rattle.std.proofs.Common.{◌≡◌, ◌≢◌, inl, inr, ℕ, Bool, true, false, cond, List, [], ◌∷◌, refl, sym, ap, ◌∙◌, subst, codes, Option, Some, None, Result, Ok, Err}
-use Rattle.bag_text.specs.Path.{is_path, is_payload_path}
-use Rattle.bag_text.specs.Spelling.{unescaped}
-use Rattle.bag_text.specs.Text.{before_blank, after_blanks, without_prefix}
-use Rattle.bag_text.specs.declared.rules.Rules.{Rules}
-use Rattle.bag_text.specs.declared.code.Code.{Code}
-use Rattle.bag_text.specs.declared.code.Code.TheVariants.{FetchLine, FetchEscape, FetchUnsafePath, FetchOutsidePayload}
-use Rattle.bag_text.proofs.LineEnds.{spellings}
-use Rattle.bag_read.specs.Fetch.{url_of, length_of, written_of, is_length, lacks_part, fetched_path, fetch_line}
+use Rattle.bag_read.proofs.Common.{arith, ◌≡◌, ◌≢◌, inl, inr, ℕ, Bool, true, false, cond, List, [], ◌∷◌, refl, sym, ap, ◌∙◌, subst, codes, Option, Some, None, Result, Ok, Err, is_path, is_payload_path, unescaped, before_blank, after_blanks, without_prefix, Rules, Code, FetchLine, FetchEscape, FetchUnsafePath, FetchOutsidePayload, spellings, url_of, length_of, written_of, is_length, lacks_part, fetched_path, Reason, ◌>>=◌, decoded_or, IsFirst}
+use Rattle.bag_read.specs.Fetch.{fetch_line}
 use Rattle.bag_read.specs.FetchReasons.{HasParts, IsSpelled, IsWritten, Holds, FirstFetchReasonIsTold}
-use Rattle.bag_read.specs.Reason.{Reason, ◌>>=◌, decoded_or, IsFirst}
 use Rattle.bag_read.proofs.FetchLineParts.{length_told, told_length, length_some, part_some, has_parts, lacks_none}
 use Rattle.bag_read.proofs.Reason.{err_same, never_ok, some_same, none_some, clash}
 use Rattle.bag_read.proofs.LineParts.{is_cut, cut_part, cut_rest, begins_some, is_without, without_alone}
@@ -89,8 +81,7 @@ module _ (rules : Rules) (line : List ℕ) where
           → ◌≡◌ {A = Path} (cond a (cond b (Ok path) (Err (FetchOutsidePayload, path))) (Err (FetchUnsafePath, path))) (Err reason)
           → First (FetchUnsafePath ∷ FetchOutsidePayload ∷ []) reason
       path_first reason false b f g h = subst (First (FetchUnsafePath ∷ FetchOutsidePayload ∷ [])) (err_same _ _ h) (inl (refl, (is_written path e, f)))
-      path_first reason true false f g h =
-          subst (First (FetchUnsafePath ∷ FetchOutsidePayload ∷ [])) (err_same _ _ h) (inr (no_unsafe_path f, inl (refl, (is_written path e, g))))
+      path_first reason true false f g h = grind (arith, err_same, no_unsafe_path, is_written)
       path_first reason true true f g h = absurd (never_ok _ _ h)
 
     abbrev IsFirstOf : List Code → Reason → Type 0

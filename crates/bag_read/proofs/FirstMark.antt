@@ -1,7 +1,5 @@
 -- What stands before the first of a character, and behind it.
-use Rattle.std.proofs.Common.{◌≡◌, ◌≢◌, ℕ, suc, ◌+◌, Bool, true, false, not, ◌||◌, ◌==◌, cond, List, [], ◌∷◌, ◌++◌, length, take, drop, refl, sym, ap, ◌∙◌, arith, append_assoc, length-append}
-use Rattle.std.specs.List.{list_all, list_any, prefix_len, before_first, after_first}
-use Rattle.std.proofs.lemmas.Bool.Decides.{nat_tests}
+use Rattle.bag_read.proofs.Common.{◌≡◌, ◌≢◌, ℕ, suc, ◌+◌, Bool, true, false, not, ◌||◌, ◌==◌, cond, List, [], ◌∷◌, ◌++◌, length, take, drop, refl, sym, ap, ◌∙◌, arith, append_assoc, length-append, list_all, list_any, prefix_len, before_first, after_first, nat_tests}
 use Rattle.bag_read.proofs.Fronts.{drop_front, take_front, front_len}
 use Rattle.bag_read.proofs.InfoLine.{has}
 use Rattle.bag_read.proofs.LineParts.{or_false}
@@ -19,10 +17,7 @@ module _ (mark : ℕ) where
   cut_on : (c : ℕ) (t : List ℕ) (b : Bool) → is_mark c ≡ b → (list_any is_mark t ≡ true → t ≡ before_first is_mark t ++ mark ∷ [] ++ after_first is_mark t) → (b || list_any is_mark t) ≡ true
       → c ∷ t ≡ take (cond (not b) (1 + prefix_len no_mark t) 0) (c ∷ t) ++ mark ∷ [] ++ drop (cond (not b) (1 + prefix_len no_mark t) 0 + 1) (c ∷ t)
   cut_on c t true e more h = let same : c ≡ mark = grind (arith, nat_tests, e) in ap (λ d. d ∷ t) same
-  cut_on c t false e more h =
-      let front : 1 + prefix_len no_mark t ≡ suc (prefix_len no_mark t) = omega arith in
-      let back : 1 + prefix_len no_mark t + 1 ≡ suc (prefix_len no_mark t + 1) = omega arith in
-      cut_with c t (prefix_len no_mark t) (1 + prefix_len no_mark t) (1 + prefix_len no_mark t + 1) front back (more h)
+  cut_on c t false e more h = grind (arith, cut_with)
 
   -- a text that has one
   pub cut_at : (t : List ℕ) → list_any is_mark t ≡ true → t ≡ before_first is_mark t ++ mark ∷ [] ++ after_first is_mark t

@@ -1,6 +1,5 @@
 -- The longest front of a text of which each character passes a test.
-use Rattle.std.proofs.Common.{◌≡◌, ℕ, suc, ◌+◌, Bool, true, false, not, cond, List, [], ◌∷◌, ◌++◌, length, take, drop, refl, ap, subst, arith}
-use Rattle.std.specs.List.{list_all, prefix_len}
+use Rattle.bag_read.proofs.Common.{◌≡◌, ℕ, suc, ◌+◌, Bool, true, false, not, cond, List, [], ◌∷◌, ◌++◌, length, take, drop, refl, ap, subst, arith, list_all, prefix_len}
 use Rattle.bag_read.proofs.PickedOut.{both_true}
 
 pub drop_front : (xs ys : List ℕ) → drop (length xs) (xs ++ ys) ≡ ys
@@ -44,6 +43,4 @@ module _ (p : ℕ → Bool) where
   -- and no other front is one
   pub front_len : (front rest : List ℕ) → list_all p front ≡ true → stops rest ≡ true → prefix_len p (front ++ rest) ≡ length front
   front_len [] rest e h = no_front rest h
-  front_len (c ∷ front) rest e h =
-      let two = both_true (p c) (list_all p front) e in
-      rw two.0 (omega (arith, front_len front rest two.1 h))
+  front_len (c ∷ front) rest e h = let two = both_true (p c) (list_all p front) e in rw two.0 (omega (arith, front_len front rest two.1 h))

@@ -1,11 +1,7 @@
 -- Hex digits of either case and the bytes that they spell.
-use Rattle.std.proofs.Common.{◌≡◌, ℕ, zero, suc, ◌+◌, ◌*◌, ◌/◌, ◌%◌, ◌<◌, ◌==◌, ◌&&◌, ◌||◌, not, inl, inr, Bool, true, false, nat_lt, List, [], ◌∷◌, ◌++◌, length, take, slice_index, slice_set, refl, ap, ◌∙◌, arith}
-use Rattle.std.specs.Char.{is_ascii_hexdigit, to_ascii_lowercase}
-use Rattle.std.specs.Str.{str_to_ascii_lowercase}
-use Rattle.std.proofs.lemmas.Bool.{and_parts, cases_lt, eqb-true}
-use Rattle.std.proofs.lemmas.Bool.Decides.{nat_tests}
-use Rattle.std.proofs.lemmas.List.{map-append, take_more, take_more_set, append_assoc}
-use Rattle.hex.specs.Hex.{encode_with, encode_lower, lower_digits}
+use Rattle.bag_read.proofs.Common.{◌≡◌, ℕ, zero, suc, ◌+◌, ◌*◌, ◌/◌, ◌%◌, ◌<◌, ◌==◌, ◌&&◌, ◌||◌, not, inl, inr, Bool, true, false, nat_lt, List, [], ◌∷◌, ◌++◌, length, take, slice_index, slice_set, refl, ap, ◌∙◌, arith, is_ascii_hexdigit, to_ascii_lowercase, str_to_ascii_lowercase, and_parts, cases_lt, eqb-true, nat_tests, map-append, take_more, take_more_set, encode_lower, lower_digits}
+use Rattle.std.proofs.lemmas.List.{append_assoc}
+use Rattle.hex.specs.Hex.{encode_with}
 
 abbrev pub value : ℕ → ℕ
 value c = c % 16 + 9 * (c / 64)
@@ -42,9 +38,7 @@ reads_digit : (c : ℕ) → is_ascii_hexdigit c ≡ true → reads c ≡ true
 reads_digit c is = reads_where (is_ascii_hexdigit c) (reads c) is (passes_at 128 c refl (small_digit c is))
 
 pub small_value : (c : ℕ) → is_ascii_hexdigit c ≡ true → value c < 16
-small_value c is =
-    let test = (and_parts (nat_lt (value c) 16) (slice_index lower_digits (value c) == to_ascii_lowercase c) (reads_digit c is)).0 in
-    grind (arith, nat_tests)
+small_value c is = grind (arith, and_parts, nat_lt, slice_index, reads_digit, nat_tests)
 
 pub digit_of_value : (c : ℕ) → is_ascii_hexdigit c ≡ true → slice_index lower_digits (value c) ≡ to_ascii_lowercase c
 digit_of_value c is = eqb-true _ _ (and_parts (nat_lt (value c) 16) (slice_index lower_digits (value c) == to_ascii_lowercase c) (reads_digit c is)).1

@@ -1,16 +1,5 @@
 -- The elements of numbered lines are those of the file, and no others.
-use Rattle.std.proofs.Common.{◌≡◌, ℕ, zero, suc, ◌+◌, ◌-◌, ◌⊎◌, inl, inr, Bool, true, false, cond, List, [], ◌∷◌, ◌++◌, drop, take, map, refl, ap, sym, ◌∙◌, arith, Option, Some, None, append_assoc, append-nil, not}
-use Rattle.std.specs.List.{enumerate_from, slice_get, filter, prefix_len, join_with_byte}
-use Rattle.std.specs.declared.cmp.Ordering.{Ordering}
-use Rattle.std.specs.Ordering.{nat_cmp, on}
-use Rattle.bag_text.specs.Text.{is_blank_line, trim, begins_with_blank}
-use Rattle.bag_text.specs.Lines.{line_feed}
-use Rattle.bag_text.specs.Order.{IsListOf}
-use Rattle.bag_text.proofs.ListOf.{nothing_listed, joined, only_listed, only_from_some, same_members}
-use Rattle.bag_text.specs.declared.rules.Rules.{Rules}
-use Rattle.bag_read.specs.Info.{is_continuation, begins_element, split, leading_continuations, value_of_parts, IsElement}
-use Rattle.bag_read.specs.InfoReader.{value_on, with_part, element_if, element_at, elements}
-use Rattle.bag_read.specs.declared.info.Element.{Element}
+use Rattle.bag_read.proofs.Common.{◌≡◌, ℕ, zero, suc, ◌+◌, ◌-◌, ◌⊎◌, inl, inr, Bool, true, false, cond, List, [], ◌∷◌, ◌++◌, drop, take, map, refl, ap, sym, ◌∙◌, arith, Option, Some, None, append_assoc, append-nil, not, enumerate_from, slice_get, filter, prefix_len, join_with_byte, Ordering, nat_cmp, on, is_blank_line, trim, begins_with_blank, line_feed, IsListOf, nothing_listed, joined, only_listed, only_from_some, same_members, Rules, is_continuation, begins_element, split, leading_continuations, value_of_parts, IsElement, value_on, with_part, element_if, element_at, elements, Element}
 use Rattle.bag_read.proofs.FaultOrder.{less}
 
 -- the parts behind the first
@@ -36,9 +25,7 @@ value_at n v line more true w eb ew before =
 value_at n v line more false true eb ew before =
     let same : leading_continuations (line ∷ more) ≡ line ∷ leading_continuations more = leading_more line more false (rw (eb, ew) refl) ∙ rw (eb, ew) refl in
     rw (eb, ew) (before (with_part v line)) ∙ append_assoc v (line_feed ∷ trim line) (tails (leading_continuations more)) ∙ ap (λ t. v ++ tails t) (sym same)
-value_at n v line more false false eb ew before =
-    let same : leading_continuations (line ∷ more) ≡ [] = leading_more line more true (rw (eb, ew) refl) in
-    rw (eb, ew) (sym (append-nil v)) ∙ ap (λ t. v ++ tails t) (sym same)
+value_at n v line more false false eb ew before = grind (arith, leading_more, append-nil)
 
 value_goes_on : (n : ℕ) (v : List ℕ) (more : List (List ℕ)) → value_on v (enumerate_from n more) ≡ v ++ tails (leading_continuations more)
 value_goes_on n v [] = sym (append-nil v)
@@ -60,23 +47,13 @@ module _ (rules : Rules) where
   made_cases : (n : ℕ) (line : List ℕ) (more : List (List ℕ)) (e : Element) (b : Bool) (s : Option (List ℕ × List ℕ)) → begins_element line ≡ b → split rules line ≡ s → cond b (element_if n s (enumerate_from (n + 1) more)) None ≡ Some e → Makes n line more e
   made_cases n line more e false s eb es h = cc
   made_cases n line more e true None eb es h = cc
-  made_cases n line more e true (Some x) eb es h =
-      let same : ◌≡◌ {A = Element} (record { line = n; label = x.0; value = value_on (trim x.1) (enumerate_from (n + 1) more) }) e = cc in (
-        x.1,
-        sym (ap (λ (d : Element). d.line) same),
-        eb,
-        es ∙ ap (λ (d : Element). Some (d.label, x.1)) same,
-        sym (ap (λ (d : Element). d.value) same) ∙ value_is (n + 1) x.1 more,
-      )
+  made_cases n line more e true (Some x) eb es h = grind (arith, value_is)
 
   made : (n : ℕ) (line : List ℕ) (more : List (List ℕ)) (e : Element) → element_at rules n line (enumerate_from (n + 1) more) ≡ Some e → Makes n line more e
   made n line more e h = made_cases n line more e (begins_element line) (split rules line) refl refl h
 
   makes : (n : ℕ) (line : List ℕ) (more : List (List ℕ)) (e : Element) → Makes n line more e → element_at rules n line (enumerate_from (n + 1) more) ≡ Some e
-  makes n line more e (part, at, begins, splits, value) =
-      let whole : e.value ≡ value_on (trim part) (enumerate_from (n + 1) more) = value ∙ sym (value_is (n + 1) part more) in
-      let same : ◌≡◌ {A = Element} (record { line = n; label = e.label; value = value_on (trim part) (enumerate_from (n + 1) more) }) e = λ i. record { line = sym at i; label = e.label; value = sym whole i } in
-      rw (begins, splits) (ap Some same)
+  makes n line more e (part, at, begins, splits, value) = grind (arith, value_is)
 
   -- an element of lines that are counted from n
   abbrev MakesFrom : ℕ → List (List ℕ) → Element → Type 0
@@ -107,9 +84,7 @@ module _ (rules : Rules) where
       Either e = Head e ⊎ MakesFrom (n + 1) more e
 
       to : (e : Element) → Either e → MakesFrom n (line ∷ more) e
-      to e (inl h) =
-          let is = made n line more e h in
-          (0, line, refl, (is.0, omega (arith, is.1), is.2, is.3, is.4))
+      to e (inl h) = let is = made n line more e h in (0, line, refl, (is.0, omega (arith, is.1), is.2, is.3, is.4))
       to e (inr (m, l, at, (part, here, begins, splits, value))) = (suc m, l, at, (part, omega (arith, here), begins, splits, value))
 
       from : (e : Element) → MakesFrom n (line ∷ more) e → Either e

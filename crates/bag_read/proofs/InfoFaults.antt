@@ -1,20 +1,7 @@
 -- The faults of numbered lines are those of the file, and no others.
-use Rattle.std.proofs.Common.{◌≡◌, ℕ, zero, suc, ◌+◌, ◌-◌, ◌⊎◌, inl, inr, Bool, true, false, ◌&&◌, ◌||◌, not, cond, List, [], ◌∷◌, take, refl, ap, sym, ◌∙◌, subst, arith, Option, Some, None}
-use Rattle.std.specs.List.{enumerate_from, slice_get, list_any}
-use Rattle.std.specs.Ordering.{nat_cmp, on}
-use Rattle.bag_text.specs.Text.{is_blank_line, IsText, IsNoText, begins_with_blank}
-use Rattle.bag_text.specs.Lines.{IsLine, lines_of_file}
-use Rattle.bag_text.specs.Order.{IsListOf}
-use Rattle.bag_text.specs.declared.code.Code.{Code}
-use Rattle.bag_text.specs.declared.code.Code.TheVariants.{NotUtf8, InfoLine}
-use Rattle.bag_text.proofs.ListOf.{nothing_listed, one_listed, joined, only_listed, only_from_some, same_members}
-use Rattle.bag_read.specs.Info.{is_continuation, begins_element, split, DoesNotSplit, InfoFault, IsInfoFault, IsElement}
-use Rattle.bag_read.specs.InfoReader.{fault_unless, fault_at, faults, wrong}
-use Rattle.bag_read.specs.LineFault.{AreFaults, line_fault_cmp, not_utf8}
-use Rattle.bag_read.specs.declared.line_fault.LineFault.{LineFault}
+use Rattle.bag_read.proofs.Common.{◌≡◌, ℕ, zero, suc, ◌+◌, ◌-◌, ◌⊎◌, inl, inr, Bool, true, false, ◌&&◌, ◌||◌, not, cond, List, [], ◌∷◌, take, refl, ap, sym, ◌∙◌, subst, arith, Option, Some, None, enumerate_from, slice_get, list_any, nat_cmp, on, is_blank_line, IsText, IsNoText, begins_with_blank, IsLine, lines_of_file, IsListOf, Code, NotUtf8, InfoLine, nothing_listed, one_listed, joined, only_listed, only_from_some, same_members, is_continuation, begins_element, split, DoesNotSplit, InfoFault, IsInfoFault, IsElement, fault_unless, fault_at, faults, wrong, AreFaults, line_fault_cmp, not_utf8, LineFault, Rules}
 use Rattle.bag_read.proofs.FaultOrder.{is_fault, line_below}
 use Rattle.bag_read.proofs.Utf8.{no_line}
-use Rattle.bag_text.specs.declared.rules.Rules.{Rules}
 
 module _ (rules : Rules) where
   -- why a line is wrong, by whether an earlier line should have begun an element
@@ -86,13 +73,8 @@ module _ (rules : Rules) where
           (suc m, l, at, same ∙ ap wrong place, subst (λ b. Why b l) (or_each begun (begins_element line) (list_any begins_element (take m more))) why)
 
       from : (f : LineFault) → WrongFrom begun n (line ∷ more) f → Either f
-      from f (zero, l, at, same, why) =
-          let one : l ≡ line = cc in
-          let place : n + 0 ≡ n = omega arith in
-          inl (fault_made begun n line f (same ∙ ap wrong place) (subst (Why begun) one (subst (λ b. Why b l) (or_nothing begun) why)))
-      from f (suc m, l, at, same, why) =
-          let place : n + suc m ≡ n + 1 + m = omega arith in
-          inr (m, l, at, same ∙ ap wrong place, subst (λ b. Why b l) (sym (or_each begun (begins_element line) (list_any begins_element (take m more)))) why)
+      from f (zero, l, at, same, why) = grind (arith, fault_made, or_nothing)
+      from f (suc m, l, at, same, why) = grind (arith, or_each)
 
   module _ (bytes : List ℕ) (is_utf8 : IsText bytes) where
     abbrev all : List (List ℕ)
@@ -106,9 +88,7 @@ module _ (rules : Rules) where
 
     from_code : (code : Code) (f : LineFault) → f.code ≡ code → InfoFault rules code bytes f → WrongFrom false 1 all f
     from_code NotUtf8 f e h = let clash : true ≡ false = sym is_utf8 ∙ h.2 in cc
-    from_code InfoLine f e h =
-        let place : f.line ≡ 1 + (f.line - 1) = omega (arith, h.2.0) in
-        (f.line - 1, h.0, h.2.1, is_fault f (1 + (f.line - 1)) InfoLine [] place e h.1, h.3)
+    from_code InfoLine f e h = grind (arith, is_fault)
     from_code code f e h = absurd h
 
     -- the faults of a file that is UTF-8

@@ -1,6 +1,5 @@
 -- Whether a text has a character of a kind, by how many stand before the first.
-use Rattle.std.proofs.Common.{◌≡◌, ℕ, suc, ◌+◌, ◌<◌, Bool, true, false, ◌||◌, not, cond, List, [], ◌∷◌, length, refl, arith}
-use Rattle.std.specs.List.{list_any, position_or_len}
+use Rattle.bag_read.proofs.Common.{◌≡◌, ℕ, suc, ◌+◌, ◌<◌, Bool, true, false, ◌||◌, not, cond, List, [], ◌∷◌, length, refl, arith, list_any, position_or_len}
 
 module _ (p : ℕ → Bool) where
   lacks_on : (t : List ℕ) (b : Bool) → cond (not b) (1 + position_or_len p t) 0 ≡ suc (length t) → (position_or_len p t ≡ length t → list_any p t ≡ false) → (b || list_any p t) ≡ false

@@ -1,13 +1,5 @@
 -- The continuations of an element are the lines below it that go on with it.
-use Rattle.std.proofs.Common.{◌≡◌, ℕ, zero, suc, ◌+◌, ◌-◌, ◌<◌, ◌⊎◌, inl, inr, Bool, true, false, cond, List, [], ◌∷◌, drop, map, refl, ap, sym, ◌∙◌, arith, Some}
-use Rattle.std.specs.List.{slice_get}
-use Rattle.std.specs.Ordering.{nat_cmp}
-use Rattle.std.specs.declared.cmp.Ordering.TheVariants.{Less}
-use Rattle.bag_text.specs.Lines.{IsLine}
-use Rattle.bag_text.specs.Order.{IsListOf}
-use Rattle.bag_text.proofs.ListOf.{nothing_listed, one_listed, joined, same_members}
-use Rattle.bag_read.specs.Info.{is_continuation, begins_element, leading_continuations, continuations}
-use Rattle.bag_read.specs.InfoPlaces.{GoesOn, ContinuationsAreBelow}
+use Rattle.bag_read.proofs.Common.{◌≡◌, ℕ, zero, suc, ◌+◌, ◌-◌, ◌<◌, ◌⊎◌, inl, inr, Bool, true, false, cond, List, [], ◌∷◌, drop, map, refl, ap, sym, ◌∙◌, arith, Some, slice_get, nat_cmp, Less, IsLine, IsListOf, nothing_listed, one_listed, joined, same_members, is_continuation, begins_element, leading_continuations, continuations, GoesOn, ContinuationsAreBelow}
 use Rattle.bag_read.proofs.FaultOrder.{less}
 use Rattle.bag_read.proofs.InfoElements.{leading_more}
 use Rattle.bag_read.proofs.InfoPlaces.{clash, never_both}
@@ -74,10 +66,7 @@ module _ (all : List (List ℕ)) where
       → map (λ k. slice_get all (k - 1)) (cond b [] (cond c ((m + 1) ∷ places (m + 1 + 1) more) (places (m + 1 + 1) more))) ≡ map Some (cond b [] (cond c (line ∷ leading_continuations more) (leading_continuations more)))
   values_in m line more true c at before = refl
   values_in m line more false false at before = before
-  values_in m line more false true at before =
-      let back : m + 1 - 1 ≡ m = omega arith in
-      let here = ap (slice_get all) back ∙ at in
-      λ i. here i ∷ before i
+  values_in m line more false true at before = grind arith
 
   values : (m : ℕ) (lines : List (List ℕ)) → ((i : ℕ) → slice_get lines i ≡ slice_get all (m + i)) → map (λ k. slice_get all (k - 1)) (places (m + 1) lines) ≡ map Some (leading_continuations lines)
   values m [] h = refl

@@ -1,17 +1,5 @@
 -- Each line that isn't blank has one place.
-use Rattle.std.proofs.Common.{◌≡◌, ℕ, zero, suc, ◌-◌, ◌<◌, ◌⊎◌, inl, inr, Bool, true, false, ◌&&◌, ◌||◌, not, List, [], ◌∷◌, take, refl, ap, sym, ◌∙◌, subst, arith, Option, Some, None}
-use Rattle.std.specs.List.{slice_get, list_any}
-use Rattle.std.proofs.lemmas.Bool.{cases_lt}
-use Rattle.bag_text.specs.Text.{is_blank_line, begins_with_blank}
-use Rattle.bag_text.specs.Lines.{lines_of_file, IsLine}
-use Rattle.bag_text.specs.declared.code.Code.{Code}
-use Rattle.bag_text.specs.declared.code.Code.TheVariants.{NotUtf8, InfoLine}
-use Rattle.bag_text.specs.declared.rules.Rules.{Rules}
-use Rattle.bag_read.specs.Info.{is_continuation, begins_element, split, continuations, value_of_parts, DoesNotSplit, IsOrphan, IsElement, InfoFault}
-use Rattle.bag_read.specs.InfoPlaces.{IsAbove, GoesOn, IsFirstOf, IsPartOf, IsFaultOf, IsPassedOver, EachLineHasOnePlace, EachLineIsOfOneElement}
-use Rattle.bag_read.specs.InfoReader.{wrong}
-use Rattle.bag_read.specs.declared.line_fault.LineFault.{LineFault}
-use Rattle.bag_read.specs.declared.info.Element.{Element}
+use Rattle.bag_read.proofs.Common.{◌≡◌, ℕ, zero, suc, ◌-◌, ◌<◌, ◌⊎◌, inl, inr, Bool, true, false, ◌&&◌, ◌||◌, not, List, [], ◌∷◌, take, refl, ap, sym, ◌∙◌, subst, arith, Option, Some, None, slice_get, list_any, cases_lt, is_blank_line, begins_with_blank, lines_of_file, IsLine, Code, NotUtf8, InfoLine, Rules, is_continuation, begins_element, split, continuations, value_of_parts, DoesNotSplit, IsOrphan, IsElement, InfoFault, IsAbove, GoesOn, IsFirstOf, IsPartOf, IsFaultOf, IsPassedOver, EachLineHasOnePlace, EachLineIsOfOneElement, wrong, LineFault, Element}
 
 pub clash : (b : Bool) → b ≡ true → b ≡ false → ⊥
 clash true e f = cc
@@ -76,11 +64,7 @@ module _ (rules : Rules) (all : List (List ℕ)) where
       ⊎ ((i : ℕ) → i < m → begins_there (slice_get all i) ≡ false)
 
   up_to : (i m : ℕ) → i < suc m → begins_there (slice_get all m) ≡ false → (i < m → begins_there (slice_get all i) ≡ false) → begins_there (slice_get all i) ≡ false
-  up_to i m l e more =
-      elim (cases_lt i m) [
-        | inl low ↦ more low
-        | inr high ↦ (let same : m ≡ i = omega (arith, l, high) in subst (λ k. begins_there (slice_get all k) ≡ false) same e)
-      ]
+  up_to i m l e more = grind (arith, cases_lt)
 
   nearest_step : (m : ℕ) (b : Bool) → begins_there (slice_get all m) ≡ b → Nearest m → Nearest (suc m)
   nearest_step m true e near = inl (m, omega arith, e, λ i a l. absurd (omega (arith, a, l)))
@@ -115,36 +99,19 @@ module _ (rules : Rules) (all : List (List ℕ)) where
 
   -- a continuation below a line is no orphan
   never_orphan : (k j : ℕ) (line : List ℕ) → IsAbove all k j → IsOrphan all k line → ⊥
-  never_orphan k j line (l, (text, (some, at), begins), none) (continues, lacks) =
-      clash (begins_element text) begins (any_none begins_element (k - 1) all (j - 1) text lacks (omega (arith, l, some)) at)
+  never_orphan k j line (l, (text, (some, at), begins), none) (continues, lacks) = grind (arith, clash, any_none)
 
   -- only one line is above a line
   one_above : (k i j : ℕ) → IsAbove all k i → IsAbove all k j → i ≡ j
-  one_above k i j (a, (text, at, begins), none) (b, (other, there, starts), nothing) =
-      elim (cases_lt i j) [
-        | inl low ↦ absurd (clash (begins_element other) starts (none j other low b there))
-        | inr high ↦ elim (cases_lt j i) [
-          | inl low ↦ absurd (clash (begins_element text) begins (nothing i text low a at))
-          | inr up ↦ omega (arith, high, up)
-        ]
-      ]
+  one_above k i j (a, (text, at, begins), none) (b, (other, there, starts), nothing) = grind (arith, cases_lt, clash)
 
   same_element : (d e : Element) → IsElement rules all d → IsElement rules all e → d.line ≡ e.line → d ≡ e
-  same_element d e (a, p, at, begins, splits, value) (b, q, there, starts, parts, whole) n =
-      let text : a ≡ b = same_line all e.line a b (subst (λ k. IsLine all k a) n at) there in
-      let both : ◌≡◌ {A = Option (List ℕ × List ℕ)} (Some (d.label, p)) (Some (e.label, q)) = sym splits ∙ ap (split rules) text ∙ parts in
-      let pair = in_some (d.label, p) (e.label, q) both in
-      let label : d.label ≡ e.label = ap (λ (x : List ℕ × List ℕ). x.0) pair in
-      let part : p ≡ q = ap (λ (x : List ℕ × List ℕ). x.1) pair in
-      let same : d.value ≡ e.value = value ∙ (λ i. value_of_parts (part i ∷ continuations all (n i))) ∙ sym whole in
-      λ i. record { line = n i; label = label i; value = same i }
+  same_element d e (a, p, at, begins, splits, value) (b, q, there, starts, parts, whole) n = grind (arith, same_line, in_some)
 
   one_element : (k : ℕ) (d e : Element) → IsFirstOf rules all k d ⊎ IsPartOf rules all k d → IsFirstOf rules all k e ⊎ IsPartOf rules all k e → d ≡ e
   one_element k d e (inl (is, at)) (inl (other, there)) = same_element d e is other (at ∙ sym there)
-  one_element k d e (inl (is, at)) (inr (other, ((line, here, continues), above))) =
-      absurd (one_kind all k is.0 line (subst (λ n. IsLine all n is.0) at is.2) is.3 here continues)
-  one_element k d e (inr (is, ((line, here, continues), above))) (inl (other, there)) =
-      absurd (one_kind all k other.0 line (subst (λ n. IsLine all n other.0) there other.2) other.3 here continues)
+  one_element k d e (inl (is, at)) (inr (other, ((line, here, continues), above))) = grind (arith, one_kind)
+  one_element k d e (inr (is, ((line, here, continues), above))) (inl (other, there)) = grind (arith, one_kind)
   one_element k d e (inr (is, (goes, above))) (inr (other, (continues, over))) = same_element d e is other (one_above k d.line e.line above over)
 
 pub of_one_element : EachLineIsOfOneElement
@@ -171,10 +138,7 @@ module _ (rules : Rules) (bytes : List ℕ) where
 
   -- an element's first line is not wrong
   split_or_wrong : (k : ℕ) (e : Element) → IsElement rules lines e → e.line ≡ k → 0 < k → Wrong k → ⊥
-  split_or_wrong k e is n some (line, at, inl (begins, splits)) =
-      let text : is.0 ≡ line = same_line lines k is.0 line (subst (λ m. IsLine lines m is.0) n is.2) at in
-      let both : ◌≡◌ {A = Option (List ℕ × List ℕ)} (Some (e.label, is.1)) None = sym is.4 ∙ ap (split rules) text ∙ splits in
-      cc
+  split_or_wrong k e is n some (line, at, inl (begins, splits)) = grind (arith, same_line)
   split_or_wrong k e is n some (line, at, inr (continues, lacks)) = one_kind lines k is.0 line (subst (λ m. IsLine lines m is.0) n is.2) is.3 at continues
 
   -- nor is a continuation below a line
@@ -206,12 +170,8 @@ module _ (rules : Rules) (bytes : List ℕ) where
 
   below : (k j : ℕ) (line : List ℕ) (s : Option (List ℕ × List ℕ)) → GoesOn lines k j → IsLine lines j line → begins_element line ≡ true → split rules line ≡ s → SomePlace k
   unfolding fault_at element_at
-  below k j line None goes at begins splits =
-      let f = fault_at j (line, at, inl (begins, splits)) in
-      inr (inr (inr (wrong j, (f.1.0, goes))))
-  below k j line (Some x) goes at begins splits =
-      let e = element_at j line x at begins splits in
-      inr (inl (e.0, (e.1.0, goes)))
+  below k j line None goes at begins splits = grind (arith, fault_at j (line, at, inl (begins, splits)))
+  below k j line (Some x) goes at begins splits = grind (arith, element_at j line x at begins splits)
 
   some_place : (k : ℕ) (line : List ℕ) → IsLine lines k line → is_blank_line line ≡ false → SomePlace k
   some_place k line at text =

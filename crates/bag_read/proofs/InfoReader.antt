@@ -1,12 +1,8 @@
 -- A line moves what it makes from the lines that follow to what was read.
-use Rattle.std.proofs.Common.{◌≡◌, ℕ, Bool, true, false, List, [], ◌∷◌, refl, Option, Some, None, append_assoc}
-use Rattle.bag_text.specs.Text.{is_blank_line, trim, begins_with_blank}
-use Rattle.bag_read.specs.Info.{split}
-use Rattle.bag_read.specs.InfoReader.{Numbered, all_elements, all_faults, after_line, elements, faults, value_on, wrong}
+use Rattle.bag_read.proofs.Common.{◌≡◌, ℕ, Bool, true, false, List, [], ◌∷◌, refl, Option, Some, None, append_assoc, is_blank_line, trim, begins_with_blank, split, Numbered, all_elements, all_faults, after_line, elements, faults, value_on, wrong, Rules}
 use Rattle.bag_read.specs.declared.info_reader.Above.{Above}
 use Rattle.bag_read.specs.declared.info_reader.Above.TheVariants.{Nothing, Refused, Begun}
 use Rattle.bag_read.specs.declared.info_reader.Reader.{Reader}
-use Rattle.bag_text.specs.declared.rules.Rules.{Rules}
 
 module _ (rules : Rules) where
   module _ (r : Reader) (n : ℕ) (line : List ℕ) (xs : Numbered) where

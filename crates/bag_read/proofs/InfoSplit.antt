@@ -1,13 +1,9 @@
 -- The first line of an element and its parts.
-use Rattle.std.proofs.Common.{◌≡◌, ◌≢◌, ◌⊎◌, inl, inr, ℕ, ◌-◌, Bool, true, false, not, ◌&&◌, cond, List, [], ◌∷◌, ◌++◌, length, refl, sym, ap, ◌∙◌, subst, codes, Option, Some, None, bytes_eq, arith, length-append, slice_get}
-use Rattle.std.specs.Str.{byte}
-use Rattle.std.specs.List.{list_any, before_first, after_first}
+use Rattle.bag_read.proofs.Common.{◌≡◌, ◌≢◌, ◌⊎◌, inl, inr, ℕ, ◌-◌, Bool, true, false, not, ◌&&◌, cond, List, [], ◌∷◌, ◌++◌, length, refl, sym, ap, ◌∙◌, subst, codes, Option, Some, None, bytes_eq, arith, length-append, byte, list_any, before_first, after_first, is_blank, ends_with_blank, Rules, is_colon, is_label, split}
+use Rattle.std.proofs.Common.{slice_get}
 use Rattle.bag_text.specs.Rules.{label_of, is_after_colon, may_follow_colon}
-use Rattle.bag_text.specs.Text.{is_blank, is_some_blank, ends_with_blank}
 use Rattle.bag_text.specs.Trim.{EndsWithNoBlank}
-use Rattle.bag_text.specs.declared.rules.Rules.{Rules}
 use Rattle.bag_text.specs.declared.rules.Rules.TheVariants.{V10, V097}
-use Rattle.bag_read.specs.Info.{is_colon, is_label, split}
 use Rattle.bag_read.specs.InfoSplit.{IsLabelIn, MayFollow, SplitsAs, LinesSplitAsTheirParts}
 use Rattle.bag_read.proofs.FirstMark.{cut_at, before_is, behind_is, has_mark}
 use Rattle.bag_read.proofs.Fronts.{front_passes}
@@ -21,9 +17,7 @@ last_of [] c = refl
 last_of (d ∷ front) c = last_of front c
 
 ends_as : (front : List ℕ) (c : ℕ) → ends_with_blank (front ++ c ∷ []) ≡ is_blank c
-ends_as front c =
-    let long : length (front ++ c ∷ []) - 1 ≡ length front = omega (arith, length-append front (c ∷ [])) in
-    ap (λ n. is_some_blank (slice_get (front ++ c ∷ []) n)) long ∙ ap is_some_blank (last_of front c)
+ends_as front c = grind (arith, last_of front c, length-append, slice_get)
 
 -- a text is empty or has a last character
 has_last : (c : ℕ) (t : List ℕ) → (front : List ℕ) × (last : ℕ) × (c ∷ t ≡ front ++ last ∷ [])
@@ -35,9 +29,7 @@ no_blank_last t e front c same = sym (ends_as front c) ∙ ap ends_with_blank (s
 
 not_ending : (t : List ℕ) → EndsWithNoBlank t → ends_with_blank t ≡ false
 not_ending [] h = refl
-not_ending (c ∷ t) h =
-    let last = has_last c t in
-    ap ends_with_blank last.2 ∙ ends_as last.0 last.1 ∙ h last.0 last.1 last.2
+not_ending (c ∷ t) h = let last = has_last c t in ap ends_with_blank last.2 ∙ ends_as last.0 last.1 ∙ h last.0 last.1 last.2
 
 -- ---- the label and what follows
 
@@ -68,9 +60,7 @@ follow_test V097 t h = refl
 -- ---- the line
 
 some_by : (label rest l r : List ℕ) (b : Bool) → cond {A = Option (List ℕ × List ℕ)} b (Some (l, r)) None ≡ Some (label, rest) → (b ≡ true) × (l ≡ label) × (r ≡ rest)
-some_by label rest l r true e =
-    let pair : ◌≡◌ {A = List ℕ × List ℕ} (l, r) (label, rest) = cc in
-    (refl, ap (λ (y : List ℕ × List ℕ). y.0) pair, ap (λ (y : List ℕ × List ℕ). y.1) pair)
+some_by label rest l r true e = grind arith
 some_by label rest l r false e = cc
 
 module _ (rules : Rules) (line label part : List ℕ) where

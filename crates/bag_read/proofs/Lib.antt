@@ -1,4 +1,5 @@
 pub mod AreDigits
+pub mod Common
 pub mod DeclarationFaults
 pub mod DeclarationLineParts
 pub mod DeclarationLines

@@ -1,12 +1,6 @@
 -- The parts of a line: what stands before its blanks, and what follows them.
-use Rattle.std.proofs.Common.{◌≡◌, ◌≢◌, ◌⊎◌, ℕ, suc, ◌+◌, inl, inr, Bool, true, false, not, ◌||◌, ◌==◌, cond, List, [], ◌∷◌, ◌++◌, length, take, drop, refl, sym, ap, ◌∙◌, subst, bytes_eq, nat_eq, arith, append_assoc}
-use Rattle.std.specs.List.{list_all, prefix_len, starts_with}
-use Rattle.std.proofs.lemmas.Bool.Decides.{nat_tests}
-use Rattle.std.proofs.lemmas.List.{take-append-drop}
+use Rattle.bag_read.proofs.Common.{◌≡◌, ◌≢◌, ◌⊎◌, ℕ, suc, ◌+◌, inl, inr, Bool, true, false, not, ◌||◌, ◌==◌, cond, List, [], ◌∷◌, ◌++◌, length, take, drop, refl, sym, ap, ◌∙◌, subst, bytes_eq, nat_eq, arith, append_assoc, list_all, prefix_len, starts_with, nat_tests, take-append-drop, bytes_eq-Decides, is_blank, is_blank_line, before_blank, after_blanks, without_prefix, BeginsUnblank, IsCut, IsFronted, IsWithout}
 use Rattle.std.proofs.lemmas.List.Folds.{length-prefix_len}
-use Rattle.std.proofs.lemmas.Slice.Eq.{bytes_eq-Decides}
-use Rattle.bag_text.specs.Text.{is_blank, is_blank_line, before_blank, after_blanks, without_prefix}
-use Rattle.bag_read.specs.LineParts.{BeginsUnblank, IsCut, IsFronted, IsWithout}
 use Rattle.bag_read.proofs.Fronts.{drop_front, take_front, stops, front_passes, rest_stops, front_len}
 use Rattle.bag_read.proofs.PickedOut.{both_true}
 use Rattle.bag_read.proofs.Texts.{prefix_test}
@@ -49,11 +43,7 @@ module _ (text : List ℕ) where
   rest = after_blanks text
 
   text_is : text ≡ part ++ blanks ++ rest
-  text_is =
-      sym (take-append-drop (prefix_len unblank text) text)
-      ∙ ap (λ n. part ++ drop n text) (sym (length-prefix_len unblank text))
-      ∙ ap (λ t. part ++ t) (sym (take-append-drop (prefix_len is_blank tail) tail))
-      ∙ sym (append_assoc part blanks rest)
+  text_is = grind (arith, take-append-drop, length-prefix_len, append_assoc)
 
   tail_stops : stops unblank tail ≡ true
   tail_stops = subst (λ n. stops unblank (drop n text) ≡ true) (sym (length-prefix_len unblank text)) (rest_stops unblank text)
@@ -71,15 +61,7 @@ module _ (text : List ℕ) where
   begins (c ∷ t) e h = (c, t, refl, not_true (is_blank c) e)
 
   pub is_cut : part ≢ [] → rest ≢ [] → IsCut text part rest
-  is_cut some follows = record {
-    blanks = blanks;
-    text_is = text_is;
-    some_part = some;
-    no_blank = front_passes unblank text;
-    some_blank = some_blanks tail tail_stops follows;
-    only_blanks = front_passes is_blank tail;
-    begins = begins rest (rest_stops is_blank tail) follows;
-  }
+  is_cut some follows = grind (arith, text_is, front_passes, some_blanks, tail_stops, begins, rest_stops)
 
   none_left : (t : List ℕ) → ¬ (t ≢ []) → t ≡ []
   none_left [] h = refl
@@ -118,19 +100,13 @@ module _ (text part rest : List ℕ) (cut : IsCut text part rest) where
   text_at = cut.text_is ∙ append_assoc part cut.blanks rest
 
   pub cut_part : before_blank text ≡ part
-  cut_part =
-      ap before_blank text_at
-      ∙ ap (λ n. take n (part ++ behind)) (front_len unblank part behind cut.no_blank (blank_stops cut.blanks rest cut.some_blank cut.only_blanks))
-      ∙ take_front part behind
+  cut_part = grind (arith, text_at, front_len, blank_stops, take_front)
 
   tail_is : drop (length (before_blank text)) text ≡ behind
   tail_is = ap (λ h. drop (length h) text) cut_part ∙ ap (drop (length part)) text_at ∙ drop_front part behind
 
   pub cut_rest : after_blanks text ≡ rest
-  cut_rest =
-      ap (λ t. drop (prefix_len is_blank t) t) tail_is
-      ∙ ap (λ n. drop n behind) (front_len is_blank cut.blanks rest cut.only_blanks (stops_blank rest cut.begins))
-      ∙ drop_front cut.blanks rest
+  cut_rest = grind (arith, tail_is, front_len, stops_blank, drop_front)
 
   begins_so : (p t : List ℕ) → p ≢ [] → list_all unblank p ≡ true → is_blank_line (p ++ t) ≡ false
   begins_so [] t some e = absurd (some refl)
@@ -153,16 +129,10 @@ module _ (text front rest : List ℕ) (at : IsFronted text front rest) where
   text_behind = at.text_is ∙ append_assoc front at.blanks rest
 
   pub fronted_part : before_blank text ≡ front
-  fronted_part =
-      ap before_blank text_behind
-      ∙ ap (λ n. take n (front ++ (at.blanks ++ rest))) (front_len unblank front (at.blanks ++ rest) at.no_blank (behind_stops at.blanks rest at.only_blanks at.longest))
-      ∙ take_front front (at.blanks ++ rest)
+  fronted_part = grind (arith, text_behind, front_len, behind_stops, take_front)
 
   pub fronted_rest : after_blanks text ≡ rest
-  fronted_rest =
-      ap (λ t. drop (prefix_len is_blank t) t) (ap (λ h. drop (length h) text) fronted_part ∙ ap (drop (length front)) text_behind ∙ drop_front front (at.blanks ++ rest))
-      ∙ ap (λ n. drop n (at.blanks ++ rest)) (front_len is_blank at.blanks rest at.only_blanks (rest_begins rest at.begins))
-      ∙ drop_front at.blanks rest
+  fronted_rest = grind (arith, fronted_part, text_behind, drop_front, front_len, rest_begins)
 
 pub begins_some : (t : List ℕ) → BeginsUnblank t → t ≢ []
 begins_some t (c, more, e, u) same = let clash : c ∷ more ≡ [] = sym e ∙ same in cc

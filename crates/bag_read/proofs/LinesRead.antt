@@ -1,20 +1,7 @@
 -- What is read of lines, each by itself: the lists of what reads and of what doesn't.
-use Rattle.std.proofs.Common.{◌≡◌, ℕ, ◌+◌, ◌≤◌, inl, inr, Bool, true, false, cond, List, [], ◌∷◌, refl, ap, sym, ◌∙◌, subst, Some, None, Result, Ok, Err, arith}
-use Rattle.std.specs.Prelude.{Contains}
-use Rattle.std.specs.List.{enumerate_from}
+use Rattle.bag_read.proofs.Common.{◌≡◌, ℕ, ◌+◌, ◌≤◌, inl, inr, Bool, true, false, cond, List, [], ◌∷◌, refl, ap, sym, ◌∙◌, subst, Some, None, Result, Ok, Err, arith, Contains, enumerate_from, Ordering, Less, nat_cmp, on, IsLine, is_blank_line, IsListOf, contains_cases, contains_nothing, each_from_members, numbered_is_line, line_is_numbered, Reason, line_fault_cmp, AreFaults, fault_in, entry_of, fault_of, entries_read, faults_read, LineFault}
 use Rattle.std.specs.List.Sorted.{IsStrictlySortedBy}
 use Rattle.std.specs.Result.{result_ok}
-use Rattle.std.specs.declared.cmp.Ordering.{Ordering}
-use Rattle.std.specs.declared.cmp.Ordering.TheVariants.{Less}
-use Rattle.std.specs.Ordering.{nat_cmp, on}
-use Rattle.bag_text.specs.Lines.{IsLine}
-use Rattle.bag_text.specs.Text.{is_blank_line}
-use Rattle.bag_text.specs.Order.{IsListOf}
-use Rattle.bag_text.proofs.ListOf.{contains_cases, contains_nothing, each_from_members}
-use Rattle.bag_text.proofs.Numbered.{numbered_is_line, line_is_numbered}
-use Rattle.bag_read.specs.Reason.{Reason}
-use Rattle.bag_read.specs.LineFault.{line_fault, line_fault_cmp, AreFaults, fault_in, entry_of, fault_of, entries_read, faults_read}
-use Rattle.bag_read.specs.declared.line_fault.LineFault.{LineFault}
 use Rattle.bag_read.proofs.FaultOrder.{less}
 use Rattle.bag_read.proofs.PickedOut.{picked, is_picked, ascending_picked}
 
@@ -60,9 +47,7 @@ module _ {E : Type 0} (reads : ℕ → List ℕ → Result E Reason) where
   fault_by : (n : ℕ) (line : List ℕ) (f : LineFault) (b : Bool) (r : Result E Reason) → is_blank_line line ≡ b → reads n line ≡ r → cond b None (fault_in n r) ≡ Some f → IsFaultOf n line f
   fault_by n line f true r blank is h = cc
   fault_by n line f false (Ok x) blank is h = cc
-  fault_by n line f false (Err reason) blank is h =
-      let same : line_fault n reason.0 reason.1 ≡ f = cc in
-      subst (IsFaultOf n line) same (refl, (blank, is))
+  fault_by n line f false (Err reason) blank is h = grind arith
 
   fault_is : (x : ℕ × List ℕ) (f : LineFault) → fault_of reads x ≡ Some f → IsFaultOf x.0 x.1 f
   fault_is x f h = fault_by x.0 x.1 f (is_blank_line x.1) (reads x.0 x.1) refl refl h
@@ -71,9 +56,7 @@ module _ {E : Type 0} (reads : ℕ → List ℕ → Result E Reason) where
   is_fault f line (some, is) = rw (some, is) refl
 
   faults_rise : (x y : ℕ × List ℕ) (u v : LineFault) → fault_of reads x ≡ Some u → fault_of reads y ≡ Some v → number_cmp x y ≡ Less → line_fault_cmp u v ≡ Less
-  faults_rise x y u v e f h =
-      let low : nat_cmp u.line v.line ≡ Less = rw ((fault_is x u e).0, (fault_is y v f).0) h in
-      rw low refl
+  faults_rise x y u v e f h = grind (arith, fault_is)
 
   module _ (all : List (List ℕ)) where
     -- the fault of a line that doesn't read

@@ -1,13 +1,5 @@
 -- The codes of a manifest's faults, their stages and their lines.
-use Rattle.std.proofs.Common.{◌≡◌, ◌≢◌, ℕ, ◌<◌, ◌⊎◌, inl, inr, List, refl, lit<}
-use Rattle.bag_text.specs.Code.{number, stage}
-use Rattle.bag_text.specs.declared.rules.Rules.{Rules}
-use Rattle.bag_text.specs.declared.alg.Alg.{Alg}
-use Rattle.bag_text.specs.declared.code.Code.{Code}
-use Rattle.bag_text.specs.declared.code.Code.TheVariants.{NotUtf8, ManifestLine, DigestLength, ManifestEscape, ManifestUnsafePath, ManifestOutsidePayload, TagmanifestNamesPayload, TagmanifestNamesTagmanifest, NamedAgain}
-use Rattle.bag_read.specs.declared.kind.Kind.{Kind}
-use Rattle.bag_read.specs.declared.line_fault.LineFault.{LineFault}
-use Rattle.bag_read.specs.Manifest.{ManifestFault, IsManifestFault}
+use Rattle.bag_read.proofs.Common.{◌≡◌, ◌≢◌, ℕ, ◌<◌, ◌⊎◌, inl, inr, List, refl, stage, Rules, Alg, Code, NotUtf8, ManifestLine, DigestLength, ManifestEscape, ManifestUnsafePath, ManifestOutsidePayload, TagmanifestNamesPayload, TagmanifestNamesTagmanifest, NamedAgain, Kind, LineFault, ManifestFault, IsManifestFault}
 use Rattle.bag_read.proofs.ManifestLine.{IsReasonCode, reason_code}
 
 -- the codes of faults of a manifest's lines
@@ -25,17 +17,6 @@ manifest_code_stage TagmanifestNamesPayload is = refl
 manifest_code_stage TagmanifestNamesTagmanifest is = refl
 manifest_code_stage NamedAgain is = refl
 manifest_code_stage other is = absurd is
-
-pub manifest_code_number : (code : Code) → IsManifestCode code → (500 < number code) × (number code < 509)
-manifest_code_number ManifestLine is = (lit< tt, lit< tt)
-manifest_code_number DigestLength is = (lit< tt, lit< tt)
-manifest_code_number ManifestEscape is = (lit< tt, lit< tt)
-manifest_code_number ManifestUnsafePath is = (lit< tt, lit< tt)
-manifest_code_number ManifestOutsidePayload is = (lit< tt, lit< tt)
-manifest_code_number TagmanifestNamesPayload is = (lit< tt, lit< tt)
-manifest_code_number TagmanifestNamesTagmanifest is = (lit< tt, lit< tt)
-manifest_code_number NamedAgain is = (lit< tt, lit< tt)
-manifest_code_number other is = absurd is
 
 module _ (rules : Rules) (kind : Kind) (alg : Alg) (bytes : List ℕ) where
   -- a fault of a line, or the one fault of bytes that aren't UTF-8
@@ -70,6 +51,3 @@ module _ (rules : Rules) (kind : Kind) (alg : Alg) (bytes : List ℕ) where
   whole_file : (code : Code) (f : LineFault) → code ≡ NotUtf8 → ManifestFault code rules kind alg bytes f → (f.line ≡ 0) × (stage code ≡ 2)
   whole_file NotUtf8 f e h = (h.0, refl)
   whole_file other f e h = cc
-
-  pub manifest_fault_whole : (f : LineFault) → IsManifestFault rules kind alg bytes f → f.code ≡ NotUtf8 → (f.line ≡ 0) × (stage f.code ≡ 2)
-  manifest_fault_whole f h e = whole_file f.code f e h

@@ -1,20 +1,5 @@
 -- The entries of a manifest are of the paths that its lines name, one for each path.
-use Rattle.std.proofs.Common.{◌≡◌, ◌≢◌, ℕ, zero, suc, ◌+◌, ◌-◌, ◌<◌, inl, inr, Bool, true, false, cond, List, [], ◌∷◌, take, refl, ap, sym, ◌∙◌, subst, Option, Some, None, Result, Ok, Err, bytes_eq, arith}
-use Rattle.std.specs.Prelude.{Contains, filter_map}
-use Rattle.std.specs.List.{slice_get, cons_option}
-use Rattle.std.proofs.lemmas.Bool.{cases_lt}
-use Rattle.std.proofs.Math.Nat.{eq-or-lt_of_le}
-use Rattle.std.proofs.lemmas.Option.{slice_get_within, get_or_from_slice_get}
-use Rattle.std.proofs.lemmas.Slice.Eq.{bytes_eq-Decides}
-use Rattle.bag_text.specs.Lines.{IsLine}
-use Rattle.bag_text.specs.Text.{is_blank_line}
-use Rattle.bag_text.specs.declared.rules.Rules.{Rules}
-use Rattle.bag_text.specs.declared.alg.Alg.{Alg}
-use Rattle.bag_text.proofs.ListOf.{contains_cases, contains_first, contains_behind, contains_nothing}
-use Rattle.bag_read.specs.declared.kind.Kind.{Kind}
-use Rattle.bag_read.specs.declared.manifest.ManifestEntry.{ManifestEntry}
-use Rattle.bag_read.specs.Reason.{Reason}
-use Rattle.bag_read.specs.Manifest.{Reads, IsEntry, path_read, named, named_before, manifest_line}
+use Rattle.bag_read.proofs.Common.{◌≡◌, ◌≢◌, ℕ, zero, suc, ◌+◌, ◌-◌, ◌<◌, inl, inr, Bool, true, false, cond, List, [], ◌∷◌, take, refl, ap, sym, ◌∙◌, subst, Option, Some, None, Result, Ok, Err, bytes_eq, arith, Contains, filter_map, slice_get, cons_option, cases_lt, eq-or-lt_of_le, slice_get_within, get_or_from_slice_get, bytes_eq-Decides, IsLine, is_blank_line, Rules, Alg, contains_cases, contains_first, contains_behind, contains_nothing, Kind, ManifestEntry, Reason, Reads, IsEntry, path_read, named, named_before, manifest_line}
 use Rattle.bag_read.proofs.PickedOut.{picked, is_picked}
 
 module _ (rules : Rules) (kind : Kind) (alg : Alg) where
@@ -59,19 +44,14 @@ module _ {A : Type 0} (f : A → Option (List ℕ)) where
 
   not_here : (x : A) (xs : List A) (y : List ℕ) (k : ℕ) (o : Option (List ℕ)) → f x ≡ o → o ≢ Some y → ¬ (Contains (filter_map f (take k xs)) y) → ¬ (Contains (filter_map f (take (suc k) (x ∷ xs))) y)
   not_here x xs y k None e other none = λ c. none (subst (λ o. Contains (cons_option o (filter_map f (take k xs))) y) e c)
-  not_here x xs y k (Some z) e other none = λ c.
-      elim (contains_cases z (filter_map f (take k xs)) y (subst (λ o. Contains (cons_option o (filter_map f (take k xs))) y) e c)) [
-        | inl same ↦ absurd (other (ap Some same))
-        | inr d ↦ none d
-      ]
+  not_here x xs y k (Some z) e other none = grind (arith, contains_cases)
 
   behind : (x : A) (xs : List A) (y : List ℕ) (o : Option (List ℕ)) → f x ≡ o → o ≢ Some y → IsFirstPicked xs y → IsFirstPicked (x ∷ xs) y
   behind x xs y o e other p = (suc p.0, p.1, p.2, p.3, not_here x xs y p.0 o e other p.4)
 
   first_cons : (x : A) (xs : List A) (y : List ℕ) (o : Option (List ℕ)) (b : Bool) → f x ≡ o → gives o y ≡ b → Contains (cons_option o (filter_map f xs)) y → (Contains (filter_map f xs) y → IsFirstPicked xs y) → IsFirstPicked (x ∷ xs) y
   first_cons x xs y None b e t c more = behind x xs y None e (λ h. cc) (more c)
-  first_cons x xs y (Some z) true e t c more =
-      (0, x, refl, e ∙ ap Some ((bytes_eq-Decides z y).0 t), λ d. contains_nothing y d)
+  first_cons x xs y (Some z) true e t c more = (0, x, refl, e ∙ ap Some ((bytes_eq-Decides z y).0 t), λ d. contains_nothing y d)
   first_cons x xs y (Some z) false e t c more =
       let differ : z ≢ y = λ h. (let clash : false ≡ true = sym t ∙ (bytes_eq-Decides z y).1 h in cc) in
       elim (contains_cases z (filter_map f xs) y c) [
@@ -122,15 +102,10 @@ module _ (rules : Rules) (kind : Kind) (alg : Alg) (all : List (List ℕ)) where
   digest_read (Err reason) = []
 
   not_later : (e g : ManifestEntry) → IsEntry rules kind alg all e → IsEntry rules kind alg all g → e.path ≡ g.path → e.line < g.line → ⊥
-  not_later e g (line, at, reads, _) (_, _, _, first) same low =
-      first (earlier_named g.line g.path (e.line, line, e.digest, low, at, subst (Reads rules kind alg line e.digest) same reads))
+  not_later e g (line, at, reads, _) (_, _, _, first) same low = grind (arith, earlier_named)
 
   same_line : (e g : ManifestEntry) → IsEntry rules kind alg all e → IsEntry rules kind alg all g → e.path ≡ g.path → e.line ≡ g.line → e ≡ g
-  same_line e g (l, at, reads, _) (m, there, again, _) same n =
-      let lines_same : Some l ≡ Some m = sym at.1 ∙ ap (λ k. slice_get all (k - 1)) n ∙ there.1 in
-      let one : l ≡ m = cc in
-      let digest : e.digest ≡ g.digest = ap digest_read (sym reads.1 ∙ ap (manifest_line rules kind alg) one ∙ again.1) in
-      λ i. record { line = n i; digest = digest i; path = same i }
+  same_line e g (l, at, reads, _) (m, there, again, _) same n = grind arith
 
   -- two entries of one path are one
   pub entry_of_path_once : (e g : ManifestEntry) → IsEntry rules kind alg all e → IsEntry rules kind alg all g → e.path ≡ g.path → e ≡ g

@@ -1,25 +1,6 @@
 -- The entries and the faults of a manifest.
-use Rattle.std.proofs.Common.{◌≡◌, ◌⊎◌, inl, inr, ℕ, Bool, true, false, List, [], ◌∷◌, refl, ap, sym, ◌∙◌, subst, Some, Result, Ok, Err, bytes_eq}
-use Rattle.std.specs.Prelude.{Contains}
-use Rattle.std.specs.List.{list_any}
-use Rattle.std.specs.Ordering.{nat_cmp, on}
-use Rattle.std.specs.Str.{is_utf8}
-use Rattle.std.proofs.lemmas.Slice.Eq.{bytes_eq-Decides}
-use Rattle.bag_text.specs.Lines.{IsLine, lines, lines_of_file, lines_of_text}
-use Rattle.bag_text.specs.Text.{text_of, IsText, IsNoText}
-use Rattle.bag_text.specs.Order.{IsListOf}
-use Rattle.bag_text.specs.declared.rules.Rules.{Rules}
-use Rattle.bag_text.specs.declared.alg.Alg.{Alg}
-use Rattle.bag_text.specs.declared.code.Code.{Code}
-use Rattle.bag_text.specs.declared.code.Code.TheVariants.{NotUtf8, NamedAgain}
-use Rattle.bag_text.proofs.ListOf.{nothing_listed, one_listed, same_members}
-use Rattle.bag_read.specs.declared.kind.Kind.{Kind}
-use Rattle.bag_read.specs.declared.line_fault.LineFault.{LineFault}
-use Rattle.bag_read.specs.declared.manifest.ManifestEntry.{ManifestEntry}
-use Rattle.bag_read.specs.LineFault.{AreFaults, line_fault, line_fault_cmp, not_utf8, entries_read, faults_read}
-use Rattle.bag_read.specs.Manifest.{HasReason, manifest_line, entry_unless, entry_in, named_before, IsEntry, IsManifestFault, ManifestFault}
-use Rattle.bag_read.specs.Reason.{Reason, ◌>>=◌}
-use Rattle.bag_read.specs.Repeats.{TellsRepeats, IsReadOnce}
+use Rattle.bag_read.proofs.Common.{arith, ◌≡◌, ◌⊎◌, inl, inr, ℕ, Bool, true, false, List, [], ◌∷◌, refl, ap, sym, ◌∙◌, subst, Some, Result, Ok, Err, bytes_eq, Contains, list_any, nat_cmp, on, is_utf8, bytes_eq-Decides, IsLine, lines, lines_of_file, lines_of_text, text_of, IsText, IsNoText, IsListOf, Rules, Alg, Code, NotUtf8, NamedAgain, nothing_listed, one_listed, same_members, Kind, LineFault, ManifestEntry, AreFaults, line_fault, line_fault_cmp, not_utf8, entries_read, faults_read, manifest_line, entry_unless, named_before, IsEntry, IsManifestFault, ManifestFault, Reason, ◌>>=◌, TellsRepeats, IsReadOnce}
+use Rattle.bag_read.specs.Manifest.{HasReason, entry_in}
 use Rattle.bag_read.proofs.FaultOrder.{is_fault}
 use Rattle.bag_read.proofs.LinesRead.{IsRead, IsUnread, entries_listed, faults_listed}
 use Rattle.bag_read.proofs.ManifestLine.{IsReasonCode, reason_code}
@@ -41,16 +22,11 @@ module _ (rules : Rules) (kind : Kind) (alg : Alg) where
 
     entry_by : (n : ℕ) (said : List ℕ × List ℕ) (e : ManifestEntry) (b : Bool) → names_again n said.1 ≡ b → entry_unless b n said ≡ Ok e → Says n said e
     entry_by n said e true t h = cc
-    entry_by n said e false t h =
-        let same : record { line = n; digest = said.0; path = said.1 } ≡ e = cc in
-        subst (Says n said) same (refl, t, refl)
+    entry_by n said e false t h = grind arith
 
     -- what a line that is an entry says
     pub entry_parts : (n : ℕ) (line : List ℕ) (e : ManifestEntry) → reads n line ≡ Ok e → (manifest_line rules kind alg line ≡ Ok (e.digest, e.path)) × (names_again n e.path ≡ false) × (e.line ≡ n)
-    entry_parts n line e h =
-        let p = bind_ok (manifest_line rules kind alg line) _ e h in
-        let says = entry_by n p.0 e (names_again n p.0.1) refl p.2 in
-        (p.1 ∙ ap {B = Result (List ℕ × List ℕ) Reason} Ok says.0, says.1, says.2)
+    entry_parts n line e h = grind (arith, bind_ok, entry_by)
 
     pub numbered : (n : ℕ) (line : List ℕ) (e : ManifestEntry) → reads n line ≡ Ok e → line_of e ≡ n
     numbered n line e h = (entry_parts n line e h).2
@@ -117,9 +93,7 @@ module _ (rules : Rules) (kind : Kind) (alg : Alg) where
           let again : names_again f.line f.detail ≡ true = (tells f.line h.0 h.1 f.detail h.2 h.3).1 h.4 in
           let made : reads f.line h.0 ≡ Err (NamedAgain, f.detail) = rw (h.3.1, again) refl in
           (h.0, h.2, (h.3.0, made ∙ ap {B = Result ManifestEntry Reason} (λ (k : Code). Err (k, f.detail)) (sym e)))
-      from_code code f e h =
-          let made : reads f.line h.0 ≡ Err (code, f.detail) = rw h.2.1 refl in
-          (h.0, h.1, (h.2.0, made ∙ ap {B = Result ManifestEntry Reason} (λ (k : Code). Err (k, f.detail)) (sym e)))
+      from_code code f e h = grind arith
 
       -- the faults of a file that is UTF-8
       pub faults_of_lines : AreFaults (IsManifestFault rules kind alg bytes) (faults_read reads all)

@@ -1,22 +1,7 @@
 -- One line of a manifest.
-use Rattle.std.proofs.Common.{◌≡◌, ℕ, not, ◌||◌, ◌==◌, [], length, bytes_eq, List, subst, refl, Ok, Err}
-use Rattle.bag_text.specs.Text.{before_blank, after_blanks}
-use Rattle.std.specs.Char.{is_ascii_hexdigit}
-use Rattle.std.specs.List.{list_all}
-use Rattle.std.specs.Str.{str_to_ascii_lowercase}
-use Rattle.bag_text.specs.Alg.{hex_len}
-use Rattle.bag_text.specs.Spelling.{unescaped}
-use Rattle.bag_text.specs.Path.{is_payload_path, is_path}
-use Rattle.bag_text.specs.declared.rules.Rules.{Rules}
-use Rattle.bag_text.specs.declared.alg.Alg.{Alg}
-use Rattle.bag_text.specs.declared.code.Code.{Code}
-use Rattle.bag_text.specs.declared.code.Code.TheVariants.{ManifestLine, DigestLength, ManifestEscape, ManifestOutsidePayload, ManifestUnsafePath, TagmanifestNamesPayload, TagmanifestNamesTagmanifest}
-use Rattle.bag_read.specs.ManifestName.{is_manifest_name}
-use Rattle.bag_read.specs.declared.kind.Kind.{Kind}
-use Rattle.bag_read.specs.declared.kind.Kind.TheVariants.{Payload, Tag}
-use Rattle.bag_read.specs.Reason.{Reason, decoded_or}
+use Rattle.bag_read.proofs.Common.{arith, ◌≡◌, ℕ, List, subst, refl, Ok, Err, before_blank, after_blanks, unescaped, is_payload_path, is_path, Rules, Alg, Code, ManifestLine, DigestLength, ManifestEscape, ManifestOutsidePayload, ManifestUnsafePath, TagmanifestNamesPayload, TagmanifestNamesTagmanifest, is_manifest_name, Kind, Payload, Tag, Reason, decoded_or, digest_of, spelled_path, placed, named_path, checked_digest, without_marks, line_by_spelling}
 use Rattle.bag_read.proofs.Reason.{IsReasonOf, then_reason, chosen, decoded_reason}
-use Rattle.bag_read.specs.Manifest.{digest_of, spelled_path, placed, named_path, checked_digest, without_marks, line_by_spelling, manifest_line}
+use Rattle.bag_read.specs.Manifest.{manifest_line}
 
 pub line_of_bad_digest : (rules : Rules) (kind : Kind) (alg : Alg) (line : List ℕ) (reason : Reason) → checked_digest alg (before_blank line) (after_blanks line) ≡ Err reason → manifest_line rules kind alg line ≡ Err reason
 unfolding manifest_line
@@ -44,9 +29,7 @@ placed_reason Tag path =
     (chosen IsReasonCode (is_manifest_name Tag path) (Err (TagmanifestNamesTagmanifest, path)) (Ok path) tt tt)
 
 digest_reason : (alg : Alg) (digest rest : List ℕ) → IsReasonOf IsReasonCode (checked_digest alg digest rest)
-digest_reason alg digest rest =
-    chosen IsReasonCode (bytes_eq digest [] || not (list_all is_ascii_hexdigit digest) || bytes_eq rest []) (Err (ManifestLine, [])) _ tt
-    (chosen IsReasonCode (not (length digest == hex_len alg)) (Err (DigestLength, digest)) (Ok (str_to_ascii_lowercase digest)) tt tt)
+digest_reason alg digest rest = grind (arith, chosen)
 
 line_reason : (rules : Rules) (kind : Kind) (alg : Alg) (line : List ℕ) → IsReasonOf IsReasonCode (manifest_line rules kind alg line)
 unfolding manifest_line

@@ -1,24 +1,7 @@
 -- A line of a manifest and its parts.
-use Rattle.std.proofs.Common.{◌≡◌, ◌≢◌, ℕ, ◌⊎◌, inl, inr, Bool, true, false, not, ◌||◌, ◌==◌, cond, List, [], length, refl, sym, ap, ◌∙◌, subst, codes, Some, Result, Ok, Err, bytes_eq, arith}
-use Rattle.std.specs.Prelude.{IsTrue}
-use Rattle.std.specs.Char.{is_ascii_hexdigit}
-use Rattle.std.specs.List.{list_all}
-use Rattle.std.specs.Str.{str_to_ascii_lowercase}
-use Rattle.std.proofs.lemmas.Bool.Decides.{nat_tests}
-use Rattle.bag_text.specs.Alg.{hex_len}
-use Rattle.bag_text.specs.Path.{is_path, is_payload_path}
-use Rattle.bag_text.specs.Spelling.{unescaped}
-use Rattle.bag_text.specs.Text.{is_blank_line, before_blank, after_blanks, without_prefix}
-use Rattle.bag_text.specs.declared.rules.Rules.{Rules}
-use Rattle.bag_text.specs.declared.alg.Alg.{Alg}
-use Rattle.bag_text.specs.declared.code.Code.TheVariants.{ManifestLine, DigestLength, ManifestEscape, ManifestOutsidePayload, ManifestUnsafePath, TagmanifestNamesPayload, TagmanifestNamesTagmanifest}
-use Rattle.bag_text.proofs.LineEnds.{spellings}
-use Rattle.bag_read.specs.declared.kind.Kind.{Kind}
-use Rattle.bag_read.specs.declared.kind.Kind.TheVariants.{Payload, Tag}
-use Rattle.bag_read.specs.Manifest.{checked_digest, digest_of, spelled_path, placed, named_path, without_marks, manifest_line}
-use Rattle.bag_read.specs.ManifestName.{is_manifest_name}
+use Rattle.bag_read.proofs.Common.{◌≡◌, ◌≢◌, ℕ, ◌⊎◌, inl, inr, Bool, true, false, not, ◌||◌, ◌==◌, cond, List, [], length, refl, sym, ap, ◌∙◌, subst, codes, Some, Result, Ok, Err, bytes_eq, arith, IsTrue, is_ascii_hexdigit, list_all, str_to_ascii_lowercase, nat_tests, hex_len, is_path, is_payload_path, unescaped, is_blank_line, before_blank, after_blanks, without_prefix, Rules, Alg, ManifestLine, DigestLength, ManifestEscape, ManifestOutsidePayload, ManifestUnsafePath, TagmanifestNamesPayload, TagmanifestNamesTagmanifest, spellings, Kind, Payload, Tag, checked_digest, digest_of, spelled_path, placed, named_path, without_marks, is_manifest_name, Reason, ◌>>=◌, decoded_or}
+use Rattle.bag_read.specs.Manifest.{manifest_line}
 use Rattle.bag_read.specs.ManifestLine.{IsSpelling, MayName, ReadsAs, LinesReadAsTheirParts, OnlyReads, HasOnlyReason, LinesReadOrHaveOneReason}
-use Rattle.bag_read.specs.Reason.{Reason, ◌>>=◌, decoded_or}
 use Rattle.bag_read.proofs.LineParts.{or_false, not_false, not_empty, empty_test, is_cut, cut_part, cut_rest, not_blank, begins_some, is_without, without_alone}
 use Rattle.bag_read.proofs.Reason.{bind_ok, decoded_ok, ok_same}
 use Rattle.bag_read.proofs.ManifestName.{named_test, named_is}
@@ -31,18 +14,13 @@ number_same m n e = grind (arith, nat_tests)
 
 -- a digest that passes its test
 abbrev IsGoodDigest : Alg → List ℕ → List ℕ → List ℕ → Type 0
-IsGoodDigest alg h r digest =
-    (h ≢ []) × (list_all is_ascii_hexdigit h ≡ true) × (r ≢ []) × (length h ≡ hex_len alg) × (digest ≡ str_to_ascii_lowercase h)
+IsGoodDigest alg h r digest = (h ≢ []) × (list_all is_ascii_hexdigit h ≡ true) × (r ≢ []) × (length h ≡ hex_len alg) × (digest ≡ str_to_ascii_lowercase h)
 
 good_by : (alg : Alg) (h r digest : List ℕ) (a b : Bool) → (bytes_eq h [] || not (list_all is_ascii_hexdigit h) || bytes_eq r []) ≡ a → not (length h == hex_len alg) ≡ b
     → cond {A = Result (List ℕ) Reason} a (Err (ManifestLine, [])) (cond b (Err (DigestLength, h)) (Ok (str_to_ascii_lowercase h))) ≡ Ok digest → IsGoodDigest alg h r digest
 good_by alg h r digest true b e f k = cc
 good_by alg h r digest false true e f k = cc
-good_by alg h r digest false false e f k =
-    let outer = or_false (bytes_eq h [] || not (list_all is_ascii_hexdigit h)) (bytes_eq r []) e in
-    let inner = or_false (bytes_eq h []) (not (list_all is_ascii_hexdigit h)) outer.0 in
-    let same : str_to_ascii_lowercase h ≡ digest = cc in
-    (not_empty h inner.0, not_false _ inner.1, not_empty r outer.1, same_number _ _ (not_false _ f), sym same)
+good_by alg h r digest false false e f k = grind (arith, or_false, not_empty, not_false, same_number)
 
 good_digest : (alg : Alg) (h r digest : List ℕ) → checked_digest alg h r ≡ Ok digest → IsGoodDigest alg h r digest
 good_digest alg h r digest k = good_by alg h r digest _ _ refl refl k

@@ -1,25 +1,7 @@
 -- The first reason why a line of a manifest doesn't read.
-use Rattle.std.proofs.Common.{◌≡◌, ◌≢◌, inl, inr, ℕ, Bool, true, false, not, ◌||◌, ◌==◌, cond, List, [], ◌∷◌, length, refl, sym, ap, ◌∙◌, subst, Option, Some, None, Result, Ok, Err, bytes_eq, arith}
-use Rattle.std.specs.Char.{is_ascii_hexdigit}
-use Rattle.std.specs.List.{list_all}
-use Rattle.std.specs.Str.{str_to_ascii_lowercase}
-use Rattle.std.proofs.lemmas.Bool.Decides.{nat_tests}
-use Rattle.std.proofs.lemmas.Slice.Eq.{bytes_eq-Decides}
-use Rattle.bag_text.specs.Alg.{hex_len}
-use Rattle.bag_text.specs.Path.{is_path, is_payload_path}
-use Rattle.bag_text.specs.Spelling.{unescaped}
-use Rattle.bag_text.specs.Text.{before_blank, after_blanks}
-use Rattle.bag_text.specs.declared.rules.Rules.{Rules}
-use Rattle.bag_text.specs.declared.alg.Alg.{Alg}
-use Rattle.bag_text.specs.declared.code.Code.{Code}
-use Rattle.bag_text.specs.declared.code.Code.TheVariants.{ManifestLine, DigestLength, ManifestEscape, ManifestUnsafePath, ManifestOutsidePayload, TagmanifestNamesPayload, TagmanifestNamesTagmanifest}
-use Rattle.bag_text.proofs.LineEnds.{spellings}
-use Rattle.bag_read.specs.Manifest.{spelled_path, placed, without_marks, manifest_line}
-use Rattle.bag_read.specs.ManifestName.{is_manifest_name}
+use Rattle.bag_read.proofs.Common.{◌≡◌, ◌≢◌, inl, inr, ℕ, Bool, true, false, not, ◌||◌, ◌==◌, cond, List, [], ◌∷◌, length, refl, sym, ap, ◌∙◌, subst, Option, Some, None, Result, Ok, Err, bytes_eq, arith, is_ascii_hexdigit, list_all, str_to_ascii_lowercase, nat_tests, bytes_eq-Decides, hex_len, is_path, is_payload_path, unescaped, before_blank, after_blanks, Rules, Alg, Code, ManifestLine, DigestLength, ManifestEscape, ManifestUnsafePath, ManifestOutsidePayload, TagmanifestNamesPayload, TagmanifestNamesTagmanifest, spellings, spelled_path, placed, without_marks, is_manifest_name, Reason, ◌>>=◌, decoded_or, IsFirst, Kind, Payload, Tag}
+use Rattle.bag_read.specs.Manifest.{manifest_line}
 use Rattle.bag_read.specs.ManifestReasons.{IsSpelled, IsWritten, Holds, FirstReasonIsTold}
-use Rattle.bag_read.specs.Reason.{Reason, ◌>>=◌, decoded_or, IsFirst}
-use Rattle.bag_read.specs.declared.kind.Kind.{Kind}
-use Rattle.bag_read.specs.declared.kind.Kind.TheVariants.{Payload, Tag}
 use Rattle.bag_read.proofs.FetchLineParts.{either_true}
 use Rattle.bag_read.proofs.Reason.{err_same, never_ok, some_same, none_some, clash}
 use Rattle.bag_read.proofs.LineParts.{or_false, not_false, not_true, not_empty, is_fronted, fronted_part, fronted_rest}
@@ -55,10 +37,7 @@ module _ (rules : Rules) (alg : Alg) (line : List ℕ) where
       is_fronted line,
       elim (either_true (bytes_eq hex [] || not (list_all is_ascii_hexdigit hex)) (bytes_eq rest []) e) [
         | inr h ↦ inr (inr ((bytes_eq-Decides rest []).0 h))
-        | inl first ↦ elim (either_true (bytes_eq hex []) (not (list_all is_ascii_hexdigit hex)) first) [
-          | inl h ↦ inl ((bytes_eq-Decides hex []).0 h)
-          | inr h ↦ inr (inl (not_true (list_all is_ascii_hexdigit hex) h))
-        ]
+        | inl first ↦ grind (arith, either_true, bytes_eq-Decides, not_true)
       ],
     ),
   )
@@ -161,12 +140,9 @@ module _ (rules : Rules) (alg : Alg) (line : List ℕ) where
       → (digest_read a b >>= λ digest. path_named kind digest (unescaped rules spelling)) ≡ Err reason
       → IsFirstOf kind (ManifestLine ∷ DigestLength ∷ behind_digest) reason
   line_first kind reason true b e f h = subst (IsFirstOf kind (ManifestLine ∷ DigestLength ∷ behind_digest)) (err_same _ _ h) (inl (refl, part_missing kind e))
-  line_first kind reason false true e f h =
-      subst (IsFirstOf kind (ManifestLine ∷ DigestLength ∷ behind_digest)) (err_same _ _ h) (inr (no_part_missing kind e, inl (refl, other_length kind f)))
-  line_first kind reason false false e f h =
-      inr (no_part_missing kind e, inr (no_other_length kind f, spelling_first kind (str_to_ascii_lowercase hex) reason (unescaped rules spelling) refl h))
+  line_first kind reason false true e f h = grind (arith, err_same _ _ h, no_part_missing kind e, other_length kind f)
+  line_first kind reason false false e f h = grind (arith, no_part_missing kind e, no_other_length kind f, spelling_first)
 
 pub first_reason : FirstReasonIsTold
 unfolding manifest_line
-first_reason rules kind alg line reason h =
-    line_first rules alg line kind reason _ _ refl refl h.1
+first_reason rules kind alg line reason h = grind (arith, line_first rules alg line kind reason _ _ refl refl h.1)

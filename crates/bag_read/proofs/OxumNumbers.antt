@@ -1,12 +1,6 @@
 -- The numbers of an oxum.
-use Rattle.std.proofs.Common.{◌≡◌, ℕ, ◌<◌, ◌^◌, Bool, true, false, not, cond, List, [], ◌∷◌, length, refl, ap, sym, arith, Option, Some, None, Result, Ok, Err, bytes_eq, nat_lt}
-use Rattle.std.specs.Str.{all_ascii_digits}
-use Rattle.std.specs.Str.Parse.{ParsesUnsigned, digits_value}
-use Rattle.std.specs.Prelude.{OkIff}
-use Rattle.std.proofs.lemmas.Bool.Decides.{nat_tests}
+use Rattle.bag_read.proofs.Common.{◌≡◌, ℕ, ◌<◌, ◌^◌, Bool, true, false, not, cond, List, [], ◌∷◌, length, refl, ap, arith, Option, Some, None, Result, Ok, Err, bytes_eq, nat_lt, all_ascii_digits, ParsesUnsigned, digits_value, OkIff, nat_tests, is_digits, number_of}
 use Rattle.std.proofs.lemmas.Str.Parse.{numerals_by_value, tells_all_ascii_digits, parse_digits}
-use Rattle.bag_text.specs.Number.{is_digits}
-use Rattle.bag_read.specs.Oxum.{number_of}
 use Rattle.bag_read.proofs.LineParts.{not_true}
 use Rattle.bag_read.proofs.PickedOut.{both_true}
 
@@ -27,8 +21,7 @@ some_of (c ∷ t) e = omega arith
 
 told : {E : Type 0} (t : List ℕ) (r : Result ℕ E) → bytes_eq t [] ≡ false → all_ascii_digits t ≡ true → OkIff r ((0 < length t) × (digits_value 10 t < 2 ^ 64)) (digits_value 10 t) → value_or_none r ≡ number_of t
 told t (Ok n) some digits ((_, fits), same) = rw (some, digits, below (digits_value 10 t) (2 ^ 64) fits) (ap Some same)
-told t (Err e) some digits none =
-    rw (some, digits) (sym (by_test (digits_value 10 t) (2 ^ 64) (nat_lt (digits_value 10 t) (2 ^ 64)) refl (λ l. none (some_of t some, l))))
+told t (Err e) some digits none = grind (arith, by_test, nat_lt, some_of)
 
 -- what `parse` reads of digits
 pub number_read : {E : Type 0} (t : List ℕ) (r : Result ℕ E) → ParsesUnsigned 64 10 t r → is_digits t ≡ true → value_or_none r ≡ number_of t

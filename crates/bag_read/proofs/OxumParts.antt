@@ -1,11 +1,5 @@
 -- The value of Payload-Oxum and its parts.
-use Rattle.std.proofs.Common.{◌≡◌, ℕ, ◌^◌, ◌≤◌, Bool, true, false, ◌&&◌, cond, List, refl, sym, ap, ◌∙◌, subst, Some, None, nat_lt, arith}
-use Rattle.std.specs.Str.{byte}
-use Rattle.std.specs.Str.Parse.{digits_value}
-use Rattle.std.specs.List.{before_first, after_first}
-use Rattle.std.proofs.lemmas.Bool.Decides.{nat_tests}
-use Rattle.bag_text.specs.Number.{is_digits}
-use Rattle.bag_read.specs.Oxum.{is_number, is_dot, oxum_of, Writes, IsOxum, OxumsReadAsTheirParts}
+use Rattle.bag_read.proofs.Common.{◌≡◌, ℕ, ◌^◌, ◌≤◌, Bool, true, false, ◌&&◌, cond, List, refl, sym, ap, ◌∙◌, subst, Some, None, nat_lt, arith, byte, digits_value, before_first, after_first, nat_tests, is_digits, is_number, is_dot, oxum_of, Writes, IsOxum, OxumsReadAsTheirParts}
 use Rattle.bag_read.specs.declared.oxum.Oxum.{Oxum}
 use Rattle.bag_read.proofs.AreDigits.{are_digits, digits_are}
 use Rattle.bag_read.proofs.DeclarationLineParts.{digits_no_dot}

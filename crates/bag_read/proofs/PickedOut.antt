@@ -1,13 +1,6 @@
 -- What a function picks out of a list, and whether some element passes a test.
-use Rattle.std.proofs.Common.{◌≡◌, ◌⊎◌, inl, inr, Bool, true, false, ◌&&◌, ◌||◌, List, [], ◌∷◌, ◌++◌, refl, ap, sym, ◌∙◌, subst, Option, Some, None}
-use Rattle.std.specs.Prelude.{Contains, filter_map}
-use Rattle.std.specs.Option.{option_to_list}
-use Rattle.std.specs.List.{AllByRecursion, list_any, cons_option}
+use Rattle.bag_read.proofs.Common.{arith, ◌≡◌, ◌⊎◌, inl, inr, Bool, true, false, ◌&&◌, ◌||◌, List, [], ◌∷◌, refl, ap, sym, ◌∙◌, subst, Option, Some, None, Contains, filter_map, AllByRecursion, list_any, cons_option, Ordering, Less, contains_cases, contains_first, contains_behind, contains_nothing, each_from_members, member_has}
 use Rattle.std.specs.List.Sorted.{IsStrictlySortedBy}
-use Rattle.std.specs.declared.cmp.Ordering.{Ordering}
-use Rattle.std.specs.declared.cmp.Ordering.TheVariants.{Less}
-use Rattle.std.proofs.lemmas.List.Elements.{filter_map-append}
-use Rattle.bag_text.proofs.ListOf.{contains_cases, contains_first, contains_behind, contains_nothing, each_from_members, member_has}
 
 pub both_true : (a b : Bool) → (a && b) ≡ true → (a ≡ true) × (b ≡ true)
 both_true true true e = (refl, refl)
@@ -43,32 +36,13 @@ module _ {A : Type 0} (p : A → Bool) where
         | inr d ↦ (let more = from_any xs d in (more.0, contains_behind y xs more.0 more.1, more.2))
       ]
 
--- what is picked out of the first element stands before what is picked out of the others
-pub picked_first : {B : Type 0} (o : Option B) (xs ys : List B) → xs ≡ ys → option_to_list o ++ xs ≡ cons_option o ys
-picked_first None xs ys e = e
-picked_first (Some y) xs ys e = ap (λ zs. y ∷ zs) e
-
 module _ {A B : Type 0} (f : A → Option B) where
-  pub picked_one : (x : A) → filter_map f (x ∷ []) ≡ option_to_list (f x)
-  picked_one x = one (f x)
-    where
-      one : (o : Option B) → cons_option o [] ≡ option_to_list o
-      one None = refl
-      one (Some y) = refl
-
-  pub picked_more : (xs : List A) (x : A) → filter_map f (xs ++ x ∷ []) ≡ filter_map f xs ++ option_to_list (f x)
-  picked_more xs x = filter_map-append f xs (x ∷ []) ∙ ap (λ (ys : List B). filter_map f xs ++ ys) (picked_one x)
-
   abbrev pub IsPicked : List A → B → Type 0
   IsPicked xs y = (x : A) × Contains xs x × (f x ≡ Some y)
 
   picked_cons : (x : A) (xs : List A) (y : B) (o : Option B) → f x ≡ o → Contains (cons_option o (filter_map f xs)) y → (Contains (filter_map f xs) y → IsPicked xs y) → IsPicked (x ∷ xs) y
   picked_cons x xs y None e c more = let p = more c in (p.0, contains_behind x xs p.0 p.1, p.2)
-  picked_cons x xs y (Some z) e c more =
-      elim (contains_cases z (filter_map f xs) y c) [
-        | inl same ↦ (x, contains_first x xs, e ∙ ap Some same)
-        | inr d ↦ (let p = more d in (p.0, contains_behind x xs p.0 p.1, p.2))
-      ]
+  picked_cons x xs y (Some z) e c more = grind (arith, contains_first x xs, contains_cases, contains_behind)
 
   -- what is picked out comes from an element
   pub picked : (xs : List A) (y : B) → Contains (filter_map f xs) y → IsPicked xs y
@@ -90,8 +64,7 @@ module _ {A B : Type 0} (f : A → Option B) where
 
   module _ (cmp : A → A → Ordering) (order : B → B → Ordering) (keeps : (x y : A) (u v : B) → f x ≡ Some u → f y ≡ Some v → cmp x y ≡ Less → order u v ≡ Less) where
     below_picked : (x : A) (u : B) (xs : List A) → f x ≡ Some u → AllByRecursion (λ y. cmp x y ≡ Less) xs → AllByRecursion (λ v. order u v ≡ Less) (filter_map f xs)
-    below_picked x u xs e less =
-        each_from_members _ (filter_map f xs) (λ v c. let p = picked xs v c in keeps x p.0 u v e p.2 (member_has _ xs p.0 less p.1))
+    below_picked x u xs e less = each_from_members _ (filter_map f xs) (λ v c. let p = picked xs v c in keeps x p.0 u v e p.2 (member_has _ xs p.0 less p.1))
 
     ascending_cons : (x : A) (xs : List A) (o : Option B) → f x ≡ o → AllByRecursion (λ y. cmp x y ≡ Less) xs → IsStrictlySortedBy order (filter_map f xs) → IsStrictlySortedBy order (cons_option o (filter_map f xs))
     unfolding IsStrictlySortedBy

@@ -1,8 +1,5 @@
 -- Steps that end with a reason why a line doesn't read.
-use Rattle.std.proofs.Common.{◌≡◌, ℕ, List, Bool, true, false, cond, refl, sym, ap, ◌∙◌, Option, Some, None, Result, Ok, Err}
-use Rattle.std.specs.Prelude.{IfOk}
-use Rattle.bag_text.specs.declared.code.Code.{Code}
-use Rattle.bag_read.specs.Reason.{Reason, ◌>>=◌, decoded_or}
+use Rattle.bag_read.proofs.Common.{◌≡◌, ℕ, List, Bool, true, false, cond, refl, sym, ap, ◌∙◌, Option, Some, None, Result, Ok, Err, IfOk, Code, Reason, ◌>>=◌, decoded_or}
 
 pub ok_same : {A : Type 0} (x y : A) → ◌≡◌ {A = Result A Reason} (Ok x) (Ok y) → x ≡ y
 ok_same x y e = cc

@@ -1,32 +1,9 @@
 -- Whether entries of a manifest name each path once, and which lines name a path again.
-use Rattle.std.proofs.Common.{◌≡◌, ◌⊎◌, ℕ, ◌+◌, ◌-◌, ◌<◌, ◌≤◌, inl, inr, Bool, true, false, cond, List, length, get_or, map, refl, ap, sym, ◌∙◌, subst, Result, Ok, Some, bytes_eq, nat_eq, nat_lt, ◌==◌, arith, rules}
-use Rattle.std.specs.Prelude.{Contains, ◌↔◌, IsTrue}
-use Rattle.std.specs.List.{IsDistinct, slice_get}
+use Rattle.bag_read.proofs.Common.{◌≡◌, ◌⊎◌, ℕ, ◌+◌, ◌-◌, ◌<◌, ◌≤◌, inl, inr, Bool, true, false, cond, List, length, get_or, map, refl, ap, sym, ◌∙◌, subst, Ok, Some, bytes_eq, nat_eq, nat_lt, ◌==◌, arith, rules, Contains, ◌↔◌, IsTrue, IsDistinct, slice_get, IsTotalOrder, Ordering, Less, Equal, Greater, is_lt, is_eq, nat_cmp, on, ordering_reverse, cases_lt, eqb-true, nat_tests, get_or-map, length-map, slice_get_within, slice_get-get_or, get_or_from_slice_get, bytes_eq-Decides, eq-or-lt_of_le, IsLine, IsListOf, text_cmp, Rules, Alg, Kind, ManifestEntry, entries_read, Reads, named_before, fingerprint, mark_of, AreAscending, AreDifferent, NamesBelow, RepeatsBelow, IsRepeatedLine, TellsRepeats}
 use Rattle.std.specs.List.Sorted.{IsPermutation, IsSortedBy, IsStrictlyIncreasing}
-use Rattle.std.specs.Cmp.{IsTotalOrder}
 use Rattle.std.specs.Cmp.Rules.{comparing}
-use Rattle.std.specs.declared.cmp.Ordering.{Ordering}
-use Rattle.std.specs.declared.cmp.Ordering.TheVariants.{Less, Equal, Greater}
-use Rattle.std.specs.Ordering.{is_lt, is_eq, nat_cmp, on, ordering_reverse}
-use Rattle.std.proofs.lemmas.Bool.{cases_lt, eqb-true}
-use Rattle.std.proofs.lemmas.Bool.Decides.{nat_tests}
-use Rattle.std.proofs.lemmas.List.{get_or-map, length-map}
 use Rattle.std.proofs.lemmas.List.Sorted.{IsPermutation-sym, sorted_far, ranks_by}
 use Rattle.std.proofs.lemmas.Map.Keys.{IsDistinct-from_apart, IsDistinct-IsPermutation, apart_from_distinct, below_from_sorted, sorted_from_strictly_increasing, Less-from_sorted}
-use Rattle.std.proofs.lemmas.Option.{slice_get_within, slice_get-get_or, get_or_from_slice_get}
-use Rattle.std.proofs.lemmas.Slice.Eq.{bytes_eq-Decides}
-use Rattle.std.proofs.Math.Nat.{eq-or-lt_of_le}
-use Rattle.bag_text.specs.Lines.{IsLine}
-use Rattle.bag_text.specs.Order.{IsListOf}
-use Rattle.bag_text.specs.Text.{text_cmp}
-use Rattle.bag_text.specs.declared.rules.Rules.{Rules}
-use Rattle.bag_text.specs.declared.alg.Alg.{Alg}
-use Rattle.bag_read.specs.declared.kind.Kind.{Kind}
-use Rattle.bag_read.specs.declared.manifest.ManifestEntry.{ManifestEntry}
-use Rattle.bag_read.specs.LineFault.{entries_read}
-use Rattle.bag_read.specs.Manifest.{Reads, manifest_line, named_before}
-use Rattle.bag_read.specs.Reason.{Reason}
-use Rattle.bag_read.specs.Repeats.{fingerprint, mark_of, AreAscending, AreDifferent, NamesBelow, RepeatsBelow, IsRepeatedLine, TellsRepeats}
 use Rattle.bag_read.proofs.FaultOrder.{lower, same}
 use Rattle.bag_read.proofs.LinesRead.{IsRead, entries_listed}
 use Rattle.bag_read.proofs.ManifestEntries.{named_earlier, earlier_named}
@@ -87,23 +64,10 @@ module _ (entries : List ManifestEntry) (k : ℕ) (e : ManifestEntry) (at : slic
   here i d place there = let one : Some d ≡ Some e = sym there ∙ ap (slice_get entries) place ∙ at in cc
 
   names_either : (path : List ℕ) → NamesBelow entries (k + 1) path → NamesBelow entries k path ⊎ (e.path ≡ path)
-  names_either path (i, d, low, there, same) =
-      elim (cases_lt i k) [
-        | inl below ↦ inl (i, d, below, there, same)
-        | inr high ↦ (
-            let place : i ≡ k = omega arith in
-            inr (ap (λ (x : ManifestEntry). x.path) (sym (here i d place there)) ∙ same))
-      ]
+  names_either path (i, d, low, there, same) = grind (arith, cases_lt, same, here)
 
   repeats_either : (n : ℕ) → RepeatsBelow entries (k + 1) n → RepeatsBelow entries k n ⊎ ((e.line ≡ n) × NamesBelow entries k e.path)
-  repeats_either n (i, d, low, there, line, names) =
-      elim (cases_lt i k) [
-        | inl below ↦ inl (i, d, below, there, line, names)
-        | inr high ↦ (
-            let place : i ≡ k = omega arith in
-            let is : d ≡ e = here i d place there in
-            inr (ap (λ (x : ManifestEntry). x.line) (sym is) ∙ line, subst (λ m. NamesBelow entries m e.path) place (subst (λ (x : ManifestEntry). NamesBelow entries i x.path) is names)))
-      ]
+  repeats_either n (i, d, low, there, line, names) = grind (arith, cases_lt, here)
 
   kept : (b c : Bool) → c ≡ true → cond b true c ≡ true
   kept true c h = refl
@@ -119,11 +83,7 @@ module _ (entries : List ManifestEntry) (k : ℕ) (e : ManifestEntry) (at : slic
       to false eq h = let before = (is path).0 h in let low = before.2 in (before.0, before.1, omega arith, before.3, before.4)
 
       from : NamesBelow entries (k + 1) path → cond (bytes_eq e.path path) true (old path) ≡ true
-      from h =
-          elim (names_either path h) [
-            | inl before ↦ kept (bytes_eq e.path path) (old path) ((is path).1 before)
-            | inr same ↦ ap (λ b. cond b true (old path)) ((bytes_eq-Decides e.path path).1 same)
-          ]
+      from h = grind (arith, names_either, kept, same, bytes_eq-Decides)
 
   widened : (n : ℕ) → RepeatsBelow entries k n → RepeatsBelow entries (k + 1) n
   widened n (i, d, low, there, line, names) = (i, d, omega arith, there, line, names)
@@ -138,11 +98,7 @@ module _ (entries : List ManifestEntry) (k : ℕ) (e : ManifestEntry) (at : slic
       to false eq h = widened n ((is n).0 h)
 
       from : RepeatsBelow entries (k + 1) n → cond (is_eq (nat_cmp e.line n)) true (old n) ≡ true
-      from h =
-          elim (repeats_either n h) [
-            | inl before ↦ kept (is_eq (nat_cmp e.line n)) (old n) ((is n).1 before)
-            | inr (line, _) ↦ ap (λ b. cond b true (old n)) (ap is_eq (same e.line n line))
-          ]
+      from h = grind (arith, repeats_either, kept, same)
 
   -- and where it wasn't the lines stay
   pub line_same : ¬ (NamesBelow entries k e.path) → (old : ℕ → Bool) → ((n : ℕ) → IsTrue (old n) ↔ RepeatsBelow entries k n) → (n : ℕ) → IsTrue (old n) ↔ RepeatsBelow entries (k + 1) n
@@ -159,10 +115,7 @@ pub no_repeats_below : (entries : List ManifestEntry) (n : ℕ) (b : Bool) → b
 no_repeats_below entries n b e = (λ h. absurd (clash b h e), λ h. let low = h.2 in absurd (omega arith))
 
 pub all_below : (entries : List ManifestEntry) (k : ℕ) (lines : ℕ → Bool) → length entries ≤ k → ((n : ℕ) → IsTrue (lines n) ↔ RepeatsBelow entries k n) → (n : ℕ) → IsTrue (lines n) ↔ IsRepeatedLine entries n
-all_below entries k lines high is n = (
-  λ h. (let r = (is n).0 h in (r.0, r.1, slice_get_within entries r.0 r.1 r.3, r.3, r.4, r.5)),
-  λ h. (let low = h.2 in (is n).1 (h.0, h.1, omega arith, h.3, h.4, h.5)),
-)
+all_below entries k lines high is n = grind (arith, slice_get_within)
 
 -- what is read at first, with no line known to name a path again
 module _ (rules : Rules) (kind : Kind) (alg : Alg) (all : List (List ℕ)) (at_first : ℕ → List ℕ → Bool) (none_known : (n : ℕ) (path : List ℕ) → at_first n path ≡ false) where
@@ -193,33 +146,17 @@ module _ (rules : Rules) (kind : Kind) (alg : Alg) (all : List (List ℕ)) (at_f
       lower x.line y.line (rw (first, next) at (Less-from_sorted (on line_of nat_cmp) items i j x listed.ascending h (slice_get_within items j y f)))
 
   places_ascend : (i j : ℕ) (x y : ManifestEntry) → slice_get items i ≡ Some x → slice_get items j ≡ Some y → x.line < y.line → i < j
-  places_ascend i j x y e f low =
-      elim (cases_lt i j) [
-        | inl l ↦ l
-        | inr g ↦ elim (eq-or-lt_of_le g) [
-          | inl s ↦ (let both : Some y ≡ Some x = sym f ∙ ap (slice_get items) s ∙ e in let is : y ≡ x = cc in absurd (omega (arith, ap (λ (z : ManifestEntry). z.line) is)))
-          | inr l ↦ (let above = lines_ascend j i y x l f e in absurd (omega arith))
-        ]
-      ]
+  places_ascend i j x y e f low = grind (arith, cases_lt, eq-or-lt_of_le, lines_ascend)
 
   one_path : (n m : ℕ) (l k d c p q : List ℕ) → n ≡ m → IsLine all n l → IsLine all m k → Reads rules kind alg l d p → Reads rules kind alg k c q → p ≡ q
-  one_path n m l k d c p q e at there reads again =
-      let lines : Some l ≡ Some k = sym at.1 ∙ ap (λ i. slice_get all (i - 1)) e ∙ there.1 in
-      let line : l ≡ k = cc in
-      let both : ◌≡◌ {A = Result (List ℕ × List ℕ) Reason} (Ok (d, p)) (Ok (c, q)) = sym reads.1 ∙ ap (manifest_line rules kind alg) line ∙ again.1 in
-      ap (λ (x : List ℕ × List ℕ). x.1) (ok_same {A = List ℕ × List ℕ} (d, p) (c, q) both)
+  one_path n m l k d c p q e at there reads again = grind (arith, ok_same)
 
   -- lines that are found to name a path again among these entries tell repeats
   pub repeats_told : (names_again : ℕ → List ℕ → Bool) → ((n : ℕ) (path : List ℕ) → IsTrue (names_again n path) ↔ IsRepeatedLine items n) → TellsRepeats rules kind alg all names_again
   repeats_told names_again is n line digest path at reads = (λ t. to ((is n path).0 t), λ c. (is n path).1 (from (named_earlier rules kind alg all n path c)))
     where
       to : IsRepeatedLine items n → Contains (named_before rules kind alg all n) path
-      to (i, e, w, there, line_is, (j, d, low, before, same)) =
-          let this = item_is i e there in
-          let earlier = item_is j d before in
-          let below = lines_ascend j i d e low before there in
-          let path_is : e.path ≡ path = one_path e.line n this.0 line e.digest digest e.path path line_is this.1 at this.2 reads in
-          earlier_named rules kind alg all n path (d.line, earlier.0, d.digest, omega (arith, below, line_is), earlier.1, subst (Reads rules kind alg earlier.0 d.digest) (same ∙ path_is) earlier.2)
+      to (i, e, w, there, line_is, (j, d, low, before, same)) = grind (arith, item_is, lines_ascend, one_path, reads, earlier_named, same)
 
       from : (k : ℕ) × (l c : List ℕ) × (k < n) × IsLine all k l × Reads rules kind alg l c path → IsRepeatedLine items n
       from (k, l, c, low, there, read) =

@@ -1,19 +1,10 @@
 -- The paths of tag files.
-use Rattle.std.proofs.Common.{◌≡◌, ◌≢◌, ◌++◌, ℕ, List, [], ◌∷◌, find, subst, Option, None, Some, Bool, true, false, refl, sym, ap, ◌∙◌, cond, arith, ◌==◌, append_assoc, get_or, MatchOption, codes, bytes_eq}
-use Rattle.std.proofs.lemmas.Bool.Decides.{nat_tests}
-use Rattle.std.specs.List.{list_all, slice_get}
+use Rattle.bag_read.proofs.Common.{◌≡◌, ◌≢◌, ◌++◌, ℕ, List, [], ◌∷◌, find, subst, Option, None, Some, Bool, true, false, refl, sym, ap, ◌∙◌, cond, arith, ◌==◌, append_assoc, get_or, MatchOption, codes, bytes_eq, nat_tests, list_all, slice_get, bytes_eq-Decides, algs, name, alg_named, is_base_name, Alg, Kind, Payload, Tag, manifest_name, is_alg_text, prefix}
 use Rattle.std.proofs.lemmas.List.Elements.{All-contains}
 use Rattle.std.proofs.lemmas.List.Sums.{AllPass-from_list_all}
-use Rattle.std.proofs.lemmas.Slice.Eq.{bytes_eq-Decides}
-use Rattle.bag_text.specs.Alg.{algs, name, alg_named}
-use Rattle.bag_text.specs.Path.{is_base_name}
-use Rattle.bag_text.specs.declared.alg.Alg.{Alg}
 use Rattle.bag_text.proofs.AlgSets.{each_is_listed, name_is_read_again, names_tell_apart}
-use Rattle.bag_read.specs.declared.kind.Kind.{Kind}
-use Rattle.bag_read.specs.declared.kind.Kind.TheVariants.{Payload, Tag}
 use Rattle.bag_read.specs.declared.tag_name.TagName.{TagName}
 use Rattle.bag_read.specs.declared.tag_name.TagName.TheVariants.{Declaration, Info, Fetch, Manifest}
-use Rattle.bag_read.specs.ManifestName.{manifest_name, is_alg_text, prefix}
 use Rattle.bag_read.specs.TagName.{tag_path, TagPathsDiffer, TagFilesStandInTheBase}
 use Rattle.bag_read.proofs.ManifestName.{same_alg}
 
@@ -114,9 +105,7 @@ pub manifest_by : (kind : Kind) (path text : List ℕ) (alg : Alg) → path ≡ 
 manifest_by kind path text alg at e = sym (at ∙ ap (manifest_name kind) (alg_named_is text alg (sym e)))
 
 pub no_manifest_by : (kind : Kind) (path text : List ℕ) → path ≡ manifest_name kind text → None ≡ alg_named text → (alg : Alg) → tag_path (Manifest kind alg) ≢ path
-no_manifest_by kind path text at e alg same =
-    let text_is : text ≡ name alg = one_text kind text (name alg) (sym at ∙ sym same) in
-    let clash : None ≡ Some alg = e ∙ ap alg_named text_is ∙ name_named alg in cc
+no_manifest_by kind path text at e alg same = grind (arith, one_text, name_named)
 
 other : (path name : List ℕ) → false ≡ bytes_eq path name → name ≢ path
 other path name e same = let clash : false ≡ true = e ∙ (bytes_eq-Decides path name).1 (sym same) in cc

@@ -1,12 +1,6 @@
 -- Tests of texts and prefixes.
-use Rattle.std.proofs.Common.{◌≡◌, ◌≢◌, ℕ, ◌<◌, Bool, true, false, cond, List, [], ◌∷◌, ◌++◌, length, drop, refl, ap, sym, ◌∙◌, arith, Option, Some, None, MatchOption, bytes_eq, nat_eq}
-use Rattle.std.specs.List.{starts_with}
-use Rattle.std.specs.Option.{option_copied}
-use Rattle.std.specs.Borrow.{Bor}
+use Rattle.bag_read.proofs.Common.{◌≡◌, ◌≢◌, ℕ, ◌<◌, Bool, true, false, cond, List, [], ◌∷◌, ◌++◌, length, drop, refl, sym, arith, Option, Some, None, MatchOption, bytes_eq, nat_eq, starts_with, option_copied, Bor, starts_is, Decides-eqb, after_prefix}
 use Rattle.std.specs.Str.Pattern.{StripsPrefix, FindsTextPrefix}
-use Rattle.std.proofs.lemmas.Slice.Eq.{starts_is}
-use Rattle.std.proofs.lemmas.Bool.Decides.{Decides-eqb}
-use Rattle.bag_text.specs.Text.{after_prefix}
 
 pub no_text : (t : List ℕ) → length t ≡ 0 → bytes_eq t [] ≡ true
 no_text [] e = refl
@@ -20,8 +14,7 @@ pub prefix_test : (p t : List ℕ) → (starts_with nat_eq t p ≡ true → t �
 prefix_test p t = starts_is Decides-eqb t p (starts_with nat_eq t p) refl
 
 after_test : (p t rest : List ℕ) (b : Bool) → starts_with nat_eq t p ≡ b → cond b (Some (drop (length p) t)) None ≡ Some rest → t ≡ p ++ rest
-after_test p t rest true e h =
-    let same : drop (length p) t ≡ rest = cc in (prefix_test p t).0 e ∙ ap (λ r. p ++ r) same
+after_test p t rest true e h = grind (arith, prefix_test)
 after_test p t rest false e h = cc
 
 -- the prefix and what stands after it are the text
@@ -35,7 +28,4 @@ after_lacking p t false e h = rw e refl
 -- what `strip_prefix` tells
 pub strip_is_after : (p t : List ℕ) (r : Option (Bor (List ℕ))) → MatchOption r (FindsTextPrefix p t None) (λ x. StripsPrefix (FindsTextPrefix p) t x.now) → option_copied r ≡ after_prefix p t
 strip_is_after p t None h = sym (after_lacking p t _ refl h)
-strip_is_after p t (Some x) (n, (long, front, cut), rest, room) =
-    let there : starts_with nat_eq t p ≡ true = (prefix_test p t).1 (drop n t) front in
-    let same : x.now ≡ drop (length p) t = rest ∙ ap (λ k. drop k t) long in
-    rw (there, same) refl
+strip_is_after p t (Some x) (n, (long, front, cut), rest, room) = grind (arith, nat_eq, prefix_test)

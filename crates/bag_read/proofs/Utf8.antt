@@ -1,13 +1,5 @@
 -- Bytes that are UTF-8, and bytes that aren't: what is read of them.
-use Rattle.std.proofs.Common.{◌≡◌, ℕ, ◌-◌, Bool, true, false, List, refl, sym, ap, ◌∙◌, subst, Some, None, cond, Result}
-use Rattle.std.specs.Prelude.{IfOk}
-use Rattle.std.specs.Str.{is_utf8}
-use Rattle.std.specs.List.{slice_get}
-use Rattle.std.specs.declared.cmp.Ordering.{Ordering}
-use Rattle.std.proofs.lemmas.Result.{IfOk-weaker}
-use Rattle.bag_text.specs.Lines.{IsLine, lines, lines_of_file, lines_of_text}
-use Rattle.bag_text.specs.Order.{IsListOf}
-use Rattle.bag_text.specs.Text.{text_of, IsText, IsNoText, without_mark}
+use Rattle.bag_read.proofs.Common.{◌≡◌, ℕ, ◌-◌, Bool, true, false, List, refl, sym, ap, ◌∙◌, subst, Some, None, cond, Result, IfOk, is_utf8, slice_get, Ordering, IfOk-weaker, IsLine, lines, lines_of_file, lines_of_text, IsListOf, text_of, IsText, IsNoText, without_mark}
 
 text_test : (bytes t : List ℕ) (b : Bool) → is_utf8 bytes ≡ b → cond b (Some (without_mark bytes)) None ≡ Some t → IsText bytes
 text_test bytes t true e h = e

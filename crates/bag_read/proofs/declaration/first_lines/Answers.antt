@@ -1,9 +1,5 @@
-use Rattle.std.proofs.Common.{inl, ℕ, suc, ◌≡◌, ◌+◌, ◌∷◌, List, length, sym, ap, ◌∙◌, arith}
-use Rattle.std.specs.Borrow.{Bor}
+use Rattle.bag_read.proofs.Common.{ℕ, suc, ◌≡◌, ◌+◌, ◌∷◌, List, length, sym, ap, ◌∙◌, arith, Bor, numbered_rest, length-numbered, slice_get, enumerate_from}
 use Rattle.std.proofs.lemmas.Iterator.Consumers.{count_from_yields_List, YieldsList-from_first}
-use Rattle.bag_text.specs.NumberedRest.{numbered_rest}
-use Rattle.bag_text.proofs.Numbered.{length-numbered}
-use Rattle.std.specs.List.{slice_get, enumerate_from}
 use Rattle.bag_text.specs.Lines as cut
 use Rattle.bag_read.proofs.DeclarationLines.{no_lines, first_line}
 use Rattle.bag_read.proofs.declaration.first_lines.Goals as goal
@@ -15,42 +11,25 @@ pub returns-in_default-clause-second : goal.returns-in_default-clause-second
 returns-in_default-clause-second c = sym (ap (λ all. slice_get all 1) (no_lines 1 (cut.lines c.args.text.now) (sym c.lines-rest.ensures.rest ∙ c.in_default.ensures.steps.0)))
 
 pub returns-in_default-next-clause-first : goal.returns-in_default-next-clause-first
-returns-in_default-next-clause-first c =
-    let one = first_line 1 c.in-Some.field-0-0 (cut.lines c.args.text.now) c.in-Some.first.now _ (sym c.lines-rest.ensures.rest ∙ c.in-Some.ensures.steps) in
-    sym (ap (λ all. slice_get all 0) one.1)
+returns-in_default-next-clause-first c = grind (arith, first_line)
 
 pub returns-in_default-next-clause-second : goal.returns-in_default-next-clause-second
-returns-in_default-next-clause-second c =
-    let one = first_line 1 c.in-Some.field-0-0 (cut.lines c.args.text.now) c.in-Some.first.now _ (sym c.lines-rest.ensures.rest ∙ c.in-Some.ensures.steps) in
-    let none = no_lines (1 + 1) one.0 (one.2 ∙ c.in_default-next.ensures.steps.0) in
-    sym (ap (λ all. slice_get all 1) (one.1 ∙ ap (λ more. c.in-Some.first.now ∷ more) none))
+returns-in_default-next-clause-second c = grind (arith, first_line, no_lines)
 
 pub returns-clause-first : goal.returns-clause-first
-returns-clause-first c =
-    let one = first_line 1 c.in-Some.field-0-0 (cut.lines c.args.text.now) c.in-Some.first.now _ (sym c.lines-rest.ensures.rest ∙ c.in-Some.ensures.steps) in
-    sym (ap (λ all. slice_get all 0) one.1)
+returns-clause-first c = grind (arith, first_line)
 
 pub returns-clause-second : goal.returns-clause-second
-returns-clause-second c =
-    let one = first_line 1 c.in-Some.field-0-0 (cut.lines c.args.text.now) c.in-Some.first.now _ (sym c.lines-rest.ensures.rest ∙ c.in-Some.ensures.steps) in
-    let two = first_line (1 + 1) c.in-Some-next.field-0-0 one.0 c.in-Some-next.second.now _ (one.2 ∙ c.in-Some-next.ensures.steps) in
-    sym (ap (λ all. slice_get all 1) (one.1 ∙ ap (λ more. c.in-Some.first.now ∷ more) two.1))
+returns-clause-second c = grind (arith, first_line)
 
 pub returns-in_default-clause-count : goal.returns-in_default-clause-count
 returns-in_default-clause-count c = sym (ap length (no_lines 1 (cut.lines c.args.text.now) (sym c.lines-rest.ensures.rest ∙ c.in_default.ensures.steps.0)))
 
 pub returns-in_default-next-clause-count : goal.returns-in_default-next-clause-count
-returns-in_default-next-clause-count c =
-    let one = first_line 1 c.in-Some.field-0-0 (cut.lines c.args.text.now) c.in-Some.first.now _ (sym c.lines-rest.ensures.rest ∙ c.in-Some.ensures.steps) in
-    let none = no_lines (1 + 1) one.0 (one.2 ∙ c.in_default-next.ensures.steps.0) in
-    sym (ap length (one.1 ∙ ap (λ more. c.in-Some.first.now ∷ more) none))
+returns-in_default-next-clause-count c = grind (arith, first_line, no_lines)
 
 pub count-requires-clause-fits : goal.count-requires-clause-fits
-count-requires-clause-fits c =
-    let one = first_line 1 c.in-Some.field-0-0 (cut.lines c.args.text.now) c.in-Some.first.now _ (sym c.lines-rest.ensures.rest ∙ c.in-Some.ensures.steps) in
-    let two = first_line (1 + 1) c.in-Some-next.field-0-0 one.0 c.in-Some-next.second.now _ (one.2 ∙ c.in-Some-next.ensures.steps) in
-    let long : length (cut.lines c.args.text.now) ≡ suc (suc (length two.0)) = ap length (one.1 ∙ ap (λ more. c.in-Some.first.now ∷ more) two.1) in
-    inl (rw (sym {a = enumerate_from (1 + 1 + 1) two.0} two.2, length-numbered (1 + 1 + 1) two.0) (omega (arith, c.lines-rest.ensures.few, long)))
+count-requires-clause-fits c = grind (arith, first_line, length-numbered)
 
 pub returns-clause-count : goal.returns-clause-count
 returns-clause-count c =
@@ -61,6 +40,4 @@ returns-clause-count c =
     omega (arith, counted, length-numbered (1 + 1 + 1) two.0, long)
 
 pub overflow_add-result : goal.overflow_add-result
-overflow_add-result c =
-    let all = returns-clause-count c in
-    omega (arith, c.lines-rest.ensures.few, all)
+overflow_add-result c = grind (arith, returns-clause-count)

@@ -1,10 +1,5 @@
-use Rattle.std.proofs.Common.{◌≡◌, sym, ap, subst, Some}
-use Rattle.std.proofs.lemmas.Result.{IfOk-weaker}
-use Rattle.bag_text.specs.Text.{text_of}
-use Rattle.bag_text.specs.Lines.{lines_of_text}
-use Rattle.bag_read.specs.Declaration.{IsDeclarationFault}
+use Rattle.bag_read.proofs.Common.{arith, ◌≡◌, sym, ap, subst, Some, IfOk-weaker, text_of, lines_of_text, IsDeclarationFault, AreFaults}
 use Rattle.bag_read.specs.DeclarationFaults as place
-use Rattle.bag_read.specs.LineFault.{AreFaults}
 use Rattle.bag_read.proofs.DeclarationFaults.{faults_of_text, faults_of_no_text}
 use Rattle.bag_read.proofs.Utf8.{is_text, is_no_text}
 use Rattle.bag_read.proofs.declaration.read_declaration.Goals as goal
@@ -18,7 +13,4 @@ returns-in-Ok-clause-faults c =
     IfOk-weaker c.read_text.result _ _ (λ d e. subst (AreFaults (IsDeclarationFault bytes)) (sym e) these) c.read_text.ensures.faults
 
 pub returns-in-Err-clause-faults : goal.returns-in-Err-clause-faults
-returns-in-Err-clause-faults c =
-    let bytes = c.args.bytes.now in
-    let exact = faults_of_no_text bytes (is_no_text bytes c.in-Err.ensures.text) in
-    IfOk-weaker c.unread.result _ _ (λ d e. subst (AreFaults (IsDeclarationFault bytes)) (sym e) exact) c.unread.ensures.faults
+returns-in-Err-clause-faults c = grind (arith, faults_of_no_text, is_no_text)

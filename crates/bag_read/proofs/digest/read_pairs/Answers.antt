@@ -1,4 +1,4 @@
-use Rattle.std.proofs.Common.{arith, refl}
+use Rattle.bag_read.proofs.Common.{arith, refl}
 use Rattle.hex.specs.Hex.{encode_with}
 use Rattle.bag_read.proofs.HexDigits.{pair_read}
 use Rattle.bag_read.proofs.digest.read_pairs.Goals as goal

@@ -1,6 +1,4 @@
-use Rattle.std.proofs.Common.{◌≡◌, ◌*◌, take}
-use Rattle.std.specs.Str.{str_to_ascii_lowercase}
-use Rattle.hex.specs.Hex.{encode_lower}
+use Rattle.bag_read.proofs.Common.{◌≡◌, ◌*◌, take, str_to_ascii_lowercase, encode_lower}
 use Rattle.bag_read.proofs.digest.read_pairs.Given as goal
 
 abbrev pub invariant-loop-k : goal.invariant-loop-k

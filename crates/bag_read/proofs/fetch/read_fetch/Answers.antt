@@ -1,6 +1,4 @@
-use Rattle.bag_text.specs.Lines.{lines_of_file}
-use Rattle.bag_read.specs.Fetch.{entry_in}
-use Rattle.bag_read.specs.LineFault.{entries_read, faults_read}
+use Rattle.bag_read.proofs.Common.{lines_of_file, entry_in, entries_read, faults_read}
 use Rattle.bag_read.proofs.FetchFaults.{entries_of_lines, faults_of_text, entries_of_no_text, faults_of_no_text}
 use Rattle.bag_read.proofs.Utf8.{is_text, is_no_text, listed_so, listed_of_text}
 use Rattle.bag_read.proofs.fetch.read_fetch.Goals as goal

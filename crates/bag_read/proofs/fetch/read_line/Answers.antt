@@ -1,16 +1,9 @@
-use Rattle.std.proofs.Common.{◌∙◌, sym, ap, Result, Ok}
-use Rattle.std.proofs.lemmas.Result.{IfOk-weaker}
-use Rattle.bag_read.specs.Fetch.{path_spelled}
-use Rattle.bag_read.specs.Reason.{Reason}
-use Rattle.bag_read.specs.declared.fetch.FetchEntry.{FetchEntry}
+use Rattle.bag_read.proofs.Common.{arith, ◌∙◌, sym, ap, Result, Ok, path_spelled, Reason, FetchEntry}
 use Rattle.bag_read.proofs.FetchLine.{line_lacking, line_read}
 use Rattle.bag_read.proofs.fetch.read_line.Goals as goal
 
 pub returns-then-lacks_part : goal.returns-then-lacks_part
-returns-then-lacks_part c =
-    let first = c.split_at_blanks.ensures in
-    let next = c.split_at_blanks-2.ensures in
-    IfOk-weaker c.refuse.result _ _ (λ v e. e ∙ line_lacking c.args.rules c.args.line.now _ _ _ _ first.front first.back next.front next.back c.args.number (sym c.if-lacks_part.ensures)) c.refuse.ensures
+returns-then-lacks_part c = grind (arith, line_lacking)
 
 pub returns-in_ok-entry-in-Ok : goal.returns-in_ok-entry-in-Ok
 returns-in_ok-entry-in-Ok c =

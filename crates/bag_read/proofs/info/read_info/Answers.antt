@@ -1,17 +1,11 @@
-use Rattle.std.proofs.Common.{false}
-use Rattle.std.specs.List.{enumerate_from}
-use Rattle.bag_text.specs.Lines.{lines_of_file}
-use Rattle.bag_read.specs.InfoReader.{elements, faults}
+use Rattle.bag_read.proofs.Common.{arith, false, enumerate_from, elements, faults}
 use Rattle.bag_read.proofs.InfoElements.{elements_of}
 use Rattle.bag_read.proofs.InfoFaults.{faults_of_text, elements_of_no_text, faults_of_no_text}
 use Rattle.bag_read.proofs.Utf8.{is_text, is_no_text, listed_so, listed_of_text}
 use Rattle.bag_read.proofs.info.read_info.Goals as goal
 
 pub returns-in-Ok-clause-items : goal.returns-in-Ok-clause-items
-returns-in-Ok-clause-items c =
-    let rules = c.args.rules in
-    let bytes = c.args.bytes.now in
-    listed_of_text _ _ c.read_text.result (λ parsed. parsed.items) bytes c.in-Ok.text.now (λ all. elements rules (enumerate_from 1 all)) c.in-Ok.ensures.text (elements_of rules (lines_of_file bytes)) c.read_text.ensures.items
+returns-in-Ok-clause-items c = grind (arith, listed_of_text, elements_of)
 
 pub returns-in-Ok-clause-faults : goal.returns-in-Ok-clause-faults
 returns-in-Ok-clause-faults c =

@@ -1,8 +1,5 @@
-use Rattle.std.proofs.Common.{◌≡◌, false}
-use Rattle.std.specs.List.{enumerate_from}
+use Rattle.bag_read.proofs.Common.{◌≡◌, false, enumerate_from, numbered_rest, all_elements, all_faults, elements, faults}
 use Rattle.bag_text.specs.Lines as cut
-use Rattle.bag_text.specs.NumberedRest.{numbered_rest}
-use Rattle.bag_read.specs.InfoReader.{all_elements, all_faults, elements, faults}
 use Rattle.bag_read.proofs.info.read_text.Given as goal
 
 abbrev pub invariant-loop-number : goal.invariant-loop-number

@@ -1,8 +1,5 @@
-use Rattle.std.proofs.Common.{◌≡◌, ◌++◌}
-use Rattle.std.specs.Prelude.{filter_map}
+use Rattle.bag_read.proofs.Common.{◌≡◌, ◌++◌, filter_map, numbered_rest, entry_of, fault_of, entries_read, faults_read}
 use Rattle.bag_text.specs.Lines as cut
-use Rattle.bag_text.specs.NumberedRest.{numbered_rest}
-use Rattle.bag_read.specs.LineFault.{entry_of, fault_of, entries_read, faults_read}
 use Rattle.bag_read.proofs.line_fault.read_lines.Given as goal
 
 abbrev pub invariant-loop-line : goal.invariant-loop-line

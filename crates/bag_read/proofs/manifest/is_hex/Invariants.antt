@@ -1,6 +1,4 @@
-use Rattle.std.proofs.Common.{◌≡◌, take}
-use Rattle.std.specs.Char.{is_ascii_hexdigit}
-use Rattle.std.specs.List.{list_all}
+use Rattle.bag_read.proofs.Common.{◌≡◌, take, is_ascii_hexdigit, list_all}
 use Rattle.bag_read.proofs.manifest.is_hex.Given as goal
 
 abbrev pub invariant-loop-b : goal.invariant-loop-b

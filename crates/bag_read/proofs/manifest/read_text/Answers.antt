@@ -1,8 +1,5 @@
-use Rattle.std.proofs.Common.{◌≡◌, ◌∙◌, ℕ, List, Bool, false, refl, subst}
-use Rattle.std.specs.BTreeSet.{contains}
-use Rattle.std.specs.Ordering.{nat_cmp}
+use Rattle.bag_read.proofs.Common.{◌≡◌, ◌∙◌, ℕ, List, Bool, false, refl, subst, contains, nat_cmp, AreDifferent}
 use Rattle.bag_text.specs.Lines as cut
-use Rattle.bag_read.specs.Repeats.{AreDifferent}
 use Rattle.bag_read.proofs.Reason.{both_ok}
 use Rattle.bag_read.proofs.RepeatedLines.{different_told, repeats_told}
 use Rattle.bag_read.proofs.manifest.read_text.Goals as goal

@@ -1,4 +1,4 @@
-use Rattle.std.proofs.Common.{◌∙◌}
+use Rattle.bag_read.proofs.Common.{◌∙◌}
 use Rattle.bag_read.proofs.ManifestName.{has_alg}
 use Rattle.bag_read.proofs.manifest_name.is_manifest_name.Goals as goal
 

@@ -1,4 +1,4 @@
-use Rattle.std.proofs.Common.{Err, sym, ◌∙◌}
+use Rattle.bag_read.proofs.Common.{Err, sym, ◌∙◌}
 use Rattle.bag_read.proofs.OxumNumbers.{number_read}
 use Rattle.bag_read.proofs.oxum.number_of.Goals as goal
 

@@ -1,5 +1,4 @@
-use Rattle.std.proofs.Common.{◌≡◌, map, take}
-use Rattle.bag_read.specs.Repeats.{mark_of}
+use Rattle.bag_read.proofs.Common.{◌≡◌, map, take, mark_of}
 use Rattle.bag_read.proofs.repeats.fingerprints.Given as goal
 
 abbrev pub invariant-loop-entry : goal.invariant-loop-entry

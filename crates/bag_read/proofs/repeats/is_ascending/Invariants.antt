@@ -1,7 +1,4 @@
-use Rattle.std.proofs.Common.{◌≡◌, ℕ, ◌+◌, ◌<◌, get_or}
-use Rattle.std.specs.declared.cmp.Ordering.TheVariants.{Less}
-use Rattle.bag_text.specs.Text.{text_cmp}
-use Rattle.bag_read.specs.declared.manifest.ManifestEntry.{ManifestEntry}
+use Rattle.bag_read.proofs.Common.{◌≡◌, ℕ, ◌+◌, ◌<◌, get_or, Less, text_cmp, ManifestEntry}
 use Rattle.bag_read.proofs.repeats.is_ascending.Given as goal
 
 abbrev pub invariant-loop-k : goal.invariant-loop-k

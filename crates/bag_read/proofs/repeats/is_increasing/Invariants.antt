@@ -1,4 +1,4 @@
-use Rattle.std.proofs.Common.{ℕ, ◌+◌, ◌<◌, slice_index}
+use Rattle.bag_read.proofs.Common.{ℕ, ◌+◌, ◌<◌, slice_index}
 use Rattle.bag_read.proofs.repeats.is_increasing.Given as goal
 
 abbrev pub invariant-loop-k : goal.invariant-loop-k

@@ -1,11 +1,5 @@
-use Rattle.std.proofs.Common.{◌≡◌, ℕ, List, Bool, true, false, not, cond, bytes_eq, refl, sym, ap, ◌∙◌, Some, arith}
-use Rattle.std.specs.BTreeSet.{contains, contains_by}
-use Rattle.std.specs.List.{slice_get}
-use Rattle.std.specs.Ordering.{nat_cmp}
+use Rattle.bag_read.proofs.Common.{◌≡◌, ℕ, List, Bool, true, false, not, cond, bytes_eq, refl, sym, ap, ◌∙◌, Some, arith, contains, contains_by, slice_get, nat_cmp, slice_get-get_or, text_cmp, NamesBelow}
 use Rattle.std.proofs.lemmas.Map.Text.{is_eq-slice_cmp}
-use Rattle.std.proofs.lemmas.Option.{slice_get-get_or}
-use Rattle.bag_text.specs.Text.{text_cmp}
-use Rattle.bag_read.specs.Repeats.{NamesBelow}
 use Rattle.bag_read.proofs.Reason.{clash}
 use Rattle.bag_read.proofs.RepeatedLines.{path_more, line_more, line_same, none_below, no_repeats_below, all_below}
 use Rattle.bag_read.proofs.repeats.repeated_lines.Goals as goal

@@ -1,9 +1,4 @@
-use Rattle.std.proofs.Common.{ℕ, List}
-use Rattle.std.specs.Prelude.{◌↔◌, IsTrue}
-use Rattle.std.specs.BTreeSet.{contains, contains_by}
-use Rattle.std.specs.Ordering.{nat_cmp}
-use Rattle.bag_text.specs.Text.{text_cmp}
-use Rattle.bag_read.specs.Repeats.{NamesBelow, RepeatsBelow}
+use Rattle.bag_read.proofs.Common.{ℕ, List, ◌↔◌, IsTrue, contains, contains_by, nat_cmp, text_cmp, NamesBelow, RepeatsBelow}
 use Rattle.bag_read.proofs.repeats.repeated_lines.Given as goal
 
 abbrev pub invariant-loop-entry : goal.invariant-loop-entry
