@@ -1,15 +1,7 @@
 -- Algorithms are told apart by their ranks and by their fields.
-use Rattle.std.proofs.Common.{◌≡◌, ◌≢◌, ℕ, nat_lt, Bool, true, false, not, List, Option, Some, None, bytes_eq, codes, sym, ap, ◌∙◌, refl, arith}
-use Rattle.std.specs.List.{list_all}
-use Rattle.std.proofs.lemmas.Bool.Decides.{nat_tests}
-use Rattle.std.proofs.lemmas.List.Elements.{All-contains}
+use Rattle.bag_facts.proofs.Common.{◌≡◌, ◌≢◌, ℕ, nat_lt, Bool, true, false, not, List, Option, Some, None, bytes_eq, codes, sym, ap, ◌∙◌, refl, arith, list_all, nat_tests, All-contains, bytes_eq-Decides, algs, name, rank, rank_or_zero, alg_named, Alg, each_is_listed, name_is_read_again, names_tell_apart, alg_field}
 use Rattle.std.proofs.lemmas.List.Sums.{AllPass-from_list_all}
-use Rattle.std.proofs.lemmas.Slice.Eq.{bytes_eq-Decides}
-use Rattle.bag_text.specs.Alg.{algs, name, rank, rank_or_zero, alg_named}
 use Rattle.bag_text.specs.AlgTable.{same_rank}
-use Rattle.bag_text.specs.declared.alg.Alg.{Alg}
-use Rattle.bag_text.proofs.AlgSets.{each_is_listed, name_is_read_again, names_tell_apart}
-use Rattle.bag_facts.specs.FaultLine.{alg_field}
 
 -- what all of the list pass, each algorithm passes
 pub each_alg : (test : Alg → Bool) → list_all test algs ≡ true → (alg : Alg) → test alg ≡ true

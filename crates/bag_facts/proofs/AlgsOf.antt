@@ -1,10 +1,5 @@
 -- Sets of algorithms that are made one algorithm after another.
-use Rattle.std.proofs.Common.{◌≡◌, ◌<◌, ◌≤◌, ◌↔◌, ◌⊎◌, inl, inr, ◌+◌, ◌++◌, ℕ, List, [], ◌∷◌, length, take, get_or, sym, subst, Contains}
-use Rattle.std.proofs.lemmas.List.{get_or_default, take_all}
-use Rattle.bag_text.specs.Alg.{algs}
-use Rattle.bag_text.specs.declared.alg.Alg.{Alg}
-use Rattle.bag_text.proofs.AlgSets.{each_is_listed}
-use Rattle.bag_text.proofs.ListOf.{contains_first, contains_front, contains_back, contains_nothing}
+use Rattle.bag_facts.proofs.Common.{arith, ◌≡◌, ◌<◌, ◌≤◌, ◌↔◌, ◌⊎◌, inl, inr, ◌+◌, ◌++◌, ℕ, List, [], ◌∷◌, length, take, get_or, sym, subst, Contains, get_or_default, take_all, algs, Alg, each_is_listed, contains_first, contains_front, contains_back, contains_nothing}
 use Rattle.bag_facts.proofs.Mapped.{take_one_more, taken_cases}
 
 module _ (P : Alg → Type 0) where
@@ -48,7 +43,4 @@ module _ (P : Alg → Type 0) where
 
   -- all of them
   pub all_algs : (i : ℕ) (set : List Alg) → length algs ≤ i → AreThose (take i algs) set → (alg : Alg) → Contains set alg ↔ P alg
-  all_algs i set le so_far alg = (
-    λ c. ((so_far alg).0 c).1,
-    λ h. (so_far alg).1 (subst (λ xs. Contains xs alg) (sym (take_all i algs le)) (each_is_listed alg), h),
-  )
+  all_algs i set le so_far alg = grind (arith, take_all i algs le, each_is_listed alg)

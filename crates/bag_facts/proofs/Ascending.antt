@@ -1,12 +1,6 @@
 -- An ascending list is determined by its members.
-use Rattle.std.proofs.Common.{◌≡◌, zero, suc, List, [], ◌∷◌, refl, sym, ap, subst, ◌∙◌, ◌⊎◌, inl, inr, ◌↔◌, true, arith, Contains}
-use Rattle.std.specs.declared.cmp.Ordering.{Ordering}
-use Rattle.std.specs.declared.cmp.Ordering.TheVariants.{Less, Equal, Greater}
-use Rattle.std.specs.Ordering.{ordering_reverse, is_eq, eq_by_cmp}
-use Rattle.std.specs.Cmp.{IsTotalOrder}
-use Rattle.std.specs.List.{AllByRecursion}
+use Rattle.bag_facts.proofs.Common.{◌≡◌, zero, suc, List, [], ◌∷◌, refl, sym, ap, subst, ◌∙◌, ◌⊎◌, inl, inr, ◌↔◌, true, arith, Contains, Ordering, Less, Equal, Greater, ordering_reverse, is_eq, eq_by_cmp, IsTotalOrder, AllByRecursion, OneOfThree}
 use Rattle.std.specs.List.Sorted.{IsStrictlySortedBy}
-use Rattle.bag_facts.specs.FaultOrder.{OneOfThree}
 
 less_not_greater : Less ≡ Greater → ⊥
 less_not_greater h = cc
@@ -58,11 +52,7 @@ module _ {A : Type 0} {R : A → A → Ordering} (total : IsTotalOrder R) where
   -- what is in the rest of one list is in the rest of the other
   rest_in : (x y : A) (xs ys : List A) → x ≡ y → AllByRecursion (λ z. R x z ≡ Less) xs → ((z : A) → Contains (x ∷ xs) z → Contains (y ∷ ys) z)
       → (z : A) → Contains xs z → Contains ys z
-  rest_in x y xs ys same above_x moves z has =
-      elim (member_of_cons y ys z (moves z (member_after x xs z has))) [
-        | inl is ↦ absurd (not_in_above x xs above_x (subst (Contains xs) (sym (same ∙ is)) has))
-        | inr later ↦ later
-      ]
+  rest_in x y xs ys same above_x moves z has = grind (arith, member_of_cons y ys z (moves z (member_after x xs z has)), member_after, not_in_above)
 
   pub same_lists : (xs ys : List A) → IsStrictlySortedBy R xs → IsStrictlySortedBy R ys
       → ((z : A) → Contains xs z → Contains ys z) → ((z : A) → Contains ys z → Contains xs z) → xs ≡ ys
@@ -88,12 +78,7 @@ module _ {A : Type 0} {R : A → A → Ordering} (total : IsTotalOrder R) where
   one_of x y Greater tied e = inr (inr (total.antisymm y x ∙ ap ordering_reverse e))
 
   pub one_of_three : ((x y : A) → R x y ≡ Equal → x ≡ y) → (x y : A) → OneOfThree (R x y ≡ Less) (x ≡ y) (R y x ≡ Less)
-  one_of_three tied x y = (
-    one_of x y (R x y) (tied x y) refl,
-    (λ h. not_less_than_itself x y h.1 h.0),
-    (λ h. not_both x y h.0 h.1),
-    (λ h. not_less_than_itself y x (sym h.0) h.1),
-  )
+  one_of_three tied x y = grind (arith, one_of, not_less_than_itself, not_both)
 
   pub equal_is_one : ((x y : A) → R x y ≡ Equal → x ≡ y) → (x y : A) → (eq_by_cmp R x y ≡ true) ↔ (x ≡ y)
   equal_is_one tied x y = (λ h. tied x y (tie_is (R x y) h), λ same. ap is_eq (subst (λ z. R x z ≡ Equal) same (self_ties x)))

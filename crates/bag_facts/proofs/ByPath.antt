@@ -1,22 +1,7 @@
 -- Lists in the order of a text of each item, which no two items share.
-use Rattle.std.proofs.Common.{◌≡◌, ◌≢◌, ℕ, ◌+◌, ◌<◌, ◌↔◌, inl, inr, false, List, [], ◌∷◌, length, get_or, map, is_lt, arith, refl, sym, ap, ◌∙◌, subst, Contains, IsTrue, Result, Ok, Err}
-use Rattle.std.specs.Result.{is_ok}
-use Rattle.std.specs.declared.cmp.Ordering.{Ordering}
-use Rattle.std.specs.declared.cmp.Ordering.TheVariants.{Less, Equal, Greater}
-use Rattle.std.specs.Ordering.{on, ordering_reverse, is_eq, eq_by_cmp}
-use Rattle.std.specs.Cmp.Lexicographic.{nat_list_cmp_total}
-use Rattle.std.specs.FinMap.{nat_cmp-IsAntisymmetric, slice_cmp-IsAntisymmetric}
-use Rattle.std.specs.List.Sorted.{IsPermutation, IsSortedByKey, IsStrictlySortedBy, IsBinarySearchResult, IsSearchInRange}
-use Rattle.std.specs.List.{IsDistinct}
-use Rattle.std.proofs.lemmas.Bool.{cases_lt}
-use Rattle.std.proofs.lemmas.Cmp.{on_total}
-use Rattle.std.proofs.lemmas.List.{get_or_default}
-use Rattle.std.proofs.lemmas.List.Sorted.{IsPermutation-sym, Contains-permutation, searchable_from_sorted}
+use Rattle.bag_facts.proofs.Common.{◌≡◌, ◌≢◌, ℕ, ◌+◌, ◌<◌, ◌↔◌, inl, inr, false, List, [], ◌∷◌, length, get_or, map, is_lt, arith, refl, sym, ap, ◌∙◌, subst, Contains, IsTrue, Result, Ok, Err, is_ok, Ordering, Less, Equal, Greater, on, ordering_reverse, is_eq, eq_by_cmp, nat_list_cmp_total, nat_cmp-IsAntisymmetric, slice_cmp-IsAntisymmetric, IsPermutation, IsSortedByKey, IsBinarySearchResult, IsSearchInRange, IsDistinct, cases_lt, on_total, get_or_default, IsPermutation-sym, Contains-permutation, searchable_from_sorted, IsListOf, each_from_members, member_has, text_cmp, tied_itself}
+use Rattle.std.specs.List.Sorted.{IsStrictlySortedBy}
 use Rattle.std.proofs.lemmas.Map.Keys.{IsDistinct-from_apart, IsDistinct-IsPermutation, apart_from_distinct, sorted_from_all_adjacent, Less-from_sorted}
-use Rattle.bag_text.specs.Order.{IsListOf}
-use Rattle.bag_text.proofs.ListOf.{each_from_members, member_has}
-use Rattle.bag_text.specs.Text.{text_cmp}
-use Rattle.std.specs.Cmp.{tied_itself}
 use Rattle.bag_facts.proofs.Mapped.{contains_mapped, mapped_contains}
 
 pub text_same : (a b : List ℕ) → text_cmp a b ≡ Equal → a ≡ b
@@ -96,10 +81,7 @@ module _ {A : Type 0} (key : A → List ℕ) where
   pub items_ascend : (xs : List A) → IsStrictlySortedBy text_cmp (map key xs) → IsStrictlySortedBy (on key text_cmp) xs
   unfolding IsStrictlySortedBy
   items_ascend [] s = tt
-  items_ascend (x ∷ xs) s = (
-    each_from_members _ xs (λ y c. member_has _ (map key xs) (key y) s.0 (mapped_contains key xs y c)),
-    items_ascend xs s.1,
-  )
+  items_ascend (x ∷ xs) s = (each_from_members _ xs (λ y c. member_has _ (map key xs) (key y) s.0 (mapped_contains key xs y c)), items_ascend xs s.1)
 
   -- a search finds a key exactly where it is there
   pub found : (xs : List A) (d : A) (text : List ℕ) (r : Result ℕ ℕ) → IsStrictlySortedBy (on key text_cmp) xs → IsSearchInRange r (length xs) → IsBinarySearchResult (λ y. text_cmp (key y) text) xs r

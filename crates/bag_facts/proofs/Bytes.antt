@@ -1,12 +1,6 @@
 -- The bytes of a text are bytes.
-use Rattle.std.proofs.Common.{◌≡◌, ℕ, ◌<◌, true, List, [], ◌∷◌, All, subst, arith, nat_lt}
-use Rattle.std.specs.Prelude.{IsUtf8}
+use Rattle.bag_facts.proofs.Common.{◌≡◌, ℕ, ◌<◌, true, List, [], ◌∷◌, All, subst, arith, nat_lt, IsUtf8, all_scalars, encode_utf8_all, cond_both, nat_tests, All-nil, All-cons, All-append, IsByte}
 use Rattle.std.specs.Char.{encode_utf8, IsScalar}
-use Rattle.std.specs.Str.{all_scalars, encode_utf8_all}
-use Rattle.std.proofs.lemmas.Bool.{cond_both}
-use Rattle.std.proofs.lemmas.Bool.Decides.{nat_tests}
-use Rattle.std.proofs.lemmas.List.Elements.{All-nil, All-cons, All-append}
-use Rattle.percent_encoding.proofs.PercentLemmas.{IsByte}
 
 last_scalar : (c : ℕ) → IsScalar c → c < 1114112
 last_scalar c s = grind (arith, nat_tests)
@@ -28,12 +22,7 @@ below c n h = grind (arith, nat_tests)
 
 char_bytes : (c : ℕ) → IsScalar c → All IsByte (encode_utf8 c)
 unfolding encode_utf8
-char_bytes c s =
-    let last = last_scalar c s in
-    cond_both (nat_lt c 128) _ _ (All IsByte) (λ h. let b = below c 128 h in one _ (omega arith))
-    (λ _. cond_both (nat_lt c 2048) _ _ (All IsByte) (λ h. let b = below c 2048 h in two _ _ (omega arith) (omega arith))
-    (λ _. cond_both (nat_lt c 65536) _ _ (All IsByte) (λ h. let b = below c 65536 h in three _ _ _ (omega arith) (omega arith) (omega arith))
-    (λ _. four _ _ _ _ (omega arith) (omega arith) (omega arith) (omega arith))))
+char_bytes c s = grind (arith, last_scalar, cond_both, nat_lt, below, one, two, three, four)
 
 text_bytes : (cs : List ℕ) → all_scalars cs ≡ true → All IsByte (encode_utf8_all cs)
 text_bytes [] s = All-nil IsByte

@@ -1,11 +1,7 @@
 -- Codes are told apart by their numbers.
-use Rattle.std.proofs.Common.{◌≡◌, ◌<◌, List, [], ◌∷◌, Bool, true, false, cond, subst, Option, Some, refl, sym, ap, ◌∙◌, find, unwrap_or, ◌==◌, nat_lt, not, arith}
-use Rattle.std.specs.List.{list_all}
-use Rattle.std.proofs.lemmas.Bool.Decides.{nat_tests}
-use Rattle.std.proofs.lemmas.Bool.{and_parts}
-use Rattle.bag_text.specs.Code.{number, word, all_codes}
+use Rattle.bag_facts.proofs.Common.{◌≡◌, ◌<◌, List, [], ◌∷◌, Bool, true, false, cond, subst, Option, Some, refl, sym, ap, ◌∙◌, unwrap_or, ◌==◌, nat_lt, not, arith, list_all, nat_tests, and_parts, number, word, all_codes, Code}
+use Rattle.std.proofs.Common.{find}
 use Rattle.bag_text.proofs.Codes.{code_numbered, numbered_code}
-use Rattle.bag_text.specs.declared.code.Code.{Code}
 
 pub same_some : {A : Type 0} (x y : A) → Some x ≡ Some y → x ≡ y
 same_some x y e = ap (λ o. unwrap_or o x) e

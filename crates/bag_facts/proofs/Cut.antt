@@ -1,8 +1,5 @@
 -- Cutting a text back to what it was.
-use Rattle.std.proofs.Common.{◌≡◌, ℕ, ◌≤◌, List, length, take, true, Result, Ok, Err, sym, subst}
-use Rattle.std.specs.Prelude.{OnErr, is_err, IsUtf8}
-use Rattle.std.specs.Str.{IsCharBoundary}
-use Rattle.std.proofs.lemmas.Str.{IsCharBoundary-from_take}
+use Rattle.bag_facts.proofs.Common.{◌≡◌, ℕ, ◌≤◌, List, length, take, true, Result, Ok, Err, sym, subst, OnErr, is_err, IsUtf8, IsCharBoundary, IsCharBoundary-from_take}
 
 -- what a failed call says
 pub at_failure : {T E : Type 0} {P : Type 0} (r : Result T E) → is_err r ≡ true → OnErr r P → P

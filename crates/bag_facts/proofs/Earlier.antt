@@ -1,14 +1,5 @@
 -- Faults of earlier reports keep their order and their lines.
-use Rattle.std.proofs.Common.{◌≡◌, ℕ, ◌<◌, List, [], ◌∷◌, Option, Some, None, refl, ap, ◌∙◌, arith, decimal}
-use Rattle.std.specs.List.{join_with_byte}
-use Rattle.std.specs.declared.cmp.Ordering.{Ordering}
-use Rattle.std.specs.Ordering.{nat_cmp, ordering_then}
-use Rattle.bag_text.specs.Text.{text_cmp}
-use Rattle.bag_text.specs.Alg.{name, rank, rank_or_zero}
-use Rattle.bag_text.specs.Code.{number, word, stage}
-use Rattle.bag_text.specs.declared.alg.Alg.{Alg}
-use Rattle.bag_text.specs.declared.alg.Alg.TheVariants.{Sha224, Sha384}
-use Rattle.bag_facts.specs.FaultLine.{field, alg_field, line_field}
+use Rattle.bag_facts.proofs.Common.{◌≡◌, ◌<◌, Option, Some, None, refl, arith, decimal, nat_cmp, name, rank, rank_or_zero, Alg, Sha224, Sha384, alg_field}
 use Rattle.bag_facts.specs.EarlierReports.{earlier_rank, earlier_name, earlier_rank_or_zero, earlier_alg_field, EarlierFaultsKeepTheirOrder, EarlierLinesKeepTheirFaults}
 
 same_name : (alg : Alg) → 0 < earlier_rank alg → name alg ≡ earlier_name alg
@@ -45,16 +36,7 @@ same_place (Some a) None was was_too = none_behind a (was a refl)
 same_place (Some a) (Some b) was was_too = same_order a b (was a refl) (was_too b refl)
 
 pub earlier_faults_keep_their_order : EarlierFaultsKeepTheirOrder
-earlier_faults_keep_their_order f g was was_too =
-    let stages : Ordering = nat_cmp (stage f.code) (stage g.code) in
-    let paths : Ordering = text_cmp f.path g.path in
-    let lines : Ordering = nat_cmp f.line g.line in
-    let numbers : Ordering = nat_cmp (number f.code) (number g.code) in
-    let details : Ordering = text_cmp f.detail g.detail in
-    ap (λ algs. ordering_then (ordering_then (ordering_then (ordering_then (ordering_then stages paths) algs) lines) numbers) details) (same_place f.alg g.alg was was_too)
+earlier_faults_keep_their_order f g was was_too = grind (arith, same_place)
 
 pub earlier_lines_keep_their_faults : EarlierLinesKeepTheirFaults
-earlier_lines_keep_their_faults line f was = record {
-  fault = was.fault;
-  text = ap (λ alg. join_with_byte 32 (decimal (number f.code) ∷ word f.code ∷ field f.path ∷ alg ∷ line_field f.line ∷ field f.detail ∷ [])) (same_field f.alg was.earlier) ∙ was.text;
-}
+earlier_lines_keep_their_faults line f was = grind (arith, decimal, same_field)

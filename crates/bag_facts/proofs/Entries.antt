@@ -1,25 +1,11 @@
 -- The entries of a manifest, as it was read and as they are found.
-use Rattle.std.proofs.Common.{◌≡◌, ◌≢◌, ◌<◌, ◌≤◌, ℕ, List, [], Bool, true, false, Option, None, Some, MatchOption, Bor, refl, ap, sym, ◌∙◌, subst, ◌↔◌, Contains, IsTrue, Result, Err, length, get_or, arith}
-use Rattle.std.specs.List.{HoldsAt}
-use Rattle.std.specs.Option.{is_some, option_copied}
-use Rattle.std.specs.Result.{is_ok}
-use Rattle.std.specs.Cmp.{nat_cmp_total, tied_itself}
-use Rattle.std.specs.List.Sorted.{IsPermutation, IsSortedByKey, IsBinarySearchResult, IsSearchInRange}
-use Rattle.std.specs.Ordering.{nat_cmp, on}
-use Rattle.std.specs.Str.{is_utf8}
-use Rattle.std.specs.declared.cmp.Ordering.TheVariants.{Less, Equal}
-use Rattle.bag_text.specs.Text.{text_cmp}
+use Rattle.bag_facts.proofs.Common.{◌≡◌, ◌≢◌, ◌<◌, ◌≤◌, ℕ, List, [], Bool, true, false, Option, None, Some, Bor, refl, ap, sym, ◌∙◌, subst, ◌↔◌, Contains, IsTrue, Result, Err, length, get_or, arith, HoldsAt, option_copied, is_ok, nat_cmp_total, tied_itself, IsPermutation, IsSortedByKey, IsBinarySearchResult, IsSearchInRange, nat_cmp, on, is_utf8, Less, Equal, text_cmp, IsListOf, Rules, Alg, LineFault, AreFaults, IsEntry, IsManifestFault, IsManifestOf, AreByPath, entry_paths, AreEntriesOf, IsManifestNamed, IsReadOf}
+use Rattle.std.proofs.Common.{MatchOption}
+use Rattle.std.specs.Option.{is_some}
 use Rattle.bag_text.specs.Lines.{lines_of_file}
-use Rattle.bag_text.specs.Order.{IsListOf}
-use Rattle.bag_text.specs.declared.rules.Rules.{Rules}
-use Rattle.bag_text.specs.declared.alg.Alg.{Alg}
 use Rattle.bag_read.specs.declared.kind.Kind.{Kind}
-use Rattle.bag_read.specs.declared.line_fault.LineFault.{LineFault}
 use Rattle.bag_read.specs.declared.manifest.ManifestEntry.{ManifestEntry}
-use Rattle.bag_read.specs.LineFault.{AreFaults}
-use Rattle.bag_read.specs.Manifest.{IsEntry, IsManifestFault}
 use Rattle.bag_read.proofs.ManifestEntries.{entry_of_path_once}
-use Rattle.bag_facts.specs.TagFacts.{IsManifestOf, AreByPath, entry_paths, AreEntriesOf, IsManifestNamed, IsReadOf}
 use Rattle.bag_facts.proofs.ByPath.{sorted_once, found, text_same}
 use Rattle.bag_facts.proofs.Mapped.{mapped_contains}
 use Rattle.bag_facts.specs.declared.tag_facts.Manifest.{Manifest}
@@ -71,9 +57,7 @@ module _ (rules : Rules) (kind : Kind) (alg : Alg) where
   -- one that is there
   pub entries_read : (content : Option (List ℕ)) (m : Manifest) → IsReadOf (IsManifestNamed rules kind alg) content (Some m) → AreEntriesOf rules kind alg content m.entries
   entries_read None m read = absurd read
-  entries_read (Some bytes) m read =
-      subst (λ a. IsListOf (on (λ e. e.path) text_cmp) (IsEntry rules kind a (lines_of_file bytes)) m.entries) read.2
-      (subst (λ k. IsListOf (on (λ e. e.path) text_cmp) (IsEntry rules k m.alg (lines_of_file bytes)) m.entries) read.1 read.0.entries)
+  entries_read (Some bytes) m read = grind arith
 
   -- one that isn't there
   pub nothing_read : (content : Option (List ℕ)) → IsReadOf (IsManifestNamed rules kind alg) content None → AreEntriesOf rules kind alg content []

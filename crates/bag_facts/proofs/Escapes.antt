@@ -1,13 +1,9 @@
 -- The escapes of a field.
-use Rattle.std.proofs.Common.{◌≡◌, ℕ, ◌||◌, ◌==◌, Bool, true, false, not, cond, length, List, [], ◌∷◌, ◌++◌, refl, ap, ◌∙◌, nat_lt, arith, codes}
+use Rattle.bag_facts.proofs.Common.{◌≡◌, ℕ, ◌||◌, ◌==◌, Bool, true, false, not, cond, length, List, [], ◌∷◌, ◌++◌, refl, ap, ◌∙◌, nat_lt, arith, codes, agree_below, agree_below_at, nat_tests, contains, percent_encode_byte, encode_byte, ESCAPED, is_encoded, encoded, field}
 use Rattle.std.specs.Str.{bytes_eq}
 use Rattle.std.specs.List.{flat_map}
-use Rattle.std.proofs.lemmas.Bool.{agree_below, agree_below_at}
-use Rattle.std.proofs.lemmas.Bool.Decides.{nat_tests}
-use Rattle.percent_encoding.specs.AsciiSet.{contains, should_percent_encode}
-use Rattle.percent_encoding.specs.Percent.{percent_encode, percent_encode_byte, encode_byte}
-use Rattle.bag_facts.specs.declared.fault.TheConstants.{ESCAPED}
-use Rattle.bag_facts.specs.FaultLine.{is_encoded, encoded, field}
+use Rattle.percent_encoding.specs.AsciiSet.{should_percent_encode}
+use Rattle.percent_encoding.specs.Percent.{percent_encode}
 
 table : agree_below (contains ESCAPED) is_encoded 128 ≡ true
 table = refl
@@ -31,9 +27,7 @@ same_escapes (b ∷ bs) = ap (λ front. front ++ flat_map (encode_byte ESCAPED) 
 
 -- a text that is neither empty nor a hyphen
 pub other_field : (t : List ℕ) → bytes_eq t [] ≡ false → bytes_eq t (codes "-") ≡ false → field t ≡ flat_map encoded t
-other_field t some other =
-    ap (λ b. cond b (codes "-") (cond (bytes_eq t (codes "-")) (codes "%2D") (flat_map encoded t))) some
-    ∙ ap (λ b. cond b (codes "%2D") (flat_map encoded t)) other
+other_field t some other = grind arith
 
 pub nonempty : (t : List ℕ) → (length t == 0) ≡ false → bytes_eq t [] ≡ false
 nonempty [] e = cc

@@ -1,22 +1,6 @@
 -- What was read is what is known of a bag.
-use Rattle.std.proofs.Common.{◌≡◌, List, map, length, Some, sym, ap, ◌∙◌, subst, Contains}
+use Rattle.bag_facts.proofs.Common.{arith, ◌≡◌, List, map, length, Some, sym, ap, ◌∙◌, subst, Contains, text_cmp, IsListOf, same_members, tag_path, Bag, IsBag, file, HasFile, IsOrdered, HasItsFolder, IsListingOf, size_at, TreeState, Keeps, FileEntry, Listing, AreJudged, IsFactsOf, Says, AreTexts, IsWhole, read_path, IsWanted, AreWanted, paths_of, Facts, Options, TagBytes}
 use Rattle.std.specs.Prelude.{IsTrue}
-use Rattle.bag_text.specs.Text.{text_cmp}
-use Rattle.bag_text.specs.Order.{IsListOf}
-use Rattle.bag_text.proofs.ListOf.{same_members}
-use Rattle.bag_read.specs.TagName.{tag_path}
-use Rattle.bag_tree.specs.Bag.{Bag, IsBag, file, HasFile}
-use Rattle.bag_tree.specs.Listing.{IsOrdered, HasItsFolder, IsListingOf, size_at}
-use Rattle.bag_tree.specs.Tree.{TreeState, Keeps}
-use Rattle.bag_tree.specs.declared.listing.FileEntry.{FileEntry}
-use Rattle.bag_tree.specs.declared.listing.Listing.{Listing}
-use Rattle.bag_facts.specs.Facts.{AreJudged, IsFactsOf}
-use Rattle.bag_facts.specs.TagFacts.{Says}
-use Rattle.bag_facts.specs.TagReader.{AreTexts, IsWhole, read_path}
-use Rattle.bag_facts.specs.Wanted.{IsWanted, AreWanted, paths_of}
-use Rattle.bag_facts.specs.declared.facts.Facts.{Facts}
-use Rattle.bag_facts.specs.declared.options.Options.{Options}
-use Rattle.bag_facts.specs.declared.tag_reader.TagBytes.{TagBytes}
 use Rattle.bag_facts.proofs.ListedFiles.{file_listed, listed_file}
 use Rattle.bag_facts.proofs.Parsed.{same_paths, parsed_from}
 use Rattle.bag_facts.proofs.RulesRead.{rules_known}
@@ -46,17 +30,12 @@ known bag facts read ordered listing judged wanted are =
 module _ (facts : Facts) (options : Options) (listing : Listing) (files : List FileEntry) (read : List TagBytes) (options_are : facts.options ≡ options) (listing_is : facts.listing ≡ listing)
     (files_are : files ≡ listing.files) (ordered : IsOrdered listing.files) (judged : AreJudged read facts.tags) (wanted : AreWanted options files (map read_path read)) where
   pub known_of : (bag : Bag) → IsListingOf bag listing → ((one : TagBytes) → Contains read one → file bag (read_path one) ≡ Some one.bytes.items) → IsFactsOf bag facts
-  known_of bag listed are =
-      known bag facts read (subst (λ (l : Listing). IsOrdered l.files) (sym listing_is) ordered) (subst (IsListingOf bag) (sym listing_is) listed) judged
-      (subst (λ chosen. AreWanted chosen facts.listing.files (map read_path read)) (sym options_are)
-      (subst (λ some. AreWanted options some (map read_path read)) (files_are ∙ sym (ap (λ (l : Listing). l.files) listing_is)) wanted))
-      are
+  known_of bag listed are = grind (arith, known)
 
   -- over an honest tree they are of its bag
   pub known_honest : (old mid : TreeState) → Keeps old mid → (IsTrue old.honest → IsListingOf old.bag listing) → ((one : TagBytes) → Contains read one → IsWhole files mid one)
       → IsTrue old.honest → IsFactsOf old.bag facts
-  known_honest old mid k listed whole honest =
-      known_of old.bag (listed honest) (λ one c. subst (λ bag. file bag (read_path one) ≡ Some one.bytes.items) k.bag ((whole one c).bytes (k.honest ∙ honest)))
+  known_honest old mid k listed whole honest = grind (arith, known_of)
 
   -- over any tree they are of some bag
   pub known_seen : (mid : TreeState) → HasItsFolder listing → AreTexts files → ((one : TagBytes) → Contains read one → IsWhole files mid one) → (bag : Bag) × IsBag bag × IsFactsOf bag facts

@@ -4,6 +4,7 @@ pub mod Ascending
 pub mod ByPath
 pub mod Bytes
 pub mod Codes
+pub mod Common
 pub mod Cut
 pub mod Earlier
 pub mod Entries

@@ -1,15 +1,6 @@
 -- The fields of a line are read back as what they were written from.
-use Rattle.std.proofs.Common.{◌≡◌, ◌≢◌, ℕ, ◌<◌, ◌^◌, ◌==◌, Bool, true, false, cond, List, [], All, codes, sym, subst, refl, ap, ◌∙◌, arith, bytes_eq, decimal, flat_map, get_or, zero, suc}
-use Rattle.std.specs.Prelude.{IsUtf8}
-use Rattle.std.proofs.lemmas.Bool.Decides.{nat_tests}
-use Rattle.std.proofs.lemmas.Slice.Eq.{bytes_eq-Decides}
-use Rattle.std.proofs.lemmas.Fmt.{decimal_injective, first_decimal}
+use Rattle.bag_facts.proofs.Common.{◌≡◌, ◌≢◌, ℕ, ◌<◌, ◌^◌, ◌==◌, Bool, true, false, cond, List, [], All, codes, sym, subst, refl, ap, ◌∙◌, arith, bytes_eq, decimal, flat_map, get_or, zero, suc, IsUtf8, nat_tests, bytes_eq-Decides, decimal_injective, first_decimal, IsByte, round_trip, Code, number, word, ESCAPED, encoded, field, alg_field, line_field, LinesTellFaultsApart}
 use Rattle.percent_encoding.specs.Percent.{percent_decode}
-use Rattle.percent_encoding.proofs.PercentLemmas.{IsByte, round_trip}
-use Rattle.bag_text.specs.declared.code.Code.{Code}
-use Rattle.bag_text.specs.Code.{number, word}
-use Rattle.bag_facts.specs.declared.fault.TheConstants.{ESCAPED}
-use Rattle.bag_facts.specs.FaultLine.{encoded, field, alg_field, line_field, LinesTellFaultsApart}
 use Rattle.bag_facts.proofs.Algs.{same_alg_field}
 use Rattle.bag_facts.proofs.Bytes.{utf8_bytes}
 use Rattle.bag_facts.proofs.Codes.{small_number, same_code}
@@ -51,8 +42,7 @@ unfield_at w t other read = ap (λ b. cond b [] (percent_decode w)) (differ_at w
 unfield_field_at : (t : List ℕ) (b c : Bool) → bytes_eq t [] ≡ b → bytes_eq t (codes "-") ≡ c → All IsByte t → unfield (field t) ≡ t
 unfield_field_at t true c e f small = subst (λ x. unfield (field x) ≡ x) (sym (equal_texts t [] e)) refl
 unfield_field_at t false true e f small = subst (λ x. unfield (field x) ≡ x) (sym (equal_texts t (codes "-") f)) dash_decoded
-unfield_field_at t false false e f small =
-    ap unfield (other_field t e f) ∙ unfield_at (flat_map encoded t) t (not_dash t small (other_texts t (codes "-") f)) (decoded t small)
+unfield_field_at t false false e f small = grind (arith, other_field, unfield_at, flat_map, not_dash, other_texts, decoded)
 
 pub unfield_field : (t : List ℕ) → IsUtf8 t → unfield (field t) ≡ t
 unfield_field t u = unfield_field_at t _ _ refl refl (utf8_bytes t u)
@@ -87,10 +77,7 @@ decimal_written zero w e other = absurd (other_texts w (codes "-") other (sym e)
 decimal_written (suc n) w e other = sym e ∙ line_field_is n
 
 pub same_number : (c d : Code) → decimal (number c) ≡ decimal (number d) → c ≡ d
-same_number c d e =
-    let p = small_number c in
-    let q = small_number d in
-    same_code c d (decimal_injective (number c) (number d) (omega arith) (omega arith) e)
+same_number c d e = grind (arith, small_number, same_code, decimal_injective)
 
 pub same_field : (s t : List ℕ) → IsUtf8 s → IsUtf8 t → field s ≡ field t → s ≡ t
 same_field s t p q e = sym (unfield_field s p) ∙ ap unfield e ∙ unfield_field t q

@@ -1,24 +1,11 @@
 -- The files of a listing.
-use Rattle.std.proofs.Common.{◌≡◌, ◌∷◌, inl, inr, ℕ, List, [], length, Option, None, Some, Bool, true, false, cond, refl, sym, ap, ◌∙◌, subst, is_some, map, Contains, bytes_eq}
-use Rattle.std.specs.Option.{option_map}
+use Rattle.bag_facts.proofs.Common.{arith, ◌≡◌, ◌∷◌, inl, inr, ℕ, List, [], Option, None, Some, Bool, true, false, cond, refl, sym, ap, ◌∙◌, subst, is_some, map, Contains, bytes_eq, option_map, tied_itself, nat_list_cmp_total, Less, Equal, bytes_eq-Decides, text_cmp, contains_cases, contains_first, contains_behind, contains_nothing, member_has, Bag, file, HasFile, entry_at, size_at, FileEntry, AreListed, paths_of}
 use Rattle.std.specs.List.{find}
 use Rattle.std.specs.List.Sorted.{IsStrictlySortedBy}
-use Rattle.std.specs.Cmp.{tied_itself}
-use Rattle.std.specs.Cmp.Lexicographic.{nat_list_cmp_total}
-use Rattle.std.specs.declared.cmp.Ordering.TheVariants.{Less, Equal}
-use Rattle.std.proofs.lemmas.Slice.Eq.{bytes_eq-Decides}
-use Rattle.bag_text.specs.Text.{text_cmp}
-use Rattle.bag_text.proofs.ListOf.{contains_cases, contains_first, contains_behind, contains_nothing, member_has}
-use Rattle.bag_tree.specs.Bag.{Bag, file, HasFile}
-use Rattle.bag_tree.specs.Listing.{entry_at, size_at}
-use Rattle.bag_tree.specs.declared.listing.FileEntry.{FileEntry}
-use Rattle.bag_facts.specs.TagReader.{AreListed}
-use Rattle.bag_facts.specs.Wanted.{paths_of}
 use Rattle.bag_facts.proofs.Mapped.{mapped_contains}
 
 not_itself : (p q : List ℕ) → text_cmp p q ≡ Less → p ≡ q → ⊥
-not_itself p q less same =
-    let clash : Less ≡ Equal = sym less ∙ sym (ap (text_cmp p) same) ∙ tied_itself nat_list_cmp_total p in cc
+not_itself p q less same = let clash : Less ≡ Equal = sym less ∙ sym (ap (text_cmp p) same) ∙ tied_itself nat_list_cmp_total p in cc
 
 -- the first item with this text is the one that has it, where the texts of the items ascend
 module _ {A : Type 0} (key : A → List ℕ) where
@@ -39,9 +26,7 @@ module _ {A : Type 0} (key : A → List ℕ) where
 
   found_by : (b : Bool) (x y : A) (xs : List A) (q : List ℕ) → bytes_eq (key x) q ≡ b → (item_at xs q ≡ Some y → Contains xs y × (key y ≡ q)) → cond b (Some x) (item_at xs q) ≡ Some y
       → Contains (x ∷ xs) y × (key y ≡ q)
-  found_by true x y xs q same rest is =
-      let here : x ≡ y = cc in
-      (subst (Contains (x ∷ xs)) here (contains_first x xs), sym (ap key here) ∙ (bytes_eq-Decides (key x) q).0 same)
+  found_by true x y xs q same rest is = grind (arith, contains_first, bytes_eq-Decides)
   found_by false x y xs q same rest is = (contains_behind x xs y (rest is).0, (rest is).1)
 
   -- an item that is found is there, and has the text
@@ -65,10 +50,7 @@ listed_path (e ∷ files) path h = listed_by e files path (bytes_eq e.path path)
 some_by : (e : FileEntry) (files : List FileEntry) (path : List ℕ) (b : Bool) → bytes_eq e.path path ≡ b → (Contains (paths_of files) path → is_some (entry_at files path) ≡ true)
     → Contains (paths_of (e ∷ files)) path → is_some (cond b (Some e) (entry_at files path)) ≡ true
 some_by e files path true same rest c = refl
-some_by e files path false same rest c = elim (contains_cases e.path (paths_of files) path c) [
-  | inl is ↦ let clash : false ≡ true = sym same ∙ (bytes_eq-Decides e.path path).1 is in cc
-  | inr d ↦ rest d
-]
+some_by e files path false same rest c = grind (arith, contains_cases, bytes_eq-Decides)
 
 path_listed : (files : List FileEntry) (path : List ℕ) → Contains (paths_of files) path → is_some (entry_at files path) ≡ true
 path_listed [] path c = absurd (contains_nothing path c)
@@ -79,8 +61,7 @@ some_mapped f None = refl
 some_mapped f (Some x) = refl
 
 there : (bag : Bag) (files : List FileEntry) → AreListed bag files → (path : List ℕ) → is_some (entry_at files path) ≡ is_some (file bag path)
-there bag files listed path =
-    sym (some_mapped (λ (entry : FileEntry). entry.size) (entry_at files path)) ∙ ap is_some (listed path) ∙ some_mapped length (file bag path)
+there bag files listed path = grind (arith, some_mapped)
 
 -- a file of the bag is listed
 pub file_listed : (bag : Bag) (files : List FileEntry) (path : List ℕ) → AreListed bag files → HasFile bag path → Contains (paths_of files) path

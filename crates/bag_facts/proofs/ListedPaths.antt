@@ -1,20 +1,8 @@
 -- A search among listed files, and the manifests that are listed.
-use Rattle.std.proofs.Common.{◌≡◌, ◌↔◌, ℕ, List, [], Bool, length, bytes_eq, subst, sym, ◌∙◌, Contains, IsTrue, Result}
-use Rattle.std.proofs.lemmas.Slice.Eq.{bytes_eq-Decides}
-use Rattle.std.specs.List.{list_any}
-use Rattle.std.specs.Result.{is_ok}
-use Rattle.std.specs.List.Sorted.{IsStrictlySortedBy, IsBinarySearchResult, IsSearchInRange}
-use Rattle.bag_text.specs.Text.{text_cmp}
-use Rattle.bag_tree.specs.Bag.{Bag, HasFile}
-use Rattle.bag_tree.specs.Listing.{IsOrdered}
-use Rattle.bag_tree.specs.declared.listing.FileEntry.{FileEntry}
-use Rattle.bag_facts.specs.Facts.{IsFactsOf}
-use Rattle.bag_facts.specs.Wanted.{paths_of}
-use Rattle.bag_facts.specs.declared.facts.Facts.{Facts}
+use Rattle.bag_facts.proofs.Common.{◌≡◌, ◌↔◌, ℕ, List, [], Bool, length, bytes_eq, subst, sym, ◌∙◌, Contains, IsTrue, Result, bytes_eq-Decides, list_any, is_ok, IsStrictlySortedBy, IsBinarySearchResult, IsSearchInRange, text_cmp, Bag, HasFile, IsOrdered, FileEntry, IsFactsOf, paths_of, Facts, any_from, from_any}
 use Rattle.bag_facts.proofs.ByPath.{found, items_ascend}
 use Rattle.bag_facts.proofs.ListedFiles.{file_listed, listed_file}
 use Rattle.bag_facts.proofs.Mapped.{contains_mapped, mapped_contains}
-use Rattle.bag_read.proofs.PickedOut.{any_from, from_any}
 
 some_file : FileEntry
 some_file = record { path = []; size = 0 }
@@ -22,8 +10,7 @@ some_file = record { path = []; size = 0 }
 -- a search by path tells whether a file has it
 pub path_found : (files : List FileEntry) (path : List ℕ) (r : Result ℕ ℕ) (b : Bool) → b ≡ is_ok r → IsStrictlySortedBy text_cmp (paths_of files) → IsSearchInRange r (length files)
     → IsBinarySearchResult (λ e. text_cmp e.path path) files r → IsTrue b ↔ Contains (paths_of files) path
-path_found files path r b ok ascending within at =
-    rw ok (found (λ e. e.path) files some_file path r (items_ascend (λ e. e.path) files ascending) within at)
+path_found files path r b ok ascending within at = rw ok (found (λ e. e.path) files some_file path r (items_ascend (λ e. e.path) files ascending) within at)
 
 -- so it tells whether a bag has the file
 pub bag_has : (bag : Bag) (known : Facts) (files : List FileEntry) (path : List ℕ) (b : Bool) → IsFactsOf bag known → files ≡ known.listing.files

@@ -1,7 +1,5 @@
 -- Members of a mapped list, of a filtered one, and the first items of a list.
-use Rattle.std.proofs.Common.{◌≡◌, ◌<◌, ◌⊎◌, inl, inr, ℕ, zero, suc, ◌+◌, List, [], ◌∷◌, ◌++◌, map, length, take, get_or, Bool, true, false, Contains, refl, ap, sym, ◌∙◌, subst, cond, arith, add-one}
-use Rattle.std.specs.List.{filter}
-use Rattle.bag_text.proofs.ListOf.{contains_cases, contains_first, contains_behind, contains_nothing, contains_either}
+use Rattle.bag_facts.proofs.Common.{◌≡◌, ◌<◌, ◌⊎◌, inl, inr, ℕ, zero, suc, ◌+◌, List, [], ◌∷◌, ◌++◌, map, length, take, get_or, Bool, true, false, Contains, refl, ap, sym, subst, cond, arith, add-one, filter, contains_cases, contains_first, contains_behind, contains_nothing, contains_either}
 
 pub mapped_contains : {A B : Type 0} (g : A → B) (xs : List A) (x : A) → Contains xs x → Contains (map g xs) (g x)
 mapped_contains g [] x c = absurd (contains_nothing x c)
@@ -20,10 +18,7 @@ contains_mapped g (x ∷ xs) y c = elim (contains_cases (g x) (map g xs) y c) [
 module _ {A : Type 0} (p : A → Bool) where
   kept_by : (b : Bool) (y : A) (xs : List A) (x : A) → p y ≡ b → (Contains (filter p xs) x → (p x ≡ true) × Contains xs x)
       → Contains (cond b (y ∷ filter p xs) (filter p xs)) x → (p x ≡ true) × Contains (y ∷ xs) x
-  kept_by true y xs x is rest c = elim (contains_cases y (filter p xs) x c) [
-    | inl e ↦ (subst (λ z. p z ≡ true) e is, subst (Contains (y ∷ xs)) e (contains_first y xs))
-    | inr d ↦ ((rest d).0, contains_behind y xs x (rest d).1)
-  ]
+  kept_by true y xs x is rest c = grind (arith, contains_cases, contains_first, contains_behind)
   kept_by false y xs x is rest c = ((rest c).0, contains_behind y xs x (rest c).1)
 
   -- what a filter keeps passes it, and was there
@@ -33,14 +28,8 @@ module _ {A : Type 0} (p : A → Bool) where
 
   passed_by : (b : Bool) (y : A) (xs : List A) (x : A) → p y ≡ b → p x ≡ true → (Contains xs x → Contains (filter p xs) x)
       → Contains (y ∷ xs) x → Contains (cond b (y ∷ filter p xs) (filter p xs)) x
-  passed_by true y xs x is passes rest c = elim (contains_cases y xs x c) [
-    | inl e ↦ subst (Contains (y ∷ filter p xs)) e (contains_first y (filter p xs))
-    | inr d ↦ contains_behind y (filter p xs) x (rest d)
-  ]
-  passed_by false y xs x is passes rest c = elim (contains_cases y xs x c) [
-    | inl e ↦ (let clash : false ≡ true = sym is ∙ ap p e ∙ passes in cc)
-    | inr d ↦ rest d
-  ]
+  passed_by true y xs x is passes rest c = grind (arith, contains_cases, contains_first, contains_behind)
+  passed_by false y xs x is passes rest c = grind (arith, contains_cases)
 
   -- what was there and passes is kept
   pub passed : (xs : List A) (x : A) → p x ≡ true → Contains xs x → Contains (filter p xs) x

@@ -1,16 +1,7 @@
 -- The files that were opened.
-use Rattle.std.proofs.Common.{◌≡◌, ◌++◌, ◌∷◌, ℕ, List, [], sym, ap, ◌∙◌, subst, append-nil}
+use Rattle.bag_facts.proofs.Common.{arith, ◌≡◌, ◌++◌, ◌∷◌, ℕ, List, [], sym, ap, ◌∙◌, subst, append-nil, AllByRecursion, All-nil, All-cons, text_cmp, each_from_members, member_has, contains_front, TreeState, FileEntry, IsWanted, AreWanted, OpensAll, OpensFirst, OpensUpTo, OpensWanted, Options}
 use Rattle.std.specs.Prelude.{All}
-use Rattle.std.specs.List.{AllByRecursion}
 use Rattle.std.specs.List.Sorted.{IsStrictlySortedBy}
-use Rattle.std.proofs.lemmas.List.Elements.{All-nil, All-cons}
-use Rattle.bag_text.specs.Text.{text_cmp}
-use Rattle.bag_text.proofs.ListOf.{each_from_members, member_has, contains_front}
-use Rattle.bag_tree.specs.Tree.{TreeState}
-use Rattle.bag_tree.specs.Whole.{IsRefusedAt}
-use Rattle.bag_tree.specs.declared.listing.FileEntry.{FileEntry}
-use Rattle.bag_facts.specs.Wanted.{IsWanted, AreWanted, OpensAll, OpensFirst, OpensUpTo, OpensWanted}
-use Rattle.bag_facts.specs.declared.options.Options.{Options}
 
 pub all_along : {A : Type 0} (P : A → Type 0) (xs : List A) → AllByRecursion P xs → All P xs
 all_along P [] h = All-nil P
@@ -54,9 +45,4 @@ opened_wanted options files old mid new paths e are o =
 
 pub opens_up_to_later : (options : Options) (files : List FileEntry) (path : List ℕ) (old mid new : TreeState) → mid.openings ≡ old.openings → OpensUpTo options files path mid new
     → OpensUpTo options files path old new
-opens_up_to_later options files path old mid new e o = (
-  o.0,
-  o.1,
-  o.2,
-  subst (λ all. IsRefusedAt (all ++ o.0) path new) e o.3,
-)
+opens_up_to_later options files path old mid new e o = grind arith

@@ -1,16 +1,5 @@
 -- The order of faults.
-use Rattle.std.proofs.Common.{◌≡◌, refl}
-use Rattle.std.specs.declared.cmp.Ordering.{Ordering}
-use Rattle.std.specs.declared.cmp.Ordering.TheVariants.{Less, Equal, Greater}
-use Rattle.std.specs.Ordering.{ordering_then}
-use Rattle.std.specs.Cmp.{IsTotalOrder, nat_cmp_total}
-use Rattle.std.specs.Cmp.Lexicographic.{nat_list_cmp_total}
-use Rattle.std.specs.FinMap.{IsAntisymmetric, nat_cmp-IsAntisymmetric, slice_cmp-IsAntisymmetric}
-use Rattle.std.proofs.lemmas.Cmp.{on_total, then_total}
-use Rattle.bag_text.specs.Text.{text_cmp}
-use Rattle.bag_text.specs.Alg.{rank_or_zero}
-use Rattle.bag_text.specs.Code.{number, stage}
-use Rattle.bag_facts.specs.FaultOrder.{fault_cmp, FaultsAreOrdered, OneOfThreeHolds, EqualFaultsAreOne, AscendingFaultsAreOne}
+use Rattle.bag_facts.proofs.Common.{◌≡◌, refl, Ordering, Less, Equal, Greater, ordering_then, IsTotalOrder, nat_cmp_total, nat_list_cmp_total, IsAntisymmetric, nat_cmp-IsAntisymmetric, slice_cmp-IsAntisymmetric, on_total, then_total, text_cmp, rank_or_zero, number, stage, fault_cmp, FaultsAreOrdered, OneOfThreeHolds, EqualFaultsAreOne, AscendingFaultsAreOne}
 use Rattle.bag_facts.proofs.Ascending.{same_lists, one_of_three, equal_is_one}
 use Rattle.bag_facts.proofs.Algs.{same_alg}
 use Rattle.bag_facts.proofs.Codes.{same_code}

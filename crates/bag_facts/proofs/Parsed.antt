@@ -1,13 +1,5 @@
 -- What the bytes that were read say.
-use Rattle.std.proofs.Common.{◌≡◌, inl, inr, ◌++◌, ◌∷◌, List, [], map, refl, subst, Contains}
-use Rattle.bag_read.specs.TagName.{tag_path}
-use Rattle.bag_text.proofs.ListOf.{contains_cases, contains_first, contains_behind, contains_nothing}
-use Rattle.bag_text.specs.declared.rules.Rules.{Rules}
-use Rattle.bag_facts.specs.Facts.{AreParsed}
-use Rattle.bag_facts.specs.TagFacts.{IsParsed, path_of}
-use Rattle.bag_facts.specs.TagReader.{read_path}
-use Rattle.bag_facts.specs.declared.tag_facts.TagFacts.{TagFacts}
-use Rattle.bag_facts.specs.declared.tag_reader.TagBytes.{TagBytes}
+use Rattle.bag_facts.proofs.Common.{◌≡◌, inl, inr, ◌++◌, ◌∷◌, List, [], map, refl, subst, Contains, tag_path, contains_cases, contains_first, contains_behind, contains_nothing, Rules, AreParsed, IsParsed, path_of, read_path, TagFacts, TagBytes}
 
 pub one_more_parsed : (rules : Rules) (read : List TagBytes) (tags : List TagFacts) (file : TagBytes) (tag : TagFacts) → AreParsed rules read tags → IsParsed rules file tag → AreParsed rules (read ++ file ∷ []) (tags ++ tag ∷ [])
 one_more_parsed rules [] [] file tag all one = (one, tt)

@@ -1,6 +1,5 @@
 -- The parts of a text before and behind its first space.
-use Rattle.std.proofs.Common.{◌≡◌, ℕ, List, ◌∷◌, ◌++◌, Option, Some, None, lit<, sym, subst}
-use Rattle.std.specs.Prelude.{MatchOption}
+use Rattle.bag_facts.proofs.Common.{arith, ◌≡◌, ℕ, List, ◌∷◌, ◌++◌, Option, Some, None, lit<, sym, MatchOption}
 use Rattle.std.specs.Borrow.{Bor}
 use Rattle.std.proofs.lemmas.Str.Pattern.{IsSplitOnceResult, split_after}
 use Rattle.bag_facts.proofs.Spaces.{HasNoSpace}
@@ -14,9 +13,7 @@ at_first_space text front rest found cases clean is = split_after 32 text front 
 
 pub parts_of : (text front rest : List ℕ) (found : Option Parts) (parts : Parts) → IsSplitOnceResult 32 text found → HasNoSpace front → front ++ 32 ∷ rest ≡ text
     → found ≡ Some parts → (parts.0.now ≡ front) × (parts.1.now ≡ rest)
-parts_of text front rest found parts cases clean is some =
-    subst (λ o. MatchOption o ⊥ (λ p. (p.0.now ≡ front) × (p.1.now ≡ rest))) some (at_first_space text front rest found cases clean is)
+parts_of text front rest found parts cases clean is some = grind (arith, at_first_space text front rest found cases clean is)
 
 pub has_parts : (text front rest : List ℕ) (found : Option Parts) → IsSplitOnceResult 32 text found → HasNoSpace front → front ++ 32 ∷ rest ≡ text → found ≡ None → ⊥
-has_parts text front rest found cases clean is none =
-    subst (λ o. MatchOption o ⊥ (λ p. (p.0.now ≡ front) × (p.1.now ≡ rest))) none (at_first_space text front rest found cases clean is)
+has_parts text front rest found cases clean is none = grind (arith, at_first_space text front rest found cases clean is)

@@ -1,6 +1,6 @@
 -- An error that is passed on.
-use Rattle.std.proofs.Common.{◌≡◌, Result, Ok, Err, sym, subst}
-use Rattle.std.specs.Result.{IfErr, OnErr, IsErrAnd}
+use Rattle.bag_facts.proofs.Common.{◌≡◌, Result, Ok, Err, sym, subst, IfErr, IsErrAnd}
+use Rattle.std.specs.Result.{OnErr}
 
 pub passed_on : {T E : Type 0} (r : Result T E) (x : E) (Q : E → Type 0) → IsErrAnd r (λ e. e ≡ x) → Q x → IfErr r Q
 passed_on (Ok y) x Q h q = tt

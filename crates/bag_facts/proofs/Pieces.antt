@@ -1,10 +1,8 @@
 -- A line that was made field by field.
-use Rattle.std.proofs.Common.{◌≡◌, ℕ, ◌≤◌, List, [], ◌∷◌, ◌++◌, Result, Ok, Err, cond, length, take, sym, ap, ◌∙◌, append_assoc, arith, length-append}
-use Rattle.std.specs.Prelude.{OnOk, OnErr, is_ok}
-use Rattle.std.proofs.lemmas.List.{take-take}
+use Rattle.bag_facts.proofs.Common.{◌≡◌, ℕ, List, [], ◌∷◌, ◌++◌, Result, Ok, Err, cond, length, take, ap, ◌∙◌, append_assoc, arith, length-append, OnOk, OnErr, take-take, join_with_byte}
+use Rattle.std.specs.Prelude.{is_ok}
 use Rattle.std.proofs.Math.Seq.{take-append_seam, take-length}
 use Rattle.std.specs.Io.{StartsWith}
-use Rattle.std.specs.List.{join_with_byte}
 
 -- one piece, and then the rest
 one_piece : (start next whole piece rest : List ℕ) → next ≡ start ++ piece → whole ≡ next ++ rest → whole ≡ start ++ (piece ++ rest)
@@ -20,9 +18,7 @@ six_fields s0 s1 s2 s3 s4 s5 s6 a b c d e f p1 p2 p3 p4 p5 p6 =
 
 -- what begins with a longer text begins with its front
 pub begins_before : (old part whole added : List ℕ) → part ≡ old ++ added → StartsWith whole part → StartsWith whole old
-begins_before old part whole added more begins =
-    let within : length old ≤ length part = omega (arith, ap length more, length-append old added) in
-    sym (take-take (length old) (length part) whole within) ∙ ap (take (length old)) (begins ∙ more) ∙ take-append_seam old added
+begins_before old part whole added more begins = grind (arith, length-append old added, take-append_seam old added, take-take)
 
 -- a text begins with itself
 pub begins_with_itself : (part whole : List ℕ) → whole ≡ part → StartsWith whole part

@@ -1,41 +1,14 @@
 -- Reading listed files one after another.
-use Rattle.std.proofs.Common.{◌≡◌, ◌<◌, ◌≤◌, ◌+◌, ◌++◌, ◌∷◌, inl, inr, ℕ, List, [], length, take, drop, map, get_or, None, Some, refl, sym, ap, ◌∙◌, subst, arith, Contains, IsUtf8, append_assoc, append-nil}
+use Rattle.bag_facts.proofs.Common.{◌≡◌, ◌<◌, ◌≤◌, ◌+◌, ◌++◌, ◌∷◌, inl, inr, ℕ, List, [], length, take, drop, map, get_or, None, Some, refl, sym, ap, ◌∙◌, subst, arith, Contains, append_assoc, append-nil, IsStrictlySortedBy, map-append, take-append-drop, take_all, text_cmp, contains_either, contains_cases, contains_nothing, file, RefusesNothing, IsListingOf, TreeState, Keeps, OpensAtMost, IsEntryOf, FailsOver, MayRefuse, IsRefusedAt, Unlisted, FileEntry, Listing, Stop, TreeFault, Device, Special, Name, NotFound, TooMany, Changed, NoneOpen, Memory, Exists, memory_then, memory_unlisted, nothing_asked, nothing_then, MayRefuseFacts, MayStopReading, AreListed, AreTexts, IsWhole, ReadsWanted, StopsReading, read_path, IsWanted, AreWanted, OpensFirst, OpensUpTo, paths_of, Options, TagBytes}
+use Rattle.std.proofs.Common.{IsUtf8}
 use Rattle.std.specs.Prelude.{IsTrue}
-use Rattle.std.specs.Option.{option_map}
-use Rattle.std.specs.List.Sorted.{IsStrictlySortedBy}
-use Rattle.std.proofs.lemmas.List.{map-append, take-append-drop, take_all}
-use Rattle.bag_text.specs.Text.{text_cmp}
-use Rattle.bag_text.proofs.ListOf.{contains_either, contains_cases, contains_nothing}
-use Rattle.bag_tree.specs.Bag.{HasFile, file}
-use Rattle.bag_tree.specs.Calm.{RefusesNothing}
-use Rattle.bag_tree.specs.Listing.{IsListingOf, size_at}
-use Rattle.bag_tree.specs.Tree.{TreeState, Keeps, OpensAtMost, IsEntryOf, FailsOver, MayRefuse}
-use Rattle.bag_tree.specs.Whole.{IsRefusedAt}
-use Rattle.bag_tree.specs.declared.answer.Answer.TheVariants.{Unlisted}
-use Rattle.bag_tree.specs.declared.listing.FileEntry.{FileEntry}
-use Rattle.bag_tree.specs.declared.listing.Listing.{Listing}
-use Rattle.bag_tree.specs.declared.tree_fault.Stop.{Stop}
-use Rattle.bag_tree.specs.declared.tree_fault.TreeFault.{TreeFault}
-use Rattle.bag_tree.specs.declared.tree_fault.TreeFault.TheVariants.{Device, Special, Name, NotFound, TooMany, Changed, NoneOpen, Memory, Exists}
-use Rattle.bag_tree.proofs.Calm.{memory_then, memory_unlisted, nothing_asked, nothing_then}
-use Rattle.bag_facts.specs.Stops.{MayRefuseFacts, MayStopReading}
-use Rattle.bag_facts.specs.TagReader.{AreListed, AreTexts, IsWhole, ReadsWanted, StopsReading, read_path}
-use Rattle.bag_facts.specs.Wanted.{IsWanted, AreWanted, OpensFirst, OpensUpTo, paths_of}
-use Rattle.bag_facts.specs.declared.options.Options.{Options}
-use Rattle.bag_facts.specs.declared.tag_reader.TagBytes.{TagBytes}
 use Rattle.bag_facts.proofs.ListedFiles.{own_size}
 use Rattle.bag_facts.proofs.Mapped.{take_one_more, taken_cases}
 use Rattle.bag_facts.proofs.Refusing.{wanted_some}
 use Rattle.bag_facts.proofs.WantedPaths.{wanted, are_wanted, none_wanted, wanted_joined, one_wanted, one_unwanted}
 
 pub keeps_on : (old mid new : TreeState) → Keeps old mid → Keeps mid new → Keeps old new
-keeps_on old mid new k l = record {
-  bag = l.bag ∙ k.bag;
-  plain = l.plain ∙ k.plain;
-  honest = l.honest ∙ k.honest;
-  entries = l.entries ∙ k.entries;
-  failures = omega arith;
-}
+keeps_on old mid new k l = grind arith
 
 pub keeps_itself : (old : TreeState) → Keeps old old
 keeps_itself old = record { bag = refl; plain = refl; honest = refl; entries = refl; failures = omega arith }
@@ -56,13 +29,7 @@ later_refusal old mid new Exists k h = h
 
 -- a later stop is one of the whole
 pub later_stop : (options : Options) (old mid new : TreeState) (stop : Stop) → Keeps old mid → RefusesNothing old mid → StopsReading options mid new stop → StopsReading options old new stop
-later_stop options old mid new stop k calm h = record {
-  cause = later_refusal old mid new stop.cause k h.cause;
-  answered = h.answered;
-  path = elim h.path [ inl none ↦ inl none | inr there ↦ inr (there.0, λ honest. subst (λ bag. HasFile bag stop.path) k.bag (there.1 (k.honest ∙ honest))) ];
-  memory = h.memory;
-  wanting = λ m. memory_then old mid new calm (h.wanting m);
-}
+later_stop options old mid new stop k calm h = grind (arith, later_refusal, memory_then)
 
 -- the first of the listed files have paths that are texts, and the wanted ones among them were read
 pub record ReadsSome (options : Options) (files : List FileEntry) (count : ℕ) (old new : TreeState) (read : List TagBytes) : Type 0 where
@@ -74,14 +41,7 @@ pub record ReadsSome (options : Options) (files : List FileEntry) (count : ℕ) 
   pub texts : AreTexts (take count files)
 
 pub reads_none : (options : Options) (files : List FileEntry) (old : TreeState) → ReadsSome options files 0 old old []
-reads_none options files old = record {
-  keeps = keeps_itself old;
-  calm = nothing_asked old;
-  opened = sym (append-nil old.openings);
-  paths = sym (none_wanted options);
-  whole = λ one c. absurd (contains_nothing one c);
-  texts = λ entry c. absurd (contains_nothing entry c);
-}
+reads_none options files old = grind (arith, keeps_itself, nothing_asked, append-nil, none_wanted, contains_nothing)
 
 module _ (options : Options) (files : List FileEntry) (i : ℕ) (entry : FileEntry) (old mid new : TreeState) (read : List TagBytes)
     (s : IsStrictlySortedBy text_cmp (paths_of files)) (lt : i < length files) (is : entry ≡ get_or files i entry) (before : ReadsSome options files i old mid read) where
@@ -98,36 +58,20 @@ module _ (options : Options) (files : List FileEntry) (i : ℕ) (entry : FileEnt
 
   -- a listed file isn't wanted
   pub reads_no_more : Keeps mid new → RefusesNothing mid new → IsUtf8 entry.path → ReadsWanted options entry mid new None → ReadsSome options files (i + 1) old new read
-  reads_no_more k calm text h = record {
-    keeps = keeps_on old mid new before.keeps k;
-    calm = nothing_then old mid new before.calm calm;
-    opened = h.1 ∙ before.opened;
-    paths = sym (next_paths ∙ ap (λ paths. map read_path read ++ paths) (one_unwanted options entry h.0) ∙ append-nil (map read_path read));
-    whole = before.whole;
-    texts = texts_more text;
-  }
+  reads_no_more k calm text h = grind (arith, keeps_on, nothing_then, next_paths, one_unwanted, append-nil, texts_more)
 
   module _ (one : TagBytes) (k : Keeps mid new) (calm : RefusesNothing mid new) (text : IsUtf8 entry.path) (h : ReadsWanted options entry mid new (Some one)) where
     entry_wanted : IsWanted options entry.path
     entry_wanted = (one.name, h.at, h.wanted)
 
     pub opened_more : new.openings ≡ old.openings ++ wanted options (take (i + 1) files)
-    opened_more =
-        h.opened ∙ ap (λ paths. paths ++ entry.path ∷ []) before.opened ∙ append_assoc old.openings (map read_path read) (entry.path ∷ [])
-        ∙ ap (λ paths. old.openings ++ paths) (ap (λ paths. map read_path read ++ paths) (sym (one_wanted options entry entry_wanted)) ∙ sym next_paths)
+    opened_more = grind (arith, append_assoc, one_wanted, entry_wanted, next_paths)
 
     paths_more : map read_path (read ++ one ∷ []) ≡ wanted options (take (i + 1) files)
-    paths_more =
-        map-append read_path read (one ∷ [])
-        ∙ ap (λ path. map read_path read ++ path ∷ []) h.at
-        ∙ ap (λ paths. map read_path read ++ paths) (sym (one_wanted options entry entry_wanted)) ∙ sym next_paths
+    paths_more = grind (arith, map-append, one_wanted, entry_wanted, next_paths)
 
     one_whole : IsWhole files old one
-    one_whole = record {
-      are_bytes = h.are_bytes;
-      size = ap (λ path. size_at files path) h.at ∙ own_size files entry s listed ∙ ap Some (sym h.size);
-      bytes = λ honest. ap (file old.bag) h.at ∙ sym (ap (λ bag. file bag entry.path) before.keeps.bag) ∙ h.bytes (before.keeps.honest ∙ honest);
-    }
+    one_whole = grind (arith, own_size, listed)
 
     -- one more was read
     pub reads_one_more : ReadsSome options files (i + 1) old new (read ++ one ∷ [])
@@ -181,21 +125,17 @@ module _ (options : Options) (files : List FileEntry) (i : ℕ) (entry : FileEnt
       ∙ ap (λ paths. old.openings ++ paths) (sym (up_to_here w)))
 
   listed_as_is : (IsTrue old.honest → AreListed old.bag files) → IsTrue mid.honest → IsEntryOf mid.bag entry
-  listed_as_is are honest =
-      ap (λ bag. option_map length (file bag entry.path)) before.keeps.bag
-      ∙ sym (are (sym before.keeps.honest ∙ honest) entry.path) ∙ own_size files entry s (i, lt, sym is)
+  listed_as_is are honest = grind (arith, own_size)
 
   -- its refusal is a stop of the whole
   pub stops_at : (stop : Stop) → ((IsTrue mid.honest → IsEntryOf mid.bag entry) → StopsReading options mid new stop)
       → (IsTrue old.honest → AreListed old.bag files) → StopsReading options old new stop
-  stops_at stop at are =
-      later_stop options old mid new stop before.keeps before.calm (at (listed_as_is are))
+  stops_at stop at are = later_stop options old mid new stop before.keeps before.calm (at (listed_as_is are))
 
 -- at the end the wanted files are read
 pub all_wanted : (options : Options) (files : List FileEntry) (count : ℕ) (old new : TreeState) (read : List TagBytes) → IsStrictlySortedBy text_cmp (paths_of files) → length files ≤ count
     → ReadsSome options files count old new read → AreWanted options files (map read_path read)
-all_wanted options files count old new read s le h =
-    subst (AreWanted options files) (sym (h.paths ∙ ap (wanted options) (take_all count files le))) (are_wanted options files s)
+all_wanted options files count old new read s le h = grind (arith, wanted options, take_all count files le, are_wanted options files s)
 
 -- and all paths are texts
 pub all_texts : (options : Options) (files : List FileEntry) (count : ℕ) (old new : TreeState) (read : List TagBytes) → length files ≤ count
@@ -211,25 +151,9 @@ listing_refusal old new other h = h
 -- a refused listing stops reading the facts
 pub listing_stop : (options : Options) (old new : TreeState) (cause : TreeFault) (stop : Stop) → stop.cause ≡ cause → stop.path ≡ [] → new.openings ≡ old.openings → new.rest ≡ old.rest
     → MayRefuse ⊥ ⊥ old new cause → new.last ≡ Unlisted cause → MayStopReading options old new stop
-listing_stop options old new cause stop same none unopened left h last =
-    let told : new.last ≡ Unlisted stop.cause = last ∙ ap Unlisted (sym same) in record {
-      cause = subst (MayRefuseFacts old new) (sym same) (listing_refusal old new cause h);
-      answered = inr (inl (none, told));
-      path = inr (inl (none, unopened, left, told, subst (MayRefuse ⊥ ⊥ old new) (sym same) h));
-      memory = λ _. none;
-      wanting = λ m. memory_unlisted old new stop.cause told m;
-    }
+listing_stop options old new cause stop same none unopened left h last = grind (arith, listing_refusal, memory_unlisted)
 
 -- what stops reading after a listing stops reading the facts
 pub facts_stop : (options : Options) (listing : Listing) (files : List FileEntry) (old mid new : TreeState) (stop : Stop) → Keeps old mid → RefusesNothing old mid → files ≡ listing.files
     → (IsTrue old.honest → IsListingOf old.bag listing) → ((IsTrue mid.honest → AreListed mid.bag files) → StopsReading options mid new stop) → MayStopReading options old new stop
-facts_stop options listing files old mid new stop k calm e listed stops =
-    let are : IsTrue mid.honest → AreListed mid.bag files =
-    λ honest. subst (AreListed mid.bag) (sym e) (subst (λ bag. AreListed bag listing.files) (sym k.bag) (listed (sym k.honest ∙ honest)).files) in
-    let h = later_stop options old mid new stop k calm (stops are) in record {
-      cause = h.cause;
-      answered = elim h.path [ inl none ↦ inl none | inr at ↦ inr (inr (wanted_some options stop.path at.0, h.answered)) ];
-      path = elim h.path [ inl none ↦ inl none | inr at ↦ inr (inr at) ];
-      memory = h.memory;
-      wanting = h.wanting;
-    }
+facts_stop options listing files old mid new stop k calm e listed stops = grind (arith, listed, later_stop, wanted_some)

@@ -1,23 +1,5 @@
 -- The stop of a file that was refused, and for want of memory.
-use Rattle.std.proofs.Common.{◌≡◌, ◌≢◌, ◌∙◌, inl, inr, ℕ, List, [], length, Option, None, Some, true, false, is_some, IsTrue, refl, sym, ap, subst}
-use Rattle.std.proofs.lemmas.Bool.{and_parts}
-use Rattle.std.specs.Option.{option_map}
-use Rattle.bag_text.specs.Path.{is_path}
-use Rattle.bag_read.proofs.TagPaths.{in_base}
-use Rattle.bag_tree.specs.Bag.{HasFile, file}
-use Rattle.bag_tree.specs.Calm.{MayTellMemory, RefusesNothing}
-use Rattle.bag_tree.specs.Tree.{TreeState, CameFromFile, IsEntryOf}
-use Rattle.bag_tree.specs.Whole.{MayRefuseWhole}
-use Rattle.bag_tree.specs.declared.answer.Answer.TheVariants.{Refused}
-use Rattle.bag_tree.specs.declared.listing.FileEntry.{FileEntry}
-use Rattle.bag_tree.specs.declared.tree_fault.Stop.{Stop}
-use Rattle.bag_tree.specs.declared.tree_fault.TreeFault.{TreeFault}
-use Rattle.bag_tree.specs.declared.tree_fault.TreeFault.TheVariants.{NotFound, Changed, NoneOpen, Memory}
-use Rattle.bag_tree.proofs.Calm.{memory_refused}
-use Rattle.bag_facts.specs.Stops.{IsOutOfMemory, IsRefusalOf, MayRefuseFacts, MayStopReading}
-use Rattle.bag_facts.specs.TagReader.{StopsReading}
-use Rattle.bag_facts.specs.Wanted.{IsWanted}
-use Rattle.bag_facts.specs.declared.options.Options.{Options}
+use Rattle.bag_facts.proofs.Common.{arith, ◌≡◌, ◌≢◌, ◌∙◌, inl, inr, ℕ, List, [], length, Option, None, Some, true, false, is_some, IsTrue, refl, sym, ap, subst, and_parts, option_map, is_path, in_base, HasFile, file, MayTellMemory, RefusesNothing, TreeState, CameFromFile, IsEntryOf, MayRefuseWhole, Refused, FileEntry, Stop, TreeFault, NotFound, Changed, NoneOpen, Memory, memory_refused, IsOutOfMemory, IsRefusalOf, MayRefuseFacts, MayStopReading, StopsReading, IsWanted, Options}
 
 -- what may refuse a listed file of an honest tree
 pub refused_file : (old new : TreeState) (entry : FileEntry) (cause : TreeFault) → (IsTrue old.honest → IsEntryOf old.bag entry) → MayRefuseWhole old new entry cause
@@ -64,17 +46,5 @@ facts_stop_of_memory options old new stop m calm = record { cause = rw m.0 tt; a
 pub stop_of_refusal : (options : Options) (entry : FileEntry) (old new : TreeState) (cause : TreeFault) (stop : Stop) → IsWanted options entry.path
     → MayRefuseWhole old new entry cause → (cause ≡ Memory → MayTellMemory old new) → IsRefusalOf cause entry.path stop → (IsTrue old.honest → IsEntryOf old.bag entry)
     → StopsReading options old new stop
-stop_of_refusal options entry old new cause stop w refused wanting (inl (not, same, at)) is = record {
-  cause = subst (MayRefuseFacts old new) (sym same) (refused_file old new entry cause is refused);
-  answered = subst (CameFromFile new) (sym same) (came_from old new entry cause refused);
-  path = inr (subst (IsWanted options) (sym at) w, λ honest. subst (HasFile old.bag) (sym at) (has_entry old entry is honest));
-  memory = λ m. absurd (not (sym same ∙ m));
-  wanting = λ m. absurd (not (sym same ∙ m));
-}
-stop_of_refusal options entry old new cause stop w refused wanting (inr (memory, m)) is = record {
-  cause = rw m.0 tt;
-  answered = rw m.0 tt;
-  path = inl m;
-  memory = λ _. m.1;
-  wanting = λ _. wanting memory;
-}
+stop_of_refusal options entry old new cause stop w refused wanting (inl (not, same, at)) is = grind (arith, refused_file, came_from, has_entry)
+stop_of_refusal options entry old new cause stop w refused wanting (inr (memory, m)) is = grind arith

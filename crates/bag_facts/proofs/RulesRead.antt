@@ -1,21 +1,7 @@
 -- The rules of what was read are those of the bag.
-use Rattle.std.proofs.Common.{◌≡◌, inl, inr, ℕ, List, Option, None, Some, refl, sym, ap, ◌∙◌, is_some, map, Contains, Any}
-use Rattle.std.specs.Prelude.{option_and_then}
-use Rattle.bag_text.specs.Rules.{rules_of}
-use Rattle.bag_text.specs.declared.rules.Rules.{Rules}
-use Rattle.bag_read.specs.Declaration.{declared_version}
+use Rattle.bag_facts.proofs.Common.{◌≡◌, inl, inr, ℕ, List, Option, None, Some, refl, sym, ap, ◌∙◌, is_some, map, Contains, Any, option_and_then, rules_of, Rules, declared_version, tag_path, Declaration, paths_differ, Bag, file, FileEntry, AreRulesOf, IsReadOf, IsDeclarationOf, AreListed, read_path, AreWanted, Options, TagBytes}
 use Rattle.bag_read.specs.declared.declaration.Declaration as declared
-use Rattle.bag_read.specs.TagName.{tag_path}
-use Rattle.bag_read.specs.declared.tag_name.TagName.TheVariants.{Declaration}
-use Rattle.bag_read.proofs.TagPaths.{paths_differ}
-use Rattle.bag_tree.specs.Bag.{Bag, file}
-use Rattle.bag_tree.specs.declared.listing.FileEntry.{FileEntry}
-use Rattle.bag_facts.specs.Facts.{rules_in, AreRulesOf}
-use Rattle.bag_facts.specs.TagFacts.{IsReadOf, IsDeclarationOf}
-use Rattle.bag_facts.specs.TagReader.{AreListed, read_path}
-use Rattle.bag_facts.specs.Wanted.{AreWanted}
-use Rattle.bag_facts.specs.declared.options.Options.{Options}
-use Rattle.bag_facts.specs.declared.tag_reader.TagBytes.{TagBytes}
+use Rattle.bag_facts.specs.Facts.{rules_in}
 use Rattle.bag_facts.proofs.ListedFiles.{file_listed}
 use Rattle.bag_facts.proofs.Mapped.{contains_mapped}
 

@@ -1,20 +1,5 @@
 -- A bag that has the listed files, with the bytes that were read of some.
-use Rattle.std.proofs.Common.{◌≡◌, ℕ, List, [], ◌∷◌, length, map, replicate, Bool, true, false, cond, Option, None, Some, refl, ap, sym, ◌∙◌, bytes_eq, Contains}
-use Rattle.std.specs.Option.{option_map}
-use Rattle.std.specs.List.Sorted.{IsStrictlySortedBy}
-use Rattle.std.specs.FinMap.{find, from_entries, get-from_entries}
-use Rattle.std.specs.Ordering.{eq_by_cmp}
-use Rattle.std.specs.Cmp.Lexicographic.{nat_list_cmp_total}
-use Rattle.std.proofs.lemmas.List.{length-replicate}
-use Rattle.bag_text.specs.Text.{text_cmp}
-use Rattle.bag_tree.specs.Bag.{Bag, file}
-use Rattle.bag_tree.specs.Listing.{IsOrdered, HasItsFolder, IsListingOf, entry_at, size_at}
-use Rattle.bag_tree.specs.declared.listing.FileEntry.{FileEntry}
-use Rattle.bag_tree.specs.declared.listing.Listing.{Listing}
-use Rattle.bag_tree.proofs.SameText.{same_test}
-use Rattle.bag_facts.specs.TagReader.{read_path}
-use Rattle.bag_facts.specs.Wanted.{paths_of}
-use Rattle.bag_facts.specs.declared.tag_reader.TagBytes.{TagBytes}
+use Rattle.bag_facts.proofs.Common.{arith, ◌≡◌, ℕ, List, [], ◌∷◌, length, map, replicate, Bool, true, false, cond, Option, None, Some, refl, ap, sym, ◌∙◌, Contains, option_map, IsStrictlySortedBy, find, from_entries, get-from_entries, nat_list_cmp_total, length-replicate, text_cmp, Bag, file, IsOrdered, HasItsFolder, IsListingOf, entry_at, size_at, FileEntry, Listing, same_test, read_path, paths_of, TagBytes}
 use Rattle.bag_facts.proofs.ListedFiles.{item_at, own_item, found_item, own_size}
 use Rattle.bag_facts.proofs.SeenFolders.{folders_of, data_listed}
 
@@ -24,10 +9,7 @@ map-cond f false x o = refl
 
 find-mapped : (f : FileEntry → List ℕ) (files : List FileEntry) (q : List ℕ) → find text_cmp q (map (λ e. (e.path, f e)) files) ≡ option_map f (entry_at files q)
 find-mapped f [] q = refl
-find-mapped f (e ∷ files) q =
-    ap (cond (eq_by_cmp text_cmp q e.path) (Some (f e))) (find-mapped f files q)
-    ∙ ap (λ b. cond b (Some (f e)) (option_map f (entry_at files q))) (sym (same_test e.path q))
-    ∙ sym (map-cond f (bytes_eq e.path q) e (entry_at files q))
+find-mapped f (e ∷ files) q = grind (arith, same_test, map-cond, find-mapped f files q)
 
 -- the bytes that were read, or as many as were listed
 abbrev pub bytes_or : Option TagBytes → ℕ → List ℕ
@@ -39,10 +21,7 @@ bytes_of read e = bytes_or (item_at read_path read e.path) e.size
 
 -- the bag of the listed files with these bytes, and of the folders that the listing tells of
 abbrev pub seen_bag : List TagBytes → Listing → Bag
-seen_bag read listing = record {
-  files = from_entries {R = text_cmp} (map (λ e. (e.path, bytes_of read e)) listing.files);
-  folders = folders_of listing;
-}
+seen_bag read listing = record { files = from_entries {R = text_cmp} (map (λ e. (e.path, bytes_of read e)) listing.files); folders = folders_of listing }
 
 pub seen_file : (read : List TagBytes) (listing : Listing) (q : List ℕ) → file (seen_bag read listing) q ≡ option_map (bytes_of read) (entry_at listing.files q)
 seen_file read listing q =
@@ -61,10 +40,7 @@ module _ (read : List TagBytes) (listing : Listing) (s : IsStrictlySortedBy text
   size_by q (Some e) is = ap Some (sym (length_by e (item_at read_path read e.path) (found_item (λ (x : FileEntry). x.path) listing.files q e is).0 refl))
 
   pub listing_seen : IsOrdered listing.files → HasItsFolder listing → IsListingOf (seen_bag read listing) listing
-  listing_seen ordered needs = record {
-    files = λ path. size_by path (entry_at listing.files path) refl ∙ ap (option_map length) (sym (seen_file read listing path));
-    has_data = data_listed listing ordered needs;
-  }
+  listing_seen ordered needs = grind (arith, size_by, seen_file, data_listed)
 
   read_by : (one : TagBytes) (o : Option FileEntry) → IsStrictlySortedBy text_cmp (map read_path read) → Contains read one → entry_at listing.files (read_path one) ≡ o
       → option_map (bytes_of read) o ≡ Some one.bytes.items

@@ -1,13 +1,5 @@
 -- The bag that is seen of a listing is a bag.
-use Rattle.std.proofs.Common.{◌≡◌, ℕ, ◌<◌, List, Option, None, Some, refl, sym, ◌∙◌, subst, Contains, arith}
-use Rattle.std.specs.Option.{option_map}
-use Rattle.std.proofs.lemmas.List.Elements.{All-replicate}
-use Rattle.bag_tree.specs.Bag.{IsBag}
-use Rattle.bag_tree.specs.Listing.{IsOrdered, IsListingOf, entry_at}
-use Rattle.bag_tree.specs.declared.listing.FileEntry.{FileEntry}
-use Rattle.bag_tree.specs.declared.listing.Listing.{Listing}
-use Rattle.bag_facts.specs.TagReader.{AreBytes, AreTexts, read_path}
-use Rattle.bag_facts.specs.declared.tag_reader.TagBytes.{TagBytes}
+use Rattle.bag_facts.proofs.Common.{◌≡◌, ℕ, ◌<◌, List, Option, None, Some, refl, sym, ◌∙◌, subst, Contains, arith, option_map, All-replicate, IsBag, IsOrdered, IsListingOf, entry_at, FileEntry, Listing, AreBytes, AreTexts, read_path, TagBytes}
 use Rattle.bag_facts.proofs.ListedFiles.{item_at, found_item, file_listed}
 use Rattle.bag_facts.proofs.Seen.{bytes_of, bytes_or, seen_bag, seen_file}
 use Rattle.bag_facts.proofs.SeenFolders.{is_listed_path, is_listed_text, parent_listed, folder_is_name}

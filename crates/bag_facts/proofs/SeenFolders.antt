@@ -1,24 +1,9 @@
 -- The folders that a listing tells of.
-use Rattle.std.proofs.Common.{◌≡◌, inl, inr, ℕ, ◌<◌, arith, List, ◌∷◌, Bool, true, false, refl, sym, ◌∙◌, subst, map, filter, codes, Contains, IsUtf8}
+use Rattle.bag_facts.proofs.Common.{◌≡◌, inl, inr, ℕ, ◌<◌, arith, List, ◌∷◌, Bool, true, false, refl, sym, ◌∙◌, subst, map, codes, Contains, eq_by_cmp, nat_list_cmp_total, and_from, All-from_recursion, bytes_eq-Decides, IsUtf8-from_ascii, text_cmp, is_path, is_base_name, is_payload_path, first_component, under, contains_cases, contains_first, contains_behind, any_from, from_any, IsOrdered, HasItsFolder, FileEntry, Listing, one_text, text_itself, AreTexts, paths_of}
+use Rattle.std.proofs.Common.{filter, IsUtf8}
 use Rattle.std.specs.FinSet as set
-use Rattle.std.specs.Ordering.{eq_by_cmp}
-use Rattle.std.specs.Cmp.Lexicographic.{nat_list_cmp_total}
-use Rattle.std.proofs.lemmas.Bool.{and_from}
-use Rattle.std.proofs.lemmas.List.Elements.{All-from_recursion}
-use Rattle.std.proofs.lemmas.Slice.Eq.{bytes_eq-Decides}
-use Rattle.std.proofs.lemmas.Str.{IsUtf8-from_ascii}
 use Rattle.std.proofs.lemmas.Str.Ascii.{IsAscii-from_all}
-use Rattle.bag_text.specs.Text.{text_cmp}
-use Rattle.bag_text.specs.Path.{is_path, is_base_name, is_payload_path, first_component, under}
-use Rattle.bag_text.proofs.ListOf.{contains_cases, contains_first, contains_behind}
-use Rattle.bag_read.proofs.PickedOut.{any_from, from_any}
-use Rattle.bag_tree.specs.Listing.{IsOrdered, HasItsFolder}
-use Rattle.bag_tree.specs.declared.listing.FileEntry.{FileEntry}
-use Rattle.bag_tree.specs.declared.listing.Listing.{Listing}
 use Rattle.bag_tree.proofs.Parents.{is_in_folder, under_in_folder, first-under, first_is_base_name, first_is_text}
-use Rattle.bag_tree.proofs.SameText.{one_text, text_itself}
-use Rattle.bag_facts.specs.TagReader.{AreTexts}
-use Rattle.bag_facts.specs.Wanted.{paths_of}
 use Rattle.bag_facts.proofs.Mapped.{mapped_contains, contains_mapped, kept, passed}
 
 -- the folders that listed files stand in
@@ -41,9 +26,7 @@ entry_of files path c = contains_mapped (λ (e : FileEntry). e.path) files path 
 
 -- a listed path is a path
 pub is_listed_path : (files : List FileEntry) (path : List ℕ) → IsOrdered files → Contains (paths_of files) path → is_path path ≡ true
-is_listed_path files path ordered c =
-    let (entry, (k, within, at), same) = entry_of files path c in
-    subst (λ p. is_path p ≡ true) same (subst (λ (e : FileEntry). is_path e.path ≡ true) at (ordered.paths k entry within))
+is_listed_path files path ordered c = grind (arith, entry_of files path c)
 
 -- and a text
 pub is_listed_text : (files : List FileEntry) (path : List ℕ) → AreTexts files → Contains (paths_of files) path → IsUtf8 path
@@ -62,8 +45,7 @@ to_top files top rest is c =
     (mapped_contains first_component (filter is_in_folder (paths_of files)) (under top rest) (passed is_in_folder (paths_of files) (under top rest) (under_in_folder top rest is) c))
 
 has_name : (names : List (List ℕ)) (name : List ℕ) → Contains names name → set.contains (set.from_list {R = text_cmp} names) name ≡ true
-has_name names name c =
-    set.contains-from_list nat_list_cmp_total names name ∙ any_from (eq_by_cmp text_cmp name) names name c (text_itself name)
+has_name names name c = set.contains-from_list nat_list_cmp_total names name ∙ any_from (eq_by_cmp text_cmp name) names name c (text_itself name)
 
 name_there : (names : List (List ℕ)) (name : List ℕ) → set.contains (set.from_list {R = text_cmp} names) name ≡ true → Contains names name
 name_there names name has =

@@ -1,20 +1,7 @@
 -- The fields of a line hold no space, so that a line has one way to be cut into fields.
-use Rattle.std.proofs.Common.{◌≡◌, ◌≢◌, ℕ, ◌<◌, ◌^◌, ◌==◌, true, false, not, List, [], ◌∷◌, ◌++◌, Option, Some, None, All, codes, sym, subst, refl, arith, bytes_eq, decimal, flat_map}
-use Rattle.std.specs.List.{list_all}
-use Rattle.std.proofs.lemmas.Bool.{cond_both, both_ways}
-use Rattle.std.proofs.lemmas.Bool.Decides.{nat_tests}
-use Rattle.std.proofs.lemmas.Fmt.{decimal_is_IsNumeral}
+use Rattle.bag_facts.proofs.Common.{◌≡◌, ◌≢◌, ℕ, ◌<◌, ◌^◌, ◌==◌, true, false, not, List, [], ◌∷◌, ◌++◌, Option, Some, None, All, codes, sym, subst, refl, arith, decimal, flat_map, list_all, cond_both, both_ways, nat_tests, decimal_is_IsNumeral, All-nil, All-cons, All-head, All-tail, All-from_get_or, should_percent_encode, All-percent_encode, IsEscapeByte, name, Alg, Code, number, word, ESCAPED, encoded, field, alg_field, line_field}
 use Rattle.std.proofs.lemmas.Str.Parse.{digit_at}
-use Rattle.std.proofs.lemmas.List.Elements.{All-nil, All-cons, All-head, All-tail, All-from_get_or}
 use Rattle.percent_encoding.proofs.AsciiSetLemmas.{escaped_from_inside}
-use Rattle.percent_encoding.specs.AsciiSet.{should_percent_encode}
-use Rattle.percent_encoding.proofs.PercentLemmas.{All-percent_encode, IsEscapeByte}
-use Rattle.bag_text.specs.Alg.{name}
-use Rattle.bag_text.specs.declared.alg.Alg.{Alg}
-use Rattle.bag_text.specs.declared.code.Code.{Code}
-use Rattle.bag_text.specs.Code.{number, word}
-use Rattle.bag_facts.specs.declared.fault.TheConstants.{ESCAPED}
-use Rattle.bag_facts.specs.FaultLine.{encoded, field, alg_field, line_field}
 use Rattle.bag_facts.proofs.Algs.{each_alg}
 use Rattle.bag_facts.proofs.Codes.{small_number, word_test}
 use Rattle.bag_facts.proofs.Escapes.{same_escapes}
@@ -50,9 +37,7 @@ pub encoded_clean : (t : List ℕ) → HasNoSpace (flat_map encoded t)
 encoded_clean t = subst HasNoSpace (same_escapes t) (All-percent_encode IsNoSpace ESCAPED t kept_is_no_space escape_is_no_space)
 
 pub field_clean : (t : List ℕ) → HasNoSpace (field t)
-field_clean t =
-    cond_both (bytes_eq t []) _ _ HasNoSpace (λ _. from_test (codes "-") refl)
-    (λ _. cond_both (bytes_eq t (codes "-")) _ _ HasNoSpace (λ _. from_test (codes "%2D") refl) (λ _. encoded_clean t))
+field_clean t = grind (arith, cond_both, from_test, encoded_clean)
 
 pub alg_clean : (alg : Option Alg) → HasNoSpace (alg_field alg)
 alg_clean None = from_test (codes "-") refl

@@ -1,14 +1,6 @@
 -- What is known of one tag file, among what is known of all.
-use Rattle.std.proofs.Common.{◌≡◌, ℕ, List, Option, None, Some, refl, sym, ap, ◌∙◌, subst, is_some, Contains, Any, MatchOption}
-use Rattle.bag_read.specs.TagName.{tag_path}
-use Rattle.bag_read.specs.declared.tag_name.TagName.{TagName}
-use Rattle.bag_read.proofs.TagPaths.{paths_differ}
-use Rattle.bag_tree.specs.Bag.{Bag, file}
-use Rattle.bag_facts.specs.Facts.{rules_in, IsFactsOf}
-use Rattle.bag_facts.specs.TagFacts.{IsReadOf, IsTagFileNamed, name_of, path_of}
-use Rattle.bag_facts.specs.Wanted.{Wants}
-use Rattle.bag_facts.specs.declared.facts.Facts.{Facts}
-use Rattle.bag_facts.specs.declared.tag_facts.TagFacts.{TagFacts}
+use Rattle.bag_facts.proofs.Common.{◌≡◌, ℕ, List, Option, None, Some, refl, sym, ap, ◌∙◌, subst, is_some, Contains, Any, tag_path, TagName, paths_differ, Bag, file, rules_in, IsFactsOf, IsReadOf, IsTagFileNamed, name_of, path_of, Wants, Facts, TagFacts}
+use Rattle.std.proofs.Common.{MatchOption}
 use Rattle.bag_facts.proofs.Mapped.{contains_mapped}
 
 module _ (bag : Bag) (known : Facts) (of : TagName) (h : IsFactsOf bag known) where

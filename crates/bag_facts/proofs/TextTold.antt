@@ -1,19 +1,11 @@
 -- The faults of a tag file tell whether its bytes are UTF-8.
-use Rattle.std.proofs.Common.{◌≡◌, ◌↔◌, ℕ, List, [], Bool, true, false, refl, sym, ◌∙◌, subst, Any, IsTrue}
-use Rattle.std.specs.Str.{is_utf8}
-use Rattle.bag_text.specs.Text.{IsNoText}
-use Rattle.bag_text.specs.declared.code.Code.{Code}
-use Rattle.bag_text.specs.declared.code.Code.TheVariants.{NotUtf8}
-use Rattle.bag_read.specs.LineFault.{line_fault, AreFaults}
-use Rattle.bag_read.specs.declared.line_fault.LineFault.{LineFault}
+use Rattle.bag_facts.proofs.Common.{arith, ◌≡◌, ◌↔◌, ℕ, List, [], Bool, true, false, refl, sym, ◌∙◌, subst, Any, IsTrue, is_utf8, IsNoText, Code, NotUtf8, line_fault, AreFaults, LineFault}
 
 -- where the fault of bytes that aren't UTF-8 is this one
 module _ (bytes : List ℕ) (IsWrong : Code → LineFault → Type 0) (to : IsNoText bytes → IsWrong NotUtf8 (line_fault 0 NotUtf8 []))
     (from : (fault : LineFault) → IsWrong NotUtf8 fault → IsNoText bytes) (faults : List LineFault) (list : AreFaults (λ fault. IsWrong fault.code fault) faults) where
   told : IsNoText bytes → Any (λ fault. fault.code ≡ NotUtf8) faults
-  told none =
-      let there = (list.members (line_fault 0 NotUtf8 [])).1 (to none) in
-      (there.0, line_fault 0 NotUtf8 [], there.1, there.2, refl)
+  told none = grind arith
 
   tells : Any (λ fault. fault.code ≡ NotUtf8) faults → IsNoText bytes
   tells one = from one.1 (subst (λ code. IsWrong code one.1) one.4 ((list.members one.1).0 (one.0, one.2, one.3)))

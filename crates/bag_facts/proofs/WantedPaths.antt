@@ -1,26 +1,9 @@
 -- The wanted tag files among listed files.
-use Rattle.std.proofs.Common.{◌≡◌, ◌≢◌, inl, inr, ◌&&◌, ℕ, List, [], ◌∷◌, ◌++◌, Bool, true, false, cond, refl, sym, ap, ◌∙◌, arith, Contains, map, bytes_eq}
-use Rattle.std.specs.List.{filter, list_any}
-use Rattle.std.specs.List.Sorted.{IsStrictlySortedBy}
-use Rattle.std.proofs.lemmas.Bool.{and_from}
-use Rattle.std.proofs.lemmas.List.{map-append}
-use Rattle.std.proofs.lemmas.List.Elements.{filter-append}
+use Rattle.bag_facts.proofs.Common.{◌≡◌, ◌≢◌, inl, inr, ◌&&◌, ℕ, List, [], ◌∷◌, ◌++◌, Bool, true, false, cond, refl, sym, ap, ◌∙◌, arith, Contains, map, bytes_eq, filter, list_any, IsStrictlySortedBy, and_from, map-append, filter-append, bytes_eq-Decides, text_cmp, algs, each_is_listed, contains_behind, contains_front, contains_back, tag_path, TagName, Declaration, Info, Fetch, Manifest, any_from, from_any, both_true, FileEntry, Wants, IsWanted, AreWanted, paths_of, Options}
 use Rattle.std.proofs.lemmas.List.Kept.{IsStrictlySortedBy-filter}
-use Rattle.std.proofs.lemmas.Slice.Eq.{bytes_eq-Decides}
-use Rattle.bag_text.specs.Text.{text_cmp}
-use Rattle.bag_text.specs.Alg.{algs}
-use Rattle.bag_text.proofs.AlgSets.{each_is_listed}
-use Rattle.bag_text.proofs.ListOf.{contains_behind, contains_front, contains_back}
-use Rattle.bag_read.specs.TagName.{tag_path}
 use Rattle.bag_read.specs.declared.kind.Kind.TheVariants.{Payload, Tag}
-use Rattle.bag_read.specs.declared.tag_name.TagName.{TagName}
-use Rattle.bag_read.specs.declared.tag_name.TagName.TheVariants.{Declaration, Info, Fetch, Manifest}
-use Rattle.bag_read.proofs.PickedOut.{any_from, from_any, both_true}
-use Rattle.bag_tree.specs.declared.listing.FileEntry.{FileEntry}
-use Rattle.bag_facts.specs.Wanted.{Wants, IsWanted, AreWanted, paths_of}
 use Rattle.bag_facts.specs.declared.options.Depth.{Depth}
 use Rattle.bag_facts.specs.declared.options.Depth.TheVariants as depth_of
-use Rattle.bag_facts.specs.declared.options.Options.{Options}
 use Rattle.bag_facts.proofs.Mapped.{kept, passed, mapped_contains}
 
 abbrev names : List TagName
@@ -100,8 +83,7 @@ none_wanted options = refl
 
 pub wanted_joined : (options : Options) (xs ys : List FileEntry) → wanted options (xs ++ ys) ≡ wanted options xs ++ wanted options ys
 unfolding wanted
-wanted_joined options xs ys =
-    ap (filter (is_wanted options)) (map-append (λ (f : FileEntry). f.path) xs ys) ∙ filter-append (is_wanted options) (paths_of xs) (paths_of ys)
+wanted_joined options xs ys = grind (arith, map-append, filter-append)
 
 one_by : (options : Options) (entry : FileEntry) (b : Bool) → is_wanted options entry.path ≡ b → wanted options (entry ∷ []) ≡ cond b (entry.path ∷ []) []
 unfolding wanted

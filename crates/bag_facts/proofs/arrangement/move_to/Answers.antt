@@ -1,4 +1,4 @@
-use Rattle.std.proofs.lemmas.List.Sorted.{IsPermutation-trans}
+use Rattle.bag_facts.proofs.Common.{IsPermutation-trans}
 use Rattle.bag_facts.proofs.arrangement.move_to.Goals as goal
 
 pub loop-preserved : goal.loop-preserved

@@ -1,4 +1,4 @@
-use Rattle.std.specs.List.Sorted.{IsPermutation}
+use Rattle.bag_facts.proofs.Common.{IsPermutation}
 use Rattle.bag_facts.proofs.arrangement.move_to.Given as goal
 
 abbrev pub invariant-loop : goal.invariant-loop

@@ -1,4 +1,4 @@
-use Rattle.bag_facts.specs.Facts.{AreParsed}
+use Rattle.bag_facts.proofs.Common.{AreParsed}
 use Rattle.bag_facts.proofs.facts.parse_all.Given as goal
 
 abbrev pub invariant-loop-file : goal.invariant-loop-file

@@ -1,6 +1,4 @@
-use Rattle.std.proofs.Common.{◌≡◌, inl, inr, refl, subst}
-use Rattle.bag_text.specs.Rules.{rules_of}
-use Rattle.bag_read.specs.Declaration.{declared_version}
+use Rattle.bag_facts.proofs.Common.{◌≡◌, inl, inr, refl, subst, rules_of, declared_version}
 use Rattle.bag_facts.proofs.facts.rules_read.Goals as goal
 
 pub returns-in-Some : goal.returns-in-Some

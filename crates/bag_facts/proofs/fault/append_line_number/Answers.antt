@@ -1,6 +1,4 @@
-use Rattle.std.proofs.Common.{◌≡◌, ◌∷◌, ◌++◌, ℕ, List, codes, ap, sym, subst}
-use Rattle.std.specs.Prelude.{OnOk, string_bytes}
-use Rattle.bag_facts.specs.FaultLine.{line_field}
+use Rattle.bag_facts.proofs.Common.{◌≡◌, ◌∷◌, ◌++◌, ℕ, List, codes, ap, sym, subst, OnOk, string_bytes, line_field}
 use Rattle.bag_facts.proofs.Lines.{line_written}
 use Rattle.bag_facts.proofs.Pieces.{pushed_behind, refused_behind, joined_behind, kept_behind}
 use Rattle.bag_facts.proofs.fault.append_line_number.Goals as goal

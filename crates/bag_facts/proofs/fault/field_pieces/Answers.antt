@@ -1,13 +1,10 @@
-use Rattle.std.proofs.Common.{sym, ap, ◌∙◌}
-use Rattle.percent_encoding.specs.Percent.{percent_encode}
-use Rattle.bag_facts.specs.declared.fault.TheConstants.{ESCAPED}
+use Rattle.bag_facts.proofs.Common.{sym, ap, ◌∙◌, percent_encode, ESCAPED}
 use Rattle.bag_facts.proofs.Escapes.{same_escapes, other_field, nonempty}
 use Rattle.bag_facts.proofs.FieldPieces.{empty_field, hyphen_field, plain_hyphen, escaped_hyphen}
 use Rattle.bag_facts.proofs.fault.field_pieces.Goals as goal
 
 pub returns-then-is_empty : goal.returns-then-is_empty
-returns-then-is_empty c =
-    c.percent_encode.ensures.text ∙ plain_hyphen ∙ sym (empty_field c.args.text.now (sym c.is_empty.ensures ∙ c.if-is_empty.true))
+returns-then-is_empty c = c.percent_encode.ensures.text ∙ plain_hyphen ∙ sym (empty_field c.args.text.now (sym c.is_empty.ensures ∙ c.if-is_empty.true))
 
 pub returns-then-eq : goal.returns-then-eq
 returns-then-eq c =

@@ -1,9 +1,4 @@
-use Rattle.std.proofs.Common.{◌≡◌, ◌≢◌, ℕ, Option, Some, None, Ok, sym, ap, ◌∙◌, arith}
-use Rattle.std.specs.Prelude.{MatchOption}
-use Rattle.std.specs.Option.{ok_or}
-use Rattle.std.proofs.lemmas.Fmt.{parse-decimal}
-use Rattle.bag_text.specs.declared.code.Code.{Code}
-use Rattle.bag_text.specs.Code.{number}
+use Rattle.bag_facts.proofs.Common.{◌≡◌, ◌≢◌, ℕ, Option, Some, None, Ok, sym, ap, ◌∙◌, arith, MatchOption, ok_or, parse-decimal, Code, number}
 use Rattle.bag_facts.specs.declared.from_line.CursorFault.TheVariants.{NotALine}
 use Rattle.bag_facts.proofs.Codes.{small_number, same_code}
 use Rattle.bag_facts.proofs.from_line.read_code.Goals as goal

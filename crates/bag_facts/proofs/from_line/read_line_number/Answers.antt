@@ -1,5 +1,4 @@
-use Rattle.std.proofs.Common.{◌≡◌, Ok, lit<, sym, ap, ◌∙◌, codes}
-use Rattle.std.proofs.lemmas.Fmt.{parse-decimal}
+use Rattle.bag_facts.proofs.Common.{◌≡◌, Ok, lit<, sym, ap, ◌∙◌, codes, parse-decimal}
 use Rattle.bag_facts.proofs.Lines.{same_line_field, decimal_written, equal_texts}
 use Rattle.bag_facts.proofs.from_line.read_line_number.Goals as goal
 

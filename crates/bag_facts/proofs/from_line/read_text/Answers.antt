@@ -1,6 +1,4 @@
-use Rattle.std.proofs.Common.{◌≡◌, sym, subst, ap, ◌∙◌}
-use Rattle.std.specs.Prelude.{IsUtf8}
-use Rattle.percent_encoding.specs.Percent.{percent_decode}
+use Rattle.bag_facts.proofs.Common.{◌≡◌, sym, subst, ap, ◌∙◌, IsUtf8, percent_decode}
 use Rattle.percent_encoding.specs.Iter.{decoded_bytes}
 use Rattle.bag_facts.proofs.Lines.{text_written, nothing_written}
 use Rattle.bag_facts.proofs.from_line.read_text.Goals as goal

@@ -1,7 +1,4 @@
-use Rattle.std.proofs.Common.{◌≡◌, bytes_eq, true, false, refl, sym}
-use Rattle.std.proofs.lemmas.Slice.Eq.{bytes_eq-Decides}
-use Rattle.bag_read.specs.TagName.{tag_path}
-use Rattle.bag_read.specs.declared.tag_name.TagName.TheVariants.{Manifest}
+use Rattle.bag_facts.proofs.Common.{◌≡◌, bytes_eq, true, false, refl, sym, bytes_eq-Decides, tag_path, Manifest}
 use Rattle.bag_facts.proofs.listed_manifest.is_manifest.Goals as goal
 
 pub returns-in-None : goal.returns-in-None

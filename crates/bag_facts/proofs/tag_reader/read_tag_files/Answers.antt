@@ -1,7 +1,4 @@
-use Rattle.std.proofs.Common.{◌≡◌, ◌≢◌, ◌++◌, ◌+◌, ◌∷◌, [], IsTrue, sym, subst, rules}
-use Rattle.bag_tree.proofs.Calm.{nothing_then}
-use Rattle.bag_facts.specs.TagReader.{AreListed, ReadsWanted, StopsReading}
-use Rattle.bag_facts.specs.Wanted.{OpensFirst, OpensUpTo}
+use Rattle.bag_facts.proofs.Common.{◌≡◌, ◌≢◌, ◌++◌, ◌+◌, ◌∷◌, [], IsTrue, sym, subst, rules, nothing_then, AreListed, ReadsWanted, StopsReading, OpensFirst, OpensUpTo}
 use Rattle.bag_facts.proofs.PassedOn.{passed_on, on_error}
 use Rattle.bag_facts.proofs.Reading.{ReadsSome, reads_none, reads_no_more, reads_one_more, opened_more, opens_first, opens_first_here, opens_up_to, stops_at, all_wanted, all_texts}
 use Rattle.bag_facts.proofs.Refusing.{stop_of_memory}

@@ -1,6 +1,4 @@
-use Rattle.std.proofs.Common.{◌∙◌, inl, inr, subst}
-use Rattle.bag_tree.proofs.Calm.{nothing_asked}
-use Rattle.bag_facts.specs.Stops.{IsRefusalOf}
+use Rattle.bag_facts.proofs.Common.{◌∙◌, inl, inr, subst, nothing_asked, IsRefusalOf}
 use Rattle.bag_facts.proofs.Refusing.{stop_of_memory, stop_of_refusal}
 use Rattle.bag_facts.proofs.tag_reader.read_wanted.Goals as goal
 

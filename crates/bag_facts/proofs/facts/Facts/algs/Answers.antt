@@ -1,10 +1,4 @@
-use Rattle.std.proofs.Common.{◌≡◌, ◌↔◌, false, true, sym, ◌∙◌, get_or, IsTrue}
-use Rattle.bag_text.specs.Alg.{algs}
-use Rattle.bag_text.specs.declared.alg.Alg.{Alg}
-use Rattle.bag_text.specs.declared.alg.Alg.TheVariants.{Md5}
-use Rattle.bag_read.specs.TagName.{tag_path}
-use Rattle.bag_read.specs.declared.tag_name.TagName.TheVariants.{Manifest}
-use Rattle.bag_tree.specs.Bag.{HasFile}
+use Rattle.bag_facts.proofs.Common.{◌≡◌, ◌↔◌, false, true, sym, ◌∙◌, get_or, IsTrue, algs, Alg, Md5, tag_path, Manifest, HasFile}
 use Rattle.bag_facts.proofs.AlgsOf.{all_algs, one_alg_more, one_alg_other}
 use Rattle.bag_facts.proofs.ListedPaths.{bag_has_one}
 use Rattle.bag_facts.proofs.facts.Facts.algs.Goals as goal

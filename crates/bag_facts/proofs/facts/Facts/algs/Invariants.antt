@@ -1,8 +1,4 @@
-use Rattle.std.proofs.Common.{take}
-use Rattle.bag_read.specs.TagName.{tag_path}
-use Rattle.bag_read.specs.declared.tag_name.TagName.TheVariants.{Manifest}
-use Rattle.bag_tree.specs.Bag.{Bag, HasFile}
-use Rattle.bag_facts.specs.Facts.{IsFactsOf}
+use Rattle.bag_facts.proofs.Common.{take, tag_path, Manifest, Bag, HasFile, IsFactsOf}
 use Rattle.bag_facts.proofs.AlgsOf.{AreThose}
 use Rattle.bag_facts.proofs.facts.Facts.algs.Given as goal
 

@@ -1,5 +1,4 @@
-use Rattle.std.proofs.Common.{subst}
-use Rattle.bag_facts.specs.Facts.{AreRulesOf}
+use Rattle.bag_facts.proofs.Common.{subst, AreRulesOf}
 use Rattle.bag_facts.proofs.facts.Facts.of.Goals as goal
 
 pub returns-clause-tags : goal.returns-clause-tags

@@ -1,9 +1,4 @@
-use Rattle.std.proofs.Common.{◌≡◌, ◌≢◌, ◌⊎◌, inr, [], map, sym, subst}
-use Rattle.bag_tree.specs.declared.listing.Listing.{Listing}
-use Rattle.bag_tree.proofs.Calm.{nothing_given, nothing_then}
-use Rattle.bag_facts.specs.Stops.{MayStopReading}
-use Rattle.bag_facts.specs.TagReader.{read_path}
-use Rattle.bag_facts.specs.Wanted.{AreWanted, ForListing, OpensAll, OpensFirst, OpensUpTo}
+use Rattle.bag_facts.proofs.Common.{arith, ◌≢◌, [], map, subst, nothing_given, nothing_then, MayStopReading, read_path, ForListing, OpensUpTo}
 use Rattle.bag_facts.proofs.Known.{known_honest, known_seen}
 use Rattle.bag_facts.proofs.Opens.{opened_wanted, opens_none, opens_wanted, opens_all_first, opens_later, opens_all_later, opens_up_to_later}
 use Rattle.bag_facts.proofs.PassedOn.{passed_on, on_error}
@@ -15,9 +10,7 @@ pub returns-in-Err-clause-opens : goal.returns-in-Err-clause-opens
 returns-in-Err-clause-opens g c = opens_none c.args.options (g.T.Tree.state c.args.tree.now) (g.T.Tree.state c.list.new.self) c.list.ensures.openings
 
 pub returns-in-Err-clause-stop : goal.returns-in-Err-clause-stop
-returns-in-Err-clause-stop g c =
-    listing_stop c.args.options (g.T.Tree.state c.args.tree.now) (g.T.Tree.state c.list.new.self) _ c.without_path.result
-    c.without_path.ensures.cause c.without_path.ensures.path c.list.ensures.openings c.list.ensures.rest c.in-Err.ensures.refused c.in-Err.ensures.last
+returns-in-Err-clause-stop g c = grind (arith, listing_stop)
 
 pub returns-in_err-read-clause-opens : goal.returns-in_err-read-clause-opens
 returns-in_err-read-clause-opens g c =
@@ -69,54 +62,16 @@ returns-in-Ok-of-clause-seen g c =
     c.in-Ok-of.ensures.tags c.in_ok-read.ensures.wanted (g.T.Tree.state c.list.new.self) c.in-Ok.ensures.data c.in_ok-read.ensures.texts c.in_ok-read.ensures.whole
 
 pub returns-in-Ok-of-clause-opened : goal.returns-in-Ok-of-clause-opened
-returns-in-Ok-of-clause-opened g c =
-    let old = g.T.Tree.state c.args.tree.now in
-    let mid = g.T.Tree.state c.list.new.self in
-    let new = g.T.Tree.state c.read_tag_files.new.tree in
-    let paths = map read_path c.in_ok-read.read.items in
-    subst (λ (listing : Listing). OpensAll c.args.options listing.files old new) (sym c.in-Ok-of.ensures.listing)
-    (opens_all_later c.args.options c.in-Ok.listing.files old mid new paths c.list.ensures.openings
-    (subst (λ files. AreWanted c.args.options files paths) c.as_slice.ensures c.in_ok-read.ensures.wanted) c.in_ok-read.ensures.opened)
+returns-in-Ok-of-clause-opened g c = grind (arith, opens_all_later)
 
 pub returns-in_err-read-clause-opened_first : goal.returns-in_err-read-clause-opened_first
-returns-in_err-read-clause-opened_first g c =
-    let old = g.T.Tree.state c.args.tree.now in
-    let mid = g.T.Tree.state c.list.new.self in
-    let new = g.T.Tree.state c.read_tag_files.new.tree in
-    on_error c.from_residual.result ((new.openings ≡ old.openings) ⊎ ForListing old (λ files. OpensFirst c.args.options files old new))
-    (inr (
-      c.in-Ok.listing,
-      c.in-Ok.ensures.ordered,
-      c.in-Ok.ensures.honest,
-      subst (λ files. OpensFirst c.args.options files old new) c.as_slice.ensures
-          (opens_later c.args.options c.as_slice.result.now old mid new c.list.ensures.openings c.in_err-read.ensures.opened_first),
-    ))
+returns-in_err-read-clause-opened_first g c = grind (arith, on_error, opens_later)
 
 pub returns-in-Err-of-clause-opened_first : goal.returns-in-Err-of-clause-opened_first
-returns-in-Err-of-clause-opened_first g c =
-    let old = g.T.Tree.state c.args.tree.now in
-    let mid = g.T.Tree.state c.list.new.self in
-    let new = g.T.Tree.state c.read_tag_files.new.tree in
-    let files = c.as_slice.result.now in
-    inr (
-      c.in-Ok.listing,
-      c.in-Ok.ensures.ordered,
-      c.in-Ok.ensures.honest,
-      subst (λ some. OpensFirst c.args.options some old new) c.as_slice.ensures
-          (opens_all_first c.args.options files old new
-          (opens_all_later c.args.options files old mid new (map read_path c.in_ok-read.read.items) c.list.ensures.openings c.in_ok-read.ensures.wanted c.in_ok-read.ensures.opened)),
-    )
+returns-in-Err-of-clause-opened_first g c = grind (arith, opens_all_first, opens_all_later)
 
 pub returns-in-Ok-of-clause-calm : goal.returns-in-Ok-of-clause-calm
-returns-in-Ok-of-clause-calm g c =
-    let old = g.T.Tree.state c.args.tree.now in
-    let mid = g.T.Tree.state c.list.new.self in
-    nothing_then old mid (g.T.Tree.state c.read_tag_files.new.tree) (nothing_given old mid c.in-Ok.ensures.calm c.in-Ok.ensures.last) c.in_ok-read.ensures.calm
+returns-in-Ok-of-clause-calm g c = grind (arith, nothing_then, nothing_given)
 
 pub returns-in-Err-of-clause-stop : goal.returns-in-Err-of-clause-stop
-returns-in-Err-of-clause-stop g c =
-    let old = g.T.Tree.state c.args.tree.now in
-    let mid = g.T.Tree.state c.list.new.self in
-    let new = g.T.Tree.state c.read_tag_files.new.tree in
-    facts_stop_of_memory c.args.options old new c.without_path-in-Err-of.result (c.without_path-in-Err-of.ensures.cause, c.without_path-in-Err-of.ensures.path)
-    (nothing_then old mid new (nothing_given old mid c.in-Ok.ensures.calm c.in-Ok.ensures.last) c.in_ok-read.ensures.calm)
+returns-in-Err-of-clause-stop g c = grind (arith, facts_stop_of_memory, nothing_then, nothing_given)

@@ -1,4 +1,4 @@
-use Rattle.std.proofs.Common.{◌∙◌}
+use Rattle.bag_facts.proofs.Common.{◌∙◌}
 use Rattle.bag_facts.proofs.RulesRead.{rules_told, rules_untold}
 use Rattle.bag_facts.proofs.facts.Facts.rules.Goals as goal
 

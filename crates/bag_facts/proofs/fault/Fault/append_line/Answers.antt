@@ -1,6 +1,4 @@
-use Rattle.std.proofs.Common.{◌≡◌, ◌≤◌, length, sym, ◌∙◌, ap, take, arith}
-use Rattle.std.specs.Prelude.{string_bytes}
-use Rattle.std.proofs.lemmas.Str.{IsUtf8-string_bytes}
+use Rattle.bag_facts.proofs.Common.{◌≡◌, ◌≤◌, length, sym, ◌∙◌, ap, take, arith, string_bytes, IsUtf8-string_bytes}
 use Rattle.bag_facts.proofs.Cut.{at_failure, boundary}
 use Rattle.bag_facts.proofs.fault.Fault.append_line.Goals as goal
 

@@ -1,5 +1,4 @@
-use Rattle.std.proofs.Common.{arith}
-use Rattle.std.proofs.lemmas.Grind.{common_steps}
+use Rattle.bag_facts.proofs.Common.{arith, common_steps}
 use Rattle.bag_facts.proofs.fault.Fault.to_line.Goals as goal
 
 pub returns : goal.returns

@@ -1,4 +1,4 @@
-use Rattle.std.proofs.Common.{refl}
+use Rattle.bag_facts.proofs.Common.{refl}
 use Rattle.bag_facts.proofs.from_line.CursorFaultFromAllocError.from.Goals as goal
 
 pub returns : goal.returns

@@ -1,5 +1,4 @@
-use Rattle.std.proofs.Common.{◌≡◌, refl, subst, ◌↔◌, IsTrue, Any}
-use Rattle.bag_text.specs.declared.code.Code.TheVariants.{NotUtf8}
+use Rattle.bag_facts.proofs.Common.{◌≡◌, refl, subst, ◌↔◌, IsTrue, Any, NotUtf8}
 use Rattle.bag_read.specs.Info.{InfoFault}
 use Rattle.bag_facts.proofs.TextTold.{text_told}
 use Rattle.bag_facts.proofs.tag_facts.Metadata.parse.Goals as goal
