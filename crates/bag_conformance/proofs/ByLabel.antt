@@ -1,23 +1,11 @@
 -- Elements that are sorted by their labels, and the run of one label among them.
-use Rattle.std.proofs.Common.{◌≡◌, ◌≤◌, zero, suc, ◌+◌, ℕ, List, [], ◌∷◌, length, take, drop, filter, get_or, Bool, true, false, not, ◌&&◌, cond, Bor, eqb, refl, sym, ap, ◌∙◌, subst, arith}
-use Rattle.std.specs.Cmp.Lexicographic.{nat_list_cmp_total}
+use Rattle.bag_conformance.proofs.Common.{◌≡◌, ◌≤◌, zero, suc, ◌+◌, ℕ, List, [], ◌∷◌, length, take, drop, filter, get_or, Bool, true, false, not, ◌&&◌, cond, eqb, refl, sym, ap, ◌∙◌, subst, arith, nat_list_cmp_total, AllWithin, IsNonDecreasingBy, IsPartitionedBy, IsPartitionPoint, IsStableBy, ties, is_lt, ordering_index, ordering_reverse, bytes_eq, str_to_ascii_lowercase, Decides-eqb, get_or-drop, IsNonDecreasingBy-drop, searchable_from_sorted, bytes_eq-Decides, same_label, text_cmp, Element, text_same, lent, labelled, label_cmp, folded_label, IsByLabel}
+use Rattle.std.proofs.Common.{Bor}
 use Rattle.std.specs.Cmp.{tied_itself}
-use Rattle.std.specs.List.{AllWithin}
-use Rattle.std.specs.List.Sorted.{IsNonDecreasingBy, IsPartitionedBy, IsPartitionPoint, IsStableBy, ties}
-use Rattle.std.specs.Ordering.{is_lt, ordering_index, ordering_reverse}
-use Rattle.std.specs.Str.{bytes_eq, str_to_ascii_lowercase}
 use Rattle.std.specs.declared.cmp.Ordering.{Ordering}
 use Rattle.std.specs.declared.cmp.Ordering.TheVariants.{Less, Equal, Greater}
-use Rattle.std.proofs.lemmas.Bool.Decides.{Decides-eqb}
-use Rattle.std.proofs.lemmas.List.{get_or-drop, length-drop}
+use Rattle.std.proofs.lemmas.List.{length-drop}
 use Rattle.std.proofs.lemmas.List.Elements.{filter_agree}
-use Rattle.std.proofs.lemmas.List.Sorted.{IsNonDecreasingBy-drop, searchable_from_sorted}
-use Rattle.std.proofs.lemmas.Slice.Eq.{bytes_eq-Decides}
-use Rattle.bag_text.specs.Text.{same_label, text_cmp}
-use Rattle.bag_read.specs.declared.info.Element.{Element}
-use Rattle.bag_facts.proofs.ByPath.{text_same}
-use Rattle.bag_conformance.specs.ElementFaults.{lent, labelled}
-use Rattle.bag_conformance.specs.LabelOrder.{label_cmp, folded_label, IsByLabel}
 
 -- what passes a test in a list whose front fails it, and in one whose front passes it and whose rest fails it
 module _ {X : Type 0} (p : X → Bool) where
@@ -84,9 +72,7 @@ tied_by Equal = refl
 tied_by Greater = refl
 
 tied : (a b : List ℕ) → (not (is_lt (text_cmp a b)) && not (is_lt (text_cmp b a))) ≡ bytes_eq b a
-tied a b =
-    ap (λ o. not (is_lt o) && not (is_lt (text_cmp b a))) (nat_list_cmp_total.antisymm a b)
-    ∙ tied_by (text_cmp b a) ∙ sym (same_ranks b a)
+tied a b = ap (λ o. not (is_lt o) && not (is_lt (text_cmp b a))) (nat_list_cmp_total.antisymm a b) ∙ tied_by (text_cmp b a) ∙ sym (same_ranks b a)
 
 -- a stable sort by the labels keeps the elements of each label in their order
 abbrev pub comes_before : Bor Element → Bor Element → Bool
@@ -124,12 +110,7 @@ module _ (label : List ℕ) where
 
     -- those below the label stand first
     pub below_first : IsPartitionedBy is_below elements
-    below_first i j d low high below =
-        let x : Bor Element = get_or elements i d in
-        let y : Bor Element = get_or elements j d in
-        let up : rank x ≤ rank y = rises i j d low high in
-        let least : rank y ≡ 0 = lower_ranks (label_cmp y.now.label label) below in
-        ranks_lower (label_cmp x.now.label label) (omega (arith, up, least))
+    below_first i j d low high below = grind (arith, rises, lower_ranks, ranks_lower)
 
     module _ (i : ℕ) (split : IsPartitionPoint (λ e. is_below e ≡ true) (λ e. is_below e ≡ false) elements i) where
       -- and then those that have it

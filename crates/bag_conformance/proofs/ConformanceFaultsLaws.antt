@@ -1,15 +1,7 @@
 -- The faults of a bag and a profile are of the eighth stage, and a list has them.
-use Rattle.std.proofs.Common.{◌≡◌, None, Some, refl}
+use Rattle.bag_conformance.proofs.Common.{◌≡◌, None, Some, refl, Code, ProfileIdentifier, LabelRequired, LabelRepeated, ValueNotAllowed, ManifestRequired, ManifestNotAllowed, TagmanifestRequired, TagmanifestNotAllowed, TagFileRequired, TagFileNotAllowed, FetchNotAllowed, VersionNotAccepted, SerializationRequired, Payload, Tag, Bag, Fault, Profile, nothing, same_set, either, IsOfElements, IsOfKind, IsOfTagFiles, IsOfWhole, ConformanceFaultsAreListed, ConformanceFaultsAreOfStageEight}
 use Rattle.bag_text.specs.Code.{stage}
-use Rattle.bag_text.specs.declared.code.Code.{Code}
-use Rattle.bag_text.specs.declared.code.Code.TheVariants.{ProfileIdentifier, LabelRequired, LabelRepeated, ValueNotAllowed, ManifestRequired, ManifestNotAllowed, TagmanifestRequired, TagmanifestNotAllowed, TagFileRequired, TagFileNotAllowed, FetchNotAllowed, VersionNotAccepted, SerializationRequired}
-use Rattle.bag_read.specs.declared.kind.Kind.TheVariants.{Payload, Tag}
-use Rattle.bag_tree.specs.Bag.{Bag}
-use Rattle.bag_facts.specs.declared.fault.Fault.{Fault}
-use Rattle.bag_profile.specs.Profile.{Profile}
-use Rattle.bag_stages.proofs.HasLists.{nothing, same_set, either}
-use Rattle.bag_conformance.specs.ConformanceFaults.{IsOfElements, IsOfKind, IsOfTagFiles, IsOfWhole}
-use Rattle.bag_conformance.specs.ConformanceStage.{ConformanceHolds, IsOfProfile, ConformanceFaultsAreListed, ConformanceFaultsAreOfStageEight}
+use Rattle.bag_conformance.specs.ConformanceStage.{ConformanceHolds, IsOfProfile}
 use Rattle.bag_conformance.proofs.ConformanceLists.{elements_listed, kind_listed, tag_files_listed, whole_listed}
 use Rattle.bag_conformance.proofs.Parts.{IsOfBothKinds, IsOfSome, of_some, is_of_some}
 

@@ -1,33 +1,7 @@
 -- Every bag and every profile have a list of the faults of each part.
-use Rattle.std.proofs.Common.{◌≡◌, ◌≢◌, ◌<◌, ℕ, List, [], true, false, Option, None, Some, refl, sym, ap, ◌∙◌, subst, Contains}
-use Rattle.std.specs.List.{enumerate_from}
-use Rattle.bag_text.specs.Text.{same_label}
-use Rattle.bag_text.specs.declared.code.Code.TheVariants.{ProfileIdentifier, LabelRequired, LabelRepeated, ValueNotAllowed, TagFileRequired, TagFileNotAllowed, FetchNotAllowed, VersionNotAccepted, SerializationRequired}
-use Rattle.bag_read.specs.Info.{IsElement}
+use Rattle.bag_conformance.proofs.Common.{arith, ◌≡◌, ◌≢◌, ◌<◌, ℕ, List, [], true, false, Option, None, Some, refl, sym, ap, ◌∙◌, subst, Contains, enumerate_from, same_label, ProfileIdentifier, LabelRequired, LabelRepeated, ValueNotAllowed, TagFileRequired, TagFileNotAllowed, FetchNotAllowed, VersionNotAccepted, SerializationRequired, IsElement, Element, elements_of, declared_version, manifest_name, Kind, Bag, file, has_file, HasFile, Fault, Profile, LabelRule, TagFilesRequired, TagFilesAllowed, AcceptBagItVersion, Required, At, rules_in, HasList, bag_info_txt, HasElement, HasLater, pair, bagit_txt, lines_in, HasManifest, Decided, nothing, only, same_set, either, for_each, true_or_not, false_or_not, both_decided, none_decided, missing_or_not, required_code, other_code, IsOfElements, IsOfKind, IsOfTagFiles, IsOfWhole, fetch_txt, identifier_label, required_manifests, allowed_manifests, LacksIdentifier, LacksLabel, RepeatsLabel, HasOtherValue, LacksManifest, HasOtherManifest, LacksTagFile, HasOtherTagFile, HasFetchFile, HasOtherVersion, IsToBeSerialized, Lists, Excludes, MatchesNone, IsFreeTagFile}
 use Rattle.bag_read.specs.InfoReader as reading
-use Rattle.bag_read.specs.declared.info.Element.{Element}
-use Rattle.bag_read.proofs.InfoElements.{elements_of}
-use Rattle.bag_read.specs.Declaration.{declared_version}
-use Rattle.bag_read.specs.ManifestName.{manifest_name}
-use Rattle.bag_read.specs.declared.kind.Kind.{Kind}
-use Rattle.bag_tree.specs.Bag.{Bag, file, has_file, HasFile}
-use Rattle.bag_facts.specs.declared.fault.Fault.{Fault}
-use Rattle.bag_profile.specs.Profile.{Profile}
-use Rattle.bag_profile.specs.declared.label.LabelRule.{LabelRule}
-use Rattle.bag_profile.specs.declared.rule.ListRule.TheVariants.{TagFilesRequired, TagFilesAllowed, AcceptBagItVersion}
-use Rattle.bag_profile.specs.declared.terms.Serialization.TheVariants.{Required}
-use Rattle.bag_stages.specs.FaultFields.{At}
-use Rattle.bag_facts.specs.Facts.{rules_in}
-use Rattle.bag_stages.specs.HasList.{HasList}
-use Rattle.bag_stages.specs.Metadata.{bag_info_txt, HasElement, HasLater}
-use Rattle.bag_stages.specs.MetadataStage.{pair}
-use Rattle.bag_stages.specs.TagFiles.{bagit_txt, lines_in, HasManifest}
 use Rattle.bag_stages.proofs.BagLists.{files_listed, manifests_listed}
-use Rattle.bag_stages.proofs.HasLists.{Decided, nothing, only, same_set, either, for_each, true_or_not, false_or_not, both_decided, none_decided}
-use Rattle.bag_stages.proofs.ManifestsList.{missing_or_not}
-use Rattle.bag_conformance.specs.ConformanceFaults.{required_code, other_code, IsOfElements, IsOfKind, IsOfTagFiles, IsOfWhole}
-use Rattle.bag_conformance.specs.ConformanceStage.{fetch_txt, identifier_label, required_manifests, allowed_manifests, LacksIdentifier, LacksLabel, RepeatsLabel, HasOtherValue, LacksManifest, HasOtherManifest, LacksTagFile, HasOtherTagFile, HasFetchFile, HasOtherVersion, IsToBeSerialized}
-use Rattle.bag_conformance.specs.ProfileRules.{Lists, Excludes, MatchesNone, IsFreeTagFile}
 use Rattle.bag_conformance.proofs.Decisions.{decided_as, not_decided, some_decided, picked, less_or_not, same_or_not, empty_or_not, required_or_not, free_or_not, manifest_or_not, names_listed, excluded_or_not, unmatched_or_not}
 use Rattle.bag_conformance.proofs.ItemFaults.{of_one, of_items}
 
@@ -61,11 +35,7 @@ module _ (bag : Bag) where
   Declares version = (bytes : List ℕ) × (file bag bagit_txt ≡ Some bytes) × (declared_version bytes ≡ Some version)
 
   one_version : (bytes : List ℕ) (o : Option (List ℕ)) → file bag bagit_txt ≡ Some bytes → declared_version bytes ≡ o → HasList Declares
-  one_version bytes None there e =
-      nothing Declares (λ v h.
-      let both : Some h.0 ≡ Some bytes = sym h.1 ∙ there in
-      let same : h.0 ≡ bytes = cc in
-      let clash : None ≡ Some v = sym e ∙ ap declared_version (sym same) ∙ h.2 in cc)
+  one_version bytes None there e = grind (arith, nothing)
   one_version bytes (Some version) there e =
       only Declares version (bytes, there, e) (λ v h.
       let both : Some h.0 ≡ Some bytes = sym h.1 ∙ there in
@@ -103,8 +73,7 @@ module _ (bag : Bag) (profile : Profile) where
       (picked (Contains profile.labels) IsLacking (λ rule. both_decided _ _ (true_or_not rule.required) (none_or_one bag rule.label)) rules))
 
   abbrev Repeats : LabelRule → Fault → Type 0
-  Repeats rule f =
-      (f.code ≡ LabelRepeated) × ((e : Element) × At f bag_info_txt None e.line rule.label × HasLater bag rule.label e)
+  Repeats rule f = (f.code ≡ LabelRepeated) × ((e : Element) × At f bag_info_txt None e.line rule.label × HasLater bag rule.label e)
 
   repeated_labels : HasList (λ f. (f.code ≡ LabelRepeated) × RepeatsLabel bag profile f)
   repeated_labels =
@@ -120,8 +89,7 @@ module _ (bag : Bag) (profile : Profile) where
   HasOther rule e = HasElement bag rule.label e × ¬ (Contains rule.values e.value)
 
   abbrev Differs : LabelRule → Fault → Type 0
-  Differs rule f =
-      (f.code ≡ ValueNotAllowed) × ((e : Element) × At f bag_info_txt None e.line (pair rule.label e.value) × HasOther rule e)
+  Differs rule f = (f.code ≡ ValueNotAllowed) × ((e : Element) × At f bag_info_txt None e.line (pair rule.label e.value) × HasOther rule e)
 
   other_values : HasList (λ f. (f.code ≡ ValueNotAllowed) × HasOtherValue bag profile f)
   other_values =

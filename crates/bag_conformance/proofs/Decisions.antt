@@ -1,25 +1,9 @@
 -- What can be decided of a bag and a profile.
-use Rattle.std.proofs.Common.{◌≡◌, ◌≢◌, ◌<◌, inl, inr, zero, suc, ℕ, List, [], ◌∷◌, Bool, true, false, Option, None, Some, refl, sym, ◌∙◌, subst, arith, bytes_eq, Contains}
-use Rattle.std.proofs.lemmas.Slice.Eq.{bytes_eq-Decides}
-use Rattle.bag_text.specs.Path.{is_payload_path}
-use Rattle.bag_text.proofs.ListOf.{contains_nothing}
-use Rattle.bag_read.specs.ManifestName.{manifest_name, is_alg_text, is_manifest_name}
-use Rattle.bag_read.specs.TagName.{tag_path}
-use Rattle.bag_read.specs.declared.kind.Kind.{Kind}
-use Rattle.bag_read.specs.declared.kind.Kind.TheVariants.{Payload, Tag}
+use Rattle.bag_conformance.proofs.Common.{◌≡◌, ◌≢◌, ◌<◌, inl, inr, zero, suc, ℕ, List, [], ◌∷◌, Bool, true, false, Option, None, Some, refl, sym, ◌∙◌, subst, arith, Contains, bytes_eq-Decides, is_payload_path, contains_nothing, manifest_name, is_alg_text, is_manifest_name, tag_path, Kind, Payload, Tag, Bag, matches, Profile, names, ListRule, Required, HasList, HasManifest, Decided, nothing, same_set, for_each, one_where, none_decided, true_or_not, false_or_not, both_decided, missing_or_not, Lists, Excludes, MatchesNone, IsFreeTagFile}
+use Rattle.std.proofs.Common.{bytes_eq}
 use Rattle.bag_read.specs.declared.tag_name.TagName.TheVariants.{Declaration, Info, Fetch}
 use Rattle.bag_read.proofs.ManifestName.{named_is, named_test}
-use Rattle.bag_tree.specs.Bag.{Bag, has_file}
-use Rattle.bag_profile.specs.Pattern.{matches}
-use Rattle.bag_profile.specs.Profile.{Profile, names}
-use Rattle.bag_profile.specs.declared.rule.ListRule.{ListRule}
 use Rattle.bag_profile.specs.declared.terms.Serialization.{Serialization}
-use Rattle.bag_profile.specs.declared.terms.Serialization.TheVariants.{Required}
-use Rattle.bag_stages.specs.HasList.{HasList}
-use Rattle.bag_stages.specs.TagFiles.{HasManifest}
-use Rattle.bag_stages.proofs.HasLists.{Decided, nothing, same_set, for_each, one_where, none_decided, true_or_not, false_or_not, both_decided}
-use Rattle.bag_stages.proofs.ManifestsList.{missing_or_not}
-use Rattle.bag_conformance.specs.ProfileRules.{Lists, Excludes, MatchesNone, IsFreeTagFile}
 
 -- the same in other words
 pub decided_as : (D E : Type 0) → (D → E) → (E → D) → Decided D → Decided E
@@ -49,8 +33,7 @@ less_or_not zero (suc b) = inl (omega arith)
 less_or_not (suc a) (suc b) = decided_as (a < b) (suc a < suc b) (λ h. omega (arith, h)) (λ h. omega (arith, h)) (less_or_not a b)
 
 pub same_or_not : (a b : List ℕ) → Decided (a ≡ b)
-same_or_not a b =
-    decided_as (bytes_eq a b ≡ true) (a ≡ b) (bytes_eq-Decides a b).0 (bytes_eq-Decides a b).1 (true_or_not (bytes_eq a b))
+same_or_not a b = grind (arith, bytes_eq-Decides a b, true_or_not (bytes_eq a b), decided_as)
 
 pub empty_or_not : {A : Type 0} (xs : List A) → Decided (xs ≢ [])
 empty_or_not [] = inr (λ other. other refl)
@@ -102,8 +85,7 @@ module _ (path : List ℕ) where
       (both_decided _ _ (no_manifest_or_one Payload path) (no_manifest_or_one Tag path))))))
 
 pub manifest_or_not : (bag : Bag) (kind : Kind) (alg : List ℕ) → Decided (HasManifest bag kind alg)
-manifest_or_not bag kind alg =
-    both_decided _ _ (true_or_not (is_alg_text alg)) (true_or_not (has_file bag (manifest_name kind alg)))
+manifest_or_not bag kind alg = grind (arith, both_decided, true_or_not)
 
 module _ (profile : Profile) (rule : ListRule) where
   -- two lists of one rule are one
@@ -116,10 +98,7 @@ module _ (profile : Profile) (rule : ListRule) where
   -- the names of a list
   names_by : (o : Option (List (List ℕ))) → names profile rule ≡ o → HasList (Lists profile rule)
   names_by None e = nothing _ (λ name h. no_list h.0 e h.1)
-  names_by (Some listed) e = (
-    listed,
-    λ name. (λ c. (listed, e, c), λ h. subst (λ l. Contains l name) (one_list h.0 listed h.1 e) h.2),
-  )
+  names_by (Some listed) e = (listed, λ name. (λ c. (listed, e, c), λ h. subst (λ l. Contains l name) (one_list h.0 listed h.1 e) h.2))
 
   pub names_listed : HasList (Lists profile rule)
   names_listed = names_by (names profile rule) refl

@@ -1,16 +1,8 @@
 -- The faults of a set, put in their order, each once.
-use Rattle.std.proofs.Common.{List, refl, Contains}
-use Rattle.std.specs.List.{dedup}
-use Rattle.std.specs.List.Sorted.{IsPermutation, IsSorted}
-use Rattle.std.specs.Ordering.{eq_by_cmp}
+use Rattle.bag_conformance.proofs.Common.{List, refl, Contains, dedup, IsPermutation, IsSorted, eq_by_cmp, Contains-dedup, Contains-from_dedup, IsStrictlySortedBy-dedup, IsPermutation-sym, Contains-permutation, IsListOf, Fault, AreAll}
 use Rattle.std.proofs.lemmas.Cmp.{eq_by_cmp_equiv}
-use Rattle.std.proofs.lemmas.List.Kept.{Contains-dedup, Contains-from_dedup, IsStrictlySortedBy-dedup}
-use Rattle.std.proofs.lemmas.List.Sorted.{IsPermutation-sym, Contains-permutation}
-use Rattle.bag_text.specs.Order.{IsListOf}
 use Rattle.bag_facts.specs.FaultOrder.{fault_cmp}
-use Rattle.bag_facts.specs.declared.fault.Fault.{Fault}
 use Rattle.bag_facts.proofs.Ordered.{fault_cmp_total, equal_faults_are_one}
-use Rattle.bag_conformance.specs.ConformanceFaults.{AreAll}
 
 module _ (Member : Fault → Type 0) (faults sorted : List Fault) (all : AreAll Member faults) (perm : IsPermutation faults sorted) where
   is_member : (f : Fault) → Contains (dedup (eq_by_cmp fault_cmp) sorted) f → Member f

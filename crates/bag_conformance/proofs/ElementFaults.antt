@@ -1,31 +1,7 @@
 -- The faults of the elements are those of the bag.
-use Rattle.std.proofs.Common.{◌≡◌, ◌⊎◌, ◌↔◌, inl, inr, ◌||◌, ℕ, List, [], ◌∷◌, Option, None, Some, Bool, true, false, Bor, cond, refl, sym, ap, ◌∙◌, subst, Contains}
-use Rattle.std.specs.List.{flat_map, list_any}
-use Rattle.std.proofs.lemmas.List.Kept.{IsStrictlySortedBy-filter}
-use Rattle.std.proofs.lemmas.Slice.Eq.{bytes_eq-Decides}
-use Rattle.bag_text.specs.Order.{IsListOf}
-use Rattle.bag_text.specs.Text.{same_label}
-use Rattle.bag_text.specs.declared.code.Code.TheVariants.{ProfileIdentifier, LabelRequired, LabelRepeated, ValueNotAllowed}
-use Rattle.bag_text.proofs.ListOf.{contains_cases, contains_first, contains_behind, contains_nothing, contains_front, contains_back, contains_either}
-use Rattle.bag_read.specs.Info.{IsElement}
-use Rattle.bag_read.specs.declared.info.Element.{Element}
-use Rattle.bag_read.proofs.InfoElements.{elements_of}
-use Rattle.bag_read.proofs.PickedOut.{any_from, from_any}
-use Rattle.bag_tree.specs.Bag.{Bag, file}
-use Rattle.bag_facts.specs.declared.fault.Fault.{Fault}
-use Rattle.bag_facts.specs.Facts.{rules_in}
+use Rattle.bag_conformance.proofs.Common.{◌≡◌, ◌⊎◌, ◌↔◌, inl, inr, ◌||◌, ℕ, List, [], ◌∷◌, Option, None, Some, Bool, true, false, cond, refl, sym, ap, ◌∙◌, subst, Contains, flat_map, list_any, IsStrictlySortedBy-filter, bytes_eq-Decides, IsListOf, same_label, ProfileIdentifier, LabelRequired, LabelRepeated, ValueNotAllowed, contains_cases, contains_first, contains_behind, contains_nothing, contains_front, contains_back, contains_either, IsElement, Element, elements_of, any_from, from_any, Bag, file, Fault, rules_in, kept, passed, Profile, LabelRule, bag_info_txt, lines_in, lines_or_none, made_of, by_line, AreAll, IsOfElements, LacksIdentifier, LacksLabel, RepeatsLabel, HasOtherValue, identifier_label, lent, labelled, in_info, has_value, identifier_faults, rule_faults, rules_faults, element_faults}
+use Rattle.std.proofs.Common.{Bor}
 use Rattle.bag_facts.specs.TagFacts.{IsReadOf, IsMetadataOf}
-use Rattle.bag_facts.specs.declared.tag_facts.Metadata.{Metadata}
-use Rattle.bag_facts.proofs.Mapped.{kept, passed}
-use Rattle.bag_profile.specs.Profile.{Profile}
-use Rattle.bag_profile.specs.declared.label.LabelRule.{LabelRule}
-use Rattle.bag_stages.specs.Metadata.{bag_info_txt}
-use Rattle.bag_stages.specs.TagFiles.{lines_in, lines_or_none}
-use Rattle.bag_stages.proofs.FaultFields.{made_of}
-use Rattle.bag_stages.proofs.OxumFaults.{by_line}
-use Rattle.bag_conformance.specs.ConformanceFaults.{AreAll, IsOfElements}
-use Rattle.bag_conformance.specs.ConformanceStage.{LacksIdentifier, LacksLabel, RepeatsLabel, HasOtherValue, identifier_label}
-use Rattle.bag_conformance.specs.ElementFaults.{lent, labelled, in_info, has_value, identifier_faults, rule_faults, rules_faults, element_faults}
 use Rattle.bag_conformance.proofs.LabelRule.{AreOf, IsOfRule, fields, the_one, rule_faults_are}
 
 -- the members of lists that are joined
@@ -57,14 +33,6 @@ module _ (bag : Bag) where
   -- there are none where the file isn't there
   pub no_elements : IsReadOf (IsMetadataOf (rules_in bag)) (file bag bag_info_txt) None → IsListOf by_line (IsElement (rules_in bag) (lines_in bag bag_info_txt)) []
   no_elements read = no_elements_by (file bag bag_info_txt) refl read
-
-  some_elements_by : (content : Option (List ℕ)) (metadata : Metadata) → file bag bag_info_txt ≡ content → IsReadOf (IsMetadataOf (rules_in bag)) content (Some metadata)
-      → IsListOf by_line (IsElement (rules_in bag) (lines_in bag bag_info_txt)) metadata.elements
-  some_elements_by None metadata none read = absurd read
-  some_elements_by (Some bytes) metadata there read = subst (λ all. IsListOf by_line (IsElement (rules_in bag) all) metadata.elements) (sym (ap lines_or_none there)) read.elements
-
-  pub some_elements : (metadata : Metadata) → IsReadOf (IsMetadataOf (rules_in bag)) (file bag bag_info_txt) (Some metadata) → IsListOf by_line (IsElement (rules_in bag) (lines_in bag bag_info_txt)) metadata.elements
-  some_elements metadata read = some_elements_by (file bag bag_info_txt) metadata refl read
 
   -- the elements of a label among all
   pub labelled_are : (elements : List Element) → IsListOf by_line (IsElement (rules_in bag) (lines_in bag bag_info_txt)) elements → (label : List ℕ) → AreOf bag label (labelled label elements)

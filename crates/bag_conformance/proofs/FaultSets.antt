@@ -1,16 +1,6 @@
 -- Sets of faults that a list has: in other words, one after the other, of one fault at most, and item by item.
-use Rattle.std.proofs.Common.{◌≡◌, ◌<◌, ◌≤◌, ◌⊎◌, inl, inr, ◌+◌, ◌++◌, ℕ, None, List, [], ◌∷◌, length, take, get_or, Contains, ap, sym, ◌∙◌, subst}
-use Rattle.std.specs.List.Sorted.{IsPermutation}
-use Rattle.std.proofs.lemmas.List.Sorted.{IsPermutation-sym, Contains-permutation}
-use Rattle.bag_text.specs.declared.code.Code.{Code}
-use Rattle.bag_text.proofs.ListOf.{contains_back, contains_cases, contains_either, contains_first, contains_front, contains_nothing}
-use Rattle.bag_facts.specs.FaultAt.{of_path}
-use Rattle.bag_facts.specs.declared.fault.Fault.{Fault}
-use Rattle.bag_facts.proofs.Mapped.{take_one_more, taken_cases}
-use Rattle.bag_stages.specs.FaultFields.{At}
-use Rattle.bag_stages.proofs.ByPath.{take_whole}
+use Rattle.bag_conformance.proofs.Common.{arith, ◌≡◌, ◌<◌, ◌≤◌, ◌⊎◌, inl, inr, ◌+◌, ◌++◌, ℕ, None, List, [], ◌∷◌, length, take, get_or, Contains, ap, sym, ◌∙◌, subst, IsPermutation, IsPermutation-sym, Contains-permutation, Code, contains_back, contains_cases, contains_either, contains_first, contains_front, contains_nothing, of_path, Fault, take_one_more, taken_cases, At, take_whole, AreAll}
 use Rattle.bag_stages.proofs.Sorted.{either_listed}
-use Rattle.bag_conformance.specs.ConformanceFaults.{AreAll}
 
 -- a set in other words
 pub same_all : (P Q : Fault → Type 0) (faults : List Fault) → ((f : Fault) → P f → Q f) → ((f : Fault) → Q f → P f) → AreAll P faults → AreAll Q faults
@@ -31,20 +21,11 @@ none_all P faults made none f = rw made (λ c. absurd (contains_nothing f c), λ
 
 -- a set of one
 pub one_all : (P : Fault → Type 0) (faults : List Fault) (x : Fault) → faults ≡ x ∷ [] → P x → ((f : Fault) → P f → f ≡ x) → AreAll P faults
-one_all P faults x made is only f =
-    rw made (
-      (λ c. elim (contains_cases x [] f c) [ inl same ↦ subst P same is | inr none ↦ absurd (contains_nothing f none) ]),
-      (λ p. subst (Contains (x ∷ [])) (sym (only f p)) (contains_first x [])),
-    )
+one_all P faults x made is only f = grind (arith, contains_cases, contains_nothing, contains_first)
 
 -- a fault of a path has these fields
 pub whole_at : (f : Fault) (code : Code) (path : List ℕ) → f ≡ of_path code path None [] → At f path None 0 []
-whole_at f code path e = record {
-  path_is = ap (λ (x : Fault). x.path) e;
-  alg_is = ap (λ (x : Fault). x.alg) e;
-  line_is = ap (λ (x : Fault). x.line) e;
-  detail_is = ap (λ (x : Fault). x.detail) e;
-}
+whole_at f code path e = grind arith
 
 pub code_at : (f : Fault) (code : Code) (path : List ℕ) → f ≡ of_path code path None [] → f.code ≡ code
 code_at f code path e = ap (λ (x : Fault). x.code) e

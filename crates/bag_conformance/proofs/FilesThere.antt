@@ -1,14 +1,6 @@
 -- Faults that files are there: of listed files, they are those of the bag's files.
-use Rattle.std.proofs.Common.{None, ◌≡◌, ℕ, List, [], sym, ap, ◌∙◌, subst}
-use Rattle.bag_text.specs.declared.code.Code.{Code}
-use Rattle.bag_tree.specs.Bag.{Bag, HasFile}
-use Rattle.bag_tree.specs.declared.listing.FileEntry.{FileEntry}
-use Rattle.bag_facts.specs.FaultAt.{of_path}
-use Rattle.bag_facts.specs.declared.fault.Fault.{Fault}
-use Rattle.bag_facts.specs.TagReader.{AreListed}
+use Rattle.bag_conformance.proofs.Common.{None, ◌≡◌, ℕ, List, [], sym, ap, ◌∙◌, subst, Code, Bag, HasFile, FileEntry, of_path, Fault, AreListed, contains_mapped, mapped_contains, AreAll}
 use Rattle.bag_facts.proofs.ListedFiles.{file_listed, listed_file}
-use Rattle.bag_facts.proofs.Mapped.{contains_mapped, mapped_contains}
-use Rattle.bag_conformance.specs.ConformanceFaults.{AreAll}
 use Rattle.bag_conformance.proofs.FaultSets.{FaultsOf, same_all}
 
 abbrev pub path_of : FileEntry → List ℕ

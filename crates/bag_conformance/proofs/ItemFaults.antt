@@ -1,12 +1,5 @@
 -- The faults of one code, of those items of a set of which something holds.
-use Rattle.std.proofs.Common.{◌≡◌, ℕ, List, None, refl, sym, subst}
-use Rattle.bag_text.specs.declared.code.Code.{Code}
-use Rattle.bag_facts.specs.FaultAt.{of_line}
-use Rattle.bag_facts.specs.declared.fault.Fault.{Fault}
-use Rattle.bag_stages.specs.FaultFields.{At}
-use Rattle.bag_stages.proofs.FaultFields.{made_of}
-use Rattle.bag_stages.specs.HasList.{HasList}
-use Rattle.bag_stages.proofs.HasLists.{Decided, only, one_where, same_set, for_each}
+use Rattle.bag_conformance.proofs.Common.{◌≡◌, ℕ, List, None, refl, sym, subst, Code, of_line, Fault, At, made_of, HasList, Decided, only, one_where, same_set, for_each}
 
 module _ (code : Code) where
   abbrev fault : List ℕ → ℕ → List ℕ → Fault

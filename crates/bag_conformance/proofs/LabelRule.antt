@@ -1,29 +1,9 @@
 -- The faults of a rule are those of the elements of its label.
-use Rattle.std.proofs.Common.{◌≡◌, ◌≢◌, ◌⊎◌, ◌<◌, ◌≤◌, ◌↔◌, inl, inr, ◌++◌, ℕ, List, [], ◌∷◌, map, drop, filter, None, Bool, true, false, not, cond, refl, sym, ap, ◌∙◌, subst, arith, Contains}
+use Rattle.bag_conformance.proofs.Common.{◌≡◌, ◌≢◌, ◌⊎◌, ◌<◌, ◌≤◌, ◌↔◌, inl, inr, ◌++◌, ℕ, List, [], ◌∷◌, map, drop, filter, None, Bool, true, false, not, cond, refl, sym, ap, ◌∙◌, subst, arith, Contains, nat_list_eq_equiv, list_any, bytes_eq, same_from_decides, bytes_eq-Decides, IsListOf, Code, LabelRequired, LabelRepeated, ValueNotAllowed, contains_cases, contains_first, contains_behind, contains_nothing, contains_front, contains_back, contains_either, member_has, Element, Bag, Fault, mapped_contains, contains_mapped, kept, passed, LabelRule, At, bag_info_txt, HasElement, HasLater, pair, made_of, by_line, in_info, later_fault, allows, required_faults, repeated_faults, has_other, value_fault, value_faults, rule_faults}
 use Rattle.std.specs.List.Sorted.{IsStrictlySortedBy}
-use Rattle.std.specs.Cmp.Lexicographic.{nat_list_eq_equiv}
-use Rattle.std.specs.List.{list_any}
-use Rattle.std.specs.Str.{bytes_eq}
 use Rattle.std.specs.Bool.{Decides}
-use Rattle.std.proofs.lemmas.Bool.Decides.{same_from_decides}
 use Rattle.std.proofs.lemmas.Map.Views.{Contains-from_any, list_any-from_Contains}
-use Rattle.std.proofs.lemmas.Slice.Eq.{bytes_eq-Decides}
-use Rattle.bag_text.specs.Order.{IsListOf}
-use Rattle.bag_text.specs.declared.code.Code.{Code}
-use Rattle.bag_text.specs.declared.code.Code.TheVariants.{LabelRequired, LabelRepeated, ValueNotAllowed}
-use Rattle.bag_text.proofs.ListOf.{contains_cases, contains_first, contains_behind, contains_nothing, contains_front, contains_back, contains_either, member_has}
-use Rattle.bag_read.specs.declared.info.Element.{Element}
 use Rattle.bag_read.proofs.FaultOrder.{lower}
-use Rattle.bag_tree.specs.Bag.{Bag}
-use Rattle.bag_facts.specs.declared.fault.Fault.{Fault}
-use Rattle.bag_facts.proofs.Mapped.{mapped_contains, contains_mapped, kept, passed}
-use Rattle.bag_profile.specs.declared.label.LabelRule.{LabelRule}
-use Rattle.bag_stages.specs.FaultFields.{At}
-use Rattle.bag_stages.specs.Metadata.{bag_info_txt, HasElement, HasLater}
-use Rattle.bag_stages.specs.MetadataStage.{pair}
-use Rattle.bag_stages.proofs.FaultFields.{made_of}
-use Rattle.bag_stages.proofs.OxumFaults.{by_line}
-use Rattle.bag_conformance.specs.ElementFaults.{in_info, later_fault, allows, required_faults, repeated_faults, has_other, value_fault, value_faults, rule_faults}
 
 -- the fields of a fault of the file
 pub fields : (code : Code) (line : ℕ) (detail : List ℕ) → At (in_info code line detail) bag_info_txt None line detail
@@ -35,10 +15,7 @@ the_one x y c = elim (contains_cases x [] y c) [ inl e ↦ e | inr d ↦ absurd 
 -- a value that isn't allowed
 forbidden : (values : List (List ℕ)) (value : List ℕ) → allows values value ≡ false → (values ≢ []) × (¬ (Contains values value))
 forbidden [] value e = cc
-forbidden (v ∷ values) value e = (
-  λ none. cc,
-  λ c. let clash : false ≡ true = sym e ∙ list_any-from_Contains nat_list_eq_equiv value (v ∷ values) c in cc,
-)
+forbidden (v ∷ values) value e = (λ none. cc, λ c. let clash : false ≡ true = sym e ∙ list_any-from_Contains nat_list_eq_equiv value (v ∷ values) c in cc)
 
 not_among : (b : Bool) (values : List (List ℕ)) (value : List ℕ) → list_any (bytes_eq value) values ≡ b → ¬ (Contains values value) → b ≡ false
 not_among true values value e none = absurd (none (Contains-from_any (λ x y is. (bytes_eq-Decides x y).0 is) value values e))
@@ -104,10 +81,7 @@ module _ (bag : Bag) where
     IsOfRule f = Lacks f ⊎ Repeats f ⊎ Differs f
 
     lacking_by : (b : Bool) → rule.required ≡ b → ((e : Element) → ¬ (HasElement bag rule.label e)) → (f : Fault) → Contains (cond b (in_info LabelRequired 0 rule.label ∷ []) []) f ↔ Lacks f
-    lacking_by true e none f = (
-      λ c. subst Lacks (the_one _ f c) (refl, fields LabelRequired 0 rule.label, e, none),
-      λ h. subst (Contains (in_info LabelRequired 0 rule.label ∷ [])) (sym (made_of f LabelRequired bag_info_txt None 0 rule.label h.0 h.1)) (contains_first (in_info LabelRequired 0 rule.label) []),
-    )
+    lacking_by true e none f = grind (arith, the_one, fields, made_of, contains_first)
     lacking_by false e none f = (λ c. absurd (contains_nothing f c), λ h. let clash : false ≡ true = sym e ∙ h.2 in cc)
 
     lacking : (found : List Element) → AreOf rule.label found → (f : Fault) → Contains (required_faults rule found) f ↔ Lacks f

@@ -1,4 +1,5 @@
 pub mod ByLabel
+pub mod Common
 pub mod ConformanceFaultsLaws
 pub mod ConformanceLists
 pub mod Decisions

@@ -1,29 +1,10 @@
 -- What a profile's lists say of a name, where they are there and where they aren't.
-use Rattle.std.proofs.Common.{◌≡◌, ◌↔◌, ℕ, List, [], length, Bool, true, false, not, Option, None, Some, Result, refl, ap, sym, ◌∙◌, subst, Contains, IsTrue, MatchOption}
-use Rattle.std.specs.Borrow.{Bor}
-use Rattle.std.specs.Option.{is_some}
-use Rattle.std.specs.Result.{is_ok}
-use Rattle.std.specs.List.{list_any}
-use Rattle.std.specs.List.Sorted.{IsBinarySearchResult, IsSearchInRange, IsStrictlySortedBy}
+use Rattle.bag_conformance.proofs.Common.{arith, ◌≡◌, ◌↔◌, ℕ, List, [], length, Bool, true, false, not, Option, None, Some, Result, refl, ap, sym, ◌∙◌, Contains, IsTrue, MatchOption, Bor, is_some, is_ok, list_any, IsBinarySearchResult, IsSearchInRange, IsStrictlySortedBy, map-id, is_payload_path, text_cmp, contains_nothing, any_from, from_any, is_alg_text, manifest_name, tag_path, Kind, Payload, Tag, matches, Profile, names, ListRule, found, Lists, Excludes, MatchesNone, IsFreeTagFile}
 use Rattle.std.specs.Prelude.{◌≢◌}
-use Rattle.std.proofs.lemmas.List.{map-id}
-use Rattle.bag_text.specs.Path.{is_payload_path}
-use Rattle.bag_text.specs.Text.{text_cmp}
-use Rattle.bag_text.proofs.ListOf.{contains_nothing}
-use Rattle.bag_read.proofs.PickedOut.{any_from, from_any}
-use Rattle.bag_read.specs.ManifestName.{is_alg_text, manifest_name}
-use Rattle.bag_read.specs.TagName.{tag_path}
-use Rattle.bag_read.specs.declared.kind.Kind.{Kind}
-use Rattle.bag_read.specs.declared.kind.Kind.TheVariants.{Payload, Tag}
 use Rattle.bag_read.specs.declared.tag_name.TagName.{TagName}
 use Rattle.bag_read.specs.declared.tag_name.TagName.TheVariants as tag_name
 use Rattle.bag_read.proofs.TagPaths.{name_is_text}
 use Rattle.bag_text.specs.Alg.{name}
-use Rattle.bag_profile.specs.Pattern.{matches}
-use Rattle.bag_profile.specs.Profile.{Profile, names}
-use Rattle.bag_profile.specs.declared.rule.ListRule.{ListRule}
-use Rattle.bag_facts.proofs.ByPath.{found}
-use Rattle.bag_conformance.specs.ProfileRules.{Lists, Excludes, MatchesNone, IsFreeTagFile}
 
 -- a search tells whether a name is among ascending ones
 pub name_found : (texts : List (List ℕ)) (text : List ℕ) (r : Result ℕ ℕ) (b : Bool) → b ≡ is_ok r → IsStrictlySortedBy text_cmp texts → IsSearchInRange r (length texts)
@@ -39,26 +20,14 @@ module _ (profile : Profile) (rule : ListRule) where
   no_list other e h = let clash : None ≡ Some other = e ∙ h in cc
 
   pub lists_some : (some : List (List ℕ)) → Some some ≡ names profile rule → (text : List ℕ) → Contains some text ↔ Lists profile rule text
-  lists_some some e text = (
-    λ c. (some, sym e, c),
-    λ h. subst (λ those. Contains those text) (one_list some h.0 e h.1) h.2,
-  )
+  lists_some some e text = grind (arith, one_list)
 
   pub lists_none : (some : List (List ℕ)) → some ≡ [] → None ≡ names profile rule → (text : List ℕ) → Contains some text ↔ Lists profile rule text
-  lists_none some empty e text = (
-    λ c. absurd (contains_nothing text (subst (λ those. Contains those text) empty c)),
-    λ h. absurd (no_list h.0 e h.1),
-  )
+  lists_none some empty e text = grind (arith, contains_nothing, no_list)
 
   pub excludes_some : (some : List (List ℕ)) → Some some ≡ names profile rule → (text : List ℕ) (b : Bool) → IsTrue b ↔ Contains some text → IsTrue (not b) ↔ Excludes profile rule text
-  excludes_some some e text true tells = (
-    λ no. cc,
-    λ h. absurd (h.2 (subst (λ those. Contains those text) (sym (one_list some h.0 e h.1)) (tells.0 refl))),
-  )
-  excludes_some some e text false tells = (
-    λ yes. (some, sym e, λ c. let clash : false ≡ true = tells.1 c in cc),
-    λ h. refl,
-  )
+  excludes_some some e text true tells = grind (arith, one_list)
+  excludes_some some e text false tells = grind arith
 
   pub excludes_none : None ≡ names profile rule → (text : List ℕ) → IsTrue false ↔ Excludes profile rule text
   excludes_none e text = (λ no. cc, λ h. absurd (no_list h.0 e h.1))
@@ -68,18 +37,8 @@ module _ (profile : Profile) (rule : ListRule) where
   all_fail some text none p c false e = refl
 
   pub matches_none_some : (some : List (List ℕ)) → Some some ≡ names profile rule → (text : List ℕ) (b : Bool) → b ≡ list_any (λ p. matches p text) some → IsTrue (not b) ↔ MatchesNone profile rule text
-  matches_none_some some e text true tells = (
-    λ no. cc,
-    λ h.
-        let one = from_any (λ p. matches p text) some (sym tells) in
-        let fails : matches one.0 text ≡ false = h.2 one.0 (subst (λ those. Contains those one.0) (sym (one_list some h.0 e h.1)) one.1) in
-        let clash : true ≡ false = sym one.2 ∙ fails in
-        cc,
-  )
-  matches_none_some some e text false tells = (
-    λ yes. (some, sym e, λ p c. all_fail some text (sym tells) p c (matches p text) refl),
-    λ h. refl,
-  )
+  matches_none_some some e text true tells = grind (arith, from_any, one_list)
+  matches_none_some some e text false tells = (λ yes. (some, sym e, λ p c. all_fail some text (sym tells) p c (matches p text) refl), λ h. refl)
 
   pub matches_none_none : None ≡ names profile rule → (text : List ℕ) → IsTrue false ↔ MatchesNone profile rule text
   matches_none_none e text = (λ no. cc, λ h. absurd (no_list h.0 e h.1))

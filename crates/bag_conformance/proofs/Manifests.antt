@@ -1,24 +1,7 @@
 -- The faults of manifests that are lacking, or may not be there.
-use Rattle.std.proofs.Common.{◌≡◌, ◌↔◌, ℕ, Bool, true, Option, None, Some, List, [], Contains, IsTrue, MatchOption, refl, sym, ap, ◌∙◌, subst}
+use Rattle.bag_conformance.proofs.Common.{arith, ◌≡◌, ◌↔◌, ℕ, Bool, true, Option, None, Some, List, [], Contains, IsTrue, MatchOption, subst, Bor, is_some, is_alg_text, manifest_name, Kind, Bag, HasFile, FileEntry, of_path, Fault, AreListed, Profile, ListRule, made_of, HasManifest, AreAll, required_code, other_code, allowed_manifests, required_manifests, LacksManifest, HasOtherManifest, IsOtherManifest, Excludes, Lists}
 use Rattle.std.specs.Prelude.{◌≢◌}
-use Rattle.std.specs.Borrow.{Bor}
-use Rattle.std.specs.Option.{is_some}
-use Rattle.bag_read.specs.ManifestName.{is_alg_text, manifest_name}
-use Rattle.bag_read.specs.declared.kind.Kind.{Kind}
-use Rattle.bag_tree.specs.Bag.{Bag, HasFile}
-use Rattle.bag_tree.specs.declared.listing.FileEntry.{FileEntry}
-use Rattle.bag_facts.specs.FaultAt.{of_path}
-use Rattle.bag_facts.specs.declared.fault.Fault.{Fault}
-use Rattle.bag_facts.specs.TagReader.{AreListed}
-use Rattle.bag_profile.specs.Profile.{Profile}
-use Rattle.bag_profile.specs.declared.rule.ListRule.{ListRule}
-use Rattle.bag_stages.proofs.FaultFields.{made_of}
-use Rattle.bag_stages.specs.TagFiles.{HasManifest}
 use Rattle.bag_stages.proofs.PartFaults.{one_alg}
-use Rattle.bag_conformance.specs.ConformanceFaults.{AreAll, required_code, other_code}
-use Rattle.bag_conformance.specs.ConformanceStage.{allowed_manifests, required_manifests, LacksManifest, HasOtherManifest}
-use Rattle.bag_conformance.specs.NotAllowed.{IsOtherManifest}
-use Rattle.bag_conformance.specs.ProfileRules.{Excludes, Lists}
 use Rattle.bag_conformance.proofs.FaultSets.{FaultsOf, same_all, whole_at, code_at}
 use Rattle.bag_conformance.proofs.FilesThere.{fault_of, HoldsOf, IsFaultOfAFile, files_all}
 
@@ -57,23 +40,10 @@ module _ (bag : Bag) (profile : Profile) (kind : Kind) where
   IsOther = IsFaultOfAFile (other_code kind) (IsOtherManifest profile kind) bag
 
   to_other : (f : Fault) → IsOther f → HasOther f
-  to_other f h =
-      let other = h.3 in
-      let alg = other.0 in (
-        code_at f (other_code kind) h.0 h.2,
-        (
-          alg,
-          whole_at f (other_code kind) (manifest_name kind alg) (h.2 ∙ ap (λ p. of_path (other_code kind) p None []) other.2),
-          (other.1, subst (HasFile bag) other.2 h.1),
-          other.3,
-        ),
-      )
+  to_other f h = grind (arith, code_at, whole_at)
 
   from_other : (f : Fault) → HasOther f → IsOther f
-  from_other f h =
-      let alg = h.1.0 in
-      let path = manifest_name kind alg in
-      (path, h.1.2.1, made_of f (other_code kind) path None 0 [] h.0 h.1.1, (alg, h.1.2.0, refl, h.1.3))
+  from_other f h = grind (arith, made_of)
 
   -- the files that may not be there
   pub other_all : (files : List FileEntry) (faults : List Fault) → AreListed bag files
@@ -93,15 +63,9 @@ module _ (kind : Kind) (path : List ℕ) where
   pub has_by : (bag : Bag) (name : List ℕ) (o : Option (Bor (List ℕ))) (has : Bool) → path ≡ manifest_name kind name → MatchOption o IsUnnamed (λ alg. IsNamed alg.now) → true ≡ is_some o
       → IsTrue has ↔ HasFile bag path → IsTrue has ↔ HasManifest bag kind name
   has_by bag name None has at named some tells = cc
-  has_by bag name (Some alg) has at named some tells = (
-    λ yes. (subst (λ a. IsTrue (is_alg_text a)) (one_alg kind kind alg.now name (sym named.1 ∙ at)) named.0, subst (HasFile bag) at (tells.0 yes)),
-    λ h. tells.1 (subst (HasFile bag) (sym at) h.1),
-  )
+  has_by bag name (Some alg) has at named some tells = grind (arith, one_alg)
 
   -- it may not be there where the list lacks its algorithm
   pub other_by : (profile : Profile) (alg : List ℕ) (rule : ListRule) (b : Bool) → IsNamed alg → rule ≡ allowed_manifests kind → IsTrue b ↔ Excludes profile rule alg
       → IsTrue b ↔ IsOtherManifest profile kind path
-  other_by profile alg rule b named is tells = (
-    λ yes. (alg, named.0, named.1, subst (λ r. Excludes profile r alg) is (tells.0 yes)),
-    λ h. tells.1 (subst (Excludes profile rule) (one_alg kind kind h.0 alg (sym h.2 ∙ named.1)) (subst (λ r. Excludes profile r h.0) (sym is) h.3)),
-  )
+  other_by profile alg rule b named is tells = grind (arith, one_alg)

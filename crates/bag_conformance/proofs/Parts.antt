@@ -1,13 +1,6 @@
 -- The faults of a profile are those of its parts.
-use Rattle.std.proofs.Common.{◌≡◌, ◌⊎◌, inl, inr, List, ◌++◌, refl, sym, subst}
-use Rattle.bag_text.specs.declared.code.Code.{Code}
-use Rattle.bag_text.specs.declared.code.Code.TheVariants.{ProfileIdentifier, LabelRequired, LabelRepeated, ValueNotAllowed, ManifestRequired, ManifestNotAllowed, TagmanifestRequired, TagmanifestNotAllowed, TagFileRequired, TagFileNotAllowed, FetchNotAllowed, VersionNotAccepted, SerializationRequired}
-use Rattle.bag_read.specs.declared.kind.Kind.TheVariants.{Payload, Tag}
-use Rattle.bag_tree.specs.Bag.{Bag}
-use Rattle.bag_facts.specs.declared.fault.Fault.{Fault}
-use Rattle.bag_profile.specs.Profile.{Profile}
+use Rattle.bag_conformance.proofs.Common.{◌≡◌, ◌⊎◌, inl, inr, List, ◌++◌, refl, sym, subst, Code, ProfileIdentifier, LabelRequired, LabelRepeated, ValueNotAllowed, ManifestRequired, ManifestNotAllowed, TagmanifestRequired, TagmanifestNotAllowed, TagFileRequired, TagFileNotAllowed, FetchNotAllowed, VersionNotAccepted, SerializationRequired, Payload, Tag, Bag, Fault, Profile, AreAll, IsOfElements, IsOfKind, IsOfTagFiles, IsOfWhole}
 use Rattle.bag_conformance.specs.ConformanceStage.{ConformanceHolds, IsOfProfile}
-use Rattle.bag_conformance.specs.ConformanceFaults.{AreAll, IsOfElements, IsOfKind, IsOfTagFiles, IsOfWhole}
 use Rattle.bag_conformance.proofs.FaultSets.{both_all, same_all}
 
 module _ (bag : Bag) (profile : Profile) where

@@ -1,18 +1,5 @@
 -- The faults of other tag files that are lacking, or may not be there.
-use Rattle.std.proofs.Common.{None, ◌≡◌, ◌↔◌, ◌⊎◌, inl, inr, ℕ, List, [], ◌++◌, Contains, refl, sym, ap, subst}
-use Rattle.bag_text.specs.declared.code.Code.TheVariants.{TagFileRequired, TagFileNotAllowed, FetchNotAllowed}
-use Rattle.bag_tree.specs.Bag.{Bag, HasFile}
-use Rattle.bag_tree.specs.declared.listing.FileEntry.{FileEntry}
-use Rattle.bag_facts.specs.FaultAt.{of_path}
-use Rattle.bag_facts.specs.declared.fault.Fault.{Fault}
-use Rattle.bag_facts.specs.TagReader.{AreListed}
-use Rattle.bag_profile.specs.Profile.{Profile}
-use Rattle.bag_profile.specs.declared.rule.ListRule.TheVariants.{TagFilesRequired}
-use Rattle.bag_stages.proofs.FaultFields.{made_of}
-use Rattle.bag_conformance.specs.ConformanceFaults.{AreAll, IsOfTagFiles}
-use Rattle.bag_conformance.specs.ConformanceStage.{LacksTagFile, HasOtherTagFile, HasFetchFile}
-use Rattle.bag_conformance.specs.NotAllowed.{IsOtherTagFile}
-use Rattle.bag_conformance.specs.ProfileRules.{Lists}
+use Rattle.bag_conformance.proofs.Common.{arith, None, ◌≡◌, ◌↔◌, ◌⊎◌, inl, inr, ℕ, List, [], ◌++◌, Contains, refl, sym, ap, subst, TagFileRequired, TagFileNotAllowed, FetchNotAllowed, Bag, HasFile, FileEntry, of_path, Fault, AreListed, Profile, TagFilesRequired, made_of, AreAll, IsOfTagFiles, LacksTagFile, HasOtherTagFile, HasFetchFile, IsOtherTagFile, Lists}
 use Rattle.bag_conformance.proofs.FaultSets.{FaultsOf, same_all, both_all, whole_at, code_at}
 use Rattle.bag_conformance.proofs.FilesThere.{fault_of, HoldsOf, IsFaultOfAFile, files_all}
 
@@ -54,18 +41,7 @@ module _ (bag : Bag) (profile : Profile) where
   IsOther = IsFaultOfAFile TagFileNotAllowed (IsOtherTagFile profile) bag
 
   to_other : (f : Fault) → IsOther f → HasOther f
-  to_other f (path, has, is, other) =
-      let at : f.path ≡ path = ap (λ (x : Fault). x.path) is in
-      let fields = whole_at f TagFileNotAllowed path is in
-      let here : IsOtherTagFile profile f.path = subst (IsOtherTagFile profile) (sym at) other in (
-        code_at f TagFileNotAllowed path is,
-        (
-          record { path_is = refl; alg_is = fields.alg_is; line_is = fields.line_is; detail_is = fields.detail_is },
-          subst (HasFile bag) (sym at) has,
-          here.0,
-          here.1,
-        ),
-      )
+  to_other f (path, has, is, other) = grind (arith, whole_at, code_at)
 
   from_other : (f : Fault) → HasOther f → IsOther f
   from_other f h = (f.path, h.1.1, made_of f TagFileNotAllowed f.path None 0 [] h.0 h.1.0, (h.1.2, h.1.3))

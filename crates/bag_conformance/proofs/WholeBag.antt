@@ -1,20 +1,5 @@
 -- The faults of a bag as a whole.
-use Rattle.std.proofs.Common.{◌≡◌, ◌≢◌, inl, inr, ◌++◌, ℕ, List, [], ◌∷◌, Option, None, Some, refl, sym, ap, ◌∙◌, subst}
-use Rattle.std.specs.Option.{option_and_then}
-use Rattle.bag_text.specs.declared.code.Code.TheVariants.{VersionNotAccepted, SerializationRequired}
-use Rattle.bag_read.specs.Declaration.{declared_version}
-use Rattle.bag_tree.specs.Bag.{Bag, file}
-use Rattle.bag_facts.specs.declared.fault.Fault.{Fault}
-use Rattle.bag_profile.specs.Profile.{Profile}
-use Rattle.bag_profile.specs.declared.rule.ListRule.TheVariants.{AcceptBagItVersion}
-use Rattle.bag_profile.specs.declared.terms.Serialization.TheVariants.{Required}
-use Rattle.bag_stages.specs.FaultFields.{of_bag}
-use Rattle.bag_stages.specs.TagFiles.{bagit_txt}
-use Rattle.bag_stages.proofs.FaultFields.{made_of}
-use Rattle.bag_conformance.specs.ConformanceFaults.{AreAll, IsOfWhole}
-use Rattle.bag_conformance.specs.ConformanceStage.{HasOtherVersion, IsToBeSerialized}
-use Rattle.bag_conformance.specs.NotAllowed.{other_version}
-use Rattle.bag_conformance.specs.ProfileRules.{Excludes}
+use Rattle.bag_conformance.proofs.Common.{arith, ◌≡◌, ◌≢◌, inl, inr, ◌++◌, ℕ, List, [], ◌∷◌, Option, None, Some, refl, sym, ap, ◌∙◌, subst, option_and_then, VersionNotAccepted, SerializationRequired, declared_version, Bag, file, Fault, Profile, AcceptBagItVersion, Required, of_bag, bagit_txt, made_of, AreAll, IsOfWhole, HasOtherVersion, IsToBeSerialized, other_version, Excludes}
 use Rattle.bag_conformance.proofs.FaultSets.{same_all, both_all, none_all, one_all, whole_at, code_at}
 
 -- the version that a bag declares
@@ -35,9 +20,7 @@ module _ (bag : Bag) (profile : Profile) where
 
   -- no version is declared
   pub undeclared_all : (faults : List Fault) → faults ≡ [] → None ≡ version_in (file bag bagit_txt) → AreAll HasOther faults
-  undeclared_all faults made none =
-      none_all HasOther faults made
-      (λ f h. let clash : None ≡ Some h.1.1 = none ∙ declared_in h.1.0 h.1.1 h.1.3 h.1.4 in cc)
+  undeclared_all faults made none = grind (arith, none_all, declared_in)
 
   -- a version is declared
   module _ (version : List ℕ) (is : Some version ≡ version_in (file bag bagit_txt)) where
@@ -46,8 +29,7 @@ module _ (bag : Bag) (profile : Profile) where
 
     -- that is accepted
     pub accepted_all : (faults : List Fault) → faults ≡ [] → ¬ (Excludes profile AcceptBagItVersion version) → AreAll HasOther faults
-    accepted_all faults made accepts =
-        none_all HasOther faults made (λ f h. accepts (subst (Excludes profile AcceptBagItVersion) (same_version f h) h.1.5))
+    accepted_all faults made accepts = none_all HasOther faults made (λ f h. accepts (subst (Excludes profile AcceptBagItVersion) (same_version f h) h.1.5))
 
     is_other : (x : Fault) → x ≡ other_version version → Excludes profile AcceptBagItVersion version → HasOther x
     is_other x e excluded =
@@ -69,10 +51,7 @@ module _ (bag : Bag) (profile : Profile) where
         )
 
     only_other : (x f : Fault) → x ≡ other_version version → HasOther f → f ≡ x
-    only_other x f e h =
-        let at = h.1.2 in
-        let one : f ≡ other_version h.1.1 = made_of f VersionNotAccepted bagit_txt None 1 h.1.1 h.0 at in
-        one ∙ ap other_version (same_version f h) ∙ sym e
+    only_other x f e h = grind (arith, made_of, same_version)
 
     -- that isn't
     pub excluded_all : (faults : List Fault) (x : Fault) → faults ≡ x ∷ [] → x ≡ other_version version → Excludes profile AcceptBagItVersion version → AreAll HasOther faults

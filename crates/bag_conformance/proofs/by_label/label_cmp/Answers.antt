@@ -1,11 +1,8 @@
-use Rattle.std.proofs.Common.{◌≡◌, rules, refl, ap, ◌∙◌}
+use Rattle.bag_conformance.proofs.Common.{◌≡◌, rules, refl, ap, ◌∙◌, nat_cmp, YieldsList-from_map_by, cmp_from_yields_List}
 use Rattle.std.specs.Char.{to_ascii_lowercase}
 use Rattle.std.specs.Iterator.Adapters.{map_source, map_callee}
-use Rattle.std.specs.Ordering.{nat_cmp}
 use Rattle.std.specs.Str.Iter.{bytes_rest}
-use Rattle.std.proofs.lemmas.Iterator.{YieldsList-from_map_by}
 use Rattle.std.proofs.lemmas.Iterator.Adapters.{YieldsList-from_bytes}
-use Rattle.std.proofs.lemmas.Iterator.Search.{cmp_from_yields_List}
 use Rattle.bag_conformance.proofs.by_label.label_cmp.Goals as goal
 
 pub returns : goal.returns

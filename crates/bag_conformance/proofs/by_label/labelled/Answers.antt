@@ -1,6 +1,4 @@
-use Rattle.std.proofs.Common.{◌≡◌, ◌≤◌, ◌∙◌, length, take, true, false, ap, sym, subst, rules, of_calls}
-use Rattle.std.specs.List.Sorted.{IsPartitionedBy, IsPartitionPoint}
-use Rattle.std.proofs.lemmas.Fn.{always_returns_same}
+use Rattle.bag_conformance.proofs.Common.{◌≡◌, ◌≤◌, ◌∙◌, length, take, true, false, ap, sym, subst, rules, of_calls, IsPartitionedBy, IsPartitionPoint, always_returns_same}
 use Rattle.bag_conformance.specs.ElementFaults as told
 use Rattle.bag_conformance.proofs.ByLabel.{is_below, has_label, below_first, label_first, run_is}
 use Rattle.bag_conformance.proofs.by_label.labelled.Goals as goal

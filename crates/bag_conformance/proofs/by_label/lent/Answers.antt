@@ -1,4 +1,4 @@
-use Rattle.std.proofs.lemmas.Iterator.{YieldsList-from_slice}
+use Rattle.bag_conformance.proofs.Common.{YieldsList-from_slice}
 use Rattle.std.proofs.lemmas.Iterator.Consumers.{map_from_collect}
 use Rattle.bag_conformance.proofs.by_label.lent.Goals as goal
 

@@ -1,5 +1,5 @@
+use Rattle.bag_conformance.proofs.Common.{IsOfProfile}
 use Rattle.std.proofs.lemmas.List.Filters.{dedup_is}
-use Rattle.bag_conformance.specs.ConformanceStage.{IsOfProfile}
 use Rattle.bag_conformance.proofs.EachOnce.{sorted_listed}
 use Rattle.bag_conformance.proofs.conformance.conformance_faults.Goals as goal
 

@@ -1,6 +1,4 @@
-use Rattle.std.proofs.lemmas.Result.{IfOk-weaker}
-use Rattle.bag_read.specs.declared.kind.Kind.TheVariants.{Payload, Tag}
-use Rattle.bag_conformance.specs.ConformanceFaults.{IsOfKind}
+use Rattle.bag_conformance.proofs.Common.{IfOk-weaker, Payload, Tag, IsOfKind}
 use Rattle.bag_conformance.proofs.FaultSets.{both_all}
 use Rattle.bag_conformance.proofs.conformance.faults_of_manifests.Goals as goal
 

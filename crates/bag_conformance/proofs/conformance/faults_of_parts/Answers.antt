@@ -1,4 +1,4 @@
-use Rattle.std.proofs.lemmas.Result.{IfOk-weaker}
+use Rattle.bag_conformance.proofs.Common.{IfOk-weaker}
 use Rattle.bag_conformance.proofs.Parts.{parts_all}
 use Rattle.bag_conformance.proofs.conformance.faults_of_parts.Goals as goal
 

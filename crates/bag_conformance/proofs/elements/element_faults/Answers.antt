@@ -1,6 +1,5 @@
-use Rattle.std.proofs.Common.{sym, subst, ◌∙◌}
+use Rattle.bag_conformance.proofs.Common.{sym, subst, ◌∙◌, IsOfElements}
 use Rattle.bag_conformance.specs.ElementFaults as told
-use Rattle.bag_conformance.specs.ConformanceFaults.{IsOfElements}
 use Rattle.bag_conformance.proofs.ElementFaults.{labelled_are, elements_are}
 use Rattle.bag_conformance.proofs.FaultSets.{permuted_all}
 use Rattle.bag_conformance.proofs.LabelRule.{AreOf}

@@ -1,6 +1,4 @@
-use Rattle.std.proofs.Common.{sym, ◌∙◌, rules, tests}
-use Rattle.std.proofs.lemmas.Iterator.{YieldsList-from_slice}
-use Rattle.std.proofs.lemmas.Iterator.Search.{any_from_yields_List}
+use Rattle.bag_conformance.proofs.Common.{sym, ◌∙◌, rules, tests, YieldsList-from_slice, any_from_yields_List}
 use Rattle.bag_conformance.specs.ElementFaults as told
 use Rattle.bag_conformance.proofs.ElementFaults.{lent_any}
 use Rattle.bag_conformance.proofs.elements.has_value.Goals as goal

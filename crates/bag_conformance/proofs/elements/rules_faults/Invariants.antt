@@ -1,4 +1,4 @@
-use Rattle.std.proofs.Common.{◌≡◌, take}
+use Rattle.bag_conformance.proofs.Common.{◌≡◌, take}
 use Rattle.bag_conformance.specs.ElementFaults as told
 use Rattle.bag_conformance.proofs.elements.rules_faults.Given as goal
 

@@ -1,6 +1,4 @@
-use Rattle.std.proofs.Common.{rules, of_calls}
-use Rattle.std.proofs.lemmas.Fn.{always_returns_same}
-use Rattle.bag_text.specs.Text.{text_cmp}
+use Rattle.bag_conformance.proofs.Common.{rules, of_calls, always_returns_same, text_cmp}
 use Rattle.bag_facts.proofs.ListedPaths.{bag_has, path_found}
 use Rattle.bag_conformance.proofs.has_file.has_file.Goals as goal
 

@@ -1,5 +1,4 @@
-use Rattle.std.proofs.Common.{◌↔◌, subst, Contains, IsTrue, sym, ◌∙◌, true, false, ◌≡◌, arith}
-use Rattle.std.proofs.lemmas.Grind.{common_steps}
+use Rattle.bag_conformance.proofs.Common.{◌↔◌, subst, Contains, IsTrue, sym, ◌∙◌, true, false, ◌≡◌, arith, common_steps}
 use Rattle.bag_conformance.proofs.LabelRule.{found_allowed}
 use Rattle.bag_conformance.proofs.label_rule.is_allowed.Goals as goal
 

@@ -1,7 +1,4 @@
-use Rattle.std.proofs.Common.{◌↔◌, sym, subst, Contains, IsTrue}
-use Rattle.std.specs.Result.{is_ok}
-use Rattle.std.proofs.lemmas.List.{map-id}
-use Rattle.bag_facts.proofs.ByPath.{found}
+use Rattle.bag_conformance.proofs.Common.{◌↔◌, sym, subst, Contains, IsTrue, is_ok, map-id, found}
 use Rattle.bag_conformance.proofs.label_rule.is_among.Goals as goal
 
 pub returns : goal.returns

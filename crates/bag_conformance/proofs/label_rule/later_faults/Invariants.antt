@@ -1,4 +1,4 @@
-use Rattle.std.proofs.Common.{◌≡◌, map, take}
+use Rattle.bag_conformance.proofs.Common.{◌≡◌, map, take}
 use Rattle.bag_conformance.specs.ElementFaults as told
 use Rattle.bag_conformance.proofs.label_rule.later_faults.Given as goal
 

@@ -1,5 +1,4 @@
-use Rattle.std.proofs.Common.{◌∙◌}
-use Rattle.std.proofs.lemmas.Result.{IfOk-weaker}
+use Rattle.bag_conformance.proofs.Common.{◌∙◌, IfOk-weaker}
 use Rattle.bag_conformance.proofs.RulesInTurn.{later_repeated}
 use Rattle.bag_conformance.proofs.label_rule.repeated_faults.Goals as goal
 

@@ -1,6 +1,4 @@
-use Rattle.std.proofs.Common.{None, ◌≡◌, ◌++◌, ◌∷◌, [], true, false, refl, sym, ap, ◌∙◌}
-use Rattle.bag_read.specs.ManifestName.{manifest_name}
-use Rattle.bag_facts.specs.FaultAt.{of_path}
+use Rattle.bag_conformance.proofs.Common.{None, ◌≡◌, ◌++◌, ◌∷◌, [], true, false, refl, sym, ap, ◌∙◌, manifest_name, of_path}
 use Rattle.bag_conformance.proofs.FaultSets.{all_items, one_more, one_other}
 use Rattle.bag_conformance.proofs.Manifests.{lacking_all, lacking_fault, listed_as, IsLacking}
 use Rattle.bag_conformance.proofs.manifest_names.lacking_manifests.Goals as goal

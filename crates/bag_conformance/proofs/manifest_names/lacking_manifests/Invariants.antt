@@ -1,7 +1,4 @@
-use Rattle.std.proofs.Common.{take}
-use Rattle.bag_tree.specs.Bag.{Bag}
-use Rattle.bag_facts.specs.Facts.{IsFactsOf}
-use Rattle.bag_conformance.specs.ConformanceFaults.{AreAll}
+use Rattle.bag_conformance.proofs.Common.{take, Bag, IsFactsOf, AreAll}
 use Rattle.bag_conformance.proofs.FaultSets.{FaultsOf}
 use Rattle.bag_conformance.proofs.Manifests.{lacking_fault, IsLacking}
 use Rattle.bag_conformance.proofs.manifest_names.lacking_manifests.Given as goal

@@ -1,4 +1,4 @@
-use Rattle.std.proofs.lemmas.Result.{IfOk-weaker}
+use Rattle.bag_conformance.proofs.Common.{IfOk-weaker}
 use Rattle.bag_conformance.proofs.FaultSets.{both_all}
 use Rattle.bag_conformance.proofs.Manifests.{HasOther, Lacks}
 use Rattle.bag_conformance.proofs.manifest_names.manifest_faults.Goals as goal

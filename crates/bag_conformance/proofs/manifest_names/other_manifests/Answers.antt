@@ -1,8 +1,4 @@
-use Rattle.std.proofs.Common.{None, ◌≡◌, ◌++◌, ◌∷◌, [], true, false, refl, sym, ap, ◌∙◌}
-use Rattle.bag_facts.specs.TagReader.{AreListed}
-use Rattle.bag_facts.specs.FaultAt.{of_path}
-use Rattle.bag_conformance.specs.ConformanceFaults.{other_code}
-use Rattle.bag_conformance.specs.NotAllowed.{IsOtherManifest}
+use Rattle.bag_conformance.proofs.Common.{None, ◌≡◌, ◌++◌, ◌∷◌, [], true, false, refl, sym, ap, ◌∙◌, AreListed, of_path, other_code, IsOtherManifest}
 use Rattle.bag_conformance.proofs.FaultSets.{all_items, one_more, one_other}
 use Rattle.bag_conformance.proofs.FilesThere.{fault_of, HoldsOf}
 use Rattle.bag_conformance.proofs.Manifests.{other_all}

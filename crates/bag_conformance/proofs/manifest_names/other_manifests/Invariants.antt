@@ -1,6 +1,4 @@
-use Rattle.std.proofs.Common.{take}
-use Rattle.bag_conformance.specs.ConformanceFaults.{AreAll, other_code}
-use Rattle.bag_conformance.specs.NotAllowed.{IsOtherManifest}
+use Rattle.bag_conformance.proofs.Common.{take, AreAll, other_code, IsOtherManifest}
 use Rattle.bag_conformance.proofs.FaultSets.{FaultsOf}
 use Rattle.bag_conformance.proofs.FilesThere.{fault_of, HoldsOf}
 use Rattle.bag_conformance.proofs.manifest_names.other_manifests.Given as goal

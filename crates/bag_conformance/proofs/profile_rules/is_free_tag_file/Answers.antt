@@ -1,5 +1,4 @@
-use Rattle.std.proofs.Common.{◌≡◌, true, false, not, sym, ap, ◌∙◌}
-use Rattle.bag_read.specs.declared.kind.Kind.TheVariants.{Payload, Tag}
+use Rattle.bag_conformance.proofs.Common.{◌≡◌, true, false, not, sym, ap, ◌∙◌, Payload, Tag}
 use Rattle.bag_conformance.proofs.ListRules.{at_none, free_from, named_none, none_at, none_named}
 use Rattle.bag_conformance.proofs.profile_rules.is_free_tag_file.Goals as goal
 use Rattle.bag_conformance.proofs.profile_rules.is_free_tag_file.Goals.{then-not-is_payload, else-not-is_payload, then-is_none, else-is_none}

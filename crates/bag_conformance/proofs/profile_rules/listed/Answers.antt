@@ -1,4 +1,4 @@
-use Rattle.std.proofs.Common.{[], refl}
+use Rattle.bag_conformance.proofs.Common.{[], refl}
 use Rattle.bag_conformance.proofs.ListRules.{lists_none, lists_some}
 use Rattle.bag_conformance.proofs.profile_rules.listed.Goals as goal
 

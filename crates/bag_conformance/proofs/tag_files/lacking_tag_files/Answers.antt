@@ -1,4 +1,4 @@
-use Rattle.std.proofs.Common.{◌≡◌, ◌++◌, ◌∷◌, [], true, false, refl, sym, ◌∙◌}
+use Rattle.bag_conformance.proofs.Common.{◌≡◌, ◌++◌, ◌∷◌, [], true, false, refl, sym, ◌∙◌}
 use Rattle.bag_conformance.proofs.FaultSets.{all_items, one_more, one_other}
 use Rattle.bag_conformance.proofs.TagFiles.{lacking_all, lacking_fault, IsLacking}
 use Rattle.bag_conformance.proofs.tag_files.lacking_tag_files.Goals as goal

@@ -1,7 +1,4 @@
-use Rattle.std.proofs.Common.{◌≡◌, ◌++◌, ◌∷◌, [], true, false, refl, sym, ◌∙◌}
-use Rattle.bag_text.specs.declared.code.Code.TheVariants.{TagFileNotAllowed}
-use Rattle.bag_facts.specs.TagReader.{AreListed}
-use Rattle.bag_conformance.specs.NotAllowed.{IsOtherTagFile}
+use Rattle.bag_conformance.proofs.Common.{◌≡◌, ◌++◌, ◌∷◌, [], true, false, refl, sym, ◌∙◌, TagFileNotAllowed, AreListed, IsOtherTagFile}
 use Rattle.bag_conformance.proofs.FaultSets.{all_items, one_more, one_other}
 use Rattle.bag_conformance.proofs.FilesThere.{fault_of, HoldsOf}
 use Rattle.bag_conformance.proofs.TagFiles.{other_all}

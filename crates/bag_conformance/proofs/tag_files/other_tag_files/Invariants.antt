@@ -1,7 +1,4 @@
-use Rattle.std.proofs.Common.{take}
-use Rattle.bag_text.specs.declared.code.Code.TheVariants.{TagFileNotAllowed}
-use Rattle.bag_conformance.specs.ConformanceFaults.{AreAll}
-use Rattle.bag_conformance.specs.NotAllowed.{IsOtherTagFile}
+use Rattle.bag_conformance.proofs.Common.{take, TagFileNotAllowed, AreAll, IsOtherTagFile}
 use Rattle.bag_conformance.proofs.FaultSets.{FaultsOf}
 use Rattle.bag_conformance.proofs.FilesThere.{fault_of, HoldsOf}
 use Rattle.bag_conformance.proofs.tag_files.other_tag_files.Given as goal

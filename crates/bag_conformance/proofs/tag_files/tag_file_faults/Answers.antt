@@ -1,4 +1,4 @@
-use Rattle.std.proofs.lemmas.Result.{IfOk-weaker}
+use Rattle.bag_conformance.proofs.Common.{IfOk-weaker}
 use Rattle.bag_conformance.proofs.TagFiles.{tag_files_all}
 use Rattle.bag_conformance.proofs.tag_files.tag_file_faults.Goals as goal
 

@@ -1,6 +1,4 @@
-use Rattle.std.proofs.Common.{◌≡◌, false, true, None, Some, sym, ◌∙◌}
-use Rattle.bag_tree.specs.Bag.{file}
-use Rattle.bag_stages.specs.TagFiles.{bagit_txt}
+use Rattle.bag_conformance.proofs.Common.{◌≡◌, false, true, None, Some, sym, ◌∙◌, file, bagit_txt}
 use Rattle.bag_conformance.proofs.WholeBag.{accepted_all, excluded_all, undeclared_all, version_in}
 use Rattle.bag_conformance.proofs.whole_bag.version_faults.Goals as goal
 

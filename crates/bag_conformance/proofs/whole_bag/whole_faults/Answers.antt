@@ -1,5 +1,4 @@
-use Rattle.std.proofs.Common.{◌≡◌, ◌++◌, ◌∷◌, [], true, false, rules, refl, sym, ◌∙◌}
-use Rattle.bag_profile.specs.declared.terms.Serialization.TheVariants.{Required}
+use Rattle.bag_conformance.proofs.Common.{◌≡◌, ◌++◌, ◌∷◌, [], true, false, rules, refl, sym, ◌∙◌, Required}
 use Rattle.bag_conformance.proofs.WholeBag.{folder_all, serialized_all}
 use Rattle.bag_conformance.proofs.whole_bag.whole_faults.Goals as goal
 use Rattle.bag_conformance.proofs.whole_bag.whole_faults.Goals.{then-eq+in_ok-push, else-eq}
