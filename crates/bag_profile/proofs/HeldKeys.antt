@@ -1,27 +1,18 @@
 -- What a profile holds at each of its keys.
-use Rattle.std.proofs.Common.{◌≡◌, ◌⊎◌, inl, inr, ℕ, Bool, true, false, cond, List, [], Option, Some, None, Result, Ok, Err, refl, sym, ap, ◌∙◌, subst, codes}
-use Rattle.std.specs.Option.{option_map, option_and_then, is_some}
-use Rattle.serde_json.specs.Data.{Data, Members}
-use Rattle.serde_json.specs.Find.{get, as_bool, as_str, as_object}
-use Rattle.bag_profile.specs.declared.fault.ProfileFault.{ProfileFault}
-use Rattle.bag_profile.specs.declared.key.Key.{Key}
+use Rattle.bag_profile.proofs.Common.{◌≡◌, ◌⊎◌, inl, inr, ℕ, Bool, true, false, cond, List, [], Option, Some, None, Result, Ok, Err, refl, sym, ap, ◌∙◌, subst, codes, option_map, option_and_then, is_some, Data, Members, get, as_bool, as_str, as_object, ProfileFault, Key, LabelRule, ◌>>=◌, shaped, at, present, needed, optional, flag, allowed_values, label_rules, name_rules, name_lists_of, as_record, of_object, serialization_named, terms_of, texts, unchecked_of}
 use Rattle.bag_profile.specs.declared.key.Key.TheVariants as key
-use Rattle.bag_profile.specs.declared.label.LabelRule.{LabelRule}
 use Rattle.bag_profile.specs.declared.name_lists.NameRules.{NameRules}
 use Rattle.bag_profile.specs.declared.name_lists.NameLists.{NameLists}
 use Rattle.bag_profile.specs.declared.terms.Serialization.{Serialization}
 use Rattle.bag_profile.specs.declared.terms.Serialization.TheVariants.{Optional}
 use Rattle.bag_profile.specs.declared.terms.Terms.{Terms}
-use Rattle.bag_profile.specs.Answer.{◌>>=◌, shaped, at, present, needed}
 use Rattle.bag_profile.specs.Held.{IsAt, IsSetAt, HoldsKeys, ProfilesHoldTheirKeys, RulesHoldTheirKeys}
 use Rattle.bag_profile.specs.Key.{key_name}
-use Rattle.bag_profile.specs.Label.{optional, flag, allowed_values, label_rule, label_rules}
-use Rattle.bag_profile.specs.NameLists.{texts_at, name_rules, name_lists_of}
+use Rattle.bag_profile.specs.Label.{label_rule}
+use Rattle.bag_profile.specs.NameLists.{texts_at}
 use Rattle.bag_profile.specs.Profile.{Profile}
-use Rattle.bag_profile.specs.Read.{as_record, identifier_of, labels_of, of_object, profile_of}
-use Rattle.bag_profile.specs.Terms.{serialization_named, allow_fetch_of, serialization_of, terms_of}
-use Rattle.bag_profile.specs.TextSet.{texts}
-use Rattle.bag_profile.specs.Unchecked.{unchecked_of}
+use Rattle.bag_profile.specs.Read.{identifier_of, labels_of, profile_of}
+use Rattle.bag_profile.specs.Terms.{allow_fetch_of, serialization_of}
 
 ok_same : {A : Type 0} (x y : A) → ◌≡◌ {A = Result A ProfileFault} (Ok x) (Ok y) → x ≡ y
 ok_same x y e = cc

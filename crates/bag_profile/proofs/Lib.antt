@@ -1,3 +1,4 @@
+pub mod Common
 pub mod HeldKeys
 pub mod JsonTexts
 pub mod Orders

@@ -1,21 +1,13 @@
 -- What is read of an object is in the order of its keys.
-use Rattle.std.proofs.Common.{◌≡◌, ℕ, Bool, true, false, cond, List, [], ◌∷◌, Option, Some, None, String, Global, refl, sym, ap, subst, ◌∙◌, string_bytes, codes}
-use Rattle.std.specs.Option.{ForSome, option_map, option_and_then, is_some}
-use Rattle.std.specs.List.{AllByRecursion}
+use Rattle.bag_profile.proofs.Common.{◌≡◌, ℕ, Bool, true, false, cond, List, [], ◌∷◌, Option, Some, None, String, Global, refl, sym, ap, subst, ◌∙◌, string_bytes, codes, ForSome, option_map, option_and_then, is_some, AllByRecursion, Less, Data, Members, no_members, member, get, as_object, as_array, members_view, text_cmp, LabelRule, IsOrderly, labels, optional, flag, allowed_values, rules_of, keys, IsAscending, texts_of, text_set}
 use Rattle.std.specs.List.Sorted.{IsStrictlySortedBy}
-use Rattle.std.specs.declared.cmp.Ordering.TheVariants.{Less}
 use Rattle.std.specs.Map.{keys_of}
 use Rattle.std.specs.String.{string_cmp}
 use Rattle.std.proofs.lemmas.List.Kept.{IsStrictlySortedBy-filter}
-use Rattle.serde_json.specs.Data.{Data, Members, no_members, member}
-use Rattle.serde_json.specs.Find.{get, as_object, as_array}
-use Rattle.serde_json.specs.View.{members_view}
 use Rattle.serde_json.specs.declared.value.Value.{Value}
-use Rattle.bag_text.specs.Text.{text_cmp}
-use Rattle.bag_profile.specs.declared.label.LabelRule.{LabelRule}
-use Rattle.bag_profile.specs.Label.{IsOrderly, labels, optional, flag, allowed_values, label_rule, rules_of}
-use Rattle.bag_profile.specs.Unchecked.{keys, unchecked_of}
-use Rattle.bag_profile.specs.TextSet.{IsAscending, texts, texts_of, text_set}
+use Rattle.bag_profile.specs.Label.{label_rule}
+use Rattle.bag_profile.specs.Unchecked.{unchecked_of}
+use Rattle.bag_profile.specs.TextSet.{texts}
 use Rattle.bag_profile.proofs.TextSets.{ascending_with_texts, ascending_nothing}
 
 abbrev Entry : Type 0
@@ -87,9 +79,7 @@ rules_are (member label d ms) rules e =
     more_rules label ms (label_rule label d) (rules_of ms) rules (λ rule is. rule_is label d rule is) (λ more is. rules_are ms more is) d e
 
 pub rules_orderly : (es : List Entry) (rules : List LabelRule) → IsStrictlySortedBy string_cmp (keys_of es) → rules_of (members_view es) ≡ Some rules → IsOrderly rules
-rules_orderly es rules up e =
-    let are = rules_are (members_view es) rules e in
-    (subst IsAscending (sym are.0) (keys_ascend es up), are.1)
+rules_orderly es rules up e = let are = rules_are (members_view es) rules e in (subst IsAscending (sym are.0) (keys_ascend es up), are.1)
 
 pub no_rules : IsOrderly []
 no_rules = (ascending_nothing, tt)

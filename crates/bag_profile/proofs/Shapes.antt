@@ -1,22 +1,14 @@
 -- A value is read where it has its shape, and the first fault is told.
-use Rattle.std.proofs.Common.{◌≡◌, ℕ, Bool, true, false, cond, not, ◌&&◌, List, [], ◌∷◌, Option, Some, None, Result, Ok, Err, refl, sym, ap, ◌∙◌, codes}
-use Rattle.std.specs.Prelude.{find}
-use Rattle.std.specs.Option.{option_or, option_map, option_and_then, is_some}
-use Rattle.serde_json.specs.Data.{Data, Items, no_items, item, Members, no_members, member}
-use Rattle.serde_json.specs.Find.{get, as_bool, as_str, as_array, as_object}
-use Rattle.bag_profile.specs.declared.fault.ProfileFault.{ProfileFault}
+use Rattle.bag_profile.proofs.Common.{◌≡◌, ℕ, Bool, true, false, cond, not, ◌&&◌, List, [], ◌∷◌, Option, Some, None, Result, Ok, Err, refl, sym, ap, ◌∙◌, codes, find, option_or, option_map, option_and_then, is_some, Data, Items, no_items, item, Members, no_members, member, get, as_bool, as_str, as_array, as_object, ProfileFault, Key, LabelRule, ◌>>=◌, shaped, at, present, needed, optional, flag, allowed_values, rules_of, name_rules, name_lists_of, as_record, of_object, serialization_named, terms_of, texts_of, text_set}
 use Rattle.bag_profile.specs.declared.fault.ProfileFault.TheVariants.{WrongShape}
-use Rattle.bag_profile.specs.declared.key.Key.{Key}
 use Rattle.bag_profile.specs.declared.key.Key.TheVariants as key
-use Rattle.bag_profile.specs.declared.label.LabelRule.{LabelRule}
-use Rattle.bag_profile.specs.Answer.{◌>>=◌, shaped, at, present, needed}
 use Rattle.bag_profile.specs.Key.{key_name}
-use Rattle.bag_profile.specs.Label.{optional, flag, allowed_values, label_rule, rules_of, label_rules}
-use Rattle.bag_profile.specs.NameLists.{texts_at, name_rules, name_lists_of}
-use Rattle.bag_profile.specs.Read.{as_record, identifier_of, labels_of, of_object, profile_of}
+use Rattle.bag_profile.specs.Label.{label_rule, label_rules}
+use Rattle.bag_profile.specs.NameLists.{texts_at}
+use Rattle.bag_profile.specs.Read.{identifier_of, labels_of, profile_of}
 use Rattle.bag_profile.specs.Shape as spec
-use Rattle.bag_profile.specs.Terms.{serialization_named, allow_fetch_of, serialization_of, terms_of}
-use Rattle.bag_profile.specs.TextSet.{texts, texts_of, text_set}
+use Rattle.bag_profile.specs.Terms.{allow_fetch_of, serialization_of}
+use Rattle.bag_profile.specs.TextSet.{texts}
 
 abbrev Fault : Type 0
 Fault = Option ProfileFault

@@ -1,7 +1,5 @@
-use Rattle.std.proofs.Common.{◌≡◌, rules, sym, subst}
-use Rattle.serde_json.specs.View.{members_view}
+use Rattle.bag_profile.proofs.Common.{◌≡◌, rules, sym, subst, members_view, IsAscending}
 use Rattle.bag_profile.specs.Unchecked.{unchecked_of}
-use Rattle.bag_profile.specs.TextSet.{IsAscending}
 use Rattle.bag_profile.proofs.Orders.{unchecked_ascend}
 use Rattle.bag_profile.proofs.unchecked.unchecked_of.Goals as goal
 

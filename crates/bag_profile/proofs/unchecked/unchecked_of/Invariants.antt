@@ -1,6 +1,4 @@
-use Rattle.std.proofs.Common.{◌≡◌, ◌++◌}
-use Rattle.serde_json.specs.View.{members_view}
-use Rattle.bag_profile.specs.Unchecked.{unchecked_of}
+use Rattle.bag_profile.proofs.Common.{◌≡◌, ◌++◌, members_view, unchecked_of}
 use Rattle.bag_profile.proofs.unchecked.unchecked_of.Given as goal
 
 abbrev pub invariant-loop-key : goal.invariant-loop-key
