@@ -1,9 +1,5 @@
 -- Arguments that are added to a command.
-use Rattle.std.proofs.Common.{◌≡◌, ◌∙◌, List, [], ◌∷◌, false, refl, ap₂, fold, map}
-use Rattle.clap.specs.Words.{AddsArg, App, Rule, app_of, rule_of, with_rule}
-use Rattle.clap.specs.declared.builder.arg.Arg.{Arg}
-use Rattle.clap.specs.declared.builder.command.Command.{Command}
-use Rattle.bag_arguments.specs.Arguments.{with_rules}
+use Rattle.bag_arguments.proofs.Common.{◌≡◌, ◌∙◌, List, [], ◌∷◌, false, refl, ap₂, fold, map, AddsArg, App, Rule, app_of, rule_of, with_rule, Arg, Command, with_rules}
 
 -- one argument more, of which the rule is known
 pub added : {old new : Command} {a : Arg} {app : App} {rule : Rule} → AddsArg old a new → a.global ≡ false

@@ -1,11 +1,8 @@
 -- How the answers of the parts make the answer of the whole.
-use Rattle.std.proofs.Common.{◌≡◌, ◌≢◌, ℕ, Bool, true, false, List, [], ◌∷◌, Option, Some, None, Result, Ok, Err, refl, IsErrAnd, subst, sym, inl, inr, is_some, option_map, if◌then◌else◌}
-use Rattle.clap.specs.Words.{HasKind, Kinds, Row, Text, kind_of}
+use Rattle.bag_arguments.proofs.Common.{◌≡◌, ◌≢◌, ℕ, Bool, true, false, List, [], ◌∷◌, Option, Some, None, Result, Ok, Err, refl, IsErrAnd, subst, sym, inl, inr, is_some, option_map, if◌then◌else◌, HasKind, Kinds, Row, Text, kind_of, OutOfMemory, has_after_several, has_two_depths, out_of_place}
 use Rattle.clap.specs.declared.error.Error.{Error}
 use Rattle.clap.specs.declared.error.kind.ErrorKind.{ErrorKind}
-use Rattle.clap.specs.declared.error.kind.ErrorKind.TheVariants.{OutOfMemory}
 use Rattle.bag_arguments.proofs.OneKind.{HasOne, refusals_one}
-use Rattle.bag_arguments.specs.Given.{has_after_several, has_two_depths, out_of_place}
 use Rattle.bag_arguments.specs.Plan.{Answers, Declines, IsNotRefused, IsPlanned, Plans, misuse}
 use Rattle.bag_arguments.specs.Words.{refusals, matches}
 use Rattle.bag_arguments.specs.declared.check_option.CheckOption.{CheckOption}
@@ -40,8 +37,7 @@ misuse_answered rows Memory e = tt
 pub taken_answered : (words : List Text) (rows : List Row) (result : Result Plan Usage) → words ≢ []
     → refusals words ≡ [] → rows ≡ matches words → Plans rows result → IsPlanned words result
 taken_answered [] rows result some none is plans = absurd (some refl)
-taken_answered (word ∷ rest) rows result some none is plans =
-    rw none (subst (λ (r : List Row). Plans r result) is plans)
+taken_answered (word ∷ rest) rows result some none is plans = rw none (subst (λ (r : List Row). Plans r result) is plans)
 
 memory_answered : (kinds : Kinds) (rows : List Row) → Answers kinds rows (Err Memory)
 memory_answered [] rows = tt
@@ -51,8 +47,7 @@ declined : (kinds : Kinds) (rows : List Row) (error : Error) (result : Result Pl
     → Declines (kind_of error) result → (kind_of error ≡ OutOfMemory → result ≡ Err Memory) → Answers kinds rows result
 declined kinds rows error result one (inl memory) declines is =
     subst (λ (r : Result Plan Usage). Answers kinds rows r) (sym (is memory)) (memory_answered kinds rows)
-declined (first ∷ []) rows error result one (inr (inl same)) declines is =
-    subst (λ (k : ErrorKind). Declines k result) same declines
+declined (first ∷ []) rows error result one (inr (inl same)) declines is = subst (λ (k : ErrorKind). Declines k result) same declines
 declined (first ∷ []) rows error result one (inr (inr among)) declines is = absurd among
 declined (first ∷ (second ∷ more)) rows error result one (inr among) declines is = absurd one
 declined [] rows error result one (inr among) declines is = absurd among
@@ -66,8 +61,7 @@ declined_answered (word ∷ rest) error result some has declines memory =
     declined (refusals (word ∷ rest)) (matches (word ∷ rest)) error result (refusals_one (word ∷ rest)) has declines memory
 
 -- an error that is handed on
-pub handed_on : (rows : List Row) (result : Result Plan Usage) (usage : Usage) → IsErrAnd result (λ x. x ≡ usage)
-    → Plans rows (Err usage) → Plans rows result
+pub handed_on : (rows : List Row) (result : Result Plan Usage) (usage : Usage) → IsErrAnd result (λ x. x ≡ usage) → Plans rows (Err usage) → Plans rows result
 handed_on rows (Ok plan) usage h plans = absurd h
 handed_on rows (Err x) usage h plans = subst (λ (u : Usage). Plans rows (Err u)) (sym h) plans
 

@@ -1,7 +1,6 @@
 -- What is computed of the command itself.
-use Rattle.std.proofs.Common.{◌≡◌, true, refl}
+use Rattle.bag_arguments.proofs.Common.{◌≡◌, true, refl, is_simple, is_simple_and_free}
 use Rattle.clap.proofs.OnLiterals.{clap_on_literals}
-use Rattle.clap.specs.Words.{is_simple, is_simple_and_free}
 use Rattle.bag_arguments.specs.Arguments.{command}
 
 pub command_is_simple : is_simple command ≡ true

@@ -1,20 +1,9 @@
 -- A limit that clap takes is a number of 1 or more.
-use Rattle.std.proofs.Common.{◌≡◌, ◌∙◌, ◌==◌, ◌||◌, ◌<◌, ◌⊎◌, ℕ, Bool, true, false, not, List, [], ◌∷◌, Option, Some, None, Result, Ok, Err, refl, sym, ap, subst, arith, inl, inr, length, codes, bytes_eq, option_map, unwrap_or}
-use Rattle.std.specs.Prelude.{slice_get}
-use Rattle.std.specs.Borrow.{Bor}
-use Rattle.std.specs.List.{All, list_all, slice_index_or}
+use Rattle.bag_arguments.proofs.Common.{◌≡◌, ◌∙◌, ◌==◌, ◌||◌, ◌<◌, ◌⊎◌, ℕ, Bool, true, false, not, List, [], ◌∷◌, Option, Some, None, Result, Ok, Err, refl, sym, ap, subst, arith, inl, inr, length, codes, bytes_eq, option_map, unwrap_or, slice_get, Bor, All, list_all, slice_index_or, ParsesUnsigned, All-get_or, bytes_eq-Decides, App, IsParsedFrom, Rule, Text, app_of, args_of, first_value, found_of, groups_of, matched_of, rows_of, EntryPasses, PassesArg, parser_of_value, Arg, Command, ValueParser, first_value-rows, HasLimit, IsLimit, IsLimitText}
 use Rattle.std.specs.Result.{result_ok}
-use Rattle.std.specs.Str.Parse.{ParsesUnsigned}
-use Rattle.std.proofs.lemmas.List.Elements.{All-get_or}
 use Rattle.std.proofs.lemmas.Bool.{cases_lt, eqb-true}
-use Rattle.std.proofs.lemmas.Slice.Eq.{bytes_eq-Decides}
-use Rattle.clap.specs.Words.{App, IsParsedFrom, Rule, Text, app_of, args_of, first_value, found_of, groups_of, matched_of, rows_of}
 use Rattle.clap.specs.Built.{IsAuto, SameRules}
-use Rattle.clap.specs.Facts.{EntryPasses, PassesArg, parser_of_value}
 use Rattle.clap.specs.Values.{Accepts}
-use Rattle.clap.specs.declared.builder.arg.Arg.{Arg}
-use Rattle.clap.specs.declared.builder.command.Command.{Command}
-use Rattle.clap.specs.declared.builder.value_parser.ValueParser.{ValueParser}
 use Rattle.clap.specs.declared.builder.value_parser.ValueParser.TheVariants as parser
 use Rattle.clap.specs.declared.parser.matches.ArgMatches.{ArgMatches}
 use Rattle.clap.specs.declared.parser.matches.MatchedArg.{MatchedArg}
@@ -22,9 +11,7 @@ use Rattle.clap.proofs.CallerLemmas.{entry_by_id}
 use Rattle.clap.proofs.OnLiterals.{clap_on_literals}
 use Rattle.clap.proofs.SimpleLemmas.{plain_fields, simple_groups}
 use Rattle.clap.proofs.TakesLemmas.{each_rule}
-use Rattle.clap.proofs.WalkLemmas.{first_value-rows}
 use Rattle.bag_arguments.specs.Arguments.{command}
-use Rattle.bag_arguments.specs.Given.{HasLimit, IsLimit, IsLimitText}
 
 -- the parser takes numbers of 1 or more, and nothing else
 abbrev takes_limits : Option ValueParser → Bool
@@ -85,12 +72,9 @@ built_limit old m p is j x high at named = elim (cases_lt j (length (args_of old
   | inr over ↦ absurd (not_auto _ named (subst IsAuto at (p.from.extra j x over high)))
 ]
 
-accepted : (o : Option ValueParser) (ignore_case : Bool) (text : Text) → takes_limits o ≡ true → Accepts ignore_case (parser_of_value o) text
-    → IsLimitText text
+accepted : (o : Option ValueParser) (ignore_case : Bool) (text : Text) → takes_limits o ≡ true → Accepts ignore_case (parser_of_value o) text → IsLimitText text
 accepted None ignore_case text e h = cc
-accepted (Some (parser.Unsigned low high)) ignore_case text e h =
-    let one : low ≡ 1 = eqb-true low 1 e in
-    (h.0, h.1, omega arith)
+accepted (Some (parser.Unsigned low high)) ignore_case text e h = let one : low ≡ 1 = eqb-true low 1 e in (h.0, h.1, omega arith)
 accepted (Some parser.String) ignore_case text e h = cc
 accepted (Some parser.Falsey) ignore_case text e h = cc
 accepted (Some parser.NonEmptyString) ignore_case text e h = cc
@@ -108,8 +92,7 @@ value_accepted old m p is text any =
     accepted any.1.value_parser any.1.ignore_case text
     (built_limit old m p is any.0 any.1 any.2 any.3 ((bytes_eq-Decides any.1.id.now (codes "max-faults")).0 any.4.0)) any.4.1
 
-first_passes : (P : Text → Type 0) (vs : List (Bor Text)) (text : Text) → All (λ v. P v.now) vs
-    → option_map (λ s. s.now) (slice_get vs 0) ≡ Some text → P text
+first_passes : (P : Text → Type 0) (vs : List (Bor Text)) (text : Text) → All (λ v. P v.now) vs → option_map (λ s. s.now) (slice_get vs 0) ≡ Some text → P text
 first_passes P [] text h e = cc
 first_passes P (v ∷ vs) text h e = subst P (ap (λ o. unwrap_or o v.now) e) (All-get_or (λ v. P v.now) (v ∷ vs) 0 v (omega arith) h)
 
@@ -143,9 +126,7 @@ pub limit_passes : (old : Command) (m : ArgMatches) → IsParsedFrom old m → a
 limit_passes old m p is text limit = go (matched_of (found_of m) (codes "max-faults")) refl (first_value-rows (found_of m) (codes "max-faults") ∙ limit)
   where
     go : (o : Option MatchedArg) → matched_of (found_of m) (codes "max-faults") ≡ o → first_value (found_of m) (codes "max-faults") ≡ Some text → IsLimitText text
-    go None found first =
-        let bad : None ≡ Some text = rw found at first in
-        cc
+    go None found first = let bad : None ≡ Some text = rw found at first in cc
     go (Some x) found first = value_accepted old m p is text (entry_value old m p is x found text (rw found at first))
 
 -- the number of the limit

@@ -1,22 +1,16 @@
 -- A command without subcommands gives one kind of error at most.
-use Rattle.std.proofs.Common.{◌≡◌, ◌==◌, ◌&&◌, ◌||◌, ◌+◌, min, ℕ, zero, suc, Bool, true, false, not, List, [], ◌∷◌, Option, Some, None, refl, length, drop, is_some, if◌then◌else◌, nat_lt}
-use Rattle.std.specs.Prelude.{⊤, encode_utf8, slice_get}
-use Rattle.std.specs.List.{list_any}
+use Rattle.bag_arguments.proofs.Common.{◌≡◌, ◌==◌, ◌&&◌, ◌||◌, ◌+◌, min, ℕ, zero, suc, Bool, true, false, not, List, [], ◌∷◌, Option, Some, None, refl, length, drop, is_some, if◌then◌else◌, nat_lt, ⊤, encode_utf8, slice_get, list_any, explicit_source, parser_of_value, unwrap_or_range, ArgumentConflict, Shape, argument_words, built, ValueParser}
 use Rattle.std.specs.Option.{option_map_or}
 use Rattle.std.specs.Str.{bytes_eq, chars}
 use Rattle.clap.specs.Lexer.{long_of, short_of}
 use Rattle.clap.specs.ValueTests.{accepts}
-use Rattle.clap.specs.Facts.{explicit_source, parser_of_value, unwrap_or_range}
 use Rattle.clap.specs.Matches.{count_text}
-use Rattle.clap.specs.declared.error.kind.ErrorKind.TheVariants.{ArgumentConflict}
 use Rattle.clap.specs.Kinds.{Kinds, check_kinds, or_else, range_kinds, request_kinds, value_kinds, values_kinds}
 use Rattle.clap.specs.Faults.{given_default_fault, repeat_fault, use_fault, action_fault, count_fault, settle_fault, react_fault, option_fault, long_fault, short_fault, bundle_step_fault, flags_fault, bundle_fault, flag_word_fault, other_fault, word_fault, positional_fault, stray_fault, step_fault, turn_fault, walk_fault, default_fault, defaults_fault, check_fault, level_fault, entered_fault, built_fault}
 use Rattle.clap.specs.Takes.{is_given}
-use Rattle.clap.specs.Simple.{Shape, argument_words, built}
 use Rattle.clap.specs.Walk.{Held, Row, Rule, Step, Text, Waiting, Walk, idle, option, positional, next, trailing, subcommand, value, action_of, arg_by_id, arg_by_index, arg_by_long, arg_by_short, attached_value, count_of, finished, has_row, is_empty, is_pending, most_values, nothing_held, reacted, settled, takes_several, takes_values, values_or_missing, walk, walk_from, walked, with_default, word_met}
 use Rattle.clap.specs.declared.builder.action.ArgAction.{ArgAction}
 use Rattle.clap.specs.declared.builder.action.ArgAction.TheVariants.{Set, Append, SetTrue, SetFalse, Count, Help, HelpShort, HelpLong, Version}
-use Rattle.clap.specs.declared.builder.value_parser.ValueParser.{ValueParser}
 use Rattle.clap.proofs.OnLiterals.{clap_on_literals}
 use Rattle.bag_arguments.specs.Arguments.{command}
 use Rattle.bag_arguments.specs.Words.{refusals}
@@ -35,8 +29,7 @@ if_one : (c : Bool) (a b : Kinds) → HasOne a → HasOne b → HasOne (if c the
 if_one true a b p q = p
 if_one false a b p q = q
 
-maybe_one : {X : Type 0} (f : X → Kinds) (o : Option X) (otherwise : Kinds) → ((x : X) → HasOne (f x)) → HasOne otherwise
-    → HasOne (option_map_or f o otherwise)
+maybe_one : {X : Type 0} (f : X → Kinds) (o : Option X) (otherwise : Kinds) → ((x : X) → HasOne (f x)) → HasOne otherwise → HasOne (option_map_or f o otherwise)
 maybe_one f None otherwise all none = none
 maybe_one f (Some x) otherwise all none = all x
 
@@ -109,11 +102,9 @@ module _ (c : List Rule) (again : Bool) where
 
   long_one : (a : Option Rule) (v : Option Text) (h : Held) → HasOne (long_fault c again a v h)
   long_one None v h = tt
-  long_one (Some a) v h =
-      if_one (takes_values a) _ _ (option_one a v h) (if_one (is_some v) _ _ tt (react_one a [] h))
+  long_one (Some a) v h = if_one (takes_values a) _ _ (option_one a v h) (if_one (is_some v) _ _ tt (react_one a [] h))
 
-  short_one : (a : Option Rule) (rest : Text) (h : Held) (more : Held → Kinds) → ((g : Held) → HasOne (more g))
-      → HasOne (short_fault c again a rest h more)
+  short_one : (a : Option Rule) (rest : Text) (h : Held) (more : Held → Kinds) → ((g : Held) → HasOne (more g)) → HasOne (short_fault c again a rest h more)
   short_one None rest h more all = tt
   short_one (Some a) rest h more all =
       if_one (takes_values a) _ _ (option_one a (attached_value rest) h)
@@ -129,8 +120,7 @@ module _ (c : List Rule) (again : Bool) where
   flags_one : (k : ℕ) (flags : Text) (skip : ℕ) (h : Held) → HasOne (flags_fault c again k flags skip h)
   unfolding flags_fault
   flags_one zero flags skip h = tt
-  flags_one (suc k) flags skip h =
-      bundle_step_one (slice_get (chars flags) 0) flags skip h (flags_fault c again k) (λ t n g. flags_one k t n g)
+  flags_one (suc k) flags skip h = bundle_step_one (slice_get (chars flags) 0) flags skip h (flags_fault c again k) (λ t n g. flags_one k t n g)
 
   flag_word_one : (p : Option (Text × Option Text)) (word : Text) (h : Held) → HasOne (flag_word_fault c again p word h)
   flag_word_one (Some p) word h = long_one (arg_by_long c p.0) p.1 h

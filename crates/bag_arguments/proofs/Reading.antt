@@ -1,19 +1,8 @@
 -- What is read of the matches.
-use Rattle.std.proofs.Common.{◌≡◌, ◌≢◌, ◌∙◌, ◌<◌, ◌+◌, ℕ, Bool, true, false, List, [], ◌∷◌, ◌++◌, ◌&&◌, ◌||◌, Option, Some, None, refl, sym, ap, bytes_eq, codes, unwrap_or, filter, fold, take, map, option_map, length, if◌then◌else◌}
-use Rattle.std.specs.List.{cons_option, filter_map, slice_index_or}
-use Rattle.std.specs.Str.Parse.{ParsesBool}
-use Rattle.std.specs.Borrow.{Bor}
-use Rattle.std.proofs.lemmas.List.{take_more}
-use Rattle.std.proofs.lemmas.List.Elements.{filter_map-append}
-use Rattle.std.proofs.lemmas.Slice.Eq.{bytes_eq-Decides}
-use Rattle.bag_text.specs.Alg.{algs}
+use Rattle.bag_arguments.proofs.Common.{◌≡◌, ◌≢◌, ◌∙◌, ◌<◌, ◌+◌, ℕ, Bool, true, false, List, [], ◌∷◌, ◌++◌, ◌&&◌, ◌||◌, Option, Some, None, refl, sym, ap, bytes_eq, codes, unwrap_or, filter, fold, take, map, option_map, length, if◌then◌else◌, cons_option, filter_map, slice_index_or, ParsesBool, Bor, take_more, filter_map-append, bytes_eq-Decides, algs, Alg, ReadsOne, Text, matched_of, raw_values, rows_of, raw_values-rows, listed, or_default, values}
 use Rattle.bag_text.specs.AlgList.{has_member, same_alg, with_member}
 use Rattle.bag_text.specs.AlgTable.{has_each, has_member-filter, same_alg_same}
-use Rattle.bag_text.specs.declared.alg.Alg.{Alg}
-use Rattle.clap.specs.Words.{ReadsOne, Text, matched_of, raw_values, rows_of}
 use Rattle.clap.specs.declared.parser.matches.Found.{Found}
-use Rattle.clap.proofs.WalkLemmas.{raw_values-rows}
-use Rattle.bag_arguments.specs.Given.{listed, or_default, values}
 
 is_not_true : (t : Text) → t ≢ codes "true" → (b : Bool) → bytes_eq t (codes "true") ≡ b → b ≡ false
 is_not_true t other true e = absurd (other ((bytes_eq-Decides t (codes "true")).0 e))
@@ -59,8 +48,7 @@ abbrev pub with_if : (Alg → Bool) → List Alg → Alg → List Alg
 with_if p set alg = if p alg then with_member set alg else set
 
 module _ (p q : Alg → Bool) (alg : Alg) where
-  taken_at : p alg ≡ true → (a : Alg) (same : Bool) → same_alg a alg ≡ same
-      → (same || has_member (filter q algs) a) ≡ ((same && p a) || q a)
+  taken_at : p alg ≡ true → (a : Alg) (same : Bool) → same_alg a alg ≡ same → (same || has_member (filter q algs) a) ≡ ((same && p a) || q a)
   taken_at is a true e = sym (ap (λ b. b || q a) (ap p (same_alg_same a alg e) ∙ is))
   taken_at is a false e = has_member-filter q a
 
@@ -80,8 +68,7 @@ regrouped true true true c = refl
 regrouped true true false c = refl
 
 -- a set that a test makes, with those of some algorithms of which another test holds
-with_if-each : (p q : Alg → Bool) (some : List Alg)
-    → fold (with_if p) (filter q algs) some ≡ filter (λ a. (has_member some a && p a) || q a) algs
+with_if-each : (p q : Alg → Bool) (some : List Alg) → fold (with_if p) (filter q algs) some ≡ filter (λ a. (has_member some a && p a) || q a) algs
 with_if-each p q [] = refl
 with_if-each p q (alg ∷ rest) =
     ap (λ set. fold (with_if p) set rest) (one_more p q alg (p alg) refl)
@@ -95,8 +82,7 @@ listed_passes false b e = cc
 
 -- algorithms that are added one by one
 pub named_one_by_one : (p : Alg → Bool) → fold (with_if p) [] algs ≡ filter p algs
-named_one_by_one p =
-    with_if-each p (λ a. false) algs ∙ (λ i. filter (λ a. listed_passes (has_member algs a) (p a) (has_each a) i) algs)
+named_one_by_one p = with_if-each p (λ a. false) algs ∙ (λ i. filter (λ a. listed_passes (has_member algs a) (p a) (has_each a) i) algs)
 
 pub or_default_kept : (set : List Alg) → set ≢ [] → set ≡ or_default set
 or_default_kept [] some = absurd (some refl)

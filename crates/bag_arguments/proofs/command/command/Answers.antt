@@ -1,8 +1,5 @@
-use Rattle.std.proofs.Common.{◌∙◌, ap}
-use Rattle.std.proofs.lemmas.Result.{IfOk-weaker}
-use Rattle.clap.specs.Words.{App}
-use Rattle.clap.specs.Simple.{app_of_fields}
-use Rattle.bag_arguments.specs.Arguments.{command, without_program_name, with_rules, main_arguments, check_arguments, alg_arguments, label_arguments}
+use Rattle.bag_arguments.proofs.Common.{◌∙◌, ap, IfOk-weaker, App, app_of_fields, without_program_name, with_rules, main_arguments, check_arguments, alg_arguments, label_arguments}
+use Rattle.bag_arguments.specs.Arguments.{command}
 use Rattle.bag_arguments.proofs.command.command.Goals as goal
 
 pub returns : goal.returns

@@ -1,10 +1,4 @@
-use Rattle.std.proofs.Common.{◌∙◌, ap, sym, arith, fold}
-use Rattle.std.proofs.lemmas.List.{take_all}
-use Rattle.std.proofs.lemmas.List.Sums.{fold_more}
-use Rattle.bag_text.specs.Alg.{algs, name}
-use Rattle.bag_text.specs.declared.alg.Alg.{Alg}
-use Rattle.clap.specs.Words.{App, app_of, with_rule}
-use Rattle.bag_arguments.specs.Arguments.{flag}
+use Rattle.bag_arguments.proofs.Common.{◌∙◌, ap, sym, arith, fold, take_all, fold_more, algs, name, Alg, App, app_of, with_rule, flag}
 use Rattle.bag_arguments.proofs.Adding.{added, with_rules-map}
 use Rattle.bag_arguments.proofs.command.with_alg_arguments.Goals as goal
 

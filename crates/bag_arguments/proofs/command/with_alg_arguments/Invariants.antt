@@ -1,8 +1,4 @@
-use Rattle.std.proofs.Common.{◌≡◌, fold, take}
-use Rattle.bag_text.specs.Alg.{name}
-use Rattle.bag_text.specs.declared.alg.Alg.{Alg}
-use Rattle.clap.specs.Words.{App, app_of, with_rule}
-use Rattle.bag_arguments.specs.Arguments.{flag}
+use Rattle.bag_arguments.proofs.Common.{◌≡◌, fold, take, name, Alg, App, app_of, with_rule, flag}
 use Rattle.bag_arguments.proofs.command.with_alg_arguments.Given as goal
 
 abbrev pub invariant-loop-alg : goal.invariant-loop-alg

@@ -1,5 +1,4 @@
-use Rattle.std.proofs.Common.{refl}
-use Rattle.std.proofs.lemmas.Result.{IfOk-weaker}
+use Rattle.bag_arguments.proofs.Common.{refl, IfOk-weaker}
 use Rattle.bag_arguments.proofs.Adding.{added}
 use Rattle.bag_arguments.proofs.command.with_check_arguments.Goals as goal
 

@@ -1,10 +1,4 @@
-use Rattle.std.proofs.Common.{◌∙◌, ap, sym, arith, fold}
-use Rattle.std.proofs.lemmas.List.{take_all}
-use Rattle.std.proofs.lemmas.List.Sums.{fold_more}
-use Rattle.clap.specs.Words.{App, app_of, with_rule}
-use Rattle.bag_arguments.specs.Arguments.{option}
-use Rattle.bag_arguments.specs.Labels.{label_option}
-use Rattle.bag_arguments.specs.declared.label.Label.{Label}
+use Rattle.bag_arguments.proofs.Common.{◌∙◌, ap, sym, arith, fold, take_all, fold_more, App, app_of, with_rule, option, label_option, Label}
 use Rattle.bag_arguments.proofs.Adding.{added, with_rules-map}
 use Rattle.bag_arguments.proofs.command.with_label_arguments.Goals as goal
 

@@ -1,8 +1,4 @@
-use Rattle.std.proofs.Common.{◌≡◌, fold, take}
-use Rattle.clap.specs.Words.{App, app_of, with_rule}
-use Rattle.bag_arguments.specs.Arguments.{option}
-use Rattle.bag_arguments.specs.Labels.{label_option}
-use Rattle.bag_arguments.specs.declared.label.Label.{Label}
+use Rattle.bag_arguments.proofs.Common.{◌≡◌, fold, take, App, app_of, with_rule, option, label_option, Label}
 use Rattle.bag_arguments.proofs.command.with_label_arguments.Given as goal
 
 abbrev pub invariant-loop-label : goal.invariant-loop-label

@@ -1,6 +1,4 @@
-use Rattle.std.proofs.Common.{◌≡◌, ◌∙◌, true}
-use Rattle.clap.specs.Words.{found_of, rows_of}
-use Rattle.bag_arguments.specs.Given.{named_algs}
+use Rattle.bag_arguments.proofs.Common.{◌≡◌, ◌∙◌, true, found_of, rows_of, named_algs}
 use Rattle.bag_arguments.proofs.Reading.{or_default_kept}
 use Rattle.bag_arguments.proofs.given.algs.Goals as goal
 

@@ -1,6 +1,4 @@
-use Rattle.std.proofs.Common.{◌∙◌, codes, sym}
-use Rattle.std.proofs.lemmas.Result.{IfOk-weaker}
-use Rattle.clap.specs.Words.{found_of}
+use Rattle.bag_arguments.proofs.Common.{◌∙◌, codes, sym, IfOk-weaker, found_of}
 use Rattle.bag_arguments.proofs.Reading.{values_of_none, values_of_some}
 use Rattle.bag_arguments.proofs.given.directories.Goals as goal
 

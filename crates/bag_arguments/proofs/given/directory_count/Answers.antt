@@ -1,6 +1,4 @@
-use Rattle.std.proofs.Common.{◌∙◌, List, ap, codes, length, sym}
-use Rattle.std.proofs.lemmas.List.{length-map}
-use Rattle.clap.specs.Words.{Text, found_of}
+use Rattle.bag_arguments.proofs.Common.{◌∙◌, List, ap, codes, length, sym, length-map, Text, found_of}
 use Rattle.bag_arguments.proofs.Reading.{values_of_none, values_of_some}
 use Rattle.bag_arguments.proofs.given.directory_count.Goals as goal
 

@@ -1,6 +1,4 @@
-use Rattle.std.proofs.Common.{◌∙◌, ◌++◌, List, Option, ap₂, sym, arith}
-use Rattle.clap.specs.Words.{found_of, rows_of}
-use Rattle.bag_arguments.specs.Given.{element, listed}
+use Rattle.bag_arguments.proofs.Common.{◌∙◌, ◌++◌, List, Option, ap₂, sym, arith, found_of, rows_of, element, listed}
 use Rattle.bag_arguments.specs.declared.label.Label.TheVariants.{SourceOrganization}
 use Rattle.bag_arguments.specs.declared.plan.InfoItem.{InfoItem}
 use Rattle.bag_arguments.proofs.Reading.{filter_map_more}

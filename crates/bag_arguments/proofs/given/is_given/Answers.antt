@@ -1,6 +1,4 @@
-use Rattle.std.proofs.Common.{◌∙◌, [], ap, bytes_eq, codes, unwrap_or}
-use Rattle.clap.proofs.WalkLemmas.{one_text-rows}
-use Rattle.clap.specs.Words.{found_of, one_text}
+use Rattle.bag_arguments.proofs.Common.{◌∙◌, [], ap, bytes_eq, codes, unwrap_or, one_text-rows, found_of, one_text}
 use Rattle.bag_arguments.proofs.Reading.{flag_read}
 use Rattle.bag_arguments.proofs.given.is_given.Goals as goal
 

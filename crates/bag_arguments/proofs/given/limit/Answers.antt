@@ -1,6 +1,4 @@
-use Rattle.std.proofs.Common.{◌∙◌, ap, sym, option_map}
-use Rattle.std.specs.Borrow.{Bor}
-use Rattle.clap.specs.Words.{Text}
+use Rattle.bag_arguments.proofs.Common.{◌∙◌, ap, sym, option_map, Bor, Text}
 use Rattle.bag_arguments.proofs.Limits.{limit_read}
 use Rattle.bag_arguments.proofs.given.limit.Goals as goal
 

@@ -1,11 +1,5 @@
-use Rattle.std.proofs.Common.{◌∙◌, [], List, Bool, ap, sym, arith, fold, get_or}
-use Rattle.std.proofs.lemmas.List.{take_all}
-use Rattle.std.proofs.lemmas.List.Sums.{fold_more}
-use Rattle.bag_text.specs.Alg.{algs, name}
-use Rattle.bag_text.specs.declared.alg.Alg.{Alg}
+use Rattle.bag_arguments.proofs.Common.{◌∙◌, [], List, Bool, ap, sym, arith, fold, get_or, take_all, fold_more, algs, name, Alg, found_of, rows_of, is_given}
 use Rattle.bag_text.specs.declared.alg.Alg.TheVariants.{Md5}
-use Rattle.clap.specs.Words.{found_of, rows_of}
-use Rattle.bag_arguments.specs.Given.{is_given}
 use Rattle.bag_arguments.proofs.Reading.{named_one_by_one, with_if}
 use Rattle.bag_arguments.proofs.given.named_algs.Goals as goal
 

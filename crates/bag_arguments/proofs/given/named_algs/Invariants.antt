@@ -1,7 +1,4 @@
-use Rattle.std.proofs.Common.{◌≡◌, [], fold, take}
-use Rattle.bag_text.specs.Alg.{name}
-use Rattle.clap.specs.Words.{found_of, rows_of}
-use Rattle.bag_arguments.specs.Given.{is_given}
+use Rattle.bag_arguments.proofs.Common.{◌≡◌, [], fold, take, name, found_of, rows_of, is_given}
 use Rattle.bag_arguments.proofs.Reading.{with_if}
 use Rattle.bag_arguments.proofs.given.named_algs.Given as goal
 

@@ -1,4 +1,4 @@
-use Rattle.std.proofs.Common.{◌≡◌, map, take}
+use Rattle.bag_arguments.proofs.Common.{◌≡◌, map, take}
 use Rattle.bag_arguments.proofs.given.texts.Given as goal
 
 abbrev pub invariant-loop-word : goal.invariant-loop-word

@@ -1,6 +1,4 @@
-use Rattle.std.proofs.Common.{◌∙◌}
-use Rattle.clap.proofs.WalkLemmas.{first_value-rows}
-use Rattle.clap.specs.Words.{found_of}
+use Rattle.bag_arguments.proofs.Common.{◌∙◌, first_value-rows, found_of}
 use Rattle.bag_arguments.proofs.given.value.Goals as goal
 
 pub returns : goal.returns

@@ -1,6 +1,4 @@
-use Rattle.std.proofs.Common.{◌∙◌, ap, map, subst}
-use Rattle.std.proofs.lemmas.Result.{IfErr-weaker, IfOk-weaker}
-use Rattle.clap.specs.Words.{App, FailsBy, fault_of, is_simple, is_simple_and_free, matches_of, takes}
+use Rattle.bag_arguments.proofs.Common.{◌∙◌, ap, map, subst, IfErr-weaker, IfOk-weaker, App, FailsBy, fault_of, is_simple, is_simple_and_free, matches_of, takes}
 use Rattle.bag_arguments.specs.Words.{refusals, is_taken, matches}
 use Rattle.bag_arguments.proofs.Computed.{command_is_simple, command_is_free}
 use Rattle.bag_arguments.proofs.Limits.{limit_passes}

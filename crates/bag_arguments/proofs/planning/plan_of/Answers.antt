@@ -1,6 +1,4 @@
-use Rattle.std.proofs.Common.{◌≡◌, ◌≢◌, ◌==◌, List, [], ◌∷◌, Bool, false, map, length}
-use Rattle.std.specs.Borrow.{Bor}
-use Rattle.clap.specs.Words.{Text, found_of, rows_of}
+use Rattle.bag_arguments.proofs.Common.{◌≡◌, ◌≢◌, ◌==◌, List, [], ◌∷◌, Bool, false, map, length, Bor, Text, found_of, rows_of}
 use Rattle.bag_arguments.proofs.Answering.{declined_answered, memory_not_refused, plans_not_refused, taken_answered}
 use Rattle.bag_arguments.proofs.planning.plan_of.Goals as goal
 

@@ -1,4 +1,4 @@
-use Rattle.clap.specs.Words.{found_of, rows_of}
+use Rattle.bag_arguments.proofs.Common.{found_of, rows_of}
 use Rattle.bag_arguments.proofs.Answering.{handed_on, misuse_answered}
 use Rattle.bag_arguments.proofs.planning.plan_of_matches.Goals as goal
 
