@@ -1,36 +1,16 @@
 -- What the changes of a disk make of the bag below its base folder.
-use Rattle.std.proofs.Common.{◌≡◌, ℕ, ◌||◌, ◌&&◌, Bool, true, false, not, cond, List, [], ◌∷◌, Any, IsTrue, length, map as list_map, Option, Some, None, is_some, inl, inr, refl, ap, sym, subst, ◌∙◌}
-use Rattle.std.proofs.lemmas.Bool.{and_from, false≢true, or_left, or_right}
+use Rattle.bag_store.proofs.Common.{arith, ◌≡◌, ℕ, ◌||◌, ◌&&◌, Bool, true, false, not, cond, List, [], ◌∷◌, Any, IsTrue, length, Option, Some, None, is_some, inl, inr, refl, ap, sym, subst, ◌∙◌, and_from, false≢true, or_left, or_right, find, get-entries, get-insert, list_any, eq_by_cmp, nat_list_cmp_total, text_cmp, is_base_name, under, exact_texts, one_text, text_itself, Bag, file, files_of, has_file, has_folder, has_within, is_taken, lacks_folder, lacks_source, make_folder, create, MovesAll, is_within, moved, within_cases, itself_within, not_within, Nodes, Node, node, IsDisk, IsReached, bytes_of, is_folder_node, path_in, File, Folder, Other, HasFile, Moves, with_file, with_folder, nodes_move, bag_of_disk, file_of_disk, folder_of_disk, MovesInto, bag_of, IsStanding}
+use Rattle.std.proofs.Common.{map as list_map}
 use Rattle.std.proofs.lemmas.List.Folds.{list_any-from_Any}
 use Rattle.std.specs.FinMap as map
-use Rattle.std.specs.FinMap.{find, get-entries, get-insert}
 use Rattle.std.specs.FinSet as set
-use Rattle.std.specs.List.{list_any}
-use Rattle.std.specs.Ordering.{eq_by_cmp}
-use Rattle.std.specs.Cmp.Lexicographic.{nat_list_cmp_total}
-use Rattle.bag_text.specs.Text.{text_cmp}
-use Rattle.bag_text.specs.Path.{is_base_name, under}
-use Rattle.bag_tree.proofs.SameText.{exact_texts, one_text, text_itself}
 use Rattle.bag_tree.proofs.ListingLaw.{listings_are_of_the_bag}
-use Rattle.bag_tree.specs.Bag.{Bag, file, files_of, has_file, has_folder}
 use Rattle.bag_tree.specs.Listing.{IsListingOf, IsOrdered}
 use Rattle.bag_tree.specs.declared.listing.FileEntry.{FileEntry}
 use Rattle.bag_tree.specs.declared.listing.Listing.{Listing}
-use Rattle.bag_tree.specs.Steps.{has_within, is_taken, lacks_folder, lacks_source, make_folder, create}
-use Rattle.bag_tree.specs.Moved.{MovesAll, is_within, moved}
 use Rattle.bag_tree.specs.Steps as step
 use Rattle.bag_tree.proofs.Moving.{moves_all}
-use Rattle.bag_tree.proofs.Within.{within_cases, itself_within, not_within}
-use Rattle.bag_disk.specs.Disk.{Nodes, Node, node, IsDisk, IsReached, bytes_of, is_folder_node}
-use Rattle.bag_disk.specs.Location.{path_in}
-use Rattle.bag_disk.specs.Disk.Node.{File, Folder, Other}
-use Rattle.bag_disk.specs.WritableDisk.{HasFile, Moves, with_file, with_folder}
 use Rattle.bag_disk.proofs.DiskPaths.{none_below_no_folder}
-use Rattle.bag_disk.proofs.Moving.{nodes_move}
-use Rattle.bag_disk.specs.BagBelow.{bag_of_disk, file_of_disk, folder_of_disk}
-use Rattle.bag_store.specs.Changing.{MovesInto}
-use Rattle.bag_disk.specs.DiskBag.{bag_of}
-use Rattle.bag_store.specs.Standing.{IsStanding}
 use Rattle.bag_store.specs.declared.standing.Standing.{Standing}
 use Rattle.bag_store.specs.declared.standing.Standing.TheVariants as standing
 use Rattle.bag_store.proofs.BaseNames.{base_not_under, path_in_is_under, target_reached}
@@ -50,10 +30,7 @@ no_name nodes q disk none = elim (has_folder (bag_of nodes) q) as (λ b. has_fol
 
 -- the folders of two disks, by the names of the first one's and what takes their place
 by_name : (q : List ℕ) (a b : Bool) → (is_base_name q ≡ true → a ≡ b) → (is_base_name q ≡ false → a ≡ b) → a ≡ b
-by_name q a b named other = elim (is_base_name q) as (λ c. is_base_name q ≡ c → a ≡ b) [
-  | true ↦ named
-  | false ↦ other
-] refl
+by_name q a b named other = grind arith
 
 -- two texts, one of which is a name
 other_text : (q name : List ℕ) → is_base_name name ≡ true → is_base_name q ≡ false → eq_by_cmp text_cmp q name ≡ false
@@ -68,11 +45,7 @@ node_put nodes name n q = get-insert nat_list_cmp_total nodes name n q
 -- a look at what was put, or at what was there
 put_cases : {X : Type 0} (look : Option Node → X) (nodes : Nodes) (name : List ℕ) (n : Node) (q : List ℕ) (x : X) → (q ≡ name → look (Some n) ≡ x) → (eq_by_cmp text_cmp q name ≡ false → look (node nodes q) ≡ x)
     → look (node (map.insert nodes name n) q) ≡ x
-put_cases look nodes name n q x here elsewhere = ap look (node_put nodes name n q)
-    ∙ elim (eq_by_cmp text_cmp q name) as (λ b. eq_by_cmp text_cmp q name ≡ b → look (cond b (Some n) (node nodes q)) ≡ x) [
-      | true ↦ λ same. here (one_text q name same)
-      | false ↦ elsewhere
-    ] refl
+put_cases look nodes name n q x here elsewhere = grind (arith, node_put, one_text)
 
 -- the bag with a folder in its base folder
 pub folder_made : (nodes : Nodes) (name : List ℕ) → IsDisk nodes → IsDisk (with_folder nodes name) → is_base_name name ≡ true → node nodes name ≡ None
@@ -141,10 +114,7 @@ within_found top (e ∷ es) any = elim (is_within top e.0) as (λ b. is_within t
 ] refl any
   where
     still : (p : List ℕ) → is_some (find text_cmp p es) ≡ true → is_some (cond (eq_by_cmp text_cmp p e.0) (Some e.1) (find text_cmp p es)) ≡ true
-    still p found = elim (eq_by_cmp text_cmp p e.0) as (λ b. is_some (cond b (Some e.1) (find text_cmp p es)) ≡ true) [
-      | true ↦ refl
-      | false ↦ found
-    ]
+    still p found = grind arith
 
 -- a file stands at a path or below it
 pub file_within : (nodes : Nodes) (path : List ℕ) → HasFile nodes path → has_within (bag_of nodes) path ≡ true
@@ -153,10 +123,7 @@ file_within nodes path has = found_within path path (files_of (bag_of nodes)) (i
 
 -- nothing stands at a free path or below it
 pub free_below : (nodes : Nodes) (top path : List ℕ) → IsDisk nodes → node nodes top ≡ None → is_within top path ≡ true → node nodes path ≡ None
-free_below nodes top path disk free within = elim (within_cases top path within) [
-  | inl itself ↦ ap (node nodes) itself ∙ free
-  | inr below ↦ none_below_no_folder nodes path top below.0 disk below.1 (λ is. false≢true (ap is_some (sym free ∙ is)))
-]
+free_below nodes top path disk free within = grind (arith, within_cases, none_below_no_folder, false≢true)
 
 pub no_file_below : (nodes : Nodes) (top path : List ℕ) → IsDisk nodes → node nodes top ≡ None → is_within top path ≡ true → file (bag_of nodes) path ≡ None
 no_file_below nodes top path disk free within = file_of_disk nodes path ∙ ap bytes_of (free_below nodes top path disk free within)
@@ -187,17 +154,11 @@ files_moved nodes from to disk free path =
 
 -- a name of the base folder is within another alone where it is this one
 name_within : (top q : List ℕ) → is_base_name q ≡ true → eq_by_cmp text_cmp q top ≡ false → is_within top q ≡ false
-name_within top q named other = not_within top q (λ is. elim is [
-  | inl itself ↦ false≢true (sym other ∙ ap (eq_by_cmp text_cmp q) (sym itself) ∙ text_itself q)
-  | inr below ↦ base_not_under q top below.0 named below.1
-])
+name_within top q named other = grind (arith, not_within, false≢true, text_itself, base_not_under)
 
 -- a name of the base folder isn't within a path in a folder of it
 not_in_target : (folder top q : List ℕ) → is_base_name q ≡ true → is_within (under folder top) q ≡ false
-not_in_target folder top q named = not_within (under folder top) q (λ is. elim is [
-  | inl itself ↦ base_not_under q folder top named itself
-  | inr below ↦ base_not_under q (under folder top) below.0 named below.1
-])
+not_in_target folder top q named = grind (arith, not_within, base_not_under)
 
 removed : (folders : set.FinSet text_cmp) (from q : List ℕ) (b : Bool) → eq_by_cmp text_cmp q from ≡ b → set.contains (set.remove folders from) q ≡ (not b && set.contains folders q)
 removed folders from q b is = set.contains-remove nat_list_cmp_total folders from q ∙ ap (λ b. not b && set.contains folders q) is
@@ -268,10 +229,7 @@ bag_renamed nodes from to disk disk_then from_is to_is there free = same_bag (ba
     all = nodes_move nodes from to disk free
 
     two : eq_by_cmp text_cmp to from ≡ false
-    two = elim (eq_by_cmp text_cmp to from) as (λ b. eq_by_cmp text_cmp to from ≡ b → b ≡ false) [
-      | true ↦ λ same. absurd (false≢true (ap is_some (sym free ∙ ap (node nodes) (one_text to from same) ∙ there)))
-      | false ↦ λ _. refl
-    ] refl
+    two = grind (arith, false≢true, one_text)
 
 no_folder_there : (o : Option Node) → (o ≡ Some Folder → ⊥) → is_folder_node o ≡ false
 no_folder_there None none = refl
@@ -313,8 +271,7 @@ folder_standing nodes path o seen is folder = subst (λ o. IsStanding nodes path
 
 -- the path to which something is moved leads through a folder
 pub to_target : (nodes : Nodes) (folder top target : List ℕ) → is_base_name folder ≡ true → is_base_name top ≡ true → target ≡ path_in folder top → node nodes folder ≡ Some Folder → IsReached nodes target
-to_target nodes folder top target is named at there =
-    subst (IsReached nodes) (sym (at ∙ path_in_is_under folder top is)) (target_reached nodes folder top is named there)
+to_target nodes folder top target is named at there = grind (arith, path_in_is_under, target_reached)
 
 -- where a file or a folder stands at the target
 pub file_in_target : (nodes : Nodes) (folder top target : List ℕ) (o : Option Standing) (seen : Standing) → is_base_name folder ≡ true → is_base_name top ≡ true → target ≡ path_in folder top
@@ -336,24 +293,10 @@ any_entry top (e ∷ es) = ap (λ b. is_within top e.0 || b) (any_entry top es)
 -- a listed file stands at a path or below it
 pub listed_within : (bag : Bag) (listing : Listing) (files : List FileEntry) (top : List ℕ) → files ≡ listing.files → IsOrdered listing.files → IsListingOf bag listing
     → Any (λ file. IsTrue (is_within top file.path)) files → has_within bag top ≡ true
-listed_within bag listing files top same ordered listed any =
-    sym (any_entry top (files_of bag))
-    ∙ ap (list_any (λ (entry : FileEntry). is_within top entry.path)) (sym (same ∙ listings_are_of_the_bag bag listing ordered listed))
-    ∙ list_any-from_Any (λ (entry : FileEntry). is_within top entry.path) files any
+listed_within bag listing files top same ordered listed any = grind (arith, any_entry top (files_of bag), listings_are_of_the_bag bag listing ordered listed, list_any-from_Any)
 
 -- what was moved into a folder
 pub moved_into : (nodes then : Nodes) (folder top target target_then : List ℕ) (o : Option Standing) → is_base_name folder ≡ true → is_base_name top ≡ true → target ≡ path_in folder top → target_then ≡ path_in folder top
     → node nodes folder ≡ Some Folder → is_taken (bag_of nodes) top ≡ true → o ≡ None → (IsReached nodes target → IsStanding nodes target o)
     → (IsReached nodes target_then → node nodes target_then ≡ None → Moves nodes then top target_then) → MovesInto nodes then top folder
-moved_into nodes then folder top target target_then o is named at at_then there taken none_is stands moves =
-    let same = at ∙ path_in_is_under folder top is in
-    let same_then = at_then ∙ path_in_is_under folder top is in
-    let reached = target_reached nodes folder top is named there in
-    let free : IsReached nodes target → node nodes target ≡ None = λ way. none_standing nodes target o none_is (stands way) in
-    let none : node nodes (under folder top) ≡ None = ap (node nodes) (sym same) ∙ free (subst (IsReached nodes) (sym same) reached) in
-    record {
-      folder_is = there;
-      source = taken;
-      free = none;
-      moved = subst (Moves nodes then top) same_then (moves (subst (IsReached nodes) (sym same_then) reached) (ap (node nodes) same_then ∙ none));
-    }
+moved_into nodes then folder top target target_then o is named at at_then there taken none_is stands moves = grind (arith, path_in_is_under, target_reached, none_standing, then)

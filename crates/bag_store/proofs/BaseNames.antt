@@ -1,16 +1,9 @@
 -- Names of the base folder, and what stands in its folders.
-use Rattle.std.proofs.Common.{◌≡◌, ℕ, ◌<◌, ◌==◌, true, IsTrue, List, [], ◌∷◌, length, length-append, take, get_or, nat_lt, Some, inr, refl, ap, sym, ◌∙◌, arith, ⊎_elim}
-use Rattle.std.specs.List.{position_or_len}
-use Rattle.std.proofs.lemmas.Bool.{and_parts, cases_lt, eqb-true, eq-eqb, false≢true}
+use Rattle.bag_store.proofs.Common.{◌≡◌, ℕ, ◌<◌, ◌==◌, true, IsTrue, List, [], ◌∷◌, length, length-append, take, get_or, nat_lt, Some, inr, refl, ap, sym, ◌∙◌, arith, ⊎_elim, position_or_len, and_parts, cases_lt, eqb-true, eq-eqb, false≢true, take-append_seam, get_or-append_seam, slash, components, is_base_name, is_path, under, Nodes, node, IsReached, Folder, path_in}
 use Rattle.std.proofs.lemmas.List.{get_or_append_left}
 use Rattle.std.proofs.lemmas.List.Splits.{length-slice_split}
 use Rattle.std.proofs.lemmas.List.Sums.{fails_before_first}
-use Rattle.std.proofs.Math.Seq.{take-append_seam, get_or-append_seam}
-use Rattle.bag_text.specs.Path.{slash, components, is_base_name, is_path, under}
 use Rattle.bag_tree.proofs.Parents.{is_slash, in_folder}
-use Rattle.bag_disk.specs.Disk.{Nodes, node, IsReached}
-use Rattle.bag_disk.specs.Disk.Node.{Folder}
-use Rattle.bag_disk.specs.Location.{path_in}
 use Rattle.bag_disk.proofs.FoundPaths.{components_under, path_in_folder}
 
 one_component : (name : List ℕ) → is_base_name name ≡ true → length (components name) ≡ 1
@@ -21,16 +14,7 @@ some_components path = omega (arith, length-slice_split is_slash path)
 
 -- a name is no path in a folder
 pub base_not_under : (name folder rest : List ℕ) → is_base_name name ≡ true → name ≡ under folder rest → ⊥
-base_not_under name folder rest is same =
-    omega (
-      arith,
-      one_component name is,
-      ap (λ p. length (components p)) same,
-      ap length (components_under folder rest),
-      length-append (components folder) (components rest),
-      some_components folder,
-      some_components rest,
-    )
+base_not_under name folder rest is same = grind (arith, one_component, components_under, length-append, some_components)
 
 -- nothing is on the way to a name of the base folder
 pub base_reached : (nodes : Nodes) (name : List ℕ) → is_base_name name ≡ true → IsReached nodes name

@@ -1,34 +1,10 @@
 -- What a step makes of a tree of the files on a disk.
-use Rattle.std.proofs.Common.{◌≡◌, ℕ, ◌+◌, ◌≤◌, ◌==◌, true, false, cond, IsTrue, List, take, Some, None, is_some, inl, inr, ◌⊎◌, refl, ap, sym, subst, ◌∙◌, arith}
-use Rattle.std.proofs.lemmas.Bool.{false≢true}
+use Rattle.bag_store.proofs.Common.{◌≡◌, ℕ, ◌+◌, ◌≤◌, true, false, cond, IsTrue, List, take, Some, None, is_some, inl, inr, ◌⊎◌, refl, ap, sym, subst, ◌∙◌, arith, false≢true, get-insert, eq_by_cmp, nat_list_cmp_total, text_cmp, is_base_name, under, Bag, HasBegun, HasChanged, IsSame, Keeps, within_cases, DiskState, Nodes, Node, node, IsDisk, OnlyLooks, entry_count, is_plain, is_plain_node, File, Folder, Other, Closes, MakesFolder, MovesAll, is_within, moved, nodes_move, IsMovedIn, IsRenamed, MovesInto, Renames, bag_of, state_after, count_after, Begins, Makes, MakesFileOf, failures_after, Refusal, all_plain, other_not_plain}
 use Rattle.std.specs.FinMap as map
-use Rattle.std.specs.FinMap.{get-insert}
-use Rattle.std.specs.Ordering.{eq_by_cmp}
-use Rattle.std.specs.Cmp.Lexicographic.{nat_list_cmp_total}
-use Rattle.bag_text.specs.Text.{text_cmp}
-use Rattle.bag_text.specs.Path.{is_base_name, under}
-use Rattle.bag_tree.specs.Bag.{Bag}
 use Rattle.bag_tree.specs.declared.answer.Answer.{Answer}
-use Rattle.bag_tree.specs.Changes.{HasBegun, HasChanged, IsSame}
-use Rattle.bag_tree.specs.Tree.{Keeps}
 use Rattle.bag_tree.specs.Steps as step
-use Rattle.bag_tree.proofs.Within.{within_cases}
-use Rattle.bag_disk.specs.Disk.{DiskState, Nodes, Node, node, IsDisk, OnlyLooks, entry_count, is_plain, is_plain_node}
-use Rattle.bag_disk.specs.Disk.Node.{File, Folder, Other}
-use Rattle.bag_disk.specs.WritableDisk.{Closes, MakesFolder}
-use Rattle.bag_tree.specs.Moved.{MovesAll, is_within, moved}
-use Rattle.bag_disk.proofs.Moving.{nodes_move}
-use Rattle.bag_store.specs.Changing.{IsMovedIn, IsRenamed, MovesInto, Renames}
-use Rattle.bag_disk.specs.DiskBag.{bag_of}
-use Rattle.bag_store.specs.FileTree.{state_after}
-use Rattle.bag_store.specs.Answered.{count_after, last_count, one_more_failure}
-use Rattle.bag_store.specs.Writing.{Begins, Makes, MakesFileOf}
-use Rattle.bag_disk.specs.Refusal.{failures_after}
-use Rattle.bag_disk.specs.declared.refusal.Refusal.{Refusal}
-use Rattle.bag_disk.specs.declared.refusal.Refusal.TheVariants.{Device, Special, Name, NotFound, TooMany, Memory, Exists, Contradicts, InTheWay}
 use Rattle.bag_store.proofs.EntryCounts.{as_many_moved, more_put}
 use Rattle.bag_store.proofs.BagSteps.{bag_moved_in, bag_renamed, file_made, folder_made, free_not_taken}
-use Rattle.bag_disk.proofs.Plain.{all_plain, other_not_plain}
 
 -- what stands there stood there before, or is a file or a folder
 abbrev NothingElse : Nodes → Nodes → Type 0
@@ -40,10 +16,7 @@ plain_value Folder none = refl
 plain_value Other none = absurd (none refl)
 
 stays_plain : (old new : Nodes) → NothingElse old new → is_plain old ≡ true → is_plain new ≡ true
-stays_plain old new from plain = all_plain new (λ path n is. elim (from path n is) [
-  | inl good ↦ good
-  | inr at ↦ plain_value n (λ other. false≢true (sym (other_not_plain old at.0 (at.1 ∙ ap Some other)) ∙ plain))
-])
+stays_plain old new from plain = grind (arith, all_plain, plain_value, false≢true, other_not_plain)
 
 nothing_else_put : (nodes : Nodes) (name : List ℕ) (n : Node) → is_plain_node n ≡ true → NothingElse nodes (map.insert nodes name n)
 nothing_else_put nodes name n good path m is = elim (eq_by_cmp text_cmp path name) as (λ b. cond b (Some n) (node nodes path) ≡ Some m → (is_plain_node m ≡ true) ⊎ ((q : List ℕ) × (node nodes q ≡ Some m))) [
@@ -103,15 +76,7 @@ renamed_steps old new from to disk disk_then from_is to_is moves = subst (Steps 
 module _ (old new : DiskState) (own own_then given given_then : ℕ) (last last_then : Answer) where
   changed : (change : Bag → Bag) (more : ℕ) → Closes old new → old.failures + own ≤ new.failures + own_then → (IsTrue old.honest → Steps change more old.nodes new.nodes)
       → HasChanged change more (state_after old own given last) (state_after new own_then given_then last_then)
-  changed change more closes grows steps = record {
-    bag = λ honest. (steps honest).bag;
-    plain = λ honest. (steps honest).plain;
-    honest = closes.honest;
-    entries = λ honest. (steps honest).entries;
-    failures = grows;
-    openings = closes.openings;
-    rest = closes.rest;
-  }
+  changed change more closes grows steps = grind arith
 
   pub folder_changed : (name : List ℕ) → IsDisk old.nodes → IsDisk new.nodes → is_base_name name ≡ true → old.failures + own ≤ new.failures + own_then → Closes old new → (IsTrue old.honest → MakesFolder old.nodes new.nodes name)
       → HasChanged (step.make_folder name) 1 (state_after old own given last) (state_after new own_then given_then last_then)
@@ -146,46 +111,11 @@ module _ (old new : DiskState) (own own_then given given_then : ℕ) (last last_
       → IsSame (state_after old own given last) (state_after new own_then given_then last_then)
       ⊎ HasBegun name bytes (state_after old own given last) (state_after new own_then given_then last_then)
   step_begun name bytes disk disk_then is grows same (inl looks) = inl (step_same looks grows same)
-  step_begun name bytes disk disk_then is grows same (inr begins) = inr (record {
-    count = begins.count;
-    begun = file_changed name (take begins.count bytes) disk disk_then grows begins.first;
-    free = λ honest. free_not_taken old.nodes name is (begins.first.file honest).free;
-  })
-
-one_grows : (own : ℕ) → own ≤ one_more_failure own
-one_grows own = elim (own == last_count) as (λ b. own ≤ cond b own (own + 1)) [
-  | true ↦ omega arith
-  | false ↦ omega arith
-]
+  step_begun name bytes disk disk_then is grows same (inr begins) = grind (arith, file_changed name (take begins.count bytes) disk disk_then grows begins.first, free_not_taken)
 
 pub kept_count : (before after own own_then : ℕ) → after ≡ before → own_then ≡ own → before + own ≤ after + own_then
 kept_count before after own own_then same own_same = omega (arith, same, own_same)
 
 -- a refusal forgets no failure
 pub count_grows : (r : Refusal) (before after own own_then : ℕ) → after ≡ failures_after r before → own_then ≡ count_after r own → before + own ≤ after + own_then
-count_grows r before after own own_then disk tree =
-    let one : before ≤ failures_after r before = disk_grows r in
-    let other : own ≤ count_after r own = own_grows r in
-    omega (arith, one, other, disk, tree)
-  where
-    disk_grows : (r : Refusal) → before ≤ failures_after r before
-    disk_grows Device = omega arith
-    disk_grows Special = omega arith
-    disk_grows Name = omega arith
-    disk_grows NotFound = omega arith
-    disk_grows TooMany = omega arith
-    disk_grows Memory = omega arith
-    disk_grows Exists = omega arith
-    disk_grows Contradicts = omega arith
-    disk_grows InTheWay = omega arith
-
-    own_grows : (r : Refusal) → own ≤ count_after r own
-    own_grows Device = omega arith
-    own_grows Special = one_grows own
-    own_grows Name = one_grows own
-    own_grows NotFound = omega arith
-    own_grows TooMany = omega arith
-    own_grows Memory = omega arith
-    own_grows Exists = omega arith
-    own_grows Contradicts = one_grows own
-    own_grows InTheWay = one_grows own
+count_grows r before after own own_then disk tree = grind arith

@@ -1,13 +1,6 @@
 -- How many files and folders there are after a change.
-use Rattle.std.proofs.Common.{◌≡◌, ℕ, ◌+◌, ◌-◌, ◌≤◌, Bool, true, false, cond, List, [], ◌∷◌, filter, length, Some, None, refl, ap, sym, ◌∙◌, arith}
+use Rattle.bag_store.proofs.Common.{◌≡◌, ℕ, ◌+◌, ◌-◌, ◌≤◌, Bool, true, false, cond, List, [], ◌∷◌, filter, length, Some, None, refl, ap, sym, ◌∙◌, arith, get-empty, get-insert, get-remove, len-empty, len-insert, len-remove, same_map, eq_by_cmp, nat_list_cmp_total, text_cmp, exact_texts, moved, renamed, with_renamed, Nodes, Node, node, entry_count, files_and_folders, is_plain_node}
 use Rattle.std.specs.FinMap as map
-use Rattle.std.specs.FinMap.{get-empty, get-insert, get-remove, len-empty, len-insert, len-remove, same_map}
-use Rattle.std.specs.Ordering.{eq_by_cmp}
-use Rattle.std.specs.Cmp.Lexicographic.{nat_list_cmp_total}
-use Rattle.bag_text.specs.Text.{text_cmp}
-use Rattle.bag_tree.proofs.SameText.{exact_texts}
-use Rattle.bag_tree.specs.Moved.{moved, renamed, with_renamed}
-use Rattle.bag_disk.specs.Disk.{Nodes, Node, node, entry_count, files_and_folders, is_plain_node}
 use Rattle.bag_disk.proofs.FilesAndFolders.{count_alone, node_alone, plain_entry, plain_of}
 
 -- the files and folders with one more

@@ -1,22 +1,12 @@
 -- How a tree answers what its disk refuses.
-use Rattle.std.proofs.Common.{◌≡◌, ℕ, ◌+◌, ◌<◌, ◌==◌, true, false, cond, IsTrue, inl, inr, sym, subst, refl, arith}
-use Rattle.bag_tree.specs.Changes.{MayRefuseChange}
-use Rattle.bag_tree.specs.Tree.{TreeState, MayRefuse, most_entries}
+use Rattle.bag_store.proofs.Common.{◌≡◌, ℕ, ◌+◌, ◌<◌, false, IsTrue, inl, inr, sym, subst, refl, arith, MayRefuseChange, TreeState, MayRefuse, most_entries, DiskState, MeetsSpecial, MeetsUnnamed, IsDue, IsDueInListing, IsDueInMove, IsDueInStep, failures_after, Refusal, TellsOfDisk, count_after, failure_or_memory, fault_of, one_more_failure}
 use Rattle.bag_tree.specs.declared.tree_fault.TreeFault.{TreeFault}
 use Rattle.bag_tree.specs.declared.tree_fault.TreeFault.TheVariants as fault
-use Rattle.bag_disk.specs.Disk.{DiskState}
-use Rattle.bag_disk.specs.Refusal.{MeetsSpecial, MeetsUnnamed, IsDue, IsDueInListing, IsDueInMove, IsDueInStep, failures_after}
-use Rattle.bag_disk.specs.declared.refusal.Refusal.{Refusal}
 use Rattle.bag_disk.specs.declared.refusal.Refusal.TheVariants.{Device, Special, Name, NotFound, TooMany, Memory, Exists, Contradicts, InTheWay}
-use Rattle.bag_store.specs.FileTree.{TellsOfDisk}
-use Rattle.bag_store.specs.Answered.{count_after, failure_or_memory, fault_of, last_count, one_more_failure}
 
 -- a failure is counted, or else answered by Memory
 counted : (answer : TreeFault → Type 0) (failure : TreeFault) (own own_then : ℕ) → answer fault.Memory → (own < own_then → answer failure) → own_then ≡ one_more_failure own → answer (failure_or_memory failure own)
-counted answer failure own own_then memory failed is = elim (own == last_count) as (λ b. own_then ≡ cond b own (own + 1) → answer (cond b fault.Memory failure)) [
-  | true ↦ λ _. memory
-  | false ↦ λ more. failed (omega (arith, more))
-] is
+counted answer failure own own_then memory failed is = grind arith
 
 -- how often a tree has failed, before and after a refusal: what its disk counted, and what it counted itself
 pub record Counts (old new : TreeState) (before after own own_then : ℕ) (r : Refusal) : Type 0 where
@@ -38,8 +28,7 @@ module _ (old new : TreeState) (before after own own_then : ℕ) where
   pub answered_so : (absent closed special unnamed gone many : Type 0) (r : Refusal) (answer : TreeFault) → Counts old new before after own own_then r → answer ≡ fault_of r own
       → (special → IsTrue old.honest → old.plain ≡ false) → (unnamed → IsTrue old.honest → old.plain ≡ false) → (gone → IsTrue old.honest → absent) → (many → IsTrue old.honest → most_entries < old.entries)
       → IsDue special unnamed gone many r → MayRefuse absent closed old new answer
-  answered_so absent closed special unnamed gone many r answer counts is over wrong none full due =
-      subst (MayRefuse absent closed old new) (sym is) (answered r counts due)
+  answered_so absent closed special unnamed gone many r answer counts is over wrong none full due = grind arith
     where
       rose : after ≡ before → own < own_then → old.failures ≡ before + own → new.failures ≡ after + own_then → old.failures < new.failures
       rose same more old_is new_is = own_rose old new before after own own_then old_is new_is same more
@@ -59,8 +48,7 @@ module _ (old new : TreeState) (before after own own_then : ℕ) where
   pub listing_answered_so : (special unnamed many contradiction : Type 0) (r : Refusal) (answer : TreeFault) → Counts old new before after own own_then r → answer ≡ fault_of r own
       → (special → IsTrue old.honest → old.plain ≡ false) → (unnamed → IsTrue old.honest → old.plain ≡ false) → (many → IsTrue old.honest → most_entries < old.entries)
       → IsDueInListing special unnamed many contradiction r → MayRefuse ⊥ ⊥ old new answer
-  listing_answered_so special unnamed many contradiction r answer counts is over wrong full due =
-      subst (MayRefuse ⊥ ⊥ old new) (sym is) (answered r counts due)
+  listing_answered_so special unnamed many contradiction r answer counts is over wrong full due = grind (arith, answered)
     where
       as_due : (r : Refusal) → Counts old new before after own own_then r → IsDue special unnamed ⊥ many r → MayRefuse ⊥ ⊥ old new (fault_of r own)
       as_due r n due = answered_so ⊥ ⊥ special unnamed ⊥ many r (fault_of r own) n refl over wrong (λ never. absurd never) full due
@@ -80,13 +68,11 @@ module _ (old new : TreeState) (before after own own_then : ℕ) where
   pub step_answered_so : (absent taken special gone there : Type 0) (r : Refusal) (answer : TreeFault) → Counts old new before after own own_then r → answer ≡ fault_of r own
       → (special → IsTrue old.honest → old.plain ≡ false) → (gone → IsTrue old.honest → absent) → (there → IsTrue old.honest → taken)
       → IsDueInStep special gone there r → MayRefuseChange absent taken old new answer
-  step_answered_so absent taken special gone there r answer counts is over none blocked due =
-      subst (MayRefuseChange absent taken old new) (sym is) (answered r counts due)
+  step_answered_so absent taken special gone there r answer counts is over none blocked due = grind (arith, answered)
     where
       answered : (r : Refusal) → Counts old new before after own own_then r → IsDueInStep special gone there r → MayRefuseChange absent taken old new (fault_of r own)
       answered Device n due = disk_rose old new before after own own_then n.old_is n.new_is n.disk_is n.own_is
-      answered Special n due = counted (MayRefuseChange absent taken old new) fault.Special own own_then tt
-          (λ more. (own_rose old new before after own own_then n.old_is n.new_is n.disk_is more, over due)) n.own_is
+      answered Special n due = grind (arith, counted, own_rose)
       answered Name n due = absurd due
       answered NotFound n due = none due
       answered TooMany n due = absurd due
@@ -99,8 +85,7 @@ module _ (old new : TreeState) (before after own own_then : ℕ) where
   pub move_answered_so : (absent taken special gone there folder : Type 0) (r : Refusal) (answer : TreeFault) → Counts old new before after own own_then r → answer ≡ fault_of r own
       → (special → IsTrue old.honest → old.plain ≡ false) → (gone → IsTrue old.honest → absent) → (there → IsTrue old.honest → taken)
       → IsDueInMove special gone there folder r → MayRefuseChange absent taken old new answer
-  move_answered_so absent taken special gone there folder r answer counts is over none blocked due =
-      subst (MayRefuseChange absent taken old new) (sym is) (answered r counts due)
+  move_answered_so absent taken special gone there folder r answer counts is over none blocked due = grind (arith, answered)
     where
       as_step : (r : Refusal) → Counts old new before after own own_then r → IsDueInStep special gone there r → MayRefuseChange absent taken old new (fault_of r own)
       as_step r n due = step_answered_so absent taken special gone there r (fault_of r own) n refl over none blocked due
@@ -118,10 +103,7 @@ module _ (old new : TreeState) (before after own own_then : ℕ) where
 
 -- what is told of a disk by a failure, or Memory in its place
 told_or_memory : (answer : TreeFault → Type 0) (failure : TreeFault) (own : ℕ) → answer fault.Memory → answer failure → answer (failure_or_memory failure own)
-told_or_memory answer failure own memory told = elim (own == last_count) as (λ b. answer (cond b fault.Memory failure)) [
-  | true ↦ memory
-  | false ↦ told
-]
+told_or_memory answer failure own memory told = grind arith
 
 module _ (r : Refusal) (answer : TreeFault) (own : ℕ) (old new : DiskState) where
   -- what the answer to a refusal tells of the disk
@@ -141,30 +123,14 @@ module _ (r : Refusal) (answer : TreeFault) (own : ℕ) (old new : DiskState) wh
       told InTheWay same special unnamed odd blocked = told_or_memory (TellsOfDisk reason old new) fault.Device own tt (inr (blocked refl))
 
   pub tells_due : (special unnamed gone many : Type 0) → answer ≡ fault_of r own → new.failures ≡ failures_after r old.failures → (special → MeetsSpecial old) → (unnamed → MeetsUnnamed old) → IsDue special unnamed gone many r → TellsOfDisk ⊥ old new answer
-  tells_due special unnamed gone many is counts over wrong due = tells_for ⊥ is counts
-      (λ e. over (subst (IsDue special unnamed gone many) e due))
-      (λ e. wrong (subst (IsDue special unnamed gone many) e due))
-      (λ e. subst (IsDue special unnamed gone many) e due)
-      (λ e. subst (IsDue special unnamed gone many) e due)
+  tells_due special unnamed gone many is counts over wrong due = grind (arith, tells_for)
 
   pub tells_listing : (special unnamed many contradiction : Type 0) → answer ≡ fault_of r own → new.failures ≡ failures_after r old.failures → (special → MeetsSpecial old) → (unnamed → MeetsUnnamed old)
       → IsDueInListing special unnamed many contradiction r → TellsOfDisk contradiction old new answer
-  tells_listing special unnamed many contradiction is counts over wrong due = tells_for contradiction is counts
-      (λ e. over (subst (IsDueInListing special unnamed many contradiction) e due))
-      (λ e. wrong (subst (IsDueInListing special unnamed many contradiction) e due))
-      (λ e. subst (IsDueInListing special unnamed many contradiction) e due)
-      (λ e. absurd (subst (IsDueInListing special unnamed many contradiction) e due))
+  tells_listing special unnamed many contradiction is counts over wrong due = grind (arith, tells_for)
 
   pub tells_step : (special gone there : Type 0) → answer ≡ fault_of r own → new.failures ≡ failures_after r old.failures → (special → MeetsSpecial old) → IsDueInStep special gone there r → TellsOfDisk ⊥ old new answer
-  tells_step special gone there is counts over due = tells_for ⊥ is counts
-      (λ e. over (subst (IsDueInStep special gone there) e due))
-      (λ e. absurd (subst (IsDueInStep special gone there) e due))
-      (λ e. subst (IsDueInStep special gone there) e due)
-      (λ e. subst (IsDueInStep special gone there) e due)
+  tells_step special gone there is counts over due = grind (arith, tells_for)
 
   pub tells_move : (special gone there folder : Type 0) → answer ≡ fault_of r own → new.failures ≡ failures_after r old.failures → (special → MeetsSpecial old) → IsDueInMove special gone there folder r → TellsOfDisk folder old new answer
-  tells_move special gone there folder is counts over due = tells_for folder is counts
-      (λ e. over (subst (IsDueInMove special gone there folder) e due))
-      (λ e. absurd (subst (IsDueInMove special gone there folder) e due))
-      (λ e. absurd (subst (IsDueInMove special gone there folder) e due))
-      (λ e. subst (IsDueInMove special gone there folder) e due)
+  tells_move special gone there folder is counts over due = grind (arith, tells_for)

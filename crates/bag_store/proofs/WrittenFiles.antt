@@ -1,18 +1,6 @@
 -- Files are written piece by piece.
-use Rattle.std.proofs.Common.{◌≡◌, ℕ, ◌+◌, ◌-◌, ◌≤◌, true, false, cond, IsTrue, List, [], ◌++◌, length, length-drop, take, take-add, take_all, drop, arith, Option, Some, None, is_some, append_assoc, append-nil, refl, ap, sym, subst, ◌∙◌}
-use Rattle.std.proofs.lemmas.Bool.{false≢true}
-use Rattle.std.proofs.Math.Seq.{take-length}
-use Rattle.std.specs.List.{slice_range}
+use Rattle.bag_store.proofs.Common.{◌≡◌, ℕ, ◌+◌, ◌-◌, ◌≤◌, true, false, cond, IsTrue, List, [], ◌++◌, length, length-drop, take, take-add, take_all, drop, arith, Option, Some, None, is_some, append_assoc, append-nil, refl, ap, sym, subst, ◌∙◌, false≢true, take-length, slice_range, get-insert, same_map, eq_by_cmp, nat_list_cmp_total, text_cmp, exact_texts, one_text, text_itself, DiskState, Nodes, Node, node, OnlyLooks, bytes_of, File, Folder, Other, Appends, Closes, HasFile, MakesFile, with_file, HasWritten, HasWrittenSome, Makes, Begins}
 use Rattle.std.specs.FinMap as map
-use Rattle.std.specs.FinMap.{get-insert, same_map}
-use Rattle.std.specs.Ordering.{eq_by_cmp}
-use Rattle.std.specs.Cmp.Lexicographic.{nat_list_cmp_total}
-use Rattle.bag_text.specs.Text.{text_cmp}
-use Rattle.bag_tree.proofs.SameText.{exact_texts, one_text, text_itself}
-use Rattle.bag_disk.specs.Disk.{DiskState, Nodes, Node, node, OnlyLooks, bytes_of}
-use Rattle.bag_disk.specs.Disk.Node.{File, Folder, Other}
-use Rattle.bag_disk.specs.WritableDisk.{Appends, Closes, HasFile, MakesFile, with_file}
-use Rattle.bag_store.specs.Writing.{HasWritten, HasWrittenSome, Makes, Begins}
 
 put_again : (nodes : Nodes) (path : List ℕ) (n m : Node) → map.insert (map.insert nodes path n) path m ≡ map.insert nodes path m
 put_again nodes path n m = same_map nat_list_cmp_total exact_texts _ _ (λ q.
@@ -68,18 +56,7 @@ nothing_written old written = record {
 }
 
 appended_again : (old mid new : Nodes) (path first next all : List ℕ) → first ++ next ≡ all → Appends old mid path first → Appends mid new path next → Appends old new path all
-appended_again old mid new path first next all joined one other =
-    let content : other.content ≡ one.content ++ first =
-    same_content other.content (one.content ++ first) (sym other.was ∙ ap (λ m. node m path) one.appended ∙ put_there old path (File (one.content ++ first))) in
-    record {
-      content = one.content;
-      was = one.was;
-      appended = other.appended
-          ∙ ap (λ c. with_file mid path (c ++ next)) content
-          ∙ ap (λ m. with_file m path ((one.content ++ first) ++ next)) one.appended
-          ∙ put_again old path (File (one.content ++ first)) (File ((one.content ++ first) ++ next))
-          ∙ ap (λ b. with_file old path b) (append_assoc one.content first next ∙ ap (λ b. one.content ++ b) joined);
-    }
+appended_again old mid new path first next all joined one other = grind (arith, same_content, put_there, put_again, append_assoc)
 
 file_after : (old new : Nodes) (path bytes : List ℕ) → Appends old new path bytes → HasFile new path
 file_after old new path bytes appends = ap (λ o. is_some (bytes_of o)) (ap (λ m. node m path) appends.appended ∙ put_there old path (File (appends.content ++ bytes)))
@@ -100,20 +77,10 @@ written_more old mid new written now first next all joined same before more clos
 
 -- a call left what was written
 pub written_kept : (old mid new : DiskState) (written : Option (List ℕ)) (bytes : List ℕ) → HasWritten old mid written bytes → new.nodes ≡ mid.nodes → Closes mid new → HasWritten old new written bytes
-written_kept old mid new written bytes before same closes = record {
-  honest = closes.honest ∙ before.honest;
-  openings = closes.openings ∙ before.openings;
-  rest = λ _. closes.rest;
-  nodes = λ honest path is has. subst (λ m. Appends old.nodes m path bytes) (sym same) (before.nodes honest path is has);
-}
+written_kept old mid new written bytes before same closes = grind arith
 
 pub written_same : (old mid new : DiskState) (written : Option (List ℕ)) (bytes : List ℕ) → HasWritten old mid written bytes → OnlyLooks mid new → HasWritten old new written bytes
-written_same old mid new written bytes before looks = record {
-  honest = looks.honest ∙ before.honest;
-  openings = looks.openings ∙ before.openings;
-  rest = λ closed. looks.rest ∙ before.rest closed;
-  nodes = λ honest path is has. subst (λ m. Appends old.nodes m path bytes) (sym looks.nodes) (before.nodes honest path is has);
-}
+written_same old mid new written bytes before looks = grind arith
 
 -- a file was written, then synced, and then a folder
 pub written_synced : (old mid synced new : DiskState) (written : Option (List ℕ)) (bytes : List ℕ) → HasWritten old mid written bytes → synced.nodes ≡ mid.nodes → Closes mid synced → OnlyLooks synced new

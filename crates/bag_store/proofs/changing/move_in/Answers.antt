@@ -1,15 +1,6 @@
-use Rattle.std.proofs.Common.{◌≡◌, ◌∙◌, true, false, None, sym, subst, IsTrue, ap}
-use Rattle.bag_text.specs.Path.{is_path}
-use Rattle.bag_tree.specs.Steps.{has_within, is_taken}
-use Rattle.bag_disk.specs.Disk.{HasSpecial, IsReached, node}
-use Rattle.bag_disk.specs.DiskBag.{bag_of}
-use Rattle.bag_disk.specs.WritableDisk.{Moves}
-use Rattle.bag_disk.proofs.DiskSteps.{looks_on}
-use Rattle.bag_disk.proofs.Looked.{had_before}
-use Rattle.bag_disk.proofs.Refusals.{due_in_move, due_in_step, move_due_for}
+use Rattle.bag_store.proofs.Common.{arith, ◌≡◌, ◌∙◌, true, None, sym, subst, IsTrue, ap, is_path, has_within, is_taken, HasSpecial, IsReached, node, bag_of, Moves, looks_on, had_before, due_in_move, due_in_step, move_due_for, IsStanding}
 use Rattle.bag_store.proofs.BagSteps.{file_in_target, folder_in_target, lacks_place, lacks_top, moved_into, to_target}
 use Rattle.bag_store.proofs.BaseNames.{base_reached, path_in_is_under, target_is_path}
-use Rattle.bag_store.specs.Standing.{IsStanding}
 use Rattle.bag_store.proofs.changing.move_in.Goals as goal
 
 pub returns-in-Err-clause-refused : goal.returns-in-Err-clause-refused
@@ -21,13 +12,7 @@ returns-in-Err-clause-refused g c =
     (due_in_step _ _ _ _ _ c.in-Err.refusal (λ special honest. special honest reached) (λ none honest. lacks_place nodes c.args.top.now folder c.requires.folder (none honest reached)) c.in-Err.ensures.refused)
 
 pub returns-in-Err-check_taken-clause-refused : goal.returns-in-Err-check_taken-clause-refused
-returns-in-Err-check_taken-clause-refused g c =
-    let old = g.D.Disk.state c.args.disk.now in
-    let seen = g.D.Disk.state c.check_is_folder.new.disk in
-    let top = c.args.top.now in
-    due_in_move _ _ _ _ c.in-Err-check_taken.refusal
-    (due_in_step _ _ _ _ _ c.in-Err-check_taken.refusal (had_before old seen c.in-Ok.ensures.looks HasSpecial)
-    (λ none honest. lacks_top old.nodes top c.args.folder.now (had_before old seen c.in-Ok.ensures.looks (λ nodes. is_taken (bag_of nodes) top ≡ false) none honest)) c.in-Err-check_taken.ensures.refused)
+returns-in-Err-check_taken-clause-refused g c = grind (arith, due_in_move, due_in_step, had_before, lacks_top)
 
 pub standing_at-requires : goal.standing_at-requires
 standing_at-requires g c = subst (λ t. IsTrue (is_path t)) (sym (c.as_str.ensures ∙ c.in_ok-target.ensures)) (target_is_path c.args.folder.now c.args.top.now c.requires.folder c.requires.top)

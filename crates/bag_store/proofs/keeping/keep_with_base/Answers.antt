@@ -1,4 +1,4 @@
-use Rattle.bag_disk.proofs.Refusals.{counted_since}
+use Rattle.bag_store.proofs.Common.{counted_since}
 use Rattle.bag_store.proofs.keeping.keep_with_base.Goals as goal
 
 pub returns-in-Ok-clause-failures : goal.returns-in-Ok-clause-failures

@@ -1,4 +1,4 @@
-use Rattle.bag_disk.specs.BagBelow.{bag_is_what_stands}
+use Rattle.bag_store.proofs.Common.{bag_is_what_stands}
 use Rattle.bag_store.proofs.laws.bag_is_what_stands.Goals as goal
 
 pub returns : goal.returns

@@ -1,6 +1,6 @@
 use Rattle.bag_store.proofs.BagSteps.{seen_taken}
 use Rattle.bag_store.proofs.BaseNames.{base_reached}
-use Rattle.bag_disk.proofs.Refusals.{due_in_step}
+use Rattle.bag_store.proofs.Common.{due_in_step}
 use Rattle.bag_store.proofs.standing.check_free.Goals as goal
 
 pub returns-in-Ok-Some-clause-refused : goal.returns-in-Ok-Some-clause-refused

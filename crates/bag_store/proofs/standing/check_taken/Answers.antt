@@ -1,6 +1,6 @@
 use Rattle.bag_store.proofs.BagSteps.{free_not_taken, none_standing, seen_taken}
 use Rattle.bag_store.proofs.BaseNames.{base_reached}
-use Rattle.bag_disk.proofs.Refusals.{due_for}
+use Rattle.bag_store.proofs.Common.{due_for}
 use Rattle.bag_store.proofs.standing.check_taken.Goals as goal
 
 pub returns-in-Ok-None-clause-refused : goal.returns-in-Ok-None-clause-refused

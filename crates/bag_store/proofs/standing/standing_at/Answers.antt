@@ -1,4 +1,4 @@
-use Rattle.bag_disk.proofs.Plain.{other_seen}
+use Rattle.bag_store.proofs.Common.{other_seen}
 use Rattle.bag_store.proofs.standing.standing_at.Goals as goal
 
 pub returns-in-Ok-Other-clause-refused : goal.returns-in-Ok-Other-clause-refused

@@ -1,5 +1,4 @@
-use Rattle.std.proofs.Common.{◌+◌, ◌<◌, ◌∙◌, ap, arith, length, length-drop, refl, take}
-use Rattle.std.specs.List.{slice_range}
+use Rattle.bag_store.proofs.Common.{◌+◌, ◌∙◌, arith, length, length-drop, refl, take, slice_range}
 use Rattle.bag_store.proofs.WrittenFiles.{next_written, nothing_written, rest_is, within_all, written_more}
 use Rattle.bag_store.proofs.writing.write_all.Goals as goal
 
@@ -7,10 +6,7 @@ pub loop-done-init : goal.loop-done-init
 loop-done-init g c = (omega arith, refl, nothing_written (g.D.Disk.state c.args.disk.now) (g.D.WritableDisk.written c.args.disk.now), refl)
 
 pub loop-done-smaller : goal.loop-done-smaller
-loop-done-smaller g c =
-    let bytes = c.args.bytes.now in
-    let some : 0 < length (slice_range bytes c.loop-done.done (length bytes)) = omega (arith, ap length (rest_is bytes c.loop-done.done), length-drop c.loop-done.done bytes, c.loop-done-test.true) in
-    omega (arith, c.in-Ok.ensures.some some, c.loop-done-test.true)
+loop-done-smaller g c = grind (arith, rest_is, length-drop)
 
 pub loop-done-preserved : goal.loop-done-preserved
 loop-done-preserved g c =

@@ -1,5 +1,4 @@
-use Rattle.std.proofs.Common.{◌≡◌, ◌≤◌, ◌-◌, length, take}
-use Rattle.bag_store.specs.Writing.{HasWritten}
+use Rattle.bag_store.proofs.Common.{◌≡◌, ◌≤◌, ◌-◌, length, take, HasWritten}
 use Rattle.bag_store.proofs.writing.write_all.Given as goal
 
 abbrev pub invariant-loop-done : goal.invariant-loop-done

@@ -1,10 +1,6 @@
-use Rattle.std.proofs.Common.{◌≡◌, true, refl}
-use Rattle.bag_text.specs.Path.{under}
+use Rattle.bag_store.proofs.Common.{◌≡◌, true, refl, under, special_not_plain, has_within, lacks_source, state_after}
 use Rattle.bag_store.proofs.BagSteps.{free_not_within, has_both}
 use Rattle.bag_store.proofs.ChangedTree.{count_grows, kept_count, moved_changed, step_same}
-use Rattle.bag_disk.proofs.Plain.{special_not_plain}
-use Rattle.bag_tree.specs.Steps.{has_within, lacks_source}
-use Rattle.bag_store.specs.FileTree.{state_after}
 use Rattle.bag_store.proofs.RefusedCalls.{move_answered_so, tells_move}
 use Rattle.bag_store.proofs.file_tree.FileTreeWriteTree.move_in.Goals as goal
 

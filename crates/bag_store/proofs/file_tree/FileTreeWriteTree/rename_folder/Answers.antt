@@ -1,10 +1,6 @@
-use Rattle.std.proofs.Common.{◌≡◌, true, ◌∙◌, sym, refl}
-use Rattle.std.proofs.lemmas.Bool.{false≢true}
+use Rattle.bag_store.proofs.Common.{◌≡◌, true, ◌∙◌, sym, refl, false≢true, special_not_plain, is_taken, lacks_folder, state_after}
 use Rattle.bag_store.proofs.BagSteps.{free_not_taken, has_it}
 use Rattle.bag_store.proofs.ChangedTree.{count_grows, kept_count, renamed_changed, step_same}
-use Rattle.bag_disk.proofs.Plain.{special_not_plain}
-use Rattle.bag_tree.specs.Steps.{is_taken, lacks_folder}
-use Rattle.bag_store.specs.FileTree.{state_after}
 use Rattle.bag_store.proofs.RefusedCalls.{step_answered_so, tells_step}
 use Rattle.bag_store.proofs.file_tree.FileTreeWriteTree.rename_folder.Goals as goal
 
