@@ -1,17 +1,14 @@
 -- Each list has an ascending one with the same members, where elements that tie are one.
-use Rattle.std.proofs.Common.{◌≡◌, refl, Bool, true, false, List, [], ◌∷◌, map, ap, sym, ◌∙◌, is_some, Contains}
+use Rattle.bag_report.proofs.Common.{◌≡◌, refl, Bool, true, false, List, [], ◌∷◌, map, ap, sym, ◌∙◌, is_some, Contains, Ordering, and_parts, IsListOf}
 use Rattle.std.specs.Cmp.{IsTotalOrder, Equal-is, eq_by_cmp_equiv}
 use Rattle.std.specs.FinMap.{FinMap, IsAntisymmetric, is_sorted, entries, entries_sorted, keys, from_entries, contains_key-keys, get-from_entries}
 use Rattle.std.specs.FinMap.Entries.{below_all, is_some-find}
 use Rattle.std.specs.List.{AllByRecursion, list_any}
 use Rattle.std.specs.List.Sorted.{IsStrictlySortedBy}
 use Rattle.std.specs.Ordering.{eq_by_cmp, is_lt}
-use Rattle.std.specs.declared.cmp.Ordering.{Ordering}
 use Rattle.std.specs.declared.cmp.Ordering.TheVariants.{Less, Equal, Greater}
 use Rattle.std.proofs.Math.Dec.{T}
-use Rattle.std.proofs.lemmas.Bool.{and_parts}
 use Rattle.std.proofs.lemmas.Map.Views.{Contains-from_any, list_any-from_Contains}
-use Rattle.bag_text.specs.Order.{IsListOf}
 
 t_true : (b : Bool) → T b → b ≡ true
 t_true true h = refl

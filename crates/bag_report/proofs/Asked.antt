@@ -1,20 +1,11 @@
 -- The faults of a stage that are asked for.
-use Rattle.std.proofs.Common.{◌≡◌, ◌≢◌, ◌<◌, ℕ, List, [], true, false, refl, sym, subst, ◌∙◌, filter, arith}
-use Rattle.std.proofs.lemmas.Bool.{and_parts}
+use Rattle.bag_report.proofs.Common.{◌≡◌, ◌≢◌, ◌<◌, ℕ, List, [], true, false, refl, sym, subst, ◌∙◌, filter, arith, and_parts, stage, IsListOf, NoOxum, NameClash, nothing_listed, same_members, fault_cmp, Fault, reaches, Check, is_fast, IsStageOf, IsFoundAt}
 use Rattle.std.proofs.lemmas.Bool.Decides.{nat_tests}
-use Rattle.bag_text.specs.Code.{stage}
-use Rattle.bag_text.specs.Order.{IsListOf}
 use Rattle.bag_text.specs.declared.code.Code.{Code}
-use Rattle.bag_text.specs.declared.code.Code.TheVariants.{NoOxum, NameClash}
-use Rattle.bag_text.proofs.ListOf.{nothing_listed, same_members}
-use Rattle.bag_facts.specs.FaultOrder.{fault_cmp}
-use Rattle.bag_facts.specs.declared.fault.Fault.{Fault}
-use Rattle.bag_facts.specs.Options.{reaches}
 use Rattle.bag_facts.specs.declared.options.Depth.{Depth}
 use Rattle.bag_facts.specs.declared.options.Depth.TheVariants.{Declaration, Fast, Complete, Full}
 use Rattle.bag_facts.specs.declared.options.Options.{Options}
-use Rattle.bag_report.specs.Report.{Check, asks, is_fast, IsStageOf}
-use Rattle.bag_report.specs.Stages.{IsFoundAt}
+use Rattle.bag_report.specs.Report.{asks}
 use Rattle.bag_report.proofs.Filtered.{filtered_list}
 
 fast_reaches : (d : Depth) → is_fast d ≡ true → reaches d 3 ≡ true

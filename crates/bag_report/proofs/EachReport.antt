@@ -1,32 +1,15 @@
 -- Every bag has a report.
-use Rattle.std.proofs.Common.{filter, Option}
-use Rattle.bag_text.proofs.ListOf.{same_members}
-use Rattle.bag_tree.specs.Bag.{Bag}
-use Rattle.bag_facts.specs.FaultOrder.{fault_cmp}
-use Rattle.bag_facts.specs.declared.fault.Fault.{Fault}
-use Rattle.bag_facts.proofs.Ordered.{fault_cmp_total, fault_cmp_same}
-use Rattle.bag_facts.proofs.Mapped.{kept, passed}
-use Rattle.bag_stages.specs.CompletenessStage.{IsOfCompleteness}
+use Rattle.bag_report.proofs.Common.{filter, Option, same_members, Bag, fault_cmp, Fault, fault_cmp_total, fault_cmp_same, kept, passed, IsOfCompleteness, IsOfConformance, conformance_faults_are_listed, Profile, IsOfDeclaration, IsOfFetch, IsOfManifests, IsOfMetadata, IsOfParts, IsOfValidity, Check, asks, IsReported, EachBagHasAReport}
 use Rattle.bag_stages.proofs.CompletenessList.{completeness_faults_are_listed}
-use Rattle.bag_conformance.specs.ConformanceStage.{IsOfConformance}
-use Rattle.bag_conformance.proofs.ConformanceFaultsLaws.{conformance_faults_are_listed}
-use Rattle.bag_profile.specs.Profile.{Profile}
-use Rattle.bag_stages.specs.DeclarationStage.{IsOfDeclaration}
-use Rattle.bag_stages.specs.FetchStage.{IsOfFetch}
 use Rattle.bag_stages.specs.HasList.{HasList}
-use Rattle.bag_stages.specs.ManifestsStage.{IsOfManifests}
-use Rattle.bag_stages.specs.MetadataStage.{IsOfMetadata}
-use Rattle.bag_stages.specs.PartsStage.{IsOfParts}
 use Rattle.bag_stages.proofs.DeclarationList.{declaration_faults_are_listed}
 use Rattle.bag_stages.proofs.FetchFaultsList.{fetch_faults_are_listed}
 use Rattle.bag_stages.proofs.HasLists.{either}
 use Rattle.bag_stages.proofs.ManifestsList.{manifest_faults_are_listed}
 use Rattle.bag_stages.proofs.MetadataList.{metadata_faults_are_listed}
 use Rattle.bag_stages.proofs.PartsList.{part_faults_are_listed}
-use Rattle.bag_stages.specs.ValidityStage.{IsOfValidity}
 use Rattle.bag_stages.proofs.ValidityList.{validity_faults_are_listed}
 use Rattle.bag_report.specs.Is.{Is}
-use Rattle.bag_report.specs.Report.{Check, asks, IsReported, EachBagHasAReport}
 use Rattle.bag_report.proofs.AscendingList.{ascending_list}
 
 -- the faults of a bag, stage by stage

@@ -1,9 +1,6 @@
 -- The members of a list that pass a test.
-use Rattle.std.proofs.Common.{◌≡◌, Bool, true, List, filter}
-use Rattle.std.specs.declared.cmp.Ordering.{Ordering}
+use Rattle.bag_report.proofs.Common.{◌≡◌, Bool, true, List, filter, Ordering, IsListOf, kept, passed}
 use Rattle.std.proofs.lemmas.List.Kept.{IsStrictlySortedBy-filter}
-use Rattle.bag_text.specs.Order.{IsListOf}
-use Rattle.bag_facts.proofs.Mapped.{kept, passed}
 
 pub filtered_list : {A : Type 0} (cmp : A → A → Ordering) (Member : A → Type 0) (p : A → Bool) (xs : List A) → IsListOf cmp Member xs → IsListOf cmp (λ x. Member x × (p x ≡ true)) (filter p xs)
 filtered_list cmp Member p xs list = record {

@@ -1,23 +1,6 @@
 -- A fault of a bag is one of the set of its stage, and each set has faults of its stage.
-use Rattle.std.proofs.Common.{◌≡◌, ◌≢◌, inl, inr, ℕ, zero, suc, List, [], Option, Bool, true, arith, ap, sym, ◌∙◌, subst}
-use Rattle.bag_text.specs.Code.{stage}
-use Rattle.bag_text.specs.Order.{IsListOf}
-use Rattle.bag_text.specs.declared.code.Code.TheVariants.{NameClash}
-use Rattle.bag_text.proofs.ListOf.{nothing_listed, same_members}
-use Rattle.bag_tree.specs.Bag.{Bag}
-use Rattle.bag_facts.specs.FaultOrder.{fault_cmp}
-use Rattle.bag_facts.specs.declared.fault.Fault.{Fault}
-use Rattle.bag_stages.specs.CompletenessStage.{IsOfCompleteness, IsSoughtInStageSix}
+use Rattle.bag_report.proofs.Common.{◌≡◌, ◌≢◌, inl, inr, ℕ, zero, suc, List, [], Option, Bool, true, arith, ap, sym, ◌∙◌, subst, stage, IsListOf, NameClash, nothing_listed, same_members, Bag, fault_cmp, Fault, IsOfCompleteness, IsSoughtInStageSix, IsOfConformance, conformance_faults_are_of_stage_eight, Profile, IsOfDeclaration, IsOfFetch, IsOfManifests, IsOfMetadata, IsOfParts, IsOfValidity, IsFoundAt}
 use Rattle.bag_stages.proofs.CompletenessFaults.{completeness_of_stage_six}
-use Rattle.bag_conformance.specs.ConformanceStage.{IsOfConformance}
-use Rattle.bag_conformance.proofs.ConformanceFaultsLaws.{conformance_faults_are_of_stage_eight}
-use Rattle.bag_profile.specs.Profile.{Profile}
-use Rattle.bag_stages.specs.DeclarationStage.{IsOfDeclaration}
-use Rattle.bag_stages.specs.FetchStage.{IsOfFetch}
-use Rattle.bag_stages.specs.ManifestsStage.{IsOfManifests}
-use Rattle.bag_stages.specs.MetadataStage.{IsOfMetadata}
-use Rattle.bag_stages.specs.PartsStage.{IsOfParts}
-use Rattle.bag_stages.specs.ValidityStage.{IsOfValidity}
 use Rattle.bag_stages.proofs.DeclarationFaults.{declaration_of_stage_one}
 use Rattle.bag_stages.proofs.FetchFaults.{fetch_of_stage_four}
 use Rattle.bag_stages.proofs.ManifestFaults.{manifests_of_stage_five}
@@ -25,7 +8,6 @@ use Rattle.bag_stages.proofs.MetadataFaults.{metadata_of_stage_three}
 use Rattle.bag_stages.proofs.PartFaults.{parts_of_stage_two}
 use Rattle.bag_stages.proofs.ValidityFaults.{validity_of_stage_seven}
 use Rattle.bag_report.specs.Is.{Is}
-use Rattle.bag_report.specs.Stages.{IsFoundAt}
 
 -- the first of a row, or one of the others, by its number from 0
 abbrev pick : {A : Type 1} → A → (ℕ → A) → ℕ → A

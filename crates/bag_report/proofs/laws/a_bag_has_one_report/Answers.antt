@@ -1,7 +1,4 @@
-use Rattle.bag_text.proofs.ListOf.{one_list}
-use Rattle.bag_facts.proofs.Ordered.{fault_cmp_total}
-use Rattle.bag_facts.specs.FaultOrder.{fault_cmp}
-use Rattle.bag_report.specs.Report.{IsReported}
+use Rattle.bag_report.proofs.Common.{one_list, fault_cmp_total, fault_cmp, IsReported}
 use Rattle.bag_report.proofs.laws.a_bag_has_one_report.Goals as goal
 
 pub returns : goal.returns

@@ -1,5 +1,4 @@
-use Rattle.std.proofs.Common.{arith, rules}
-use Rattle.std.specs.Option.{option_copied}
+use Rattle.bag_report.proofs.Common.{arith, rules, option_copied}
 use Rattle.std.proofs.lemmas.Result.{IfOk-weaker}
 use Rattle.bag_report.proofs.Found.{stage_one, stage_two, stage_three, stage_four, stage_five, stage_six, stage_eight, no_stage}
 use Rattle.bag_report.proofs.stages.found_faults.Goals as goal

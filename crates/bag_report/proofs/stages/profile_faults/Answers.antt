@@ -1,5 +1,4 @@
-use Rattle.bag_text.proofs.ListOf.{nothing_listed}
-use Rattle.bag_facts.specs.FaultOrder.{fault_cmp}
+use Rattle.bag_report.proofs.Common.{nothing_listed, fault_cmp}
 use Rattle.bag_report.proofs.stages.profile_faults.Goals as goal
 
 pub returns-in-None : goal.returns-in-None

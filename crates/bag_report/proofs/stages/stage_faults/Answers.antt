@@ -1,8 +1,5 @@
-use Rattle.std.proofs.Common.{◌≡◌, ◌∙◌, sym, true, filter, rules}
-use Rattle.std.specs.Option.{option_copied}
+use Rattle.bag_report.proofs.Common.{◌≡◌, ◌∙◌, sym, true, filter, rules, option_copied, reaches, asks, Check}
 use Rattle.std.proofs.lemmas.Fn.{filter_same}
-use Rattle.bag_facts.specs.Options.{reaches}
-use Rattle.bag_report.specs.Report.{asks, Check}
 use Rattle.bag_report.proofs.Asked.{asked_of_stage, not_reached, reads_more}
 use Rattle.bag_report.proofs.stages.stage_faults.Goals as goal
 
