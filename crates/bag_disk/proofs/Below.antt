@@ -1,9 +1,5 @@
 -- A text that goes on behind a base folder and a slash.
-use Rattle.std.proofs.Common.{◌≡◌, ◌≢◌, ℕ, zero, suc, true, List, [], ◌∷◌, ◌++◌, length, take, drop, refl, sym, ap, ◌∙◌}
-use Rattle.std.specs.Cmp.Lexicographic.{pointwise, same_text}
-use Rattle.std.specs.Prelude.{nat_eq}
-use Rattle.bag_text.specs.Path.{slash, under}
-use Rattle.bag_disk.specs.Location.{location_below}
+use Rattle.bag_disk.proofs.Common.{◌≡◌, ◌≢◌, ℕ, zero, suc, true, List, [], ◌∷◌, ◌++◌, length, take, drop, refl, sym, ap, ◌∙◌, pointwise, same_text, nat_eq, slash, under, location_below}
 
 front_and_rest : (n : ℕ) (xs : List ℕ) → take n xs ++ drop n xs ≡ xs
 front_and_rest zero xs = refl

@@ -1,21 +1,8 @@
 -- Distinct paths of a disk are no more than what stands on it.
-use Rattle.std.proofs.Common.{◌≡◌, ℕ, ◌-◌, ◌≤◌, Bool, true, false, cond, List, [], ◌∷◌, length, None, is_some, inl, inr, ⊎_elim, refl, ap, sym, ◌∙◌, subst, ◌++◌, arith, Contains}
+use Rattle.bag_disk.proofs.Common.{◌≡◌, ℕ, ◌-◌, ◌≤◌, Bool, true, false, cond, List, [], ◌∷◌, length, None, is_some, inl, inr, ⊎_elim, refl, ap, sym, ◌∙◌, subst, ◌++◌, arith, Contains, get-remove, len-remove, AllByRecursion, IsPermutation, eq_by_cmp, is_eq, Less, nat_list_cmp_total, Contains-append_right, Contains-push, Contains-push_cases, Contains-append_left, cases_lt, false≢true, text_cmp, length-map, Contains-permutation, IsPermutation-sym, FileEntry, Nodes, node, Has, IsFolder, entry_count, files_and_folders, is_plain_found, AreThere, AreFolders, paths_of}
 use Rattle.std.specs.FinMap as fin
-use Rattle.std.specs.FinMap.{get-remove, len-remove}
-use Rattle.std.specs.List.{AllByRecursion}
-use Rattle.std.specs.List.Sorted.{IsStrictlySortedBy, IsPermutation}
-use Rattle.std.specs.Ordering.{eq_by_cmp, is_eq}
+use Rattle.std.specs.List.Sorted.{IsStrictlySortedBy}
 use Rattle.std.specs.Cmp.{eq_by_cmp_equiv}
-use Rattle.std.specs.declared.cmp.Ordering.TheVariants.{Less}
-use Rattle.std.specs.Cmp.Lexicographic.{nat_list_cmp_total}
-use Rattle.std.proofs.lemmas.List.Elements.{Contains-append_right, Contains-push, Contains-push_cases, Contains-append_left}
-use Rattle.std.proofs.lemmas.Bool.{cases_lt, false≢true}
-use Rattle.bag_text.specs.Text.{text_cmp}
-use Rattle.std.proofs.lemmas.List.{length-map}
-use Rattle.std.proofs.lemmas.List.Sorted.{Contains-permutation, IsPermutation-sym}
-use Rattle.bag_tree.specs.declared.listing.FileEntry.{FileEntry}
-use Rattle.bag_disk.specs.Disk.{Nodes, node, Has, IsFolder, entry_count, files_and_folders, is_plain_found}
-use Rattle.bag_disk.specs.FolderWalk.{AreThere, AreFolders, paths_of}
 use Rattle.bag_disk.proofs.FilesAndFolders.{stands_alone}
 use Rattle.bag_disk.proofs.WholeWalk.{path_filed}
 use Rattle.bag_disk.proofs.DiskSteps.{contains_first, contains_cases, contains_none}

@@ -1,13 +1,6 @@
 -- The folders on the way to a path of a disk.
-use Rattle.std.proofs.Common.{◌≡◌, ◌≢◌, ℕ, ◌+◌, ◌<◌, ◌≤◌, List, ◌∷◌, ◌++◌, length, get_or, take, drop, Some, None, is_some, refl, ap, sym, ◌∙◌, subst, false, ⊎_elim, arith, append_assoc, take-append-drop, length-append}
+use Rattle.bag_disk.proofs.Common.{◌≡◌, ◌≢◌, ℕ, ◌+◌, ◌<◌, List, ◌∷◌, ◌++◌, length, get_or, take, drop, Some, None, ap, sym, ◌∙◌, subst, false, ⊎_elim, arith, append_assoc, take-append-drop, length-append, slice_range, cases_lt, false≢true, length-take, take-append_seam, get_or-append_seam, slash, under, is_path, Nodes, node, IsDisk, IsReached, IsReachedTo, Folder}
 use Rattle.std.proofs.lemmas.Grind.{common_steps}
-use Rattle.std.specs.List.{slice_range}
-use Rattle.std.proofs.lemmas.Bool.{cases_lt, false≢true}
-use Rattle.std.proofs.lemmas.List.{length-take}
-use Rattle.std.proofs.Math.Seq.{take-append_seam, get_or-append_seam}
-use Rattle.bag_text.specs.Path.{slash, under, is_path}
-use Rattle.bag_disk.specs.Disk.{Nodes, node, IsDisk, IsReached, IsReachedTo}
-use Rattle.bag_disk.specs.Disk.Node.{Folder}
 
 -- a path at one of its slashes
 pub at_slash : (path folder : List ℕ) (end : ℕ) → end < length path → get_or path end 0 ≡ slash → folder ≡ take end path → path ≡ under folder (drop (end + 1) path)
@@ -33,36 +26,18 @@ reached_on_way nodes path folder end within is same reached f rest e =
     (omega (arith, length_under f rest, ap length e, ap length same, length-take end path))
 
 pub more_reached : (nodes : Nodes) (path folder : List ℕ) (end : ℕ) → folder ≡ take end path → node nodes folder ≡ Some Folder → IsReachedTo nodes path end → IsReachedTo nodes path (end + 1)
-more_reached nodes path folder end same is reached f rest e below = ⊎_elim
-    (λ less. reached f rest e less)
-    (λ more. let at : length f ≡ end = omega arith in
-    let one : folder ≡ f = same ∙ ap (λ n. take n path) (sym at) ∙ ap (take (length f)) e ∙ take_under f rest in
-    ap (node nodes) (sym one) ∙ is)
-    (cases_lt (length f) end)
+more_reached nodes path folder end same is reached f rest e below = grind (arith, take_under f rest, cases_lt (length f) end, ⊎_elim)
 
 pub none_to_reach : (nodes : Nodes) (path : List ℕ) (end : ℕ) → get_or path end 0 ≢ slash → IsReachedTo nodes path end → IsReachedTo nodes path (end + 1)
-none_to_reach nodes path end other reached f rest e below = ⊎_elim
-    (λ less. reached f rest e less)
-    (λ more. let at : length f ≡ end = omega arith in
-    absurd (other (ap (get_or path end) refl ∙ ap (λ n. get_or path n 0) (sym at) ∙ ap (λ t. get_or t (length f) 0) e ∙ get_under f rest)))
-    (cases_lt (length f) end)
-
-pub all_reached : (nodes : Nodes) (path : List ℕ) (end : ℕ) → length path ≤ end → IsReachedTo nodes path end → IsReached nodes path
-all_reached nodes path end past reached f rest e = reached f rest e (omega (arith, length_under f rest, ap length e))
+none_to_reach nodes path end other reached f rest e below = grind (arith, get_under f rest, cases_lt (length f) end, ⊎_elim)
 
 -- nothing stands below what is no folder
 pub none_below_no_folder : (nodes : Nodes) (path folder rest : List ℕ) → IsDisk nodes → path ≡ under folder rest → (node nodes folder ≡ Some Folder → ⊥) → node nodes path ≡ None
-none_below_no_folder nodes path folder rest disk e none = elim (node nodes path) as (λ o. node nodes path ≡ o → o ≡ None) [
-  | None ↦ λ _. refl
-  | Some n ↦ λ is. absurd (none (disk.folders path (ap is_some is) folder rest e))
-] refl
+none_below_no_folder nodes path folder rest disk e none = grind arith
 
 -- nothing stands at a text that isn't a path
 pub no_path : (nodes : Nodes) (path : List ℕ) → IsDisk nodes → is_path path ≡ false → node nodes path ≡ None
-no_path nodes path disk none = elim (node nodes path) as (λ o. node nodes path ≡ o → o ≡ None) [
-  | None ↦ λ _. refl
-  | Some n ↦ λ is. absurd (false≢true (sym none ∙ disk.paths path (ap is_some is)))
-] refl
+no_path nodes path disk none = grind (arith, false≢true)
 
 pub prefix_is : (t : List ℕ) (end : ℕ) → slice_range t 0 end ≡ take end t
 prefix_is t end = grind (arith, common_steps)

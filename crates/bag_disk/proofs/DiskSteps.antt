@@ -1,26 +1,13 @@
 -- The steps of a walk over the folders of a disk.
-use Rattle.std.proofs.Common.{◌≡◌, ◌≢◌, ℕ, ◌==◌, true, false, List, [], ◌∷◌, ◌++◌, length, Option, Some, None, is_some, map, refl, ap, sym, ◌∙◌, subst, IsTrue, MatchOption, Result, Ok, Err, OnOk, ◌⊎◌, inl, inr, eqb-true, eq-eqb, append_assoc, Contains}
-use Rattle.std.proofs.lemmas.Bool.{false≢true}
-use Rattle.std.specs.Option.{option_map}
-use Rattle.std.proofs.lemmas.List.Elements.{All-nil, All-cons, Contains-push, Contains-push_cases, Contains-append_left, Contains-append_cases, Contains-append_right}
-use Rattle.bag_text.specs.Path.{slash, under}
-use Rattle.bag_disk.specs.Location.{path_in}
-use Rattle.bag_disk.specs.Disk.{DiskState, OnlyLooks, Nodes, Node, node, Has, IsReached, IsFolder, IsDisk, IsName, AreNamesIn, entry_of, is_plain_found}
-use Rattle.bag_disk.specs.Disk.Node.{File, Folder, Other}
-use Rattle.bag_disk.specs.FolderWalk.{Walked, Listing, AllStand, IsBelow, IsAtOrBelow, IsFileOf, paths_of, files_with, folders_with}
-use Rattle.bag_disk.specs.declared.disk.Entry.{Entry}
+use Rattle.bag_disk.proofs.Common.{arith, ◌≡◌, ◌≢◌, ℕ, ◌==◌, true, false, List, [], ◌∷◌, ◌++◌, length, Option, Some, None, is_some, map, refl, ap, sym, ◌∙◌, subst, IsTrue, MatchOption, Result, Ok, Err, OnOk, ◌⊎◌, inl, inr, eqb-true, eq-eqb, append_assoc, Contains, false≢true, option_map, All-nil, All-cons, Contains-push, Contains-push_cases, Contains-append_left, Contains-append_right, slash, under, path_in, DiskState, OnlyLooks, Nodes, Node, node, Has, IsReached, IsFolder, IsDisk, IsName, AreNamesIn, entry_of, is_plain_found, File, Folder, Other, Walked, Listing, AllStand, IsBelow, IsAtOrBelow, IsFileOf, paths_of, files_with, folders_with, Entry, FileEntry}
 use Rattle.bag_disk.specs.declared.disk.Entry.TheVariants as entry
-use Rattle.bag_tree.specs.declared.listing.FileEntry.{FileEntry}
 
 pub contains_none : {X : Type 0} (x : X) → Contains [] x → ⊥
 contains_none x h = elim h.1 [ ]
 
 -- what a list with one more first element contains
 pub contains_cases : {X : Type 0} (x : X) (xs : List X) (y : X) → Contains (x ∷ xs) y → (x ≡ y) ⊎ Contains xs y
-contains_cases x xs y h = elim (Contains-append_cases (x ∷ []) xs y h) [
-  | inr within ↦ inr within
-  | inl one ↦ elim (Contains-push_cases [] x y one) [ inl none ↦ absurd (contains_none y none) | inr e ↦ inl e ]
-]
+contains_cases x xs y h = grind (arith, contains_none)
 
 pub contains_first : {X : Type 0} (x : X) (xs : List X) → Contains (x ∷ xs) x
 contains_first x xs = Contains-append_left (x ∷ []) xs x (Contains-push [] x)
@@ -173,14 +160,7 @@ pub name_added : (nodes : Nodes) (files files_after : List FileEntry) (folders f
     → path ≡ location → text ≡ path → (IsReached nodes text → option_map entry_of (node nodes text) ≡ Some found) → Has nodes location
     → files_after ≡ files_with files path found → folders_after ≡ folders_with folders path found → (found ≡ entry.Other → ⊥)
     → Walked nodes files folders listed (location ∷ pending) → Walked nodes files_after folders_after listed pending
-name_added nodes files files_after folders folders_after listed pending location path text found disk at same is has files_are folders_are known walked =
-    let e : text ≡ location = same ∙ at in
-    let there : option_map entry_of (node nodes location) ≡ Some found = subst (λ p. (IsReached nodes p → option_map entry_of (node nodes p) ≡ Some found)) e is (disk.folders location has) in
-    rw (files_are, folders_are, at) (path_put nodes files folders listed pending location found disk there known walked)
-
-pub on_ok : {A E P Q : Type 0} (r : Result A E) → OnOk r P → (P → Q) → OnOk r Q
-on_ok (Ok x) p f = f p
-on_ok (Err e) p f = tt
+name_added nodes files files_after folders folders_after listed pending location path text found disk at same is has files_are folders_are known walked = grind (arith, path_put)
 
 pub on_ok_always : {A E P : Type 0} (r : Result A E) → P → OnOk r P
 on_ok_always (Ok x) p = p
@@ -231,29 +211,19 @@ turn old at new next files files_after folders folders_after listed folder text 
 pub next_there : (old at new : DiskState) (next : Option (List ℕ)) (files : List FileEntry) (folders listed : List (List ℕ)) (folder name name_text : List ℕ)
     → OnlyLooks old at → OnlyLooks at new → next ≡ Some name → (IsTrue at.honest → Next at new next) → name_text ≡ name
     → IsTrue old.honest → Listing old.nodes files folders listed folder at.names → Has new.nodes (path_in folder name_text)
-next_there old at new next files folders listed folder name name_text before after is gives same honest now =
-    let names : at.names ≡ name ∷ new.names = subst (Next at new) is (gives (before.honest ∙ honest)) in
-    let here : Has old.nodes (path_in folder name) = now.there name (subst (λ names. Contains names name) (sym names) (contains_first name new.names)) in
-    subst (λ nodes. Has nodes (path_in folder name_text)) (sym (after.nodes ∙ before.nodes)) (subst (λ n. Has old.nodes (path_in folder n)) (sym same) here)
+next_there old at new next files folders listed folder name name_text before after is gives same honest now = grind (arith, contains_first)
 
 -- no name of the folder is left
 pub folder_ended : (old at new : DiskState) (next : Option (List ℕ)) (files : List FileEntry) (folders listed : List (List ℕ)) (folder : List ℕ)
     → OnlyLooks old at → next ≡ None → (IsTrue at.honest → Next at new next)
     → IsTrue old.honest → Listing old.nodes files folders listed folder at.names → Walked old.nodes files folders (listed ++ folder ∷ []) []
-folder_ended old at new next files folders listed folder before is gives honest now =
-    let none : at.names ≡ [] = subst (Next at new) is (gives (before.honest ∙ honest)) in
-    subst (λ names. Walked old.nodes files folders (listed ++ folder ∷ []) (map (path_in folder) names)) none now.walked
+folder_ended old at new next files folders listed folder before is gives honest now = grind arith
 
 pub looks_at_first : (state : DiskState) → OnlyLooks state state
 looks_at_first state = record { nodes = refl; honest = refl; openings = refl; rest = refl }
 
 pub looks_on : (old at new : DiskState) → OnlyLooks old at → OnlyLooks at new → OnlyLooks old new
-looks_on old at new before after = record {
-  nodes = after.nodes ∙ before.nodes;
-  honest = after.honest ∙ before.honest;
-  openings = after.openings ∙ before.openings;
-  rest = after.rest ∙ before.rest;
-}
+looks_on old at new before after = grind arith
 
 -- what follows from the listing of a folder holds once the folder is with those that were listed
 pub folder_done : (old at : DiskState) (files : List FileEntry) (folders listed : List (List ℕ)) (folder text again : List ℕ) (after : List (List ℕ)) (Q : Nodes → List (List ℕ) → Type 0)
@@ -285,9 +255,4 @@ fewer_stand nodes files folders listed folder stand = record {
 
 -- at first the base folder is to be listed
 pub walk_begun : (nodes : Nodes) → Walked nodes [] ([] ∷ []) [] []
-walk_begun nodes = record {
-  are_files = λ e h. absurd (contains_none e h);
-  are_folders = λ f h. elim (contains_cases [] [] f h) [ inl e ↦ subst (IsFolder nodes) e tt | inr none ↦ absurd (contains_none f none) ];
-  were_folders = λ f h. absurd (contains_none f h);
-  all = λ path has. inr (inr (inr (inl ([], contains_first [] [], tt))));
-}
+walk_begun nodes = grind (arith, contains_none, contains_cases, contains_first)

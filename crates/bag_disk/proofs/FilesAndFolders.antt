@@ -1,17 +1,8 @@
 -- The files and folders of a disk, without what else stands there.
-use Rattle.std.proofs.Common.{◌≡◌, ℕ, Bool, true, false, cond, List, [], ◌∷◌, filter, length, Option, Some, None, is_some, refl, ap, sym, ◌∙◌, subst}
+use Rattle.bag_disk.proofs.Common.{arith, ◌≡◌, ℕ, Bool, true, false, cond, List, [], ◌∷◌, filter, length, Option, Some, None, is_some, refl, ap, sym, ◌∙◌, subst, and_parts, and_from, find, is_sorted, get-entries, get-from_entries, entries_sorted, len-entries, eq_by_cmp, nat_list_cmp_total, text_cmp, exact_texts, one_text, none_below, t_true, Nodes, Node, node, Has, entry_count, files_and_folders, is_plain_node, is_plain_found, File, Folder, Other}
 use Rattle.std.proofs.Math.Dec.{T}
-use Rattle.std.proofs.lemmas.Bool.{and_parts, and_from}
 use Rattle.std.specs.FinMap as fin
-use Rattle.std.specs.FinMap.{find, is_sorted, get-entries, get-from_entries, entries_sorted, len-entries}
 use Rattle.std.specs.FinMap.Entries.{below_all, same_entries}
-use Rattle.std.specs.Ordering.{eq_by_cmp}
-use Rattle.std.specs.Cmp.Lexicographic.{nat_list_cmp_total}
-use Rattle.bag_text.specs.Text.{text_cmp}
-use Rattle.bag_tree.proofs.SameText.{exact_texts, one_text}
-use Rattle.bag_tree.proofs.PathEntries.{none_below, t_true}
-use Rattle.bag_disk.specs.Disk.{Nodes, Node, node, Has, entry_count, files_and_folders, is_plain_node, is_plain_found}
-use Rattle.bag_disk.specs.Disk.Node.{File, Folder, Other}
 
 -- a file or a folder, and nothing else
 abbrev pub plain_of : Option Node → Option Node
@@ -23,10 +14,7 @@ plain_entry e = is_plain_node e.1
 
 taken : (k q : List ℕ) (es : List (List ℕ × Node)) (n : Node) → is_plain_node n ≡ true → find text_cmp q (filter plain_entry es) ≡ plain_of (find text_cmp q es)
     → cond (eq_by_cmp text_cmp q k) (Some n) (find text_cmp q (filter plain_entry es)) ≡ plain_of (cond (eq_by_cmp text_cmp q k) (Some n) (find text_cmp q es))
-taken k q es n plain others = elim (eq_by_cmp text_cmp q k) as (λ b. cond b (Some n) (find text_cmp q (filter plain_entry es)) ≡ plain_of (cond b (Some n) (find text_cmp q es))) [
-  | true ↦ sym (ap (λ b. cond b (Some n) None) plain)
-  | false ↦ others
-]
+taken k q es n plain others = grind arith
 
 -- what is found among the files and folders
 plain_found : (es : List (List ℕ × Node)) (q : List ℕ) → is_sorted text_cmp es ≡ true → find text_cmp q (filter plain_entry es) ≡ plain_of (find text_cmp q es)

@@ -1,16 +1,8 @@
 -- What a walk finds has paths.
-use Rattle.std.proofs.Common.{◌≡◌, ℕ, ◌<◌, ◌==◌, true, false, cond, List, [], ◌∷◌, ◌++◌, length, Some, inl, inr, refl, sym, ap, subst, ◌∙◌, arith, All, Contains, IsTrue}
-use Rattle.std.specs.List.{list_all, onto_first}
-use Rattle.std.proofs.lemmas.Bool.{and_from}
-use Rattle.std.proofs.lemmas.List.Elements.{All-contains, All-cons, All-nil, All-pop, All-push, Contains-push}
+use Rattle.bag_disk.proofs.Common.{◌≡◌, ℕ, ◌<◌, List, [], ◌∷◌, ◌++◌, length, inl, inr, refl, sym, subst, arith, All, Contains, IsTrue, onto_first, and_from, All-contains, All-cons, All-nil, All-push, Contains-push, components, is_path, under, FileEntry, path_in, Entry, AllArePaths, IsFolderPath, files_with, folders_with}
 use Rattle.std.proofs.lemmas.List.Folds.{list_all-append}
 use Rattle.std.proofs.lemmas.List.Splits.{length-slice_split}
-use Rattle.bag_text.specs.Path.{components, is_component, is_path, slash, under}
-use Rattle.bag_tree.specs.declared.listing.FileEntry.{FileEntry}
-use Rattle.bag_disk.specs.Location.{path_in}
-use Rattle.bag_disk.specs.declared.disk.Entry.{Entry}
 use Rattle.bag_disk.specs.declared.disk.Entry.TheVariants as entry
-use Rattle.bag_disk.specs.FolderWalk.{AllArePaths, IsFolderPath, files_with, folders_with}
 
 onto_before : (c : ℕ) (xs ys : List (List ℕ)) → 0 < length xs → onto_first c (xs ++ ys) ≡ onto_first c xs ++ ys
 onto_before c [] ys some = absurd (omega arith)
@@ -19,17 +11,13 @@ onto_before c (x ∷ xs) ys some = refl
 -- the components of a path under a folder
 pub components_under : (folder path : List ℕ) → components (under folder path) ≡ components folder ++ components path
 components_under [] path = refl
-components_under (c ∷ folder) path = elim (c == slash) as (λ b. cond b ([] ∷ components (under folder path)) (onto_first c (components (under folder path))) ≡ cond b ([] ∷ components folder) (onto_first c (components folder)) ++ components path) [
-  | true ↦ ap (λ parts. [] ∷ parts) (components_under folder path)
-  | false ↦ ap (onto_first c) (components_under folder path) ∙ onto_before c (components folder) (components path) (omega (arith, length-slice_split (λ d. d == slash) folder))
-]
+components_under (c ∷ folder) path = grind (arith, onto_before, length-slice_split, components_under folder path)
 
 -- a path in a folder is a path
 pub path_in_folder : (folder name : List ℕ) → IsFolderPath folder → IsTrue (is_path name) → IsTrue (is_path (path_in folder name))
 path_in_folder [] name is named = named
 path_in_folder (c ∷ folder) name (inl e) named = cc
-path_in_folder (c ∷ folder) name (inr is) named =
-    ap (list_all is_component) (components_under (c ∷ folder) name) ∙ list_all-append is_component (components (c ∷ folder)) (components name) ∙ and_from _ _ is named
+path_in_folder (c ∷ folder) name (inr is) named = grind (arith, components_under, list_all-append, and_from)
 
 -- what stands at one more path
 pub path_found : (files : List FileEntry) (folders : List (List ℕ)) (path : List ℕ) (found : Entry) → IsTrue (is_path path) → AllArePaths files folders
@@ -45,7 +33,3 @@ base_folder_alone = (All-nil (λ file. IsTrue (is_path file.path)), All-cons IsF
 -- a folder that was taken from the folders
 pub is_folder_path : (folders rest : List (List ℕ)) (folder : List ℕ) → folders ≡ rest ++ folder ∷ [] → All IsFolderPath folders → IsFolderPath folder
 is_folder_path folders rest folder are all = All-contains IsFolderPath folders folder all (subst (λ fs. Contains fs folder) (sym are) (Contains-push rest folder))
-
--- and the others
-pub others_are : (folders rest : List (List ℕ)) (folder : List ℕ) → folders ≡ rest ++ folder ∷ [] → All IsFolderPath folders → All IsFolderPath rest
-others_are folders rest folder are all = (All-pop IsFolderPath folders rest (Some folder) are all).0

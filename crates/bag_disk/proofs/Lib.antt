@@ -1,4 +1,5 @@
 pub mod Below
+pub mod Common
 pub mod DiskCount
 pub mod DiskPaths
 pub mod DiskSteps

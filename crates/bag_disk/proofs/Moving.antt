@@ -1,9 +1,7 @@
 -- What stands where, after something was moved with all that is below it.
-use Rattle.std.proofs.Common.{ap, ◌∙◌, sym, inl, inr, is_some}
-use Rattle.std.proofs.lemmas.Bool.{false≢true}
+use Rattle.bag_disk.proofs.Common.{ap, ◌∙◌, sym, inl, inr, is_some, false≢true, node}
 use Rattle.bag_tree.proofs.Moving.{moves_all}
 use Rattle.bag_tree.proofs.Within.{within_cases}
-use Rattle.bag_disk.specs.Disk.{node}
 use Rattle.bag_disk.specs.WritableDisk.{MovedNodesAreThere}
 use Rattle.bag_disk.proofs.DiskPaths.{none_below_no_folder}
 

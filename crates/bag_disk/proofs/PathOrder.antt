@@ -1,16 +1,7 @@
 -- Sorted files of which no two neighbours have the same path.
-use Rattle.std.proofs.Common.{◌≡◌, ℕ, ◌+◌, ◌<◌, Bool, true, false, not, List, [], length, get_or, map, is_lt, arith, refl, sym, ap, ◌∙◌, subst, ◌↔◌, IsTrue}
+use Rattle.bag_disk.proofs.Common.{◌≡◌, ℕ, ◌+◌, ◌<◌, Bool, true, false, not, List, [], length, get_or, map, is_lt, arith, refl, sym, ap, ◌∙◌, subst, ◌↔◌, IsTrue, Less, Equal, Greater, ordering_reverse, is_eq, IsAllAdjacentAnswer, IsSortedByKey, IsStrictlySortedBy, pointwise, nat_list_cmp_total, texts_ties, nat_eq, get_or-map, length-map, text_cmp, FileEntry}
 use Rattle.std.specs.declared.cmp.Ordering.{Ordering}
-use Rattle.std.specs.declared.cmp.Ordering.TheVariants.{Less, Equal, Greater}
-use Rattle.std.specs.Ordering.{ordering_reverse, is_eq}
-use Rattle.std.specs.List.{IsAllAdjacentAnswer}
-use Rattle.std.specs.List.Sorted.{IsSortedByKey, IsStrictlySortedBy}
-use Rattle.std.specs.Cmp.Lexicographic.{pointwise, nat_list_cmp_total, texts_ties}
-use Rattle.std.specs.Prelude.{nat_eq}
-use Rattle.std.proofs.lemmas.List.{get_or-map, length-map}
 use Rattle.std.proofs.lemmas.Map.Keys.{sorted_from_all_adjacent, Less-from_sorted}
-use Rattle.bag_text.specs.Text.{text_cmp}
-use Rattle.bag_tree.specs.declared.listing.FileEntry.{FileEntry}
 
 abbrev pub paths_of : List FileEntry → List (List ℕ)
 paths_of files = map (λ file. file.path) files

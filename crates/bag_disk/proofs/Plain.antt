@@ -1,24 +1,8 @@
 -- A disk on which only files and folders stand, with names in UTF-8.
-use Rattle.std.proofs.Common.{◌≡◌, ℕ, ◌+◌, ◌<◌, ◌&&◌, Bool, true, false, cond, IsUtf8, List, [], ◌∷◌, ◌++◌, length, length-append, suc, add-one, get_or, drop, Option, Some, None, is_some, refl, ap, sym, ◌∙◌, subst, inl, inr, arith, Contains}
-use Rattle.std.proofs.lemmas.Bool.{false≢true, and_parts, and_from}
+use Rattle.bag_disk.proofs.Common.{◌≡◌, ℕ, ◌+◌, ◌<◌, ◌&&◌, Bool, true, false, cond, IsUtf8, List, [], ◌∷◌, ◌++◌, length, length-append, suc, add-one, get_or, drop, Option, Some, None, is_some, refl, ap, sym, ◌∙◌, subst, inl, inr, arith, Contains, false≢true, and_parts, and_from, get_or-append_seam, option_map, list_all, find, is_sorted, get-entries, entries_sorted, eq_by_cmp, text_cmp, slash, is_path, under, path_in, Nodes, Node, node, Has, IsFolder, IsDisk, IsReached, HasSpecial, HasUnnamed, HasUnnamedPath, entry_of, is_plain, is_plain_node, File, Folder, Other, one_text, text_itself, none_below, t_true, Walked, Entry, FileEntry}
 use Rattle.std.proofs.lemmas.Str.{IsUtf8-drop, IsCharBoundary-after_ascii}
-use Rattle.std.proofs.Math.Seq.{get_or-append_seam}
-use Rattle.std.specs.Option.{option_map}
-use Rattle.std.specs.List.{list_all}
 use Rattle.std.specs.FinMap as fin
-use Rattle.std.specs.FinMap.{find, is_sorted, get-entries, entries_sorted}
-use Rattle.std.specs.Ordering.{eq_by_cmp}
-use Rattle.bag_text.specs.Text.{text_cmp}
-use Rattle.bag_text.specs.Path.{slash, is_path, under}
-use Rattle.bag_disk.specs.Location.{path_in}
-use Rattle.bag_disk.specs.Disk.{Nodes, Node, node, Has, IsFolder, IsDisk, IsReached, HasSpecial, HasUnnamed, HasUnnamedPath, entry_of, is_plain, is_plain_node}
-use Rattle.bag_disk.specs.Disk.Node.{File, Folder, Other}
-use Rattle.bag_tree.proofs.SameText.{one_text, text_itself}
-use Rattle.bag_tree.proofs.PathEntries.{none_below, t_true}
-use Rattle.bag_disk.specs.FolderWalk.{Walked}
-use Rattle.bag_disk.specs.declared.disk.Entry.{Entry}
 use Rattle.bag_disk.specs.declared.disk.Entry.TheVariants as entry
-use Rattle.bag_tree.specs.declared.listing.FileEntry.{FileEntry}
 use Rattle.bag_disk.proofs.DiskSteps.{contains_none}
 use Rattle.bag_disk.proofs.WholeWalk.{path_filed}
 
@@ -68,8 +52,7 @@ other_seen nodes path found text is other = (path, other_there (node nodes path)
 -- the same, where the path's text is known in three ways
 pub name_is_other : (nodes : Nodes) (location path text : List ℕ) (found : Entry) → IsDisk nodes → IsUtf8 text → path ≡ location → text ≡ path
     → (IsReached nodes text → option_map entry_of (node nodes text) ≡ Some found) → Has nodes location → found ≡ entry.Other → HasSpecial nodes
-name_is_other nodes location path text found disk utf8 at same is has other =
-    other_seen nodes text found utf8 (is (disk.folders text (subst (Has nodes) (sym (same ∙ at)) has))) other
+name_is_other nodes location path text found disk utf8 at same is has other = grind (arith, other_seen)
 
 -- a name is in UTF-8 where its path is
 text_under : (folder name : List ℕ) → IsUtf8 (under folder name) → IsUtf8 name
@@ -91,12 +74,7 @@ text_in (c ∷ folder) name text = text_under (c ∷ folder) name text
 
 -- what has a name that isn't UTF-8 is something else
 unnamed_is_other : (nodes : Nodes) (path : List ℕ) → IsDisk nodes → Has nodes path → ¬ (IsUtf8 path) → node nodes path ≡ Some Other
-unnamed_is_other nodes path disk has unnamed = elim (node nodes path) as (λ o. node nodes path ≡ o → is_some o ≡ true → o ≡ Some Other) [
-  | None ↦ λ _ h. absurd (false≢true h)
-  | Some (File bytes) ↦ λ is _. absurd (unnamed (disk.texts path (File bytes) is (λ h. cc)))
-  | Some Folder ↦ λ is _. absurd (unnamed (disk.texts path Folder is (λ h. cc)))
-  | Some Other ↦ λ _ _. refl
-] refl has
+unnamed_is_other nodes path disk has unnamed = grind (arith, false≢true)
 
 -- where a name of a folder isn't UTF-8 a path isn't
 pub unnamed_there : (nodes : Nodes) (folder : List ℕ) (names : List (List ℕ)) → ((name : List ℕ) → Contains names name → Has nodes (path_in folder name)) → HasUnnamed names → HasUnnamedPath nodes
@@ -126,6 +104,4 @@ walked_plain nodes files listed disk walked = all_plain nodes (λ path n is.
   where
     folder_plain : (path : List ℕ) (n : Node) → is_path path ≡ true → node nodes path ≡ Some n → IsFolder nodes path → is_plain_node n ≡ true
     folder_plain [] n path is folder = absurd (false≢true path)
-    folder_plain (c ∷ path) n _ is folder =
-        let same : Some Folder ≡ Some n = sym folder ∙ is in
-        let f : n ≡ Folder = cc in rw f refl
+    folder_plain (c ∷ path) n _ is folder = grind arith

@@ -1,6 +1,5 @@
 -- When a refusal of the disk is due.
-use Rattle.std.proofs.Common.{◌≡◌, ℕ, true, false, Result, Ok, Err, IfErr, refl, subst, sym, ap, ◌∙◌}
-use Rattle.bag_disk.specs.Disk.{DiskState}
+use Rattle.bag_disk.proofs.Common.{◌≡◌, ℕ, true, false, Result, Ok, Err, IfErr, refl, subst, sym, ap, ◌∙◌, DiskState}
 use Rattle.bag_disk.specs.Refusal.{IsCounted, IsDue, IsDueInListing, IsDueInMove, IsDueInStep, IsNoFailure, at_known, failures_after, is_device, of_path, of_name}
 use Rattle.bag_disk.specs.declared.disk.DiskFault.{DiskFault}
 use Rattle.bag_disk.specs.declared.disk.DiskFault.TheVariants as disk

@@ -1,24 +1,10 @@
 -- The bag below the base folder of a disk, and its listing.
-use Rattle.std.proofs.Common.{◌≡◌, ℕ, Bool, true, false, cond, List, [], ◌∷◌, length, Some, None, is_some, codes, IsTrue, Any, Result, Ok, Err, IfOk, refl, ap, sym, ◌∙◌, subst, ◌⊎◌, ◌↔◌, inl, inr, Contains}
-use Rattle.std.proofs.lemmas.Bool.{false≢true}
-use Rattle.std.specs.Option.{option_map}
-use Rattle.std.specs.List.Sorted.{IsPermutation}
-use Rattle.std.specs.Ordering.{eq_by_cmp}
+use Rattle.bag_disk.proofs.Common.{arith, ◌≡◌, ℕ, Bool, true, false, cond, List, [], ◌∷◌, length, Some, None, is_some, codes, IsTrue, Any, Result, Ok, Err, IfOk, refl, ap, sym, ◌∙◌, subst, ◌⊎◌, ◌↔◌, inl, inr, Contains, false≢true, option_map, IsPermutation, eq_by_cmp, Contains-permutation, IsPermutation-map, IsPermutation-sym, text_cmp, is_path, Nodes, node, Has, IsFolder, IsDisk, bytes_of, is_folder_node, File, Folder, Other, file_of_disk, folder_of_disk, Walked, paths_of, FileEntry, one_text, text_itself, same_test, Contains-append_right}
 use Rattle.std.specs.Str.{bytes_eq}
-use Rattle.std.proofs.lemmas.List.Sorted.{Contains-permutation, IsPermutation-map, IsPermutation-sym}
-use Rattle.bag_text.specs.Text.{text_cmp}
-use Rattle.bag_text.specs.Path.{is_path}
 use Rattle.bag_tree.specs.Listing.{IsListingOf, size_at, entry_at}
-use Rattle.bag_disk.specs.Disk.{Nodes, node, Has, IsFolder, IsDisk, bytes_of, is_folder_node}
-use Rattle.bag_disk.specs.Disk.Node.{File, Folder, Other}
-use Rattle.bag_disk.specs.BagBelow.{file_of_disk, folder_of_disk}
 use Rattle.bag_disk.specs.DiskBag.{bag_of}
-use Rattle.bag_disk.specs.FolderWalk.{Walked, paths_of}
-use Rattle.bag_tree.specs.declared.listing.FileEntry.{FileEntry}
 use Rattle.bag_tree.specs.declared.listing.Listing.{Listing}
-use Rattle.bag_tree.proofs.SameText.{one_text, text_itself, same_test}
 use Rattle.bag_disk.proofs.DiskSteps.{contains_none, contains_first, contains_cases}
-use Rattle.std.proofs.lemmas.List.Elements.{Contains-append_right}
 
 -- the first entry of a path
 abbrev Found : List FileEntry → List ℕ → Type 0
@@ -97,12 +83,7 @@ has_data_there nodes files listed true disk walked is =
     let any = is.0 refl in
     let there : IsFolder nodes payload = subst (IsFolder nodes) any.4 (walked.were_folders any.1 (any.0, any.2, any.3)) in
     sym (ap is_folder_node there)
-has_data_there nodes files listed false disk walked is = elim (node nodes payload) as (λ o. node nodes payload ≡ o → false ≡ is_folder_node o) [
-  | None ↦ λ _. refl
-  | Some (File bytes) ↦ λ _. refl
-  | Some Folder ↦ λ there. let h = payload_listed nodes files listed walked there in is.1 (h.0, payload, h.1, h.2, refl)
-  | Some Other ↦ λ _. refl
-] refl
+has_data_there nodes files listed false disk walked is = grind (arith, payload_listed)
 
 -- the listing of a whole walk is that of the disk's bag
 pub whole_listing : (nodes : Nodes) (files : List FileEntry) (listed : List (List ℕ)) (listing : Listing) → IsDisk nodes → Walked nodes files [] listed []

@@ -1,4 +1,4 @@
-use Rattle.std.proofs.lemmas.Result.{IfOk-weaker}
+use Rattle.bag_disk.proofs.Common.{IfOk-weaker}
 use Rattle.bag_disk.proofs.limit.all_found.Goals as goal
 
 pub returns : goal.returns

@@ -1,8 +1,4 @@
-use Rattle.std.proofs.Common.{◌∙◌, sym, subst, arith}
-use Rattle.std.proofs.lemmas.Bool.{ltb-true}
-use Rattle.std.specs.List.Sorted.{IsStrictlySortedBy}
-use Rattle.bag_text.specs.Text.{text_cmp}
-use Rattle.bag_disk.specs.FolderWalk.{paths_of}
+use Rattle.bag_disk.proofs.Common.{◌∙◌, sym, subst, arith, ltb-true, IsStrictlySortedBy, text_cmp, paths_of}
 use Rattle.bag_disk.proofs.DiskCount.{found_fit}
 use Rattle.bag_disk.proofs.limit.are_too_many.Goals as goal
 use Rattle.bag_disk.proofs.limit.are_too_many.Goals.{then-len, else-len}

@@ -1,6 +1,4 @@
-use Rattle.std.proofs.Common.{vec_len}
-use Rattle.bag_disk.specs.Disk.{Nodes}
-use Rattle.bag_disk.specs.FolderWalk.{AreFolders, AreThere}
+use Rattle.bag_disk.proofs.Common.{vec_len, Nodes, AreFolders, AreThere}
 use Rattle.bag_disk.proofs.limit.with_folders.Given as goal
 
 abbrev pub invariant-loop-path : goal.invariant-loop-path

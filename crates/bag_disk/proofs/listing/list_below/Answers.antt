@@ -1,4 +1,4 @@
-use Rattle.std.proofs.Common.{IsTrue}
+use Rattle.bag_disk.proofs.Common.{arith, IsTrue}
 use Rattle.bag_disk.proofs.DiskSteps.{on_ok_always}
 use Rattle.bag_disk.proofs.Plain.{walked_plain}
 use Rattle.bag_disk.proofs.Refusals.{counted_quietly, due_in_listing, listed_for_err}
@@ -15,9 +15,7 @@ returns-in-Ok-clause-plain g c = on_ok_always c.listing_of.result (λ honest.
     walked_plain (g.D.Disk.state c.args.disk.now).nodes c.in-Ok.walk.files.items c.in-Ok.walk.listed.items (g.met.D.Disk.is_disk c.args.disk.now) (c.in-Ok.ensures.walked honest))
 
 pub returns-in-Ok-clause-refused : goal.returns-in-Ok-clause-refused
-returns-in-Ok-clause-refused g c = listed_for_err _ _ _ _ _ c.listing_of.result
-    (λ odd. record { files = c.in-Ok.walk.files.items; listed = c.in-Ok.walk.listed.items; walked = c.in-Ok.ensures.walked; unlistable = odd })
-    c.listing_of.ensures.refused
+returns-in-Ok-clause-refused g c = grind (arith, listed_for_err)
 
 pub returns-in-Ok-clause-failures : goal.returns-in-Ok-clause-failures
 returns-in-Ok-clause-failures g c = counted_quietly c.listing_of.result (g.D.Disk.state c.args.disk.now) (g.D.Disk.state c.walk.new.disk) c.in-Ok.ensures.failures c.listing_of.ensures.quiet

@@ -1,7 +1,4 @@
-use Rattle.std.proofs.Common.{◌∙◌, IsTrue, inl, inr, sym}
-use Rattle.std.proofs.lemmas.Bool.{false≢true}
-use Rattle.std.proofs.lemmas.List.Sorted.{All-permutation, IsPermutation-trans}
-use Rattle.bag_text.specs.Path.{is_path}
+use Rattle.bag_disk.proofs.Common.{◌∙◌, IsTrue, inl, inr, sym, false≢true, All-permutation, IsPermutation-trans, is_path}
 use Rattle.bag_disk.proofs.listing.listing_of.Goals as goal
 
 pub returns-clause-ordered : goal.returns-clause-ordered

@@ -1,6 +1,4 @@
-use Rattle.std.proofs.Common.{◌≡◌, ◌+◌, [], IsTrue, vec_len}
-use Rattle.bag_disk.specs.Disk.{OnlyLooks}
-use Rattle.bag_disk.specs.FolderWalk.{AllArePaths, Walked}
+use Rattle.bag_disk.proofs.Common.{◌≡◌, ◌+◌, [], IsTrue, vec_len, OnlyLooks, AllArePaths, Walked}
 use Rattle.bag_disk.proofs.listing.walk.Given as goal
 
 abbrev pub invariant-loop-folder : goal.invariant-loop-folder

@@ -1,4 +1,4 @@
-use Rattle.std.proofs.Common.{rules, ◌≢◌, ◌∙◌, [], sym}
+use Rattle.bag_disk.proofs.Common.{rules, ◌≢◌, ◌∙◌, [], sym}
 use Rattle.bag_disk.proofs.Below.{location_cut}
 use Rattle.bag_disk.proofs.location.is_location.Goals as goal
 

@@ -1,7 +1,4 @@
-use Rattle.std.proofs.Common.{◌≡◌, ◌<◌, ◌∙◌, IsTrue, Some, length, get_or, refl, sym, ap, subst, arith}
-use Rattle.std.proofs.lemmas.Str.{IsCharBoundary-before_ascii}
-use Rattle.bag_disk.specs.Disk.{HasSpecial, IsReached, node}
-use Rattle.bag_disk.specs.Disk.Node.{Folder}
+use Rattle.bag_disk.proofs.Common.{◌≡◌, ◌∙◌, IsTrue, Some, refl, arith, HasSpecial, IsReached, node, Folder}
 use Rattle.bag_disk.proofs.DiskPaths.{slash_passed, other_passed, slash_reached, slash_refused}
 use Rattle.bag_disk.proofs.DiskSteps.{looks_at_first, looks_on}
 use Rattle.bag_disk.proofs.Looked.{had_before}
@@ -13,11 +10,7 @@ pub loop-end-init : goal.loop-end-init
 loop-end-init g c = (looks_at_first (g.D.Disk.state c.args.disk.now), refl, λ honest folder rest same less. absurd (omega arith))
 
 pub range-requires-clause-end_boundary : goal.range-requires-clause-end_boundary
-range-requires-clause-end_boundary g c =
-    let end = c.loop-end.end in
-    let items = c.as_bytes-byte-items.ensures.value in
-    let slash : get_or c.args.path.now end 0 ≡ 47 = ap (λ t. get_or t end 0) (sym items) ∙ c.if-byte-eq47.true in
-    IsCharBoundary-before_ascii c.args.path.now end (subst (λ t. end < length t) items c.loop-end-test.true) (omega arith)
+range-requires-clause-end_boundary g c = grind arith
 
 pub returns-in-Err-clause-refused : goal.returns-in-Err-clause-refused
 returns-in-Err-clause-refused g c =

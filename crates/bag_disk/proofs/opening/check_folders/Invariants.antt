@@ -1,5 +1,4 @@
-use Rattle.std.proofs.Common.{◌≡◌, IsTrue}
-use Rattle.bag_disk.specs.Disk.{IsReachedTo, OnlyLooks}
+use Rattle.bag_disk.proofs.Common.{◌≡◌, IsTrue, IsReachedTo, OnlyLooks}
 use Rattle.bag_disk.proofs.opening.check_folders.Given as goal
 
 abbrev pub invariant-loop-end : goal.invariant-loop-end

@@ -1,7 +1,4 @@
-use Rattle.std.proofs.Common.{◌≡◌, ◌∙◌, ℕ, List, sym, ap, Some, None, Err}
-use Rattle.std.specs.Option.{option_map}
-use Rattle.bag_disk.specs.Disk.{IsFileWith, IsReached, bytes_of, entry_of, node}
-use Rattle.bag_disk.specs.BagBelow.{file_of_disk}
+use Rattle.bag_disk.proofs.Common.{arith, ◌≡◌, ◌∙◌, ℕ, List, sym, ap, Some, None, Err, option_map, IsFileWith, IsReached, bytes_of, entry_of, node, file_of_disk}
 use Rattle.bag_disk.proofs.DiskSteps.{file_there, folder_there, looks_on}
 use Rattle.bag_disk.proofs.DiskPaths.{no_path}
 use Rattle.bag_disk.proofs.Looked.{had_before}
@@ -27,11 +24,7 @@ returns-in-Ok-Folder-clause-refused g c = λ honest.
     file_of_disk old.nodes path ∙ ap bytes_of (folder_there (node old.nodes path) (found ∙ ap Some c.in-Ok-Folder.field-0-is))
 
 pub returns-in-Ok-Other-clause-refused : goal.returns-in-Ok-Other-clause-refused
-returns-in-Ok-Other-clause-refused g c = λ honest.
-    let old = g.D.Disk.state c.args.disk.now in
-    let path = c.args.path.now in
-    let found = had_before old (g.D.Disk.state c.check_folders.new.disk) c.in-Ok.ensures.looks (λ nodes. IsReached nodes path → option_map entry_of (node nodes path) ≡ Some c.in-Ok-Other.field-0) c.in-Ok-Other.ensures.found honest (c.in-Ok.ensures.reached honest) in
-    other_seen old.nodes path c.in-Ok-Other.field-0 c.utf8.path found c.in-Ok-Other.field-0-is
+returns-in-Ok-Other-clause-refused g c = λ honest. grind (arith, had_before, other_seen)
 
 pub returns-in-Err-entry_at-clause-refused : goal.returns-in-Err-entry_at-clause-refused
 returns-in-Err-entry_at-clause-refused g c =
@@ -55,11 +48,4 @@ returns-in-Ok-open-clause-honest g c = λ honest.
     (there.0, file_of_disk old.nodes path ∙ ap bytes_of there.1, opens there.0 there.1)
 
 pub returns-in-Err-open-clause-refused : goal.returns-in-Err-open-clause-refused
-returns-in-Err-open-clause-refused g c =
-    let old = g.D.Disk.state c.args.disk.now in
-    let seen = g.D.Disk.state c.check_folders.new.disk in
-    let at = g.D.Disk.state c.entry_at.new.self in
-    let path = c.args.path.now in
-    let looks = looks_on old seen at c.in-Ok.ensures.looks c.in-Ok-File.ensures.looks in
-    due_of_path _ _ _ _ c.in-Err-open.fault c.of_path-in-Err-open.result c.of_path-in-Err-open.ensures (λ is honest. file_of_disk old.nodes path
-    ∙ ap bytes_of (had_before old at looks (λ nodes. IsReached nodes path → node nodes path ≡ None) (c.in-Err-open.ensures.absent (ap Err is)) honest (c.in-Ok.ensures.reached honest)))
+returns-in-Err-open-clause-refused g c = grind (arith, looks_on, due_of_path, had_before)

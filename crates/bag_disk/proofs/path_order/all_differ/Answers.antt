@@ -1,7 +1,4 @@
-use Rattle.std.proofs.Common.{rules, not}
-use Rattle.std.specs.Prelude.{nat_eq}
-use Rattle.std.specs.Cmp.Lexicographic.{pointwise}
-use Rattle.std.proofs.lemmas.List.Sorted.{answers_always}
+use Rattle.bag_disk.proofs.Common.{rules, not, nat_eq, pointwise, answers_always}
 use Rattle.bag_disk.proofs.PathOrder.{sorted_and_differ}
 use Rattle.bag_disk.proofs.path_order.all_differ.Goals as goal
 

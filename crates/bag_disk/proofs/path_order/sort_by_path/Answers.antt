@@ -1,7 +1,4 @@
-use Rattle.std.proofs.Common.{rules, is_lt}
-use Rattle.std.specs.Cmp.Lexicographic.{nat_list_cmp_total}
-use Rattle.std.proofs.lemmas.List.Sorted.{answers_always, ranks_by}
-use Rattle.bag_text.specs.Text.{text_cmp}
+use Rattle.bag_disk.proofs.Common.{rules, is_lt, nat_list_cmp_total, answers_always, ranks_by, text_cmp}
 use Rattle.bag_disk.proofs.path_order.sort_by_path.Goals as goal
 
 pub returns-clause-sorted : goal.returns-clause-sorted

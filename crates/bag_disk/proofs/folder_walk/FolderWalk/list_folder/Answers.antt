@@ -1,6 +1,4 @@
-use Rattle.std.proofs.Common.{◌∙◌, ◌++◌, ◌∷◌, [], ap, refl, subst, sym}
-use Rattle.bag_disk.specs.Disk.{HasSpecial, HasUnnamedPath}
-use Rattle.bag_disk.specs.FolderWalk.{Walked, AllStand}
+use Rattle.bag_disk.proofs.Common.{◌∙◌, ◌++◌, ◌∷◌, [], ap, refl, subst, sym, HasSpecial, HasUnnamedPath, Walked, AllStand}
 use Rattle.bag_disk.proofs.DiskSteps.{fewer_stand, folder_done}
 use Rattle.bag_disk.proofs.Refusals.{due_for}
 use Rattle.bag_disk.proofs.folder_walk.FolderWalk.list_folder.Goals as goal

@@ -1,8 +1,4 @@
-use Rattle.std.proofs.Common.{◌∙◌, ◌++◌, ◌∷◌, [], Err, IsTrue, ap, refl, subst, sym, arith}
-use Rattle.std.proofs.lemmas.Result.{err_from_is_err_and}
-use Rattle.bag_disk.specs.Disk.{Has, HasSpecial}
-use Rattle.bag_disk.specs.FolderWalk.{Listing}
-use Rattle.bag_disk.specs.Location.{path_in}
+use Rattle.bag_disk.proofs.Common.{◌∙◌, Err, IsTrue, ap, refl, subst, sym, arith, err_from_is_err_and, Has, HasSpecial, Listing, path_in}
 use Rattle.bag_disk.proofs.DiskSteps.{turn, next_there, folder_ended, looks_at_first, looks_on, all_stand}
 use Rattle.bag_disk.proofs.Plain.{unnamed_there}
 use Rattle.bag_disk.proofs.Refusals.{due_for, due_of_name}
@@ -48,9 +44,7 @@ pub returns-in-Ok-None-clause-paths : goal.returns-in-Ok-None-clause-paths
 returns-in-Ok-None-clause-paths g c = c.loop-self.invariant.4
 
 pub returns-in-Ok-None-clause-walked : goal.returns-in-Ok-None-clause-walked
-returns-in-Ok-None-clause-walked g c = λ honest listed begun.
-    folder_ended (g.D.Disk.state c.args.disk.now) (g.D.Disk.state c.loop-self.disk) (g.D.Disk.state c.next_name.new.self) c.in-Ok-None.field-0 c.loop-self.self.files.items c.loop-self.self.folders.items listed c.args.folder.now
-    c.loop-self.invariant.0 c.in-Ok-None.field-0-is c.in-Ok-None.ensures.honest honest (c.loop-self.invariant.1 honest listed begun)
+returns-in-Ok-None-clause-walked g c = λ honest listed begun. grind (arith, folder_ended)
 
 pub returns-in-Err-clause-refused : goal.returns-in-Err-clause-refused
 returns-in-Err-clause-refused g c =
@@ -59,5 +53,4 @@ returns-in-Err-clause-refused g c =
     unnamed_there nodes c.args.folder.now _ (c.loop-self.invariant.1 honest listed begun).there (c.in-Err.ensures.unnamed (ap Err is) (c.loop-self.invariant.0.honest ∙ honest)))
 
 pub returns-clause-refused : goal.returns-clause-refused
-returns-clause-refused g c = λ honest listed begun.
-    all_stand (g.D.Disk.state c.args.disk.now).nodes c.loop-self.self.files.items c.loop-self.self.folders.items (listed ++ c.args.folder.now ∷ []) _ (c.loop-self.invariant.1 honest listed begun).walked
+returns-clause-refused g c = λ honest listed begun. grind (arith, all_stand)

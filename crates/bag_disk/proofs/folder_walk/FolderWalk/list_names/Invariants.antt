@@ -1,6 +1,4 @@
-use Rattle.std.proofs.Common.{◌≡◌, ◌≤◌, ◌+◌, List, ℕ, IsTrue, vec_len}
-use Rattle.bag_disk.specs.Disk.{OnlyLooks}
-use Rattle.bag_disk.specs.FolderWalk.{AllArePaths, Listing}
+use Rattle.bag_disk.proofs.Common.{◌≡◌, ◌≤◌, ◌+◌, List, ℕ, IsTrue, vec_len, OnlyLooks, AllArePaths, Listing}
 use Rattle.bag_disk.proofs.folder_walk.FolderWalk.list_names.Given as goal
 
 abbrev pub invariant-loop-self : goal.invariant-loop-self
