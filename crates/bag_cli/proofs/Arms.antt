@@ -1,24 +1,12 @@
 -- The arms of what a plan asks for.
-use Rattle.std.proofs.Common.{◌≡◌, ◌≤◌, ◌⊎◌, inl, inr, [], ◌∷◌, ℕ, List, Option, Some, None, refl, sym, ap, ◌∙◌, subst, arith}
-use Rattle.std.specs.declared.result.Result.{Result}
-use Rattle.std.specs.declared.result.Result.TheVariants.{Ok, Err}
-use Rattle.bag_disk.specs.Disk.{DiskState}
-use Rattle.bag_tree.specs.Out.{OutState}
-use Rattle.bag_cli.specs.Visits.{Event, Read}
-use Rattle.bag_store.specs.FileTree.{tree_state}
-use Rattle.bag_profile.specs.Profile.{Profile}
+use Rattle.bag_cli.proofs.Common.{◌≡◌, ◌≤◌, ◌⊎◌, inl, inr, [], ◌∷◌, ℕ, List, Option, Some, None, refl, sym, ap, ◌∙◌, subst, arith, Result, Ok, Err, DiskState, OutState, Event, Read, tree_state, Profile, IsRead, refusal_status, Plan, IsStarted, AreMade, IsChecked, IsCheckedFor, IsDoneBy, IsPerformed, IsSaid}
 use Rattle.bag_profile.specs.declared.fault.ProfileFault.TheVariants.{NotJson, NoIdentifier, WrongShape, Memory}
-use Rattle.bag_cli.specs.ProfileFile.{IsRead}
-use Rattle.bag_cli.specs.ProfileRefusal.{refusal_status}
 use Rattle.bag_cli.specs.declared.profile_refusal.ProfileRefusal.{ProfileRefusal}
 use Rattle.bag_cli.specs.declared.profile_refusal.ProfileRefusal.TheVariants.{Unread, Refused}
 use Rattle.bag_arguments.specs.declared.plan.Action.{Action}
 use Rattle.bag_arguments.specs.Plan.{usage_status}
-use Rattle.bag_arguments.specs.declared.plan.Plan.{Plan}
 use Rattle.bag_arguments.specs.declared.usage.Usage.{Usage}
 use Rattle.bag_arguments.specs.declared.usage.Usage.TheVariants as usage_of
-use Rattle.bag_cli.specs.Program.{IsStarted}
-use Rattle.bag_cli.specs.Performed.{AreMade, IsChecked, IsCheckedFor, IsDoneBy, IsPerformed, IsSaid}
 use Rattle.bag_cli.proofs.Checks.{checks_status}
 use Rattle.bag_cli.proofs.Makings.{makings_status}
 
@@ -66,10 +54,8 @@ pub checked_status : (below : List ℕ → DiskState) (file : List ℕ → Optio
     → IsChecked below file plan path before after visits n → n ≤ 3
 checked_status below file plan None before after visits n checked =
     checks_status plan None (λ name. tree_state (below name) 0) plan.directories before after visits n checked
-checked_status below file plan (Some path) before after visits n checked =
-    checked_for_status below plan checked.0 before after checked.1 n checked.4
+checked_status below file plan (Some path) before after visits n checked = checked_for_status below plan checked.0 before after checked.1 n checked.4
 
 pub made_status : (below : List ℕ → DiskState) (plan : Plan) (before after : OutState) (visits : List Event) (n : ℕ) → AreMade below plan before after visits n → n ≤ 3
 made_status below plan before after visits n (inl none) = omega (arith, none.0)
-made_status below plan before after visits n (inr made) =
-    makings_status plan (λ name. tree_state (below name) 0) plan.directories before after visits n made
+made_status below plan before after visits n (inr made) = makings_status plan (λ name. tree_state (below name) 0) plan.directories before after visits n made

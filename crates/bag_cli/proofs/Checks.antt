@@ -1,20 +1,5 @@
 -- Checks and their statuses.
-use Rattle.std.proofs.Common.{◌≡◌, inl, inr, ◌≤◌, ◌∷◌, ◌++◌, [], ℕ, List, Option, refl, sym, ap, ◌∙◌, subst, arith}
-use Rattle.std.specs.Prelude.{IfSome, MatchOption, MatchResult}
-use Rattle.std.specs.declared.result.Result.{Result}
-use Rattle.std.specs.declared.result.Result.TheVariants.{Ok, Err}
-use Rattle.bag_tree.specs.Out.{OutState}
-use Rattle.bag_tree.specs.Tree.{TreeState}
-use Rattle.bag_cli.specs.Visits.{Event, Entered, Left}
-use Rattle.bag_walk.specs.Closing.{status}
-use Rattle.bag_walk.specs.declared.outcome.Outcome.{Outcome}
-use Rattle.bag_walk.specs.declared.outcome.Outcome.TheVariants.{Clean, Faults, Stopped, Rest, Unread, Unwritten}
-use Rattle.bag_profile.specs.Profile.{Profile}
-use Rattle.bag_arguments.specs.declared.plan.Plan.{Plan}
-use Rattle.bag_walk.specs.declared.outcome.Request.{Request}
-use Rattle.bag_cli.specs.Checked.{AreChecksOf, HasRunOut, IsCheckOf, IsLastCheck, IsRunOver, IsVisitToCheck, IsWholeCheck, request_of, visit_of}
-use Rattle.bag_cli.specs.InTurn.{HasVisited, Last, Whole}
-use Rattle.bag_cli.specs.Status.{whole_status}
+use Rattle.bag_cli.proofs.Common.{◌≡◌, inl, inr, ◌≤◌, ◌∷◌, ◌++◌, [], ℕ, List, Option, refl, sym, ap, ◌∙◌, subst, arith, IfSome, MatchOption, MatchResult, Result, Ok, Err, OutState, TreeState, Event, Entered, Left, status, Outcome, Clean, Faults, Stopped, Rest, Unread, Unwritten, Profile, Plan, Request, AreChecksOf, HasRunOut, IsCheckOf, IsLastCheck, IsRunOver, IsVisitToCheck, IsWholeCheck, request_of, visit_of, HasVisited, Last, Whole, whole_status}
 use Rattle.bag_cli.proofs.Turns.{added, turns_status}
 
 -- the last check of a name, and a whole one
@@ -44,8 +29,7 @@ next_check plan profile tree name before after visits (Err e) nothing = inr noth
 -- a run over a tree by the request of a plan is a check
 pub check_of_run : (plan : Plan) (profile : Option Profile) (old new : TreeState) (name : List ℕ) (request : Request) (before after : OutState) (outcome : Outcome)
     → request ≡ request_of plan name → IsRunOver old new profile request before after outcome → IsCheckOf plan profile old new name before after outcome
-check_of_run plan profile old new name request before after outcome is run =
-    subst (λ request. IsRunOver old new profile request before after outcome) is run
+check_of_run plan profile old new name request before after outcome is run = subst (λ request. IsRunOver old new profile request before after outcome) is run
 
 -- The folder's tree was given for it, and left as the check leaves it; or as it was given, where memory ran out.
 pub visited_check : {E : Type 0} (plan : Plan) (profile : Option Profile) (tree old new : TreeState) (name : List ℕ) (before after : OutState) (checked : Result Outcome E) (start mid visits : List Event)

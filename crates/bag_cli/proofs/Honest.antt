@@ -1,14 +1,7 @@
 -- What is told of an honest folder.
-use Rattle.std.proofs.Common.{◌⊎◌, inl, inr, ℕ, List, Bool, IsTrue}
+use Rattle.bag_cli.proofs.Common.{◌⊎◌, inl, inr, ℕ, List, Bool, IsTrue, Ok, Err, OutState, TreeState, NewElement, MakeFault, HonestFoldersAreTold, IsToldMade, IsToldNotMade, IsMake, TellsMaking}
 use Rattle.std.specs.Prelude.{Result}
-use Rattle.std.specs.declared.result.Result.TheVariants.{Ok, Err}
 use Rattle.bag_text.specs.declared.alg.Alg.{Alg}
-use Rattle.bag_tree.specs.Out.{OutState}
-use Rattle.bag_tree.specs.Tree.{TreeState}
-use Rattle.bag_tags.specs.Element.{NewElement}
-use Rattle.bag_make.specs.declared.fault.MakeFault.{MakeFault}
-use Rattle.bag_cli.specs.Honest.{HonestFoldersAreTold, IsToldMade, IsToldNotMade}
-use Rattle.bag_cli.specs.Making.{IsMake, TellsMaking}
 
 told_by : (name : List ℕ) (algs : List Alg) (info : List NewElement) (quiet : Bool) (old new : TreeState) (before after : OutState) (n : ℕ) (made : Result (Unit {0}) MakeFault)
     → IsTrue old.honest → IsMake algs info old new made → TellsMaking name made quiet before after (Ok n)

@@ -1,26 +1,12 @@
 -- What is told of a bag on an honest disk.
-use Rattle.std.proofs.Common.{◌≡◌, ◌≢◌, inl, inr, ℕ, List, Option, IsTrue, refl, sym, ap, ◌∙◌, subst, arith, min, length}
-use Rattle.std.specs.Io.KnownBytes.{Appends}
+use Rattle.bag_cli.proofs.Common.{◌≡◌, ◌≢◌, inl, inr, ℕ, List, Option, IsTrue, refl, sym, ap, ◌∙◌, subst, arith, min, length, Appends, OutState, DiskState, Event, bag_of, tree_state, status, Outcome, Clean, Faults, Stopped, Rest, Unread, Unwritten, Request, Profile, Plan, IsWholeCheck, request_of, HonestDisksAreTold, TellsReport, shown_of, told_lines}
 use Rattle.std.specs.List.{concat}
-use Rattle.bag_tree.specs.Out.{OutState}
 use Rattle.bag_tree.specs.declared.tree_fault.Stop.{Stop}
-use Rattle.bag_disk.specs.Disk.{DiskState}
-use Rattle.bag_cli.specs.Visits.{Event}
-use Rattle.bag_store.specs.DiskBag.{bag_of}
-use Rattle.bag_store.specs.FileTree.{tree_state}
 use Rattle.bag_facts.specs.declared.fault.Fault.{Fault}
-use Rattle.bag_walk.specs.Closing.{status}
 use Rattle.bag_walk.specs.Ending.{ideal, limit_of, lines_of_run}
-use Rattle.bag_walk.specs.declared.outcome.Outcome.{Outcome}
-use Rattle.bag_walk.specs.declared.outcome.Outcome.TheVariants.{Clean, Faults, Stopped, Rest, Unread, Unwritten}
-use Rattle.bag_walk.specs.declared.outcome.Request.{Request}
-use Rattle.bag_profile.specs.Profile.{Profile}
 use Rattle.bag_report.specs.Report.{above, first}
 use Rattle.bag_walk.specs.Stops.{MayStop}
 use Rattle.bag_walk.specs.Run.{EndsAt, IsRunOf}
-use Rattle.bag_arguments.specs.declared.plan.Plan.{Plan}
-use Rattle.bag_cli.specs.Checked.{IsWholeCheck, request_of}
-use Rattle.bag_cli.specs.Told.{HonestDisksAreTold, TellsReport, shown_of, told_lines}
 
 -- a run that ends at the end of its report, or at its limit, with what it showed
 Told : Request → List Fault → OutState → OutState → Outcome → Type 0

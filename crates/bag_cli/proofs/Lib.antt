@@ -1,5 +1,6 @@
 pub mod Arms
 pub mod Checks
+pub mod Common
 mod Honest
 pub mod HonestDisks
 mod Lines

@@ -1,19 +1,6 @@
 -- Makings and their statuses.
-use Rattle.std.proofs.Common.{◌≡◌, ◌≤◌, ◌∷◌, ◌++◌, [], ℕ, List, arith, map, refl, subst}
-use Rattle.std.specs.declared.result.Result.{Result}
-use Rattle.std.specs.declared.result.Result.TheVariants.{Ok, Err}
-use Rattle.bag_tree.specs.Out.{OutState}
-use Rattle.bag_tree.specs.Tree.{TreeState}
-use Rattle.bag_tree.specs.declared.out.Refused.{Refused}
-use Rattle.bag_tags.specs.Element.{NewElement}
-use Rattle.bag_make.specs.declared.fault.MakeFault.{MakeFault}
-use Rattle.bag_cli.specs.Making.{IsMaking}
+use Rattle.bag_cli.proofs.Common.{◌≡◌, ◌≤◌, ◌∷◌, ◌++◌, [], ℕ, List, arith, map, refl, subst, Result, Ok, Err, OutState, TreeState, Refused, NewElement, MakeFault, IsMaking, Plan, Event, Entered, Left, visit_of, HasVisited, AreMakingsOf, IsLastMaking, IsTold, IsWholeMaking, element_of}
 use Rattle.bag_cli.specs.MakingLine.{status}
-use Rattle.bag_arguments.specs.declared.plan.Plan.{Plan}
-use Rattle.bag_cli.specs.Visits.{Event, Entered, Left}
-use Rattle.bag_cli.specs.Checked.{visit_of}
-use Rattle.bag_cli.specs.InTurn.{HasVisited}
-use Rattle.bag_cli.specs.Makings.{AreMakingsOf, IsLastMaking, IsTold, IsWholeMaking, element_of}
 use Rattle.bag_cli.proofs.Turns.{added, turns_status}
 
 -- a making of the tree that was given for the folder, which was left as the making leaves it

@@ -1,10 +1,5 @@
 -- What is done for names one after another.
-use Rattle.std.proofs.Common.{◌≡◌, inl, inr, ◌+◌, ◌∷◌, ◌++◌, ◌≤◌, ◌<◌, ℕ, List, [], Option, Some, None, refl, sym, ap, ◌∙◌, subst, arith, max, length, drop, get_or, append_assoc, append-nil}
-use Rattle.std.proofs.lemmas.List.{drop_more}
-use Rattle.std.specs.Prelude.{MatchOption, unwrap_or}
-use Rattle.bag_tree.specs.Out.{OutState}
-use Rattle.bag_cli.specs.Visits.{Event}
-use Rattle.bag_cli.specs.InTurn.{AreInTurn, GoesOn, HasVisited, Last, Whole}
+use Rattle.bag_cli.proofs.Common.{◌≡◌, inl, inr, ◌+◌, ◌∷◌, ◌++◌, ◌≤◌, ◌<◌, ℕ, List, [], Option, Some, None, refl, sym, ap, ◌∙◌, subst, arith, max, length, drop, get_or, append_assoc, append-nil, drop_more, MatchOption, unwrap_or, OutState, Event, AreInTurn, GoesOn, HasVisited, Last, Whole}
 
 -- ---- visits
 

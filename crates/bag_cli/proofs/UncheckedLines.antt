@@ -1,9 +1,5 @@
 -- The lines of keys are written one by one.
-use Rattle.std.proofs.Common.{◌≡◌, ℕ, zero, suc, get_or, ◌∷◌, ◌<◌, ◌++◌, List, [], length, take, drop, Option, refl, ap, sym, ◌∙◌, subst, append_assoc, arith}
-use Rattle.std.specs.Io.KnownBytes.{Appends}
-use Rattle.bag_walk.specs.Write.{IsCut}
-use Rattle.bag_walk.proofs.Writing.{append-IsCut, IsCut-append}
-use Rattle.bag_cli.specs.UncheckedKeys.{unchecked_line, unchecked_lines}
+use Rattle.bag_cli.proofs.Common.{◌≡◌, ℕ, zero, suc, get_or, ◌∷◌, ◌<◌, ◌++◌, List, [], length, take, drop, Option, refl, ap, sym, ◌∙◌, subst, append_assoc, arith, Appends, IsCut, append-IsCut, IsCut-append, unchecked_line, unchecked_lines}
 
 -- the lines before a key's, that line, and the others
 lines_split : (keys : List (List ℕ)) (i : ℕ) (d : List ℕ) → i < length keys

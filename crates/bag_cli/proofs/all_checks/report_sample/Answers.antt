@@ -1,14 +1,4 @@
-use Rattle.std.proofs.Common.{rules, ◌≡◌, inl, ◌∷◌, [], List, None, refl, subst, sym}
-use Rattle.std.specs.Prelude.{MatchResult, codes, unwrap_or}
-use Rattle.std.specs.declared.result.Result.{Result}
-use Rattle.std.specs.declared.result.Result.TheVariants.{Ok, Err}
-use Rattle.bag_tree.specs.Out.{OutState}
-use Rattle.bag_cli.specs.Visits.{Event, NotGiven}
-use Rattle.bag_walk.specs.declared.outcome.Outcome.{Outcome}
-use Rattle.bag_arguments.specs.declared.plan.Plan.{Plan}
-use Rattle.bag_cli.specs.Checked.{AreCalm, AreChecksOf, HasRunOut, IsCheckOfSample, IsVisitToCheck, visit_of}
-use Rattle.bag_cli.specs.Sample.{sample_state}
-use Rattle.bag_cli.specs.Status.{whole_status}
+use Rattle.bag_cli.proofs.Common.{rules, ◌≡◌, inl, ◌∷◌, [], List, None, refl, subst, sym, MatchResult, codes, unwrap_or, Result, Ok, Err, OutState, Event, NotGiven, Outcome, Plan, AreCalm, AreChecksOf, HasRunOut, IsCheckOfSample, IsVisitToCheck, visit_of, sample_state, whole_status}
 use Rattle.bag_cli.proofs.Checks.{ends, goes, next_check}
 use Rattle.bag_cli.proofs.Turns.{only_one}
 use Rattle.bag_cli.proofs.all_checks.report_sample.Goals as goal

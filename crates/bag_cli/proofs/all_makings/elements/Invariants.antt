@@ -1,5 +1,4 @@
-use Rattle.std.proofs.Common.{◌≡◌, map, take}
-use Rattle.bag_cli.specs.Makings.{element_of}
+use Rattle.bag_cli.proofs.Common.{◌≡◌, map, take, element_of}
 use Rattle.bag_cli.proofs.all_makings.elements.Given as goal
 
 abbrev pub invariant-loop-item : goal.invariant-loop-item

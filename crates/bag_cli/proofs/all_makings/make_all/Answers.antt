@@ -1,10 +1,4 @@
-use Rattle.std.proofs.Common.{◌≡◌, ◌∙◌, ap, inl, inr, [], List, ℕ, map, refl, sym, subst, append-nil}
-use Rattle.bag_tree.specs.Tree.{TreeState}
-use Rattle.bag_tags.specs.Element.{NewElement}
-use Rattle.bag_cli.specs.Folders.{disks_of, visits_of}
-use Rattle.bag_store.specs.FileTree.{tree_state}
-use Rattle.bag_cli.specs.InTurn.{AreInTurn}
-use Rattle.bag_cli.specs.Makings.{IsLastMaking, IsWholeMaking, element_of}
+use Rattle.bag_cli.proofs.Common.{◌≡◌, ◌∙◌, ap, inl, inr, [], List, ℕ, map, refl, sym, subst, append-nil, TreeState, NewElement, disks_of, visits_of, tree_state, AreInTurn, IsLastMaking, IsWholeMaking, element_of}
 use Rattle.bag_cli.proofs.all_makings.make_all.Goals as goal
 
 pub returns-in-Ok : goal.returns-in-Ok

@@ -1,8 +1,4 @@
-use Rattle.std.proofs.Common.{inl, inr, [], List, ℕ, Some, refl, sym, subst, append-nil}
-use Rattle.bag_tree.specs.Tree.{TreeState}
-use Rattle.bag_cli.specs.Folders.{disks_of, visits_of}
-use Rattle.bag_store.specs.FileTree.{tree_state}
-use Rattle.bag_cli.specs.Checked.{AreChecksOf}
+use Rattle.bag_cli.proofs.Common.{inl, inr, [], List, ℕ, Some, refl, sym, subst, append-nil, TreeState, disks_of, visits_of, tree_state, AreChecksOf}
 use Rattle.bag_cli.proofs.by_profile.check_by.Goals as goal
 
 pub returns-in-Ok : goal.returns-in-Ok

@@ -1,8 +1,4 @@
-use Rattle.std.proofs.Common.{◌≡◌, [], ◌∷◌, ◌++◌, refl, subst}
-use Rattle.std.specs.declared.result.Result.TheVariants.{Ok, Err}
-use Rattle.bag_cli.specs.Folders.{disks_of, visits_of}
-use Rattle.bag_cli.specs.Visits.{Read}
-use Rattle.bag_cli.specs.ProfileFile.{IsRead}
+use Rattle.bag_cli.proofs.Common.{◌≡◌, [], ◌∷◌, ◌++◌, refl, subst, Ok, Err, disks_of, visits_of, Read, IsRead}
 use Rattle.bag_cli.proofs.Arms.{checked_by_path}
 use Rattle.bag_cli.proofs.Turns.{added}
 use Rattle.bag_cli.proofs.by_profile.check_by_profile.Goals as goal

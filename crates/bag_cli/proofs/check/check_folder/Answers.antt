@@ -1,9 +1,4 @@
-use Rattle.std.proofs.Common.{◌∷◌, [], inl, refl}
-use Rattle.std.proofs.lemmas.Result.{err_from_is_err_and}
-use Rattle.std.specs.Option.{option_copied}
-use Rattle.bag_cli.specs.Folders.{disks_of, visits_of}
-use Rattle.bag_cli.specs.Visits.{NotGiven}
-use Rattle.bag_store.specs.FileTree.{tree_state}
+use Rattle.bag_cli.proofs.Common.{◌∷◌, [], inl, refl, err_from_is_err_and, option_copied, disks_of, visits_of, NotGiven, tree_state}
 use Rattle.bag_cli.proofs.Checks.{visited_check}
 use Rattle.bag_cli.proofs.check.check_folder.Goals as goal
 

@@ -1,14 +1,5 @@
-use Rattle.std.proofs.Common.{◌≡◌, None, refl, subst}
-use Rattle.std.specs.Prelude.{MatchResult, codes}
-use Rattle.std.specs.declared.result.Result.{Result}
-use Rattle.std.specs.declared.result.Result.TheVariants.{Ok, Err}
-use Rattle.bag_tree.specs.Out.{OutState}
-use Rattle.bag_tree.specs.Tree.{TreeState}
+use Rattle.bag_cli.proofs.Common.{◌≡◌, None, refl, subst, MatchResult, codes, Result, Ok, Err, OutState, TreeState, Outcome, Plan, IsCheckOf, IsCheckOfSample, sample_state}
 use Rattle.bag_memory.specs.MemoryView.{state_of}
-use Rattle.bag_walk.specs.declared.outcome.Outcome.{Outcome}
-use Rattle.bag_arguments.specs.declared.plan.Plan.{Plan}
-use Rattle.bag_cli.specs.Checked.{IsCheckOf, IsCheckOfSample}
-use Rattle.bag_cli.specs.Sample.{sample_state}
 use Rattle.bag_cli.proofs.check.check_sample.Goals as goal
 
 -- the check of a tree that is the sample

@@ -1,5 +1,4 @@
-use Rattle.std.proofs.Common.{ap}
-use Rattle.std.specs.Option.{option_copied}
+use Rattle.bag_cli.proofs.Common.{ap, option_copied}
 use Rattle.bag_cli.proofs.Checks.{check_of_run}
 use Rattle.bag_cli.proofs.check.check_tree.Goals as goal
 

@@ -1,4 +1,4 @@
-use Rattle.bag_cli.specs.Visits.{NotGiven}
+use Rattle.bag_cli.proofs.Common.{NotGiven}
 use Rattle.bag_cli.proofs.folders.note_not_given.Given as goal
 
 abbrev pub ghost-note_of : goal.ghost-note_of

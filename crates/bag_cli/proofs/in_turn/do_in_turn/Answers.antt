@@ -1,9 +1,4 @@
-use Rattle.std.proofs.Common.{rules, ◌≡◌, ℕ, List, [], append-nil, max, subst, sym, arith}
-use Rattle.std.proofs.lemmas.List.{drop_all}
-use Rattle.bag_tree.specs.Tree.{TreeState}
-use Rattle.bag_cli.specs.Folders.{disks_of, visits_of}
-use Rattle.bag_store.specs.FileTree.{tree_state}
-use Rattle.bag_cli.specs.InTurn.{Last, Whole}
+use Rattle.bag_cli.proofs.Common.{rules, ◌≡◌, ℕ, List, [], append-nil, max, subst, sym, arith, drop_all, TreeState, disks_of, visits_of, tree_state, Last, Whole}
 use Rattle.bag_cli.proofs.Turns.{looped_all, looped_last, looped_more, none_yet}
 use Rattle.bag_cli.proofs.in_turn.do_in_turn.Goals as goal
 

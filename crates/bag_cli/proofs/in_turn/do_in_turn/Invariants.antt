@@ -1,7 +1,4 @@
-use Rattle.std.proofs.Common.{◌≤◌, List, ℕ}
-use Rattle.bag_tree.specs.Tree.{TreeState}
-use Rattle.bag_cli.specs.Folders.{disks_of, visits_of}
-use Rattle.bag_store.specs.FileTree.{tree_state}
+use Rattle.bag_cli.proofs.Common.{◌≤◌, List, ℕ, TreeState, disks_of, visits_of, tree_state}
 use Rattle.bag_cli.proofs.Turns.{Looped}
 use Rattle.bag_cli.proofs.in_turn.do_in_turn.Given as goal
 

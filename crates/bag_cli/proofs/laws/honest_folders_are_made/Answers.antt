@@ -1,14 +1,5 @@
-use Rattle.std.proofs.Common.{◌≡◌, inl, inr, ◌++◌, ℕ, List, Ok, IsTrue, map, sym, ap, ◌∙◌, subst, append-nil, arith}
-use Rattle.bag_tree.specs.Out.{OutState}
-use Rattle.bag_disk.specs.Disk.{DiskState}
-use Rattle.bag_cli.specs.Visits.{Event}
-use Rattle.bag_store.specs.DiskBag.{bag_of}
-use Rattle.bag_store.specs.FileTree.{tree_state}
-use Rattle.bag_cli.specs.Honest.{HonestFoldersAreTold}
-use Rattle.bag_cli.specs.Making.{IsMaking}
-use Rattle.bag_arguments.specs.declared.plan.Plan.{Plan}
-use Rattle.bag_cli.specs.Makings.{IsWholeMaking, element_of}
-use Rattle.bag_cli.specs.Told.{TellsMade}
+use Rattle.bag_cli.proofs.Common.{◌≡◌, inl, inr, ◌++◌, ℕ, List, IsTrue, map, sym, ap, ◌∙◌, subst, append-nil, arith, OutState, DiskState, Event, bag_of, tree_state, HonestFoldersAreTold, IsMaking, Plan, IsWholeMaking, element_of, TellsMade}
+use Rattle.std.proofs.Common.{Ok}
 use Rattle.bag_cli.proofs.laws.honest_folders_are_made.Goals as goal
 
 -- a whole making with status 0

@@ -1,4 +1,4 @@
-use Rattle.std.proofs.Common.{ap}
+use Rattle.bag_cli.proofs.Common.{ap}
 use Rattle.bag_cli.proofs.making.make_and_tell.Goals as goal
 
 pub returns : goal.returns

@@ -1,5 +1,4 @@
-use Rattle.std.proofs.Common.{decimal}
-use Rattle.bag_tree.specs.Cause.{word}
+use Rattle.bag_cli.proofs.Common.{decimal, word}
 use Rattle.bag_cli.proofs.Lines.{word_ended}
 use Rattle.bag_cli.proofs.making_line.put_step.Goals as goal
 

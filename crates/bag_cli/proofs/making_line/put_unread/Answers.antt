@@ -1,7 +1,5 @@
+use Rattle.bag_cli.proofs.Common.{err_from_is_err_and, field, cut_third, writes_third}
 use Rattle.std.proofs.Common.{codes}
-use Rattle.std.proofs.lemmas.Result.{err_from_is_err_and}
-use Rattle.bag_facts.specs.FaultLine.{field}
-use Rattle.bag_walk.proofs.Writing.{cut_third, writes_third}
 use Rattle.bag_cli.proofs.making_line.put_unread.Goals as goal
 
 pub returns-in_err-put_line : goal.returns-in_err-put_line

@@ -1,9 +1,5 @@
-use Rattle.std.proofs.Common.{◌∷◌, [], None, refl, subst, sym, append-nil}
-use Rattle.std.specs.Prelude.{codes}
+use Rattle.bag_cli.proofs.Common.{◌∷◌, [], None, refl, subst, sym, append-nil, codes, disks_of, visits_of, IsSaid, sample_state}
 use Rattle.bag_arguments.specs.declared.plan.Action.TheVariants.{Check, Help, Make, Sample}
-use Rattle.bag_cli.specs.Folders.{disks_of, visits_of}
-use Rattle.bag_cli.specs.Performed.{IsSaid}
-use Rattle.bag_cli.specs.Sample.{sample_state}
 use Rattle.bag_cli.proofs.Arms.{checked_status, made_status, performed, said_status}
 use Rattle.bag_cli.proofs.Checks.{checks_status}
 use Rattle.bag_cli.proofs.performing.perform.Goals as goal

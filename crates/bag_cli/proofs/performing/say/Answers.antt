@@ -1,4 +1,4 @@
-use Rattle.std.proofs.Common.{inl, inr, refl, append-nil}
+use Rattle.bag_cli.proofs.Common.{inl, inr, refl, append-nil}
 use Rattle.bag_cli.proofs.performing.say.Goals as goal
 
 pub returns-in-Ok : goal.returns-in-Ok

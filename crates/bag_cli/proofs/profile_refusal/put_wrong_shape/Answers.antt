@@ -1,5 +1,4 @@
-use Rattle.std.proofs.lemmas.Result.{err_from_is_err_and}
-use Rattle.bag_walk.proofs.Writing.{IsCut-append, writes_after}
+use Rattle.bag_cli.proofs.Common.{err_from_is_err_and, IsCut-append, writes_after}
 use Rattle.bag_cli.proofs.profile_refusal.put_wrong_shape.Goals as goal
 
 pub returns-in_err-put_pieces : goal.returns-in_err-put_pieces

@@ -1,6 +1,4 @@
-use Rattle.std.proofs.Common.{subst}
-use Rattle.bag_cli.specs.ProfileRefusal.{wrong_shape_line}
-use Rattle.bag_cli.specs.Saying.{Says}
+use Rattle.bag_cli.proofs.Common.{subst, wrong_shape_line, Says}
 use Rattle.bag_cli.proofs.SaidLines.{says_of}
 use Rattle.bag_cli.proofs.profile_refusal.say_fault.Goals as goal
 

@@ -1,7 +1,5 @@
-use Rattle.std.proofs.Common.{◌≡◌, ◌≤◌, ◌+◌, ◌++◌, ◌∙◌, [], Option, None, Some, List, ℕ, length, take, ap, arith}
+use Rattle.bag_cli.proofs.Common.{◌≡◌, ◌≤◌, ◌+◌, ◌++◌, ◌∙◌, [], Option, None, Some, List, ℕ, length, take, ap, arith, IfSome, option_map}
 use Rattle.std.proofs.lemmas.Grind.{common_steps}
-use Rattle.std.specs.Prelude.{IfSome}
-use Rattle.std.specs.Option.{option_map}
 use Rattle.bag_cli.proofs.system_file.read_within.Goals as goal
 
 -- what is shorter than the bytes that were asked for is all

@@ -1,7 +1,4 @@
-use Rattle.std.proofs.Common.{List, ℕ, subst}
-use Rattle.std.proofs.lemmas.Result.{err_from_is_err_and}
-use Rattle.bag_walk.specs.Write.{IsCut}
-use Rattle.bag_cli.specs.UncheckedKeys.{unchecked_lines}
+use Rattle.bag_cli.proofs.Common.{List, ℕ, subst, err_from_is_err_and, IsCut, unchecked_lines}
 use Rattle.bag_cli.proofs.UncheckedLines.{lines_cut}
 use Rattle.bag_cli.proofs.unchecked_keys.write_unchecked.Goals as goal
 

@@ -1,6 +1,4 @@
-use Rattle.std.proofs.Common.{take}
-use Rattle.std.specs.Io.KnownBytes.{Appends}
-use Rattle.bag_cli.specs.UncheckedKeys.{unchecked_lines}
+use Rattle.bag_cli.proofs.Common.{take, Appends, unchecked_lines}
 use Rattle.bag_cli.proofs.unchecked_keys.write_unchecked.Given as goal
 
 abbrev pub invariant-loop-key : goal.invariant-loop-key

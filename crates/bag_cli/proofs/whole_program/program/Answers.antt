@@ -1,6 +1,4 @@
-use Rattle.std.proofs.Common.{[], refl, sym, append-nil}
-use Rattle.std.specs.declared.result.Result.TheVariants.{Ok, Err}
-use Rattle.bag_cli.specs.Folders.{visits_of}
+use Rattle.bag_cli.proofs.Common.{[], refl, sym, append-nil, Ok, Err, visits_of}
 use Rattle.bag_cli.proofs.whole_program.program.Goals as goal
 
 pub returns-in-Ok : goal.returns-in-Ok

@@ -1,7 +1,4 @@
-use Rattle.std.proofs.Common.{inr, [], ℕ, List, sym, ap, ◌∙◌, map, subst, string_bytes, append-nil}
-use Rattle.std.specs.declared.result.Result.TheVariants.{Ok}
-use Rattle.bag_cli.specs.Folders.{disks_of, visits_of}
-use Rattle.bag_cli.specs.Program.{IsProgramOrNone}
+use Rattle.bag_cli.proofs.Common.{inr, [], ℕ, List, sym, ap, ◌∙◌, map, subst, string_bytes, append-nil, Ok, disks_of, visits_of, IsProgramOrNone}
 use Rattle.bag_cli.proofs.Arms.{not_asked}
 use Rattle.bag_cli.proofs.whole_program.run_program.Goals as goal
 

@@ -1,7 +1,5 @@
-use Rattle.std.proofs.Common.{inl, inr, [], ℕ, List, refl, sym, ap, ◌∙◌, subst, append-nil}
+use Rattle.bag_cli.proofs.Common.{inl, inr, [], ℕ, List, refl, sym, ap, ◌∙◌, subst, append-nil, disks_of, visits_of, IsProgram}
 use Rattle.bag_arguments.specs.Words.{texts}
-use Rattle.bag_cli.specs.Folders.{disks_of, visits_of}
-use Rattle.bag_cli.specs.Program.{IsProgram}
 use Rattle.bag_cli.proofs.whole_program.run_words.Goals as goal
 
 pub returns-in-Ok : goal.returns-in-Ok

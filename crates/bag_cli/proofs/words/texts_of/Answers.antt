@@ -1,10 +1,6 @@
-use Rattle.std.proofs.Common.{rules, ◌≡◌, ℕ, List, map, ap, ◌∙◌, string_bytes, Bor, Vec}
-use Rattle.std.specs.Prelude.{IfOk}
+use Rattle.bag_cli.proofs.Common.{rules, ◌≡◌, ℕ, List, map, ap, ◌∙◌, string_bytes, Bor, Vec, IfOk, Result, Ok, Err, IsCollectResult, YieldsList, YieldsList-from_map_by, YieldsList-from_slice, items_from_drains}
 use Rattle.std.specs.declared.option.Option.{Option}
-use Rattle.std.specs.declared.result.Result.{Result}
-use Rattle.std.specs.declared.result.Result.TheVariants.{Ok, Err}
 use Rattle.std.specs.Slice.Iter.{iter_rest}
-use Rattle.std.proofs.lemmas.Iterator.{IsCollectResult, YieldsList, YieldsList-from_map_by, YieldsList-from_slice, items_from_drains}
 use Rattle.bag_cli.proofs.words.texts_of.Goals as goal
 
 -- what is collected are all values

@@ -1,10 +1,4 @@
-use Rattle.std.proofs.Common.{subst, sym}
-use Rattle.std.specs.Prelude.{MatchOption}
-use Rattle.std.specs.Option.{option_copied}
-use Rattle.bag_cli.specs.Folders.{disks_of}
-use Rattle.bag_store.specs.FileTree.{tree_state}
-use Rattle.bag_cli.specs.Checked.{IsLastCheck, IsWholeCheck}
-use Rattle.bag_cli.specs.Status.{whole_status}
+use Rattle.bag_cli.proofs.Common.{subst, sym, MatchOption, option_copied, disks_of, tree_state, IsLastCheck, IsWholeCheck}
 use Rattle.bag_cli.proofs.Checks.{next_check, next_status}
 use Rattle.bag_cli.proofs.all_checks.ChecksTask.do_in.Goals as goal
 

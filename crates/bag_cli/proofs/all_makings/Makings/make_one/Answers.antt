@@ -1,8 +1,4 @@
-use Rattle.std.proofs.Common.{◌∷◌, [], refl}
-use Rattle.std.proofs.lemmas.Result.{err_from_is_err_and}
-use Rattle.bag_cli.specs.Folders.{disks_of, visits_of}
-use Rattle.bag_cli.specs.Visits.{NotGiven}
-use Rattle.bag_store.specs.FileTree.{tree_state}
+use Rattle.bag_cli.proofs.Common.{◌∷◌, [], refl, err_from_is_err_and, disks_of, visits_of, NotGiven, tree_state}
 use Rattle.bag_cli.proofs.Makings.{visited_making}
 use Rattle.bag_cli.proofs.all_makings.Makings.make_one.Goals as goal
 

@@ -1,4 +1,4 @@
-use Rattle.bag_cli.specs.Visits.{Entered}
+use Rattle.bag_cli.proofs.Common.{Entered}
 use Rattle.bag_cli.proofs.folders.Folders.enter.Given as goal
 
 abbrev pub ghost-note_of : goal.ghost-note_of

@@ -1,27 +1,10 @@
 -- `new` makes a value that takes no memory, with an empty list.
+use Rattle.bag_cli.proofs.Common.{Ura, Val, vstruct, vcons, vnil, SProp, Memory, Routine, WpFn, Tables, Logic, Fun, tables, WpFn-mono, raw, ◌$◌, ◌∵◌, !, qed, keep, join, suffices, done, no_more, and_then, returns, enter, alloc_all, pass_all, free_all, look_at, get, sets, nothing, on_entry, Meets, triple_of, entered, says, ends_at, walked, walk_Meets, Record}
 use mathlib.Core.Path.{refl}
 use mathlib.Core.List.{[], ◌∷◌}
-use seplogic.Ra.Ura.{Ura}
-use mir.Val.{Val, vstruct, vcons, vnil}
-use base.Logic.{SProp}
-use prog.Memory.{Memory}
-use prog.Routine.{Routine}
-use prog.Wp.{WpFn, Tables}
-use types.Logic.{Logic}
-use contract.Monad.{Fun}
-use contract.Running.{tables, tables_of}
-use sound.WpLaws.{WpFn-mono}
-use types.Kit.{raw, ◌$◌, ◌∵◌, !, qed, keep, join, suffices, done}
-use types.Run.{no_more, and_then, returns, enter}
+use contract.Running.{tables_of}
 use types.Part.{agg}
-use types.ByLocal.{alloc_all, pass_all, free_all, look_at, get, sets}
 use denote.Shadow.{pure_i}
-use denote.Steps.{nothing}
-use denote.Triple.Entry.{on_entry}
-use denote.Triple.Spec.{Meets, triple_of}
-use denote.Triple.Table.{entered}
-use denote.Triple.Walked.{says, ends_at, walked, walk_Meets}
-use Rattle.bag_cli.specs.declared.record.Record.{Record}
 use Rattle.bag_cli.specs.contracts.record.Record as T
 use Rattle.bag_cli.specs.contracts.record.Record.none.Key.{name as #it}
 use Rattle.bag_cli.specs.contracts.record.Record.none as it

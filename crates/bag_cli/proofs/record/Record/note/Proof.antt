@@ -1,32 +1,14 @@
 -- The body does nothing: the borrow is opened, and closed at the longer list.
-use Rattle.std.proofs.Common.{ℕ, List, [], ◌∷◌, ◌++◌, refl, MutBor}
-use seplogic.Ra.Ura.{Ura}
+use Rattle.bag_cli.proofs.Common.{ℕ, List, [], ◌∷◌, ◌++◌, refl, MutBor, Ura, Val, vunit, vptr, SProp, ent, sep, emp, via, fst∗, id⊢, Memory, Routine, Calls, Loops, WpFn, Tables, Logic, Fun, tables, ‵, ◌⊛◌, ◌$◌, ◌∵◌, !, qed, by, move, keep, use1, split, join, fsplit, fsplit3, fjoin, fjoin3, feq_i, suffices, frame, done, unit_lit, of_opd, returns, enter, alloc_all, pass_all, free_all, look_at, sets, WpFn-mono, opens, closes, on_entry, Meets, triple_of, entered, says, Stays, stay_ref, walk_of, AllGo, Goes-ref, Walks, ends_at, walked, walk_Meets, Event, Record}
 use mir.Syntax.{named}
-use mir.Val.{Val, vunit, vptr}
-use base.Logic.{SProp, ent, sep, emp, via, fst∗, id⊢}
 use base.Fml.{GName, Lft, Share, ftrue, flft, fobs, fbor}
-use prog.Memory.{Memory}
-use prog.Routine.{Routine}
-use prog.Wp.{Calls, Loops, WpFn, Tables}
-use types.Logic.{Logic}
-use contract.Monad.{Fun}
-use contract.Running.{tables, tables_of}
-use types.Kit.{‵, ◌⊛◌, ◌$◌, ◌∵◌, !, qed, by, move, keep, drop, use1, split, join, fsplit, fsplit3, fjoin, fjoin3, feq_i, suffices, frame, done}
-use types.Run.{unit_lit, of_opd, returns, enter}
+use contract.Running.{tables_of}
+use types.Kit.{drop}
 use types.SemTy.{Body}
-use types.ByLocal.{alloc_all, pass_all, free_all, look_at, sets}
-use sound.WpLaws.{WpFn-mono}
 use denote.RattleType.{owns}
 use denote.Memory.{mem}
 use denote.Ref.{MutRef, mut_vals, mut_Tells}
 use denote.Signature.{plain}
-use denote.Steps.{opens, closes}
-use denote.Triple.Entry.{on_entry}
-use denote.Triple.Spec.{Meets, triple_of}
-use denote.Triple.Table.{entered}
-use denote.Triple.Walked.{says, Stays, stay_ref, walk_of, AllGo, Goes-ref, Walks, ends_at, walked, walk_Meets}
-use Rattle.bag_cli.specs.Visits.{Event}
-use Rattle.bag_cli.specs.declared.record.Record.{Record}
 use Rattle.bag_cli.specs.contracts.record.Record as T
 use Rattle.bag_cli.specs.contracts.record.Record.note.Key.{name as #it}
 use Rattle.bag_cli.specs.contracts.record.Record.note as it

@@ -1,0 +1,63 @@
+-- The names that this crate's proofs cite, passed on from one place. Declares nothing.
+pub use Rattle.std.proofs.Common.{Bool, Bor, IsTrue, List, MutBor, None, Option, Some, Vec, [], ap, append-nil, append_assoc, arith, decimal, drop, get_or, inl, inr, length, map, max, min, refl, rules, string_bytes, subst, suc, sym, take, zero, ℕ, ◌++◌, ◌+◌, ◌<◌, ◌∙◌, ◌∷◌, ◌≡◌, ◌≢◌, ◌≤◌, ◌⊎◌}
+pub use Rattle.std.proofs.lemmas.Iterator.{IsCollectResult, YieldsList, YieldsList-from_map_by, YieldsList-from_slice, items_from_collect, items_from_drains}
+pub use Rattle.std.proofs.lemmas.List.{drop_all, drop_more}
+pub use Rattle.std.proofs.lemmas.Result.{err_from_is_err_and}
+pub use Rattle.std.specs.Io.KnownBytes.{Appends}
+pub use Rattle.std.specs.Option.{option_copied, option_map}
+pub use Rattle.std.specs.Prelude.{IfOk, IfSome, MatchOption, MatchResult, codes, unwrap_or}
+pub use Rattle.std.specs.declared.result.Result.{Result}
+pub use Rattle.std.specs.declared.result.Result.TheVariants.{Err, Ok}
+pub use Rattle.bag_arguments.specs.declared.plan.Plan.{Plan}
+pub use Rattle.bag_disk.specs.Disk.{DiskState}
+pub use Rattle.bag_facts.specs.FaultLine.{field}
+pub use Rattle.bag_make.specs.declared.fault.MakeFault.{MakeFault}
+pub use Rattle.bag_profile.specs.Profile.{Profile}
+pub use Rattle.bag_store.specs.DiskBag.{bag_of}
+pub use Rattle.bag_store.specs.FileTree.{state_after, tree_state}
+pub use Rattle.bag_tags.specs.Element.{NewElement}
+pub use Rattle.bag_tree.specs.Cause.{word}
+pub use Rattle.bag_tree.specs.Out.{OutState}
+pub use Rattle.bag_tree.specs.Tree.{TreeState}
+pub use Rattle.bag_tree.specs.declared.out.Refused.{Refused}
+pub use Rattle.bag_walk.proofs.Writing.{IsCut-append, append-IsCut, cut_third, writes_after, writes_third}
+pub use Rattle.bag_walk.specs.Closing.{status}
+pub use Rattle.bag_walk.specs.Write.{IsCut, Writes}
+pub use Rattle.bag_walk.specs.declared.outcome.Outcome.{Outcome}
+pub use Rattle.bag_walk.specs.declared.outcome.Outcome.TheVariants.{Clean, Faults, Rest, Stopped, Unread, Unwritten}
+pub use Rattle.bag_walk.specs.declared.outcome.Request.{Request}
+pub use base.Logic.{SProp, emp, ent, fst∗, id⊢, sep, via}
+pub use contract.Monad.{Fun}
+pub use contract.Running.{tables}
+pub use denote.Steps.{closes, nothing, opens}
+pub use denote.Triple.Entry.{on_entry}
+pub use denote.Triple.Spec.{Meets, triple_of}
+pub use denote.Triple.Table.{entered}
+pub use denote.Triple.Walked.{AllGo, Goes-ref, Stays, Walks, ends_at, says, stay_ref, walk_Meets, walk_of, walked}
+pub use mir.Val.{Val, vcons, vnil, vptr, vstruct, vunit}
+pub use prog.Memory.{Memory}
+pub use prog.Routine.{Routine}
+pub use prog.Wp.{Calls, Loops, Tables, WpFn}
+pub use seplogic.Ra.Ura.{Ura}
+pub use sound.WpLaws.{WpFn-mono}
+pub use types.ByLocal.{alloc_all, free_all, get, look_at, pass_all, sets}
+pub use types.Kit.{ !, by, done, feq_i, fjoin, fjoin3, frame, fsplit, fsplit3, join, keep, move, qed, raw, split, suffices, use1, ‵, ◌$◌, ◌∵◌, ◌⊛◌}
+pub use types.Logic.{Logic}
+pub use types.Run.{and_then, enter, no_more, of_opd, returns, unit_lit}
+pub use Rattle.bag_cli.specs.Checked.{AreCalm, AreChecksOf, HasRunOut, IsCheckOf, IsCheckOfSample, IsLastCheck, IsRunOver, IsVisitToCheck, IsWholeCheck, request_of, visit_of}
+pub use Rattle.bag_cli.specs.Folders.{disks_of, visits_of}
+pub use Rattle.bag_cli.specs.Honest.{HonestFoldersAreTold, IsToldMade, IsToldNotMade}
+pub use Rattle.bag_cli.specs.InTurn.{AreInTurn, GoesOn, HasVisited, Last, Whole}
+pub use Rattle.bag_cli.specs.Making.{IsMake, IsMaking, TellsMaking}
+pub use Rattle.bag_cli.specs.Makings.{AreMakingsOf, IsLastMaking, IsTold, IsWholeMaking, element_of}
+pub use Rattle.bag_cli.specs.Performed.{AreMade, IsChecked, IsCheckedFor, IsDoneBy, IsPerformed, IsSaid}
+pub use Rattle.bag_cli.specs.ProfileFile.{IsRead}
+pub use Rattle.bag_cli.specs.ProfileRefusal.{refusal_status, wrong_shape_line}
+pub use Rattle.bag_cli.specs.Program.{IsProgram, IsProgramOrNone, IsStarted}
+pub use Rattle.bag_cli.specs.Sample.{sample_state}
+pub use Rattle.bag_cli.specs.Saying.{Says}
+pub use Rattle.bag_cli.specs.Status.{whole_status}
+pub use Rattle.bag_cli.specs.Told.{HonestDisksAreTold, TellsMade, TellsReport, shown_of, told_lines}
+pub use Rattle.bag_cli.specs.UncheckedKeys.{unchecked_line, unchecked_lines}
+pub use Rattle.bag_cli.specs.Visits.{Entered, Event, Left, NotGiven, Read}
+pub use Rattle.bag_cli.specs.declared.record.Record.{Record}
