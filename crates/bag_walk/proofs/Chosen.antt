@@ -1,46 +1,11 @@
 -- The files whose digests are to be compared, and their faults.
-use Rattle.std.proofs.Common.{◌≡◌, ◌≢◌, ◌<◌, ◌≤◌, ◌+◌, ◌++◌, ◌∷◌, ◌⊎◌, inl, inr, ℕ, Bool, true, false, List, [], length, map, take, get_or, Option, None, Some, Contains, refl, sym, ap, ◌∙◌, subst, is_lt, is_some, nat_lt, ◌==◌, ◌&&◌, ◌||◌}
+use Rattle.bag_walk.proofs.Common.{arith, ◌≡◌, ◌≢◌, ◌<◌, ◌≤◌, ◌+◌, ◌++◌, ◌∷◌, ◌⊎◌, inl, inr, ℕ, Bool, true, false, List, [], length, map, take, get_or, Option, None, Some, Contains, refl, sym, ap, ◌∙◌, subst, is_some, nat_lt, ◌==◌, ◌&&◌, ◌||◌, nat_cmp, ordering_then, nat_cmp_is, Ordering, Less, Equal, Greater, length-map, map-append, take-map, take_all, eqb-true, ltb-true, rank_or_zero, number, stage, IsListOf, text_cmp, contains_back, contains_behind, contains_cases, contains_either, contains_first, contains_front, contains_nothing, joined, member_has, nothing_listed, one_listed, same_members, Bag, file, HasFile, FileEntry, fault_cmp, Fault, not_both, fault_cmp_total, IsFactsOf, paths_of, Facts, Depth, Declaration, Fast, Complete, Full, take_one_more, before_next, less_by_path, faults_of_bytes, IsNamed, IsSummed, IsFaultOfFile, IsOfValidity, Expected, validity_of_stage_seven, above, is_above, filtered_list, AreToSum, IsNamedAhead, TellsItsFaults, faults_at, faults_in, faults_of_files, paths_to_sum, is_passed, AreFilesOf, IsOfBag, ToSum}
+use Rattle.std.proofs.Common.{is_lt}
 use Rattle.std.specs.List.Sorted.{IsStrictlySortedBy}
-use Rattle.std.specs.Ordering.{nat_cmp, ordering_then}
-use Rattle.std.specs.Cmp.{nat_cmp_is}
-use Rattle.std.specs.declared.cmp.Ordering.{Ordering}
-use Rattle.std.specs.declared.cmp.Ordering.TheVariants.{Less, Equal, Greater}
-use Rattle.std.proofs.lemmas.List.{length-map, map-append, take-map, take_all}
-use Rattle.std.proofs.lemmas.Bool.{eqb-true, ltb-true}
 use Rattle.std.proofs.Math.ListN.{get_or-map}
-use Rattle.bag_text.specs.Alg.{rank_or_zero}
-use Rattle.bag_text.specs.Code.{number, stage}
-use Rattle.bag_text.specs.Order.{IsListOf}
-use Rattle.bag_text.specs.Text.{text_cmp}
-use Rattle.bag_text.proofs.ListOf.{contains_back, contains_behind, contains_cases, contains_either, contains_first, contains_front, contains_nothing, joined, member_has, nothing_listed, one_listed, same_members}
-use Rattle.bag_tree.specs.Bag.{Bag, file, HasFile}
-use Rattle.bag_tree.specs.declared.listing.FileEntry.{FileEntry}
-use Rattle.bag_facts.specs.FaultOrder.{fault_cmp}
-use Rattle.bag_facts.specs.declared.fault.Fault.{Fault}
-use Rattle.bag_facts.proofs.Ascending.{not_both}
-use Rattle.bag_facts.proofs.Ordered.{fault_cmp_total}
-use Rattle.bag_facts.specs.Facts.{IsFactsOf}
-use Rattle.bag_facts.specs.Wanted.{paths_of}
-use Rattle.bag_facts.specs.declared.facts.Facts.{Facts}
-use Rattle.bag_facts.specs.declared.options.Depth.{Depth}
-use Rattle.bag_facts.specs.declared.options.Depth.TheVariants.{Declaration, Fast, Complete, Full}
 use Rattle.bag_facts.proofs.ListedFiles.{file_listed, listed_file, own_size}
-use Rattle.bag_facts.proofs.Mapped.{take_one_more}
-use Rattle.bag_stages.proofs.ByItem.{before_next}
-use Rattle.bag_stages.proofs.InFile.{less_by_path}
 use Rattle.bag_stages.specs.Given.{AreNaming}
-use Rattle.bag_stages.specs.SumFaults.{faults_of_bytes}
-use Rattle.bag_stages.specs.SummedFiles.{IsNamed, IsSummed}
-use Rattle.bag_stages.specs.ValidityStage.{IsFaultOfFile, IsOfValidity}
-use Rattle.bag_stages.specs.declared.expected.Expected.{Expected}
 use Rattle.bag_stages.proofs.SummedFiles.{faulty_is_summed, named_some, some_named}
-use Rattle.bag_stages.proofs.ValidityFaults.{validity_of_stage_seven}
-use Rattle.bag_report.specs.Report.{above, is_above}
-use Rattle.bag_report.proofs.Filtered.{filtered_list}
-use Rattle.bag_walk.specs.Files.{AreToSum, IsNamedAhead, TellsItsFaults}
-use Rattle.bag_walk.specs.ToSum.{faults_at, faults_in, faults_of_files, paths_to_sum}
-use Rattle.bag_walk.specs.Validity.{is_passed, AreFilesOf, IsOfBag}
-use Rattle.bag_walk.specs.declared.to_sum.ToSum.{ToSum}
 
 -- no file was gone through yet
 module _ (bag : Bag) (after : Option Fault) where
@@ -263,10 +228,7 @@ module _ (bag : Bag) (after : Option Fault) (facts : Facts) (of : IsFactsOf bag 
       (listed_faults bag after chosen are.paths.ascending are.faults)
 
   pub chosen_of : AreFilesOf bag chosen
-  chosen_of = record {
-    in_order = are.paths.ascending;
-    entries = λ to_sum c. sym (of.listing.files to_sum.file.path) ∙ own_size facts.listing.files to_sum.file of.ordered.ascending (are.listed to_sum c);
-  }
+  chosen_of = grind (arith, own_size)
 
 pub none_of : (bag : Bag) (after : Option Fault) → IsOfBag bag after [] []
 unfolding IsStrictlySortedBy

@@ -1,21 +1,8 @@
 -- The closing line behind a segment.
-use Rattle.std.proofs.Common.{◌≡◌, ◌<◌, ◌≤◌, ◌++◌, ◌∷◌, ℕ, zero, suc, List, [], inl, inr, None, Some, Option, length, min, take, slice_get, refl, sym, ap, ◌∙◌, subst, arith}
-use Rattle.std.specs.List.{concat}
-use Rattle.bag_tree.specs.Out.{OutState}
-use Rattle.bag_tree.specs.declared.tree_fault.Stop.{Stop}
-use Rattle.bag_facts.specs.declared.fault.Fault.{Fault}
-use Rattle.bag_walk.specs.Closing.{closing}
-use Rattle.bag_walk.specs.Ending.{MayEnd, ended, ideal, limit_of, written, written_line}
-use Rattle.bag_walk.specs.Writer.{Closes}
-use Rattle.bag_walk.specs.declared.outcome.Outcome.{Outcome}
+use Rattle.bag_walk.proofs.Common.{◌≡◌, ◌<◌, ◌≤◌, ◌++◌, ◌∷◌, ℕ, zero, suc, List, [], inl, inr, None, Some, Option, length, min, take, slice_get, refl, sym, ap, ◌∙◌, subst, arith, concat, OutState, Stop, Fault, closing, MayEnd, ended, ideal, limit_of, written, written_line, Closes, Outcome, Request, ClosesSegment, EndsSegment, IsRead, IsSegment, WroteFirst, IfStopped, Segment, SegmentEnd, AtEnd}
 use Rattle.bag_walk.specs.declared.outcome.Outcome.TheVariants as outcome
-use Rattle.bag_walk.specs.declared.outcome.Request.{Request}
 use Rattle.bag_walk.proofs.Ending.{closed_report, end_may_end, ideal_all, ideal_may_end, take_length, wrote_closed}
-use Rattle.bag_walk.specs.Segment.{ClosesSegment, EndsSegment, IsRead, IsSegment, WroteFirst}
-use Rattle.bag_walk.specs.Stops.{IfStopped}
-use Rattle.bag_walk.specs.declared.segment.Segment.{Segment}
-use Rattle.bag_walk.specs.declared.segment.SegmentEnd.{SegmentEnd}
-use Rattle.bag_walk.specs.declared.segment.SegmentEnd.TheVariants.{Full, AtEnd, Unread, Unwritten}
+use Rattle.bag_walk.specs.declared.segment.SegmentEnd.TheVariants.{Full, Unread, Unwritten}
 
 -- a line of the first faults is one of all their lines
 line_of_first : (faults : List Fault) (last : List ℕ) (n m : ℕ) → n < m → m ≤ length faults → slice_get (written faults) n ≡ slice_get (written (take m faults) ++ last ∷ []) n

@@ -1,20 +1,6 @@
 -- How a run ends.
-use Rattle.std.proofs.Common.{◌≡◌, ℕ, zero, suc, get_or, ◌∷◌, ◌<◌, ◌≤◌, ◌++◌, inl, inr, Bool, true, false, cond, List, [], length, take, min, Option, None, Some, nat_le, refl, ap, sym, ◌∙◌, subst, arith, slice_get}
-use Rattle.std.proofs.lemmas.Bool.Decides.{nat_tests}
-use Rattle.std.proofs.lemmas.Grind.{common_steps}
-use Rattle.std.specs.List.{concat}
-use Rattle.std.specs.Io.KnownBytes.{Appends}
-use Rattle.bag_tree.specs.Out.{OutState}
-use Rattle.bag_tree.specs.declared.tree_fault.Stop.{Stop}
-use Rattle.bag_facts.specs.declared.fault.Fault.{Fault}
-use Rattle.bag_walk.specs.Closing.{closing, count_of}
-use Rattle.bag_walk.specs.Ending.{written_line, written, lines_of_run, limit_of, MayEnd, ReachesEnd, Wrote, ended, ideal}
-use Rattle.bag_walk.specs.Write.{IsCut}
-use Rattle.bag_walk.specs.Writer.{Closes, WritesReport}
-use Rattle.bag_walk.specs.declared.outcome.Outcome.{Outcome}
-use Rattle.bag_walk.specs.declared.outcome.Outcome.TheVariants.{Clean, Faults, Stopped, Rest, Unread, Unwritten}
-use Rattle.bag_walk.specs.declared.outcome.Request.{Request}
-use Rattle.bag_walk.proofs.RunLines.{concat-append_one, line_of_run, last_of_run, front_of_run, all_of_run, cut_at}
+use Rattle.bag_walk.proofs.Common.{◌≡◌, ℕ, zero, suc, get_or, ◌<◌, ◌≤◌, inl, inr, Bool, true, false, cond, List, length, take, min, Option, None, Some, nat_le, refl, sym, subst, arith, slice_get, nat_tests, common_steps, concat, Appends, OutState, Stop, Fault, closing, count_of, written, lines_of_run, limit_of, MayEnd, ReachesEnd, Wrote, ended, ideal, Closes, WritesReport, Outcome, Clean, Faults, Stopped, Rest, Unread, Unwritten, Request}
+use Rattle.bag_walk.proofs.RunLines.{concat-append_one, last_of_run, all_of_run, cut_at}
 use Rattle.bag_walk.proofs.Writing.{Appends-append}
 
 pub take_length : (n : ℕ) (faults : List Fault) → n ≤ length faults → length (take n faults) ≡ n
@@ -65,14 +51,7 @@ module _ (request : Request) (Stops : Stop → Type 0) where
       → n ≤ length faults → MayEnd request n Stops ending → (ReachesEnd ending → n ≡ length faults)
       → Appends old.taken mid.taken (concat (written (take n faults))) → Closes request ending mid new result
       → WritesReport request faults Stops old new result
-  closed_report faults n old mid new ending result within m all t c = record {
-    count = n;
-    ending = ending;
-    within = within;
-    may_end = m;
-    all = all;
-    wrote = wrote_closed (take n faults) old mid new ending result (subst (λ k. MayEnd request k Stops ending) (sym (take_length n faults within)) m) t c;
-  }
+  closed_report faults n old mid new ending result within m all t c = grind (arith, wrote_closed, take_length)
 
   ended_may_end : (after : Option Fault) (n : ℕ) → request.after ≡ after → n < limit_of request → MayEnd request n Stops (ended after n)
   ended_may_end None zero e h = (refl, h, e)
@@ -85,10 +64,7 @@ module _ (request : Request) (Stops : Stop → Type 0) where
 
   ideal_by : (n : ℕ) (b : Bool) → nat_le (limit_of request) n ≡ b → MayEnd request (min (limit_of request) n) Stops (cond b (Stopped (limit_of request)) (ended request.after n))
   ideal_by n true e = let le : limit_of request ≤ n = grind (arith, nat_tests) in (omega arith, omega arith)
-  ideal_by n false e =
-      let less : n < limit_of request = grind (arith, nat_tests) in
-      let same : n ≡ min (limit_of request) n = omega arith in
-      subst (λ k. MayEnd request k Stops (ended request.after n)) same (end_may_end n less)
+  ideal_by n false e = grind (arith, nat_tests, end_may_end)
 
   pub ideal_may_end : (faults : List Fault) → MayEnd request (min (limit_of request) (length faults)) Stops (ideal request faults)
   ideal_may_end faults = ideal_by (length faults) (nat_le (limit_of request) (length faults)) refl
@@ -99,25 +75,3 @@ module _ (request : Request) (Stops : Stop → Type 0) where
 
   pub ideal_all : (faults : List Fault) → ReachesEnd (ideal request faults) → min (limit_of request) (length faults) ≡ length faults
   ideal_all faults = ideal_all_by (length faults) (nat_le (limit_of request) (length faults)) refl
-
-  -- the output refused a fault's line
-  pub cut_report : (faults : List Fault) (i : ℕ) (d : Fault) (old mid new : OutState)
-      → i < length faults → i < limit_of request → new.has_refused ≡ true
-      → Appends old.taken mid.taken (concat (written (take i faults))) → IsCut mid.taken new.taken (written_line (get_or faults i d))
-      → WritesReport request faults Stops old new (Unwritten i)
-  cut_report faults i d old mid new inside below is t cut =
-      let n : ℕ = min (limit_of request) (length faults) in
-      let shown : List Fault = take n faults in
-      let last : List ℕ = closing request (ideal request faults) in
-      let size : length shown ≡ n = take_length n faults (omega arith) in
-      let at : slice_get (written shown ++ last ∷ []) i ≡ Some (written_line (get_or faults i d)) =
-      line_of_run last shown i d (omega arith) ∙ ap (λ f. Some (written_line f)) (get_or-take n i faults d (omega arith)) in
-      let front : take i (written shown ++ last ∷ []) ≡ written (take i faults) = front_of_run last shown i (omega arith) ∙ ap written (take-take n i faults (omega arith)) in
-      record {
-        count = n;
-        ending = ideal request faults;
-        within = omega arith;
-        may_end = ideal_may_end faults;
-        all = ideal_all faults;
-        wrote = (is, cut_at (written shown ++ last ∷ []) i (written_line (get_or faults i d)) old.taken mid.taken new.taken at (rw front t) cut);
-      }

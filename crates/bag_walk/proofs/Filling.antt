@@ -1,22 +1,6 @@
 -- What is opened, seen and left behind when one source is filled, and then another.
-use Rattle.std.proofs.Common.{Bool, true, false, Option, None, Some, is_some, Bor, ◌≡◌, ◌≢◌, ◌⊎◌, ◌++◌, ◌∷◌, inl, inr, ℕ, List, [], Contains, refl, ap, sym, ◌∙◌, subst, append_assoc, append-nil}
-use Rattle.std.specs.Prelude.{Result, Ok, Err, IfErr, OnOk, OnErr}
-use Rattle.std.proofs.lemmas.List.{append_cancel_left}
-use Rattle.bag_text.proofs.ListOf.{contains_behind, contains_first, contains_front, contains_back, contains_either, contains_cases, contains_nothing}
-use Rattle.bag_tree.specs.Bag.{Bag, HasFile}
-use Rattle.bag_tree.specs.Calm.{RefusesNothing}
-use Rattle.bag_tree.specs.Tree.{TreeState, Keeps}
-use Rattle.bag_tree.specs.Whole.{IsRefusedAt}
-use Rattle.bag_tree.specs.declared.tree_fault.Stop.{Stop}
-use Rattle.bag_tree.specs.declared.tree_fault.TreeFault.{TreeFault}
-use Rattle.bag_tree.specs.declared.tree_fault.TreeFault.TheVariants.{Device, Special, Name, NotFound, TooMany, Changed, NoneOpen, Memory, Exists}
-use Rattle.bag_facts.specs.declared.fault.Fault.{Fault}
-use Rattle.bag_facts.specs.Stops.{IsOutOfMemory}
-use Rattle.bag_tree.proofs.Calm.{memory_then}
-use Rattle.bag_facts.proofs.Reading.{later_refusal}
-use Rattle.bag_walk.specs.Openings.{IsReached, NoneWaits, Opens, OpensAgain, OpensNoneBehind, NoneBehind}
-use Rattle.std.specs.Option.{option_copied}
-use Rattle.bag_walk.specs.Source.{first_of, rest_of, AllBelow, Sees, MayRefuseAnyway, MayStopAnyway, MayStopFilling}
+use Rattle.bag_walk.proofs.Common.{arith, Bool, true, false, Option, None, Some, is_some, ◌≡◌, ◌≢◌, ◌⊎◌, ◌++◌, ◌∷◌, inl, inr, ℕ, List, [], Contains, refl, ap, sym, ◌∙◌, subst, append_assoc, append-nil, Result, Ok, Err, IfErr, OnOk, OnErr, append_cancel_left, contains_behind, contains_first, contains_front, contains_back, contains_either, contains_cases, contains_nothing, Bag, RefusesNothing, TreeState, Keeps, IsRefusedAt, Stop, TreeFault, Device, Special, Name, NotFound, TooMany, Changed, NoneOpen, Memory, Exists, Fault, IsOutOfMemory, memory_then, later_refusal, IsReached, NoneWaits, Opens, OpensAgain, OpensNoneBehind, NoneBehind, option_copied, first_of, rest_of, AllBelow, Sees, MayRefuseAnyway, MayStopAnyway, MayStopFilling}
+use Rattle.std.proofs.Common.{Bor}
 
 module _ {A : Type 0} where
   pub append_nothing : (xs ys : List A) → xs ++ ys ≡ [] → (xs ≡ []) × (ys ≡ [])
@@ -37,11 +21,7 @@ sees_later old mid paths bag k (inr none) = inr none
 
 module _ (old mid new : TreeState) (xs ys zs : List (List ℕ)) where
   pub opens_both : Opens xs [] old mid → Opens ys zs mid new → Opens (xs ++ ys) zs old new
-  opens_both p q = record {
-    opened = p.opened ++ q.opened;
-    openings = q.openings ∙ ap (λ o. o ++ q.opened) p.openings ∙ append_assoc old.openings p.opened q.opened;
-    left = ap (λ l. l ++ ys) (p.left ∙ append-nil p.opened) ∙ ap (λ l. p.opened ++ l) q.left ∙ sym (append_assoc p.opened q.opened zs);
-  }
+  opens_both p q = grind (arith, append_assoc, append-nil)
 
   pub again_both : Opens xs [] old mid → OpensAgain ys zs mid new → OpensAgain (xs ++ ys) zs old new
   again_both p q = record {
@@ -72,13 +52,6 @@ module _ (old mid new : TreeState) (xs ys zs : List (List ℕ)) where
 
   pub opens_front : Opens xs zs old new → Opens (xs ++ ys) (zs ++ ys) old new
   opens_front p = record { opened = p.opened; openings = p.openings; left = ap (λ l. l ++ ys) p.left ∙ append_assoc p.opened zs ys }
-
-  pub again_front : OpensAgain xs zs old new → OpensAgain (xs ++ ys) (zs ++ ys) old new
-  again_front p = record {
-    passed = p.passed;
-    left = ap (λ l. l ++ ys) p.left ∙ append_assoc p.passed zs ys;
-    openings = elim p.openings [ inl e ↦ inl e | inr (path, rest, is, e) ↦ inr (path, rest ++ ys, ap (λ l. l ++ ys) is, e) ];
-  }
 
 module _ (old new : TreeState) (xs zs : List (List ℕ)) where
   -- what was opened was to be opened
@@ -149,33 +122,15 @@ module _ (fs gs : List Fault) (old new : TreeState) (xs : List (List ℕ)) (apar
 
 -- what refused the first source
 pub stop_front : (old new : TreeState) (zs ys : List (List ℕ)) (stop : Stop) → MayStopFilling zs old new stop → MayStopFilling (zs ++ ys) old new stop
-stop_front old new zs ys stop h = record {
-  cause = h.cause;
-  answered = h.answered;
-  path = elim h.path [ inl m ↦ inl m | inr ((rest, is), there) ↦ inr ((rest ++ ys, ap (λ l. l ++ ys) is), there) ];
-  memory = h.memory;
-  wanting = h.wanting;
-}
+stop_front old new zs ys stop h = grind arith
 
 -- and what refused the second
 pub stop_later : (old mid new : TreeState) (zs : List (List ℕ)) (stop : Stop) → Keeps old mid → RefusesNothing old mid → MayStopFilling zs mid new stop → MayStopFilling zs old new stop
-stop_later old mid new zs stop k calm h = record {
-  cause = later_refusal old mid new stop.cause k h.cause;
-  answered = h.answered;
-  path = elim h.path [ inl m ↦ inl m | inr (next, there) ↦ inr (next, λ honest. subst (λ bag. HasFile bag stop.path) k.bag (there (k.honest ∙ honest))) ];
-  memory = h.memory;
-  wanting = λ m. memory_then old mid new calm (h.wanting m);
-}
+stop_later old mid new zs stop k calm h = grind (arith, later_refusal, memory_then)
 
 -- the same whatever the tree
 pub anyway_front : (old new : TreeState) (zs ys : List (List ℕ)) (stop : Stop) → MayStopAnyway zs old new stop → MayStopAnyway (zs ++ ys) old new stop
-anyway_front old new zs ys stop h = record {
-  cause = h.cause;
-  answered = h.answered;
-  path = elim h.path [ inl m ↦ inl m | inr (rest, is) ↦ inr (rest ++ ys, ap (λ l. l ++ ys) is) ];
-  memory = h.memory;
-  wanting = h.wanting;
-}
+anyway_front old new zs ys stop h = grind arith
 
 later_anyway : (old mid new : TreeState) (cause : TreeFault) → Keeps old mid → MayRefuseAnyway mid new cause → MayRefuseAnyway old new cause
 later_anyway old mid new NotFound k h = tt
@@ -189,13 +144,7 @@ later_anyway old mid new Memory k h = later_refusal old mid new Memory k h
 later_anyway old mid new Exists k h = later_refusal old mid new Exists k h
 
 pub anyway_later : (old mid new : TreeState) (zs : List (List ℕ)) (stop : Stop) → Keeps old mid → RefusesNothing old mid → MayStopAnyway zs mid new stop → MayStopAnyway zs old new stop
-anyway_later old mid new zs stop k calm h = record {
-  cause = later_anyway old mid new stop.cause k h.cause;
-  answered = h.answered;
-  path = h.path;
-  memory = h.memory;
-  wanting = λ m. memory_then old mid new calm (h.wanting m);
-}
+anyway_later old mid new zs stop k calm h = grind (arith, later_anyway, memory_then)
 
 pub anyway_in_turn : {A : Type 0} (old mid new : TreeState) (zs : List (List ℕ)) (r : Result A Stop) → Keeps old mid → RefusesNothing old mid → IfErr r (MayStopAnyway zs mid new) → IfErr r (MayStopAnyway zs old new)
 anyway_in_turn old mid new zs (Ok x) k calm h = tt
@@ -231,8 +180,7 @@ pub taken_first : (a : Option Fault) (fs gs more : List Fault) → is_some a ≡
     → AllBelow fs gs → AllBelow more gs × (more ++ gs ≡ rest_of (fs ++ gs))
 taken_first None fs gs more some first e below = let clash : false ≡ true = some in cc
 taken_first (Some f) [] gs more some first e below = let clash : None ≡ Some f = first f refl in cc
-taken_first (Some f) (x ∷ fs) gs more some first e below =
-    ((λ y z c d. below y z (contains_behind x fs y (subst (λ l. Contains l y) e c)) d), ap (λ l. l ++ gs) e)
+taken_first (Some f) (x ∷ fs) gs more some first e below = grind (arith, contains_behind)
 
 -- a call opens some files
 pub opened_by : (old new : TreeState) (xs zs : List (List ℕ)) (r : Result (Unit {0}) Stop) → OnOk r (Opens xs zs old new) → OnErr r (OpensAgain xs zs old new)

@@ -1,9 +1,6 @@
 -- The line that was written last, read back.
-use Rattle.std.proofs.Common.{◌≡◌, ◌++◌, ◌∷◌, ℕ, suc, ◌+◌, List, [], length, Option, None, Some, slice_get, codes, refl, sym, ap, ◌∙◌, arith, append_assoc}
-use Rattle.bag_facts.specs.FaultLine.{IsLineOf, fault_line}
-use Rattle.bag_facts.specs.declared.fault.Fault.{Fault}
+use Rattle.bag_walk.proofs.Common.{◌≡◌, ◌++◌, ◌∷◌, ℕ, ◌+◌, List, [], length, Option, None, Some, slice_get, codes, refl, ap, arith, append_assoc, IsLineOf, Fault, IsLastLine, IsLastOf}
 use Rattle.bag_facts.proofs.Lines.{lines_tell_faults_apart}
-use Rattle.bag_walk.specs.Lines.{IsLastLine, IsLastOf}
 
 append_cancel_right_one : (xs ys : List ℕ) (x : ℕ) → xs ++ x ∷ [] ≡ ys ++ x ∷ [] → xs ≡ ys
 append_cancel_right_one [] [] x e = refl
@@ -18,8 +15,7 @@ append_cancel_right_one (y ∷ xs) (z ∷ ys) x e =
 
 -- the fault that is read from a fault's line without its end is that fault
 read_back : (f g : Fault) (text line : List ℕ) → IsLastLine (Some f) text → text ≡ line ++ codes "\n" → IsLineOf line g → g ≡ f
-read_back f g text line (is, same) cut read =
-    lines_tell_faults_apart g f read.fault is (read.text ∙ append_cancel_right_one line (fault_line f) 10 (sym cut ∙ same))
+read_back f g text line (is, same) cut read = grind (arith, lines_tell_faults_apart, append_cancel_right_one)
 
 has_end : (text front : List ℕ) → text ≡ [] → text ≡ front ++ codes "\n" → ⊥
 has_end text [] none e = cc
@@ -36,6 +32,4 @@ place_behind (g ∷ given) rest f = place_behind given rest f
 
 -- one fault more was given
 pub last_given : (given rest : List Fault) (f : Fault) (n : ℕ) (old new : List ℕ) → length given ≡ n → IsLastLine (Some f) new → IsLastOf ((given ++ f ∷ []) ++ rest) (n + 1) old new
-last_given given rest f n old new count is =
-    let one_more : n + 1 ≡ suc n = omega arith in
-    rw one_more (f, ap (slice_get ((given ++ f ∷ []) ++ rest)) (sym count) ∙ ap (λ l. slice_get l (length given)) (append_assoc given (f ∷ []) rest) ∙ place_behind given rest f, is)
+last_given given rest f n old new count is = grind (arith, place_behind given rest f, slice_get, append_assoc)

@@ -1,15 +1,5 @@
 -- What a walk lends.
-use Rattle.std.proofs.Common.{◌≡◌, ℕ, List, Option, subst, sym}
-use Rattle.std.specs.Prelude.{Result, Ok, Err, IfErr, IfOk, MatchResult, OnErr}
-use Rattle.std.specs.Borrow.{Bor}
-use Rattle.std.specs.Option.{option_copied}
-use Rattle.bag_tree.specs.Tree.{TreeState, Keeps}
-use Rattle.bag_tree.specs.declared.tree_fault.Stop.{Stop}
-use Rattle.bag_facts.specs.declared.fault.Fault.{Fault}
-use Rattle.bag_report.specs.Report.{Check}
-use Rattle.bag_walk.specs.Openings.{OpensAgain}
-use Rattle.bag_walk.specs.Source.{MayStopAnyway, MayStopFilling}
-use Rattle.bag_walk.specs.Steps.{went, Gives, IsNextOf, MayStopStep}
+use Rattle.bag_walk.proofs.Common.{◌≡◌, ℕ, List, Option, subst, sym, Result, Ok, Err, IfErr, IfOk, MatchResult, OnErr, Bor, option_copied, TreeState, Keeps, Stop, Fault, Check, OpensAgain, MayStopAnyway, MayStopFilling, went, Gives, IsNextOf, MayStopStep}
 
 -- the fault that is lent is the next
 pub lends_next : (check : Check) (position : Option Fault) (answer : Result (Option (Bor Fault)) Stop) (shown : Option Fault) (after : List Fault) (Q : Type 0)

@@ -1,6 +1,7 @@
 pub mod ByReport
 pub mod Chosen
 pub mod Closed
+pub mod Common
 pub mod CursorLaw
 pub mod Early
 pub mod Ending

@@ -1,21 +1,10 @@
 -- Every bag has a list of the payload files whose digests are compared.
-use Rattle.std.proofs.Common.{◌≡◌, ℕ, true, List, refl, sym, subst}
-use Rattle.std.specs.Cmp.Lexicographic.{nat_list_cmp_total}
+use Rattle.bag_walk.proofs.Common.{◌≡◌, ℕ, true, List, refl, sym, subst, nat_list_cmp_total, is_payload_path, text_cmp, same_members, Payload, Bag, HasFile, has_file, Full, Options, Names, named_in, IsListed, EachBagHasListedFiles, IsListedFile}
 use Rattle.std.specs.FinMap.{IsAntisymmetric, nat_cmp-IsAntisymmetric, slice_cmp-IsAntisymmetric}
-use Rattle.bag_text.specs.Path.{is_payload_path}
-use Rattle.bag_text.specs.Text.{text_cmp}
-use Rattle.bag_text.proofs.ListOf.{same_members}
-use Rattle.bag_read.specs.declared.kind.Kind.TheVariants.{Payload}
-use Rattle.bag_tree.specs.Bag.{Bag, HasFile, has_file}
-use Rattle.bag_facts.specs.declared.options.Depth.TheVariants.{Full}
-use Rattle.bag_facts.specs.declared.options.Options.{Options}
 use Rattle.bag_stages.specs.HasList.{HasList}
-use Rattle.bag_stages.specs.TagFiles.{Names, named_in}
 use Rattle.bag_stages.proofs.BagLists.{over_algs}
 use Rattle.bag_stages.proofs.HasLists.{Decided, both_decided, for_each, one_where, same_set, true_or_not}
 use Rattle.bag_report.proofs.AscendingList.{ascending_list}
-use Rattle.bag_walk.specs.RunOpenings.{IsListed}
-use Rattle.bag_walk.specs.SegmentOpenings.{EachBagHasListedFiles, IsListedFile}
 use Rattle.bag_walk.proofs.Openings.{full_or_not}
 
 text_same : IsAntisymmetric text_cmp

@@ -1,41 +1,18 @@
 -- Two lists of faults, of which the lesser first one is taken.
-use Rattle.std.proofs.Common.{inl, inr, ◌≡◌, ◌++◌, ◌∷◌, ℕ, Bool, true, false, List, [], Option, None, IsSome, Contains, refl, ap, sym, ◌∙◌, subst, append-nil}
-use Rattle.std.specs.Prelude.{Result, Ok, Err, OnOk, OnErr, if◌then◌else◌}
-use Rattle.std.specs.List.Sorted.{IsStrictlySortedBy}
-use Rattle.std.specs.declared.cmp.Ordering.TheVariants.{Less, Equal, Greater}
-use Rattle.std.proofs.lemmas.List.{append_cancel_left}
-use Rattle.bag_text.proofs.ListOf.{contains_nothing}
-use Rattle.bag_tree.specs.Bag.{Bag}
-use Rattle.bag_tree.specs.Tree.{TreeState}
-use Rattle.bag_tree.specs.declared.tree_fault.Stop.{Stop}
-use Rattle.bag_facts.specs.FaultOrder.{fault_cmp}
-use Rattle.bag_facts.specs.Stops.{IsOutOfMemory}
-use Rattle.bag_facts.specs.declared.fault.Fault.{Fault}
-use Rattle.bag_walk.specs.Filled.{is_both}
+use Rattle.bag_walk.proofs.Common.{arith, inl, inr, ◌≡◌, ◌++◌, ◌∷◌, ℕ, Bool, true, false, List, [], Option, None, IsSome, refl, ap, sym, ◌∙◌, append-nil, Result, Ok, Err, OnOk, OnErr, if◌then◌else◌, IsStrictlySortedBy, Less, Equal, Greater, append_cancel_left, contains_nothing, Bag, TreeState, Stop, fault_cmp, IsOutOfMemory, Fault, is_both, fronts, least_of, union, Opens, OpensAgain, OpensNoneBehind, first_of, rest_of, MayStopAnyway, Sees, Where, rest_alone, rest_equal, rest_greater, rest_less, rest_other}
 use Rattle.bag_walk.specs.declared.merge.Filled.{Filled}
 use Rattle.bag_walk.specs.declared.merge.Filled.TheVariants.{Neither, First, Both}
-use Rattle.bag_walk.specs.Merge.{fronts, least_of, union}
-use Rattle.bag_walk.specs.Openings.{Opens, OpensAgain, OpensNoneBehind}
-use Rattle.bag_walk.specs.Source.{first_of, rest_of, MayStopAnyway, Sees, Where}
-use Rattle.bag_walk.specs.Union.{rest_alone, rest_equal, rest_greater, rest_less, rest_other}
 use Rattle.bag_walk.proofs.Filling.{append_nothing, sees_first, sees_second}
 
 -- a source that may open nothing opens nothing
 pub quiet_opens : (old new : TreeState) (xs zs : List (List ℕ)) → xs ≡ [] → Opens xs zs old new → new.openings ≡ old.openings
-quiet_opens old new xs zs none p =
-    let both = append_nothing p.opened zs (sym p.left ∙ none) in
-    p.openings ∙ ap (λ o. old.openings ++ o) both.0 ∙ append-nil old.openings
+quiet_opens old new xs zs none p = grind (arith, append_nothing, append-nil)
 
 quiet_again_by : (old new : TreeState) (passed : List (List ℕ)) (zs : List (List ℕ)) → zs ≡ [] → passed ≡ [] → (path : List ℕ) (rest : List (List ℕ)) → zs ≡ path ∷ rest → new.openings ≡ old.openings
 quiet_again_by old new passed zs none e path rest is = let clash : [] ≡ path ∷ rest = sym none ∙ is in cc
 
 pub quiet_again : (old new : TreeState) (xs zs : List (List ℕ)) → xs ≡ [] → OpensAgain xs zs old new → new.openings ≡ old.openings
-quiet_again old new xs zs none p =
-    let both = append_nothing p.passed zs (sym p.left ∙ none) in
-    elim p.openings [
-      | inl e ↦ e ∙ ap (λ o. old.openings ++ o) both.0 ∙ append-nil old.openings
-      | inr (path, rest, is, e) ↦ quiet_again_by old new p.passed zs both.1 both.0 path rest is
-    ]
+quiet_again old new xs zs none p = grind (arith, append_nothing, append-nil, quiet_again_by)
 
 -- where nothing was to be opened and nothing was
 module _ (old new : TreeState) (xs zs : List (List ℕ)) (none : xs ≡ []) (left : zs ≡ []) (same : new.openings ≡ old.openings) where
@@ -70,9 +47,7 @@ both_filled First a some = cc
 both_filled Both a some = refl
 
 pub nothing_opened : (fs : List Fault) (old new : TreeState) → new.openings ≡ old.openings → OpensNoneBehind fs old new
-nothing_opened fs old new same opened e f path c d =
-    let none : opened ≡ [] = append_cancel_left old.openings opened [] (sym e ∙ same ∙ sym (append-nil old.openings)) in
-    absurd (contains_nothing path (subst (λ l. Contains l path) none d))
+nothing_opened fs old new same opened e f path c d = grind (arith, append-nil old.openings, append_cancel_left, contains_nothing)
 
 pub known_at : (b : Bool) (K : Type 0) → b ≡ true → Where b K → K
 known_at true K e h = h
@@ -110,6 +85,4 @@ module _ (fs gs : List Fault) (p : IsStrictlySortedBy fault_cmp fs) (q : IsStric
   left_greater e more is = ap (λ l. union fs l) is ∙ merged_greater fs gs p q ((λ i. fronts (sym known.0 i) (sym known.1 i)) ∙ e)
 
   pub left_equal : fronts a b ≡ Equal → IsSome (least_of a b) → (more others : List Fault) → more ≡ rest_of fs → others ≡ rest_of gs → union more others ≡ rest_of (union fs gs)
-  left_equal e some more others is are =
-      (λ i. union (is i) (are i))
-      ∙ merged_equal fs gs p q ((λ i. fronts (sym known.0 i) (sym known.1 i)) ∙ e) (subst IsSome (λ i. least_of (known.0 i) (known.1 i)) some)
+  left_equal e some more others is are = grind (arith, merged_equal)

@@ -1,31 +1,9 @@
 -- The files that a cursor has passed.
-use Rattle.std.proofs.Common.{◌≡◌, ◌≢◌, ◌<◌, ◌≤◌, ◌+◌, ◌++◌, ◌∷◌, ◌∙◌, ◌==◌, ◌&&◌, ◌||◌, inl, inr, ℕ, zero, suc, Bool, true, false, cond, not, List, [], Option, None, Some, Contains, length, filter, is_lt, nat_lt, refl, sym, ap, subst, arith}
+use Rattle.bag_walk.proofs.Common.{◌≡◌, ◌≢◌, ◌<◌, ◌≤◌, ◌+◌, ◌++◌, ◌∷◌, ◌∙◌, ◌==◌, ◌&&◌, ◌||◌, inl, ℕ, zero, suc, Bool, true, false, cond, not, List, [], Option, None, Some, Contains, length, filter, nat_lt, refl, sym, ap, subst, arith, nat_list_cmp_total, ordering_reverse, Ordering, Less, Equal, Greater, eq-eqb, eqb-true, lt-ltb, ltb-true, or_left, or_parts, or_right, nat_tests, length-append, filter-append, IsStrictlySortedBy-filter, stage, text_cmp, contains_behind, contains_first, fault_cmp, Fault, not_both, not_less_than_itself, fault_cmp_total, kept, front_ascends, less_by_path, IsBeforeFile, is_passed, NoneBehindLast, not_passed, cursor_behind}
+use Rattle.std.proofs.Common.{is_lt}
 use Rattle.std.specs.List.Sorted.{IsStrictlySortedBy}
-use Rattle.std.specs.Cmp.Lexicographic.{nat_list_cmp_total}
-use Rattle.std.specs.Ordering.{ordering_reverse}
-use Rattle.std.specs.declared.cmp.Ordering.{Ordering}
-use Rattle.std.specs.declared.cmp.Ordering.TheVariants.{Less, Equal, Greater}
-use Rattle.std.proofs.lemmas.Bool.{eq-eqb, eqb-true, lt-ltb, ltb-true, or_left, or_parts, or_right}
-use Rattle.std.proofs.lemmas.Bool.Decides.{nat_tests}
-use Rattle.std.proofs.lemmas.List.{length-append}
-use Rattle.std.proofs.lemmas.List.Elements.{filter-append}
-use Rattle.std.proofs.lemmas.List.Kept.{IsStrictlySortedBy-filter}
-use Rattle.bag_text.specs.Code.{stage}
-use Rattle.bag_text.specs.Text.{text_cmp}
-use Rattle.bag_text.proofs.ListOf.{contains_behind, contains_first}
 use Rattle.bag_tree.proofs.SameText.{exact_texts}
-use Rattle.bag_facts.specs.FaultOrder.{fault_cmp}
-use Rattle.bag_facts.specs.declared.fault.Fault.{Fault}
-use Rattle.bag_facts.proofs.Ascending.{not_both, not_less_than_itself}
-use Rattle.bag_facts.proofs.Ordered.{fault_cmp_total}
-use Rattle.bag_facts.proofs.Mapped.{kept}
-use Rattle.bag_facts.proofs.Opens.{front_ascends}
-use Rattle.bag_stages.proofs.InFile.{less_by_path}
-use Rattle.bag_walk.specs.Openings.{IsBeforeFile}
-use Rattle.bag_walk.specs.Validity.{is_passed}
 use Rattle.bag_walk.proofs.Chosen.{less_by_stage}
-use Rattle.bag_walk.specs.SegmentOpenings.{NoneBehindLast, not_passed}
-use Rattle.bag_walk.specs.Segments.{cursor_behind}
 use Rattle.bag_walk.proofs.Places.{at_place, less_at}
 
 less_is : (o : Ordering) → is_lt o ≡ true → o ≡ Less
@@ -56,9 +34,7 @@ module _ (f g : Fault) (less : fault_cmp f g ≡ Less) (path : List ℕ) where
   past_seven past = or_left (nat_lt 7 (stage g.code)) (stage g.code == 7 && is_lt (text_cmp path g.path)) (lt-ltb 7 (stage g.code) past)
 
   at_seven : stage g.code ≡ 7 → text_cmp path g.path ≡ Less → is_passed (Some g) path ≡ true
-  at_seven seven below =
-      let same : (stage g.code == 7) ≡ true = eq-eqb _ _ seven in
-      or_right (nat_lt 7 (stage g.code)) (stage g.code == 7 && is_lt (text_cmp path g.path)) (ap (λ b. b && is_lt (text_cmp path g.path)) same ∙ ap is_lt below)
+  at_seven seven below = grind (arith, eq-eqb, or_right, nat_lt, is_lt)
 
   from_seven : (b : Bool) → nat_lt 7 (stage g.code) ≡ b → stage f.code ≡ 7 → text_cmp path f.path ≡ Less → is_passed (Some g) path ≡ true
   from_seven true e seven below = past_seven (ltb-true _ _ e)
@@ -70,10 +46,7 @@ module _ (f g : Fault) (less : fault_cmp f g ≡ Less) (path : List ℕ) where
 
   passed_by : (later same below : Bool) → nat_lt 7 (stage f.code) ≡ later → (stage f.code == 7) ≡ same → is_lt (text_cmp path f.path) ≡ below
       → (later || (same && below)) ≡ true → is_passed (Some g) path ≡ true
-  passed_by true same below e h k passed =
-      let past : 7 < stage f.code = ltb-true _ _ e in
-      let least : stage f.code ≤ stage g.code = no_earlier _ refl in
-      past_seven (omega (arith, past, least))
+  passed_by true same below e h k passed = grind (arith, ltb-true _ _ e, no_earlier _ refl, past_seven)
   passed_by false true true e h k passed = from_seven _ refl (eqb-true _ _ h) (less_is _ k)
   passed_by false true false e h k passed = cc
   passed_by false false below e h k passed = cc
@@ -129,12 +102,7 @@ is_seven f path false e most behind = grind (arith, nat_tests, e, most)
 
 -- a file that a fault has neither passed nor stands before is its own
 own_file : (f : Fault) (path : List ℕ) → is_passed (Some f) path ≡ false → ¬ (IsBeforeFile f path) → path ≡ f.path
-own_file f path ahead behind =
-    let parts = or_parts (nat_lt 7 (stage f.code)) (stage f.code == 7 && is_lt (text_cmp path f.path)) ahead in
-    let most : stage f.code ≤ 7 = grind (arith, nat_tests, parts.0) in
-    let seven : stage f.code ≡ 7 = is_seven f path (nat_lt (stage f.code) 7) refl most behind in
-    let below : is_lt (text_cmp path f.path) ≡ false = sym (ap (λ b. b && is_lt (text_cmp path f.path)) (eq-eqb _ _ seven)) ∙ parts.1 in
-    same_by (text_cmp path f.path) path f.path refl (λ less. let clash : true ≡ false = sym (ap is_lt less) ∙ below in cc) (λ less. behind (inr (seven, less)))
+own_file f path ahead behind = grind (arith, or_parts, nat_lt, is_lt, nat_tests, is_seven, eq-eqb, same_by)
 
 at_most_one : (own : List ℕ) (xs : List (List ℕ)) → IsStrictlySortedBy text_cmp xs → ((path : List ℕ) → Contains xs path → path ≡ own) → length xs ≤ 1
 unfolding IsStrictlySortedBy

@@ -1,11 +1,6 @@
 -- What stands at a place of a list of faults.
-use Rattle.std.proofs.Common.{◌≡◌, ◌<◌, ◌+◌, ◌∷◌, ℕ, zero, suc, List, [], length, drop, slice_get, unwrap_or, Some, Contains, refl, ap, subst, arith}
-use Rattle.std.specs.List.{AllByRecursion}
+use Rattle.bag_walk.proofs.Common.{◌≡◌, ◌<◌, ◌+◌, ◌∷◌, ℕ, zero, suc, List, [], length, drop, slice_get, unwrap_or, Some, Contains, refl, ap, subst, arith, AllByRecursion, Less, contains_first, fault_cmp, Fault}
 use Rattle.std.specs.List.Sorted.{IsStrictlySortedBy}
-use Rattle.std.specs.declared.cmp.Ordering.TheVariants.{Less}
-use Rattle.bag_text.proofs.ListOf.{contains_first}
-use Rattle.bag_facts.specs.FaultOrder.{fault_cmp}
-use Rattle.bag_facts.specs.declared.fault.Fault.{Fault}
 
 pub at_place : (n : ℕ) (faults : List Fault) → n < length faults → (f : Fault) × (slice_get faults n ≡ Some f)
 at_place n [] less = absurd (omega arith)

@@ -1,19 +1,6 @@
 -- A walk over a report.
-use Rattle.std.proofs.Common.{◌≡◌, ◌++◌, ◌∷◌, inl, inr, ℕ, List, [], true, Option, None, Some, Contains, refl, ap, sym, subst}
+use Rattle.bag_walk.proofs.Common.{arith, ◌≡◌, ◌++◌, ◌∷◌, inl, inr, ℕ, List, [], true, Option, None, Some, Contains, refl, ap, subst, is_lt, Ordering, Less, Equal, Greater, contains_behind, contains_cases, contains_either, contains_first, contains_front, contains_nothing, member_has, TreeState, fault_cmp, Fault, not_less_than_itself, fault_cmp_total, Check, is_above, Opens, OpensAgain, OpensNoneBehind, StillWait, first_of, rest_of, Gives, StandsAt}
 use Rattle.std.specs.List.Sorted.{IsStrictlySortedBy}
-use Rattle.std.specs.Ordering.{is_lt}
-use Rattle.std.specs.declared.cmp.Ordering.{Ordering}
-use Rattle.std.specs.declared.cmp.Ordering.TheVariants.{Less, Equal, Greater}
-use Rattle.bag_text.proofs.ListOf.{contains_behind, contains_cases, contains_either, contains_first, contains_front, contains_nothing, member_has}
-use Rattle.bag_tree.specs.Tree.{TreeState}
-use Rattle.bag_facts.specs.FaultOrder.{fault_cmp}
-use Rattle.bag_facts.specs.declared.fault.Fault.{Fault}
-use Rattle.bag_facts.proofs.Ascending.{not_less_than_itself}
-use Rattle.bag_facts.proofs.Ordered.{fault_cmp_total}
-use Rattle.bag_report.specs.Report.{Check, is_above}
-use Rattle.bag_walk.specs.Openings.{Opens, OpensAgain, OpensNoneBehind, StillWait}
-use Rattle.bag_walk.specs.Source.{first_of, rest_of}
-use Rattle.bag_walk.specs.Steps.{Gives, StandsAt}
 
 lt_is : (o : Ordering) → is_lt o ≡ true → o ≡ Less
 lt_is Less e = refl
@@ -52,8 +39,7 @@ module _ (check : Check) (position : Option Fault) where
 
   -- the first is given, and the rest is left
   pub gives : (left after : List Fault) (shown : Option Fault) → shown ≡ first_of left → after ≡ rest_of left → StandsAt check position left → Gives check position shown after
-  gives left after shown e d h =
-      subst (λ s. Gives check position s after) (sym e) (subst (λ l. Gives check position (first_of left) l) (sym d) (gives_first left h))
+  gives left after shown e d h = grind (arith, gives_first)
 
 -- files before which a fault stands wait on
 module _ (files before after : List (List ℕ)) (left : List Fault) (old new : TreeState) (behind : OpensNoneBehind left old new) where

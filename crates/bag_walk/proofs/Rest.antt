@@ -1,9 +1,6 @@
 -- The rest of a list.
-use Rattle.std.proofs.Common.{◌≡◌, ◌+◌, ◌∷◌, ℕ, zero, suc, List, [], drop, refl, add-one}
+use Rattle.bag_walk.proofs.Common.{◌≡◌, ◌+◌, ◌∷◌, ℕ, zero, suc, List, [], drop, refl, add-one, fault_cmp, Fault, rest_of}
 use Rattle.std.specs.List.Sorted.{IsStrictlySortedBy}
-use Rattle.bag_facts.specs.FaultOrder.{fault_cmp}
-use Rattle.bag_facts.specs.declared.fault.Fault.{Fault}
-use Rattle.bag_walk.specs.Source.{rest_of}
 
 drop_suc : {A : Type 0} (xs : List A) (n : ℕ) → drop (suc n) xs ≡ rest_of (drop n xs)
 drop_suc [] zero = refl

@@ -1,10 +1,5 @@
 -- The lines of a run.
-use Rattle.std.proofs.Common.{◌≡◌, ◌≢◌, ℕ, zero, suc, get_or, ◌∷◌, ◌+◌, ◌<◌, ◌≤◌, ◌++◌, List, [], length, take, drop, Option, Some, refl, ap, sym, ◌∙◌, append_assoc, append-nil, take-append-drop, length-drop, add-one, arith, slice_get}
-use Rattle.std.specs.List.{concat}
-use Rattle.std.specs.Io.KnownBytes.{Appends}
-use Rattle.bag_facts.specs.declared.fault.Fault.{Fault}
-use Rattle.bag_walk.specs.Ending.{written_line, written, IsCutAt}
-use Rattle.bag_walk.specs.Write.{IsCut}
+use Rattle.bag_walk.proofs.Common.{◌≡◌, ◌≢◌, ℕ, zero, suc, get_or, ◌∷◌, ◌+◌, ◌<◌, ◌++◌, List, [], length, take, drop, Option, Some, refl, ap, sym, ◌∙◌, append_assoc, append-nil, take-append-drop, length-drop, add-one, arith, slice_get, concat, Appends, Fault, written_line, written, IsCutAt, IsCut}
 use Rattle.bag_walk.proofs.Writing.{Appends-append}
 
 -- lines, and one after them
@@ -22,22 +17,10 @@ written_more faults i d h = rw add-one (go faults i h)
     go (f ∷ fs) (suc k) l = ap (λ rest. written_line f ++ rest) (go fs k (omega arith)) ∙ sym (append_assoc (written_line f) (concat (written (take k fs))) (written_line (get_or fs k d)))
 
 module _ (last : List ℕ) where
-  -- a fault's line
-  pub line_of_run : (shown : List Fault) (i : ℕ) (d : Fault) → i < length shown → slice_get (written shown ++ last ∷ []) i ≡ Some (written_line (get_or shown i d))
-  line_of_run [] i d h = absurd (omega arith)
-  line_of_run (f ∷ fs) zero d h = refl
-  line_of_run (f ∷ fs) (suc i) d h = line_of_run fs i d (omega arith)
-
   -- the last line
   pub last_of_run : (shown : List Fault) → slice_get (written shown ++ last ∷ []) (length shown) ≡ Some last
   last_of_run [] = refl
   last_of_run (f ∷ fs) = last_of_run fs
-
-  -- the first lines
-  pub front_of_run : (shown : List Fault) (i : ℕ) → i ≤ length shown → take i (written shown ++ last ∷ []) ≡ written (take i shown)
-  front_of_run shown zero h = refl
-  front_of_run [] (suc i) h = absurd (omega arith)
-  front_of_run (f ∷ fs) (suc i) h = ap (λ rest. written_line f ∷ rest) (front_of_run fs i (omega arith))
 
   pub all_of_run : (shown : List Fault) → take (length shown) (written shown ++ last ∷ []) ≡ written shown
   all_of_run [] = refl

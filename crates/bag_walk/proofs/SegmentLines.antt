@@ -1,40 +1,13 @@
 -- A segment of a report, line after line.
-use Rattle.std.proofs.Common.{◌≡◌, ◌<◌, ◌≤◌, ◌+◌, ◌-◌, ◌++◌, ◌∷◌, ◌⊎◌, inl, inr, ℕ, zero, suc, true, List, [], Option, None, Some, Contains, length, take, drop, slice_get, IsTrue, refl, sym, ap, ◌∙◌, subst, arith, append-nil, append_assoc}
-use Rattle.std.specs.Io.KnownBytes.{Appends}
-use Rattle.std.specs.List.{concat}
-use Rattle.std.proofs.lemmas.List.{length-append, map-append, append_cancel_left}
-use Rattle.std.proofs.Math.Seq.{take-append_seam}
-use Rattle.bag_text.proofs.ListOf.{contains_behind, contains_either}
-use Rattle.bag_tree.specs.Out.{OutState}
-use Rattle.bag_tree.specs.Bag.{Bag}
-use Rattle.bag_tree.specs.Calm.{MayTellMemory, RefusesNothing}
-use Rattle.bag_tree.specs.Tree.{TreeState, Keeps}
-use Rattle.bag_tree.specs.Whole.{IsRefusedAt}
-use Rattle.bag_tree.specs.declared.tree_fault.Stop.{Stop}
-use Rattle.bag_tree.specs.declared.tree_fault.TreeFault.TheVariants.{Memory}
-use Rattle.bag_tree.proofs.Calm.{memory_then}
-use Rattle.bag_facts.specs.Stops.{IsOutOfMemory}
-use Rattle.bag_facts.specs.declared.fault.Fault.{Fault}
-use Rattle.bag_walk.specs.Ending.{written, written_line}
-use Rattle.bag_walk.specs.Write.{IsCut}
+use Rattle.bag_walk.proofs.Common.{◌≡◌, ◌<◌, ◌≤◌, ◌+◌, ◌-◌, ◌++◌, ◌∷◌, ◌⊎◌, inl, inr, ℕ, zero, suc, true, List, [], Option, None, Some, Contains, length, take, drop, slice_get, IsTrue, refl, sym, ap, ◌∙◌, subst, arith, append-nil, append_assoc, Appends, concat, length-append, map-append, append_cancel_left, take-append_seam, contains_behind, contains_either, OutState, Bag, MayTellMemory, RefusesNothing, TreeState, Keeps, Stop, Memory, memory_then, IsOutOfMemory, Fault, written, written_line, IsCut, IsReached, NoneWaits, Opens, OpensAgain, OpensNoneBehind, first_of, rest_of, MayStopFilling, Sees, front_is, none_is, IsLastOf, IsSegment, MayStopWalk, Segment, AtEnd}
 use Rattle.bag_walk.proofs.RunLines.{concat-append_one, cut_at}
 use Rattle.bag_walk.proofs.Writing.{Appends-append}
-use Rattle.bag_walk.specs.Openings.{IsReached, NoneWaits, Opens, OpensAgain, OpensNoneBehind}
-use Rattle.bag_walk.specs.Source.{first_of, rest_of, MayStopFilling, Sees}
-use Rattle.bag_walk.specs.Shown.{front_is, none_is}
 use Rattle.bag_walk.proofs.Filling.{sees_later, sees_second, stop_later}
-use Rattle.bag_walk.specs.Lines.{IsLastOf}
-use Rattle.bag_walk.specs.Segment.{IsSegment, MayStopWalk}
-use Rattle.bag_walk.specs.declared.segment.Segment.{Segment}
-use Rattle.bag_walk.specs.declared.segment.SegmentEnd.TheVariants.{Full, AtEnd, Unread, Unwritten}
+use Rattle.bag_walk.specs.declared.segment.SegmentEnd.TheVariants.{Unread, Unwritten}
 
 module _ (old mid new : TreeState) (xs ys zs : List (List ℕ)) (p : Opens xs ys old mid) where
   pub opens_on : Opens ys zs mid new → Opens xs zs old new
-  opens_on q = record {
-    opened = p.opened ++ q.opened;
-    openings = q.openings ∙ ap (λ o. o ++ q.opened) p.openings ∙ append_assoc old.openings p.opened q.opened;
-    left = p.left ∙ ap (λ l. p.opened ++ l) q.left ∙ sym (append_assoc p.opened q.opened zs);
-  }
+  opens_on q = grind (arith, append_assoc)
 
   pub again_on : OpensAgain ys zs mid new → OpensAgain xs zs old new
   again_on q = record {
@@ -53,12 +26,7 @@ module _ (old mid new : TreeState) (xs ys zs : List (List ℕ)) (p : Opens xs ys
   }
 
   pub reached_on : (path : List ℕ) → IsReached ys mid new path → IsReached xs old new path
-  reached_on path (passed, rest, cut, refused) = (
-    p.opened ++ passed,
-    rest,
-    p.left ∙ ap (λ l. p.opened ++ l) cut ∙ sym (append_assoc p.opened passed (path ∷ rest)),
-    subst (λ all. IsRefusedAt all path new) (ap (λ o. o ++ passed) p.openings ∙ append_assoc old.openings p.opened passed) refused,
-  )
+  reached_on path (passed, rest, cut, refused) = grind (arith, append_assoc)
 
 pub once : (old new : TreeState) (xs zs : List (List ℕ)) → Opens xs zs old new → OpensAgain xs zs old new
 once old new xs zs p = record { passed = p.opened; left = p.left; openings = inl p.openings }
@@ -78,9 +46,7 @@ behind_on first later old mid new opened more p q before after within all e f pa
     ]
 
 pub none_opened : (old : TreeState) (faults : List Fault) → OpensNoneBehind faults old old
-none_opened old faults opened e f path c d =
-    let none : [] ≡ opened = append_cancel_left old.openings [] opened (append-nil old.openings ∙ e) in
-    absurd (let has : Contains [] path = subst (λ l. Contains l path) (sym none) d in omega (arith, has.1))
+none_opened old faults opened e f path c d = grind (arith, append-nil old.openings, append_cancel_left)
 
 -- what is left behind so many is left behind fewer
 dropped_within : (n m : ℕ) (faults : List Fault) (f : Fault) → m ≤ n → Contains (drop n faults) f → Contains (drop m faults) f
@@ -129,9 +95,7 @@ module _ (limit count : ℕ) (IsOf IsOfNow : Bag → Type 0) (left left_now : Ba
   sees_now bag sees = sees_later old now todo_now bag has.keeps (sees_second old has.opens.opened todo_now bag (subst (λ l. Sees old l bag) has.opens.left sees))
 
   of_now : (IsTrue old.honest → IsOf old.bag) → IsTrue now.honest → IsOfNow now.bag
-  of_now of honest =
-      let h = sym has.keeps.honest ∙ honest in
-      subst IsOfNow (sym has.keeps.bag) (has.seen old.bag (of h) (inl (h, refl))).0
+  of_now of honest = grind arith
 
   -- the next step stopped
   pub stops_now : (todo_new : List (List ℕ)) (stop : Stop) → IsOutOfMemory stop ⊎ IsReached todo_now now new stop.path → (stop.cause ≡ Memory → MayTellMemory now new)
@@ -142,14 +106,10 @@ module _ (limit count : ℕ) (IsOf IsOfNow : Bag → Type 0) (left left_now : Ba
 
   -- so many lines were written
   pub lines_written : (rest : List Fault) → Appends before.taken mid.taken (concat (written (take count (has.given ++ rest))))
-  lines_written rest =
-      subst (λ xs. Appends before.taken mid.taken (concat (written xs))) (sym (ap (λ n. take n (has.given ++ rest)) (sym has.count_is) ∙ take-append_seam has.given rest)) has.written_so_far
+  lines_written rest = grind (arith, take-append_seam)
 
   size : (rest : List Fault) → length (has.given ++ rest) ≡ count + length rest
   size rest = length-append has.given rest ∙ ap (λ n. n + length rest) has.count_is
-
-  pub ends_full : (rest : List Fault) (segment : Segment) → limit ≤ count → segment ≡ record { written = count; end = Full } → IsSegment (has.given ++ rest) limit before mid segment
-  ends_full rest segment reached is = rw is (record { ends = (omega (arith, has.within, reached), omega (arith, size rest)); wrote = lines_written rest })
 
   pub ends_at_end : (segment : Segment) → count < limit → segment ≡ record { written = count; end = AtEnd } → IsSegment (has.given ++ []) limit before mid segment
   ends_at_end segment less is = rw is (record { ends = (less, omega (arith, size [])); wrote = lines_written [] })

@@ -1,27 +1,5 @@
 -- The payload files that segments open.
-use Rattle.std.proofs.Common.{◌≡◌, ◌<◌, ◌≤◌, ◌+◌, ◌-◌, ◌*◌, ◌++◌, ◌∙◌, inl, inr, ℕ, suc, Bool, true, not, List, [], Option, None, Some, Contains, length, drop, filter, sym, ap, subst, append-nil, append_assoc, arith}
-use Rattle.std.specs.List.Sorted.{IsStrictlySortedBy}
-use Rattle.std.proofs.lemmas.List.{length-append}
-use Rattle.std.proofs.lemmas.List.Elements.{filter-append}
-use Rattle.bag_text.specs.Order.{IsListOf}
-use Rattle.bag_text.specs.Path.{is_payload_path}
-use Rattle.bag_text.specs.Text.{text_cmp}
-use Rattle.bag_text.proofs.ListOf.{contains_either, contains_front, contains_nothing, same_members}
-use Rattle.bag_tree.specs.Tree.{TreeState}
-use Rattle.bag_facts.specs.declared.fault.Fault.{Fault}
-use Rattle.bag_facts.specs.Wanted.{OpensWanted}
-use Rattle.bag_facts.specs.declared.options.Options.{Options}
-use Rattle.bag_facts.proofs.Mapped.{kept}
-use Rattle.bag_report.specs.Report.{Check}
-use Rattle.bag_report.proofs.Filtered.{filtered_list}
-use Rattle.bag_walk.specs.Openings.{NoneBehind, OpensAgain, OpensNoneBehind}
-use Rattle.bag_walk.specs.Start.{IsListedToOpen}
-use Rattle.bag_walk.specs.Validity.{is_passed}
-use Rattle.bag_walk.specs.Segment.{EndsSegment, looked_past, still_to_come}
-use Rattle.bag_walk.specs.SegmentOpenings.{AreListed, IsListedFile, NoneBehindLast, OpensFew, OpensInSegment, not_passed}
-use Rattle.bag_walk.specs.Segments.{cursor_behind}
-use Rattle.bag_walk.specs.declared.segment.Segment.{Segment}
-use Rattle.bag_walk.specs.declared.segment.SegmentEnd.{SegmentEnd}
+use Rattle.bag_walk.proofs.Common.{◌≡◌, ◌<◌, ◌≤◌, ◌+◌, ◌-◌, ◌*◌, ◌++◌, ◌∙◌, inl, inr, ℕ, suc, Bool, true, not, List, [], Option, None, Some, Contains, length, drop, filter, sym, ap, subst, append-nil, append_assoc, arith, IsStrictlySortedBy, length-append, filter-append, IsListOf, is_payload_path, text_cmp, contains_either, contains_front, contains_nothing, same_members, TreeState, Fault, OpensWanted, Options, kept, Check, filtered_list, NoneBehind, OpensAgain, OpensNoneBehind, IsListedToOpen, is_passed, EndsSegment, looked_past, still_to_come, AreListed, IsListedFile, NoneBehindLast, OpensFew, OpensInSegment, not_passed, cursor_behind, Segment, SegmentEnd}
 use Rattle.bag_walk.specs.declared.segment.SegmentEnd.TheVariants.{Full}
 use Rattle.bag_walk.proofs.Openings.{no_payload, opened_front, payload_of}
 use Rattle.bag_walk.proofs.Passed.{no_more, one_twice, opposite}
@@ -72,9 +50,7 @@ module _ (old mid new : TreeState) (options : Options) (todo left : List (List �
   openings_are = (opened_front todo left mid new again).2 ∙ ap (λ o. o ++ paths) read.1 ∙ append_assoc old.openings read.0 paths
 
   front_is : filter is_payload_path todo ≡ filter is_payload_path opened ++ filter is_payload_path more
-  front_is =
-      ap (filter is_payload_path) (opened_front todo left mid new again).3 ∙ filter-append is_payload_path paths more
-      ∙ ap (λ xs. xs ++ filter is_payload_path more) (sym payload_is)
+  front_is = grind (arith, opened_front, filter-append, payload_is)
 
   none_before : (faults : List Fault) → OpensNoneBehind faults mid new → NoneBehind faults (filter is_payload_path opened)
   none_before faults behind f path c d =
@@ -96,13 +72,7 @@ module _ (old mid new : TreeState) (options : Options) (todo left : List (List �
 
     pub opens_front : (listed : List (List ℕ)) (cursor : Option Fault) → filter is_payload_path todo ≡ not_passed cursor listed
         → OpensInSegment listed cursor (cursor_behind (n + segment.written) report) old new segment.end
-    opens_front listed cursor same = record {
-      opened = opened;
-      openings = openings_are;
-      rest = filter is_payload_path more;
-      first = sym same ∙ front_is;
-      none_behind = last_at;
-    }
+    opens_front listed cursor same = grind (arith, openings_are, front_is, last_at)
 
 -- ---- segment after segment
 
@@ -115,13 +85,7 @@ pub record OpenedSoFar (listed : List (List ℕ)) (i unread : ℕ) (cursor : Opt
   pub room : length (filter is_payload_path opened) + length (not_passed cursor listed) ≤ (unread + 1) * length listed + i
 
 pub opened_none : (listed : List (List ℕ)) (old : TreeState) → OpenedSoFar listed 0 0 None old old
-opened_none listed old = record {
-  opened = [];
-  openings = sym (append-nil old.openings);
-  only_listed = λ path c. absurd (contains_nothing path c);
-  few = omega arith;
-  room = omega (arith, no_more None listed);
-}
+opened_none listed old = grind (arith, append-nil, contains_nothing, no_more)
 
 pub few_of : (listed : List (List ℕ)) (i unread segments : ℕ) (cursor : Option Fault) (old now : TreeState) → OpenedSoFar listed i unread cursor old now → i ≤ segments
     → OpensFew listed segments unread old now
@@ -152,30 +116,13 @@ module _ (listed : List (List ℕ)) (i unread : ℕ) (cursor last : Option Fault
 
   -- one segment more, behind which none follows
   pub few_with_last : (segments : ℕ) → i < segments → OpensFew listed segments unread old new
-  few_with_last segments less = record {
-    opened = both;
-    openings = both_are;
-    only_listed = only;
-    few = omega (arith, size, ahead, so.room, less);
-  }
+  few_with_last segments less = grind (arith, both_are, only, size, ahead)
 
   -- and one behind which others follow: a full one
   pub full_more : IsStrictlySortedBy text_cmp listed → ((path : List ℕ) → is_passed cursor path ≡ true → is_passed last path ≡ true) → end ≡ Full
       → OpenedSoFar listed (i + 1) unread last old new
-  full_more sorted later full = record {
-    opened = both;
-    openings = both_are;
-    only_listed = only;
-    few = omega (arith, size, ahead, so.room);
-    room = omega (arith, size, so.room, one_twice cursor last listed (filter is_payload_path opens.opened) opens.rest later sorted opens.first (opens.none_behind full));
-  }
+  full_more sorted later full = grind (arith, both_are, only, size, ahead, one_twice)
 
   -- or one that was unread
   pub unread_more : OpenedSoFar listed (i + 1) (unread + 1) last old new
-  unread_more = record {
-    opened = both;
-    openings = both_are;
-    only_listed = only;
-    few = omega (arith, size, ahead, so.room);
-    room = omega (arith, size, ahead, so.room, no_more last listed);
-  }
+  unread_more = grind (arith, both_are, only, size, ahead, no_more)

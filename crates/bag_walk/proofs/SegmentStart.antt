@@ -1,33 +1,6 @@
 -- A segment over a walk that was started behind others.
-use Rattle.std.proofs.Common.{◌≡◌, ◌<◌, ◌≤◌, ◌+◌, ℕ, inl, true, List, [], length, drop, filter, Option, None, IsTrue, sym, ap, ◌∙◌, subst}
-use Rattle.std.specs.Cmp.Lexicographic.{nat_list_cmp_total}
-use Rattle.bag_text.specs.Path.{is_payload_path}
-use Rattle.bag_text.specs.Text.{text_cmp}
-use Rattle.bag_text.proofs.ListOf.{one_list}
-use Rattle.bag_tree.specs.Out.{OutState}
-use Rattle.bag_tree.specs.Bag.{Bag}
-use Rattle.bag_tree.specs.Calm.{RefusesNothing}
-use Rattle.bag_tree.specs.Tree.{TreeState, Keeps}
-use Rattle.bag_facts.specs.FaultOrder.{fault_cmp}
-use Rattle.bag_facts.specs.declared.fault.Fault.{Fault}
-use Rattle.bag_facts.proofs.Ordered.{fault_cmp_total}
-use Rattle.bag_facts.specs.Wanted.{OpensWanted}
-use Rattle.bag_facts.specs.declared.options.Options.{Options}
-use Rattle.bag_profile.specs.Profile.{Profile}
-use Rattle.bag_report.specs.Report.{Check, IsReport, above}
-use Rattle.bag_walk.specs.declared.outcome.Request.{Request}
-use Rattle.bag_walk.specs.Openings.{OpensAgain, OpensNoneBehind}
-use Rattle.bag_walk.specs.Source.{Sees}
-use Rattle.bag_walk.specs.Start.{IsListedToOpen, IsStarted}
-use Rattle.bag_walk.specs.Lines.{IsLastLine, IsLastOf}
-use Rattle.bag_walk.specs.Run.{IsAsked}
-use Rattle.bag_walk.specs.Segment.{IfUnread, IsSegment, MayStopRun, still_to_come}
-use Rattle.bag_walk.specs.SegmentOpenings.{AreListed, OpensInSegment, not_passed}
-use Rattle.bag_walk.specs.Segments.{cursor_behind, GoesOn}
-use Rattle.bag_walk.specs.Stops.{MayStop}
-use Rattle.bag_walk.specs.declared.segment.Segment.{Segment}
-use Rattle.bag_walk.specs.declared.segment.SegmentEnd.{SegmentEnd}
-use Rattle.bag_walk.specs.declared.segment.SegmentEnd.TheVariants.{Full, AtEnd, Unread, Unwritten}
+use Rattle.bag_walk.proofs.Common.{arith, ◌≡◌, ◌<◌, ◌≤◌, ◌+◌, ℕ, inl, true, List, [], length, drop, filter, Option, None, IsTrue, sym, ap, ◌∙◌, subst, nat_list_cmp_total, is_payload_path, text_cmp, one_list, OutState, Bag, RefusesNothing, TreeState, Keeps, fault_cmp, Fault, fault_cmp_total, OpensWanted, Options, Profile, Check, IsReport, above, Request, OpensAgain, OpensNoneBehind, Sees, IsListedToOpen, IsStarted, IsLastLine, IsLastOf, IsAsked, IfUnread, IsSegment, MayStopRun, still_to_come, AreListed, OpensInSegment, not_passed, cursor_behind, GoesOn, MayStop, Segment, SegmentEnd, AtEnd}
+use Rattle.bag_walk.specs.declared.segment.SegmentEnd.TheVariants.{Full, Unread, Unwritten}
 use Rattle.bag_walk.proofs.Running.{sees_of, stop_of_walk}
 use Rattle.bag_walk.proofs.SegmentOpenings.{not_passed_listed, opens_front}
 use Rattle.bag_walk.proofs.SegmentSteps.{above_behind, last_later}
@@ -58,11 +31,7 @@ module _ (old mid new : TreeState) (profile : Option Profile) (options : Options
         → ((bag : Bag) → IsOf bag → Sees mid todo bag → IsSegment (left bag) limit before then segment)
         → ((bag : Bag) → IsOf bag → Sees mid todo bag → IsLastOf (left bag) segment.written line next)
         → GoesOn report n limit before then next segment
-    goes_on limit before then line next segment was seen last =
-        let sees = sees_of old mid new profile (asking_of options after) IsOf left todo started k (inl honest) in record {
-          writes = subst (λ faults. IsSegment faults limit before then segment) left_behind (seen started.seen started.of sees);
-          last = last_later n segment.written report line next was (subst (λ faults. IsLastOf faults segment.written line next) left_behind (last started.seen started.of sees));
-        }
+    goes_on limit before then line next segment was seen last = grind (arith, sees_of, left_behind, last_later)
 
     abbrev check_seen : Check
     check_seen = record { bag = started.seen; profile = profile; options = options }

@@ -1,33 +1,7 @@
 -- Segment after segment of a report.
-use Rattle.std.proofs.Common.{◌≡◌, ◌<◌, ◌≤◌, ◌+◌, ◌-◌, ◌++◌, ◌∷◌, inl, inr, ℕ, zero, suc, true, false, List, [], length, take, drop, get_or, slice_get, None, Some, refl, sym, ap, ◌∙◌, subst, arith, true≢false, append_assoc}
-use Rattle.std.specs.List.{concat, sum}
-use Rattle.std.specs.List.Sorted.{IsStrictlySortedBy}
-use Rattle.std.specs.Io.KnownBytes.{Appends}
-use Rattle.std.proofs.lemmas.List.{append_cancel_left, drop_more, drop_all, map-append, take-append-drop, length-drop}
-use Rattle.bag_tree.specs.Out.{OutState}
-use Rattle.bag_tree.specs.Bag.{HasFile}
-use Rattle.bag_tree.specs.Calm.{MayTellMemory}
-use Rattle.bag_tree.specs.Tree.{TreeState, Keeps}
-use Rattle.bag_tree.specs.declared.tree_fault.Stop.{Stop}
-use Rattle.bag_tree.specs.declared.tree_fault.TreeFault.{TreeFault}
-use Rattle.bag_tree.specs.declared.tree_fault.TreeFault.TheVariants.{Device, Special, Name, NotFound, TooMany, Changed, NoneOpen, Memory, Exists}
-use Rattle.bag_facts.specs.FaultOrder.{fault_cmp}
-use Rattle.bag_facts.specs.declared.fault.Fault.{Fault}
-use Rattle.bag_facts.specs.Stops.{MayRefuseFacts}
-use Rattle.bag_facts.specs.declared.options.Options.{Options}
-use Rattle.bag_facts.proofs.Reading.{keeps_itself, keeps_on, later_refusal}
-use Rattle.bag_report.specs.Report.{above, first}
-use Rattle.bag_stages.specs.SummedFiles.{IsSummed}
-use Rattle.bag_walk.specs.Ending.{ended, written, written_line}
-use Rattle.bag_walk.specs.declared.outcome.Outcome.{Outcome}
-use Rattle.bag_walk.specs.declared.outcome.Outcome.TheVariants.{Stopped, Unwritten}
+use Rattle.bag_walk.proofs.Common.{◌≡◌, ◌<◌, ◌≤◌, ◌+◌, ◌-◌, ◌++◌, ◌∷◌, inl, inr, ℕ, zero, suc, true, false, List, [], length, take, drop, get_or, slice_get, None, Some, refl, sym, ap, ◌∙◌, subst, arith, true≢false, append_assoc, concat, sum, IsStrictlySortedBy, Appends, append_cancel_left, drop_more, drop_all, map-append, OutState, TreeState, Keeps, Stop, TreeFault, Device, Special, Name, NotFound, TooMany, Changed, NoneOpen, Memory, Exists, fault_cmp, Fault, MayRefuseFacts, Options, keeps_itself, keeps_on, later_refusal, above, first, ended, written, written_line, Outcome, Stopped, Unwritten, IsLastLine, IsLastOf, EndsSegment, IfUnread, WroteFirst, AreListed, OpensFew, OpensInSegment, cursor_behind, SegmentsJoin, cost, SegmentsFrom, AreSegments, WroteSegments, MayLose, IsStopped, RunsOfSegments, is_last, outcome_at, MayStop, SegmentEnd}
+use Rattle.std.proofs.lemmas.List.{take-append-drop, length-drop}
 use Rattle.bag_walk.proofs.Writing.{Appends-append, Appends-nil}
-use Rattle.bag_walk.specs.Lines.{IsLastLine, IsLastOf}
-use Rattle.bag_walk.specs.Segment.{EndsSegment, IfUnread, WroteFirst}
-use Rattle.bag_walk.specs.SegmentOpenings.{AreListed, OpensFew, OpensInSegment}
-use Rattle.bag_walk.specs.Segments.{cursor_behind, SegmentsJoin, cost, SegmentsFrom, AreSegments, WroteSegments, MayLose, IsStopped, RunsOfSegments, is_last, outcome_at}
-use Rattle.bag_walk.specs.Stops.{MayStop}
-use Rattle.bag_walk.specs.declared.segment.SegmentEnd.{SegmentEnd}
 use Rattle.bag_walk.specs.declared.segment.SegmentEnd.TheVariants as end_of
 use Rattle.bag_walk.proofs.CursorLaw.{cursor_cuts_list}
 use Rattle.bag_walk.proofs.Passed.{passed_later}
@@ -56,8 +30,7 @@ take_nothing (suc n) = refl
 take_joined : (n m : ℕ) (faults : List Fault) → take n faults ++ take m (drop n faults) ≡ take (n + m) faults
 take_joined zero m faults = let same : m ≡ 0 + m = omega arith in ap (λ k. take k faults) same
 take_joined (suc n) m [] = take_nothing m ∙ sym (take_nothing (suc n + m))
-take_joined (suc n) m (f ∷ faults) =
-    let same : suc n + m ≡ suc (n + m) = omega arith in rw same (ap (λ rest. f ∷ rest) (take_joined n m faults))
+take_joined (suc n) m (f ∷ faults) = let same : suc n + m ≡ suc (n + m) = omega arith in rw same (ap (λ rest. f ∷ rest) (take_joined n m faults))
 
 pub segments_join : SegmentsJoin
 segments_join report n m sorted within = ap (λ rest. take n report ++ take m rest) (above_behind n report sorted within) ∙ take_joined n m report
@@ -84,8 +57,7 @@ concat_joined (x ∷ xs) ys = ap (λ rest. x ++ rest) (concat_joined xs ys) ∙ 
 
 -- the line of the last of the rest's first faults
 pub last_later : (n k : ℕ) (report : List Fault) (old new : List ℕ) → IsLastLine (cursor_behind n report) old → IsLastOf (drop n report) k old new → IsLastLine (cursor_behind (n + k) report) new
-last_later n zero report old new was same =
-    let none : n + 0 ≡ n = omega arith in rw (none, same) was
+last_later n zero report old new was same = grind arith
 last_later n (suc k) report old new was (f, at, is) =
     let one_more : n + suc k ≡ suc (n + k) = omega arith in
     rw one_more (subst (λ last. IsLastLine last new) (sym (at_later n k report f at)) is)
@@ -159,16 +131,7 @@ lasting_refusal old mid new Exists k h = h
 module _ (options : Options) (old mid next new : TreeState) (k : Keeps old mid) (l : Keeps next new) (stop : Stop) where
   -- a stop of one segment, as a stop of them all
   pub may_lose : MayStop options mid next stop → MayLose options old new stop
-  may_lose h = record {
-    cause = lasting_refusal old next new stop.cause l (later_refusal old mid next stop.cause k h.cause);
-    path = elim h.path [
-      | inl none ↦ inl none.1
-      | inr (inl listing) ↦ inl listing.0
-      | inr (inr (inl file)) ↦ inr (inl (file.0, λ honest. subst (λ bag. HasFile bag stop.path) k.bag (file.1 (k.honest ∙ honest))))
-      | inr (inr (inr summed)) ↦ inr (inr (summed.0, summed.1, λ honest. subst (λ bag. IsSummed bag stop.path) k.bag (summed.2 (k.honest ∙ honest))))
-    ];
-    memory = h.memory;
-  }
+  may_lose h = grind (arith, lasting_refusal, later_refusal)
 
 ended_is_no_stop : (options : Options) (limits : List ℕ) (old new : TreeState) (n : ℕ) → IsStopped options limits old new (ended None n)
 ended_is_no_stop options limits old new zero = tt
@@ -178,8 +141,7 @@ pub stopped_at_last : (options : Options) (limits : List ℕ) (old mid new : Tre
     → IsStopped options limits old new (outcome_at n end)
 stopped_at_last options limits old mid new n end_of.Full k same h = tt
 stopped_at_last options limits old mid new n end_of.AtEnd k same h = ended_is_no_stop options limits old new n
-stopped_at_last options limits old mid new n (end_of.Unread stop) k same h =
-    (may_lose options old mid new new k (keeps_itself new) stop h, h.answered, λ none is. subst (λ state. MayTellMemory state new) (same none) (h.wanting is))
+stopped_at_last options limits old mid new n (end_of.Unread stop) k same h = grind (arith, may_lose, keeps_itself)
 stopped_at_last options limits old mid new n end_of.Unwritten k same h = tt
 
 -- behind which none follows
@@ -224,15 +186,7 @@ module _ (options : Options) (report : List Fault) (limits : List ℕ) (i : ℕ)
     (so : SoFar options report limits i old now count line before after outcome) (kept : Keeps old now) (sorted : IsStrictlySortedBy fault_cmp report) where
   -- all limits were gone through
   pub all_segments : length limits ≤ i → RunsOfSegments options report limits old now before after outcome
-  all_segments past = record {
-    lost = so.lost;
-    unread = so.unread;
-    count = count;
-    segments = so.follows now (keeps_itself now) so.lost so.unread count outcome (rw (drop_all i limits past) (refl, refl, refl, refl));
-    few_lost = so.few_lost;
-    wrote = so.shown;
-    opens = λ listed are. few_of listed i so.unread (length limits) (cursor_behind count report) old now (so.opens listed are) so.gone;
-  }
+  all_segments past = grind (arith, keeps_itself, drop_all, few_of)
 
   module _ (m : ℕ) (new : TreeState) (k : ℕ) (next : List ℕ) (then : OutState) (less : i < length limits) (is : m ≡ get_or limits i 0) (keeps : Keeps now new)
       (last : IsLastLine (cursor_behind (count + k) report) next) where
@@ -247,8 +201,7 @@ module _ (options : Options) (report : List Fault) (limits : List ℕ) (i : ℕ)
     OpensFront end = (listed : List (List ℕ)) → AreListed options old.bag listed → OpensInSegment listed (cursor_behind count report) (cursor_behind (count + k) report) now new end
 
     few_then : (end : SegmentEnd) → OpensFront end → (listed : List (List ℕ)) → AreListed options old.bag listed → OpensFew listed (length limits) so.unread old new
-    few_then end front listed are =
-        few_with_last listed i so.unread (cursor_behind count report) (cursor_behind (count + k) report) old now new end (so.opens listed are) (front listed are) (length limits) less
+    few_then end front listed are = grind (arith, few_with_last)
 
     -- one segment more, behind which others follow
     pub one_segment_more : (end : SegmentEnd) → is_last end ≡ false → EndsSegment (drop count report) m k end → WroteFirst (drop count report) k after then end → IfUnread end (MayStop options now new)

@@ -1,14 +1,6 @@
 -- What segments come to where nothing is refused.
-use Rattle.std.proofs.Common.{◌≡◌, ◌≢◌, ◌<◌, ◌≤◌, ◌+◌, ◌∷◌, ◌∙◌, inl, inr, ℕ, true, false, cond, List, [], None, length, min, nat_le, refl, sym, ap, subst, arith}
-use Rattle.std.specs.List.{sum}
-use Rattle.std.proofs.lemmas.Bool.Decides.{nat_tests}
-use Rattle.std.proofs.lemmas.List.Sums.{sum_by-cons}
-use Rattle.bag_facts.specs.declared.fault.Fault.{Fault}
-use Rattle.bag_walk.specs.Ending.{ended}
-use Rattle.bag_walk.specs.declared.outcome.Outcome.{Outcome}
-use Rattle.bag_walk.specs.declared.outcome.Outcome.TheVariants.{Stopped, Unwritten}
+use Rattle.bag_walk.proofs.Common.{◌≡◌, ◌≢◌, ◌<◌, ◌≤◌, ◌+◌, ◌∷◌, ◌∙◌, inl, inr, ℕ, cond, List, [], None, length, min, nat_le, subst, arith, sum, nat_tests, sum_by-cons, Fault, ended, Outcome, Stopped, Unwritten, SegmentsFrom}
 use Rattle.bag_walk.specs.SegmentLaws.{SegmentsAddUp}
-use Rattle.bag_walk.specs.Segments.{SegmentsFrom}
 
 abbrev AddUp : List Fault → ℕ → ℕ → ℕ → ℕ → ℕ → ℕ → Outcome → Type 0
 AddUp report all u r u' r' n' outcome' =
@@ -16,22 +8,14 @@ AddUp report all u r u' r' n' outcome' =
 
 module _ (report : List Fault) where
   all_within : (all u r : ℕ) → all ≤ length report → AddUp report all u r u r all (Stopped all)
-  all_within all u r within =
-      let le : nat_le all (length report) ≡ true = grind (arith, nat_tests) in
-      (refl, refl, omega arith, sym (ap (λ b. cond b (Stopped all) (ended None (length report))) le))
+  all_within all u r within = grind (arith, nat_le, nat_tests)
 
   past_end : (all u r : ℕ) → length report < all → AddUp report all u r u r (length report) (ended None (length report))
-  past_end all u r past =
-      let gt : nat_le all (length report) ≡ false = grind (arith, nat_tests) in
-      (refl, refl, omega arith, sym (ap (λ b. cond b (Stopped all) (ended None (length report))) gt))
+  past_end all u r past = grind (arith, nat_le, nat_tests)
 
   from : (limits : List ℕ) (u r n u' r' n' : ℕ) (outcome' : Outcome) → n ≤ length report → ((k : ℕ) → outcome' ≢ Unwritten k)
       → SegmentsFrom report (λ stop. ⊥) u r n (Stopped n) limits u' r' n' outcome' → AddUp report (n + sum limits) u r u' r' n' outcome'
-  from [] u r n u' r' n' outcome' within written (lost, unread, count, last) =
-      let same : n ≡ n + 0 = omega arith in
-      let P : ℕ → Type 0 = λ all. AddUp report all u r u' r' n' outcome' in
-      let whole = all_within n u r within in
-      subst P same (lost ∙ whole.0, unread ∙ whole.1, count ∙ whole.2, last ∙ whole.3)
+  from [] u r n u' r' n' outcome' within written (lost, unread, count, last) = grind (arith, all_within)
   from (m ∷ limits) u r n u' r' n' outcome' within written (inl (full, rest)) =
       let same : n + m + sum limits ≡ n + sum (m ∷ limits) = omega (arith, sum_by-cons (λ (x : ℕ). x) m limits) in
       let P : ℕ → Type 0 = λ all. AddUp report all u r u' r' n' outcome' in
@@ -44,7 +28,4 @@ module _ (report : List Fault) where
   from (m ∷ limits) u r n u' r' n' outcome' within written (inr (inr (inr unwritten))) = absurd (written _ unwritten.6)
 
 pub segments_add_up : SegmentsAddUp
-segments_add_up report limits u r n outcome are written =
-    let same : 0 + sum limits ≡ sum limits = omega arith in
-    let P : ℕ → Type 0 = λ all. AddUp report all 0 0 u r n outcome in
-    subst P same (from report limits 0 0 0 u r n outcome (omega arith) written are)
+segments_add_up report limits u r n outcome are written = grind (arith, from)

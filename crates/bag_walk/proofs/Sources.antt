@@ -1,31 +1,6 @@
 -- What the sources of a walk hold together.
-use Rattle.std.proofs.Common.{◌≡◌, ◌≢◌, ◌∙◌, ◌⊎◌, inl, inr, ℕ, Bool, List, [], Option, true, false, true≢false, refl, sym, ap, subst, filter}
-use Rattle.std.specs.Prelude.{IsTrue, if◌then◌else◌}
-use Rattle.bag_text.specs.Order.{IsListOf}
-use Rattle.bag_text.specs.Path.{is_payload_path}
-use Rattle.bag_text.specs.Text.{text_cmp}
-use Rattle.bag_text.proofs.ListOf.{nothing_listed, same_members}
-use Rattle.bag_read.specs.declared.kind.Kind.TheVariants.{Payload, Tag}
-use Rattle.bag_tree.specs.Bag.{Bag, IsBag}
-use Rattle.bag_tree.specs.Tree.{TreeState}
-use Rattle.bag_facts.specs.FaultOrder.{fault_cmp}
-use Rattle.bag_facts.specs.declared.fault.Fault.{Fault}
-use Rattle.bag_facts.specs.Facts.{IsFactsOf}
-use Rattle.bag_facts.specs.declared.facts.Facts.{Facts}
-use Rattle.bag_facts.specs.declared.options.Depth.{Depth}
-use Rattle.bag_facts.specs.declared.options.Depth.TheVariants.{Declaration, Fast, Complete, Full}
-use Rattle.bag_facts.specs.declared.options.Options.{Options}
-use Rattle.bag_profile.specs.Profile.{Profile}
-use Rattle.bag_stages.specs.TagFiles.{Names}
-use Rattle.bag_stages.specs.SummedFiles.{IsSummed}
-use Rattle.bag_stages.specs.ValidityStage.{IsOfValidity}
-use Rattle.bag_stages.proofs.NamesByKind.{names_by_kind}
-use Rattle.bag_report.specs.Report.{Check, is_above}
-use Rattle.bag_report.proofs.Filtered.{filtered_list}
-use Rattle.bag_walk.specs.Completeness.{IsStageAbove}
-use Rattle.bag_walk.specs.Start.{IsListedToOpen, IsStarted, IsToOpen}
-use Rattle.bag_walk.specs.Steps.{StandsAt}
-use Rattle.bag_walk.specs.Validity.{is_passed}
+use Rattle.bag_walk.proofs.Common.{◌≡◌, ◌≢◌, ◌∙◌, ◌⊎◌, inl, inr, ℕ, Bool, List, [], Option, true, false, true≢false, refl, sym, ap, subst, filter, if◌then◌else◌, IsListOf, is_payload_path, text_cmp, nothing_listed, same_members, Payload, Tag, Bag, IsBag, TreeState, fault_cmp, Fault, IsFactsOf, Facts, Depth, Declaration, Fast, Complete, Full, Options, Profile, Names, IsSummed, IsOfValidity, names_by_kind, Check, is_above, filtered_list, IsStageAbove, IsListedToOpen, IsStarted, IsToOpen, StandsAt, is_passed}
+use Rattle.std.specs.Prelude.{IsTrue}
 use Rattle.bag_walk.proofs.Stages.{seventh_at_full, seventh_below}
 
 full_or_not : (depth : Depth) → (depth ≡ Full) ⊎ (depth ≢ Full)

@@ -1,34 +1,13 @@
 -- The faults of completeness and of names above a cursor.
-use Rattle.std.proofs.Common.{◌≡◌, ◌⊎◌, inl, inr, ◌<◌, ◌≤◌, ◌&&◌, ◌+◌, ◌++◌, ◌∷◌, ℕ, List, [], length, take, get_or, Bool, true, false, Option, arith, refl, ap, sym, ◌∙◌, subst}
-use Rattle.std.proofs.lemmas.List.{get_or_default}
-use Rattle.bag_text.specs.Alg.{algs}
-use Rattle.bag_text.specs.Code.{stage}
-use Rattle.bag_text.specs.Order.{IsListOf}
+use Rattle.bag_walk.proofs.Common.{◌≡◌, ◌⊎◌, inl, inr, ◌<◌, ◌≤◌, ◌&&◌, ◌+◌, ◌++◌, ◌∷◌, ℕ, List, [], length, take, get_or, Bool, true, false, Option, arith, refl, ap, sym, ◌∙◌, subst, get_or_default, algs, stage, IsListOf, Code, NoOxum, NameClash, contains_nothing, nothing_listed, same_members, Bag, fault_cmp, Fault, take_one_more, reaches, Options, OfSome, of_last_or_before, of_one_more, IsSoughtClash, IsIncomplete, IsUnlistedInAll, IsWrong, Check, is_above, IsReported, asked_clash, not_reached, filtered_list, is_of_completeness, of_completeness, IsAbove, IsOfAlg, IsOfSomeAlg, IsSoughtAbove, IsStageAbove, union}
 use Rattle.bag_text.specs.declared.alg.Alg.{Alg}
-use Rattle.bag_text.specs.declared.code.Code.{Code}
-use Rattle.bag_text.specs.declared.code.Code.TheVariants.{NoOxum, NameClash}
 use Rattle.bag_text.proofs.AlgSets.{each_is_listed}
-use Rattle.bag_text.proofs.ListOf.{contains_nothing, nothing_listed, same_members}
-use Rattle.bag_tree.specs.Bag.{Bag}
-use Rattle.bag_facts.specs.FaultOrder.{fault_cmp}
-use Rattle.bag_facts.specs.declared.fault.Fault.{Fault}
-use Rattle.bag_facts.proofs.Mapped.{take_one_more}
-use Rattle.bag_facts.specs.Options.{reaches}
-use Rattle.bag_facts.specs.declared.options.Options.{Options}
-use Rattle.bag_stages.proofs.ByItem.{OfSome, of_last_or_before, of_one_more}
 use Rattle.bag_stages.proofs.ByPath.{take_whole}
-use Rattle.bag_stages.specs.ClashStage.{IsSoughtClash}
-use Rattle.bag_stages.specs.CompletenessFaults.{IsIncomplete, IsUnlistedInAll, IsWrong}
 use Rattle.bag_stages.specs.CompletenessStage.{IsSoughtInStageSix}
 use Rattle.bag_stages.specs.PayloadNamed.{IsNamedExactly}
 use Rattle.bag_stages.proofs.CompletenessFaults.{completeness_of_stage_six, is_sought, sought_is}
 use Rattle.bag_stages.proofs.PayloadNamed.{nothing_wrong}
-use Rattle.bag_report.specs.Report.{Check, asks, is_above, IsReported}
-use Rattle.bag_report.proofs.Asked.{asked_clash, not_reached}
-use Rattle.bag_report.proofs.Filtered.{filtered_list}
-use Rattle.bag_report.proofs.Found.{is_of_completeness, of_completeness}
-use Rattle.bag_walk.specs.Completeness.{IsAbove, IsOfAlg, IsOfSomeAlg, IsSoughtAbove, IsStageAbove}
-use Rattle.bag_walk.specs.Merge.{union}
+use Rattle.bag_report.specs.Report.{asks}
 use Rattle.bag_walk.proofs.UnitedLists.{united}
 
 -- the same set in other words

@@ -1,25 +1,5 @@
 -- The report above a cursor, one source after another.
-use Rattle.std.proofs.Common.{◌≡◌, ◌≢◌, ◌<◌, ◌≤◌, ◌+◌, ◌++◌, ◌⊎◌, inl, inr, ℕ, zero, suc, List, [], Option, Contains, true, false, sym, ap, ◌∙◌, refl, subst, append_assoc, arith}
-use Rattle.bag_text.specs.Code.{stage}
-use Rattle.bag_text.specs.Order.{IsListOf}
-use Rattle.bag_text.specs.declared.code.Code.{Code}
-use Rattle.bag_text.specs.declared.code.Code.TheVariants.{NoDeclaration}
-use Rattle.bag_text.proofs.ListOf.{contains_either, contains_nothing, joined, nothing_listed, same_members}
-use Rattle.bag_facts.specs.FaultOrder.{fault_cmp}
-use Rattle.bag_facts.specs.declared.fault.Fault.{Fault}
-use Rattle.bag_facts.specs.Options.{reaches}
-use Rattle.bag_facts.specs.declared.options.Depth.TheVariants.{Full}
-use Rattle.bag_stages.specs.ValidityStage.{IsOfValidity}
-use Rattle.bag_stages.proofs.ValidityFaults.{validity_of_stage_seven}
-use Rattle.bag_report.specs.Report.{Check, above, is_above, IsReported, IsStageOf}
-use Rattle.bag_report.proofs.Asked.{asked_at_full, asked_is_reached, seven_not_reached}
-use Rattle.bag_report.proofs.Filtered.{filtered_list}
-use Rattle.bag_report.proofs.Found.{is_of_validity, of_validity}
-use Rattle.bag_walk.specs.Completeness.{IsStageAbove}
-use Rattle.bag_walk.specs.Openings.{NoneBehind}
-use Rattle.bag_walk.specs.Source.{AllBelow}
-use Rattle.bag_walk.specs.Start.{AreAheadBefore}
-use Rattle.bag_walk.specs.Steps.{IsAhead, StandsAt}
+use Rattle.bag_walk.proofs.Common.{◌≡◌, ◌≢◌, ◌<◌, ◌≤◌, ◌+◌, ◌++◌, ◌⊎◌, inl, inr, ℕ, zero, suc, List, [], Option, Contains, true, false, sym, ap, ◌∙◌, refl, subst, append_assoc, arith, stage, IsListOf, Code, NoDeclaration, contains_either, contains_nothing, joined, nothing_listed, same_members, fault_cmp, Fault, reaches, Full, IsOfValidity, validity_of_stage_seven, Check, above, is_above, IsReported, IsStageOf, asked_at_full, asked_is_reached, seven_not_reached, filtered_list, is_of_validity, of_validity, IsStageAbove, NoneBehind, AllBelow, AreAheadBefore, IsAhead, StandsAt}
 use Rattle.bag_walk.proofs.Chosen.{less_by_stage}
 
 -- no stage has the number 0, or one above 8
@@ -65,8 +45,7 @@ module _ (check : Check) (after : Option Fault) where
       (joined fault_cmp (IsAheadBefore k) (IsAt k) faults more before at (λ x y less now. less_by_stage x y (omega (arith, less.1, now.0.1))))
 
   pub all_stages : (faults : List Fault) → AreAheadBefore check 9 after faults → StandsAt check after faults
-  all_stages faults list =
-      same_members fault_cmp (IsAheadBefore 9) (IsAhead check after) faults (λ f h. h.0) (λ f h. let within : stage f.code ≤ 8 = to_eight f.code in (h, omega (arith, within))) list
+  all_stages faults list = grind (arith, same_members, to_eight)
 
   -- at depth Full the faults of validity are those of the seventh stage
   pub seventh_at_full : (faults : List Fault) → check.options.depth ≡ Full → IsListOf fault_cmp (λ f. IsOfValidity check.bag f × (is_above after f ≡ true)) faults → IsStageAbove check 7 after faults
@@ -114,10 +93,7 @@ module _ (check : Check) (after : Option Fault) where
 
     -- no fault of the last stage stands before a file
     pub late_behind : (paths : List (List ℕ)) → NoneBehind late paths
-    late_behind paths f path c d before = elim before [
-      | inl less ↦ absurd (omega (arith, late_at f c, less))
-      | inr (is, less) ↦ absurd (omega (arith, late_at f c, is))
-    ]
+    late_behind paths f path c d before = grind (arith, late_at)
 
     -- together they are the report above the cursor
     pub all_joined : StandsAt check after (early ++ (complete ++ (sums ++ late)))

@@ -1,24 +1,9 @@
 -- Two ascending lists of faults as one, of which the least is taken.
-use Rattle.std.proofs.Common.{◌≡◌, ◌⊎◌, inl, inr, ◌++◌, ◌∷◌, Bor, List, [], Option, None, Some, IsSome, drop, length, Contains, arith, refl, ap, sym, ◌∙◌, subst, append-nil, append_assoc}
-use Rattle.std.specs.Prelude.{if◌then◌else◌}
+use Rattle.bag_walk.proofs.Common.{◌≡◌, ◌⊎◌, inl, inr, ◌++◌, ◌∷◌, List, [], Option, None, Some, IsSome, drop, length, Contains, arith, refl, ap, sym, ◌∙◌, subst, append-nil, append_assoc, if◌then◌else◌, option_copied, option_to_list, is_gt, Ordering, Less, Equal, Greater, IsListOf, contains_back, contains_either, contains_front, contains_nothing, one_list, fault_cmp, Fault, fault_cmp_total, above, is_above, filtered_list, IsAbove, TakesLeast, fronts, union, union_is, first_of, rest_of, first_of_union}
+use Rattle.std.proofs.Common.{Bor}
 use Rattle.std.specs.List.Sorted.{IsStrictlySortedBy}
-use Rattle.std.specs.Option.{option_copied, option_to_list}
-use Rattle.std.specs.Ordering.{is_gt}
 use Rattle.std.specs.Slice.{IsItemAt}
-use Rattle.std.specs.declared.cmp.Ordering.{Ordering}
-use Rattle.std.specs.declared.cmp.Ordering.TheVariants.{Less, Equal, Greater}
-use Rattle.bag_text.specs.Order.{IsListOf}
-use Rattle.bag_text.proofs.ListOf.{contains_back, contains_either, contains_front, contains_nothing, one_list}
-use Rattle.bag_facts.specs.FaultOrder.{fault_cmp}
-use Rattle.bag_facts.specs.declared.fault.Fault.{Fault}
-use Rattle.bag_facts.proofs.Ordered.{fault_cmp_total}
-use Rattle.bag_report.specs.Report.{above, is_above}
-use Rattle.bag_report.proofs.Filtered.{filtered_list}
-use Rattle.bag_walk.specs.Completeness.{IsAbove, TakesLeast}
 use Rattle.bag_walk.specs.Lists.{nothing_left}
-use Rattle.bag_walk.specs.Merge.{fronts, union, union_is}
-use Rattle.bag_walk.specs.Source.{first_of, rest_of}
-use Rattle.bag_walk.specs.Union.{first_of_union}
 use Rattle.bag_walk.proofs.Merging.{left_equal, left_greater, left_less}
 use Rattle.bag_walk.proofs.Rest.{rest_ascends}
 
@@ -116,15 +101,7 @@ none_taken fs gs p q = record { parts = refl; ascends = p; others_ascend = q }
 
 module _ (fs gs taken left others_left : List Fault) (has : HasTaken fs gs taken left others_left) where
   pub one_taken : (f : Fault) (more others_more : List Fault) → TakesLeast left others_left (Some f) more others_more → HasTaken fs gs (taken ++ f ∷ []) more others_more
-  one_taken f more others_more takes = record {
-    parts =
-        append_assoc taken (f ∷ []) (union more others_more)
-        ∙ ap (λ rest. taken ++ f ∷ rest) takes.rest
-        ∙ ap (λ rest. taken ++ rest) (sym (first_and_rest (union left others_left) f takes.first))
-        ∙ has.parts;
-    ascends = takes.ascends;
-    others_ascend = takes.others_ascend;
-  }
+  one_taken f more others_more takes = grind (arith, append_assoc, first_and_rest)
 
   pub all_taken : (more others_more : List Fault) → TakesLeast left others_left None more others_more → taken ≡ union fs gs
   all_taken more others_more takes = sym (append-nil taken) ∙ ap (λ rest. taken ++ rest) (sym (nothing_left (union left others_left) (sym takes.first))) ∙ has.parts

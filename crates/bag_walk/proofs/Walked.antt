@@ -1,21 +1,7 @@
 -- A run over a walk, by its segment.
-use Rattle.std.proofs.Common.{◌≡◌, ◌≤◌, ◌-◌, inl, inr, ℕ, List, min, sym, subst, arith}
-use Rattle.bag_tree.specs.Calm.{RefusesNothing}
-use Rattle.bag_tree.specs.Out.{OutState}
-use Rattle.bag_tree.specs.Tree.{TreeState}
-use Rattle.bag_tree.specs.declared.tree_fault.Stop.{Stop}
-use Rattle.bag_facts.specs.declared.fault.Fault.{Fault}
-use Rattle.bag_walk.specs.declared.outcome.Outcome.{Outcome}
+use Rattle.bag_walk.proofs.Common.{◌≡◌, ◌≤◌, ◌-◌, inl, inr, ℕ, List, min, subst, arith, RefusesNothing, OutState, TreeState, Stop, Fault, Outcome, Request, count_of, IsReached, MayStopFilling, ClosesSegment, EndsSegment, IfUnread, IsRead, MayStopRun, MayStopWalk, StopsAt, StopsWalk, WritesCalmly, looked_past, IfStopped, Segment, SegmentEnd, AtEnd}
 use Rattle.bag_walk.specs.declared.outcome.Outcome.TheVariants as outcome_of
-use Rattle.bag_walk.specs.declared.outcome.Request.{Request}
-use Rattle.bag_walk.specs.Closing.{count_of}
-use Rattle.bag_walk.specs.Openings.{IsReached}
-use Rattle.bag_walk.specs.Source.{MayStopFilling}
-use Rattle.bag_walk.specs.Segment.{ClosesSegment, EndsSegment, IfUnread, IsRead, MayStopRun, MayStopWalk, StopsAt, StopsWalk, WritesCalmly, looked_past}
-use Rattle.bag_walk.specs.Stops.{IfStopped}
-use Rattle.bag_walk.specs.declared.segment.Segment.{Segment}
-use Rattle.bag_walk.specs.declared.segment.SegmentEnd.{SegmentEnd}
-use Rattle.bag_walk.specs.declared.segment.SegmentEnd.TheVariants.{Full, AtEnd, Unread, Unwritten}
+use Rattle.bag_walk.specs.declared.segment.SegmentEnd.TheVariants.{Full, Unread, Unwritten}
 use Rattle.bag_walk.proofs.Running.{wider_end}
 
 pub looked_before : (faults : List Fault) (limit n : ℕ) (end : SegmentEnd) → EndsSegment faults limit n end → min n (limit - 1) ≡ looked_past end n
@@ -74,8 +60,7 @@ module _ (todo left : List (List ℕ)) (old new : TreeState) where
 -- and what is so of its stop and of how many lines were written
 pub stopped_when : (Waits : ℕ → Stop → Type 0) (segment : Segment) (outcome : Outcome) → count_of outcome ≡ segment.written → IfStopped outcome (StopsAt segment)
     → IfUnread segment.end (Waits segment.written) → IfStopped outcome (Waits (count_of outcome))
-stopped_when Waits segment (outcome_of.Unread n stop) count is waits =
-    subst (λ m. Waits m stop) (sym count) (subst (λ end. IfUnread end (Waits segment.written)) is waits)
+stopped_when Waits segment (outcome_of.Unread n stop) count is waits = grind arith
 stopped_when Waits segment outcome_of.Clean count is waits = tt
 stopped_when Waits segment (outcome_of.Faults n) count is waits = tt
 stopped_when Waits segment (outcome_of.Stopped n) count is waits = tt

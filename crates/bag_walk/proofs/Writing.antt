@@ -1,14 +1,8 @@
 -- A text is written piece by piece.
-use Rattle.std.proofs.Common.{◌≡◌, ℕ, zero, suc, get_or, ◌∷◌, ◌+◌, ◌<◌, ◌++◌, List, [], length, take, drop, Option, None, Some, refl, ap, sym, ◌∙◌, subst, append_assoc, append-nil, take-append-drop, length-append, arith}
-use Rattle.std.proofs.lemmas.Grind.{common_steps}
-use Rattle.std.proofs.Math.Seq.{take-append-add}
-use Rattle.std.proofs.lemmas.Result.{MatchResult-weaker}
-use Rattle.std.specs.Prelude.{Result}
-use Rattle.std.specs.Io.KnownBytes.{Appends, Keeps}
-use Rattle.std.specs.Borrow.{Bor}
-use Rattle.bag_tree.specs.Out.{OutState}
+use Rattle.bag_walk.proofs.Common.{◌≡◌, ℕ, zero, suc, get_or, ◌∷◌, ◌+◌, ◌<◌, ◌++◌, List, [], length, take, drop, Option, None, Some, refl, ap, sym, ◌∙◌, subst, append_assoc, append-nil, take-append-drop, arith, common_steps, take-append-add, MatchResult-weaker, Result, Appends, Bor, OutState, IsCut, IsTaken, Writes, text_of}
+use Rattle.std.proofs.Common.{length-append}
+use Rattle.std.specs.Io.KnownBytes.{Keeps}
 use Rattle.bag_tree.specs.declared.out.Refused.{Refused}
-use Rattle.bag_walk.specs.Write.{IsCut, IsTaken, Writes, text_of}
 
 -- nothing was written yet
 pub Appends-nil : (old : Option (List ℕ)) → Appends old old []
@@ -30,11 +24,7 @@ Appends-keeps (Some xs) (Some ys) (Some zs) text p k = k ∙ p
 
 -- a call took some more
 pub taken_more : (old mid new : Option (List ℕ)) (text rest : List ℕ) (n : ℕ) → IsTaken old mid text rest → Appends mid new (take n rest) → IsTaken old new text (drop n rest)
-taken_more old mid new text rest n so_far more = record {
-  front = so_far.front ++ take n rest;
-  joins = so_far.joins ∙ ap (λ xs. so_far.front ++ xs) (sym (take-append-drop n rest)) ∙ sym (append_assoc so_far.front (take n rest) (drop n rest));
-  taken = Appends-append old mid new so_far.front (take n rest) so_far.taken more;
-}
+taken_more old mid new text rest n so_far more = grind (arith, take-append-drop, append_assoc, Appends-append)
 
 take_front : (text front rest : List ℕ) → text ≡ front ++ rest → take (length front) text ≡ front
 take_front text front rest e = grind (arith, common_steps)
@@ -53,9 +43,7 @@ take_past_first first second n = take-append-add first second n
 
 -- a text that was cut off is a cut of a longer one
 pub IsCut-append : (old new : Option (List ℕ)) (first second : List ℕ) → IsCut old new first → IsCut old new (first ++ second)
-IsCut-append old new first second cut =
-    let within : cut.0 < length first = cut.1 in
-    (cut.0, omega (arith, length-append first second), subst (Appends old new) (sym (take_in_first first second cut.0 within)) cut.2)
+IsCut-append old new first second cut = grind (arith, length-append, take_in_first)
 
 -- and so is one whose second part was cut off
 pub append-IsCut : (old mid new : Option (List ℕ)) (first second : List ℕ) → Appends old mid first → IsCut mid new second → IsCut old new (first ++ second)
@@ -72,8 +60,7 @@ writes_after old mid new first second result w taken =
 -- a third text after two that were taken
 pub writes_third : (old mid new : OutState) (first second third : List ℕ) (result : Result (Unit {0}) Refused) → Writes mid new third result → Appends old.taken mid.taken (first ++ second)
     → Writes old new (first ++ (second ++ third)) result
-writes_third old mid new first second third result w taken =
-    subst (λ text. Writes old new text result) (append_assoc first second third) (writes_after old mid new (first ++ second) third result w taken)
+writes_third old mid new first second third result w taken = grind (arith, append_assoc, writes_after)
 
 -- a third text after two of which not all was taken
 pub cut_third : (old new : Option (List ℕ)) (first second third : List ℕ) → IsCut old new (first ++ second) → IsCut old new (first ++ (second ++ third))
@@ -94,11 +81,7 @@ pieces_cut old mid new pieces i d h taken cut =
 
 -- one more piece of a text was taken
 pub taken_piece : (old mid new : Option (List ℕ)) (text rest piece after : List ℕ) → IsTaken old mid text rest → rest ≡ piece ++ after → Appends mid new piece → IsTaken old new text after
-taken_piece old mid new text rest piece after so_far e more = record {
-  front = so_far.front ++ piece;
-  joins = so_far.joins ∙ ap (λ xs. so_far.front ++ xs) e ∙ sym (append_assoc so_far.front piece after);
-  taken = Appends-append old mid new so_far.front piece so_far.taken more;
-}
+taken_piece old mid new text rest piece after so_far e more = grind (arith, append_assoc, Appends-append)
 
 -- a piece of a text was cut off
 pub cut_piece : (old mid new : Option (List ℕ)) (text rest piece after : List ℕ) → IsTaken old mid text rest → rest ≡ piece ++ after → IsCut mid new piece → IsCut old new text

@@ -1,10 +1,9 @@
-use Rattle.std.proofs.lemmas.Result.{err_from_is_err_and}
+use Rattle.bag_walk.proofs.Common.{arith, err_from_is_err_and}
 use Rattle.bag_walk.proofs.Writing.{taken_piece, cut_piece}
 use Rattle.bag_walk.proofs.closing.put_field.Goals as goal
 
 pub loop-piece-preserved : goal.loop-piece-preserved
-loop-piece-preserved g c =
-    taken_piece _ _ _ _ _ c.in-Some.piece.now _ c.loop-piece.invariant c.in-Some.ensures.steps (rw c.as_bytes.ensures.value at c.in_ok-put_all.ensures)
+loop-piece-preserved g c = grind (arith, taken_piece)
 
 pub returns-in_err-put_all : goal.returns-in_err-put_all
 returns-in_err-put_all g c =

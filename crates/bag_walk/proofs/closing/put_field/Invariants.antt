@@ -1,6 +1,5 @@
+use Rattle.bag_walk.proofs.Common.{field, IsTaken}
 use Rattle.percent_encoding.specs.Iter.{encoded_text}
-use Rattle.bag_facts.specs.FaultLine.{field}
-use Rattle.bag_walk.specs.Write.{IsTaken}
 use Rattle.bag_walk.proofs.closing.put_field.Given as goal
 
 abbrev pub invariant-loop-piece : goal.invariant-loop-piece

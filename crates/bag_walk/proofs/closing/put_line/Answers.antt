@@ -1,4 +1,4 @@
-use Rattle.std.proofs.lemmas.Result.{err_from_is_err_and}
+use Rattle.bag_walk.proofs.Common.{err_from_is_err_and}
 use Rattle.bag_walk.proofs.Writing.{IsCut-append, writes_after}
 use Rattle.bag_walk.proofs.closing.put_line.Goals as goal
 

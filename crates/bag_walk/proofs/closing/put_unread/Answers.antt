@@ -1,6 +1,4 @@
-use Rattle.std.proofs.Common.{codes}
-use Rattle.std.proofs.lemmas.Result.{err_from_is_err_and}
-use Rattle.bag_facts.specs.FaultLine.{field}
+use Rattle.bag_walk.proofs.Common.{codes, err_from_is_err_and, field}
 use Rattle.bag_walk.proofs.Writing.{cut_third, writes_third}
 use Rattle.bag_walk.proofs.closing.put_unread.Goals as goal
 

@@ -1,10 +1,4 @@
-use Rattle.std.specs.Option.{option_copied}
-use Rattle.std.proofs.lemmas.Result.{IfOk-weaker}
-use Rattle.bag_read.specs.declared.kind.Kind.TheVariants.{Tag}
-use Rattle.bag_text.specs.Order.{IsListOf}
-use Rattle.bag_facts.specs.FaultOrder.{fault_cmp}
-use Rattle.bag_stages.specs.CompletenessFaults.{IsMissing, IsWrong}
-use Rattle.bag_walk.specs.Completeness.{IsAbove}
+use Rattle.bag_walk.proofs.Common.{option_copied, IfOk-weaker, Tag, IsListOf, fault_cmp, IsMissing, IsWrong, IsAbove}
 use Rattle.bag_walk.proofs.UnitedLists.{cut_above, united}
 use Rattle.bag_walk.proofs.completeness.of_alg.Goals as goal
 

@@ -1,4 +1,4 @@
-use Rattle.std.specs.Option.{option_copied}
+use Rattle.bag_walk.proofs.Common.{option_copied}
 use Rattle.bag_text.specs.declared.alg.Alg.TheVariants.{Md5}
 use Rattle.bag_walk.proofs.StageSix.{all_algs, no_alg_yet, one_alg_more}
 use Rattle.bag_walk.proofs.completeness.of_algs.Goals as goal

@@ -1,10 +1,4 @@
-use Rattle.std.proofs.Common.{take}
-use Rattle.std.specs.Option.{option_copied}
-use Rattle.bag_text.specs.Order.{IsListOf}
-use Rattle.bag_facts.specs.FaultOrder.{fault_cmp}
-use Rattle.bag_facts.specs.Facts.{OfBag}
-use Rattle.bag_stages.proofs.ByItem.{OfSome}
-use Rattle.bag_walk.specs.Completeness.{IsAbove, IsOfAlg}
+use Rattle.bag_walk.proofs.Common.{take, option_copied, IsListOf, fault_cmp, OfBag, OfSome, IsAbove, IsOfAlg}
 use Rattle.bag_walk.proofs.completeness.of_algs.Given as goal
 
 abbrev pub invariant-loop-alg : goal.invariant-loop-alg

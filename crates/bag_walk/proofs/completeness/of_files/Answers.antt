@@ -1,9 +1,4 @@
-use Rattle.std.specs.Option.{option_copied}
-use Rattle.std.proofs.lemmas.Result.{IfOk-weaker}
-use Rattle.bag_text.specs.Order.{IsListOf}
-use Rattle.bag_facts.specs.FaultOrder.{fault_cmp}
-use Rattle.bag_stages.specs.CompletenessFaults.{IsUnlistedInAll}
-use Rattle.bag_walk.specs.Completeness.{IsAbove}
+use Rattle.bag_walk.proofs.Common.{option_copied, IfOk-weaker, IsListOf, fault_cmp, IsUnlistedInAll, IsAbove}
 use Rattle.bag_walk.proofs.StageSix.{algs_and_all}
 use Rattle.bag_walk.proofs.UnitedLists.{cut_above}
 use Rattle.bag_walk.proofs.completeness.of_files.Goals as goal

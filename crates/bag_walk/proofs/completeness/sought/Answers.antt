@@ -1,9 +1,4 @@
-use Rattle.std.specs.Option.{option_copied}
-use Rattle.std.proofs.lemmas.Result.{IfOk-weaker}
-use Rattle.bag_text.specs.Order.{IsListOf}
-use Rattle.bag_facts.specs.FaultOrder.{fault_cmp}
-use Rattle.bag_stages.specs.ClashStage.{IsSoughtClash}
-use Rattle.bag_walk.specs.Completeness.{IsAbove}
+use Rattle.bag_walk.proofs.Common.{option_copied, IfOk-weaker, IsListOf, fault_cmp, IsSoughtClash, IsAbove}
 use Rattle.bag_walk.proofs.StageSix.{all_sought}
 use Rattle.bag_walk.proofs.UnitedLists.{cut_above}
 use Rattle.bag_walk.proofs.completeness.sought.Goals as goal

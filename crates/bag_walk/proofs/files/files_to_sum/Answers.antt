@@ -1,9 +1,4 @@
-use Rattle.std.proofs.Common.{subst}
-use Rattle.std.specs.Option.{option_copied}
-use Rattle.bag_facts.specs.Wanted.{paths_of}
-use Rattle.bag_walk.specs.Files.{IsToSum}
-use Rattle.std.specs.List.Sorted.{IsStrictlySortedBy}
-use Rattle.bag_text.specs.Text.{text_cmp}
+use Rattle.bag_walk.proofs.Common.{subst, option_copied, paths_of, IsToSum, IsStrictlySortedBy, text_cmp}
 use Rattle.bag_walk.proofs.Chosen.{all_chosen, none_chosen, one_added, one_passed_over}
 use Rattle.bag_walk.proofs.files.files_to_sum.Goals as goal
 

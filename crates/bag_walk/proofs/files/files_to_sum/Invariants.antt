@@ -1,9 +1,5 @@
-use Rattle.std.proofs.Common.{◌≡◌, take}
-use Rattle.std.specs.Option.{option_copied}
-use Rattle.bag_tree.specs.Bag.{Bag}
-use Rattle.bag_facts.specs.Facts.{IsFactsOf}
+use Rattle.bag_walk.proofs.Common.{◌≡◌, take, option_copied, Bag, IsFactsOf, AreToSum}
 use Rattle.bag_facts.specs.declared.options.Depth.TheVariants as depth_of
-use Rattle.bag_walk.specs.Files.{AreToSum}
 use Rattle.bag_walk.proofs.files.files_to_sum.Given as goal
 
 abbrev pub invariant-loop-file : goal.invariant-loop-file

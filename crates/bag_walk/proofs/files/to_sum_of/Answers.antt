@@ -1,6 +1,4 @@
-use Rattle.std.proofs.Common.{◌≡◌, ◌≢◌, ◌∙◌, false, true, [], sym}
-use Rattle.std.specs.Option.{option_copied}
-use Rattle.bag_walk.specs.Validity.{is_passed}
+use Rattle.bag_walk.proofs.Common.{◌≡◌, ◌≢◌, ◌∙◌, false, true, [], sym, option_copied, is_passed}
 use Rattle.bag_walk.proofs.Chosen.{named_by, not_declaration, tells, unnamed_by}
 use Rattle.bag_walk.proofs.files.to_sum_of.Goals as goal
 

@@ -1,6 +1,4 @@
-use Rattle.std.proofs.Common.{◌+◌, length}
-use Rattle.std.specs.List.Sorted.{IsStrictlySortedBy}
-use Rattle.bag_facts.specs.FaultOrder.{fault_cmp}
+use Rattle.bag_walk.proofs.Common.{◌+◌, length, IsStrictlySortedBy, fault_cmp}
 use Rattle.bag_walk.proofs.UnitedLists.{HasTaken}
 use Rattle.bag_walk.proofs.fixed.both.Given as goal
 

@@ -1,4 +1,4 @@
-use Rattle.std.proofs.Common.{rules}
+use Rattle.bag_walk.proofs.Common.{rules}
 use Rattle.bag_walk.proofs.UnitedLists.{nothing_by_length, nothing_union, union_nothing}
 use Rattle.bag_walk.proofs.fixed.merged.Goals as goal
 

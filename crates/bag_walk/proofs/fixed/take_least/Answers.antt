@@ -1,7 +1,4 @@
-use Rattle.std.proofs.Common.{◌≡◌, ◌∙◌, sym}
-use Rattle.std.specs.declared.cmp.Ordering.TheVariants.{Less, Equal, Greater}
-use Rattle.bag_walk.specs.Merge.{fronts}
-use Rattle.bag_walk.specs.Source.{first_of}
+use Rattle.bag_walk.proofs.Common.{◌≡◌, ◌∙◌, sym, Less, Equal, Greater, fronts, first_of}
 use Rattle.bag_walk.proofs.UnitedLists.{front_is, popped_is, popped_rest, takes_equal, takes_greater, takes_less}
 use Rattle.bag_walk.proofs.fixed.take_least.Goals as goal
 

@@ -1,12 +1,4 @@
-use Rattle.std.proofs.Common.{◌≡◌, ◌∙◌, ap, drop, List, IsTrue, min, ◌-◌}
-use Rattle.bag_tree.specs.Bag.{Bag}
-use Rattle.bag_facts.specs.declared.fault.Fault.{Fault}
-use Rattle.bag_walk.specs.Ending.{limit_of}
-use Rattle.bag_walk.specs.Openings.{NoneWaits}
-use Rattle.bag_walk.specs.Source.{Sees}
-use Rattle.bag_walk.specs.Steps.{shown_by, to_give}
-use Rattle.bag_walk.specs.RunOpenings.{written_before}
-use Rattle.bag_walk.specs.Segment.{looked_past}
+use Rattle.bag_walk.proofs.Common.{◌≡◌, ◌∙◌, ap, drop, List, IsTrue, min, ◌-◌, Bag, Fault, limit_of, NoneWaits, Sees, shown_by, to_give, written_before, looked_past}
 use Rattle.bag_walk.proofs.Walked.{calmly, looked_before, stopped_run, stopped_when}
 use Rattle.bag_walk.proofs.runner.run_of_walk.Goals as goal
 

@@ -1,4 +1,4 @@
-use Rattle.bag_walk.specs.Segment.{StopsAt}
+use Rattle.bag_walk.proofs.Common.{StopsAt}
 use Rattle.bag_walk.proofs.Closed.{closes_at_end, closes_full, closes_unread, closes_unwritten, end_has_no_stop, told_by}
 use Rattle.bag_walk.proofs.segment.close_segment.Goals as goal
 

@@ -1,13 +1,5 @@
-use Rattle.std.proofs.Common.{◌≡◌, ◌++◌, ◌∙◌, ◌+◌, ◌-◌, ◌∷◌, ℕ, List, [], inl, inr, refl, sym, ap, subst, arith, append_assoc}
-use Rattle.std.proofs.lemmas.List.{length-append}
-use Rattle.std.specs.Io.KnownBytes.{Appends}
-use Rattle.std.specs.Option.{option_copied}
-use Rattle.bag_tree.proofs.Calm.{nothing_asked, nothing_then}
-use Rattle.bag_facts.proofs.Reading.{keeps_itself, keeps_on}
-use Rattle.bag_walk.specs.Write.{IsCut}
+use Rattle.bag_walk.proofs.Common.{◌≡◌, ◌++◌, ◌∙◌, ◌+◌, ◌-◌, ◌∷◌, ℕ, List, [], inl, inr, refl, sym, ap, subst, arith, append_assoc, length-append, Appends, option_copied, nothing_asked, nothing_then, keeps_itself, keeps_on, IsCut, rest_of, shown_by, to_give}
 use Rattle.bag_walk.proofs.Writing.{Appends-nil}
-use Rattle.bag_walk.specs.Source.{rest_of}
-use Rattle.bag_walk.specs.Steps.{shown_by, to_give}
 use Rattle.bag_walk.proofs.Filling.{some_opened}
 use Rattle.bag_walk.proofs.LastLines.{last_given}
 use Rattle.bag_walk.proofs.SegmentLines.{again_on, behind_now, ends_at_end, ends_unread, ends_unwritten, last_is, left_at, left_at_end, left_is, none_opened, once, one_line_more, opens_nothing, opens_on, sees_now, stops_now, waits_now}

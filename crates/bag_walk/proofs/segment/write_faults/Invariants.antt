@@ -1,5 +1,4 @@
-use Rattle.std.proofs.Common.{◌-◌, string_bytes}
-use Rattle.bag_walk.specs.Steps.{shown_by, to_give}
+use Rattle.bag_walk.proofs.Common.{◌-◌, string_bytes, shown_by, to_give}
 use Rattle.bag_walk.proofs.SegmentLines.{HasWritten}
 use Rattle.bag_walk.proofs.segment.write_faults.Given as goal
 

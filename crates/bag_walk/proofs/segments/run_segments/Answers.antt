@@ -1,10 +1,4 @@
-use Rattle.std.proofs.Common.{◌≡◌, ℕ, ◌+◌, ◌-◌, ◌∙◌, length, take, ap, sym, subst, arith, refl}
-use Rattle.std.specs.Option.{option_copied}
-use Rattle.std.proofs.lemmas.List.Sums.{sum_by-take-le, sum_by_more}
-use Rattle.bag_facts.proofs.Reading.{keeps_itself, keeps_on}
-use Rattle.bag_report.specs.Report.{IsReport}
-use Rattle.bag_walk.specs.SegmentOpenings.{AreListed}
-use Rattle.bag_walk.specs.Segments.{IsStopped, RunsOfSegments}
+use Rattle.bag_walk.proofs.Common.{◌≡◌, ℕ, ◌+◌, ◌-◌, ◌∙◌, length, take, ap, sym, subst, arith, refl, option_copied, sum_by-take-le, sum_by_more, keeps_itself, keeps_on, IsReport, AreListed, IsStopped, RunsOfSegments}
 use Rattle.bag_walk.proofs.SegmentSteps.{SoFar, all_segments, last_segment, last_is_no_stop, one_segment_more, so_far_none, stopped_at_last}
 use Rattle.bag_walk.proofs.segments.run_segments.Goals as goal
 

@@ -1,10 +1,4 @@
-use Rattle.std.proofs.Common.{◌≡◌, ◌≤◌, ◌-◌, List, length, take, IsTrue, string_bytes}
-use Rattle.std.specs.List.{sum}
-use Rattle.std.specs.Option.{option_copied}
-use Rattle.bag_tree.specs.Tree.{Keeps}
-use Rattle.bag_facts.specs.declared.fault.Fault.{Fault}
-use Rattle.bag_report.specs.Report.{IsReport}
-use Rattle.bag_walk.specs.Segments.{IsStopped}
+use Rattle.bag_walk.proofs.Common.{◌≡◌, ◌≤◌, ◌-◌, List, length, take, IsTrue, string_bytes, sum, option_copied, Keeps, Fault, IsReport, IsStopped}
 use Rattle.bag_walk.proofs.SegmentSteps.{SoFar}
 use Rattle.bag_walk.proofs.segments.run_segments.Given as goal
 

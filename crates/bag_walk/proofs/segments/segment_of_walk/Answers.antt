@@ -1,4 +1,4 @@
-use Rattle.std.proofs.Common.{IsTrue}
+use Rattle.bag_walk.proofs.Common.{IsTrue}
 use Rattle.bag_walk.proofs.Walked.{stops_segment, within_limit}
 use Rattle.bag_walk.proofs.segments.segment_of_walk.Goals as goal
 

@@ -1,9 +1,5 @@
-use Rattle.std.proofs.Common.{◌≡◌, ◌+◌, inr, refl, subst, arith, string_bytes}
-use Rattle.std.specs.Option.{option_copied}
-use Rattle.bag_tree.proofs.Calm.{nothing_asked}
+use Rattle.bag_walk.proofs.Common.{◌≡◌, ◌+◌, inr, refl, subst, arith, string_bytes, option_copied, nothing_asked, IsLastLine, cursor_behind}
 use Rattle.bag_facts.proofs.Opens.{opens_none as reads_none}
-use Rattle.bag_walk.specs.Lines.{IsLastLine}
-use Rattle.bag_walk.specs.Segments.{cursor_behind}
 use Rattle.bag_walk.proofs.Running.{memory_may_stop, stop_of_reading}
 use Rattle.bag_walk.proofs.SegmentOpenings.{opens_no_payload}
 use Rattle.bag_walk.proofs.SegmentStart.{goes_on, opens_behind, stop_of_started}

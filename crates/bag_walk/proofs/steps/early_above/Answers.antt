@@ -1,7 +1,4 @@
-use Rattle.std.proofs.Common.{◌≡◌, subst, arith}
-use Rattle.std.specs.Option.{option_copied}
-use Rattle.bag_report.specs.Report.{Check}
-use Rattle.bag_walk.specs.Start.{AreAheadBefore}
+use Rattle.bag_walk.proofs.Common.{◌≡◌, subst, arith, option_copied, Check, AreAheadBefore}
 use Rattle.bag_walk.proofs.Stages.{none_before, one_stage_more}
 use Rattle.bag_walk.proofs.steps.early_above.Goals as goal
 

@@ -1,7 +1,4 @@
-use Rattle.std.specs.Option.{option_copied}
-use Rattle.bag_tree.specs.Bag.{Bag}
-use Rattle.bag_facts.specs.Facts.{IsFactsOf}
-use Rattle.bag_walk.specs.Start.{AreAheadBefore}
+use Rattle.bag_walk.proofs.Common.{option_copied, Bag, IsFactsOf, AreAheadBefore}
 use Rattle.bag_walk.proofs.steps.early_above.Given as goal
 
 abbrev pub invariant-loop-stage : goal.invariant-loop-stage

@@ -1,7 +1,4 @@
-use Rattle.std.proofs.Common.{subst, sym}
-use Rattle.std.specs.Option.{option_copied}
-use Rattle.bag_report.specs.Report.{Check}
-use Rattle.bag_walk.specs.Completeness.{IsStageAbove}
+use Rattle.bag_walk.proofs.Common.{subst, sym, option_copied, Check, IsStageAbove}
 use Rattle.bag_walk.proofs.Stages.{stage_ahead}
 use Rattle.bag_walk.proofs.steps.stage_above.Goals as goal
 

@@ -1,8 +1,5 @@
-use Rattle.std.proofs.Common.{inl, inr, sym, ap, subst}
+use Rattle.bag_walk.proofs.Common.{inl, inr, sym, ap, subst, take_all, taken_cases, Expected}
 use Rattle.std.specs.Prelude.{Contains}
-use Rattle.std.proofs.lemmas.List.{take_all}
-use Rattle.bag_facts.proofs.Mapped.{taken_cases}
-use Rattle.bag_stages.specs.declared.expected.Expected.{Expected}
 use Rattle.bag_walk.proofs.to_sum.algs_of.Goals as goal
 
 pub loop-one-preserved : goal.loop-one-preserved

@@ -1,6 +1,5 @@
-use Rattle.std.proofs.Common.{take}
+use Rattle.bag_walk.proofs.Common.{take, Expected}
 use Rattle.std.specs.Prelude.{Contains}
-use Rattle.bag_stages.specs.declared.expected.Expected.{Expected}
 use Rattle.bag_walk.proofs.to_sum.algs_of.Given as goal
 
 abbrev pub invariant-loop-one : goal.invariant-loop-one

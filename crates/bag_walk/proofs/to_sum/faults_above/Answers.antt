@@ -1,8 +1,4 @@
-use Rattle.std.proofs.Common.{◌∙◌, List, ap, subst, sym}
-use Rattle.std.specs.Option.{option_copied}
-use Rattle.bag_stages.specs.SumFaults.{faults_of_bytes, AreSumsBy}
-use Rattle.bag_stages.specs.declared.expected.Expected.{Expected}
-use Rattle.bag_report.specs.Report.{above}
+use Rattle.bag_walk.proofs.Common.{◌∙◌, List, ap, subst, sym, option_copied, faults_of_bytes, AreSumsBy, Expected, above}
 use Rattle.bag_walk.proofs.to_sum.faults_above.Goals as goal
 
 pub returns : goal.returns

@@ -1,10 +1,5 @@
-use Rattle.std.proofs.Common.{◌∙◌, ◌∷◌, inr, sym, ap, subst}
+use Rattle.bag_walk.proofs.Common.{◌∙◌, ◌∷◌, inr, sym, ap, subst, option_copied, nothing_asked, IsRefusalOf, above, faults_at}
 use Rattle.std.specs.Prelude.{Contains}
-use Rattle.std.specs.Option.{option_copied}
-use Rattle.bag_tree.proofs.Calm.{nothing_asked}
-use Rattle.bag_facts.specs.Stops.{IsRefusalOf}
-use Rattle.bag_report.specs.Report.{above}
-use Rattle.bag_walk.specs.ToSum.{faults_at}
 use Rattle.bag_walk.proofs.Refusing.{anyway_of_memory, anyway_of_refusal, filling_of_memory, filling_of_refusal}
 use Rattle.bag_walk.proofs.Summing.{named_at}
 use Rattle.bag_walk.proofs.to_sum.faults_of_file.Goals as goal

@@ -1,10 +1,4 @@
-use Rattle.std.proofs.Common.{◌≡◌, ◌∙◌, ◌++◌, ap, [], inr, length, vec_len, sym, subst, arith}
-use Rattle.std.specs.Option.{option_copied}
-use Rattle.std.proofs.lemmas.Bool.{eqb-true}
-use Rattle.bag_tree.proofs.Calm.{nothing_then}
-use Rattle.bag_walk.specs.Shown.{none_is}
-use Rattle.bag_walk.specs.ToSum.{faults_of_files}
-use Rattle.bag_walk.specs.Validity.{AreFilesOf}
+use Rattle.bag_walk.proofs.Common.{◌≡◌, ◌∙◌, ◌++◌, ap, [], inr, length, vec_len, sym, subst, arith, option_copied, eqb-true, nothing_then, none_is, faults_of_files, AreFilesOf}
 use Rattle.bag_walk.proofs.Summing.{GoneThrough, behind_all, behind_here, found_here, files_behind, files_here, gone_on, no_length, anyway_here, reached_here, stop_here, waits_here}
 use Rattle.bag_walk.proofs.validity.next_faults.Goals as goal
 

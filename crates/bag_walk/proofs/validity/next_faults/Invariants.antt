@@ -1,5 +1,4 @@
-use Rattle.std.proofs.Common.{length}
-use Rattle.std.specs.Option.{option_copied}
+use Rattle.bag_walk.proofs.Common.{length, option_copied}
 use Rattle.bag_walk.proofs.Summing.{GoneThrough}
 use Rattle.bag_walk.proofs.validity.next_faults.Given as goal
 

@@ -1,5 +1,4 @@
-use Rattle.std.specs.Option.{option_copied}
-use Rattle.bag_report.specs.Report.{Check}
+use Rattle.bag_walk.proofs.Common.{option_copied, Check}
 use Rattle.bag_walk.proofs.StageSix.{part_of_report}
 use Rattle.bag_walk.proofs.completeness.Completeness.new.Goals as goal
 

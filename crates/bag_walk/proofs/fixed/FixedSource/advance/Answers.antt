@@ -1,6 +1,4 @@
-use Rattle.std.proofs.Common.{sym, subst}
-use Rattle.std.specs.List.Sorted.{IsStrictlySortedBy}
-use Rattle.bag_facts.specs.FaultOrder.{fault_cmp}
+use Rattle.bag_walk.proofs.Common.{sym, subst, IsStrictlySortedBy, fault_cmp}
 use Rattle.bag_walk.proofs.Rest.{rest_ascends}
 use Rattle.bag_walk.proofs.fixed.FixedSource.advance.Goals as goal
 

@@ -1,4 +1,4 @@
-use Rattle.std.proofs.Common.{refl}
+use Rattle.bag_walk.proofs.Common.{refl}
 use Rattle.bag_walk.proofs.Merging.{nothing_opened}
 use Rattle.bag_walk.proofs.fixed.FixedSource.fill.Goals as goal
 

@@ -1,5 +1,4 @@
-use Rattle.std.proofs.Common.{◌∙◌, ap}
-use Rattle.bag_walk.specs.Source.{rest_of}
+use Rattle.bag_walk.proofs.Common.{◌∙◌, ap, rest_of}
 use Rattle.bag_walk.proofs.Rest.{drop_rest}
 use Rattle.bag_walk.proofs.fixed.Queue.leave_first.Goals as goal
 

@@ -1,5 +1,4 @@
-use Rattle.std.proofs.Common.{IsSome, sym, subst}
-use Rattle.bag_walk.specs.Openings.{NoneBehind}
+use Rattle.bag_walk.proofs.Common.{IsSome, sym, subst, NoneBehind}
 use Rattle.bag_walk.proofs.Filling.{taken_first}
 use Rattle.bag_walk.proofs.fixed.ThenSource.advance.Goals as goal
 

@@ -1,7 +1,4 @@
-use Rattle.std.proofs.Common.{◌++◌, ◌∙◌, [], inl, inr, ap, sym, subst}
-use Rattle.std.proofs.lemmas.Result.{on_ok_weaker, on_err_weaker, IfErr-weaker}
-use Rattle.bag_tree.proofs.Calm.{nothing_then}
-use Rattle.bag_walk.specs.Openings.{Opens}
+use Rattle.bag_walk.proofs.Common.{◌++◌, ◌∙◌, [], inl, inr, ap, sym, subst, on_ok_weaker, on_err_weaker, IfErr-weaker, nothing_then, Opens}
 use Rattle.bag_walk.proofs.Filling.{again_both, again_within, opens_both, behind_both, behind_first, below_same, first_front, none_before, none_left, none_shown, opened_by, opens_within, reached_both, reached_front, sees_first, sees_later, sees_second, some_shown, stop_front, stop_later, anyway_front, anyway_in_turn, waits_first}
 use Rattle.bag_walk.proofs.Summing.{waits_found}
 use Rattle.bag_walk.proofs.fixed.ThenSource.fill.Goals as goal

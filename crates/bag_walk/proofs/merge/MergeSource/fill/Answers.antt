@@ -1,22 +1,10 @@
-use Rattle.std.proofs.Common.{◌≡◌, ◌∙◌, inl, true, false, sym, subst}
-use Rattle.bag_tree.proofs.Calm.{nothing_then}
-use Rattle.bag_walk.specs.Filled.{awaits_second}
-use Rattle.bag_walk.specs.Merge.{least_of, nothing_to_open, union}
-use Rattle.bag_walk.specs.Source.{first_of, Where}
-use Rattle.bag_walk.specs.Union.{first_of_union}
+use Rattle.bag_walk.proofs.Common.{arith, ◌≡◌, ◌∙◌, sym, subst, nothing_then, awaits_second, least_of, union, first_of, Where, first_of_union}
 use Rattle.bag_walk.proofs.Filling.{sees_later, stop_front, stop_later, anyway_front, anyway_later}
 use Rattle.bag_walk.proofs.Merging.{nothing_opened, opens_nothing, opens_nothing_again, quiet_again, quiet_opens, quiet_stop, sees_one, sees_other}
 use Rattle.bag_walk.proofs.merge.MergeSource.fill.Goals as goal
 
 pub returns-in-Err-clause-again : goal.returns-in-Err-clause-again
-returns-in-Err-clause-again g c = λ quiet.
-    let state = g.T.Tree.state in
-    let self = c.args.self.now in
-    let first = c.fill_unless.new.source in
-    opens_nothing_again (state c.args.tree.now) (state c.fill_unless.new.tree) _ _
-    (nothing_to_open (awaits_second self.filled) (g.A.Source.todo self.first) (g.B.Source.todo self.second) (quiet.2 self.first) (quiet.3 self.second))
-    (nothing_to_open false (g.A.Source.todo first) (g.B.Source.todo self.second) (quiet.2 first) (quiet.3 self.second))
-    (c.fill_unless.ensures.quiet quiet.0 (quiet.2 self.first))
+returns-in-Err-clause-again g c = λ quiet. grind (arith, opens_nothing_again)
 
 pub returns-in-Err-clause-same : goal.returns-in-Err-clause-same
 returns-in-Err-clause-same g c = λ bag h sees.
@@ -39,23 +27,10 @@ returns-in-Err-clause-stop g c = λ of.
     (c.in-Err.ensures.stop (λ honest. (of honest).0))
 
 pub returns-in-Ok-fill-clause-opens : goal.returns-in-Ok-fill-clause-opens
-returns-in-Ok-fill-clause-opens g c = λ quiet.
-    let state = g.T.Tree.state in
-    let self = c.args.self.now in
-    let first = c.fill_unless.new.source in
-    let second = c.fill.new.self in
-    let one = c.fill_unless.ensures.quiet quiet.0 (quiet.2 self.first) in
-    let two = quiet_opens (state c.fill_unless.new.tree) (state c.fill.new.tree) (g.B.Source.todo self.second) (g.B.Source.todo second) (quiet.3 self.second) (c.in-Ok-fill.ensures.opens quiet.1) in
-    opens_nothing (state c.args.tree.now) (state c.fill.new.tree) _ _
-    (nothing_to_open (awaits_second self.filled) (g.A.Source.todo self.first) (g.B.Source.todo self.second) (quiet.2 self.first) (quiet.3 self.second))
-    (nothing_to_open false (g.A.Source.todo first) (g.B.Source.todo second) (quiet.2 first) (quiet.3 second))
-    (two ∙ one)
+returns-in-Ok-fill-clause-opens g c = λ quiet. grind (arith, quiet_opens, opens_nothing)
 
 pub returns-in-Ok-fill-clause-ended : goal.returns-in-Ok-fill-clause-ended
-returns-in-Ok-fill-clause-ended g c = λ quiet none.
-    let first = c.fill_unless.new.source in
-    let second = c.fill.new.self in
-    nothing_to_open false (g.A.Source.todo first) (g.B.Source.todo second) (quiet.2 first) (quiet.3 second)
+returns-in-Ok-fill-clause-ended g c = λ quiet none. grind arith
 
 pub returns-in-Ok-fill-clause-same : goal.returns-in-Ok-fill-clause-same
 returns-in-Ok-fill-clause-same g c = λ bag h sees.
@@ -96,17 +71,7 @@ returns-in-Ok-fill-clause-behind g c = λ quiet bag h sees.
     nothing_opened (union (g.A.Source.remaining bag self.first) (g.B.Source.remaining bag self.second)) (state c.args.tree.now) (state c.fill.new.tree) (two ∙ one)
 
 pub returns-in-Err-fill-clause-again : goal.returns-in-Err-fill-clause-again
-returns-in-Err-fill-clause-again g c = λ quiet.
-    let state = g.T.Tree.state in
-    let self = c.args.self.now in
-    let first = c.fill_unless.new.source in
-    let second = c.fill.new.self in
-    let one = c.fill_unless.ensures.quiet quiet.0 (quiet.2 self.first) in
-    let two = quiet_again (state c.fill_unless.new.tree) (state c.fill.new.tree) (g.B.Source.todo self.second) (g.B.Source.todo second) (quiet.3 self.second) (c.in-Err-fill.ensures.again quiet.1) in
-    opens_nothing_again (state c.args.tree.now) (state c.fill.new.tree) _ _
-    (nothing_to_open (awaits_second self.filled) (g.A.Source.todo self.first) (g.B.Source.todo self.second) (quiet.2 self.first) (quiet.3 self.second))
-    (nothing_to_open true (g.A.Source.todo first) (g.B.Source.todo second) (quiet.2 first) (quiet.3 second))
-    (two ∙ one)
+returns-in-Err-fill-clause-again g c = λ quiet. grind (arith, quiet_again, opens_nothing_again)
 
 pub returns-in-Err-fill-clause-same : goal.returns-in-Err-fill-clause-same
 returns-in-Err-fill-clause-same g c = λ bag h sees.
@@ -142,44 +107,22 @@ returns-in-Err-fill-clause-stop g c = λ of.
     (c.in-Err-fill.ensures.stop (λ honest. subst (λ bag. g.B.Source.is_of bag second) (sym c.fill_unless.ensures.keeps.bag) (of (sym c.fill_unless.ensures.keeps.honest ∙ honest)).1)))
 
 pub returns-in-Err-clause-anyway : goal.returns-in-Err-clause-anyway
-returns-in-Err-clause-anyway g c =
-    let state = g.T.Tree.state in
-    anyway_front (state c.args.tree.now) (state c.fill_unless.new.tree) (g.A.Source.todo c.fill_unless.new.source) (g.B.Source.todo c.args.self.now.second) c.in-Err.stop c.in-Err.ensures.anyway
+returns-in-Err-clause-anyway g c = grind (arith, anyway_front)
 
 pub returns-in-Err-fill-clause-anyway : goal.returns-in-Err-fill-clause-anyway
-returns-in-Err-fill-clause-anyway g c =
-    let state = g.T.Tree.state in
-    let old = state c.args.tree.now in
-    let new = state c.fill.new.tree in
-    let stop = c.in-Err-fill.stop in
-    anyway_front old new (g.B.Source.todo c.fill.new.self) (g.A.Source.todo c.fill_unless.new.source) stop
-    (anyway_later old (state c.fill_unless.new.tree) new (g.B.Source.todo c.fill.new.self) stop c.fill_unless.ensures.keeps c.in-Ok.ensures.calm c.in-Err-fill.ensures.anyway)
+returns-in-Err-fill-clause-anyway g c = grind (arith, anyway_front, anyway_later)
 
 pub returns-in-Err-clause-reached : goal.returns-in-Err-clause-reached
-returns-in-Err-clause-reached g c = λ quiet.
-    let state = g.T.Tree.state in
-    let first = c.fill_unless.new.source in
-    inl (quiet_stop (state c.args.tree.now) (state c.fill_unless.new.tree) (g.A.Source.todo first) c.in-Err.stop (quiet.2 first) c.in-Err.ensures.anyway)
+returns-in-Err-clause-reached g c = λ quiet. grind (arith, quiet_stop)
 
 pub returns-in-Err-fill-clause-reached : goal.returns-in-Err-fill-clause-reached
-returns-in-Err-fill-clause-reached g c = λ quiet.
-    let state = g.T.Tree.state in
-    let second = c.fill.new.self in
-    inl (quiet_stop (state c.fill_unless.new.tree) (state c.fill.new.tree) (g.B.Source.todo second) c.in-Err-fill.stop (quiet.3 second) c.in-Err-fill.ensures.anyway)
+returns-in-Err-fill-clause-reached g c = λ quiet. grind (arith, quiet_stop)
 
 pub returns-in-Err-clause-waits : goal.returns-in-Err-clause-waits
-returns-in-Err-clause-waits g c = λ quiet bag h sees some.
-    let state = g.T.Tree.state in
-    let first = c.fill_unless.new.source in
-    absurd (some (quiet_stop (state c.args.tree.now) (state c.fill_unless.new.tree) (g.A.Source.todo first) c.in-Err.stop (quiet.2 first) c.in-Err.ensures.anyway).1)
+returns-in-Err-clause-waits g c = λ quiet bag h sees some. grind (arith, quiet_stop)
 
 pub returns-in-Err-fill-clause-waits : goal.returns-in-Err-fill-clause-waits
-returns-in-Err-fill-clause-waits g c = λ quiet bag h sees some.
-    let state = g.T.Tree.state in
-    let second = c.fill.new.self in
-    absurd (some (quiet_stop (state c.fill_unless.new.tree) (state c.fill.new.tree) (g.B.Source.todo second) c.in-Err-fill.stop (quiet.3 second) c.in-Err-fill.ensures.anyway).1)
+returns-in-Err-fill-clause-waits g c = λ quiet bag h sees some. grind (arith, quiet_stop)
 
 pub returns-in-Ok-fill-clause-calm : goal.returns-in-Ok-fill-clause-calm
-returns-in-Ok-fill-clause-calm g c =
-    let state = g.T.Tree.state in
-    nothing_then (state c.args.tree.now) (state c.fill_unless.new.tree) (state c.fill.new.tree) c.in-Ok.ensures.calm c.in-Ok-fill.ensures.calm
+returns-in-Ok-fill-clause-calm g c = grind (arith, nothing_then)

@@ -1,4 +1,4 @@
-use Rattle.std.proofs.Common.{◌++◌, sym, ap, codes, ◌∙◌}
+use Rattle.bag_walk.proofs.Common.{◌++◌, sym, ap, codes, ◌∙◌}
 use Rattle.bag_walk.proofs.LastLines.{read_cursor}
 use Rattle.bag_walk.proofs.segment.Lines.last_fault.Goals as goal
 

@@ -1,5 +1,4 @@
-use Rattle.std.proofs.Common.{subst, sym}
-use Rattle.bag_walk.specs.Steps.{left, shown, StandsAt}
+use Rattle.bag_walk.proofs.Common.{subst, sym, left, shown, StandsAt}
 use Rattle.bag_walk.proofs.Positions.{gives, still_wait, wait_again}
 use Rattle.bag_walk.proofs.steps.Steps.go_on.Goals as goal
 

@@ -1,7 +1,7 @@
 -- `next` goes on, and lends what is shown for all the time that its own loan has left. The result owns memory, so the borrow
 -- checker has no part in it: the walk is lent to `go_on` and comes back, is then shared until the loan ends, and its last value
 -- is known at once. Assumes `Logic`.
-use Rattle.std.proofs.Common.{◌≡◌, ◌++◌, ℕ, List, [], ◌∷◌, refl, subst, sym}
+use Rattle.bag_walk.proofs.Common.{◌≡◌, ◌++◌, ℕ, List, [], ◌∷◌, refl, subst, sym, ⊤, IfOk, option_copied, left, shown, shown_by, went, LendsNext}
 use Rattle.std.proofs.raw_atomic.Walks.{proved}
 use base.Fraction.{full_share}
 use base.Share
@@ -45,13 +45,11 @@ use Rattle.bag_tree.specs.declared.tree.Tree as V
 use mathlib.Core.Option.{none}
 use seplogic.Ra.Ura.{Ura}
 use denote.Follow.{follows_by, follows_so, such_by}
-use Rattle.std.specs.Prelude.{⊤, IfOk}
-use Rattle.std.specs.Option.{option_copied}
 use Rattle.std.specs.contracts.option.Option.{the_row as option}
 use Rattle.std.proofs.option.Option.TheLaws.{the_row_laws as option_laws}
 use Rattle.bag_facts.specs.contracts.fault.Fault.{the_row as fault_row}
 use Rattle.bag_facts.proofs.fault.Fault.TheLaws.{the_row_laws as fault_laws}
-use Rattle.bag_walk.specs.Steps.{left, shown, shown_by, went, GoesOn, LendsNext}
+use Rattle.bag_walk.specs.Steps.{GoesOn}
 use Rattle.bag_walk.proofs.Lending.{lends_next, stops_there}
 use Rattle.std.specs.contracts.result.Result.{the_row as result}
 use Rattle.std.proofs.result.Result.TheLaws.{the_row_laws as result_laws}

@@ -1,6 +1,4 @@
-use Rattle.std.proofs.Common.{subst}
-use Rattle.bag_walk.specs.Openings.{NoneWaits, OpensNoneBehind}
-use Rattle.bag_walk.specs.Source.{Sees}
+use Rattle.bag_walk.proofs.Common.{arith, subst, NoneWaits, OpensNoneBehind, Sees}
 use Rattle.bag_walk.proofs.steps.Steps.step.Goals as goal
 
 pub returns-in-Ok-clause-behind : goal.returns-in-Ok-clause-behind
@@ -22,16 +20,13 @@ returns-in-Err-clause-behind g c = λ bag h sees.
     (c.fill.ensures.behind g.met.S.InOrder.is_in_order bag left.0 seen))
 
 pub returns-in-Ok-clause-opens : goal.returns-in-Ok-clause-opens
-returns-in-Ok-clause-opens g c =
-    rw (c.leave.ensures.tree, c.leave.ensures.todo) at (c.in-Ok.ensures.opens g.met.S.InOrder.is_in_order)
+returns-in-Ok-clause-opens g c = grind arith
 
 pub returns-in-Err-clause-again : goal.returns-in-Err-clause-again
-returns-in-Err-clause-again g c =
-    rw (c.leave.ensures.tree, c.leave.ensures.todo) at (c.in-Err.ensures.again g.met.S.InOrder.is_in_order)
+returns-in-Err-clause-again g c = grind arith
 
 pub returns-in-Err-clause-reached : goal.returns-in-Err-clause-reached
-returns-in-Err-clause-reached g c =
-    rw (c.leave.ensures.tree, c.leave.ensures.todo) at (c.in-Err.ensures.reached g.met.S.InOrder.is_in_order)
+returns-in-Err-clause-reached g c = rw (c.leave.ensures.tree, c.leave.ensures.todo) at (c.in-Err.ensures.reached g.met.S.InOrder.is_in_order)
 
 pub returns-in-Err-clause-waits : goal.returns-in-Err-clause-waits
 returns-in-Err-clause-waits g c = λ bag h sees.

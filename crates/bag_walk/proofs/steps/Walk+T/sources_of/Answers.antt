@@ -1,9 +1,4 @@
-use Rattle.std.proofs.Common.{◌++◌, ◌≡◌, ◌≢◌, List, [], Option, refl, append-nil}
-use Rattle.std.specs.Option.{option_copied}
-use Rattle.bag_facts.specs.declared.fault.Fault.{Fault}
-use Rattle.bag_facts.specs.declared.options.Depth.TheVariants.{Full}
-use Rattle.bag_report.specs.Report.{Check}
-use Rattle.bag_walk.specs.ToSum.{faults_of_files, paths_to_sum}
+use Rattle.bag_walk.proofs.Common.{◌++◌, ◌≡◌, ◌≢◌, List, [], Option, refl, append-nil, option_copied, Fault, Full, Check, faults_of_files, paths_to_sum}
 use Rattle.bag_walk.proofs.Sources.{seventh, to_open}
 use Rattle.bag_walk.proofs.Stages.{all_joined, complete_below, early_below, late_behind, none_to_open, sums_below}
 use Rattle.bag_walk.proofs.steps.Walk+T.sources_of.Goals as goal

@@ -1,5 +1,4 @@
-use Rattle.std.proofs.Common.{◌∙◌}
-use Rattle.std.specs.Option.{option_copied}
+use Rattle.bag_walk.proofs.Common.{◌∙◌, option_copied}
 use Rattle.bag_walk.proofs.Chosen.{chosen_faults, chosen_is_of, chosen_todo}
 use Rattle.bag_walk.proofs.validity.Validity.new.Goals as goal
 

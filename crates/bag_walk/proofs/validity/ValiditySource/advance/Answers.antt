@@ -1,8 +1,4 @@
-use Rattle.std.proofs.Common.{◌≡◌, ◌∙◌, ◌++◌, sym, ap, subst}
-use Rattle.std.specs.List.Sorted.{IsStrictlySortedBy}
-use Rattle.bag_facts.specs.FaultOrder.{fault_cmp}
-use Rattle.bag_walk.specs.Source.{rest_of}
-use Rattle.bag_walk.specs.ToSum.{faults_of_files}
+use Rattle.bag_walk.proofs.Common.{◌≡◌, ◌∙◌, ◌++◌, sym, ap, subst, IsStrictlySortedBy, fault_cmp, rest_of, faults_of_files}
 use Rattle.bag_walk.proofs.Rest.{rest_ascends}
 use Rattle.bag_walk.proofs.Summing.{rest_front}
 use Rattle.bag_walk.proofs.validity.ValiditySource.advance.Goals as goal

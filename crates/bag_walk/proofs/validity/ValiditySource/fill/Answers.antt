@@ -1,7 +1,4 @@
-use Rattle.std.proofs.Common.{◌≡◌, ◌++◌, ◌∙◌, Option, ap, subst}
-use Rattle.bag_facts.specs.declared.fault.Fault.{Fault}
-use Rattle.bag_walk.specs.Openings.{NoneWaits, OpensNoneBehind}
-use Rattle.bag_walk.specs.ToSum.{faults_of_files}
+use Rattle.bag_walk.proofs.Common.{◌≡◌, ◌++◌, ◌∙◌, Option, ap, subst, Fault, NoneWaits, OpensNoneBehind, faults_of_files}
 use Rattle.bag_walk.proofs.Summing.{behind_found, refilled, refused, waits_found}
 use Rattle.bag_walk.proofs.validity.ValiditySource.fill.Goals as goal
 

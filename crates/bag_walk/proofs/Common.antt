@@ -1,0 +1,104 @@
+-- The names that this crate's proofs cite, passed on from one place. Declares nothing.
+pub use Rattle.std.proofs.Common.{Bool, Contains, IsSome, IsTrue, List, None, Option, Some, [], add-one, ap, append-nil, append_assoc, arith, codes, cond, drop, false, filter, get_or, inl, inr, is_some, length, length-drop, map, min, nat_le, nat_lt, not, refl, rules, slice_get, string_bytes, subst, suc, sym, take, take-append-drop, true, true≢false, unwrap_or, vec_len, zero, ℕ, ◌&&◌, ◌*◌, ◌++◌, ◌+◌, ◌-◌, ◌<◌, ◌==◌, ◌||◌, ◌∙◌, ◌∷◌, ◌≡◌, ◌≢◌, ◌≤◌, ◌⊎◌}
+pub use Rattle.std.proofs.Math.Seq.{take-append-add, take-append_seam}
+pub use Rattle.std.proofs.lemmas.Bool.{and_parts, and_right, eq-eqb, eqb-true, lt-ltb, ltb-true, or_left, or_parts, or_right}
+pub use Rattle.std.proofs.lemmas.Bool.Decides.{nat_tests}
+pub use Rattle.std.proofs.lemmas.Grind.{common_steps}
+pub use Rattle.std.proofs.lemmas.List.{append_cancel_left, drop_all, drop_more, get_or_default, length-append, length-map, map-append, take-map, take_all}
+pub use Rattle.std.proofs.lemmas.List.Elements.{All-append, All-filter, All-nil, filter-append}
+pub use Rattle.std.proofs.lemmas.List.Kept.{IsStrictlySortedBy-filter}
+pub use Rattle.std.proofs.lemmas.List.Sums.{sum_by-cons, sum_by-take-le, sum_by_more}
+pub use Rattle.std.proofs.lemmas.Result.{IfErr-weaker, IfOk-weaker, MatchResult-weaker, err_from_is_err_and, on_err_weaker, on_ok_weaker}
+pub use Rattle.std.specs.Borrow.{Bor}
+pub use Rattle.std.specs.Cmp.{IsTotalOrder, nat_cmp_is}
+pub use Rattle.std.specs.Cmp.Lexicographic.{nat_list_cmp_total}
+pub use Rattle.std.specs.Io.KnownBytes.{Appends}
+pub use Rattle.std.specs.List.{All, AllByRecursion, concat, cons_option, sum}
+pub use Rattle.std.specs.List.Sorted.{IsStrictlySortedBy}
+pub use Rattle.std.specs.Option.{option_copied, option_to_list}
+pub use Rattle.std.specs.Ordering.{is_gt, is_lt, nat_cmp, ordering_reverse, ordering_then}
+pub use Rattle.std.specs.Prelude.{Err, IfErr, IfOk, MatchResult, Ok, OnErr, OnOk, Result, filter_map, flat_map, if◌then◌else◌, ⊤}
+pub use Rattle.std.specs.declared.cmp.Ordering.{Ordering}
+pub use Rattle.std.specs.declared.cmp.Ordering.TheVariants.{Equal, Greater, Less}
+pub use Rattle.bag_facts.proofs.Ascending.{not_both, not_less_than_itself}
+pub use Rattle.bag_facts.proofs.Mapped.{kept, mapped_contains, take_one_more, taken_cases}
+pub use Rattle.bag_facts.proofs.Opens.{all_along, front_ascends, opens_all_first}
+pub use Rattle.bag_facts.proofs.Ordered.{fault_cmp_total}
+pub use Rattle.bag_facts.proofs.Reading.{keeps_itself, keeps_on, later_refusal}
+pub use Rattle.bag_facts.proofs.Refusing.{came_from, has_entry, path_some, refused_file, told_memory}
+pub use Rattle.bag_facts.specs.Facts.{IsFactsOf, OfBag}
+pub use Rattle.bag_facts.specs.FaultLine.{IsLineOf, field}
+pub use Rattle.bag_facts.specs.FaultOrder.{fault_cmp}
+pub use Rattle.bag_facts.specs.Options.{reaches}
+pub use Rattle.bag_facts.specs.Stops.{IsOutOfMemory, IsRefusalOf, MayRefuseFacts, MayStopReading}
+pub use Rattle.bag_facts.specs.Wanted.{AreWanted, ForListing, IsWanted, OpensAll, OpensUpTo, OpensWanted, paths_of}
+pub use Rattle.bag_facts.specs.declared.facts.Facts.{Facts}
+pub use Rattle.bag_facts.specs.declared.fault.Fault.{Fault}
+pub use Rattle.bag_facts.specs.declared.options.Depth.{Depth}
+pub use Rattle.bag_facts.specs.declared.options.Depth.TheVariants.{Complete, Declaration, Fast, Full}
+pub use Rattle.bag_facts.specs.declared.options.Options.{Options}
+pub use Rattle.bag_profile.specs.Profile.{Profile}
+pub use Rattle.bag_read.specs.declared.kind.Kind.TheVariants.{Payload, Tag}
+pub use Rattle.bag_report.proofs.Asked.{asked_at_full, asked_clash, asked_is_reached, not_reached, reads_more, seven_not_reached}
+pub use Rattle.bag_report.proofs.Filtered.{filtered_list}
+pub use Rattle.bag_report.proofs.Found.{is_of_completeness, is_of_validity, of_completeness, of_validity}
+pub use Rattle.bag_report.specs.Report.{Check, IsReport, IsReported, IsStageOf, above, first, is_above}
+pub use Rattle.bag_stages.proofs.ByItem.{OfSome, before_next, of_last_or_before, of_one_more}
+pub use Rattle.bag_stages.proofs.InFile.{less_by_path}
+pub use Rattle.bag_stages.proofs.NamesByKind.{names_by_kind}
+pub use Rattle.bag_stages.proofs.ValidityFaults.{validity_of_stage_seven}
+pub use Rattle.bag_stages.specs.ClashStage.{IsSoughtClash}
+pub use Rattle.bag_stages.specs.CompletenessFaults.{IsIncomplete, IsMissing, IsUnlistedFile, IsUnlistedInAll, IsWrong}
+pub use Rattle.bag_stages.specs.SumFaults.{AreSumsBy, differing, differing_code, faults_of_bytes, sum_differs}
+pub use Rattle.bag_stages.specs.SummedFiles.{IsNamed, IsSummed}
+pub use Rattle.bag_stages.specs.TagFiles.{Names, named_in}
+pub use Rattle.bag_stages.specs.ValidityStage.{IsFaultOfFile, IsOfValidity}
+pub use Rattle.bag_stages.specs.declared.expected.Expected.{Expected}
+pub use Rattle.bag_text.proofs.ListOf.{contains_back, contains_behind, contains_cases, contains_either, contains_first, contains_front, contains_nothing, each_from_members, joined, member_has, nothing_listed, one_list, one_listed, same_lists, same_members}
+pub use Rattle.bag_text.specs.Alg.{algs, rank_or_zero}
+pub use Rattle.bag_text.specs.Code.{number, stage}
+pub use Rattle.bag_text.specs.Order.{IsListOf}
+pub use Rattle.bag_text.specs.Path.{is_base_name, is_path, is_payload_path}
+pub use Rattle.bag_text.specs.Text.{text_cmp}
+pub use Rattle.bag_text.specs.declared.code.Code.{Code}
+pub use Rattle.bag_text.specs.declared.code.Code.TheVariants.{NameClash, NoDeclaration, NoOxum}
+pub use Rattle.bag_tree.proofs.Calm.{memory_then, nothing_asked, nothing_then}
+pub use Rattle.bag_tree.specs.Bag.{Bag, HasFile, IsBag, file, has_file}
+pub use Rattle.bag_tree.specs.Calm.{MayTellMemory, RefusesNothing}
+pub use Rattle.bag_tree.specs.Out.{OutState}
+pub use Rattle.bag_tree.specs.Tree.{IsEntryOf, Keeps, OpensAtMost, TreeState}
+pub use Rattle.bag_tree.specs.Whole.{IsRefusedAt, MayRefuseWhole}
+pub use Rattle.bag_tree.specs.declared.listing.FileEntry.{FileEntry}
+pub use Rattle.bag_tree.specs.declared.tree_fault.Stop.{Stop}
+pub use Rattle.bag_tree.specs.declared.tree_fault.TreeFault.{TreeFault}
+pub use Rattle.bag_tree.specs.declared.tree_fault.TreeFault.TheVariants.{Changed, Device, Exists, Memory, Name, NoneOpen, NotFound, Special, TooMany}
+pub use Rattle.bag_walk.specs.Closing.{closing, count_of}
+pub use Rattle.bag_walk.specs.Completeness.{IsAbove, IsOfAlg, IsOfSomeAlg, IsSoughtAbove, IsStageAbove, TakesLeast}
+pub use Rattle.bag_walk.specs.Ending.{IsAnswered, IsCutAt, MayEnd, ReachesEnd, Wrote, ended, ideal, limit_of, lines_of_run, written, written_line}
+pub use Rattle.bag_walk.specs.Files.{AreToSum, IsNamedAhead, IsToSum, TellsItsFaults}
+pub use Rattle.bag_walk.specs.Filled.{awaits_second, is_both}
+pub use Rattle.bag_walk.specs.Lines.{IsLastLine, IsLastOf}
+pub use Rattle.bag_walk.specs.Merge.{fronts, least_of, union, union_is}
+pub use Rattle.bag_walk.specs.Openings.{IsBeforeFile, IsReached, NoneBehind, NoneWaits, Opens, OpensAgain, OpensNoneBehind, StillWait}
+pub use Rattle.bag_walk.specs.Run.{AreFirst, EndsAt, IsAsked, IsRun, IsRunByReport, SeesOneBag, check_of}
+pub use Rattle.bag_walk.specs.RunOpenings.{AreEarly, IsListed, LooksNoFurther, OpensInRun, OpensInTurn, OpensListed, OpensNonePassed, OpensUpToSummed, StopsInTurn, written_before}
+pub use Rattle.bag_walk.specs.Segment.{ClosesSegment, EndsSegment, IfUnread, IsRead, IsSegment, MayStopRun, MayStopWalk, StopsAt, StopsWalk, WritesCalmly, WroteFirst, looked_past, still_to_come}
+pub use Rattle.bag_walk.specs.SegmentOpenings.{AreListed, EachBagHasListedFiles, IsListedFile, NoneBehindLast, OpensFew, OpensInSegment, not_passed}
+pub use Rattle.bag_walk.specs.Segments.{AreSegments, GoesOn, IsStopped, MayLose, RunsOfSegments, SegmentsFrom, SegmentsJoin, WroteSegments, cost, cursor_behind, is_last, outcome_at}
+pub use Rattle.bag_walk.specs.Shown.{front_is, none_is}
+pub use Rattle.bag_walk.specs.Source.{AllBelow, MayRefuseAnyway, MayStopAnyway, MayStopFilling, Sees, Where, first_of, rest_of}
+pub use Rattle.bag_walk.specs.Start.{AreAheadBefore, IsListedToOpen, IsStarted, IsToOpen}
+pub use Rattle.bag_walk.specs.Steps.{Gives, IsAhead, IsNextOf, LendsNext, MayStopStep, StandsAt, left, shown, shown_by, to_give, went}
+pub use Rattle.bag_walk.specs.Stops.{IfStopped, MayStop}
+pub use Rattle.bag_walk.specs.ToSum.{faults_at, faults_in, faults_of_files, paths_to_sum}
+pub use Rattle.bag_walk.specs.Union.{first_of_union, rest_alone, rest_equal, rest_greater, rest_less, rest_other}
+pub use Rattle.bag_walk.specs.Validity.{AreFilesOf, IsOfBag, is_passed}
+pub use Rattle.bag_walk.specs.Write.{IsCut, IsTaken, Writes, text_of}
+pub use Rattle.bag_walk.specs.Writer.{Closes, WritesReport}
+pub use Rattle.bag_walk.specs.declared.outcome.Outcome.{Outcome}
+pub use Rattle.bag_walk.specs.declared.outcome.Outcome.TheVariants.{Clean, Faults, Rest, Stopped, Unread, Unwritten}
+pub use Rattle.bag_walk.specs.declared.outcome.Request.{Request}
+pub use Rattle.bag_walk.specs.declared.segment.Segment.{Segment}
+pub use Rattle.bag_walk.specs.declared.segment.SegmentEnd.{SegmentEnd}
+pub use Rattle.bag_walk.specs.declared.segment.SegmentEnd.TheVariants.{AtEnd}
+pub use Rattle.bag_walk.specs.declared.to_sum.ToSum.{ToSum}
