@@ -1,25 +1,6 @@
 -- What lists have: the files of a bag and its manifests, and a set for each kind, algorithm and tag file.
-use Rattle.std.proofs.Common.{◌≡◌, ◌⊎◌, inl, inr, ℕ, List, [], ◌∷◌, length, take, ◌-◌, Bool, true, false, refl, sym, ◌∙◌, subst, arith, Contains, bytes_eq}
-use Rattle.std.specs.Cmp.{eq_by_cmp_equiv}
-use Rattle.std.specs.Cmp.Lexicographic.{nat_list_cmp_total}
-use Rattle.std.specs.FinMap.{keys, contains_key-keys}
-use Rattle.std.proofs.lemmas.Map.Views.{Contains-from_any, list_any-from_Contains}
-use Rattle.std.proofs.lemmas.Slice.Eq.{bytes_eq-Decides}
-use Rattle.bag_text.specs.Alg.{algs}
-use Rattle.bag_text.specs.Text.{without_prefix}
-use Rattle.bag_text.specs.declared.alg.Alg.{Alg}
-use Rattle.bag_text.proofs.AlgSets.{each_is_listed}
-use Rattle.bag_read.specs.ManifestName.{prefix, manifest_name, is_alg_text, is_manifest_name}
-use Rattle.bag_read.specs.declared.kind.Kind.{Kind}
-use Rattle.bag_read.specs.declared.kind.Kind.TheVariants.{Payload, Tag}
-use Rattle.bag_read.specs.declared.tag_name.TagName.{TagName}
-use Rattle.bag_read.specs.declared.tag_name.TagName.TheVariants.{Declaration, Info, Fetch, Manifest}
-use Rattle.bag_read.proofs.ManifestName.{IsManifestName, named_is}
-use Rattle.bag_read.proofs.PickedOut.{both_true}
-use Rattle.bag_tree.specs.Bag.{Bag, HasFile}
-use Rattle.bag_tree.proofs.SameText.{one_text}
-use Rattle.bag_stages.specs.HasList.{HasList}
-use Rattle.bag_stages.specs.TagFiles.{HasManifest}
+use Rattle.bag_stages.proofs.Common.{◌≡◌, ◌⊎◌, inl, inr, ℕ, List, [], ◌∷◌, length, take, ◌-◌, Bool, true, false, refl, sym, ◌∙◌, subst, arith, Contains, bytes_eq, eq_by_cmp_equiv, nat_list_cmp_total, keys, contains_key-keys, Contains-from_any, list_any-from_Contains, bytes_eq-Decides, algs, without_prefix, Alg, each_is_listed, prefix, manifest_name, is_alg_text, is_manifest_name, Kind, Payload, Tag, TagName, Info, Fetch, IsManifestName, named_is, both_true, Bag, HasFile, one_text, HasList, HasManifest}
+use Rattle.bag_read.specs.declared.tag_name.TagName.TheVariants.{Declaration, Manifest}
 use Rattle.bag_stages.proofs.HasLists.{Decided, nothing, one_where, only, same_set, some_decided, either, for_each, for_all}
 use Rattle.bag_stages.proofs.PartFaults.{one_alg}
 

@@ -1,13 +1,6 @@
 -- Faults that are found item by item, of items in an order.
-use Rattle.std.proofs.Common.{◌≡◌, ◌<◌, zero, suc, ◌⊎◌, inl, inr, ◌+◌, ◌++◌, ◌∷◌, ℕ, List, [], length, take, get_or, sym, subst, arith, Contains}
+use Rattle.bag_stages.proofs.Common.{◌≡◌, ◌<◌, zero, suc, ◌⊎◌, inl, inr, ◌+◌, ◌++◌, ◌∷◌, ℕ, List, [], length, take, get_or, sym, subst, arith, Contains, Ordering, Less, IsListOf, contains_cases, contains_first, contains_nothing, contains_front, contains_back, contains_either, joined, member_has, nothing_listed, same_members, Fault, fault_cmp, take_one_more}
 use Rattle.std.specs.List.Sorted.{IsStrictlySortedBy}
-use Rattle.std.specs.declared.cmp.Ordering.{Ordering}
-use Rattle.std.specs.declared.cmp.Ordering.TheVariants.{Less}
-use Rattle.bag_text.specs.Order.{IsListOf}
-use Rattle.bag_text.proofs.ListOf.{contains_cases, contains_first, contains_nothing, contains_front, contains_back, contains_either, joined, member_has, nothing_listed, same_members}
-use Rattle.bag_facts.specs.declared.fault.Fault.{Fault}
-use Rattle.bag_facts.specs.FaultOrder.{fault_cmp}
-use Rattle.bag_facts.proofs.Mapped.{take_one_more}
 
 module _ {I : Type 0} (IsOf : I → Fault → Type 0) where
   -- a fault of one of these

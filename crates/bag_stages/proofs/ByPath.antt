@@ -1,15 +1,5 @@
 -- Faults that are found item by item, of items in the order of their paths.
-use Rattle.std.proofs.Common.{◌≡◌, ◌<◌, ◌≤◌, zero, suc, ◌+◌, ◌++◌, ◌∷◌, ℕ, List, [], length, take, get_or, map, Option, refl, sym, ap, ◌∙◌, subst, arith, Contains}
-use Rattle.std.specs.Option.{option_to_list}
-use Rattle.std.specs.List.Sorted.{IsStrictlySortedBy}
-use Rattle.std.specs.declared.cmp.Ordering.TheVariants.{Less}
-use Rattle.std.proofs.Math.ListN.{get_or-map}
-use Rattle.std.proofs.lemmas.List.{length-map, take-map}
-use Rattle.bag_text.specs.Text.{text_cmp}
-use Rattle.bag_text.specs.Order.{IsListOf, IsOnly}
-use Rattle.bag_text.proofs.ListOf.{only_listed, same_members}
-use Rattle.bag_facts.specs.declared.fault.Fault.{Fault}
-use Rattle.bag_facts.specs.FaultOrder.{fault_cmp}
+use Rattle.bag_stages.proofs.Common.{◌≡◌, ◌<◌, ◌≤◌, zero, suc, ◌+◌, ◌++◌, ◌∷◌, ℕ, List, [], length, take, get_or, map, Option, refl, sym, ap, ◌∙◌, subst, arith, Contains, option_to_list, IsStrictlySortedBy, Less, get_or-map, length-map, take-map, text_cmp, IsListOf, IsOnly, only_listed, same_members, Fault, fault_cmp}
 use Rattle.bag_stages.proofs.ByItem
 
 pub take_whole : {I : Type 0} (items : List I) (i : ℕ) → length items ≤ i → take i items ≡ items

@@ -1,30 +1,9 @@
 -- The faults of names that clash, of an ascending list of names.
-use Rattle.std.proofs.Common.{◌≡◌, ◌≢◌, ◌<◌, ◌⊎◌, ◌↔◌, inl, inr, zero, suc, ◌+◌, ◌++◌, ◌∷◌, ℕ, List, [], length, take, get_or, Option, None, Some, Bool, true, false, refl, ap, sym, ◌∙◌, subst, cond, Contains, bytes_eq}
-use Rattle.std.specs.Prelude.{if◌then◌else◌}
-use Rattle.std.specs.Borrow.{Bor}
-use Rattle.std.specs.Cmp.Lexicographic.{nat_list_cmp_total}
-use Rattle.std.specs.List.Sorted.{IsStrictlySortedBy}
-use Rattle.std.specs.Option.{option_map, option_to_list}
-use Rattle.std.specs.Str.{IsAscii}
-use Rattle.std.specs.declared.cmp.Ordering.TheVariants.{Less}
-use Rattle.std.proofs.lemmas.Slice.Eq.{bytes_eq-Decides}
-use Rattle.bag_text.specs.Order.{IsListOf}
-use Rattle.bag_text.specs.Text.{text_cmp}
-use Rattle.bag_text.specs.declared.code.Code.TheVariants.{NameClash}
-use Rattle.bag_text.proofs.ListOf.{contains_back, contains_behind, contains_cases, contains_first, contains_front, contains_nothing, nothing_listed, one_listed, same_members}
-use Rattle.bag_tree.specs.Bag.{Bag}
-use Rattle.bag_facts.proofs.Ascending.{not_less_than_itself}
-use Rattle.bag_facts.specs.FaultOrder.{fault_cmp}
-use Rattle.bag_facts.specs.declared.fault.Fault.{Fault}
-use Rattle.bag_facts.proofs.Mapped.{take_one_more, taken_cases}
+use Rattle.bag_stages.proofs.Common.{arith, ◌≡◌, ◌≢◌, ◌<◌, ◌⊎◌, ◌↔◌, inl, inr, zero, suc, ◌+◌, ◌++◌, ◌∷◌, ℕ, List, [], length, take, get_or, Option, None, Some, Bool, true, false, refl, ap, sym, ◌∙◌, subst, cond, Contains, bytes_eq, if◌then◌else◌, Bor, nat_list_cmp_total, IsStrictlySortedBy, option_map, option_to_list, IsAscii, Less, bytes_eq-Decides, IsListOf, text_cmp, contains_back, contains_behind, contains_cases, contains_first, contains_front, contains_nothing, nothing_listed, one_listed, same_members, Bag, not_less_than_itself, fault_cmp, Fault, take_one_more, taken_cases, first_with, name_clash, IsClashAmong, IsClashOf, IsClashFault, nfc_of, Clashes, IsLeastAlike, IsPayloadName, texts_of}
 use Rattle.bag_stages.proofs.FaultFields.{made_of}
 use Rattle.bag_stages.proofs.ByItem.{OfSome, before_next, one_item_more}
 use Rattle.bag_stages.proofs.InFile.{less_by_path}
-use Rattle.bag_stages.specs.ClashFaults.{first_with, name_clash, IsClashAmong, IsClashOf}
-use Rattle.bag_stages.specs.ClashStage.{IsClashFault}
-use Rattle.bag_stages.specs.Clashes.{nfc_of, Clashes, IsLeastAlike}
-use Rattle.bag_stages.specs.CompletenessStage.{CompletenessHolds, IsOfCompleteness, IsPayloadName}
-use Rattle.bag_stages.specs.Names.{texts_of}
+use Rattle.bag_stages.specs.CompletenessStage.{CompletenessHolds, IsOfCompleteness}
 use Rattle.bag_stages.proofs.LeastNames.{ascii_itself, is_behind, one_least, same_least}
 use Rattle.bag_stages.proofs.PayloadNames.{Lent, text, text_at, text_within}
 
@@ -50,19 +29,13 @@ pub record AreFirsts (names seen : List (List ℕ)) (first : List ℕ → Option
 
 -- no name is seen yet
 pub no_firsts : (names : List (List ℕ)) (first : List ℕ → Option (List ℕ)) → ((form : List ℕ) → first form ≡ None) → AreFirsts names [] first
-no_firsts names first none = record {
-  is_seen = λ form name e. let clash : None ≡ Some name = sym (none form) ∙ e in cc;
-  has_form = λ form name e. let clash : None ≡ Some name = sym (none form) ∙ e in cc;
-  lowest = λ form name other e c same. let clash : None ≡ Some name = sym (none form) ∙ e in cc;
-  each = λ other c. absurd (contains_nothing other c);
-}
+no_firsts names first none = grind (arith, contains_nothing)
 
 -- whose first name a form has, where one more name is seen
 first_by : (o : Option (List ℕ)) (b : Bool) (name form n : List ℕ) → bytes_eq (nfc_of name) form ≡ b → first_with o name form ≡ Some n
     → (o ≡ Some n) ⊎ ((o ≡ None) × (nfc_of name ≡ form) × (name ≡ n))
 first_by (Some first) b name form n is e = inl e
-first_by None true name form n is e =
-    let some : Some name ≡ Some n = sym (ap (λ t. if t then Some name else None) is) ∙ e in inr (refl, (bytes_eq-Decides (nfc_of name) form).0 is, cc)
+first_by None true name form n is e = grind (arith, bytes_eq-Decides)
 first_by None false name form n is e = let clash : None ≡ Some n = sym (ap (λ t. if t then Some name else None) is) ∙ e in cc
 
 still_some : (o : Option (List ℕ)) (name form : List ℕ) → o ≢ None → first_with o name form ≢ None
@@ -70,9 +43,7 @@ still_some None name form some = absurd (some refl)
 still_some (Some first) name form some = some
 
 own_some : (o : Option (List ℕ)) (name : List ℕ) → first_with o name (nfc_of name) ≢ None
-own_some None name none =
-    let own : bytes_eq (nfc_of name) (nfc_of name) ≡ true = (bytes_eq-Decides (nfc_of name) (nfc_of name)).1 refl in
-    let clash : Some name ≡ None = sym (ap (λ t. if t then Some name else None) own) ∙ none in cc
+own_some None name none = grind (arith, bytes_eq-Decides)
 own_some (Some first) name none = cc
 
 module _ (names : List (List ℕ)) (i : ℕ) (name : List ℕ) (sorted : IsStrictlySortedBy text_cmp names) (lt : i < length names) (is : name ≡ get_or names i name) where
@@ -82,10 +53,7 @@ module _ (names : List (List ℕ)) (i : ℕ) (name : List ℕ) (sorted : IsStric
   -- a name whose form no earlier name has is the least of its class
   lowest_here : (first : List ℕ → Option (List ℕ)) → AreFirsts names (take i names) first → first (nfc_of name) ≡ None
       → (other : List ℕ) → Contains names other → nfc_of other ≡ nfc_of name → text_cmp other name ≢ Less
-  lowest_here first firsts none other c same = elim (is_behind names i name other sorted lt is c) [
-    | inl before ↦ absurd (firsts.each other before (ap first same ∙ none))
-    | inr behind ↦ behind
-  ]
+  lowest_here first firsts none other c same = grind (arith, is_behind)
 
   -- one more name is seen
   module _ (old new : List ℕ → Option (List ℕ)) (firsts : AreFirsts names (take i names) old) (made : (form : List ℕ) → new form ≡ first_with (old form) name form) where
@@ -147,10 +115,7 @@ first_by_map false (Some first) name form is none = refl
 module _ (names : List (List ℕ)) where
   -- faults are ordered as their names
   less_clash : (a b : List ℕ) (x y : Fault) → IsClashOf (Contains names) a x → IsClashOf (Contains names) b y → text_cmp a b ≡ Less → fault_cmp x y ≡ Less
-  less_clash a b x y h k less =
-      let first : Fault = name_clash a h.0 in
-      let second : Fault = name_clash b k.0 in
-      subst (λ f. fault_cmp f y ≡ Less) (sym h.1) (subst (λ f. fault_cmp first f ≡ Less) (sym k.1) (less_by_path first second refl less))
+  less_clash a b x y h k less = grind (arith, less_by_path)
 
   pub one_clash_more : (i : ℕ) (name : List ℕ) (first : List ℕ → Option (List ℕ)) (faults : List Fault) → IsStrictlySortedBy text_cmp names → i < length names → name ≡ get_or names i name
       → AreFirsts names (take i names) first → IsListOf fault_cmp (OfSome (IsClashOf (Contains names)) (take i names)) faults
@@ -204,15 +169,11 @@ module _ (bag : Bag) where
   -- the names of a bag
   pub clash_is_fault : (f : Fault) → IsClashAmong (IsPayloadName bag) f → IsClashFault bag f
   unfolding IsOfCompleteness CompletenessHolds
-  clash_is_fault f (name, (least, is, clashes)) =
-      subst (IsClashFault bag) (sym is) ((least, record { path_is = refl; alg_is = refl; line_is = refl; detail_is = refl }, clashes), refl)
+  clash_is_fault f (name, (least, is, clashes)) = grind arith
 
   pub fault_is_clash : (f : Fault) → IsClashFault bag f → IsClashAmong (IsPayloadName bag) f
   unfolding IsOfCompleteness CompletenessHolds
-  fault_is_clash f (h, code) =
-      let holds : CompletenessHolds bag f NameClash = subst (CompletenessHolds bag f) code h in
-      let at = holds.1 in
-      (f.path, (holds.0, made_of f NameClash f.path None 0 _ code at, holds.2))
+  fault_is_clash f (h, code) = grind (arith, made_of)
 
   pub clash_faults_listed : (names : List (List ℕ)) → ((path : List ℕ) → Contains names path ↔ IsPayloadName bag path) → (faults : List Fault)
       → IsListOf fault_cmp (IsClashAmong (Contains names)) faults → IsListOf fault_cmp (IsClashFault bag) faults

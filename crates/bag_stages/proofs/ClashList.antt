@@ -1,22 +1,7 @@
 -- Every bag has a list of the faults of its names.
-use Rattle.std.proofs.Common.{◌≡◌, ◌≢◌, inl, inr, ℕ, List, true, refl, sym, subst, bytes_eq}
-use Rattle.std.specs.declared.cmp.Ordering.{Ordering}
-use Rattle.std.specs.declared.cmp.Ordering.TheVariants.{Less, Equal, Greater}
-use Rattle.std.proofs.lemmas.Slice.Eq.{bytes_eq-Decides}
-use Rattle.bag_text.specs.Path.{is_payload_path}
-use Rattle.bag_text.specs.Text.{text_cmp}
-use Rattle.bag_text.specs.declared.alg.Alg.{Alg}
-use Rattle.bag_read.specs.declared.kind.Kind.TheVariants.{Payload}
-use Rattle.bag_tree.specs.Bag.{Bag, HasFile}
-use Rattle.bag_facts.specs.declared.fault.Fault.{Fault}
-use Rattle.bag_stages.specs.HasList.{HasList}
-use Rattle.bag_stages.specs.TagFiles.{named_in, Names}
+use Rattle.bag_stages.proofs.Common.{arith, ◌≡◌, ◌≢◌, inl, inr, ℕ, List, true, refl, sym, subst, bytes_eq, Ordering, Less, Equal, Greater, bytes_eq-Decides, is_payload_path, text_cmp, Alg, Payload, Bag, HasFile, Fault, HasList, named_in, Names, name_clash, IsClashAmong, IsClashFault, nfc_of, AreAlike, IsPayloadFile, IsPayloadName}
 use Rattle.bag_stages.proofs.BagLists.{files_listed, over_algs}
 use Rattle.bag_stages.proofs.HasLists.{Decided, both_decided, either, for_each, none_decided, one_where, same_set, true_or_not}
-use Rattle.bag_stages.specs.ClashFaults.{name_clash, IsClashAmong}
-use Rattle.bag_stages.specs.ClashStage.{IsClashFault}
-use Rattle.bag_stages.specs.Clashes.{nfc_of, AreAlike}
-use Rattle.bag_stages.specs.CompletenessStage.{IsPayloadFile, IsPayloadName}
 use Rattle.bag_stages.proofs.ClashFaults.{clash_is_fault, fault_is_clash}
 
 module _ (bag : Bag) where
@@ -37,10 +22,7 @@ module _ (bag : Bag) where
 
 -- what can be decided of texts
 pub same_or_not : (a b : List ℕ) → Decided (a ≡ b)
-same_or_not a b = elim (true_or_not (bytes_eq a b)) [
-  | inl is ↦ inl ((bytes_eq-Decides a b).0 is)
-  | inr not ↦ inr (λ e. not ((bytes_eq-Decides a b).1 e))
-]
+same_or_not a b = grind (arith, true_or_not (bytes_eq a b), bytes_eq-Decides a b)
 
 other_or_not : (a b : List ℕ) → Decided (a ≢ b)
 other_or_not a b = elim (same_or_not a b) [ inl is ↦ inr (λ other. other is) | inr other ↦ inl other ]
@@ -88,8 +70,7 @@ module _ (IsName : List ℕ → Type 0) (names : HasList IsName) where
       (name, (least, made, (is, record { name = there; alike = alike; lowest = λ o n a less. none o (o, n, ((a, less), refl)) }, other)))
 
   from_clash : (f : Fault) → IsClashAmong IsName f → IsSome f
-  from_clash f (name, (least, made, (is, h, other))) =
-      (name, is, (least, h.name, (((h.alike, λ o lower. h.lowest lower.0 lower.1 lower.2.0.0 lower.2.0.1), other), made)))
+  from_clash f (name, (least, made, (is, h, other))) = grind arith
 
   pub clashes_listed : HasList (IsClashAmong IsName)
   clashes_listed = same_set IsSome (IsClashAmong IsName) to_clash from_clash some_listed

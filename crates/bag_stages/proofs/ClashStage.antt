@@ -1,31 +1,7 @@
 -- The names that clash and the least names of their classes are all names, none twice.
-use Rattle.std.proofs.Common.{◌≡◌, ◌≢◌, ◌⊎◌, inl, inr, ◌++◌, ℕ, List, [], ◌∷◌, map, Bool, true, false, not, refl, sym, ap, ◌∙◌, subst, Contains}
-use Rattle.std.specs.Cmp.{eq_by_cmp_equiv}
-use Rattle.std.specs.Cmp.Lexicographic.{nat_list_cmp_total}
-use Rattle.std.specs.List.{filter, list_any}
-use Rattle.std.specs.List.Sorted.{IsPermutation, IsStrictlySortedBy}
-use Rattle.std.specs.Ordering.{eq_by_cmp, ordering_reverse}
-use Rattle.std.specs.declared.cmp.Ordering.{Ordering}
-use Rattle.std.specs.declared.cmp.Ordering.TheVariants.{Less, Equal, Greater}
-use Rattle.std.proofs.lemmas.List.Kept.{IsStrictlySortedBy-filter}
-use Rattle.std.proofs.lemmas.List.Sorted.{IsPermutation-filter_both, IsPermutation-sym}
-use Rattle.std.proofs.lemmas.Map.Views.{Contains-from_any, list_any-from_Contains}
-use Rattle.bag_text.specs.Code.{stage}
-use Rattle.bag_text.specs.Order.{IsListOf}
-use Rattle.bag_text.specs.Text.{text_cmp}
-use Rattle.bag_text.proofs.ListOf.{contains_behind, contains_cases, contains_first, contains_nothing, each_from_members, member_has, same_lists}
-use Rattle.bag_tree.specs.Bag.{Bag}
-use Rattle.bag_tree.proofs.SameText.{exact_texts, one_text}
-use Rattle.bag_facts.specs.FaultOrder.{fault_cmp}
-use Rattle.bag_facts.specs.declared.fault.Fault.{Fault}
-use Rattle.bag_facts.proofs.Ascending.{not_both, not_less_than_itself}
-use Rattle.bag_facts.proofs.Ordered.{fault_cmp_total}
-use Rattle.bag_facts.proofs.Mapped.{contains_mapped, kept, mapped_contains, passed}
+use Rattle.bag_stages.proofs.Common.{◌≡◌, ◌≢◌, ◌⊎◌, inl, inr, ◌++◌, ℕ, List, [], ◌∷◌, map, Bool, true, false, not, refl, sym, ap, ◌∙◌, subst, Contains, eq_by_cmp_equiv, nat_list_cmp_total, filter, list_any, IsPermutation, eq_by_cmp, ordering_reverse, Ordering, Less, Equal, Greater, IsStrictlySortedBy-filter, IsPermutation-filter_both, IsPermutation-sym, Contains-from_any, list_any-from_Contains, stage, IsListOf, text_cmp, contains_behind, contains_cases, contains_first, contains_nothing, each_from_members, member_has, same_lists, Bag, exact_texts, one_text, fault_cmp, Fault, not_both, not_less_than_itself, fault_cmp_total, contains_mapped, kept, mapped_contains, passed, name_clash, IsClashAmong, ClashesAndLeastsAreAllNames, IsClashFault, nfc_of, AreAlike, IsLeast, IsLeastAlike, IsPayloadName}
+use Rattle.std.specs.List.Sorted.{IsStrictlySortedBy}
 use Rattle.bag_stages.proofs.InFile.{less_by_path}
-use Rattle.bag_stages.specs.ClashFaults.{name_clash, IsClashAmong}
-use Rattle.bag_stages.specs.ClashStage.{ClashesAndLeastsAreAllNames, IsClashFault}
-use Rattle.bag_stages.specs.Clashes.{nfc_of, AreAlike, IsLeast, IsLeastAlike}
-use Rattle.bag_stages.specs.CompletenessStage.{IsPayloadName}
 use Rattle.bag_stages.proofs.ClashFaults.{clash_is_fault, fault_is_clash}
 use Rattle.bag_stages.proofs.ClashList.{same_or_not}
 use Rattle.bag_stages.proofs.LeastNames.{one_least, same_least}

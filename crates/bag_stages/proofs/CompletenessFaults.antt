@@ -1,25 +1,7 @@
 -- The faults of completeness and of names.
-use Rattle.std.proofs.Common.{◌≡◌, ◌⊎◌, inl, inr, ◌++◌, List, [], Bool, true, false, Option, None, Some, refl, sym, ap, ◌∙◌, subst, is_lt}
-use Rattle.std.specs.List.Sorted.{IsPermutation, IsSortedBy}
-use Rattle.bag_text.specs.Code.{stage}
-use Rattle.bag_text.specs.Order.{IsListOf}
-use Rattle.bag_text.specs.declared.alg.Alg.{Alg}
-use Rattle.bag_text.specs.declared.code.Code.{Code}
-use Rattle.bag_text.specs.declared.code.Code.TheVariants.{PayloadFileMissing, TagFileMissing, PayloadFileNotListed, NameClash}
-use Rattle.bag_text.proofs.ListOf.{nothing_listed, same_members}
-use Rattle.bag_read.specs.declared.kind.Kind.{Kind}
-use Rattle.bag_read.specs.declared.kind.Kind.TheVariants.{Payload, Tag}
-use Rattle.bag_tree.specs.Bag.{Bag}
-use Rattle.bag_facts.specs.FaultAt.{of_path}
-use Rattle.bag_facts.specs.FaultOrder.{fault_cmp}
-use Rattle.bag_facts.specs.declared.fault.Fault.{Fault}
-use Rattle.bag_facts.specs.Facts.{rules_in}
-use Rattle.bag_stages.specs.FaultFields.{At}
-use Rattle.bag_stages.specs.LeftOut.{IsLeftOut}
+use Rattle.bag_stages.proofs.Common.{◌≡◌, ◌⊎◌, inl, inr, ◌++◌, List, [], Bool, true, false, Option, None, Some, refl, sym, ap, ◌∙◌, subst, is_lt, IsPermutation, IsSortedBy, stage, IsListOf, Alg, Code, PayloadFileMissing, TagFileMissing, PayloadFileNotListed, NameClash, nothing_listed, same_members, Kind, Payload, Tag, Bag, of_path, fault_cmp, Fault, rules_in, At, IsLeftOut, IsClashFault, IsSoughtClash, missing_code, HasEachOnce, IsIncomplete, IsMissingFromSome, IsNotListed, IsUnlistedInAll, IsWrongOfSome, CompletenessFaultsAreOfStageSix, IsPayloadFile, IsSoughtInStageSix}
 use Rattle.bag_stages.proofs.LeftOut.{by_all, by_one, left_out_by, not_both}
-use Rattle.bag_stages.specs.ClashStage.{IsClashFault, IsSoughtClash}
-use Rattle.bag_stages.specs.CompletenessFaults.{missing_code, HasEachOnce, IsIncomplete, IsMissingFromSome, IsNotListed, IsUnlistedInAll, IsWrongOfSome}
-use Rattle.bag_stages.specs.CompletenessStage.{CompletenessFaultsAreOfStageSix, CompletenessHolds, IsOfCompleteness, IsPayloadFile, IsSoughtInStageSix}
+use Rattle.bag_stages.specs.CompletenessStage.{CompletenessHolds, IsOfCompleteness}
 use Rattle.bag_stages.proofs.FaultFields.{made_of}
 use Rattle.bag_stages.proofs.EachOnce.{both_once, once_listed, same_once, sorted_once}
 

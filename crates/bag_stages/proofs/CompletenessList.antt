@@ -1,25 +1,9 @@
 -- Every bag has a list of the faults of its completeness and of its names.
-use Rattle.std.proofs.Common.{◌≡◌, ◌⊎◌, ℕ, List, [], Option, None, Some, true, refl, sym, subst}
-use Rattle.bag_text.specs.Path.{is_payload_path}
-use Rattle.bag_text.specs.declared.alg.Alg.{Alg}
-use Rattle.bag_text.specs.declared.code.Code.{Code}
-use Rattle.bag_text.specs.declared.code.Code.TheVariants.{PayloadFileNotListed}
-use Rattle.bag_read.specs.declared.kind.Kind.{Kind}
-use Rattle.bag_read.specs.declared.kind.Kind.TheVariants.{Payload, Tag}
-use Rattle.bag_tree.specs.Bag.{Bag, has_file, HasFile, LacksFile}
-use Rattle.bag_facts.specs.FaultAt.{of_path}
-use Rattle.bag_facts.specs.declared.fault.Fault.{Fault}
-use Rattle.bag_facts.specs.Facts.{rules_in, IsByV10, IsByV097}
-use Rattle.bag_stages.specs.HasList.{HasList}
-use Rattle.bag_stages.specs.LeftOut.{IsLeftOutByAll, IsLeftOutByOne}
-use Rattle.bag_stages.specs.TagFiles.{named_in, Names}
+use Rattle.bag_stages.proofs.Common.{◌≡◌, ◌⊎◌, ℕ, List, [], Option, None, Some, true, refl, sym, subst, is_payload_path, Alg, Code, PayloadFileNotListed, Kind, Payload, Tag, Bag, has_file, HasFile, LacksFile, of_path, Fault, rules_in, IsByV10, IsByV097, HasList, IsLeftOutByAll, IsLeftOutByOne, named_in, Names, IsClashFault, missing_code, IsIncomplete, IsLeftByAll, IsLeftByOne, IsMissing, IsMissingFromSome, IsNotListed, IsOfPath, IsUnlistedFile, IsUnlistedInAll, IsUnlistedInSome, CompletenessFaultsAreListed, IsOfCompleteness, IsPayloadFile}
 use Rattle.bag_stages.proofs.BagLists.{files_listed, over_algs}
 use Rattle.bag_stages.proofs.HasLists.{Decided, true_or_not, false_or_not, both_decided, one_where, same_set, either, for_each, where_so}
 use Rattle.bag_stages.proofs.LeftOut.{v097_or_not, v10_or_not}
 use Rattle.bag_stages.proofs.LeftOutDecided.{by_all_or_not, by_one_or_not}
-use Rattle.bag_stages.specs.ClashStage.{IsClashFault}
-use Rattle.bag_stages.specs.CompletenessFaults.{missing_code, IsIncomplete, IsLeftByAll, IsLeftByOne, IsMissing, IsMissingFromSome, IsNotListed, IsOfPath, IsUnlistedFile, IsUnlistedInAll, IsUnlistedInSome}
-use Rattle.bag_stages.specs.CompletenessStage.{CompletenessFaultsAreListed, IsOfCompleteness, IsPayloadFile}
 use Rattle.bag_stages.proofs.ClashList.{clash_faults_are_listed}
 use Rattle.bag_stages.proofs.CompletenessFaults.{either_is, is_either}
 

@@ -1,21 +1,6 @@
 -- The faults of the declaration.
-use Rattle.std.proofs.Common.{◌≡◌, ℕ, List, [], ◌∷◌, Option, None, Some, true, false, map, refl, ap, sym, ◌∙◌, subst, is_some}
-use Rattle.bag_text.specs.Code.{stage}
-use Rattle.bag_text.specs.Order.{IsListOf}
-use Rattle.bag_text.specs.declared.code.Code.{Code}
-use Rattle.bag_text.specs.declared.code.Code.TheVariants.{NoDeclaration, DeclarationNotUtf8, DeclarationLineCount, DeclarationLine, VersionUnsupported, EncodingUnsupported}
-use Rattle.bag_text.proofs.ListOf.{one_listed, same_members}
-use Rattle.bag_tree.specs.Bag.{Bag, file}
-use Rattle.bag_read.specs.declared.declaration.Declaration.{Declaration}
-use Rattle.bag_read.specs.declared.line_fault.LineFault.{LineFault}
-use Rattle.bag_read.specs.Declaration.{DeclarationFault, IsDeclarationFault}
-use Rattle.bag_facts.specs.FaultAt.{of_path}
-use Rattle.bag_facts.specs.declared.fault.Fault.{Fault}
-use Rattle.bag_facts.specs.FaultOrder.{fault_cmp}
-use Rattle.bag_facts.specs.TagFacts.{IsReadOf, IsDeclarationOf}
-use Rattle.bag_stages.specs.DeclarationStage.{DeclarationHolds, IsOfDeclaration, InDeclaration, DeclarationFaultsAreOfStageOne}
-use Rattle.bag_stages.specs.FaultFields.{in_file, in_line}
-use Rattle.bag_stages.specs.TagFiles.{bagit_txt}
+use Rattle.bag_stages.proofs.Common.{◌≡◌, ℕ, List, [], ◌∷◌, Option, None, Some, true, false, map, refl, ap, sym, ◌∙◌, subst, is_some, stage, IsListOf, Code, NoDeclaration, DeclarationNotUtf8, DeclarationLineCount, DeclarationLine, VersionUnsupported, EncodingUnsupported, one_listed, same_members, Bag, file, Declaration, LineFault, DeclarationFault, IsDeclarationFault, of_path, Fault, fault_cmp, IsReadOf, IsDeclarationOf, InDeclaration, DeclarationFaultsAreOfStageOne, in_file, in_line, bagit_txt}
+use Rattle.bag_stages.specs.DeclarationStage.{DeclarationHolds, IsOfDeclaration}
 use Rattle.bag_stages.proofs.FaultFields.{made_of}
 use Rattle.bag_stages.proofs.InFile.{listed_in_file}
 

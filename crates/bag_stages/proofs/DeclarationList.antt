@@ -1,19 +1,7 @@
 -- Every bag has a list of the faults of its declaration.
-use Rattle.std.proofs.Common.{◌≡◌, ℕ, List, [], ◌∷◌, Bool, true, false, Option, None, Some, map, refl, sym, subst}
-use Rattle.std.specs.Str.{is_utf8}
-use Rattle.bag_text.specs.Lines.{lines_of_file}
-use Rattle.bag_read.specs.Declaration.{IsDeclarationFault, declared_version, declared_encoding}
+use Rattle.bag_stages.proofs.Common.{◌≡◌, ℕ, List, [], ◌∷◌, Bool, true, false, Option, None, Some, map, refl, sym, subst, is_utf8, lines_of_file, IsDeclarationFault, declared_version, declared_encoding, AreFaults, LineFault, Declaration, Bag, file, IsReadOf, IsDeclarationOf, IsOfDeclaration, DeclarationFaultsAreListed, in_file, HasList, bagit_txt}
 use Rattle.bag_read.specs.DeclarationFaults.{utf8_fault, text_faults}
-use Rattle.bag_read.specs.LineFault.{AreFaults}
-use Rattle.bag_read.specs.declared.line_fault.LineFault.{LineFault}
-use Rattle.bag_read.specs.declared.declaration.Declaration.{Declaration}
 use Rattle.bag_read.proofs.DeclarationFaults.{faults_of_text, faults_of_no_text}
-use Rattle.bag_tree.specs.Bag.{Bag, file}
-use Rattle.bag_facts.specs.TagFacts.{IsReadOf, IsDeclarationOf}
-use Rattle.bag_stages.specs.DeclarationStage.{IsOfDeclaration, DeclarationFaultsAreListed}
-use Rattle.bag_stages.specs.FaultFields.{in_file}
-use Rattle.bag_stages.specs.HasList.{HasList}
-use Rattle.bag_stages.specs.TagFiles.{bagit_txt}
 use Rattle.bag_stages.proofs.DeclarationFaults.{no_declaration, read_declaration_listed, missing_declaration_listed}
 
 -- the faults of the lines of any bytes

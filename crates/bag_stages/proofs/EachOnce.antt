@@ -1,23 +1,8 @@
 -- Lists that have each of a set once: two that share nothing, one for each algorithm, and sorted.
-use Rattle.std.proofs.Common.{◌≡◌, ◌<◌, ◌≤◌, ◌⊎◌, ◌+◌, ◌++◌, ℕ, List, [], length, take, get_or, Some, is_lt, sym, ◌∙◌, subst}
-use Rattle.std.specs.Cmp.{nat_cmp_total, tied_itself}
-use Rattle.std.specs.List.Sorted.{IsPermutation, IsSortedBy}
-use Rattle.std.specs.declared.cmp.Ordering.TheVariants.{Less, Equal}
-use Rattle.std.proofs.lemmas.List.{get_or_default}
-use Rattle.std.proofs.lemmas.Map.Keys.{IsDistinct-from_sorted}
-use Rattle.bag_text.specs.Alg.{algs, rank, rank_cmp}
-use Rattle.bag_text.specs.Order.{IsListOf}
-use Rattle.bag_text.specs.declared.alg.Alg.{Alg}
-use Rattle.bag_text.proofs.AlgSets.{each_is_listed, list_ascends}
-use Rattle.bag_text.proofs.ListOf.{contains_nothing, nothing_listed}
-use Rattle.bag_facts.specs.FaultOrder.{fault_cmp}
-use Rattle.bag_facts.specs.declared.fault.Fault.{Fault}
-use Rattle.bag_facts.proofs.Ordered.{fault_cmp_total, fault_cmp_same}
-use Rattle.bag_facts.proofs.Mapped.{take_one_more}
+use Rattle.bag_stages.proofs.Common.{◌≡◌, ◌<◌, ◌≤◌, ◌⊎◌, ◌+◌, ◌++◌, ℕ, List, [], length, take, get_or, Some, is_lt, sym, ◌∙◌, subst, nat_cmp_total, tied_itself, IsPermutation, IsSortedBy, Less, Equal, get_or_default, IsDistinct-from_sorted, algs, rank, rank_cmp, IsListOf, Alg, each_is_listed, list_ascends, contains_nothing, nothing_listed, fault_cmp, Fault, fault_cmp_total, fault_cmp_same, take_one_more, HasEachOnce}
 use Rattle.bag_stages.proofs.ByItem.{OfSome, before_next, of_last_or_before, of_one_more}
 use Rattle.bag_stages.proofs.ByPath.{take_whole}
 use Rattle.bag_stages.proofs.Sorted as sorted
-use Rattle.bag_stages.specs.CompletenessFaults.{HasEachOnce}
 
 -- an ascending list
 pub once_listed : (P : Fault → Type 0) (faults : List Fault) → IsListOf fault_cmp P faults → HasEachOnce P faults

@@ -1,10 +1,5 @@
 -- A fault is the one that is made of its fields.
-use Rattle.std.proofs.Common.{◌≡◌, ℕ, List, Option}
-use Rattle.bag_text.specs.declared.alg.Alg.{Alg}
-use Rattle.bag_text.specs.declared.code.Code.{Code}
-use Rattle.bag_facts.specs.FaultAt.{of_line}
-use Rattle.bag_facts.specs.declared.fault.Fault.{Fault}
-use Rattle.bag_stages.specs.FaultFields.{At}
+use Rattle.bag_stages.proofs.Common.{◌≡◌, ℕ, List, Option, Alg, Code, of_line, Fault, At}
 
 pub made_of : (f : Fault) (code : Code) (path : List ℕ) (alg : Option Alg) (line : ℕ) (detail : List ℕ) → f.code ≡ code → At f path alg line detail → f ≡ of_line code path alg line detail
 made_of f code path alg line detail e at = λ i. record { code = e i; path = at.path_is i; alg = at.alg_is i; line = at.line_is i; detail = at.detail_is i }

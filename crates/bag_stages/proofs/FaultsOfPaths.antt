@@ -1,19 +1,7 @@
 -- The faults of paths, by the manifest of one algorithm, or by all.
-use Rattle.std.proofs.Common.{◌≡◌, ◌<◌, ◌≤◌, ◌+◌, ◌++◌, ◌∷◌, ℕ, List, [], length, take, get_or, map, Option, refl, sym, ap, ◌∙◌, subst, Contains, append-nil}
-use Rattle.std.specs.List.Sorted.{IsStrictlySortedBy}
-use Rattle.std.specs.declared.cmp.Ordering.TheVariants.{Less}
-use Rattle.bag_text.specs.Code.{stage}
-use Rattle.bag_text.specs.Order.{IsListOf}
-use Rattle.bag_text.specs.Text.{text_cmp}
-use Rattle.bag_text.specs.declared.alg.Alg.{Alg}
-use Rattle.bag_text.specs.declared.code.Code.{Code}
-use Rattle.bag_text.proofs.ListOf.{contains_nothing, nothing_listed, one_listed, same_members}
-use Rattle.bag_facts.specs.FaultAt.{of_path}
-use Rattle.bag_facts.specs.FaultOrder.{fault_cmp}
-use Rattle.bag_facts.specs.declared.fault.Fault.{Fault}
+use Rattle.bag_stages.proofs.Common.{arith, ◌≡◌, ◌<◌, ◌≤◌, ◌+◌, ◌++◌, ◌∷◌, ℕ, List, [], length, take, get_or, map, Option, refl, sym, ap, ◌∙◌, subst, Contains, append-nil, IsStrictlySortedBy, Less, stage, IsListOf, text_cmp, Alg, Code, contains_nothing, nothing_listed, one_listed, same_members, of_path, fault_cmp, Fault, IsOfPath, IsOfPathAmong}
 use Rattle.bag_stages.proofs.ByPath.{one_item_more, take_whole}
 use Rattle.bag_stages.proofs.InFile.{less_by_path}
-use Rattle.bag_stages.specs.CompletenessFaults.{IsOfPath, IsOfPathAmong}
 
 module _ (code : Code) (alg : Option Alg) (IsWrong : List ℕ → Type 0) where
   abbrev Found : Fault → Type 0
@@ -50,8 +38,7 @@ module _ (code : Code) (alg : Option Alg) (IsWrong : List ℕ → Type 0) where
 
     pub all_paths : (items : List I) (i : ℕ) (faults : List Fault) → length items ≤ i → IsListOf fault_cmp (IsOfPathAmong code alg IsWrong (map path_of (take i items))) faults
         → IsListOf fault_cmp (IsOfPathAmong code alg IsWrong (map path_of items)) faults
-    all_paths items i faults le list =
-        subst (λ some. IsListOf fault_cmp (IsOfPathAmong code alg IsWrong (map path_of some)) faults) (take_whole items i le) list
+    all_paths items i faults le list = grind (arith, take_whole)
 
   -- the same in the words of the bag
   pub in_other_words : (paths : List (List ℕ)) (IsSo : List ℕ → Type 0) (faults : List Fault) → ((path : List ℕ) → Contains paths path → IsWrong path → IsSo path)

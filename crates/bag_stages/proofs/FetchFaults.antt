@@ -1,43 +1,9 @@
 -- The faults of the list of files to fetch.
-use Rattle.std.proofs.Common.{◌≡◌, ◌<◌, ◌⊎◌, inl, inr, ◌+◌, ◌++◌, ℕ, length, take, get_or, List, [], ◌∷◌, Option, None, Some, true, false, map, refl, sym, ap, ◌∙◌, subst, arith, is_lt, is_some, Contains}
-use Rattle.std.specs.List.Sorted.{IsPermutation, IsSortedBy}
-use Rattle.std.specs.Ordering.{nat_cmp, on}
-use Rattle.std.specs.Str.{is_utf8}
-use Rattle.std.specs.declared.cmp.Ordering.TheVariants.{Less}
-use Rattle.std.proofs.lemmas.List.{get_or_default}
-use Rattle.bag_text.specs.Alg.{algs, rank_cmp}
-use Rattle.bag_text.specs.Code.{stage}
-use Rattle.bag_text.specs.Lines.{lines_of_file}
-use Rattle.bag_text.specs.Order.{IsListOf}
-use Rattle.bag_text.specs.Text.{text_cmp, IsNoText}
-use Rattle.bag_text.specs.declared.alg.Alg.{Alg}
-use Rattle.bag_text.specs.declared.code.Code.{Code}
-use Rattle.bag_text.specs.declared.code.Code.TheVariants.{NotUtf8, FetchLine, FetchEscape, FetchUnsafePath, FetchOutsidePayload, FetchNotInManifest}
-use Rattle.bag_text.proofs.AlgSets.{each_is_listed, list_ascends}
-use Rattle.bag_text.proofs.ListOf.{contains_cases, contains_nothing, nothing_listed, one_listed, same_members}
-use Rattle.bag_read.specs.Fetch.{IsFetch, FetchFault, IsFetchFault}
-use Rattle.bag_read.specs.LineFault.{AreFaults, not_utf8}
-use Rattle.bag_read.specs.declared.line_fault.LineFault.{LineFault}
-use Rattle.bag_read.specs.declared.fetch.FetchEntry.{FetchEntry}
-use Rattle.bag_read.proofs.FetchFaults.{entries_of_no_text, faults_of_no_text}
+use Rattle.bag_stages.proofs.Common.{◌≡◌, ◌<◌, ◌⊎◌, inl, inr, ◌+◌, ◌++◌, ℕ, length, take, get_or, List, [], ◌∷◌, Option, None, Some, true, false, map, refl, sym, ap, ◌∙◌, subst, arith, is_lt, is_some, Contains, IsPermutation, IsSortedBy, nat_cmp, on, is_utf8, Less, get_or_default, algs, rank_cmp, stage, lines_of_file, IsListOf, text_cmp, IsNoText, Alg, Code, NotUtf8, FetchLine, FetchEscape, FetchUnsafePath, FetchOutsidePayload, FetchNotInManifest, each_is_listed, list_ascends, contains_cases, contains_nothing, nothing_listed, one_listed, same_members, IsFetch, FetchFault, IsFetchFault, AreFaults, LineFault, FetchEntry, entries_of_no_text, faults_of_no_text, IsEntry, Payload, ManifestEntry, Bag, file, of_path, Fault, fault_cmp, fault_cmp_total, fault_cmp_same, rules_in, IsByV10, IsByV097, entry_paths, AreByPath, IsFetchListOf, IsManifestNamed, IsReadOf, Manifest, in_file, in_line, At, AreByLine, AreFetched, IsNotNamed, IsNotNamedAmong, IsNotInAny, IsNotInManifest, IsNotInSome, not_in_manifest, fetch_txt, FetchFaultsAreOfStageFour, HasFetch, InFetch, IsLeftOut, lines_or_none, manifest_of}
 use Rattle.bag_read.proofs.FetchLine.{IsReasonCode, reason_code}
-use Rattle.bag_read.specs.Manifest.{IsEntry}
-use Rattle.bag_read.specs.declared.kind.Kind.TheVariants.{Payload}
-use Rattle.bag_read.specs.declared.manifest.ManifestEntry.{ManifestEntry}
-use Rattle.bag_tree.specs.Bag.{Bag, file}
-use Rattle.bag_facts.specs.FaultAt.{of_path}
-use Rattle.bag_facts.specs.declared.fault.Fault.{Fault}
-use Rattle.bag_facts.specs.FaultOrder.{fault_cmp}
-use Rattle.bag_facts.proofs.Ordered.{fault_cmp_total, fault_cmp_same}
-use Rattle.bag_facts.specs.Facts.{rules_in, IsByV10, IsByV097}
-use Rattle.bag_facts.specs.TagFacts.{entry_paths, AreByPath, IsFetchListOf, IsManifestNamed, IsReadOf}
 use Rattle.bag_facts.specs.declared.tag_facts.FetchList.{FetchList}
-use Rattle.bag_facts.specs.declared.tag_facts.Manifest.{Manifest}
-use Rattle.bag_stages.specs.FaultFields.{in_file, in_line, At}
-use Rattle.bag_stages.specs.FetchFaults.{AreByLine, AreFetched, IsNotNamed, IsNotNamedAmong, IsNotInAny, IsNotInManifest, IsNotInSome, IsNotListed, not_in_manifest}
-use Rattle.bag_stages.specs.FetchStage.{fetch_txt, FetchFaultsAreOfStageFour, FetchHolds, HasFetch, InFetch, IsOfFetch}
-use Rattle.bag_stages.specs.LeftOut.{IsLeftOut}
-use Rattle.bag_stages.specs.TagFiles.{lines_or_none, manifest_of}
+use Rattle.bag_stages.specs.FetchFaults.{IsNotListed}
+use Rattle.bag_stages.specs.FetchStage.{FetchHolds, IsOfFetch}
 use Rattle.bag_stages.proofs.FaultFields.{made_of}
 use Rattle.bag_stages.proofs.ByItem.{OfSome, one_item_more}
 use Rattle.bag_stages.proofs.InFile.{less_by_alg, less_of_file, listed_in_file}
@@ -102,10 +68,8 @@ module _ (bag : Bag) (f : Fault) where
 
   listed_holds : IsNotListed bag f → FetchHolds bag f FetchNotInManifest
   unfolding FetchHolds
-  listed_holds (inl (by, (alg, (code, (e, at, has, out))))) =
-      (e, untold e (Some alg) at, has, subst (λ a. IsLeftOut (rules_in bag) bag a e.path) (sym at.alg_is) (by_one bag e.path (rules_in bag) alg by out))
-  listed_holds (inr (by, (code, (e, at, has, out)))) =
-      (e, untold e None at, has, subst (λ a. IsLeftOut (rules_in bag) bag a e.path) (sym at.alg_is) (by_all bag e.path (rules_in bag) by out))
+  listed_holds (inl (by, (alg, (code, (e, at, has, out))))) = grind (arith, untold, by_one)
+  listed_holds (inr (by, (code, (e, at, has, out)))) = grind (arith, untold, by_all)
 
   pub listed_code : IsNotListed bag f → f.code ≡ FetchNotInManifest
   listed_code (inl (by, (alg, (code, more)))) = code
@@ -136,10 +100,7 @@ fetch_of_stage_four bag f h = holds_stage bag f f.code h
 -- the same fault of two files is ordered as their lines
 pub less_by_line : (path : List ℕ) (alg : Option Alg) (e g : FetchEntry) (x y : Fault) → x ≡ not_in_manifest path alg e → y ≡ not_in_manifest path alg g
     → on (λ e. e.line) nat_cmp e g ≡ Less → fault_cmp x y ≡ Less
-less_by_line path alg e g x y a b less =
-    let first : Fault = not_in_manifest path alg e in
-    let second : Fault = not_in_manifest path alg g in
-    subst (λ f. fault_cmp f y ≡ Less) (sym a) (subst (λ f. fault_cmp first f ≡ Less) (sym b) (less_of_file path alg first second refl refl refl refl refl (rw less refl)))
+less_by_line path alg e g x y a b less = grind (arith, less_of_file)
 
 -- one file, of which the manifest has an entry or has none
 pub named_listed : (path : List ℕ) (alg : Alg) (named : List ManifestEntry) (e : FetchEntry) → Contains (entry_paths named) e.path
@@ -210,8 +171,7 @@ module _ (bag : Bag) (alg : Alg) where
 module _ (bag : Bag) where
   -- the manifests, one after another
   less_not_in : (a b : Alg) (x y : Fault) → IsNotInManifest bag a x → IsNotInManifest bag b y → rank_cmp a b ≡ Less → fault_cmp x y ≡ Less
-  less_not_in a b x y h k before =
-      less_by_alg x y (ap stage (h.0 ∙ sym k.0)) (h.1.1.path_is ∙ sym k.1.1.path_is) (rw (h.1.1.alg_is, k.1.1.alg_is) before)
+  less_not_in a b x y h k before = grind (arith, less_by_alg)
 
   pub one_alg_more : (i : ℕ) (any : Alg) (faults of_alg : List Fault) → i < length algs → IsListOf fault_cmp (OfSome (IsNotInManifest bag) (take i algs)) faults
       → IsListOf fault_cmp (IsNotInManifest bag (get_or algs i any)) of_alg → IsListOf fault_cmp (OfSome (IsNotInManifest bag) (take (i + 1) algs)) (faults ++ of_alg)
@@ -256,11 +216,7 @@ module _ (bag : Bag) where
 
   -- bytes that aren't UTF-8 have none
   pub no_line_fault : (f : Fault) → ((bytes : List ℕ) → file bag fetch_txt ≡ Some bytes → IsNoText bytes) → ¬ (IsOfLine bag f)
-  no_line_fault f lacks h =
-      elim (contains_cases not_utf8 [] (in_line f) (((faults_of_no_text (rules_in bag) h.0.2.0 (lacks h.0.2.0 h.0.2.1)).members (in_line f)).1 h.0.2.2)) [
-        | inl is ↦ other_stage (ap (λ (x : LineFault). stage x.code) is ∙ h.1)
-        | inr none ↦ absurd (contains_nothing (in_line f) none)
-      ]
+  no_line_fault f lacks h = grind (arith, contains_cases, faults_of_no_text, other_stage, contains_nothing)
 
   no_entry : (content : Option (List ℕ)) (e : FetchEntry) → ((bytes : List ℕ) → content ≡ Some bytes → IsNoText bytes) → ¬ (IsFetch (rules_in bag) (lines_or_none content) e)
   no_entry None e lacks h = let clash : None ≡ Some h.0 = h.1.1 in cc
@@ -290,11 +246,7 @@ module _ (bag : Bag) where
       fetch_listed of_lines of_manifests all (rw is lines) (manifests fetched) perm sorted
 
   pub textless_list_listed : (list : FetchList) → IsReadOf (IsFetchListOf (rules_in bag)) (file bag fetch_txt) (Some list) → list.is_text ≡ false → IsListOf fault_cmp (IsOfFetch bag) []
-  textless_list_listed list read text =
-      let said = read_bytes (IsFetchListOf (rules_in bag)) (file bag fetch_txt) list read in
-      no_fetch_listed (λ bytes there.
-      let same : said.0 ≡ bytes = (let both : Some said.0 ≡ Some bytes = sym said.1 ∙ there in cc) in subst (λ b. is_utf8 b ≡ false) same (sym said.2.text ∙ text))
+  textless_list_listed list read text = grind (arith, read_bytes, no_fetch_listed)
 
   pub no_list_listed : IsReadOf (IsFetchListOf (rules_in bag)) (file bag fetch_txt) None → IsListOf fault_cmp (IsOfFetch bag) []
-  no_list_listed read =
-      no_fetch_listed (λ bytes there. let clash : None ≡ Some bytes = sym (not_there (IsFetchListOf (rules_in bag)) (file bag fetch_txt) read) ∙ there in cc)
+  no_list_listed read = grind (arith, no_fetch_listed, not_there)

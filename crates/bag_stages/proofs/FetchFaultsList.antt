@@ -1,23 +1,6 @@
 -- Every bag has a list of the faults of its list of files to fetch.
-use Rattle.std.proofs.Common.{◌≡◌, ◌⊎◌, ℕ, List, Bool, true, false, Option, None, Some, map, refl, sym, ◌∙◌, subst}
-use Rattle.std.specs.Str.{is_utf8}
-use Rattle.bag_text.specs.Lines.{lines_of_file}
-use Rattle.bag_text.specs.declared.alg.Alg.{Alg}
-use Rattle.bag_text.specs.declared.code.Code.TheVariants.{FetchNotInManifest}
-use Rattle.bag_read.specs.Fetch.{entry_in}
-use Rattle.bag_read.specs.LineFault.{entries_read, faults_read}
-use Rattle.bag_read.specs.declared.line_fault.LineFault.{LineFault}
-use Rattle.bag_read.specs.declared.fetch.FetchEntry.{FetchEntry}
-use Rattle.bag_read.proofs.FetchFaults.{entries_of_lines, faults_of_text}
-use Rattle.bag_tree.specs.Bag.{Bag, file}
-use Rattle.bag_facts.specs.declared.fault.Fault.{Fault}
-use Rattle.bag_facts.specs.Facts.{rules_in, IsByV10, IsByV097}
-use Rattle.bag_stages.specs.FaultFields.{in_file}
-use Rattle.bag_stages.specs.FetchFaults.{IsNotInAny, IsNotInManifest, IsNotInSome, IsNotListed, not_in_manifest}
-use Rattle.bag_stages.specs.FetchStage.{fetch_txt, FetchFaultsAreListed, HasFetch, IsOfFetch}
-use Rattle.bag_stages.specs.HasList.{HasList}
-use Rattle.bag_stages.specs.LeftOut.{IsLeftOutByAll, IsLeftOutByOne}
-use Rattle.bag_stages.specs.TagFiles.{lines_in}
+use Rattle.bag_stages.proofs.Common.{arith, ◌≡◌, ◌⊎◌, ℕ, List, Bool, true, false, Option, None, Some, map, refl, sym, ◌∙◌, is_utf8, lines_of_file, Alg, entry_in, entries_read, faults_read, LineFault, FetchEntry, entries_of_lines, faults_of_text, Bag, file, Fault, rules_in, IsByV10, IsByV097, in_file, IsNotInAny, IsNotInManifest, IsNotInSome, not_in_manifest, fetch_txt, FetchFaultsAreListed, HasFetch, IsOfFetch, HasList, IsLeftOutByAll, IsLeftOutByOne, lines_in}
+use Rattle.bag_stages.specs.FetchFaults.{IsNotListed}
 use Rattle.bag_stages.proofs.BagLists.{over_algs}
 use Rattle.bag_stages.proofs.FaultFields.{made_of}
 use Rattle.bag_stages.proofs.FetchFaults.{IsOfLine, lines_listed, no_line_fault, of_some, some_is}
@@ -30,9 +13,7 @@ module _ (bag : Bag) where
   of_bytes bytes true e text =
       let lines : List LineFault = faults_read (entry_in (rules_in bag)) (lines_of_file bytes) in
       (map (in_file fetch_txt None) lines, (lines_listed bag bytes lines e text (faults_of_text (rules_in bag) bytes text)).members)
-  of_bytes bytes false e lacks =
-      nothing (IsOfLine bag) (λ f. no_line_fault bag f (λ other there.
-      let same : bytes ≡ other = (let both : Some bytes ≡ Some other = sym e ∙ there in cc) in subst (λ b. is_utf8 b ≡ false) same lacks))
+  of_bytes bytes false e lacks = grind (arith, nothing, no_line_fault)
 
   of_lines : (content : Option (List ℕ)) → file bag fetch_txt ≡ content → HasList (IsOfLine bag)
   of_lines None e = nothing (IsOfLine bag) (λ f h. let clash : None ≡ Some h.0.2.0 = sym e ∙ h.0.2.1 in cc)
@@ -55,15 +36,10 @@ module _ (bag : Bag) where
   lacks_or_not alg e = by_one_or_not bag e.path alg
 
   to_not_in : (alg : Alg) (f : Fault) → LacksSome alg f → IsNotInManifest bag alg f
-  to_not_in alg f (e, has, (out, is)) =
-      subst (IsNotInManifest bag alg) (sym is) (refl, (e, record { path_is = refl; alg_is = refl; line_is = refl; detail_is = refl }, has, out))
+  to_not_in alg f (e, has, (out, is)) = grind arith
 
   from_not_in : (alg : Alg) (f : Fault) → IsNotInManifest bag alg f → LacksSome alg f
-  from_not_in alg f (code, (e, at, has, out)) = (
-    e,
-    has,
-    (out, made_of f FetchNotInManifest fetch_txt (Some alg) e.line e.path code at),
-  )
+  from_not_in alg f (code, (e, at, has, out)) = grind (arith, made_of)
 
   of_alg : (alg : Alg) → HasList (IsNotInManifest bag alg)
   of_alg alg =
@@ -75,15 +51,10 @@ module _ (bag : Bag) where
   IsLackingInAll e f = IsLeftOutByAll bag e.path × (f ≡ not_in_manifest fetch_txt None e)
 
   to_not_in_any : (f : Fault) → (e : FetchEntry) × HasFetch bag e × IsLackingInAll e f → IsNotInAny bag f
-  to_not_in_any f (e, has, (out, is)) =
-      subst (IsNotInAny bag) (sym is) (refl, (e, record { path_is = refl; alg_is = refl; line_is = refl; detail_is = refl }, has, out))
+  to_not_in_any f (e, has, (out, is)) = grind arith
 
   from_not_in_any : (f : Fault) → IsNotInAny bag f → (e : FetchEntry) × HasFetch bag e × IsLackingInAll e f
-  from_not_in_any f (code, (e, at, has, out)) = (
-    e,
-    has,
-    (out, made_of f FetchNotInManifest fetch_txt None e.line e.path code at),
-  )
+  from_not_in_any f (code, (e, at, has, out)) = grind (arith, made_of)
 
   in_any : HasList (IsNotInAny bag)
   in_any =

@@ -1,18 +1,5 @@
 -- The files to fetch that no payload manifest names.
-use Rattle.std.proofs.Common.{◌≡◌, ◌∷◌, ℕ, List, [], None, refl, ap, subst, Contains}
-use Rattle.bag_text.specs.Order.{IsListOf}
-use Rattle.bag_text.proofs.ListOf.{contains_first, contains_nothing, nothing_listed, one_listed, same_members}
-use Rattle.bag_text.specs.declared.alg.Alg.{Alg}
-use Rattle.bag_text.specs.declared.code.Code.TheVariants.{FetchNotInManifest}
-use Rattle.bag_read.specs.declared.fetch.FetchEntry.{FetchEntry}
-use Rattle.bag_read.specs.declared.kind.Kind.TheVariants.{Payload}
-use Rattle.bag_tree.specs.Bag.{Bag}
-use Rattle.bag_facts.specs.declared.fault.Fault.{Fault}
-use Rattle.bag_facts.specs.FaultOrder.{fault_cmp}
-use Rattle.bag_stages.specs.FetchFaults.{AreFetched, IsNamedByNone, IsNamedByNoneAmong, IsNotInAny, not_in_manifest}
-use Rattle.bag_stages.specs.FetchStage.{fetch_txt}
-use Rattle.bag_stages.specs.LeftOut.{IsNamedBySome}
-use Rattle.bag_stages.specs.TagFiles.{HasSupported}
+use Rattle.bag_stages.proofs.Common.{◌≡◌, ◌∷◌, ℕ, List, [], None, refl, ap, subst, Contains, IsListOf, contains_first, contains_nothing, nothing_listed, one_listed, same_members, Alg, FetchNotInManifest, FetchEntry, Payload, Bag, Fault, fault_cmp, AreFetched, IsNamedByNone, IsNamedByNoneAmong, IsNotInAny, not_in_manifest, fetch_txt, IsNamedBySome, HasSupported}
 use Rattle.bag_stages.proofs.FaultFields.{made_of}
 
 module _ (bag : Bag) where

@@ -1,6 +1,6 @@
 -- The first element that passes a test, and those behind it.
-use Rattle.std.proofs.Common.{◌≡◌, ℕ, suc, ◌+◌, List, [], ◌∷◌, drop, get_or, filter, None, Some, Bool, true, false, cond, refl, sym, ◌∙◌, subst, arith, add-one, position}
-use Rattle.std.specs.List.{position_from}
+use Rattle.bag_stages.proofs.Common.{◌≡◌, ℕ, suc, ◌+◌, List, [], ◌∷◌, drop, get_or, None, Some, Bool, true, false, cond, refl, sym, ◌∙◌, subst, arith, add-one, position, position_from}
+use Rattle.std.proofs.Common.{filter}
 use Rattle.std.proofs.lemmas.Iterator.Adapters.{position_from-zero}
 
 module _ {A : Type 0} (p : A → Bool) where

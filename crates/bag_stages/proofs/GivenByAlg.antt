@@ -1,27 +1,7 @@
 -- What manifests give for a file, one algorithm after another.
-use Rattle.std.proofs.Common.{◌≡◌, ◌<◌, ◌≤◌, ◌+◌, ◌++◌, ◌∷◌, ◌⊎◌, ◌↔◌, inl, inr, ℕ, List, [], length, map, take, get_or, Option, None, Some, Contains, refl, sym, ap, ◌∙◌, subst}
-use Rattle.std.specs.Prelude.{filter_map}
-use Rattle.std.specs.List.{cons_option}
-use Rattle.std.specs.Option.{option_to_list}
-use Rattle.std.proofs.lemmas.List.{map-append}
-use Rattle.std.proofs.lemmas.List.Elements.{filter_map-append}
-use Rattle.bag_text.specs.Alg.{algs}
-use Rattle.bag_text.specs.Order.{IsListOf, IsOnly}
-use Rattle.bag_text.proofs.ListOf.{contains_back, contains_cases, contains_either, contains_first, contains_front, contains_nothing}
-use Rattle.bag_text.specs.declared.alg.Alg.{Alg}
-use Rattle.bag_read.specs.declared.kind.Kind.{Kind}
-use Rattle.bag_tree.specs.Bag.{Bag, file}
-use Rattle.bag_facts.specs.FaultOrder.{fault_cmp}
-use Rattle.bag_facts.specs.declared.fault.Fault.{Fault}
+use Rattle.bag_stages.proofs.Common.{arith, ◌≡◌, ◌<◌, ◌≤◌, ◌+◌, ◌++◌, ◌∷◌, ◌⊎◌, ◌↔◌, inl, inr, ℕ, List, [], length, map, take, get_or, Option, None, Some, Contains, refl, sym, ap, ◌∙◌, subst, filter_map, cons_option, option_to_list, map-append, filter_map-append, algs, IsListOf, IsOnly, contains_back, contains_cases, contains_either, contains_first, contains_front, contains_nothing, Alg, Kind, Bag, file, fault_cmp, Fault, take_one_more, Names, AreNaming, IsGivenBy, differing, faults_of_bytes, kind_of, IsFaultOfFile, Expected}
 use Rattle.bag_facts.proofs.AlgsOf.{all_algs, no_alg_yet, one_alg_more, one_alg_other, AreThose}
-use Rattle.bag_facts.proofs.Mapped.{take_one_more}
-use Rattle.bag_stages.specs.TagFiles.{Names}
 use Rattle.bag_stages.proofs.ByItem.{OfSome, no_items}
-use Rattle.bag_stages.specs.Given.{AreNaming, IsGivenBy}
-use Rattle.bag_stages.specs.SumFaults.{differing, faults_of_bytes}
-use Rattle.bag_stages.specs.SummedFiles.{kind_of}
-use Rattle.bag_stages.specs.ValidityStage.{IsFaultOfFile}
-use Rattle.bag_stages.specs.declared.expected.Expected.{Expected}
 use Rattle.bag_stages.proofs.SumFaults as of_sum
 use Rattle.bag_stages.proofs.SumFaults.{none_by_alg, only_differing, spelled_is_named, IsOfAlg}
 
@@ -39,8 +19,7 @@ pushed h before one = ap (λ l. filter_map h before ++ l) (option_same h one (h 
 -- one more of them was looked at
 pub looked_at : (h : Expected → Option Fault) (xs : List Expected) (i : ℕ) (x : Expected) (before : List Fault) (o : Option Fault) → i < length xs → x ≡ get_or xs i x
     → before ≡ filter_map h (take i xs) → o ≡ h x → before ++ option_to_list o ≡ filter_map h (take (i + 1) xs)
-looked_at h xs i x before o lt is e same =
-    (λ j. e j ++ option_to_list (same j)) ∙ pushed h (take i xs) x ∙ ap (filter_map h) (sym (take_one_more xs i x lt is))
+looked_at h xs i x before o lt is e same = grind (arith, pushed, take_one_more)
 
 with_one : (before : List Expected) (one : Expected) (alg : Alg) → Contains (algs_of (before ++ one ∷ [])) alg ↔ (Contains (algs_of before) alg ⊎ (alg ≡ one.alg))
 with_one before one alg =
@@ -62,10 +41,7 @@ module _ (bag : Bag) (path : List ℕ) (kind : Kind) where
     pub faults : (content : List ℕ) → file bag path ≡ Some content → IsListOf fault_cmp (OfSome (IsOfAlg bag path kind) among) (faults_of_bytes path content expected)
 
   pub none_yet : AreGivenBy [] []
-  none_yet = record {
-    naming = no_alg_yet (λ alg. Names bag kind alg path);
-    faults = λ content there. no_items (IsOfAlg bag path kind);
-  }
+  none_yet = record { naming = no_alg_yet (λ alg. Names bag kind alg path); faults = λ content there. no_items (IsOfAlg bag path kind) }
 
   -- one more gives nothing
   pub no_more : (i : ℕ) (any : Alg) (expected : List Expected) → i < length algs → AreGivenBy (take i algs) expected

@@ -1,18 +1,7 @@
 -- A digest that a manifest gives has no more bytes than the longest one has.
-use Rattle.std.proofs.Common.{◌≡◌, ◌≤◌, ◌*◌, ℕ, List, length, take, ap, ◌∙◌, arith}
+use Rattle.bag_stages.proofs.Common.{◌≡◌, ◌≤◌, ◌*◌, ℕ, List, length, take, ap, ◌∙◌, arith, length-map, take_all, encode_lower, lower_digits, hex_len, Alg, Md5, Kind, ManifestEntry, lines_read, Bag, rules_in, IsEntryIn}
 use Rattle.std.specs.Char.{to_ascii_lowercase}
-use Rattle.std.proofs.lemmas.List.{length-map, take_all}
-use Rattle.hex.specs.Hex.{encode_lower, lower_digits}
 use Rattle.hex.proofs.HexLemmas.{length-encode_with}
-use Rattle.bag_text.specs.Alg.{hex_len}
-use Rattle.bag_text.specs.declared.alg.Alg.{Alg}
-use Rattle.bag_text.specs.declared.alg.Alg.TheVariants.{Md5}
-use Rattle.bag_read.specs.declared.kind.Kind.{Kind}
-use Rattle.bag_read.specs.declared.manifest.ManifestEntry.{ManifestEntry}
-use Rattle.bag_read.proofs.ManifestLineParts.{lines_read}
-use Rattle.bag_tree.specs.Bag.{Bag}
-use Rattle.bag_facts.specs.Facts.{rules_in}
-use Rattle.bag_stages.specs.ValidityStage.{IsEntryIn}
 
 at_most : (alg : Alg) → hex_len alg ≤ 128
 at_most Md5 = omega arith

@@ -1,7 +1,5 @@
 -- Sets that a list has: of nothing, of one, of two sets, of a set for each member of another; and what can be decided.
-use Rattle.std.proofs.Common.{◌≡◌, ◌⊎◌, inl, inr, Bool, true, false, List, [], ◌∷◌, ◌++◌, refl, sym, subst, Contains}
-use Rattle.bag_text.proofs.ListOf.{contains_cases, contains_first, contains_behind, contains_nothing, contains_front, contains_back, contains_either}
-use Rattle.bag_stages.specs.HasList.{HasList}
+use Rattle.bag_stages.proofs.Common.{◌≡◌, ◌⊎◌, inl, inr, Bool, true, false, List, [], ◌∷◌, ◌++◌, refl, sym, subst, Contains, contains_cases, contains_first, contains_behind, contains_nothing, contains_front, contains_back, contains_either, HasList}
 
 abbrev pub Decided : Type 0 → Type 0
 Decided D = D ⊎ (¬ D)

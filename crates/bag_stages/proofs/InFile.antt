@@ -1,50 +1,15 @@
 -- The order of faults of one stage, and of a tag file's lines as faults of the bag.
-use Rattle.std.proofs.Common.{◌≡◌, ℕ, List, [], ◌∷◌, map, Option, Contains, refl, ap, sym, ◌∙◌, subst}
+use Rattle.bag_stages.proofs.Common.{arith, ◌≡◌, ℕ, List, [], ◌∷◌, map, Option, Contains, refl, ap, sym, ◌∙◌, subst, Ordering, Less, Equal, nat_cmp, ordering_then, nat_cmp_total, nat_list_cmp_total, text_cmp, rank_or_zero, number, stage, IsListOf, Alg, contains_first, contains_behind, each_from_members, member_has, LineFault, line_fault_cmp, Fault, fault_cmp, in_file, in_line, mapped_contains, contains_mapped, self_ties}
 use Rattle.std.specs.List.Sorted.{IsStrictlySortedBy}
-use Rattle.std.specs.declared.cmp.Ordering.{Ordering}
-use Rattle.std.specs.declared.cmp.Ordering.TheVariants.{Less, Equal}
-use Rattle.std.specs.Ordering.{nat_cmp, ordering_then}
-use Rattle.std.specs.Cmp.{nat_cmp_total}
-use Rattle.std.specs.Cmp.Lexicographic.{nat_list_cmp_total}
-use Rattle.bag_text.specs.Text.{text_cmp}
-use Rattle.bag_text.specs.Alg.{rank_or_zero}
-use Rattle.bag_text.specs.Code.{number, stage}
-use Rattle.bag_text.specs.Order.{IsListOf}
-use Rattle.bag_text.specs.declared.alg.Alg.{Alg}
-use Rattle.bag_text.proofs.ListOf.{contains_first, contains_behind, each_from_members, member_has}
-use Rattle.bag_read.specs.declared.line_fault.LineFault.{LineFault}
-use Rattle.bag_read.specs.LineFault.{line_fault_cmp}
-use Rattle.bag_facts.specs.declared.fault.Fault.{Fault}
-use Rattle.bag_facts.specs.FaultOrder.{fault_cmp}
-use Rattle.bag_stages.specs.FaultFields.{in_file, in_line}
-use Rattle.bag_facts.proofs.Mapped.{mapped_contains, contains_mapped}
-use Rattle.bag_facts.proofs.Ascending.{self_ties}
 use Rattle.bag_stages.proofs.FaultFields.{made_of}
 
 -- faults of one stage are ordered by their paths first
 pub less_by_path : (x y : Fault) → stage x.code ≡ stage y.code → text_cmp x.path y.path ≡ Less → fault_cmp x y ≡ Less
-less_by_path x y same less =
-    let paths : Ordering = text_cmp x.path y.path in
-    let algs : Ordering = nat_cmp (rank_or_zero x.alg) (rank_or_zero y.alg) in
-    let lines : Ordering = nat_cmp x.line y.line in
-    let numbers : Ordering = nat_cmp (number x.code) (number y.code) in
-    let details : Ordering = text_cmp x.detail y.detail in
-    let stages : nat_cmp (stage x.code) (stage y.code) ≡ Equal = subst (λ n. nat_cmp (stage x.code) n ≡ Equal) same (self_ties nat_cmp_total (stage x.code)) in
-    ap (λ o. ordering_then (ordering_then (ordering_then (ordering_then (ordering_then o paths) algs) lines) numbers) details) stages
-    ∙ ap (λ o. ordering_then (ordering_then (ordering_then (ordering_then o algs) lines) numbers) details) less
+less_by_path x y same less = grind (arith, self_ties nat_cmp_total (stage x.code))
 
 -- those of one file by their algorithms
 pub less_by_alg : (x y : Fault) → stage x.code ≡ stage y.code → x.path ≡ y.path → nat_cmp (rank_or_zero x.alg) (rank_or_zero y.alg) ≡ Less → fault_cmp x y ≡ Less
-less_by_alg x y same at less =
-    let algs : Ordering = nat_cmp (rank_or_zero x.alg) (rank_or_zero y.alg) in
-    let lines : Ordering = nat_cmp x.line y.line in
-    let numbers : Ordering = nat_cmp (number x.code) (number y.code) in
-    let details : Ordering = text_cmp x.detail y.detail in
-    let stages : nat_cmp (stage x.code) (stage y.code) ≡ Equal = subst (λ n. nat_cmp (stage x.code) n ≡ Equal) same (self_ties nat_cmp_total (stage x.code)) in
-    let paths : text_cmp x.path y.path ≡ Equal = subst (λ p. text_cmp x.path p ≡ Equal) at (self_ties nat_list_cmp_total x.path) in
-    ap (λ o. ordering_then (ordering_then (ordering_then (ordering_then (ordering_then o (text_cmp x.path y.path)) algs) lines) numbers) details) stages
-    ∙ ap (λ o. ordering_then (ordering_then (ordering_then (ordering_then o algs) lines) numbers) details) paths
-    ∙ ap (λ o. ordering_then (ordering_then (ordering_then o lines) numbers) details) less
+less_by_alg x y same at less = grind (arith, self_ties nat_cmp_total (stage x.code), self_ties nat_list_cmp_total x.path)
 
 module _ (path : List ℕ) (alg : Option Alg) where
   -- faults of one stage in one file are ordered as its lines
@@ -92,6 +57,4 @@ module _ (path : List ℕ) (alg : Option Alg) where
   -- and so are faults of the bag that are of the file
   pub less_of_file : (x y : Fault) → x.path ≡ path → x.alg ≡ alg → y.path ≡ path → y.alg ≡ alg → stage x.code ≡ stage y.code
       → line_fault_cmp (in_line x) (in_line y) ≡ Less → fault_cmp x y ≡ Less
-  less_of_file x y p a q b same less =
-      subst (λ f. fault_cmp f y ≡ Less) (again_in_file x p a)
-      (subst (λ g. fault_cmp (in_file path alg (in_line x)) g ≡ Less) (again_in_file y q b) (less_in_file (in_line x) (in_line y) same less))
+  less_of_file x y p a q b same less = grind (arith, again_in_file x p a, again_in_file y q b, less_in_file (in_line x) (in_line y) same less)

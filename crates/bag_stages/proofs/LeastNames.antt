@@ -1,21 +1,9 @@
 -- The least name of a class, and the names of an ascending list up to a place.
-use Rattle.std.proofs.Common.{◌≡◌, ◌≢◌, ◌<◌, ◌⊎◌, inl, inr, zero, suc, ℕ, List, [], ◌∷◌, length, take, get_or, refl, ap, sym, ◌∙◌, subst, arith, Contains}
-use Rattle.std.specs.Cmp.Lexicographic.{nat_list_cmp_total}
+use Rattle.bag_stages.proofs.Common.{◌≡◌, ◌≢◌, ◌<◌, ◌⊎◌, inl, inr, zero, suc, ℕ, List, [], ◌∷◌, length, take, get_or, refl, ap, sym, ◌∙◌, subst, arith, Contains, nat_list_cmp_total, ordering_reverse, Ordering, Less, Equal, Greater, text_cmp, contains_cases, contains_first, contains_behind, member_has, not_both, not_less_than_itself, exact_texts, IsAscii, chars, encode_utf8_all, get_or_default, nfc_of, IsLeastAlike}
 use Rattle.std.specs.List.Sorted.{IsStrictlySortedBy}
-use Rattle.std.specs.Ordering.{ordering_reverse}
-use Rattle.std.specs.declared.cmp.Ordering.{Ordering}
-use Rattle.std.specs.declared.cmp.Ordering.TheVariants.{Less, Equal, Greater}
-use Rattle.bag_text.specs.Text.{text_cmp}
-use Rattle.bag_text.proofs.ListOf.{contains_cases, contains_first, contains_behind, member_has}
-use Rattle.bag_facts.proofs.Ascending.{not_both, not_less_than_itself}
-use Rattle.bag_tree.proofs.SameText.{exact_texts}
 use Rattle.unicode_normalization.specs.Forms.{nfc, Nfc}
 use Rattle.unicode_normalization.proofs.FormsLemmas.{normalize-ascii}
-use Rattle.std.specs.Str.{IsAscii}
-use Rattle.std.specs.Prelude.{chars, encode_utf8_all}
-use Rattle.std.proofs.lemmas.List.{get_or_default}
 use Rattle.std.proofs.lemmas.Str.{chars-IsAscii, encodes-IsAscii}
-use Rattle.bag_stages.specs.Clashes.{nfc_of, IsLeastAlike}
 
 one_by : (o : Ordering) (p q : List ℕ) → text_cmp p q ≡ o → text_cmp p q ≢ Less → text_cmp q p ≢ Less → p ≡ q
 one_by Less p q is not other = absurd (not is)

@@ -1,10 +1,6 @@
 -- Paths that payload manifests leave out, by the rules of a version.
-use Rattle.std.proofs.Common.{◌≡◌, ◌⊎◌, inl, inr, ℕ, List, Option, None, Some, refl}
+use Rattle.bag_stages.proofs.Common.{◌≡◌, ◌⊎◌, inl, inr, ℕ, List, Option, None, Some, refl, V10, V097, Alg, Bag, IsLeftOut, IsLeftOutByOne, IsLeftOutByAll}
 use Rattle.bag_text.specs.declared.rules.Rules.{Rules}
-use Rattle.bag_text.specs.declared.rules.Rules.TheVariants.{V10, V097}
-use Rattle.bag_text.specs.declared.alg.Alg.{Alg}
-use Rattle.bag_tree.specs.Bag.{Bag}
-use Rattle.bag_stages.specs.LeftOut.{IsLeftOut, IsLeftOutByOne, IsLeftOutByAll}
 use Rattle.bag_stages.proofs.HasLists.{Decided}
 
 pub v10_or_not : (rules : Rules) → Decided (rules ≡ V10)

@@ -1,10 +1,5 @@
 -- Whether payload manifests leave a path out.
-use Rattle.std.proofs.Common.{ℕ, List}
-use Rattle.bag_text.specs.declared.alg.Alg.{Alg}
-use Rattle.bag_read.specs.declared.kind.Kind.TheVariants.{Payload}
-use Rattle.bag_tree.specs.Bag.{Bag, has_file}
-use Rattle.bag_stages.specs.LeftOut.{IsNamedBySome, IsLeftOutByOne, IsLeftOutByAll}
-use Rattle.bag_stages.specs.TagFiles.{manifest_of, named_in, HasSupported, Names}
+use Rattle.bag_stages.proofs.Common.{ℕ, List, Alg, Payload, Bag, has_file, IsNamedBySome, IsLeftOutByOne, IsLeftOutByAll, manifest_of, named_in, HasSupported, Names}
 use Rattle.bag_stages.proofs.BagLists.{some_alg}
 use Rattle.bag_stages.proofs.HasLists.{Decided, true_or_not, both_decided, not_decided}
 use Rattle.bag_stages.proofs.ManifestsList.{missing_or_not, there_or_not}

@@ -4,6 +4,7 @@ pub mod ByPath
 pub mod ClashFaults
 pub mod ClashList
 pub mod ClashStage
+pub mod Common
 pub mod CompletenessFaults
 pub mod CompletenessList
 pub mod DeclarationFaults

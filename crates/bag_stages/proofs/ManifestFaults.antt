@@ -1,51 +1,10 @@
 -- The faults of manifests.
-use Rattle.std.proofs.Common.{◌≡◌, ◌≢◌, ◌<◌, ◌≤◌, inl, inr, ◌+◌, ◌++◌, ℕ, List, [], None, Some, Bool, true, false, refl, sym, ap, ◌∙◌, subst, arith, is_some, map, take, get_or, length, Contains}
-use Rattle.std.specs.Prelude.{if◌then◌else◌}
-use Rattle.std.specs.List.Sorted.{IsStrictlySortedBy}
-use Rattle.std.specs.Ordering.{on}
-use Rattle.std.specs.Str.{is_utf8}
-use Rattle.std.specs.declared.cmp.Ordering.TheVariants.{Less}
-use Rattle.bag_text.specs.Text.{text_cmp, IsNoText}
-use Rattle.bag_text.specs.Code.{stage}
-use Rattle.bag_text.specs.Lines.{IsLine, lines_of_file}
-use Rattle.bag_text.specs.Order.{IsListOf}
-use Rattle.bag_text.specs.declared.alg.Alg.{Alg}
-use Rattle.bag_text.specs.declared.code.Code.{Code}
-use Rattle.bag_text.specs.declared.code.Code.TheVariants.{NotUtf8, ManifestLine, DigestLength, ManifestEscape, ManifestUnsafePath, ManifestOutsidePayload, TagmanifestNamesPayload, TagmanifestNamesTagmanifest, NamedAgain, PayloadManifestNotListed}
-use Rattle.bag_text.proofs.ListOf.{contains_nothing, nothing_listed, joined, same_members}
-use Rattle.bag_tree.specs.Bag.{Bag, file, HasFile}
-use Rattle.bag_tree.specs.declared.listing.FileEntry.{FileEntry}
-use Rattle.bag_read.specs.Manifest.{IsEntry, ManifestFault, IsManifestFault}
-use Rattle.bag_read.specs.ManifestName.{manifest_name}
-use Rattle.bag_read.specs.LineFault.{AreFaults}
-use Rattle.bag_read.specs.TagName.{tag_path}
-use Rattle.bag_read.specs.declared.line_fault.LineFault.{LineFault}
-use Rattle.bag_read.specs.declared.kind.Kind.{Kind}
-use Rattle.bag_read.specs.declared.kind.Kind.TheVariants.{Payload, Tag}
-use Rattle.bag_read.specs.declared.manifest.ManifestEntry.{ManifestEntry}
-use Rattle.bag_read.specs.declared.tag_name.TagName.{TagName}
+use Rattle.bag_stages.proofs.Common.{◌≡◌, ◌≢◌, ◌<◌, ◌≤◌, inl, inr, ◌+◌, ◌++◌, ℕ, List, [], None, Some, Bool, true, false, refl, sym, ap, ◌∙◌, subst, arith, is_some, map, take, get_or, length, Contains, if◌then◌else◌, IsStrictlySortedBy, on, is_utf8, Less, text_cmp, IsNoText, stage, IsLine, lines_of_file, IsListOf, Alg, Code, NotUtf8, ManifestLine, DigestLength, ManifestEscape, ManifestUnsafePath, ManifestOutsidePayload, TagmanifestNamesPayload, TagmanifestNamesTagmanifest, NamedAgain, PayloadManifestNotListed, contains_nothing, nothing_listed, joined, same_members, Bag, file, HasFile, FileEntry, IsEntry, ManifestFault, IsManifestFault, manifest_name, AreFaults, tag_path, LineFault, Kind, Payload, Tag, ManifestEntry, TagName, line_below, entry_named, named_has_entry, paths_differ, Fault, fault_cmp, rules_in, IsByV10, IsByV097, IsFactsOf, IsSaid, name_of, path_of, entry_paths, AreByPath, AreListed, paths_of, Facts, Manifest, TagFacts, file_listed, listed_file, mapped_contains, contains_mapped, unnamed, IsAskedUnnamed, IsUnnamedFault, IsUnnamedAmong, IsUnlistedManifest, IsLineFault, IsOfManifest, InManifest, ManifestFaultsAreOfStageFive, in_file, in_line, manifest_of, Names}
 use Rattle.bag_read.specs.declared.tag_name.TagName.TheVariants as tag_name
-use Rattle.bag_read.proofs.FaultOrder.{line_below}
 use Rattle.bag_read.proofs.ManifestCodes.{IsManifestCode, manifest_fault_code, manifest_fault_stage, manifest_fault_line}
-use Rattle.bag_read.proofs.ManifestEntries.{entry_named, named_has_entry}
-use Rattle.bag_read.proofs.TagPaths.{paths_differ}
-use Rattle.bag_facts.specs.declared.fault.Fault.{Fault}
-use Rattle.bag_facts.specs.FaultOrder.{fault_cmp}
-use Rattle.bag_facts.specs.Facts.{rules_in, IsByV10, IsByV097, IsFactsOf, IsSaid}
-use Rattle.bag_facts.specs.TagFacts.{name_of, path_of, entry_paths, AreByPath}
-use Rattle.bag_facts.specs.TagReader.{AreListed}
-use Rattle.bag_facts.specs.Wanted.{paths_of}
-use Rattle.bag_facts.specs.declared.facts.Facts.{Facts}
 use Rattle.bag_facts.specs.declared.options.Depth.TheVariants.{Declaration}
-use Rattle.bag_facts.specs.declared.tag_facts.Manifest.{Manifest}
-use Rattle.bag_facts.specs.declared.tag_facts.TagFacts.{TagFacts}
 use Rattle.bag_facts.specs.declared.tag_facts.TagFacts.TheVariants as facts
-use Rattle.bag_facts.proofs.ListedFiles.{file_listed, listed_file}
-use Rattle.bag_facts.proofs.Mapped.{mapped_contains, contains_mapped}
-use Rattle.bag_stages.specs.ManifestFaults.{unnamed, IsAskedUnnamed, IsUnnamedFault, IsUnnamedAmong, IsUnlistedManifest, IsLineFault, IsOfManifest}
-use Rattle.bag_stages.specs.ManifestsStage.{ManifestHolds, IsOfManifests, InManifest, ManifestFaultsAreOfStageFive}
-use Rattle.bag_stages.specs.FaultFields.{in_file, in_line}
-use Rattle.bag_stages.specs.TagFiles.{manifest_of, Names}
+use Rattle.bag_stages.specs.ManifestsStage.{ManifestHolds, IsOfManifests}
 use Rattle.bag_stages.proofs.FaultFields.{made_of}
 use Rattle.bag_stages.proofs.ByPath.{one_item_more, take_whole}
 use Rattle.bag_stages.proofs.LeftOut.{not_both}
@@ -179,8 +138,7 @@ read_tag_manifest bag files Tag alg bytes path all of_names of_lines faults is l
 -- a payload manifest has the faults of its lines alone
 pub read_payload_manifest : (bag : Bag) (kind : Kind) (alg : Alg) (of_lines : List Fault) → kind ≡ Payload → IsListOf fault_cmp (IsLineFault bag kind alg) of_lines
     → IsListOf fault_cmp (IsOfManifest bag kind alg) of_lines
-read_payload_manifest bag Payload alg of_lines is lines =
-    same_members fault_cmp _ _ of_lines (λ f h. inr h) (λ f h. elim h [ inl nothing ↦ absurd nothing | inr line ↦ line ]) lines
+read_payload_manifest bag Payload alg of_lines is lines = grind (arith, same_members)
 read_payload_manifest bag Tag alg of_lines is lines = cc
 
 -- what the codes of the stage say
@@ -211,10 +169,7 @@ module _ (bag : Bag) (f : Fault) where
   line_row other is h = absurd is
 
   line_code : (kind : Kind) (alg : Alg) → IsLineFault bag kind alg f → IsManifestCode f.code
-  line_code kind alg h = elim (manifest_fault_code (rules_in bag) kind alg h.0.2.0 (in_line f) h.0.2.2) [
-    | inl whole ↦ (let two : stage f.code ≡ 2 = ap stage whole.0 in absurd (omega (arith, h.1)))
-    | inr line ↦ line.0
-  ]
+  line_code kind alg h = grind (arith, manifest_fault_code)
 
   of_manifest_is : (kind : Kind) (alg : Alg) → IsOfManifest bag kind alg f → IsOfManifests bag f
   unfolding IsOfManifests ManifestHolds
@@ -294,8 +249,7 @@ module _ (bag : Bag) where
   -- the faults of a tag file that is a manifest
   pub of_manifest_listed : (tag : TagFacts) (m : Manifest) (faults : List Fault) → tag ≡ facts.Manifest m → IsSaid bag tag
       → (IsSaid bag (facts.Manifest m) → IsListOf fault_cmp (IsOfManifest bag m.kind m.alg) faults) → IsListOf fault_cmp (λ f. IsOfTag bag f (name_of tag)) faults
-  of_manifest_listed tag m faults is said list =
-      subst (λ t. IsListOf fault_cmp (λ f. IsOfTag bag f (name_of t)) faults) (sym is) (list (subst (IsSaid bag) is said))
+  of_manifest_listed tag m faults is said list = grind arith
 
   -- any other has none
   pub no_manifest_listed : (tag : TagFacts) → ((m : Manifest) → tag ≢ facts.Manifest m) → IsListOf fault_cmp (λ f. IsOfTag bag f (name_of tag)) []
@@ -307,9 +261,4 @@ module _ (bag : Bag) where
   -- which are all that facts read for more than the declaration know
   pub all_tags_listed : (all : Facts) (tags : List TagFacts) (i : ℕ) (faults : List Fault) → IsFactsOf bag all → all.options.depth ≢ Declaration → tags ≡ all.tags → length tags ≤ i
       → IsListOf fault_cmp (Among (take i tags)) faults → IsListOf fault_cmp (IsOfManifests bag) faults
-  all_tags_listed all tags i faults h deep same le list =
-      same_members fault_cmp (Among tags) (IsOfManifests bag) faults (λ f m. m.1)
-      (λ f m. let some = of_some bag f m in
-      let at = of_tag_at bag f some.0 some.1 in
-      (subst (λ ts. Contains (map path_of ts) f.path) (sym same) (subst (Contains (map path_of all.tags)) (sym at.0) ((h.tags.members (tag_path some.0)).1 ((some.0, refl, inr deep), at.1))), m))
-      (subst (λ ts. IsListOf fault_cmp (Among ts) faults) (take_whole tags i le) list)
+  all_tags_listed all tags i faults h deep same le list = grind (arith, same_members, of_some, of_tag_at, take_whole)

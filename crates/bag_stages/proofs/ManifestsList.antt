@@ -1,30 +1,6 @@
 -- Every bag has a list of the faults of its manifests.
-use Rattle.std.proofs.Common.{◌≡◌, inl, inr, ℕ, List, [], Bool, true, false, Option, None, Some, map, refl, sym, ◌∙◌, subst, Contains}
-use Rattle.std.specs.Prelude.{if◌then◌else◌}
-use Rattle.std.specs.Cmp.{eq_by_cmp_equiv}
-use Rattle.std.specs.Cmp.Lexicographic.{nat_list_cmp_total}
-use Rattle.std.specs.List.{list_any}
-use Rattle.std.specs.Ordering.{eq_by_cmp}
-use Rattle.std.specs.Str.{is_utf8}
-use Rattle.std.proofs.lemmas.Map.Views.{Contains-from_any, list_any-from_Contains}
-use Rattle.bag_text.specs.Text.{text_cmp}
-use Rattle.bag_text.specs.declared.alg.Alg.{Alg}
-use Rattle.bag_text.specs.declared.code.Code.TheVariants.{PayloadManifestNotListed}
-use Rattle.bag_read.specs.ManifestName.{manifest_name}
-use Rattle.bag_read.specs.declared.kind.Kind.{Kind}
-use Rattle.bag_read.specs.declared.kind.Kind.TheVariants.{Payload, Tag}
-use Rattle.bag_read.specs.declared.tag_name.TagName.{TagName}
+use Rattle.bag_stages.proofs.Common.{arith, ◌≡◌, inl, inr, ℕ, List, [], Bool, true, false, Option, None, Some, map, refl, sym, ◌∙◌, Contains, if◌then◌else◌, eq_by_cmp_equiv, nat_list_cmp_total, list_any, eq_by_cmp, is_utf8, Contains-from_any, list_any-from_Contains, text_cmp, Alg, manifest_name, Kind, Payload, Tag, TagName, some_faults, Bag, file, has_file, one_text, Fault, rules_in, IsByV10, in_file, HasList, unnamed, IsUnlistedManifest, IsLineFault, IsOfManifests, ManifestFaultsAreListed, manifest_of, named_in, HasManifest, HasSupported, Names}
 use Rattle.bag_read.specs.declared.tag_name.TagName.TheVariants.{Manifest}
-use Rattle.bag_read.proofs.ManifestFaults.{some_faults}
-use Rattle.bag_tree.specs.Bag.{Bag, file, has_file}
-use Rattle.bag_tree.proofs.SameText.{one_text}
-use Rattle.bag_facts.specs.declared.fault.Fault.{Fault}
-use Rattle.bag_facts.specs.Facts.{rules_in, IsByV10}
-use Rattle.bag_stages.specs.FaultFields.{in_file}
-use Rattle.bag_stages.specs.HasList.{HasList}
-use Rattle.bag_stages.specs.ManifestFaults.{unnamed, IsUnlistedManifest, IsLineFault}
-use Rattle.bag_stages.specs.ManifestsStage.{IsOfManifests, ManifestFaultsAreListed}
-use Rattle.bag_stages.specs.TagFiles.{manifest_of, named_in, HasManifest, HasSupported, Names}
 use Rattle.bag_stages.proofs.FaultFields.{made_of}
 use Rattle.bag_stages.proofs.BagLists.{manifests_listed, over_names}
 use Rattle.bag_stages.proofs.HasLists.{Decided, true_or_not, both_decided, not_decided, nothing, one_where, same_set, either, for_each}
@@ -66,16 +42,10 @@ module _ (bag : Bag) where
       (both_decided _ _ (true_or_not (has_file bag (manifest_of Tag alg))) (missing_or_not (named_in bag Tag alg) (manifest_name Payload other)))
 
   to_unlisted : (alg : Alg) (f : Fault) → LacksSome alg f → IsUnlistedManifest bag Tag alg f
-  to_unlisted alg f (other, has, ((by, (there, lacks)), is)) =
-      subst (IsUnlistedManifest bag Tag alg) (sym is)
-      (by, refl, (other, record { path_is = refl; alg_is = refl; line_is = refl; detail_is = refl }, there, has, lacks))
+  to_unlisted alg f (other, has, ((by, (there, lacks)), is)) = grind arith
 
   from_unlisted : (alg : Alg) (f : Fault) → IsUnlistedManifest bag Tag alg f → LacksSome alg f
-  from_unlisted alg f (by, code, (other, at, there, has, lacks)) = (
-    other,
-    has,
-    ((by, (there, lacks)), made_of f PayloadManifestNotListed (manifest_of Tag alg) (Some alg) 0 (manifest_name Payload other) code at),
-  )
+  from_unlisted alg f (by, code, (other, at, there, has, lacks)) = grind (arith, made_of)
 
   unlisted : (kind : Kind) (alg : Alg) → HasList (IsUnlistedManifest bag kind alg)
   unlisted Payload alg = nothing _ (λ f h. h)

@@ -1,32 +1,7 @@
 -- The faults of the metadata.
-use Rattle.std.proofs.Common.{◌≡◌, ◌≢◌, ◌⊎◌, inl, inr, ◌++◌, ℕ, List, [], ◌∷◌, map, Option, None, Some, Bool, true, false, is_lt, refl, sym, ap, ◌∙◌, subst}
-use Rattle.std.specs.Prelude.{if◌then◌else◌}
-use Rattle.std.specs.List.Sorted.{IsPermutation, IsSortedBy}
-use Rattle.std.specs.Str.{is_utf8}
-use Rattle.bag_text.specs.Code.{stage}
-use Rattle.bag_text.specs.Lines.{IsLine, lines_of_file}
-use Rattle.bag_text.specs.Order.{IsListOf}
-use Rattle.bag_text.specs.declared.code.Code.{Code}
-use Rattle.bag_text.specs.declared.code.Code.TheVariants.{NotUtf8, InfoLine, OxumMalformed, OxumAgain, OxumDiffers, NoOxum}
-use Rattle.bag_text.proofs.ListOf.{nothing_listed, same_members}
-use Rattle.bag_read.specs.Info.{IsElement, InfoFault, IsInfoFault}
-use Rattle.bag_read.specs.LineFault.{AreFaults}
-use Rattle.bag_read.specs.declared.line_fault.LineFault.{LineFault}
-use Rattle.bag_read.specs.declared.oxum.Oxum.{Oxum}
-use Rattle.bag_read.proofs.InfoElements.{elements_of}
-use Rattle.bag_tree.specs.Bag.{Bag, file}
-use Rattle.bag_facts.specs.declared.fault.Fault.{Fault}
-use Rattle.bag_facts.specs.FaultOrder.{fault_cmp}
-use Rattle.bag_facts.proofs.Ordered.{fault_cmp_total, fault_cmp_same}
-use Rattle.bag_facts.specs.Facts.{rules_in}
-use Rattle.bag_facts.specs.TagFacts.{IsReadOf, IsMetadataOf}
+use Rattle.bag_stages.proofs.Common.{arith, ◌≡◌, ◌≢◌, ◌⊎◌, inl, inr, ◌++◌, ℕ, List, [], ◌∷◌, map, Option, None, Some, Bool, true, false, is_lt, refl, sym, ap, ◌∙◌, subst, if◌then◌else◌, IsPermutation, IsSortedBy, is_utf8, stage, IsLine, lines_of_file, IsListOf, Code, NotUtf8, InfoLine, OxumMalformed, OxumAgain, OxumDiffers, NoOxum, nothing_listed, same_members, IsElement, InfoFault, IsInfoFault, AreFaults, LineFault, Oxum, elements_of, Bag, file, Fault, fault_cmp, fault_cmp_total, fault_cmp_same, rules_in, IsReadOf, IsMetadataOf, in_file, in_line, InFile, bag_info_txt, MetadataFaultsAreOfStageThree, no_oxum, oxums, oxum_faults, oxum, lines_or_none}
 use Rattle.bag_facts.specs.declared.tag_facts.Metadata.{Metadata}
-use Rattle.bag_stages.specs.FaultFields.{in_file, in_line, InFile}
-use Rattle.bag_stages.specs.Metadata.{bag_info_txt}
-use Rattle.bag_stages.specs.MetadataStage.{MetadataHolds, IsOfMetadata, MetadataFaultsAreOfStageThree}
-use Rattle.bag_stages.specs.OxumFaults.{no_oxum, oxums, oxum_faults}
-use Rattle.bag_stages.specs.Payload.{oxum}
-use Rattle.bag_stages.specs.TagFiles.{lines_or_none}
+use Rattle.bag_stages.specs.MetadataStage.{MetadataHolds, IsOfMetadata}
 use Rattle.bag_stages.proofs.InFile.{listed_in_file}
 use Rattle.bag_stages.proofs.OxumFaults.{by_line, IsOfOxum, oxum_listed}
 use Rattle.bag_stages.proofs.Sorted.{sorted_together}
@@ -63,9 +38,7 @@ module _ (bag : Bag) where
 
   -- what is wrong with the lines of the bytes that are there
   wrong_line : (bytes : List ℕ) (f : Fault) → file bag bag_info_txt ≡ Some bytes → InFile bag f bag_info_txt None (IsInfoFault (rules_in bag)) → IsInfoFault (rules_in bag) bytes (in_line f)
-  wrong_line bytes f there i =
-      let same : i.2.0 ≡ bytes = (let e : Some i.2.0 ≡ Some bytes = sym i.2.1 ∙ there in cc) in
-      subst (λ b. IsInfoFault (rules_in bag) b (in_line f)) same i.2.2
+  wrong_line bytes f there i = grind arith
 
   text_lines_listed : (bytes : List ℕ) (lines : List LineFault) → file bag bag_info_txt ≡ Some bytes → is_utf8 bytes ≡ true → AreFaults (IsInfoFault (rules_in bag) bytes) lines
       → IsListOf fault_cmp IsOfLine (map (in_file bag_info_txt None) lines)

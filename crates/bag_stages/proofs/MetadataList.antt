@@ -1,26 +1,7 @@
 -- Every bag has a list of the faults of its metadata.
-use Rattle.std.proofs.Common.{◌≡◌, ◌⊎◌, ℕ, List, [], ◌∷◌, Bool, true, false, Option, None, Some, map, refl}
-use Rattle.std.specs.List.{enumerate_from}
-use Rattle.std.specs.Prelude.{if◌then◌else◌}
-use Rattle.std.specs.Str.{is_utf8}
-use Rattle.bag_text.specs.Lines.{lines_of_file}
-use Rattle.bag_read.specs.Info.{IsInfoFault}
+use Rattle.bag_stages.proofs.Common.{◌≡◌, ◌⊎◌, ℕ, List, [], ◌∷◌, Bool, true, false, Option, None, Some, map, refl, enumerate_from, if◌then◌else◌, is_utf8, lines_of_file, IsInfoFault, AreFaults, not_utf8, LineFault, Element, elements_of, Bag, file, Fault, rules_in, in_file, HasList, bag_info_txt, IsOfMetadata, MetadataFaultsAreListed, oxums, oxum_faults, oxum, lines_in}
 use Rattle.bag_read.specs.InfoReader as reading
-use Rattle.bag_read.specs.LineFault.{AreFaults, not_utf8}
-use Rattle.bag_read.specs.declared.line_fault.LineFault.{LineFault}
-use Rattle.bag_read.specs.declared.info.Element.{Element}
-use Rattle.bag_read.proofs.InfoElements.{elements_of}
 use Rattle.bag_read.proofs.InfoFaults.{faults_of_text, faults_of_no_text}
-use Rattle.bag_tree.specs.Bag.{Bag, file}
-use Rattle.bag_facts.specs.declared.fault.Fault.{Fault}
-use Rattle.bag_facts.specs.Facts.{rules_in}
-use Rattle.bag_stages.specs.FaultFields.{in_file}
-use Rattle.bag_stages.specs.HasList.{HasList}
-use Rattle.bag_stages.specs.Metadata.{bag_info_txt}
-use Rattle.bag_stages.specs.MetadataStage.{IsOfMetadata, MetadataFaultsAreListed}
-use Rattle.bag_stages.specs.OxumFaults.{oxums, oxum_faults}
-use Rattle.bag_stages.specs.Payload.{oxum}
-use Rattle.bag_stages.specs.TagFiles.{lines_in}
 use Rattle.bag_stages.proofs.HasLists.{nothing, either, same_set}
 use Rattle.bag_stages.proofs.MetadataFaults.{IsOfLine, lines_listed, unread_lines, either_is, is_either}
 use Rattle.bag_stages.proofs.OxumFaults.{IsOfOxum, oxum_listed}

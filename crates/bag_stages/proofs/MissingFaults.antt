@@ -1,24 +1,6 @@
 -- The faults that manifests name files that aren't there.
-use Rattle.std.proofs.Common.{◌≡◌, List, [], refl, Bool, true, false, None, Some, ap, sym, ◌∙◌, Contains}
-use Rattle.bag_text.specs.Order.{IsListOf}
-use Rattle.bag_text.specs.declared.alg.Alg.{Alg}
-use Rattle.bag_text.specs.declared.code.Code.{Code}
-use Rattle.bag_text.proofs.ListOf.{nothing_listed}
-use Rattle.bag_read.specs.declared.kind.Kind.{Kind}
-use Rattle.bag_read.specs.declared.manifest.ManifestEntry.{ManifestEntry}
-use Rattle.bag_tree.specs.Bag.{Bag, file, has_file, LacksFile}
-use Rattle.bag_tree.specs.declared.listing.FileEntry.{FileEntry}
-use Rattle.bag_facts.specs.FaultOrder.{fault_cmp}
-use Rattle.bag_facts.specs.declared.fault.Fault.{Fault}
-use Rattle.bag_facts.specs.Facts.{rules_in}
-use Rattle.bag_facts.specs.TagFacts.{entry_paths, AreByPath, IsManifestNamed, IsReadOf}
-use Rattle.bag_facts.specs.TagReader.{AreListed}
-use Rattle.bag_facts.specs.Wanted.{paths_of}
-use Rattle.bag_facts.specs.declared.tag_facts.Manifest.{Manifest}
-use Rattle.bag_facts.proofs.ListedFiles.{file_listed, listed_file}
-use Rattle.bag_stages.specs.TagFiles.{manifest_of, Names}
+use Rattle.bag_stages.proofs.Common.{◌≡◌, List, [], refl, Bool, true, false, None, Some, ap, sym, ◌∙◌, Contains, IsListOf, Alg, Code, nothing_listed, Kind, ManifestEntry, Bag, file, has_file, LacksFile, FileEntry, fault_cmp, Fault, rules_in, entry_paths, AreByPath, IsManifestNamed, IsReadOf, AreListed, paths_of, Manifest, file_listed, listed_file, manifest_of, Names, missing_code, IsMissing, IsOfPathAmong}
 use Rattle.bag_stages.proofs.ReadManifest.{by_path, names_entry, entry_names, names_nothing}
-use Rattle.bag_stages.specs.CompletenessFaults.{missing_code, IsMissing, IsOfPathAmong}
 use Rattle.bag_stages.proofs.FaultsOfPaths.{in_other_words}
 
 absent_by : (b : Bool) → (b ≡ true → ⊥) → b ≡ false

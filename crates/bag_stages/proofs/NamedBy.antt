@@ -1,10 +1,5 @@
 -- Whether payload manifests name a path, one after another.
-use Rattle.std.proofs.Common.{◌<◌, ◌≤◌, ◌+◌, ℕ, inl, inr, length, take, get_or, sym, subst, Contains}
-use Rattle.std.proofs.lemmas.List.{get_or_default}
-use Rattle.bag_text.specs.Alg.{algs}
-use Rattle.bag_text.specs.declared.alg.Alg.{Alg}
-use Rattle.bag_text.proofs.AlgSets.{each_is_listed}
-use Rattle.bag_facts.proofs.Mapped.{taken_cases}
+use Rattle.bag_stages.proofs.Common.{arith, ◌<◌, ◌≤◌, ◌+◌, ℕ, length, take, get_or, sym, subst, Contains, get_or_default, algs, Alg, each_is_listed, taken_cases}
 use Rattle.bag_stages.proofs.ByPath.{take_whole}
 
 module _ (Holds : Alg → Type 0) where
@@ -14,12 +9,7 @@ module _ (Holds : Alg → Type 0) where
 
   -- and not of the next
   pub none_more : (i : ℕ) (any : Alg) → i < length algs → NoneOfFirst i → ¬ (Holds (get_or algs i any)) → NoneOfFirst (i + 1)
-  none_more i any lt before not alg c =
-      let here : Alg = get_or algs i any in
-      elim (taken_cases algs i here alg lt (sym (get_or_default algs i here any lt)) c) [
-        | inl a ↦ before alg a
-        | inr e ↦ subst (λ x. ¬ (Holds x)) e not
-      ]
+  none_more i any lt before not alg c = grind (arith, taken_cases, get_or_default)
 
   -- which are all
   pub none_at_all : (i : ℕ) → length algs ≤ i → NoneOfFirst i → ¬ ((alg : Alg) × Holds alg)

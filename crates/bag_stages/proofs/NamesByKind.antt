@@ -1,17 +1,6 @@
 -- Payload manifests name payload files, and tag manifests other files.
-use Rattle.std.proofs.Common.{◌≡◌, ℕ, List, refl, subst}
-use Rattle.bag_text.specs.declared.alg.Alg.{Alg}
-use Rattle.bag_read.specs.Manifest.{IsEntry}
+use Rattle.bag_stages.proofs.Common.{◌≡◌, ℕ, List, refl, subst, Alg, IsEntry, Kind, Payload, Tag, ManifestEntry, named_has_entry, lines_read, Bag, rules_in, lines_in, manifest_of, kind_of, NamesByKind}
 use Rattle.bag_read.specs.ManifestLine.{MayName}
-use Rattle.bag_read.specs.declared.kind.Kind.{Kind}
-use Rattle.bag_read.specs.declared.kind.Kind.TheVariants.{Payload, Tag}
-use Rattle.bag_read.specs.declared.manifest.ManifestEntry.{ManifestEntry}
-use Rattle.bag_read.proofs.ManifestEntries.{named_has_entry}
-use Rattle.bag_read.proofs.ManifestLineParts.{lines_read}
-use Rattle.bag_tree.specs.Bag.{Bag}
-use Rattle.bag_facts.specs.Facts.{rules_in}
-use Rattle.bag_stages.specs.TagFiles.{lines_in, manifest_of}
-use Rattle.bag_stages.specs.SummedFiles.{kind_of, NamesByKind}
 
 kind_of_named : (kind : Kind) (path : List ℕ) → MayName kind path → kind ≡ kind_of path
 kind_of_named Payload path h = rw h refl

@@ -1,34 +1,8 @@
 -- The faults of the elements that tell the payload's size are those of the bag.
-use Rattle.std.proofs.Common.{◌≡◌, ◌≢◌, ◌<◌, ◌≤◌, ◌↔◌, inl, inr, ◌++◌, ℕ, List, [], ◌∷◌, map, Option, None, Some, Bool, true, false, cond, refl, sym, ap, ◌∙◌, subst, arith, Contains, eqb}
+use Rattle.bag_stages.proofs.Common.{◌≡◌, ◌≢◌, ◌<◌, ◌≤◌, ◌↔◌, inl, inr, ◌++◌, ℕ, List, [], ◌∷◌, map, Option, None, Some, Bool, true, false, cond, refl, sym, ap, ◌∙◌, subst, arith, Contains, nat_cmp, on, Ordering, Less, Decides-eqb, IsStrictlySortedBy-filter, stage, IsListOf, Code, InfoLine, OxumMalformed, OxumAgain, OxumDiffers, NoOxum, contains_cases, contains_first, contains_behind, contains_nothing, contains_front, contains_back, contains_either, each_from_members, member_has, ascending_joined, IsElement, line_fault, Element, Oxum, both_true, lower, Bag, Fault, fault_cmp, rules_in, mapped_contains, contains_mapped, kept, passed, At, bag_info_txt, HasElement, HasFirst, HasLater, oxum_label, pair, same_oxum, of_element, again, no_oxum, is_oxum, oxums, differs, told_faults, first_faults, oxum_faults, oxum, oxum_text, lines_in}
 use Rattle.std.specs.List.Sorted.{IsStrictlySortedBy}
-use Rattle.std.specs.Ordering.{nat_cmp, on}
-use Rattle.std.specs.declared.cmp.Ordering.{Ordering}
-use Rattle.std.specs.declared.cmp.Ordering.TheVariants.{Less}
-use Rattle.std.proofs.lemmas.Bool.Decides.{Decides-eqb}
-use Rattle.std.proofs.lemmas.List.Kept.{IsStrictlySortedBy-filter}
-use Rattle.bag_text.specs.Code.{stage}
-use Rattle.bag_text.specs.Order.{IsListOf}
-use Rattle.bag_text.specs.declared.code.Code.{Code}
-use Rattle.bag_text.specs.declared.code.Code.TheVariants.{InfoLine, OxumMalformed, OxumAgain, OxumDiffers, NoOxum}
-use Rattle.bag_text.proofs.ListOf.{contains_cases, contains_first, contains_behind, contains_nothing, contains_front, contains_back, contains_either, each_from_members, member_has, ascending_joined}
-use Rattle.bag_read.specs.Info.{IsElement}
-use Rattle.bag_read.specs.LineFault.{line_fault}
 use Rattle.bag_read.specs.Oxum.{oxum_of}
-use Rattle.bag_read.specs.declared.info.Element.{Element}
-use Rattle.bag_read.specs.declared.oxum.Oxum.{Oxum}
-use Rattle.bag_read.proofs.PickedOut.{both_true}
-use Rattle.bag_read.proofs.FaultOrder.{lower}
-use Rattle.bag_tree.specs.Bag.{Bag}
-use Rattle.bag_facts.specs.declared.fault.Fault.{Fault}
-use Rattle.bag_facts.specs.FaultOrder.{fault_cmp}
-use Rattle.bag_facts.specs.Facts.{rules_in}
-use Rattle.bag_facts.proofs.Mapped.{mapped_contains, contains_mapped, kept, passed}
-use Rattle.bag_stages.specs.FaultFields.{At}
-use Rattle.bag_stages.specs.Metadata.{bag_info_txt, HasElement, HasFirst, HasLater}
-use Rattle.bag_stages.specs.MetadataStage.{oxum_label, MetadataHolds, IsOfMetadata, pair}
-use Rattle.bag_stages.specs.OxumFaults.{same_oxum, of_element, again, no_oxum, is_oxum, oxums, differs, told_faults, first_faults, oxum_faults}
-use Rattle.bag_stages.specs.Payload.{oxum, oxum_text}
-use Rattle.bag_stages.specs.TagFiles.{lines_in}
+use Rattle.bag_stages.specs.MetadataStage.{MetadataHolds, IsOfMetadata}
 use Rattle.bag_stages.proofs.FaultFields.{made_of}
 use Rattle.bag_stages.proofs.InFile.{less_in_file}
 
@@ -37,11 +11,7 @@ by_line = on (λ e. e.line) nat_cmp
 
 -- two sizes are one just where they are found to be
 same_sizes : (a b : Oxum) → same_oxum a b ≡ true → a ≡ b
-same_sizes a b e =
-    let both = both_true (eqb a.octets b.octets) (eqb a.streams b.streams) e in
-    let octets : a.octets ≡ b.octets = (Decides-eqb a.octets b.octets).0 both.0 in
-    let streams : a.streams ≡ b.streams = (Decides-eqb a.streams b.streams).0 both.1 in
-    λ i. record { octets = octets i; streams = streams i }
+same_sizes a b e = grind (arith, both_true)
 
 itself : (a : Oxum) → same_oxum a a ≡ true
 itself a = rw ((Decides-eqb a.octets a.octets).1 refl, (Decides-eqb a.streams a.streams).1 refl) refl
@@ -86,16 +56,10 @@ module _ (found : Oxum) where
 
   differs_of : (e : Element) (b : Bool) (f : Fault) → Contains (cond b [] (differs bag_info_txt found e ∷ [])) f → IsOfElement e f
   differs_of e true f c = absurd (contains_nothing f c)
-  differs_of e false f c = elim (contains_cases (differs bag_info_txt found e) [] f c) [
-    | inl same ↦ (OxumDiffers, pair e.value (oxum_text found), refl, same)
-    | inr none ↦ absurd (contains_nothing f none)
-  ]
+  differs_of e false f c = grind (arith, contains_cases, contains_nothing)
 
   told_of : (e : Element) (o : Option Oxum) (f : Fault) → Contains (told_faults bag_info_txt found e o) f → IsOfElement e f
-  told_of e None f c = elim (contains_cases (of_element bag_info_txt OxumMalformed e e.value) [] f c) [
-    | inl same ↦ (OxumMalformed, e.value, refl, same)
-    | inr none ↦ absurd (contains_nothing f none)
-  ]
+  told_of e None f c = grind (arith, contains_cases, contains_nothing)
   told_of e (Some told) f c = differs_of e (same_oxum told found) f c
 
   -- the faults stand in the order of their elements
@@ -141,18 +105,12 @@ module _ (bag : Bag) where
   ]
 
   told_is : (e : Element) (o : Option Oxum) (f : Fault) → HasFirst bag oxum_label e → oxum_of e.value ≡ o → Contains (told_faults bag_info_txt (oxum bag) e o) f → IsOfOxum f
-  told_is e None f first is c = elim (contains_cases (of_element bag_info_txt OxumMalformed e e.value) [] f c) [
-    | inl at ↦ subst IsOfOxum at (malformed_is e first is)
-    | inr none ↦ absurd (contains_nothing f none)
-  ]
+  told_is e None f first is c = grind (arith, contains_cases, malformed_is, contains_nothing)
   told_is e (Some told) f first is c = told_by (same_oxum told (oxum bag)) e told f first is refl c
 
   -- and the faults that they are said of are there
   malformed_in : (e : Element) (f : Fault) → f.code ≡ OxumMalformed → At f bag_info_txt None e.line e.value → oxum_of e.value ≡ None → Contains (first_faults bag_info_txt (oxum bag) e) f
-  malformed_in e f code at none =
-      let made : Fault = of_element bag_info_txt OxumMalformed e e.value in
-      subst (λ o. Contains (told_faults bag_info_txt (oxum bag) e o) f) (sym none)
-      (subst (Contains (made ∷ [])) (sym (made_of f OxumMalformed bag_info_txt None e.line e.value code at)) (contains_first made []))
+  malformed_in e f code at none = grind (arith, made_of, contains_first)
 
   found_other : (told : Oxum) (b : Bool) → same_oxum told (oxum bag) ≡ b → told ≢ oxum bag → b ≡ false
   found_other told true e other = absurd (other (same_sizes told (oxum bag) e))
@@ -160,15 +118,10 @@ module _ (bag : Bag) where
 
   differs_in : (e : Element) (told : Oxum) (f : Fault) → f.code ≡ OxumDiffers → At f bag_info_txt None e.line (pair e.value (oxum_text (oxum bag))) → oxum_of e.value ≡ Some told → told ≢ oxum bag
       → Contains (first_faults bag_info_txt (oxum bag) e) f
-  differs_in e told f code at is other =
-      let made : Fault = differs bag_info_txt (oxum bag) e in
-      subst (λ o. Contains (told_faults bag_info_txt (oxum bag) e o) f) (sym is)
-      (subst (λ b. Contains (cond b [] (made ∷ [])) f) (sym (found_other told (same_oxum told (oxum bag)) refl other))
-      (subst (Contains (made ∷ [])) (sym (made_of f OxumDiffers bag_info_txt None e.line (pair e.value (oxum_text (oxum bag))) code at)) (contains_first made [])))
+  differs_in e told f code at is other = grind (arith, found_other, made_of, contains_first)
 
   again_in : (e : Element) (later : List Element) (f : Fault) → f.code ≡ OxumAgain → At f bag_info_txt None e.line e.value → Contains later e → Contains (map (again bag_info_txt) later) f
-  again_in e later f code at c =
-      subst (Contains (map (again bag_info_txt) later)) (sym (made_of f OxumAgain bag_info_txt None e.line e.value code at)) (mapped_contains (again bag_info_txt) later e c)
+  again_in e later f code at c = grind (arith, made_of f OxumAgain bag_info_txt None e.line e.value code at, mapped_contains (again bag_info_txt) later e c)
 
   -- no element tells the size
   module _ (list : IsListOf by_line (HasElement bag oxum_label) []) where
@@ -232,23 +185,15 @@ module _ (bag : Bag) where
     some_by : (f : Fault) (c : Code) → f.code ≡ c → c ≢ InfoLine → MetadataHolds bag f c → Contains (Firsts ++ Laters) f
     unfolding MetadataHolds
     some_by f InfoLine e other h = absurd (other refl)
-    some_by f OxumMalformed e other (d, at, is, none) =
-        contains_front Firsts Laters f (subst (λ x. Contains (first_faults bag_info_txt (oxum bag) x) f) (only_first d is) (malformed_in d f e at none))
+    some_by f OxumMalformed e other (d, at, is, none) = grind (arith, only_first d is, malformed_in d f e at none, contains_front)
     some_by f OxumAgain e other (d, at, is) = contains_back Firsts Laters f (again_in d later f e at (behind_first d is))
-    some_by f OxumDiffers e other (d, told, at, is, tells, differs) =
-        contains_front Firsts Laters f (subst (λ x. Contains (first_faults bag_info_txt (oxum bag) x) f) (only_first d is) (differs_in d told f e at tells differs))
+    some_by f OxumDiffers e other (d, told, at, is, tells, differs) = grind (arith, only_first d is, differs_in d told f e at tells differs, contains_front)
     some_by f NoOxum e other (at, none) = absurd (none first there)
     some_by f c e other h = absurd h
 
   oxum_members : (xs : List Element) → IsListOf by_line (HasElement bag oxum_label) xs → (f : Fault) → Contains (oxum_faults bag_info_txt (oxum bag) xs) f ↔ IsOfOxum f
   unfolding IsOfMetadata
-  oxum_members [] list f = (
-    λ c. elim (contains_cases (no_oxum bag_info_txt) [] f c) [
-      | inl same ↦ subst IsOfOxum same (none_is (lacks list))
-      | inr none ↦ absurd (contains_nothing f none)
-    ],
-    λ h. subst (Contains (no_oxum bag_info_txt ∷ [])) (sym (none_by list f f.code refl h.1 h.0)) (contains_first (no_oxum bag_info_txt) []),
-  )
+  oxum_members [] list f = grind (arith, contains_cases, none_is, lacks, contains_nothing, none_by, contains_first)
   oxum_members (first ∷ later) list f = (some_is first later list f, λ h. some_by first later list f f.code refl h.1 h.0)
 
   -- the elements that have the label

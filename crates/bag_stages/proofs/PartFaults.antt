@@ -1,47 +1,9 @@
 -- The faults of a bag's parts.
-use Rattle.std.proofs.Common.{◌≡◌, ◌≢◌, ◌⊎◌, ◌↔◌, inl, inr, ◌++◌, ◌∷◌, ℕ, List, [], None, Some, Bool, true, false, refl, sym, ap, ◌∙◌, subst, arith, is_some, codes, append_assoc, Contains, ◌+◌, ◌<◌, ◌≤◌, length, get_or, take, IsTrue}
-use Rattle.std.specs.Prelude.{if◌then◌else◌}
-use Rattle.std.specs.List.Sorted.{IsStrictlySortedBy}
-use Rattle.std.specs.Str.{is_utf8}
-use Rattle.std.proofs.lemmas.List.Elements.{All-contains}
-use Rattle.bag_text.specs.Path.{is_path}
-use Rattle.std.specs.declared.cmp.Ordering.TheVariants.{Less}
-use Rattle.bag_text.specs.Text.{text_cmp}
-use Rattle.bag_text.specs.Alg.{name, alg_named}
-use Rattle.bag_text.specs.Code.{stage}
-use Rattle.bag_text.specs.Order.{IsListOf}
-use Rattle.bag_text.specs.declared.alg.Alg.{Alg}
-use Rattle.bag_text.specs.declared.code.Code.{Code}
-use Rattle.bag_text.specs.declared.code.Code.TheVariants.{NoPayloadFolder, NoPayloadManifest, AlgorithmUnsupported, NotUtf8}
-use Rattle.bag_text.proofs.ListOf.{nothing_listed, one_listed, joined, same_members}
-use Rattle.bag_tree.specs.Bag.{Bag, file, HasFile, has_folder}
-use Rattle.bag_tree.specs.Listing.{IsOrdered}
-use Rattle.bag_tree.specs.declared.listing.FileEntry.{FileEntry}
-use Rattle.bag_read.specs.ManifestName.{manifest_name, is_alg_text, prefix}
-use Rattle.bag_read.specs.TagName.{tag_path}
-use Rattle.bag_read.specs.declared.kind.Kind.{Kind}
-use Rattle.bag_read.specs.declared.kind.Kind.TheVariants.{Payload, Tag}
-use Rattle.bag_read.specs.declared.tag_name.TagName.{TagName}
+use Rattle.bag_stages.proofs.Common.{◌≡◌, ◌≢◌, ◌⊎◌, ◌↔◌, inl, inr, ◌++◌, ◌∷◌, ℕ, List, [], None, Some, Bool, true, false, refl, sym, ap, ◌∙◌, subst, arith, is_some, codes, append_assoc, Contains, ◌+◌, ◌<◌, ◌≤◌, length, get_or, take, IsTrue, if◌then◌else◌, IsStrictlySortedBy, is_utf8, All-contains, is_path, Less, text_cmp, name, alg_named, stage, IsListOf, Alg, Code, NoPayloadFolder, NoPayloadManifest, AlgorithmUnsupported, NotUtf8, nothing_listed, one_listed, joined, same_members, Bag, file, HasFile, has_folder, IsOrdered, FileEntry, manifest_name, is_alg_text, prefix, tag_path, Kind, Payload, Tag, TagName, same_alg, name_named, paths_differ, of_path, Fault, fault_cmp, rules_in, IsFactsOf, IsSaid, name_of, path_of, text_test, Says, AreListed, paths_of, Facts, TagFacts, file_listed, listed_file, contains_mapped, taken_cases, AreTagsOf, ListsPayloadManifest, HasTextless, IsUnsupported, IsFileFault, IsFaultAmong, PartFaultsAreOfStageTwo, At, of_bag, HasManifest, HasNoText}
 use Rattle.bag_read.specs.declared.tag_name.TagName.TheVariants as tag_name
-use Rattle.bag_read.proofs.ManifestName.{same_alg}
-use Rattle.bag_read.proofs.TagPaths.{name_named, paths_differ}
-use Rattle.bag_facts.specs.FaultAt.{of_path}
-use Rattle.bag_facts.specs.declared.fault.Fault.{Fault}
-use Rattle.bag_facts.specs.FaultOrder.{fault_cmp}
-use Rattle.bag_facts.specs.Facts.{rules_in, IsFactsOf, IsSaid}
-use Rattle.bag_facts.specs.TagFacts.{name_of, path_of, text_test, Says}
-use Rattle.bag_facts.specs.TagReader.{AreListed}
-use Rattle.bag_facts.specs.Wanted.{paths_of}
-use Rattle.bag_facts.specs.declared.facts.Facts.{Facts}
 use Rattle.bag_facts.specs.declared.options.Depth.TheVariants.{Declaration}
-use Rattle.bag_facts.specs.declared.tag_facts.TagFacts.{TagFacts}
 use Rattle.bag_facts.specs.declared.tag_facts.TagFacts.TheVariants as facts
-use Rattle.bag_facts.proofs.ListedFiles.{file_listed, listed_file}
-use Rattle.bag_facts.proofs.Mapped.{contains_mapped, taken_cases}
-use Rattle.bag_stages.specs.FileFaults.{AreTagsOf, ListsPayloadManifest, HasTextless, IsUnsupported, IsFileFault, IsFaultAmong}
-use Rattle.bag_stages.specs.PartsStage.{PartHolds, IsOfParts, PartFaultsAreOfStageTwo}
-use Rattle.bag_stages.specs.FaultFields.{At, of_bag}
-use Rattle.bag_stages.specs.TagFiles.{HasManifest, HasNoText}
+use Rattle.bag_stages.specs.PartsStage.{PartHolds, IsOfParts}
 use Rattle.bag_stages.proofs.FaultFields.{made_of}
 use Rattle.bag_stages.proofs.ByPath.{take_whole}
 use Rattle.bag_stages.proofs.InFile.{less_by_path}
@@ -83,9 +45,7 @@ unsupported_once path one other h k = one_alg h.0 k.0 one other (sym h.2 ∙ k.2
 
 -- a manifest whose algorithm is supported is no unsupported one
 pub supported_alone : (path text alg : List ℕ) (kind : Kind) (a : Alg) → path ≡ manifest_name kind text → alg_named text ≡ Some a → IsUnsupported path alg → ⊥
-supported_alone path text alg kind a at named h =
-    let text_is : text ≡ alg = one_alg kind h.0 text alg (sym at ∙ h.2) in
-    let clash : None ≡ Some a = sym h.3 ∙ ap alg_named (sym text_is) ∙ named in cc
+supported_alone path text alg kind a at named h = grind (arith, one_alg)
 
 -- a manifest whose algorithm isn't supported isn't read
 unsupported_unread : (path alg : List ℕ) (tag : TagName) → IsUnsupported path alg → tag ≢ tag_name.Declaration → tag_path tag ≡ path → ⊥
@@ -131,8 +91,7 @@ textless_fault path = of_path NotUtf8 path None []
 
 same_textless : (bag : Bag) (path : List ℕ) → ((alg : List ℕ) → ¬ (IsUnsupported path alg)) → (y : Fault) → y.path ≡ path → IsFileFault bag y → y ≡ textless_fault path
 same_textless bag path supported y at (inl k) = absurd (supported y.detail (subst (λ p. IsUnsupported p y.detail) at k.2))
-same_textless bag path supported y at (inr (e, fields, k)) =
-    made_of y NotUtf8 path None 0 [] e (record { path_is = at; alg_is = fields.alg_is; line_is = fields.line_is; detail_is = fields.detail_is })
+same_textless bag path supported y at (inr (e, fields, k)) = grind (arith, made_of)
 
 -- a tag file that isn't UTF-8 has that fault alone
 pub only_textless : (bag : Bag) (path one two : List ℕ) (f : Fault) → one ≡ path → two ≡ path → ((alg : List ℕ) → ¬ (IsUnsupported one alg)) → HasNoText bag two → f ≡ textless_fault path
@@ -214,8 +173,7 @@ IsPart files has_data has_manifest bag f = IsMissing has_data has_manifest f ⊎
 
 none_by : (bag : Bag) (files : List FileEntry) (has : Bool) → AreListed bag files → (has ≡ true → ListsPayloadManifest files) → ((alg : List ℕ) → ¬ (HasManifest bag Payload alg)) → has ≡ false
 none_by bag files false listed found none = refl
-none_by bag files true listed found none =
-    let m = found refl in absurd (none m.0 (m.1, listed_file bag files (manifest_name Payload m.0) listed m.2))
+none_by bag files true listed found none = let m = found refl in absurd (none m.0 (m.1, listed_file bag files (manifest_name Payload m.0) listed m.2))
 
 none_there : (bag : Bag) (files : List FileEntry) (has : Bool) → AreListed bag files → (ListsPayloadManifest files → has ≡ true) → has ≡ false → (alg : List ℕ) → ¬ (HasManifest bag Payload alg)
 none_there bag files has listed tells e = λ alg m.
@@ -224,10 +182,8 @@ none_there bag files has listed tells e = λ alg m.
 module _ (bag : Bag) (files : List FileEntry) (has_data has_manifest : Bool) (listed : AreListed bag files) (same : has_data ≡ has_folder bag (codes "data")) where
   part_of_holds : (found : has_manifest ≡ true → ListsPayloadManifest files) (f : Fault) (c : Code) → f.code ≡ c → PartHolds bag f c → IsPart files has_data has_manifest bag f
   unfolding PartHolds
-  part_of_holds found f NoPayloadFolder e h =
-      inl (inl (made_of f NoPayloadFolder [] None 0 [] e h.0, same ∙ h.1))
-  part_of_holds found f NoPayloadManifest e h =
-      inl (inr (made_of f NoPayloadManifest [] None 0 [] e h.0, none_by bag files has_manifest listed found h.1))
+  part_of_holds found f NoPayloadFolder e h = grind (arith, made_of)
+  part_of_holds found f NoPayloadManifest e h = inl (inr (made_of f NoPayloadManifest [] None 0 [] e h.0, none_by bag files has_manifest listed found h.1))
   part_of_holds found f AlgorithmUnsupported e (kind, alg, at, m, none) =
       inr (
         file_listed bag files f.path listed (subst (HasFile bag) (sym at.path_is) m.1),
@@ -241,10 +197,7 @@ module _ (bag : Bag) (files : List FileEntry) (has_data has_manifest : Bool) (li
   part_of_holds found f other e h = absurd h
 
   part_is : (tells : ListsPayloadManifest files → has_manifest ≡ true) (f : Fault) → IsPart files has_data has_manifest bag f → IsOfParts bag f
-  part_is tells f (inl (inl (e, h))) =
-      folder_row bag f (ap (λ (x : Fault). x.code) e)
-      (record { path_is = ap (λ (x : Fault). x.path) e; alg_is = ap (λ (x : Fault). x.alg) e; line_is = ap (λ (x : Fault). x.line) e; detail_is = ap (λ (x : Fault). x.detail) e })
-      (sym same ∙ h)
+  part_is tells f (inl (inl (e, h))) = grind (arith, folder_row)
   part_is tells f (inl (inr (e, h))) =
       manifest_row bag f (ap (λ (x : Fault). x.code) e)
       (record { path_is = ap (λ (x : Fault). x.path) e; alg_is = ap (λ (x : Fault). x.alg) e; line_is = ap (λ (x : Fault). x.line) e; detail_is = ap (λ (x : Fault). x.detail) e })
@@ -305,17 +258,10 @@ textless_known bag tags tag path known at = (
 
 pub one_more_textless : (tags : List TagFacts) (i : ℕ) (tag : TagFacts) (of : TagName) → i < length tags → tag ≡ get_or tags i tag → (HasTextless (take i tags) of → ⊥)
     → (name_of tag ≡ of → text_test tag ≡ Some false → ⊥) → HasTextless (take (i + 1) tags) of → ⊥
-one_more_textless tags i tag of lt e before this h =
-    elim (taken_cases tags i tag h.0 lt e h.1) [
-      | inl c ↦ before (h.0, c, h.2, h.3)
-      | inr is ↦ this (ap name_of is ∙ h.2) (ap text_test is ∙ h.3)
-    ]
+one_more_textless tags i tag of lt e before this h = grind (arith, taken_cases tags i tag h.0 lt e h.1)
 
 pub no_textless : (tags : List TagFacts) (i : ℕ) (of : TagName) → length tags ≤ i → (HasTextless (take i tags) of → ⊥) → HasTextless tags of → ⊥
 no_textless tags i of le none h = none (subst (λ ts. HasTextless ts of) (sym (take_whole tags i le)) h)
-
-pub no_tag_file : (bag : Bag) (path : List ℕ) → ((tag : TagName) → tag_path tag ≢ path) → HasNoText bag path → ⊥
-no_tag_file bag path none h = none h.0.0 h.0.2
 
 -- so the stage is found from the facts
 pub parts_listed : (bag : Bag) (all : Facts) (files : List FileEntry) (tags : List TagFacts) (has_manifest : Bool) (of_bag of_files faults : List Fault) → IsFactsOf bag all

@@ -1,24 +1,7 @@
 -- Every bag has a list of the faults of its parts.
-use Rattle.std.proofs.Common.{◌≡◌, ◌≢◌, ◌⊎◌, inl, inr, ℕ, List, [], Bool, true, false, Option, None, Some, codes, refl, sym, ◌∙◌, subst}
-use Rattle.std.specs.Str.{is_utf8}
-use Rattle.bag_text.specs.Alg.{alg_named}
-use Rattle.bag_text.specs.Text.{IsNoText}
-use Rattle.bag_text.specs.declared.alg.Alg.{Alg}
-use Rattle.bag_text.specs.declared.code.Code.{Code}
-use Rattle.bag_text.specs.declared.code.Code.TheVariants.{NoPayloadFolder, NoPayloadManifest, AlgorithmUnsupported, NotUtf8}
-use Rattle.bag_read.specs.ManifestName.{manifest_name}
-use Rattle.bag_read.specs.TagName.{tag_path}
-use Rattle.bag_read.specs.declared.kind.Kind.{Kind}
-use Rattle.bag_read.specs.declared.kind.Kind.TheVariants.{Payload}
-use Rattle.bag_read.specs.declared.tag_name.TagName.{TagName}
+use Rattle.bag_stages.proofs.Common.{arith, ◌≡◌, ◌≢◌, ◌⊎◌, inl, inr, ℕ, List, [], Bool, true, false, Option, None, Some, codes, refl, sym, ◌∙◌, subst, is_utf8, alg_named, IsNoText, Alg, Code, NoPayloadFolder, NoPayloadManifest, AlgorithmUnsupported, NotUtf8, manifest_name, tag_path, Kind, Payload, TagName, Bag, file, has_folder, of_path, Fault, At, of_bag, HasList, PartFaultsAreListed, HasManifest}
 use Rattle.bag_read.specs.declared.tag_name.TagName.TheVariants.{Declaration}
-use Rattle.bag_tree.specs.Bag.{Bag, file, has_folder}
-use Rattle.bag_facts.specs.FaultAt.{of_path}
-use Rattle.bag_facts.specs.declared.fault.Fault.{Fault}
-use Rattle.bag_stages.specs.FaultFields.{At, of_bag}
-use Rattle.bag_stages.specs.HasList.{HasList}
-use Rattle.bag_stages.specs.PartsStage.{PartHolds, IsOfParts, PartFaultsAreListed}
-use Rattle.bag_stages.specs.TagFiles.{HasManifest}
+use Rattle.bag_stages.specs.PartsStage.{PartHolds, IsOfParts}
 use Rattle.bag_stages.proofs.FaultFields.{made_of}
 use Rattle.bag_stages.proofs.BagLists.{manifests_listed, over_kinds, over_names}
 use Rattle.bag_stages.proofs.HasLists.{Decided, false_or_not, both_decided, none_decided, one_where, same_set, either, for_each}
@@ -42,9 +25,7 @@ module _ (bag : Bag) where
 
   text_or_not : (path bytes : List ℕ) (b : Bool) → file bag path ≡ Some bytes → is_utf8 bytes ≡ b → Decided (HasOther path)
   text_or_not path bytes false there e = inl (bytes, there, e)
-  text_or_not path bytes true there e = inr (λ h.
-      let same : h.0 ≡ bytes = (let both : Some h.0 ≡ Some bytes = sym h.1 ∙ there in cc) in
-      let clash : false ≡ true = sym h.2 ∙ subst (λ b. is_utf8 b ≡ true) (sym same) e in cc)
+  text_or_not path bytes true there e = grind arith
 
   content_or_not : (path : List ℕ) (content : Option (List ℕ)) → file bag path ≡ content → Decided (HasOther path)
   content_or_not path None e = inr (λ h. let clash : None ≡ Some h.0 = sym e ∙ h.1 in cc)
@@ -87,19 +68,15 @@ module _ (bag : Bag) where
   unfolding IsOfParts PartHolds
   to_part f (inl (lacks, is)) = subst (IsOfParts bag) (sym is) (has_fields NoPayloadFolder [] [], lacks)
   to_part f (inr (inl (lacks, is))) = subst (IsOfParts bag) (sym is) (has_fields NoPayloadManifest [] [], lacks)
-  to_part f (inr (inr (inl (kind, (alg, has, (none, is)))))) =
-      subst (IsOfParts bag) (sym is) (kind, alg, has_fields AlgorithmUnsupported (manifest_name kind alg) alg, has, none)
-  to_part f (inr (inr (inr (name, ((other, text), is))))) =
-      subst (IsOfParts bag) (sym is) (has_fields NotUtf8 (tag_path name) [], ((name, other, refl), text))
+  to_part f (inr (inr (inl (kind, (alg, has, (none, is)))))) = grind (arith, has_fields)
+  to_part f (inr (inr (inr (name, ((other, text), is))))) = grind (arith, has_fields)
 
   from_code : (f : Fault) (c : Code) → f.code ≡ c → PartHolds bag f c → OfPart f
   unfolding PartHolds
   from_code f NoPayloadFolder e (at, lacks) = inl (lacks, made_of f NoPayloadFolder [] None 0 [] e at)
   from_code f NoPayloadManifest e (at, lacks) = inr (inl (lacks, made_of f NoPayloadManifest [] None 0 [] e at))
-  from_code f AlgorithmUnsupported e (kind, alg, at, has, none) =
-      inr (inr (inl (kind, (alg, has, (none, made_of f AlgorithmUnsupported (manifest_name kind alg) None 0 alg e at)))))
-  from_code f NotUtf8 e (at, ((name, other, here), text)) =
-      inr (inr (inr (name, ((other, subst HasOther (sym here) text), made_of f NotUtf8 (tag_path name) None 0 [] e (subst (λ p. At f p None 0 []) (sym here) at)))))
+  from_code f AlgorithmUnsupported e (kind, alg, at, has, none) = grind (arith, made_of)
+  from_code f NotUtf8 e (at, ((name, other, here), text)) = grind (arith, made_of)
   from_code f other e h = absurd h
 
   from_part : (f : Fault) → IsOfParts bag f → OfPart f

@@ -1,34 +1,8 @@
 -- Manifests that name the payload's files and no other.
-use Rattle.std.proofs.Common.{◌≡◌, ◌≢◌, ◌↔◌, if◌then◌else◌, Bool, ◌<◌, ◌≤◌, ◌+◌, inl, inr, ℕ, List, [], ◌∷◌, ◌++◌, true, false, cond, Contains, length, take, drop, get_or, Some, None, refl, sym, ap, ◌∙◌, subst, append_assoc, append-nil, take-append-drop, take_all, IsTrue, ◌==◌, arith}
-use Rattle.std.proofs.lemmas.Bool.Decides.{nat_tests}
-use Rattle.std.proofs.lemmas.List.{append_cancel_left, map-append}
-use Rattle.std.proofs.lemmas.List.Elements.{filter-append}
-use Rattle.std.proofs.lemmas.List.Kept.{IsStrictlySortedBy-filter}
-use Rattle.std.specs.Cmp.Lexicographic.{nat_list_cmp_total}
-use Rattle.bag_text.specs.Text.{text_cmp}
-use Rattle.bag_text.specs.Path.{is_payload_path}
-use Rattle.bag_text.specs.declared.alg.Alg.{Alg}
-use Rattle.bag_text.specs.declared.code.Code.TheVariants.{PayloadFileMissing, PayloadFileNotListed}
-use Rattle.bag_text.proofs.ListOf.{same_lists}
-use Rattle.bag_read.specs.declared.kind.Kind.TheVariants.{Payload, Tag}
-use Rattle.bag_read.specs.declared.manifest.ManifestEntry.{ManifestEntry}
-use Rattle.bag_tree.specs.Bag.{Bag, file}
-use Rattle.bag_tree.specs.Listing.{IsOrdered}
-use Rattle.bag_tree.specs.declared.listing.FileEntry.{FileEntry}
-use Rattle.bag_facts.specs.declared.fault.Fault.{Fault}
-use Rattle.bag_facts.specs.Facts.{rules_in}
-use Rattle.bag_facts.specs.TagFacts.{entry_paths, IsManifestNamed, IsReadOf}
-use Rattle.bag_facts.specs.TagReader.{AreListed}
-use Rattle.bag_facts.specs.Wanted.{paths_of}
-use Rattle.bag_facts.specs.declared.tag_facts.Manifest.{Manifest}
-use Rattle.bag_facts.proofs.ListedFiles.{file_listed, listed_file}
-use Rattle.bag_facts.proofs.ByPath.{paths_ascend}
-use Rattle.bag_facts.proofs.Mapped.{kept, passed, take_one_more}
-use Rattle.bag_stages.specs.TagFiles.{manifest_of, Names}
+use Rattle.bag_stages.proofs.Common.{◌≡◌, ◌≢◌, ◌↔◌, Bool, ◌<◌, ◌≤◌, ◌+◌, inl, inr, ℕ, List, [], ◌∷◌, ◌++◌, true, false, cond, Contains, length, take, drop, get_or, Some, None, refl, sym, ap, ◌∙◌, subst, append_assoc, append-nil, take-append-drop, IsTrue, ◌==◌, arith, nat_tests, append_cancel_left, map-append, filter-append, IsStrictlySortedBy-filter, nat_list_cmp_total, text_cmp, is_payload_path, Alg, PayloadFileMissing, PayloadFileNotListed, same_lists, Payload, Tag, ManifestEntry, Bag, file, IsOrdered, FileEntry, Fault, rules_in, entry_paths, IsManifestNamed, IsReadOf, AreListed, paths_of, Manifest, file_listed, listed_file, paths_ascend, kept, passed, take_one_more, manifest_of, Names, IsMissing, IsUnlistedFile, IsWrong, GoesOn, IsExact, IsNamedExactly, payload_paths, StopsAt}
+use Rattle.std.proofs.Common.{if◌then◌else◌, take_all}
 use Rattle.bag_stages.proofs.NamesByKind.{names_by_kind}
 use Rattle.bag_stages.proofs.ReadManifest.{by_path, entry_names, is_absent, is_there, names_entry}
-use Rattle.bag_stages.specs.CompletenessFaults.{IsMissing, IsUnlistedFile, IsWrong}
-use Rattle.bag_stages.specs.PayloadNamed.{GoesOn, IsExact, IsNamedExactly, payload_paths, StopsAt}
 use Rattle.bag_stages.proofs.MissingFaults as missing
 use Rattle.bag_stages.proofs.UnlistedFaults as unlisted
 
@@ -44,15 +18,12 @@ payload_more : (files : List (List ℕ)) (path : List ℕ) → is_payload_path p
 payload_more files path is = filter-append is_payload_path files (path ∷ []) ∙ ap (λ b. payload_paths files ++ cond b (path ∷ []) []) is
 
 other_more : (files : List (List ℕ)) (path : List ℕ) → is_payload_path path ≡ false → payload_paths (files ++ path ∷ []) ≡ payload_paths files
-other_more files path not =
-    filter-append is_payload_path files (path ∷ []) ∙ ap (λ b. payload_paths files ++ cond b (path ∷ []) []) not ∙ append-nil (payload_paths files)
+other_more files path not = grind (arith, filter-append, append-nil)
 
 -- one file more
 before_more : (names files rest after : List (List ℕ)) (path : List ℕ) → AreBefore names files rest → GoesOn rest path after → AreBefore names (files ++ path ∷ []) after
-before_more names files rest after path before (inl (is, e)) =
-    before ∙ ap (λ xs. payload_paths files ++ xs) e ∙ sym (append_assoc (payload_paths files) (path ∷ []) after) ∙ ap (λ xs. xs ++ after) (sym (payload_more files path is))
-before_more names files rest after path before (inr (not, e)) =
-    before ∙ ap (λ xs. payload_paths files ++ xs) (sym e) ∙ ap (λ xs. xs ++ after) (sym (other_more files path not))
+before_more names files rest after path before (inl (is, e)) = grind (arith, append_assoc, payload_more)
+before_more names files rest after path before (inr (not, e)) = grind (arith, other_more)
 
 paths_more : (files : List FileEntry) (i : ℕ) (file : FileEntry) → i < length files → file ≡ get_or files i file → paths_of (take (i + 1) files) ≡ paths_of (take i files) ++ file.path ∷ []
 paths_more files i file within here = ap paths_of (take_one_more files i file within here) ∙ map-append (λ (e : FileEntry). e.path) (take i files) (file ∷ [])
@@ -78,10 +49,7 @@ module _ (names rest : List (List ℕ)) (files : List FileEntry) (i : ℕ) (file
 module _ (names : List (List ℕ)) (files : List FileEntry) (i : ℕ) (end : length files ≤ i) (none_left : Bool) where
   pub all_before : (rest : List ManifestEntry) → AreBefore names (paths_of (take i files)) (entry_paths rest) → none_left ≡ (length rest == 0)
       → IsTrue none_left ↔ (names ≡ payload_paths (paths_of files))
-  all_before [] before is = (
-    λ holds. before ∙ append-nil (payload_paths (paths_of (take i files))) ∙ ap (λ xs. payload_paths (paths_of xs)) (take_all i files end),
-    λ same. is,
-  )
+  all_before [] before is = grind (arith, append-nil, take_all)
   all_before (entry ∷ rest) before is = (
     λ holds.
         let more : (length (entry ∷ rest) == 0) ≡ false = grind (arith, nat_tests) in

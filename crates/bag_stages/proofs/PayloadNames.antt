@@ -1,38 +1,8 @@
 -- The names of the payload, and lent names that are sorted.
-use Rattle.std.proofs.Common.{◌≡◌, ◌↔◌, ◌<◌, ◌≤◌, inl, inr, ◌⊎◌, ◌+◌, ◌++◌, ℕ, List, [], ◌∷◌, length, take, get_or, None, Some, Bool, sym, ◌∙◌, subst, Contains}
-use Rattle.std.specs.Borrow.{Bor}
-use Rattle.std.specs.Cmp.Lexicographic.{on_texts, on_texts_equal, pointwise, same_text, texts_ties}
-use Rattle.std.specs.List.{dedup, filter}
-use Rattle.std.specs.List.Sorted.{IsPermutation, IsSorted}
+use Rattle.bag_stages.proofs.Common.{◌≡◌, ◌↔◌, ◌<◌, ◌≤◌, inl, inr, ◌⊎◌, ◌+◌, ◌++◌, ℕ, List, [], ◌∷◌, length, take, get_or, None, Some, Bool, sym, ◌∙◌, subst, Contains, Bor, on_texts, on_texts_equal, pointwise, same_text, texts_ties, dedup, filter, IsPermutation, IsSorted, on, Any-dedup, Contains-from_dedup, IsStrictlySortedBy-dedup, IsPermutation-sym, Contains-permutation, get_or-map, get_or_default, length-map, IsListOf, text_cmp, contains_mapped, mapped_contains, kept, passed, take_one_more, taken_cases, algs, is_payload_path, Alg, each_is_listed, contains_back, contains_either, contains_first, contains_front, contains_nothing, Payload, Bag, file, FileEntry, rules_in, entry_paths, IsManifestNamed, IsReadOf, AreListed, paths_of, Manifest, paths_ascend, file_listed, listed_file, manifest_of, Names, IsPayloadName, texts_of, IsNameOf}
 use Rattle.std.specs.Bool.{nat_eq}
-use Rattle.std.specs.Ordering.{on}
-use Rattle.std.proofs.lemmas.List.Kept.{Any-dedup, Contains-from_dedup, IsStrictlySortedBy-dedup}
-use Rattle.std.proofs.lemmas.List.Sorted.{IsPermutation-sym, Contains-permutation}
-use Rattle.std.proofs.Math.ListN.{get_or-map}
-use Rattle.std.proofs.lemmas.List.{get_or_default, length-map}
-use Rattle.bag_text.specs.Order.{IsListOf}
-use Rattle.bag_text.specs.Text.{text_cmp}
-use Rattle.bag_facts.proofs.Mapped.{contains_mapped, mapped_contains, kept, passed, take_one_more, taken_cases}
 use Rattle.bag_stages.proofs.ByPath.{take_whole}
-use Rattle.bag_text.specs.Alg.{algs}
-use Rattle.bag_text.specs.Path.{is_payload_path}
-use Rattle.bag_text.specs.declared.alg.Alg.{Alg}
-use Rattle.bag_text.proofs.AlgSets.{each_is_listed}
-use Rattle.bag_text.proofs.ListOf.{contains_back, contains_either, contains_first, contains_front, contains_nothing}
-use Rattle.bag_read.specs.declared.kind.Kind.TheVariants.{Payload}
-use Rattle.bag_tree.specs.Bag.{Bag, file}
-use Rattle.bag_tree.specs.declared.listing.FileEntry.{FileEntry}
-use Rattle.bag_facts.specs.Facts.{rules_in}
-use Rattle.bag_facts.specs.TagFacts.{entry_paths, IsManifestNamed, IsReadOf}
-use Rattle.bag_facts.specs.TagReader.{AreListed}
-use Rattle.bag_facts.specs.Wanted.{paths_of}
-use Rattle.bag_facts.specs.declared.tag_facts.Manifest.{Manifest}
-use Rattle.bag_facts.proofs.ByPath.{paths_ascend}
-use Rattle.bag_facts.proofs.ListedFiles.{file_listed, listed_file}
-use Rattle.bag_stages.specs.TagFiles.{manifest_of, Names}
 use Rattle.bag_stages.proofs.ReadManifest.{entry_names, names_entry, names_nothing}
-use Rattle.bag_stages.specs.CompletenessStage.{IsPayloadName}
-use Rattle.bag_stages.specs.Names.{texts_of, IsNameOf}
 
 abbrev pub Lent : Type 0
 Lent = Bor (List ℕ)

@@ -1,15 +1,9 @@
 -- The size of the payload among the files of a listing is that of the bag's.
-use Rattle.std.proofs.Common.{◌≡◌, ◌+◌, ℕ, List, [], ◌∷◌, length, map, filter, sum_by, Bool, true, false, cond, refl, sym, ap, ◌∙◌}
-use Rattle.std.proofs.lemmas.List.{length-map}
+use Rattle.bag_stages.proofs.Common.{arith, ◌≡◌, ◌+◌, ℕ, List, [], ◌∷◌, length, map, sum_by, Bool, true, false, cond, refl, sym, ap, ◌∙◌, length-map, is_payload_path, Bag, files_of, IsOrdered, IsListingOf, FileEntry, oxum, oxum_of_files, payload_entries, listed_oxum}
+use Rattle.std.proofs.Common.{filter}
 use Rattle.std.proofs.lemmas.List.Sums.{sum_by-cons}
-use Rattle.bag_text.specs.Path.{is_payload_path}
-use Rattle.bag_tree.specs.Bag.{Bag, files_of}
-use Rattle.bag_tree.specs.Listing.{IsOrdered, IsListingOf}
-use Rattle.bag_tree.specs.declared.listing.FileEntry.{FileEntry}
 use Rattle.bag_tree.specs.declared.listing.Listing.{Listing}
 use Rattle.bag_tree.proofs.ListingLaw.{listings_are_of_the_bag}
-use Rattle.bag_stages.specs.Payload.{oxum, oxum_of_files}
-use Rattle.bag_stages.specs.PayloadSize.{payload_entries, listed_oxum}
 
 abbrev Held : Type 0
 Held = List ℕ × List ℕ
@@ -37,12 +31,7 @@ summed (e ∷ files) =
     ∙ sym (sum_by-cons (λ (e : Held). length e.1) e files)
 
 entries_size : (files : List Held) → listed_oxum (map entry_of files) ≡ oxum_of_files (payload_of files)
-entries_size files =
-    let octets : sum_by (λ (entry : FileEntry). entry.size) (payload_entries (map entry_of files)) ≡ sum_by (λ (e : Held). length e.1) (payload_of files) =
-    ap (sum_by (λ (entry : FileEntry). entry.size)) (kept files) ∙ summed (payload_of files) in
-    let streams : length (payload_entries (map entry_of files)) ≡ length (payload_of files) =
-    ap length (kept files) ∙ length-map (payload_of files) entry_of in
-    λ i. record { octets = octets i; streams = streams i }
+entries_size files = grind (arith, sum_by, kept, summed, length-map)
 
 -- the files of a bag's listing have the payload's size
 pub listed_size : (bag : Bag) (listing : Listing) → IsOrdered listing.files → IsListingOf bag listing → listed_oxum listing.files ≡ oxum bag

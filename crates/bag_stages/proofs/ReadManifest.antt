@@ -1,18 +1,5 @@
 -- The manifest of a kind and an algorithm, as it was read.
-use Rattle.std.proofs.Common.{◌≡◌, ℕ, List, true, false, None, Some, ap, sym, ◌∙◌, subst, is_some, Contains}
-use Rattle.std.specs.Ordering.{on}
-use Rattle.bag_text.specs.Lines.{lines_of_file}
-use Rattle.bag_text.specs.Order.{IsListOf}
-use Rattle.bag_text.specs.Text.{text_cmp}
-use Rattle.bag_text.specs.declared.alg.Alg.{Alg}
-use Rattle.bag_text.proofs.ListOf.{contains_nothing}
-use Rattle.bag_read.specs.Manifest.{IsEntry}
-use Rattle.bag_read.specs.declared.kind.Kind.{Kind}
-use Rattle.bag_tree.specs.Bag.{Bag, file}
-use Rattle.bag_facts.specs.Facts.{rules_in}
-use Rattle.bag_facts.specs.TagFacts.{entry_paths, AreByPath, IsManifestNamed, IsReadOf}
-use Rattle.bag_facts.specs.declared.tag_facts.Manifest.{Manifest}
-use Rattle.bag_stages.specs.TagFiles.{manifest_of, HasSupported, Names}
+use Rattle.bag_stages.proofs.Common.{◌≡◌, ℕ, List, true, false, None, Some, ap, sym, ◌∙◌, subst, is_some, Contains, on, lines_of_file, IsListOf, text_cmp, Alg, contains_nothing, IsEntry, Kind, Bag, file, rules_in, entry_paths, AreByPath, IsManifestNamed, IsReadOf, Manifest, manifest_of, HasSupported, Names}
 use Rattle.bag_stages.proofs.FetchFaults as fetch
 use Rattle.bag_stages.proofs.ManifestFaults as of_bytes
 

@@ -1,16 +1,6 @@
 -- A list that a sort puts in a total order is the ascending list of its members, where no two of them are one.
-use Rattle.std.proofs.Common.{◌≡◌, ◌⊎◌, ◌↔◌, inl, inr, ◌+◌, ◌++◌, List, [], ◌∷◌, get_or, Bool, false, is_lt, subst, arith, sym, ap, ◌∙◌, Contains}
-use Rattle.std.specs.Cmp.{IsTotalOrder}
-use Rattle.std.specs.FinMap.{IsAntisymmetric}
+use Rattle.bag_stages.proofs.Common.{◌≡◌, ◌⊎◌, ◌↔◌, inl, inr, ◌+◌, ◌++◌, List, [], ◌∷◌, get_or, Bool, false, is_lt, subst, arith, sym, ap, ◌∙◌, Contains, IsTotalOrder, IsAntisymmetric, IsPermutation, IsSortedBy, IsStrictlySortedBy, is_eq, eq_by_cmp, Ordering, IsPermutation-sym, Contains-permutation, IsDistinct-from_sorted, IsDistinct-IsPermutation, apart_from_distinct, sorted_from_all_adjacent, IsListOf, contains_first, contains_behind, contains_front, contains_back, contains_either, each_from_members, member_has, tie_case, reversed, less_case}
 use Rattle.std.specs.List.{IsDistinct}
-use Rattle.std.specs.List.Sorted.{IsPermutation, IsSortedBy, IsStrictlySortedBy}
-use Rattle.std.specs.Ordering.{is_eq, eq_by_cmp}
-use Rattle.std.specs.declared.cmp.Ordering.{Ordering}
-use Rattle.std.proofs.lemmas.List.Sorted.{IsPermutation-sym, Contains-permutation}
-use Rattle.std.proofs.lemmas.Map.Keys.{IsDistinct-from_sorted, IsDistinct-IsPermutation, apart_from_distinct, sorted_from_all_adjacent}
-use Rattle.bag_text.specs.Order.{IsListOf}
-use Rattle.bag_text.proofs.ListOf.{contains_first, contains_behind, contains_front, contains_back, contains_either, each_from_members, member_has}
-use Rattle.bag_facts.proofs.ByPath.{tie_case, reversed, less_case}
 
 -- two lists of which no member of one is the same as one of the other
 distinct_joined : {A : Type 0} (same : A → A → Bool) (xs ys : List A) → IsDistinct same xs → IsDistinct same ys → ((x y : A) → Contains xs x → Contains ys y → same x y ≡ false) → IsDistinct same (xs ++ ys)

@@ -1,15 +1,7 @@
 -- A search of an ascending list for one text after another.
-use Rattle.std.proofs.Common.{◌≡◌, ◌≢◌, ◌<◌, ◌+◌, ◌∷◌, ◌↔◌, inl, inr, ℕ, List, [], true, false, Bool, length, take, get_or, map, refl, ap, sym, ◌∙◌, subst, arith, Contains, IsTrue}
-use Rattle.std.specs.Cmp.Lexicographic.{nat_list_cmp_total}
+use Rattle.bag_stages.proofs.Common.{◌≡◌, ◌≢◌, ◌<◌, ◌+◌, ◌∷◌, ◌↔◌, inl, inr, ℕ, List, [], true, false, Bool, length, take, get_or, map, refl, ap, sym, ◌∙◌, subst, arith, Contains, IsTrue, nat_list_cmp_total, on, ordering_reverse, Less, Equal, Greater, text_cmp, contains_behind, contains_cases, contains_first, contains_front, contains_back, contains_nothing, member_has, not_both, contains_mapped, mapped_contains, take_one_more, exact_texts}
 use Rattle.std.specs.List.Sorted.{IsStrictlySortedBy}
-use Rattle.std.specs.Ordering.{on, ordering_reverse}
-use Rattle.std.specs.declared.cmp.Ordering.TheVariants.{Less, Equal, Greater}
-use Rattle.bag_text.specs.Text.{text_cmp}
-use Rattle.bag_text.proofs.ListOf.{contains_behind, contains_cases, contains_first, contains_front, contains_back, contains_nothing, member_has}
-use Rattle.bag_facts.proofs.Ascending.{not_both}
-use Rattle.bag_facts.proofs.Mapped.{contains_mapped, mapped_contains, take_one_more}
 use Rattle.bag_stages.proofs.ByItem.{before_next}
-use Rattle.bag_tree.proofs.SameText.{exact_texts}
 use Rattle.bag_stages.specs.Sought.{IsSought}
 
 -- the rest of an ascending list without some that are less than a text
@@ -46,10 +38,7 @@ module _ (text : List ℕ) (all : List (List ℕ)) where
 
     -- a member but the first
     but_first : (other : List ℕ) → first ≢ other → Contains (first ∷ rest) other ↔ Contains rest other
-    but_first other differs = (
-      λ c. elim (contains_cases first rest other c) [ inl e ↦ absurd (differs e) | inr d ↦ d ],
-      contains_behind first rest other,
-    )
+    but_first other differs = grind (arith, contains_cases, contains_behind)
 
     both : {A B C : Type 0} → A ↔ B → B ↔ C → A ↔ C
     both p q = (λ a. q.0 (p.0 a), λ c. p.1 (q.1 c))

@@ -1,38 +1,7 @@
 -- The faults of one file's digests, one manifest after another.
-use Rattle.std.proofs.Common.{◌≡◌, ◌≢◌, ◌<◌, ◌≤◌, ◌+◌, ◌++◌, ℕ, Bool, true, false, cond, List, length, take, get_or, Option, None, Some, refl, sym, ap, ◌∙◌, subst, append-nil, bytes_eq, Contains}
-use Rattle.std.specs.Option.{option_to_list}
-use Rattle.std.specs.Ordering.{on}
-use Rattle.std.specs.declared.cmp.Ordering.TheVariants.{Less}
-use Rattle.std.proofs.lemmas.List.{get_or_default, take_all}
-use Rattle.std.proofs.lemmas.Slice.Eq.{bytes_eq-Decides}
-use Rattle.hex.specs.Hex.{encode_lower}
-use Rattle.bag_text.specs.Alg.{algs, rank_cmp}
-use Rattle.bag_text.specs.Code.{stage}
-use Rattle.bag_text.specs.Order.{IsListOf, IsOnly}
-use Rattle.bag_text.specs.Text.{text_cmp}
-use Rattle.bag_text.specs.declared.alg.Alg.{Alg}
-use Rattle.bag_text.proofs.AlgSets.{each_is_listed, list_ascends}
-use Rattle.bag_text.proofs.ListOf.{nothing_listed, only_listed, same_members}
-use Rattle.bag_read.specs.Manifest.{IsEntry}
-use Rattle.bag_read.specs.declared.kind.Kind.{Kind}
-use Rattle.bag_read.specs.declared.manifest.ManifestEntry.{ManifestEntry}
-use Rattle.bag_read.proofs.ManifestEntries.{entry_named, entry_of_path_once, named_has_entry}
-use Rattle.bag_tree.specs.Bag.{Bag, file}
-use Rattle.bag_tree.specs.Digest.{digest}
-use Rattle.bag_facts.specs.FaultOrder.{fault_cmp}
-use Rattle.bag_facts.specs.FaultAt.{of_path}
-use Rattle.bag_facts.specs.declared.fault.Fault.{Fault}
-use Rattle.bag_facts.specs.Facts.{rules_in}
-use Rattle.bag_facts.specs.TagFacts.{entry_paths, AreEntriesOf}
-use Rattle.bag_facts.proofs.Mapped.{mapped_contains}
-use Rattle.bag_stages.specs.TagFiles.{lines_in, lines_or_none, manifest_of, Names}
+use Rattle.bag_stages.proofs.Common.{arith, ◌≡◌, ◌≢◌, ◌<◌, ◌≤◌, ◌+◌, ◌++◌, ℕ, Bool, true, false, cond, List, length, take, get_or, Option, None, Some, refl, sym, ap, ◌∙◌, subst, append-nil, bytes_eq, Contains, option_to_list, on, Less, get_or_default, take_all, bytes_eq-Decides, encode_lower, algs, rank_cmp, IsListOf, IsOnly, text_cmp, Alg, each_is_listed, list_ascends, nothing_listed, only_listed, same_members, IsEntry, Kind, ManifestEntry, entry_named, entry_of_path_once, named_has_entry, Bag, file, digest, fault_cmp, of_path, Fault, rules_in, entry_paths, AreEntriesOf, mapped_contains, lines_in, lines_or_none, manifest_of, Names, IsSpelledBy, differing, differing_code, sum_differs, kind_of, expected_and_found, IsEntryIn, IsFaultOfFile, Expected}
 use Rattle.bag_stages.proofs.ByItem.{OfSome, one_item_more}
 use Rattle.bag_stages.proofs.InFile.{less_by_alg}
-use Rattle.bag_stages.specs.Given.{IsSpelledBy}
-use Rattle.bag_stages.specs.SumFaults.{differing, differing_code, sum_differs}
-use Rattle.bag_stages.specs.SummedFiles.{kind_of}
-use Rattle.bag_stages.specs.ValidityStage.{expected_and_found, IsEntryIn, IsFaultOfFile}
-use Rattle.bag_stages.specs.declared.expected.Expected.{Expected}
 use Rattle.bag_stages.proofs.NamesByKind.{names_by_kind}
 use Rattle.bag_stages.proofs.ValidityFaults.{entry_of_validity, fault_of_sum, validity_of_entry}
 
@@ -67,8 +36,7 @@ module _ (bag : Bag) (path : List ℕ) (kind : Kind) (alg : Alg) where
 
 -- a manifest that gives a digest for a path names it
 pub spelled_is_named : (bag : Bag) (path : List ℕ) (kind : Kind) (one : Expected) → IsSpelledBy bag path kind one → Names bag kind one.alg path
-spelled_is_named bag path kind one given =
-    subst (Names bag kind one.alg) given.path_is (entry_named (rules_in bag) kind one.alg (lines_in bag (manifest_of kind one.alg)) given.entry given.listed)
+spelled_is_named bag path kind one given = grind (arith, entry_named (rules_in bag) kind one.alg (lines_in bag (manifest_of kind one.alg)) given.entry given.listed)
 
 -- its fault of a file that is there
 module _ (bag : Bag) (path content : List ℕ) (there : file bag path ≡ Some content) (kind : Kind) (right : kind ≡ kind_of path) (one : Expected) (given : IsSpelledBy bag path kind one) where
@@ -105,11 +73,7 @@ module _ (bag : Bag) (path content : List ℕ) (there : file bag path ≡ Some c
 
 module _ (bag : Bag) (path : List ℕ) (kind : Kind) where
   less_of_alg : (a b : Alg) (x y : Fault) → IsOfAlg bag path kind a x → IsOfAlg bag path kind b y → rank_cmp a b ≡ Less → fault_cmp x y ≡ Less
-  less_of_alg a b x y h k before =
-      let first : x.alg ≡ Some a = ap (λ (f : Fault). f.alg) h.6 in
-      let second : y.alg ≡ Some b = ap (λ (f : Fault). f.alg) k.6 in
-      less_by_alg x y (ap (λ (f : Fault). stage f.code) h.6 ∙ sym (ap (λ (f : Fault). stage f.code) k.6))
-      (ap (λ (f : Fault). f.path) h.6 ∙ h.3 ∙ sym (ap (λ (f : Fault). f.path) k.6 ∙ k.3)) (rw (first, second) before)
+  less_of_alg a b x y h k before = grind (arith, less_by_alg)
 
   -- the manifests of the first algorithms, and of the next
   pub one_alg_more : (i : ℕ) (any : Alg) (faults : List Fault) (fault : Option Fault) → i < length algs → IsListOf fault_cmp (OfSome (IsOfAlg bag path kind) (take i algs)) faults
@@ -121,12 +85,10 @@ module _ (bag : Bag) (path : List ℕ) (kind : Kind) where
 
   pub no_alg_more : (i : ℕ) (any : Alg) (faults : List Fault) → i < length algs → IsListOf fault_cmp (OfSome (IsOfAlg bag path kind) (take i algs)) faults
       → IsOnly (IsOfAlg bag path kind (get_or algs i any)) None → IsListOf fault_cmp (OfSome (IsOfAlg bag path kind) (take (i + 1) algs)) faults
-  no_alg_more i any faults lt list only =
-      subst (IsListOf fault_cmp (OfSome (IsOfAlg bag path kind) (take (i + 1) algs))) (append-nil faults) (one_alg_more i any faults None lt list only)
+  no_alg_more i any faults lt list only = grind (arith, append-nil faults, one_alg_more i any faults None lt list only)
 
   to_file : (f : Fault) → OfSome (IsOfAlg bag path kind) algs f → IsFaultOfFile bag path f
-  to_file f (alg, c, (entry, content, listed, at, there, differ, is)) =
-      (entry_of_validity bag f (kind, (alg, (entry, listed, (content, ap (file bag) at ∙ there, differ, is)))), ap (λ (f : Fault). f.path) is ∙ at)
+  to_file f (alg, c, (entry, content, listed, at, there, differ, is)) = grind (arith, entry_of_validity, listed)
 
   from_file : kind ≡ kind_of path → (f : Fault) → IsFaultOfFile bag path f → OfSome (IsOfAlg bag path kind) algs f
   from_file right f (valid, of_path) =

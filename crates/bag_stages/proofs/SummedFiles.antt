@@ -1,15 +1,5 @@
 -- The files whose digests are compared.
-use Rattle.std.proofs.Common.{◌≡◌, ◌≢◌, ℕ, List, [], ◌∷◌, ap, is_some, refl, subst, sym, Contains}
-use Rattle.bag_text.specs.declared.alg.Alg.{Alg}
-use Rattle.bag_text.proofs.ListOf.{contains_first, contains_nothing}
-use Rattle.bag_read.proofs.ManifestEntries.{entry_named}
-use Rattle.bag_tree.specs.Bag.{Bag}
-use Rattle.bag_facts.specs.declared.fault.Fault.{Fault}
-use Rattle.bag_facts.specs.Facts.{rules_in}
-use Rattle.bag_stages.specs.TagFiles.{lines_in, manifest_of, Names}
-use Rattle.bag_stages.specs.Given.{AreNaming}
-use Rattle.bag_stages.specs.SummedFiles.{kind_of, IsNamed, IsSummed}
-use Rattle.bag_stages.specs.ValidityStage.{IsOfValidity}
+use Rattle.bag_stages.proofs.Common.{◌≡◌, ◌≢◌, ℕ, List, [], ◌∷◌, ap, is_some, refl, subst, sym, Contains, Alg, contains_first, contains_nothing, entry_named, Bag, Fault, rules_in, lines_in, manifest_of, Names, AreNaming, kind_of, IsNamed, IsSummed, IsOfValidity}
 use Rattle.bag_stages.proofs.NamesByKind.{names_by_kind}
 use Rattle.bag_stages.proofs.ValidityFaults.{validity_of_entry, IsOfSomeEntry}
 

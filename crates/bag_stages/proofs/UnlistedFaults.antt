@@ -1,23 +1,6 @@
 -- The faults that payload manifests don't name payload files.
-use Rattle.std.proofs.Common.{◌≡◌, List, [], None, Some, ap, subst}
-use Rattle.bag_text.specs.Order.{IsListOf}
-use Rattle.bag_text.specs.declared.alg.Alg.{Alg}
-use Rattle.bag_text.specs.declared.code.Code.TheVariants.{PayloadFileNotListed}
-use Rattle.bag_text.proofs.ListOf.{nothing_listed, same_members}
-use Rattle.bag_read.specs.declared.kind.Kind.TheVariants.{Payload}
-use Rattle.bag_tree.specs.Bag.{Bag, file}
-use Rattle.bag_tree.specs.declared.listing.FileEntry.{FileEntry}
-use Rattle.bag_facts.specs.FaultOrder.{fault_cmp}
-use Rattle.bag_facts.specs.declared.fault.Fault.{Fault}
-use Rattle.bag_facts.specs.Facts.{rules_in, IsByV10}
-use Rattle.bag_facts.specs.TagFacts.{AreByPath, IsManifestNamed, IsReadOf}
-use Rattle.bag_facts.specs.TagReader.{AreListed}
-use Rattle.bag_facts.specs.Wanted.{paths_of}
-use Rattle.bag_facts.specs.declared.tag_facts.Manifest.{Manifest}
-use Rattle.bag_facts.proofs.ListedFiles.{file_listed, listed_file}
-use Rattle.bag_stages.specs.TagFiles.{manifest_of}
+use Rattle.bag_stages.proofs.Common.{◌≡◌, List, [], None, Some, ap, subst, IsListOf, Alg, PayloadFileNotListed, nothing_listed, same_members, Payload, Bag, file, FileEntry, fault_cmp, Fault, rules_in, IsByV10, AreByPath, IsManifestNamed, IsReadOf, AreListed, paths_of, Manifest, file_listed, listed_file, manifest_of, IsLeftByOne, IsUnlistedFile, IsUnlistedAmong}
 use Rattle.bag_stages.proofs.ReadManifest.{by_path, names_entry, entry_names, is_absent, is_there, of_alg}
-use Rattle.bag_stages.specs.CompletenessFaults.{IsLeftByOne, IsUnlistedFile, IsUnlistedAmong}
 use Rattle.bag_stages.proofs.FaultsOfPaths.{in_other_words}
 
 module _ (bag : Bag) (alg : Alg) where

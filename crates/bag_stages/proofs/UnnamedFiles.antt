@@ -1,21 +1,5 @@
 -- Payload files that no payload manifest names.
-use Rattle.std.proofs.Common.{List, [], None}
-use Rattle.bag_text.specs.Order.{IsListOf}
-use Rattle.bag_text.proofs.ListOf.{nothing_listed, same_members}
-use Rattle.bag_text.specs.declared.alg.Alg.{Alg}
-use Rattle.bag_text.specs.declared.code.Code.TheVariants.{PayloadFileNotListed}
-use Rattle.bag_read.specs.declared.kind.Kind.TheVariants.{Payload}
-use Rattle.bag_tree.specs.Bag.{Bag}
-use Rattle.bag_tree.specs.declared.listing.FileEntry.{FileEntry}
-use Rattle.bag_facts.specs.FaultOrder.{fault_cmp}
-use Rattle.bag_facts.specs.declared.fault.Fault.{Fault}
-use Rattle.bag_facts.specs.Facts.{IsByV097}
-use Rattle.bag_facts.specs.TagReader.{AreListed}
-use Rattle.bag_facts.specs.Wanted.{paths_of}
-use Rattle.bag_facts.proofs.ListedFiles.{file_listed, listed_file}
-use Rattle.bag_stages.specs.TagFiles.{HasSupported}
-use Rattle.bag_stages.specs.CompletenessFaults.{IsLeftByAll, IsOfPathAmong, IsUnlistedInAll, IsUnnamed, IsUnnamedPath}
-use Rattle.bag_stages.specs.PayloadNamed.{IsNamedExactly}
+use Rattle.bag_stages.proofs.Common.{List, [], None, IsListOf, nothing_listed, same_members, Alg, PayloadFileNotListed, Payload, Bag, FileEntry, fault_cmp, Fault, IsByV097, AreListed, paths_of, file_listed, listed_file, HasSupported, IsLeftByAll, IsOfPathAmong, IsUnlistedInAll, IsUnnamed, IsUnnamedPath, IsNamedExactly}
 use Rattle.bag_stages.proofs.FaultsOfPaths.{in_other_words}
 
 module _ (bag : Bag) where

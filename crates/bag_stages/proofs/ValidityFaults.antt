@@ -1,18 +1,6 @@
 -- The faults of validity.
-use Rattle.std.proofs.Common.{◌≡◌, ◌≢◌, ℕ, List, Some, refl, sym, subst}
-use Rattle.bag_text.specs.Code.{stage}
-use Rattle.bag_text.specs.declared.alg.Alg.{Alg}
-use Rattle.bag_text.specs.declared.code.Code.{Code}
-use Rattle.bag_text.specs.declared.code.Code.TheVariants.{PayloadSumDiffers, TagSumDiffers}
-use Rattle.bag_read.specs.declared.kind.Kind.{Kind}
-use Rattle.bag_read.specs.declared.kind.Kind.TheVariants.{Payload, Tag}
-use Rattle.bag_read.specs.declared.manifest.ManifestEntry.{ManifestEntry}
-use Rattle.bag_tree.specs.Bag.{Bag, file}
-use Rattle.bag_tree.specs.Digest.{digest}
-use Rattle.bag_facts.specs.FaultAt.{of_path}
-use Rattle.bag_facts.specs.declared.fault.Fault.{Fault}
-use Rattle.bag_stages.specs.SumFaults.{differing_code}
-use Rattle.bag_stages.specs.ValidityStage.{expected_and_found, Differs, IsEntryIn, IsOfValidity, ValidityFaultsAreOfStageSeven, ValidityHolds}
+use Rattle.bag_stages.proofs.Common.{arith, ◌≡◌, ◌≢◌, ℕ, List, Some, refl, stage, Alg, Code, PayloadSumDiffers, TagSumDiffers, Kind, Payload, Tag, ManifestEntry, Bag, file, digest, of_path, Fault, differing_code, expected_and_found, Differs, IsEntryIn, ValidityFaultsAreOfStageSeven}
+use Rattle.bag_stages.specs.ValidityStage.{IsOfValidity, ValidityHolds}
 use Rattle.bag_stages.proofs.FaultFields.{made_of}
 
 -- the fault of an entry's file that has this digest
@@ -48,9 +36,7 @@ module _ (bag : Bag) (f : Fault) where
   holds_stage other h = absurd h
 
   from_fields : (kind : Kind) → f.code ≡ differing_code kind → Differs bag f kind → IsOfSomeEntry bag f
-  from_fields kind e (alg, entry, content, listed, there, differ, at) =
-      let is : f ≡ sum_fault kind alg entry content = made_of f (differing_code kind) entry.path (Some alg) 0 (expected_and_found entry.digest (digest alg content)) e at in
-      (kind, (alg, (entry, listed, (content, there, differ, is))))
+  from_fields kind e (alg, entry, content, listed, there, differ, at) = grind (arith, made_of)
 
   of_holds : (c : Code) → f.code ≡ c → ValidityHolds bag f c → IsOfSomeEntry bag f
   unfolding ValidityHolds
@@ -71,13 +57,10 @@ module _ (bag : Bag) where
   fault_holds : (kind : Kind) (alg : Alg) (entry : ManifestEntry) (content : List ℕ) → IsEntryIn bag kind alg entry → file bag entry.path ≡ Some content → entry.digest ≢ digest alg content
       → IsOfValidity bag (sum_fault kind alg entry content)
   unfolding IsOfValidity
-  fault_holds kind alg entry content listed there differ =
-      holds_of kind (sum_fault kind alg entry content)
-      (alg, entry, content, listed, there, differ, record { path_is = refl; alg_is = refl; line_is = refl; detail_is = refl })
+  fault_holds kind alg entry content listed there differ = grind (arith, holds_of)
 
   pub entry_of_validity : (f : Fault) → IsOfSomeEntry bag f → IsOfValidity bag f
-  entry_of_validity f (kind, (alg, (entry, listed, (content, there, differ, is)))) =
-      subst (IsOfValidity bag) (sym is) (fault_holds kind alg entry content listed there differ)
+  entry_of_validity f (kind, (alg, (entry, listed, (content, there, differ, is)))) = grind (arith, fault_holds)
 
 pub validity_of_stage_seven : ValidityFaultsAreOfStageSeven
 unfolding IsOfValidity

@@ -1,20 +1,7 @@
 -- Every bag has a list of the faults of its validity.
-use Rattle.std.proofs.Common.{◌≡◌, ◌≢◌, inl, inr, ℕ, List, Bool, true, false, Option, None, Some, refl, sym, ap, ◌∙◌, subst, bytes_eq}
-use Rattle.std.specs.Str.{is_utf8}
-use Rattle.std.proofs.lemmas.Slice.Eq.{bytes_eq-Decides}
-use Rattle.bag_text.specs.declared.alg.Alg.{Alg}
-use Rattle.bag_read.specs.Manifest.{IsEntry}
-use Rattle.bag_read.specs.declared.kind.Kind.{Kind}
-use Rattle.bag_read.specs.declared.manifest.ManifestEntry.{ManifestEntry}
-use Rattle.bag_read.proofs.ManifestFaults.{some_entries}
-use Rattle.bag_tree.specs.Bag.{Bag, file}
-use Rattle.bag_tree.specs.Digest.{digest}
-use Rattle.bag_facts.specs.Facts.{rules_in}
-use Rattle.bag_stages.specs.HasList.{HasList}
-use Rattle.bag_stages.specs.TagFiles.{lines_or_none, manifest_of}
+use Rattle.bag_stages.proofs.Common.{◌≡◌, ◌≢◌, inl, inr, ℕ, List, Bool, true, false, Option, None, Some, refl, sym, ap, ◌∙◌, subst, bytes_eq, is_utf8, bytes_eq-Decides, Alg, IsEntry, Kind, ManifestEntry, some_entries, Bag, file, digest, rules_in, HasList, lines_or_none, manifest_of, IsEntryIn, IsOfValidity, ValidityFaultsAreListed}
 use Rattle.bag_stages.proofs.BagLists.{over_algs, over_kinds}
 use Rattle.bag_stages.proofs.HasLists.{Decided, nothing, one_where, same_set, for_each}
-use Rattle.bag_stages.specs.ValidityStage.{IsEntryIn, IsOfValidity, ValidityFaultsAreListed}
 use Rattle.bag_stages.proofs.ValidityFaults.{sum_fault, IsOfEntry, IsOfKind, IsOfManifest, IsOfSomeEntry, entry_of_validity, validity_of_entry}
 
 differ_by : (a b : List ℕ) (same : Bool) → bytes_eq a b ≡ same → Decided (a ≢ b)

@@ -1,5 +1,4 @@
-use Rattle.std.proofs.Common.{[], arith, refl, subst, sym, Contains}
-use Rattle.bag_stages.specs.Names.{texts_of}
+use Rattle.bag_stages.proofs.Common.{[], arith, sym, texts_of}
 use Rattle.bag_stages.proofs.ClashFaults.{one_ascii_more}
 use Rattle.bag_stages.proofs.PayloadNames.{Lent, all_texts, text_at, text_within}
 use Rattle.bag_stages.proofs.clashes.are_ascii.Goals as goal
@@ -25,9 +24,4 @@ returns-then-not-is_ascii c = (
 )
 
 pub returns : goal.returns
-returns c = (
-  λ is name there.
-      let names = c.args.names.now in
-      c.loop-name.invariant name (subst (λ ns. Contains ns name) (sym (all_texts names c.loop-name.name-index c.loop-name-test.false)) there),
-  λ all. refl,
-)
+returns c = grind (arith, all_texts)

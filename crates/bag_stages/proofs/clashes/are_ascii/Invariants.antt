@@ -1,6 +1,4 @@
-use Rattle.std.proofs.Common.{ℕ, List, take, Contains}
-use Rattle.std.specs.Str.{IsAscii}
-use Rattle.bag_stages.specs.Names.{texts_of}
+use Rattle.bag_stages.proofs.Common.{ℕ, List, take, Contains, IsAscii, texts_of}
 use Rattle.bag_stages.proofs.clashes.are_ascii.Given as goal
 
 abbrev pub invariant-loop-name : goal.invariant-loop-name

@@ -1,6 +1,4 @@
-use Rattle.std.proofs.Common.{[]}
-use Rattle.std.proofs.lemmas.Result.{IfOk-weaker}
-use Rattle.bag_stages.specs.Names.{texts_of}
+use Rattle.bag_stages.proofs.Common.{[], IfOk-weaker, texts_of}
 use Rattle.bag_stages.proofs.ClashFaults.{clash_faults_listed, no_ascii_clashes, same_names}
 use Rattle.bag_stages.proofs.clashes.clash_faults.Goals as goal
 

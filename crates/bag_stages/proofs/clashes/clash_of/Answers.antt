@@ -1,10 +1,7 @@
-use Rattle.std.proofs.Common.{◌≡◌, refl, None, ap, ◌∙◌, sym, subst, string_bytes}
+use Rattle.bag_stages.proofs.Common.{◌≡◌, refl, None, ap, ◌∙◌, sym, subst, string_bytes, option_map, bytes_eq-Decides, nfc_of}
 use Rattle.std.specs.HashMap.{get_by_text}
-use Rattle.std.specs.Option.{option_map}
 use Rattle.std.specs.Str.{bytes_eq}
 use Rattle.std.proofs.lemmas.Map.Text.{hash_map_updates_text}
-use Rattle.std.proofs.lemmas.Slice.Eq.{bytes_eq-Decides}
-use Rattle.bag_stages.specs.Clashes.{nfc_of}
 use Rattle.bag_stages.proofs.ClashFaults.{first_by_map}
 use Rattle.bag_stages.proofs.PayloadNames.{text}
 use Rattle.bag_stages.proofs.clashes.clash_of.Goals as goal

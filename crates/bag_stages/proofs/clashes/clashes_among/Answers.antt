@@ -1,9 +1,5 @@
-use Rattle.std.proofs.Common.{[], None, Some, refl, sym, ◌∙◌, subst, append-nil, Contains}
-use Rattle.bag_text.specs.Order.{IsListOf}
-use Rattle.bag_facts.specs.FaultOrder.{fault_cmp}
+use Rattle.bag_stages.proofs.Common.{[], None, Some, refl, sym, ◌∙◌, subst, append-nil, Contains, IsListOf, fault_cmp, first_of, IsClashOf, texts_of}
 use Rattle.bag_stages.proofs.ByItem.{OfSome, no_items}
-use Rattle.bag_stages.specs.ClashFaults.{first_of, IsClashOf}
-use Rattle.bag_stages.specs.Names.{texts_of}
 use Rattle.bag_stages.proofs.ClashFaults.{all_clashes, no_firsts, one_lent_more}
 use Rattle.bag_stages.proofs.PayloadNames.{all_texts}
 use Rattle.bag_stages.proofs.clashes.clashes_among.Goals as goal

@@ -1,11 +1,5 @@
-use Rattle.std.proofs.Common.{take, Contains}
-use Rattle.std.specs.List.Sorted.{IsStrictlySortedBy}
-use Rattle.bag_text.specs.Order.{IsListOf}
-use Rattle.bag_text.specs.Text.{text_cmp}
-use Rattle.bag_facts.specs.FaultOrder.{fault_cmp}
+use Rattle.bag_stages.proofs.Common.{take, Contains, IsStrictlySortedBy, IsListOf, text_cmp, fault_cmp, first_of, IsClashOf, texts_of}
 use Rattle.bag_stages.proofs.ByItem.{OfSome}
-use Rattle.bag_stages.specs.ClashFaults.{first_of, IsClashOf}
-use Rattle.bag_stages.specs.Names.{texts_of}
 use Rattle.bag_stages.proofs.ClashFaults.{AreFirsts}
 use Rattle.bag_stages.proofs.clashes.clashes_among.Given as goal
 

@@ -1,4 +1,4 @@
-use Rattle.std.proofs.lemmas.Result.{IfOk-weaker}
+use Rattle.bag_stages.proofs.Common.{IfOk-weaker}
 use Rattle.bag_stages.proofs.CompletenessFaults.{clashes_sought, no_clashes_sought}
 use Rattle.bag_stages.proofs.completeness.clashes_asked.Goals as goal
 

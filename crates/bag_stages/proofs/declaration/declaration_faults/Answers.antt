@@ -1,5 +1,4 @@
-use Rattle.std.proofs.Common.{◌∷◌, [], ap, ◌∙◌}
-use Rattle.std.proofs.lemmas.Result.{IfOk-weaker}
+use Rattle.bag_stages.proofs.Common.{◌∷◌, [], ap, ◌∙◌, IfOk-weaker}
 use Rattle.bag_stages.proofs.DeclarationFaults.{read_declaration_listed, missing_declaration_listed}
 use Rattle.bag_stages.proofs.declaration.declaration_faults.Goals as goal
 

@@ -1,6 +1,5 @@
-use Rattle.std.proofs.Common.{rules, of_calls}
+use Rattle.bag_stages.proofs.Common.{rules, of_calls, text_cmp}
 use Rattle.std.proofs.lemmas.Fn.{always_returns_same}
-use Rattle.bag_text.specs.Text.{text_cmp}
 use Rattle.bag_facts.proofs.Entries.{entry_found, no_entry_found}
 use Rattle.bag_stages.proofs.expected.entry_near.Goals as goal
 

@@ -1,5 +1,4 @@
-use Rattle.std.proofs.Common.{◌≡◌, ◌∙◌, ap, refl, sym}
-use Rattle.hex.specs.Hex.{encode_lower}
+use Rattle.bag_stages.proofs.Common.{◌≡◌, ◌∙◌, ap, refl, sym, encode_lower}
 use Rattle.bag_stages.proofs.GivenDigests.{all_bytes}
 use Rattle.bag_stages.proofs.SumFaults.{listed, not_named}
 use Rattle.bag_stages.proofs.expected.expected_by.Goals as goal

@@ -1,8 +1,4 @@
-use Rattle.std.proofs.Common.{◌∙◌, ap, get_or, subst}
-use Rattle.bag_text.specs.Alg.{algs}
-use Rattle.bag_text.specs.declared.alg.Alg.TheVariants.{Md5}
-use Rattle.bag_stages.specs.Given.{IsGivenBy}
-use Rattle.bag_stages.specs.SummedFiles.{kind_of}
+use Rattle.bag_stages.proofs.Common.{◌∙◌, ap, get_or, subst, algs, Md5, IsGivenBy, kind_of}
 use Rattle.bag_stages.proofs.GivenByAlg.{all_faults, all_naming, no_more, none_yet, one_more}
 use Rattle.bag_stages.proofs.expected.expected_of.Goals as goal
 

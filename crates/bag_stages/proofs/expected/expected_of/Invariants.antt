@@ -1,8 +1,6 @@
-use Rattle.std.proofs.Common.{take}
-use Rattle.bag_facts.specs.Facts.{OfBag}
+use Rattle.bag_stages.proofs.Common.{take, OfBag}
 use Rattle.bag_stages.proofs.GivenByAlg.{AreGivenBy}
 use Rattle.bag_stages.proofs.expected.expected_of.Given as goal
 
 abbrev pub invariant-loop-alg : goal.invariant-loop-alg
-invariant-loop-alg l =
-    OfBag l.facts (λ bag. AreGivenBy bag l.path l.kind (take l.alg-index l.alg-items) l.expected.items)
+invariant-loop-alg l = OfBag l.facts (λ bag. AreGivenBy bag l.path l.kind (take l.alg-index l.alg-items) l.expected.items)

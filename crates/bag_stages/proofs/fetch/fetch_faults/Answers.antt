@@ -1,3 +1,4 @@
+use Rattle.bag_stages.proofs.Common.{arith}
 use Rattle.bag_stages.proofs.FetchFaults.{fetch_list_listed, no_list_listed, textless_list_listed}
 use Rattle.bag_stages.proofs.fetch.fetch_faults.Goals as goal
 
@@ -5,8 +6,7 @@ pub returns-in_default : goal.returns-in_default
 returns-in_default c = λ bag facts deep. rw c.new.ensures.items (no_list_listed bag (rw c.in_default.is at c.fetch_list.ensures bag facts deep))
 
 pub returns-then-not-list : goal.returns-then-not-list
-returns-then-not-list c = λ bag facts deep.
-    rw c.new-then-not-list.ensures.items (textless_list_listed bag c.in-Some.list.now (c.in-Some.ensures bag facts deep) c.if-not-list.true)
+returns-then-not-list c = λ bag facts deep. grind (arith, textless_list_listed)
 
 pub returns : goal.returns
 returns c = λ bag facts deep.

@@ -1,5 +1,4 @@
-use Rattle.std.proofs.Common.{sym, ◌∙◌}
-use Rattle.std.proofs.lemmas.Result.{IfOk-weaker}
+use Rattle.bag_stages.proofs.Common.{sym, ◌∙◌, IfOk-weaker}
 use Rattle.bag_stages.proofs.FetchFaults.{listed_by_all, listed_by_one}
 use Rattle.bag_stages.proofs.fetch.left_out_faults.Goals as goal
 

@@ -1,8 +1,4 @@
-use Rattle.std.proofs.Common.{◌≡◌, ◌∷◌, [], None, false, true, sym, ◌∙◌, subst, append-nil}
-use Rattle.std.specs.Ordering.{nat_cmp, on}
-use Rattle.bag_text.specs.Order.{IsListOf}
-use Rattle.bag_facts.specs.FaultOrder.{fault_cmp}
-use Rattle.bag_stages.specs.FetchFaults.{not_in_manifest, IsNamedByNone, IsNamedByNoneAmong}
+use Rattle.bag_stages.proofs.Common.{arith, ◌≡◌, ◌∷◌, [], None, false, true, sym, ◌∙◌, append-nil, nat_cmp, on, not_in_manifest, IsNamedByNone}
 use Rattle.bag_stages.proofs.ByItem.{no_items, one_item_more}
 use Rattle.bag_stages.proofs.ByPath.{take_whole}
 use Rattle.bag_stages.proofs.FetchFaults.{less_by_line}
@@ -30,6 +26,4 @@ loop-entry-preserved c = λ bag facts deep sorted.
     ]
 
 pub returns : goal.returns
-returns c = λ bag facts deep sorted.
-    subst (λ entries. IsListOf fault_cmp (IsNamedByNoneAmong bag c.args.path.now entries) c.loop-entry.faults.items)
-    (take_whole c.args.entries.now c.loop-entry.entry-index c.loop-entry-test.false) (c.loop-entry.invariant bag facts deep sorted)
+returns c = λ bag facts deep sorted. grind (arith, take_whole)

@@ -1,8 +1,4 @@
-use Rattle.std.proofs.Common.{◌≡◌, true, false, sym, subst, ◌∙◌}
-use Rattle.std.proofs.lemmas.Result.{IfOk-weaker}
-use Rattle.bag_text.specs.Order.{IsListOf}
-use Rattle.bag_facts.specs.FaultOrder.{fault_cmp}
-use Rattle.bag_stages.specs.FetchFaults.{IsNamedByNoneAmong}
+use Rattle.bag_stages.proofs.Common.{◌≡◌, true, false, sym, subst, ◌∙◌, IfOk-weaker, IsListOf, fault_cmp, IsNamedByNoneAmong}
 use Rattle.bag_stages.proofs.FetchNamedByNone.{no_member, not_in_any, nothing_to_name, some_member}
 use Rattle.bag_stages.proofs.fetch.unnamed_by_all.Goals as goal
 

@@ -1,8 +1,4 @@
-use Rattle.std.proofs.Common.{◌≡◌, ◌∷◌, [], Some, false, true, sym, ◌∙◌, subst, append-nil}
-use Rattle.std.specs.Ordering.{nat_cmp, on}
-use Rattle.bag_text.specs.Order.{IsListOf}
-use Rattle.bag_facts.specs.FaultOrder.{fault_cmp}
-use Rattle.bag_stages.specs.FetchFaults.{not_in_manifest, IsNotNamed, IsNotNamedAmong}
+use Rattle.bag_stages.proofs.Common.{arith, ◌≡◌, ◌∷◌, [], Some, false, true, sym, ◌∙◌, append-nil, nat_cmp, on, not_in_manifest, IsNotNamed}
 use Rattle.bag_stages.proofs.ByItem.{no_items, one_item_more}
 use Rattle.bag_stages.proofs.ByPath.{take_whole}
 use Rattle.bag_stages.proofs.FetchFaults.{less_by_line, named_listed, unnamed_listed}
@@ -10,9 +6,7 @@ use Rattle.bag_stages.proofs.fetch.unnamed_faults.Goals as goal
 use Rattle.bag_stages.proofs.fetch.unnamed_faults.Goals.{then-not-names+in_ok-unnamed_fault+in_ok-push, else-not-names}
 
 pub loop-entry-init : goal.loop-entry-init
-loop-entry-init c = λ ordered sorted.
-    let m = c.args.manifest.now in
-    rw c.new-faults.ensures.items (no_items (IsNotNamed c.args.path.now m.alg m.entries))
+loop-entry-init c = λ ordered sorted. let m = c.args.manifest.now in rw c.new-faults.ensures.items (no_items (IsNotNamed c.args.path.now m.alg m.entries))
 
 pub loop-entry-preserved : goal.loop-entry-preserved
 loop-entry-preserved c = λ ordered sorted.
@@ -31,7 +25,4 @@ loop-entry-preserved c = λ ordered sorted.
     ]
 
 pub returns : goal.returns
-returns c = λ ordered sorted.
-    let m = c.args.manifest.now in
-    subst (λ entries. IsListOf fault_cmp (IsNotNamedAmong c.args.path.now m.alg m.entries entries) c.loop-entry.faults.items)
-    (take_whole c.args.entries.now c.loop-entry.entry-index c.loop-entry-test.false) (c.loop-entry.invariant ordered sorted)
+returns c = λ ordered sorted. grind (arith, take_whole)

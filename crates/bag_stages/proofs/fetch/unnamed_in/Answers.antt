@@ -1,4 +1,4 @@
-use Rattle.std.proofs.lemmas.Result.{IfOk-weaker}
+use Rattle.bag_stages.proofs.Common.{IfOk-weaker}
 use Rattle.bag_stages.proofs.FetchFaults.{no_manifest_listed, read_manifest_listed}
 use Rattle.bag_stages.proofs.fetch.unnamed_in.Goals as goal
 

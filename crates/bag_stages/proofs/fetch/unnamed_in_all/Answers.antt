@@ -1,9 +1,4 @@
-use Rattle.std.proofs.Common.{subst}
-use Rattle.bag_text.specs.Alg.{algs}
-use Rattle.bag_text.specs.declared.alg.Alg.TheVariants.{Md5}
-use Rattle.bag_text.specs.Order.{IsListOf}
-use Rattle.bag_facts.specs.FaultOrder.{fault_cmp}
-use Rattle.bag_stages.specs.FetchFaults.{IsNotInManifest}
+use Rattle.bag_stages.proofs.Common.{subst, algs, Md5, IsListOf, fault_cmp, IsNotInManifest}
 use Rattle.bag_stages.proofs.ByItem.{OfSome, no_items}
 use Rattle.bag_stages.proofs.ByPath.{take_whole}
 use Rattle.bag_stages.proofs.FetchFaults.{all_algs_listed, one_alg_more}

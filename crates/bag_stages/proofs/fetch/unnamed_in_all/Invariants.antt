@@ -1,9 +1,4 @@
-use Rattle.std.proofs.Common.{◌≡◌, take}
-use Rattle.bag_text.specs.Order.{IsListOf}
-use Rattle.bag_facts.specs.FaultOrder.{fault_cmp}
-use Rattle.bag_facts.specs.Facts.{OfBag}
-use Rattle.bag_stages.specs.FetchFaults.{AreFetched, IsNotInManifest}
-use Rattle.bag_stages.specs.FetchStage.{fetch_txt}
+use Rattle.bag_stages.proofs.Common.{◌≡◌, take, IsListOf, fault_cmp, OfBag, AreFetched, IsNotInManifest, fetch_txt}
 use Rattle.bag_stages.proofs.ByItem.{OfSome}
 use Rattle.bag_stages.proofs.fetch.unnamed_in_all.Given as goal
 

@@ -1,6 +1,4 @@
-use Rattle.std.proofs.Common.{sym, ◌∙◌}
-use Rattle.std.proofs.lemmas.Result.{IfOk-weaker}
-use Rattle.bag_facts.specs.Wanted.{paths_of}
+use Rattle.bag_stages.proofs.Common.{sym, ◌∙◌, IfOk-weaker, paths_of}
 use Rattle.bag_stages.proofs.ManifestFaults.{asked_unnamed, unasked_unnamed}
 use Rattle.bag_stages.proofs.manifests.asked_unnamed.Goals as goal
 

@@ -1,4 +1,4 @@
-use Rattle.std.proofs.Common.{sym}
+use Rattle.bag_stages.proofs.Common.{sym}
 use Rattle.bag_stages.proofs.ManifestFaults.{lines_listed, read_payload_manifest, read_tag_manifest}
 use Rattle.bag_stages.proofs.manifests.faults_of.Goals as goal
 

@@ -1,5 +1,4 @@
-use Rattle.std.proofs.Common.{[], sym, Contains, append-nil}
-use Rattle.bag_facts.specs.Facts.{IsSaid}
+use Rattle.bag_stages.proofs.Common.{[], sym, Contains, append-nil, IsSaid}
 use Rattle.bag_stages.proofs.ManifestFaults.{no_tags_listed, one_tag_more, of_manifest_listed, no_manifest_listed, all_tags_listed}
 use Rattle.bag_stages.proofs.manifests.manifest_faults.Goals as goal
 use Rattle.bag_stages.proofs.manifests.manifest_faults.Goals.{in-Manifest+in_ok-of_manifest+in_ok-append, in_default}

@@ -1,8 +1,4 @@
-use Rattle.std.proofs.Common.{take}
-use Rattle.bag_text.specs.Order.{IsListOf}
-use Rattle.bag_tree.specs.Bag.{Bag}
-use Rattle.bag_facts.specs.FaultOrder.{fault_cmp}
-use Rattle.bag_facts.specs.Facts.{IsFactsOf}
+use Rattle.bag_stages.proofs.Common.{take, IsListOf, Bag, fault_cmp, IsFactsOf}
 use Rattle.bag_stages.proofs.ManifestFaults.{Among}
 use Rattle.bag_stages.proofs.manifests.manifest_faults.Given as goal
 

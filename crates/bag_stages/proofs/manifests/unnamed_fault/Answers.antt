@@ -1,5 +1,4 @@
-use Rattle.std.proofs.Common.{arith}
-use Rattle.std.proofs.lemmas.Grind.{common_steps}
+use Rattle.bag_stages.proofs.Common.{arith, common_steps}
 use Rattle.bag_stages.proofs.manifests.unnamed_fault.Goals as goal
 
 pub returns-then-is_none : goal.returns-then-is_none

@@ -1,10 +1,4 @@
-use Rattle.std.proofs.Common.{◌≡◌, ◌++◌, [], sym, subst, append-nil}
-use Rattle.std.specs.Option.{option_to_list}
-use Rattle.bag_text.specs.Order.{IsListOf}
-use Rattle.bag_text.proofs.ListOf.{nothing_listed, contains_nothing}
-use Rattle.bag_facts.specs.FaultOrder.{fault_cmp}
-use Rattle.bag_facts.specs.Wanted.{paths_of}
-use Rattle.bag_stages.specs.ManifestFaults.{IsUnnamedFault, IsUnnamedAmong}
+use Rattle.bag_stages.proofs.Common.{arith, ◌≡◌, ◌++◌, [], sym, append-nil, option_to_list, nothing_listed, contains_nothing, fault_cmp, IsUnnamedFault, IsUnnamedAmong}
 use Rattle.bag_stages.proofs.ByPath.{one_fault_more, take_whole}
 use Rattle.bag_stages.proofs.ManifestFaults.{less_unnamed}
 use Rattle.bag_stages.proofs.manifests.unnamed_faults.Goals as goal
@@ -30,6 +24,4 @@ loop-entry-preserved c = λ ordered sorted.
     rw now more
 
 pub returns : goal.returns
-returns c = λ ordered sorted.
-    subst (λ files. IsListOf fault_cmp (IsUnnamedAmong c.args.path.now c.args.manifest.now.alg c.args.manifest.now.entries (paths_of files)) c.loop-entry.faults.items)
-    (take_whole c.args.files.now c.loop-entry.entry-index c.loop-entry-test.false) (c.loop-entry.invariant ordered sorted)
+returns c = λ ordered sorted. grind (arith, take_whole)

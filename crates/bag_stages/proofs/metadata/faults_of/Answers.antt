@@ -1,5 +1,5 @@
-use Rattle.std.proofs.Common.{IsPermutation, subst, sym}
-use Rattle.bag_stages.specs.PayloadSize.{listed_oxum}
+use Rattle.bag_stages.proofs.Common.{subst, sym, listed_oxum}
+use Rattle.std.proofs.Common.{IsPermutation}
 use Rattle.bag_stages.proofs.MetadataFaults.{read_metadata_listed}
 use Rattle.bag_stages.proofs.metadata.faults_of.Goals as goal
 

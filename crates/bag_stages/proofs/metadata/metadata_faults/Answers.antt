@@ -1,6 +1,4 @@
-use Rattle.std.proofs.Common.{◌∙◌, ap}
-use Rattle.std.proofs.lemmas.Result.{IfOk-weaker}
-use Rattle.bag_stages.specs.PayloadSize.{listed_oxum}
+use Rattle.bag_stages.proofs.Common.{◌∙◌, ap, IfOk-weaker, listed_oxum}
 use Rattle.bag_stages.proofs.MetadataFaults.{bytes_read, unread_metadata_listed}
 use Rattle.bag_stages.proofs.PayloadSize.{listed_size}
 use Rattle.bag_stages.proofs.metadata.metadata_faults.Goals as goal

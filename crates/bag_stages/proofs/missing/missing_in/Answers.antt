@@ -1,6 +1,4 @@
-use Rattle.std.proofs.Common.{◌≡◌, ◌↔◌, ℕ, List, Some, false, true, sym, ◌∙◌, Contains, IsTrue}
-use Rattle.bag_facts.specs.Wanted.{paths_of}
-use Rattle.bag_facts.proofs.ByPath.{paths_ascend}
+use Rattle.bag_stages.proofs.Common.{◌≡◌, ◌↔◌, ℕ, List, Some, false, true, sym, ◌∙◌, Contains, IsTrue, paths_of, paths_ascend}
 use Rattle.bag_stages.proofs.FaultsOfPaths.{all_paths, no_path_yet, right_path_more, wrong_path_more}
 use Rattle.bag_stages.proofs.Sought.{follows_next, follows_none, found_in_all}
 use Rattle.bag_stages.proofs.missing.missing_in.Goals as goal

@@ -1,11 +1,4 @@
-use Rattle.std.proofs.Common.{take, Some, Contains}
-use Rattle.std.specs.List.Sorted.{IsStrictlySortedBy}
-use Rattle.bag_text.specs.Order.{IsListOf}
-use Rattle.bag_text.specs.Text.{text_cmp}
-use Rattle.bag_facts.specs.FaultOrder.{fault_cmp}
-use Rattle.bag_facts.specs.TagFacts.{entry_paths, AreByPath}
-use Rattle.bag_facts.specs.Wanted.{paths_of}
-use Rattle.bag_stages.specs.CompletenessFaults.{IsOfPathAmong}
+use Rattle.bag_stages.proofs.Common.{take, Some, Contains, IsStrictlySortedBy, IsListOf, text_cmp, fault_cmp, entry_paths, AreByPath, paths_of, IsOfPathAmong}
 use Rattle.bag_stages.proofs.Sought.{Follows}
 use Rattle.bag_stages.proofs.missing.missing_in.Given as goal
 

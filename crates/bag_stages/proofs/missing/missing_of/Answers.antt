@@ -1,4 +1,4 @@
-use Rattle.std.proofs.lemmas.Result.{IfOk-weaker}
+use Rattle.bag_stages.proofs.Common.{IfOk-weaker}
 use Rattle.bag_stages.proofs.MissingFaults.{no_missing, read_missing}
 use Rattle.bag_stages.proofs.missing.missing_of.Goals as goal
 

@@ -1,6 +1,4 @@
-use Rattle.bag_read.specs.declared.kind.Kind.TheVariants.{Tag}
-use Rattle.bag_text.specs.declared.alg.Alg.TheVariants.{Md5}
-use Rattle.bag_stages.specs.CompletenessFaults.{IsMissing}
+use Rattle.bag_stages.proofs.Common.{Tag, Md5, IsMissing}
 use Rattle.bag_stages.proofs.EachOnce.{all_algs, no_alg_yet, once_listed, one_alg_more}
 use Rattle.bag_stages.proofs.MissingFaults.{told}
 use Rattle.bag_stages.proofs.missing.missing_tag_files.Goals as goal

@@ -1,10 +1,6 @@
-use Rattle.bag_read.specs.declared.kind.Kind.TheVariants.{Tag}
-use Rattle.std.proofs.Common.{take}
-use Rattle.bag_facts.specs.Facts.{OfBag}
+use Rattle.bag_stages.proofs.Common.{Tag, take, OfBag, HasEachOnce, IsMissing}
 use Rattle.bag_stages.proofs.ByItem.{OfSome}
-use Rattle.bag_stages.specs.CompletenessFaults.{HasEachOnce, IsMissing}
 use Rattle.bag_stages.proofs.missing.missing_tag_files.Given as goal
 
 abbrev pub invariant-loop-alg : goal.invariant-loop-alg
-invariant-loop-alg l =
-    OfBag l.facts (λ bag. HasEachOnce (OfSome (IsMissing bag Tag) (take l.alg-index l.alg-items)) l.faults.items)
+invariant-loop-alg l = OfBag l.facts (λ bag. HasEachOnce (OfSome (IsMissing bag Tag) (take l.alg-index l.alg-items)) l.faults.items)

@@ -1,9 +1,4 @@
-use Rattle.std.proofs.Common.{◌≡◌, true, false, sym, ◌∙◌, get_or}
-use Rattle.bag_text.specs.Alg.{algs}
-use Rattle.bag_text.specs.declared.alg.Alg.TheVariants.{Md5}
-use Rattle.bag_read.specs.declared.kind.Kind.TheVariants.{Payload}
-use Rattle.bag_stages.specs.TagFiles.{Names}
-use Rattle.bag_text.proofs.ListOf.{contains_nothing}
+use Rattle.bag_stages.proofs.Common.{◌≡◌, true, false, sym, ◌∙◌, get_or, algs, Md5, Payload, Names, contains_nothing}
 use Rattle.bag_stages.proofs.NamedBy.{none_at_all, none_more}
 use Rattle.bag_stages.proofs.named.is_named.Goals as goal
 

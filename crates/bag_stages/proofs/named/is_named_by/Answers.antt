@@ -1,4 +1,4 @@
-use Rattle.bag_read.specs.declared.kind.Kind.TheVariants.{Payload}
+use Rattle.bag_stages.proofs.Common.{Payload}
 use Rattle.bag_stages.proofs.ReadManifest.{by_path, entry_names, names_entry, names_nothing}
 use Rattle.bag_stages.proofs.named.is_named_by.Goals as goal
 

@@ -1,5 +1,4 @@
-use Rattle.bag_text.specs.declared.alg.Alg.TheVariants.{Md5}
-use Rattle.bag_stages.specs.Names.{texts_of}
+use Rattle.bag_stages.proofs.Common.{Md5, texts_of}
 use Rattle.bag_stages.proofs.PayloadNames.{all_names, files_first, one_manifest_more}
 use Rattle.bag_stages.proofs.names.payload_names.Goals as goal
 

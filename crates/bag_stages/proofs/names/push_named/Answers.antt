@@ -1,5 +1,4 @@
-use Rattle.std.proofs.lemmas.Result.{on_ok_weaker}
-use Rattle.bag_stages.specs.Names.{texts_of}
+use Rattle.bag_stages.proofs.Common.{on_ok_weaker, texts_of}
 use Rattle.bag_stages.proofs.PayloadNames.{nothing_added, read_added}
 use Rattle.bag_stages.proofs.names.push_named.Goals as goal
 

@@ -1,6 +1,4 @@
-use Rattle.std.proofs.Common.{◌≡◌, ◌++◌, take}
-use Rattle.bag_facts.specs.TagFacts.{entry_paths}
-use Rattle.bag_stages.specs.Names.{texts_of}
+use Rattle.bag_stages.proofs.Common.{◌≡◌, ◌++◌, take, entry_paths, texts_of}
 use Rattle.bag_stages.proofs.names.push_paths.Given as goal
 
 abbrev pub invariant-loop-entry : goal.invariant-loop-entry

@@ -1,4 +1,4 @@
-use Rattle.std.proofs.Common.{◌≡◌, map, take}
+use Rattle.bag_stages.proofs.Common.{◌≡◌, map, take}
 use Rattle.bag_stages.specs.OxumFaults as told
 use Rattle.bag_stages.proofs.oxum_faults.later_faults.Given as goal
 

@@ -1,4 +1,4 @@
-use Rattle.std.proofs.Common.{◌≡◌, true, false, sym, ◌∙◌}
+use Rattle.bag_stages.proofs.Common.{◌≡◌, true, false, sym, ◌∙◌}
 use Rattle.bag_stages.proofs.PartFaults.{only_unsupported, only_textless, no_file_fault}
 use Rattle.bag_stages.proofs.parts.file_fault.Goals as goal
 

@@ -1,18 +1,11 @@
-use Rattle.std.proofs.Common.{◌≡◌, ◌++◌, [], sym, subst, append-nil}
-use Rattle.std.specs.Option.{option_to_list}
-use Rattle.bag_text.specs.Order.{IsListOf}
-use Rattle.bag_text.proofs.ListOf.{nothing_listed, contains_nothing}
-use Rattle.bag_facts.specs.FaultOrder.{fault_cmp}
-use Rattle.bag_facts.specs.Wanted.{paths_of}
-use Rattle.bag_stages.specs.FileFaults.{IsFileFault, IsFaultAmong}
+use Rattle.bag_stages.proofs.Common.{◌≡◌, ◌++◌, [], sym, subst, append-nil, option_to_list, IsListOf, nothing_listed, contains_nothing, fault_cmp, paths_of, IsFileFault, IsFaultAmong}
 use Rattle.bag_stages.proofs.ByPath.{take_whole, one_fault_more}
 use Rattle.bag_stages.proofs.PartFaults.{less_by_file}
 use Rattle.bag_stages.proofs.parts.file_faults.Goals as goal
 use Rattle.bag_stages.proofs.parts.file_faults.Goals.{in-Some+in_ok-push, in_default}
 
 pub loop-entry-init : goal.loop-entry-init
-loop-entry-init c = λ bag tags sorted.
-    rw c.new-faults.ensures.items (nothing_listed fault_cmp (IsFaultAmong bag []) (λ f h. contains_nothing f.path h.0))
+loop-entry-init c = λ bag tags sorted. rw c.new-faults.ensures.items (nothing_listed fault_cmp (IsFaultAmong bag []) (λ f h. contains_nothing f.path h.0))
 
 pub loop-entry-preserved : goal.loop-entry-preserved
 loop-entry-preserved c = λ bag tags sorted.

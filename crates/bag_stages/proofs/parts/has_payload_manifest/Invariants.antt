@@ -1,5 +1,4 @@
-use Rattle.std.proofs.Common.{take}
-use Rattle.bag_stages.specs.FileFaults.{ListsPayloadManifest}
+use Rattle.bag_stages.proofs.Common.{take, ListsPayloadManifest}
 use Rattle.bag_stages.proofs.parts.has_payload_manifest.Given as goal
 
 abbrev pub invariant-loop-entry : goal.invariant-loop-entry

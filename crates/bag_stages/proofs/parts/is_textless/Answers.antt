@@ -1,4 +1,4 @@
-use Rattle.std.proofs.Common.{rules, sym, ◌≡◌, ◌∙◌, true, false, Some}
+use Rattle.bag_stages.proofs.Common.{rules, sym, ◌≡◌, ◌∙◌, true, false, Some}
 use Rattle.bag_stages.proofs.PartFaults.{one_more_textless, no_textless}
 use Rattle.bag_stages.proofs.parts.is_textless.Goals as goal
 use Rattle.bag_stages.proofs.parts.is_textless.Goals.{else-eq-via-then-eq+else-eq-2, else-eq-via-else-eq}

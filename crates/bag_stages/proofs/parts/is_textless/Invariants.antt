@@ -1,5 +1,4 @@
-use Rattle.std.proofs.Common.{take}
-use Rattle.bag_stages.specs.FileFaults.{HasTextless}
+use Rattle.bag_stages.proofs.Common.{take, HasTextless}
 use Rattle.bag_stages.proofs.parts.is_textless.Given as goal
 
 abbrev pub invariant-loop-tag : goal.invariant-loop-tag

@@ -1,4 +1,4 @@
-use Rattle.std.proofs.Common.{sym, ◌∙◌}
+use Rattle.bag_stages.proofs.Common.{sym, ◌∙◌}
 use Rattle.bag_stages.proofs.PartFaults.{supported_alone}
 use Rattle.bag_stages.proofs.parts.unsupported.Goals as goal
 

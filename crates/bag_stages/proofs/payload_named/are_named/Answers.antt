@@ -1,5 +1,4 @@
-use Rattle.std.proofs.Common.{◌≡◌, true, false, refl}
-use Rattle.bag_facts.specs.TagFacts.{entry_paths}
+use Rattle.bag_stages.proofs.Common.{arith, ◌≡◌, true, false, refl, entry_paths}
 use Rattle.bag_stages.proofs.PayloadNamed.{all_before, before_next, others_there}
 use Rattle.bag_stages.proofs.payload_named.are_named.Goals as goal
 
@@ -19,6 +18,4 @@ returns-in_default c = (
 )
 
 pub returns : goal.returns
-returns c =
-    all_before (entry_paths c.args.entries.now) c.args.files.now c.loop-file.file-index c.loop-file-test.false c.is_empty.result c.loop-file.rest.now
-    c.loop-file.invariant c.is_empty.ensures
+returns c = grind (arith, all_before)

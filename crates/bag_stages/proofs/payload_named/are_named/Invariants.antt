@@ -1,6 +1,4 @@
-use Rattle.std.proofs.Common.{take}
-use Rattle.bag_facts.specs.TagFacts.{entry_paths}
-use Rattle.bag_facts.specs.Wanted.{paths_of}
+use Rattle.bag_stages.proofs.Common.{take, entry_paths, paths_of}
 use Rattle.bag_stages.proofs.PayloadNamed.{AreBefore}
 use Rattle.bag_stages.proofs.payload_named.are_named.Given as goal
 

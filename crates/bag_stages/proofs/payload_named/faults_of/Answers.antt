@@ -1,4 +1,4 @@
-use Rattle.bag_stages.specs.CompletenessFaults.{IsWrong}
+use Rattle.bag_stages.proofs.Common.{IsWrong}
 use Rattle.bag_stages.proofs.EachOnce.{both_once, nothing_once, once_listed}
 use Rattle.bag_stages.proofs.PayloadNamed.{apart, nothing_wrong}
 use Rattle.bag_stages.proofs.payload_named.faults_of.Goals as goal

@@ -1,4 +1,4 @@
-use Rattle.std.proofs.Common.{◌≡◌, true, false}
+use Rattle.bag_stages.proofs.Common.{◌≡◌, true, false}
 use Rattle.bag_stages.proofs.PayloadNamed.{exactly_read, none_exact, read_exactly}
 use Rattle.bag_stages.proofs.payload_named.is_exact.Goals as goal
 

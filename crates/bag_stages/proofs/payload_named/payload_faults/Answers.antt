@@ -1,5 +1,4 @@
-use Rattle.bag_text.specs.declared.alg.Alg.TheVariants.{Md5}
-use Rattle.bag_stages.specs.CompletenessFaults.{IsWrong}
+use Rattle.bag_stages.proofs.Common.{Md5, IsWrong}
 use Rattle.bag_stages.proofs.EachOnce.{all_algs, no_alg_yet, one_alg_more}
 use Rattle.bag_stages.proofs.PayloadNamed.{told}
 use Rattle.bag_stages.proofs.payload_named.payload_faults.Goals as goal

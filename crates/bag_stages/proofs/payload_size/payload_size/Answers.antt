@@ -1,5 +1,4 @@
-use Rattle.std.proofs.Common.{arith}
-use Rattle.std.proofs.lemmas.Grind.{common_steps}
+use Rattle.bag_stages.proofs.Common.{arith, common_steps}
 use Rattle.bag_stages.proofs.payload_size.payload_size.Goals as goal
 
 pub loop-entry-preserved : goal.loop-entry-preserved

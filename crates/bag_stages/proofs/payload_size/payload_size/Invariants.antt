@@ -1,5 +1,4 @@
-use Rattle.std.proofs.Common.{◌≡◌, ◌-◌, ◌*◌, ◌^◌, ◌≤◌, take}
-use Rattle.bag_stages.specs.PayloadSize.{listed_oxum}
+use Rattle.bag_stages.proofs.Common.{◌≡◌, ◌-◌, ◌*◌, ◌^◌, ◌≤◌, take, listed_oxum}
 use Rattle.bag_stages.proofs.payload_size.payload_size.Given as goal
 
 abbrev pub invariant-loop-entry : goal.invariant-loop-entry

@@ -1,6 +1,4 @@
-use Rattle.std.proofs.Common.{◌≡◌, sym, ap, ◌∙◌}
-use Rattle.std.specs.declared.cmp.Ordering.TheVariants.{Less, Equal, Greater}
-use Rattle.bag_text.specs.Text.{text_cmp}
+use Rattle.bag_stages.proofs.Common.{◌≡◌, sym, ap, ◌∙◌, Less, Equal, Greater, text_cmp}
 use Rattle.bag_stages.proofs.Sought.{greater_item, lesser_item, no_item, none_past, same_item}
 use Rattle.bag_stages.proofs.seek.seek.Goals as goal
 

@@ -1,6 +1,4 @@
-use Rattle.std.proofs.Common.{length, map}
-use Rattle.std.specs.List.Sorted.{IsStrictlySortedBy}
-use Rattle.bag_text.specs.Text.{text_cmp}
+use Rattle.bag_stages.proofs.Common.{length, map, IsStrictlySortedBy, text_cmp}
 use Rattle.bag_stages.proofs.Sought.{IsPast}
 use Rattle.bag_stages.proofs.seek.seek.Given as goal
 

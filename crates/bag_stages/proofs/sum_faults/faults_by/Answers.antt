@@ -1,6 +1,4 @@
-use Rattle.std.proofs.Common.{◌∙◌, None, Some, sym, ap, append-nil}
-use Rattle.std.proofs.lemmas.List.{take_all}
-use Rattle.bag_stages.specs.SumFaults.{differing, faults_of_bytes}
+use Rattle.bag_stages.proofs.Common.{◌∙◌, None, Some, sym, ap, append-nil, take_all, differing, faults_of_bytes}
 use Rattle.bag_stages.proofs.GivenByAlg.{looked_at}
 use Rattle.bag_stages.proofs.sum_faults.faults_by.Goals as goal
 

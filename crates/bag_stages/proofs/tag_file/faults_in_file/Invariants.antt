@@ -1,5 +1,4 @@
-use Rattle.std.proofs.Common.{◌≡◌, take, map}
-use Rattle.bag_stages.specs.FaultFields.{in_file}
+use Rattle.bag_stages.proofs.Common.{◌≡◌, take, map, in_file}
 use Rattle.bag_stages.proofs.tag_file.faults_in_file.Given as goal
 
 abbrev pub invariant-loop-fault : goal.invariant-loop-fault

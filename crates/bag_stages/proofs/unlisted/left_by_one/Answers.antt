@@ -1,4 +1,4 @@
-use Rattle.std.proofs.lemmas.Result.{IfOk-weaker}
+use Rattle.bag_stages.proofs.Common.{IfOk-weaker}
 use Rattle.bag_stages.proofs.UnlistedFaults.{no_unlisted, read_unlisted}
 use Rattle.bag_stages.proofs.unlisted.left_by_one.Goals as goal
 

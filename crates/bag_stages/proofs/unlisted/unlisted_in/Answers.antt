@@ -1,8 +1,4 @@
-use Rattle.std.proofs.Common.{◌≡◌, ◌↔◌, Some, false, true, sym, ◌∙◌, Contains, IsTrue}
-use Rattle.bag_text.specs.declared.code.Code.TheVariants.{PayloadFileNotListed}
-use Rattle.bag_facts.specs.TagFacts.{entry_paths}
-use Rattle.bag_facts.proofs.ByPath.{items_ascend, paths_ascend}
-use Rattle.bag_stages.specs.CompletenessFaults.{IsUnlistedPath}
+use Rattle.bag_stages.proofs.Common.{◌≡◌, ◌↔◌, Some, false, true, sym, ◌∙◌, Contains, IsTrue, PayloadFileNotListed, entry_paths, items_ascend, paths_ascend, IsUnlistedPath}
 use Rattle.bag_stages.proofs.FaultsOfPaths.{all_paths, no_path_yet, right_path_more, wrong_path_more}
 use Rattle.bag_stages.proofs.Sought.{follows_next, follows_none, found_in_all, not_in, unsought}
 use Rattle.bag_stages.proofs.unlisted.unlisted_in.Goals as goal

@@ -1,6 +1,4 @@
-use Rattle.std.proofs.Common.{rules, ◌≡◌, true, false, sym, ◌∙◌}
-use Rattle.std.proofs.lemmas.Result.{IfOk-weaker}
-use Rattle.bag_text.specs.declared.rules.Rules.TheVariants.{V10}
+use Rattle.bag_stages.proofs.Common.{rules, ◌≡◌, true, false, sym, ◌∙◌, IfOk-weaker, V10}
 use Rattle.bag_stages.proofs.UnlistedFaults.{asked_of_one, unasked_of_one}
 use Rattle.bag_stages.proofs.unlisted.unlisted_of.Goals as goal
 

@@ -1,5 +1,4 @@
-use Rattle.std.proofs.Common.{◌≡◌, true, false, sym, ◌∙◌}
-use Rattle.std.proofs.lemmas.Result.{IfOk-weaker}
+use Rattle.bag_stages.proofs.Common.{◌≡◌, true, false, sym, ◌∙◌, IfOk-weaker}
 use Rattle.bag_stages.proofs.FetchNamedByNone.{no_member, some_member}
 use Rattle.bag_stages.proofs.UnnamedFiles as unnamed
 use Rattle.bag_stages.proofs.unnamed.left_by_all.Goals as goal

@@ -1,6 +1,4 @@
-use Rattle.std.proofs.Common.{rules, ◌≡◌, true, false, sym, ◌∙◌}
-use Rattle.std.proofs.lemmas.Result.{IfOk-weaker}
-use Rattle.bag_text.specs.declared.rules.Rules.TheVariants.{V097}
+use Rattle.bag_stages.proofs.Common.{arith, rules, ◌≡◌, sym, ◌∙◌, IfOk-weaker, V097}
 use Rattle.bag_stages.proofs.UnnamedFiles.{asked_of_all, unasked_of_all}
 use Rattle.bag_stages.proofs.unnamed.unlisted_in_all.Goals as goal
 
@@ -12,9 +10,4 @@ returns-then-is_asked c = IfOk-weaker c.left_by_all.result _ _
     c.left_by_all.ensures
 
 pub returns-else-is_asked : goal.returns-else-is_asked
-returns-else-is_asked c = λ bag facts deep.
-    rw c.new.ensures.items
-    (unasked_of_all bag (λ by.
-    let is : c.rules.result ≡ V097 = c.rules.ensures bag facts ∙ by in
-    let yes : c.eq-is_asked.result ≡ true = search rules in
-    let clash : true ≡ false = sym yes ∙ c.if-is_asked.false in cc))
+returns-else-is_asked c = λ bag facts deep. grind (arith, unasked_of_all)

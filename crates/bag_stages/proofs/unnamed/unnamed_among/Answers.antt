@@ -1,9 +1,4 @@
-use Rattle.std.proofs.Common.{◌≡◌, None, true, false, sym, ◌∙◌}
-use Rattle.std.specs.List.Sorted.{IsStrictlySortedBy}
-use Rattle.bag_text.specs.Text.{text_cmp}
-use Rattle.bag_text.specs.declared.code.Code.TheVariants.{PayloadFileNotListed}
-use Rattle.bag_facts.specs.Wanted.{paths_of}
-use Rattle.bag_stages.specs.CompletenessFaults.{IsUnnamedPath}
+use Rattle.bag_stages.proofs.Common.{◌≡◌, None, true, false, sym, ◌∙◌, IsStrictlySortedBy, text_cmp, PayloadFileNotListed, paths_of, IsUnnamedPath}
 use Rattle.bag_stages.proofs.FaultsOfPaths.{all_paths, no_path_yet, right_path_more, wrong_path_more}
 use Rattle.bag_stages.proofs.UnnamedFiles as unnamed
 use Rattle.bag_stages.proofs.unnamed.unnamed_among.Goals as goal

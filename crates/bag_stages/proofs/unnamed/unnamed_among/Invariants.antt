@@ -1,10 +1,4 @@
-use Rattle.std.proofs.Common.{None, take}
-use Rattle.bag_text.specs.Order.{IsListOf}
-use Rattle.bag_text.specs.declared.code.Code.TheVariants.{PayloadFileNotListed}
-use Rattle.bag_facts.specs.FaultOrder.{fault_cmp}
-use Rattle.bag_facts.specs.Facts.{OfBag}
-use Rattle.bag_facts.specs.Wanted.{paths_of}
-use Rattle.bag_stages.specs.CompletenessFaults.{IsOfPathAmong, IsUnnamedPath}
+use Rattle.bag_stages.proofs.Common.{None, take, IsListOf, PayloadFileNotListed, fault_cmp, OfBag, paths_of, IsOfPathAmong, IsUnnamedPath}
 use Rattle.bag_stages.proofs.unnamed.unnamed_among.Given as goal
 
 abbrev pub invariant-loop-entry : goal.invariant-loop-entry

@@ -1,0 +1,113 @@
+-- The names that this crate's proofs cite, passed on from one place. Declares nothing.
+pub use Rattle.std.proofs.Common.{Bool, Contains, IsTrue, List, None, Option, Some, [], add-one, ap, append-nil, append_assoc, arith, bytes_eq, codes, cond, drop, false, get_or, inl, inr, is_lt, is_some, length, map, min, not, of_calls, position, refl, rules, string_bytes, subst, suc, sum_by, sym, take, take-append-drop, true, zero, ℕ, ◌*◌, ◌++◌, ◌+◌, ◌-◌, ◌<◌, ◌==◌, ◌^◌, ◌↔◌, ◌∙◌, ◌∷◌, ◌≡◌, ◌≢◌, ◌≤◌, ◌⊎◌}
+pub use Rattle.std.proofs.Math.ListN.{get_or-map}
+pub use Rattle.std.proofs.lemmas.Bool.Decides.{Decides-eqb, nat_tests}
+pub use Rattle.std.proofs.lemmas.Grind.{common_steps}
+pub use Rattle.std.proofs.lemmas.List.{append_cancel_left, get_or_default, length-map, length-take, map-append, take-append-le, take-map, take_all, take_min, take_rest}
+pub use Rattle.std.proofs.lemmas.List.Elements.{All-contains, filter-append, filter_map-append}
+pub use Rattle.std.proofs.lemmas.List.Kept.{Any-dedup, Contains-from_dedup, IsStrictlySortedBy-dedup, IsStrictlySortedBy-filter}
+pub use Rattle.std.proofs.lemmas.List.Sorted.{Contains-permutation, IsPermutation-filter_both, IsPermutation-sym}
+pub use Rattle.std.proofs.lemmas.Map.Keys.{IsDistinct-IsPermutation, IsDistinct-from_sorted, apart_from_distinct, sorted_from_all_adjacent}
+pub use Rattle.std.proofs.lemmas.Map.Views.{Contains-from_any, list_any-from_Contains}
+pub use Rattle.std.proofs.lemmas.Result.{IfOk-weaker, on_ok_weaker}
+pub use Rattle.std.proofs.lemmas.Slice.Eq.{bytes_eq-Decides}
+pub use Rattle.std.specs.Borrow.{Bor}
+pub use Rattle.std.specs.Cmp.{IsTotalOrder, eq_by_cmp_equiv, nat_cmp_total, tied_itself}
+pub use Rattle.std.specs.Cmp.Lexicographic.{nat_list_cmp_total, on_texts, on_texts_equal, pointwise, same_text, texts_ties}
+pub use Rattle.std.specs.FinMap.{IsAntisymmetric, contains_key-keys, keys}
+pub use Rattle.std.specs.List.{cons_option, dedup, enumerate_from, filter, list_any, position_from}
+pub use Rattle.std.specs.List.Sorted.{IsPermutation, IsSorted, IsSortedBy, IsStrictlySortedBy}
+pub use Rattle.std.specs.Option.{option_map, option_to_list}
+pub use Rattle.std.specs.Ordering.{eq_by_cmp, is_eq, nat_cmp, on, ordering_reverse, ordering_then}
+pub use Rattle.std.specs.Prelude.{chars, encode_utf8_all, filter_map, if◌then◌else◌}
+pub use Rattle.std.specs.Str.{IsAscii, is_utf8}
+pub use Rattle.std.specs.declared.cmp.Ordering.{Ordering}
+pub use Rattle.std.specs.declared.cmp.Ordering.TheVariants.{Equal, Greater, Less}
+pub use Rattle.bag_facts.proofs.Ascending.{not_both, not_less_than_itself, self_ties}
+pub use Rattle.bag_facts.proofs.ByPath.{items_ascend, less_case, paths_ascend, reversed, tie_case}
+pub use Rattle.bag_facts.proofs.ListedFiles.{file_listed, listed_file}
+pub use Rattle.bag_facts.proofs.Mapped.{contains_mapped, kept, mapped_contains, passed, take_one_more, taken_cases}
+pub use Rattle.bag_facts.proofs.Ordered.{fault_cmp_same, fault_cmp_total}
+pub use Rattle.bag_facts.specs.Facts.{IsByV097, IsByV10, IsFactsOf, IsSaid, OfBag, rules_in}
+pub use Rattle.bag_facts.specs.FaultAt.{of_line, of_path}
+pub use Rattle.bag_facts.specs.FaultOrder.{fault_cmp}
+pub use Rattle.bag_facts.specs.TagFacts.{AreByPath, AreEntriesOf, IsDeclarationOf, IsFetchListOf, IsManifestNamed, IsMetadataOf, IsReadOf, Says, entry_paths, name_of, path_of, text_test}
+pub use Rattle.bag_facts.specs.TagReader.{AreListed}
+pub use Rattle.bag_facts.specs.Wanted.{paths_of}
+pub use Rattle.bag_facts.specs.declared.facts.Facts.{Facts}
+pub use Rattle.bag_facts.specs.declared.fault.Fault.{Fault}
+pub use Rattle.bag_facts.specs.declared.tag_facts.Manifest.{Manifest}
+pub use Rattle.bag_facts.specs.declared.tag_facts.TagFacts.{TagFacts}
+pub use Rattle.bag_read.proofs.FaultOrder.{line_below, lower}
+pub use Rattle.bag_read.proofs.FetchFaults.{entries_of_lines, entries_of_no_text, faults_of_no_text, faults_of_text}
+pub use Rattle.bag_read.proofs.InfoElements.{elements_of}
+pub use Rattle.bag_read.proofs.ManifestEntries.{entry_named, entry_of_path_once, named_has_entry}
+pub use Rattle.bag_read.proofs.ManifestFaults.{some_entries, some_faults}
+pub use Rattle.bag_read.proofs.ManifestLineParts.{lines_read}
+pub use Rattle.bag_read.proofs.ManifestName.{IsManifestName, named_is, same_alg}
+pub use Rattle.bag_read.proofs.PickedOut.{both_true}
+pub use Rattle.bag_read.proofs.TagPaths.{name_named, paths_differ}
+pub use Rattle.bag_read.specs.Declaration.{DeclarationFault, IsDeclarationFault, declared_encoding, declared_version}
+pub use Rattle.bag_read.specs.Fetch.{FetchFault, IsFetch, IsFetchFault, entry_in}
+pub use Rattle.bag_read.specs.Info.{InfoFault, IsElement, IsInfoFault}
+pub use Rattle.bag_read.specs.LineFault.{AreFaults, entries_read, faults_read, line_fault, line_fault_cmp, not_utf8}
+pub use Rattle.bag_read.specs.Manifest.{IsEntry, IsManifestFault, ManifestFault}
+pub use Rattle.bag_read.specs.ManifestName.{is_alg_text, is_manifest_name, manifest_name, prefix}
+pub use Rattle.bag_read.specs.TagName.{tag_path}
+pub use Rattle.bag_read.specs.declared.declaration.Declaration.{Declaration}
+pub use Rattle.bag_read.specs.declared.fetch.FetchEntry.{FetchEntry}
+pub use Rattle.bag_read.specs.declared.info.Element.{Element}
+pub use Rattle.bag_read.specs.declared.kind.Kind.{Kind}
+pub use Rattle.bag_read.specs.declared.kind.Kind.TheVariants.{Payload, Tag}
+pub use Rattle.bag_read.specs.declared.line_fault.LineFault.{LineFault}
+pub use Rattle.bag_read.specs.declared.manifest.ManifestEntry.{ManifestEntry}
+pub use Rattle.bag_read.specs.declared.oxum.Oxum.{Oxum}
+pub use Rattle.bag_read.specs.declared.tag_name.TagName.{TagName}
+pub use Rattle.bag_read.specs.declared.tag_name.TagName.TheVariants.{Fetch, Info}
+pub use Rattle.bag_text.proofs.AlgSets.{each_is_listed, list_ascends}
+pub use Rattle.bag_text.proofs.ListOf.{ascending_joined, contains_back, contains_behind, contains_cases, contains_either, contains_first, contains_front, contains_nothing, each_from_members, joined, member_has, nothing_listed, one_listed, only_listed, same_lists, same_members}
+pub use Rattle.bag_text.specs.Alg.{alg_named, algs, hex_len, name, rank, rank_cmp, rank_or_zero}
+pub use Rattle.bag_text.specs.Code.{number, stage}
+pub use Rattle.bag_text.specs.Lines.{IsLine, lines_of_file}
+pub use Rattle.bag_text.specs.Order.{IsListOf, IsOnly}
+pub use Rattle.bag_text.specs.Path.{is_path, is_payload_path}
+pub use Rattle.bag_text.specs.Text.{IsNoText, text_cmp, without_prefix}
+pub use Rattle.bag_text.specs.declared.alg.Alg.{Alg}
+pub use Rattle.bag_text.specs.declared.alg.Alg.TheVariants.{Md5}
+pub use Rattle.bag_text.specs.declared.code.Code.{Code}
+pub use Rattle.bag_text.specs.declared.code.Code.TheVariants.{AlgorithmUnsupported, DeclarationLine, DeclarationLineCount, DeclarationNotUtf8, DigestLength, EncodingUnsupported, FetchEscape, FetchLine, FetchNotInManifest, FetchOutsidePayload, FetchUnsafePath, InfoLine, ManifestEscape, ManifestLine, ManifestOutsidePayload, ManifestUnsafePath, NameClash, NamedAgain, NoDeclaration, NoOxum, NoPayloadFolder, NoPayloadManifest, NotUtf8, OxumAgain, OxumDiffers, OxumMalformed, PayloadFileMissing, PayloadFileNotListed, PayloadManifestNotListed, PayloadSumDiffers, TagFileMissing, TagSumDiffers, TagmanifestNamesPayload, TagmanifestNamesTagmanifest, VersionUnsupported}
+pub use Rattle.bag_text.specs.declared.rules.Rules.TheVariants.{V097, V10}
+pub use Rattle.bag_tree.proofs.SameText.{exact_texts, one_text}
+pub use Rattle.bag_tree.specs.Bag.{Bag, HasFile, LacksFile, file, files_of, has_file, has_folder}
+pub use Rattle.bag_tree.specs.Digest.{digest}
+pub use Rattle.bag_tree.specs.Listing.{IsListingOf, IsOrdered}
+pub use Rattle.bag_tree.specs.declared.listing.FileEntry.{FileEntry}
+pub use Rattle.hex.specs.Hex.{encode_lower, lower_digits}
+pub use Rattle.bag_stages.specs.ClashFaults.{IsClashAmong, IsClashOf, first_of, first_with, name_clash}
+pub use Rattle.bag_stages.specs.ClashStage.{ClashesAndLeastsAreAllNames, IsClashFault, IsSoughtClash}
+pub use Rattle.bag_stages.specs.Clashes.{AreAlike, Clashes, IsLeast, IsLeastAlike, nfc_of}
+pub use Rattle.bag_stages.specs.CompletenessFaults.{HasEachOnce, IsIncomplete, IsLeftByAll, IsLeftByOne, IsMissing, IsMissingFromSome, IsNotListed, IsOfPath, IsOfPathAmong, IsUnlistedAmong, IsUnlistedFile, IsUnlistedInAll, IsUnlistedInSome, IsUnlistedPath, IsUnnamed, IsUnnamedPath, IsWrong, IsWrongOfSome, missing_code}
+pub use Rattle.bag_stages.specs.CompletenessStage.{CompletenessFaultsAreListed, CompletenessFaultsAreOfStageSix, IsOfCompleteness, IsPayloadFile, IsPayloadName, IsSoughtInStageSix}
+pub use Rattle.bag_stages.specs.DeclarationStage.{DeclarationFaultsAreListed, DeclarationFaultsAreOfStageOne, InDeclaration, IsOfDeclaration}
+pub use Rattle.bag_stages.specs.FaultFields.{At, InFile, in_file, in_line, of_bag}
+pub use Rattle.bag_stages.specs.FetchFaults.{AreByLine, AreFetched, IsNamedByNone, IsNamedByNoneAmong, IsNotInAny, IsNotInManifest, IsNotInSome, IsNotNamed, IsNotNamedAmong, not_in_manifest}
+pub use Rattle.bag_stages.specs.FetchStage.{FetchFaultsAreListed, FetchFaultsAreOfStageFour, HasFetch, InFetch, IsOfFetch, fetch_txt}
+pub use Rattle.bag_stages.specs.FileFaults.{AreTagsOf, HasTextless, IsFaultAmong, IsFileFault, IsUnsupported, ListsPayloadManifest}
+pub use Rattle.bag_stages.specs.Given.{AreNaming, IsGivenBy, IsSpelledBy}
+pub use Rattle.bag_stages.specs.HasList.{HasList}
+pub use Rattle.bag_stages.specs.LeftOut.{IsLeftOut, IsLeftOutByAll, IsLeftOutByOne, IsNamedBySome}
+pub use Rattle.bag_stages.specs.ManifestFaults.{IsAskedUnnamed, IsLineFault, IsOfManifest, IsUnlistedManifest, IsUnnamedAmong, IsUnnamedFault, unnamed}
+pub use Rattle.bag_stages.specs.ManifestsStage.{InManifest, IsOfManifests, ManifestFaultsAreListed, ManifestFaultsAreOfStageFive}
+pub use Rattle.bag_stages.specs.Metadata.{HasElement, HasFirst, HasLater, bag_info_txt}
+pub use Rattle.bag_stages.specs.MetadataStage.{IsOfMetadata, MetadataFaultsAreListed, MetadataFaultsAreOfStageThree, oxum_label, pair}
+pub use Rattle.bag_stages.specs.Names.{IsNameOf, texts_of}
+pub use Rattle.bag_stages.specs.OxumFaults.{again, differs, first_faults, is_oxum, no_oxum, of_element, oxum_faults, oxums, same_oxum, told_faults}
+pub use Rattle.bag_stages.specs.PartsStage.{PartFaultsAreListed, PartFaultsAreOfStageTwo}
+pub use Rattle.bag_stages.specs.Payload.{oxum, oxum_of_files, oxum_text}
+pub use Rattle.bag_stages.specs.PayloadNamed.{GoesOn, IsExact, IsNamedExactly, StopsAt, payload_paths}
+pub use Rattle.bag_stages.specs.PayloadSize.{listed_oxum, payload_entries}
+pub use Rattle.bag_stages.specs.SumFaults.{AreSumsBy, differing, differing_code, faults_of_bytes, sum_differs}
+pub use Rattle.bag_stages.specs.SummedFiles.{IsNamed, IsSummed, NamesByKind, kind_of}
+pub use Rattle.bag_stages.specs.TagFiles.{HasManifest, HasNoText, HasSupported, Names, bagit_txt, lines_in, lines_or_none, manifest_of, named_in}
+pub use Rattle.bag_stages.specs.ValidityStage.{Differs, IsEntryIn, IsFaultOfFile, IsOfValidity, ValidityFaultsAreListed, ValidityFaultsAreOfStageSeven, expected_and_found}
+pub use Rattle.bag_stages.specs.declared.expected.Expected.{Expected}
