@@ -1,36 +1,11 @@
 -- What is composed of listed files and their digests is what is said of the bag.
-use Rattle.std.proofs.Common.{◌≡◌, ◌+◌, ◌++◌, ◌∷◌, List, [], length, map, sum_by, Contains, refl, sym, ap, ◌∙◌, subst}
-use Rattle.std.specs.List.{swap}
-use Rattle.std.proofs.lemmas.List.{length-map}
-use Rattle.std.proofs.lemmas.List.Sums.{sum_by-cons}
-use Rattle.bag_text.specs.Path.{under}
-use Rattle.bag_text.specs.declared.alg.Alg.{Alg}
-use Rattle.bag_text.proofs.ListOf.{contains_first, contains_behind}
-use Rattle.bag_read.specs.declared.oxum.Oxum.{Oxum}
-use Rattle.bag_read.specs.TagName.{tag_path}
-use Rattle.bag_read.specs.declared.kind.Kind.{Kind}
-use Rattle.bag_read.specs.declared.kind.Kind.TheVariants.{Payload, Tag}
-use Rattle.bag_read.specs.declared.tag_name.TagName.TheVariants.{Info, Manifest}
-use Rattle.bag_tree.specs.declared.listing.FileEntry.{FileEntry}
-use Rattle.bag_tree.specs.Digest.{digest, sum_at}
-use Rattle.bag_stages.specs.MetadataStage.{oxum_label}
-use Rattle.bag_stages.specs.Payload.{oxum_of_files, oxum_text}
-use Rattle.bag_tags.specs.Element.{NewElement, info_text}
-use Rattle.bag_tags.specs.Entry.{manifest_text}
-use Rattle.bag_make.specs.Made.{File, data_folder, new_payload, entries_of, manifest, named_tag_files, new_tag_files, declaration_file, info_file}
-use Rattle.bag_make.specs.Summed.{AreSummed, entry_of, summed_entry, text_or_none}
-use Rattle.bag_make.specs.Texts.{size_of, info_of, manifests_of, named_of}
-use Rattle.bag_make.specs.declared.summed.SummedFile.{SummedFile}
+use Rattle.bag_make.proofs.Common.{arith, ◌≡◌, ◌+◌, ◌++◌, ◌∷◌, List, [], length, map, sum_by, Contains, refl, sym, ap, ◌∙◌, subst, swap, length-map, sum_by-cons, under, Alg, contains_first, contains_behind, Oxum, tag_path, Kind, Payload, Tag, Info, Manifest, FileEntry, oxum_label, oxum_of_files, oxum_text, NewElement, info_text, manifest_text, File, data_folder, new_payload, entries_of, manifest, named_tag_files, new_tag_files, declaration_file, info_file, AreSummed, entry_of, summed_entry, size_of, info_of, manifests_of, named_of, SummedFile}
 
 module _ (algs : List Alg) where
   -- what a manifest says of files with their digests
   entries_are : (alg : Alg) → Contains algs alg → (files : List File) (summed : List SummedFile) → AreSummed algs files summed → map (summed_entry alg) summed ≡ entries_of alg files
   entries_are alg has [] [] h = refl
-  entries_are alg has (e ∷ files) (one ∷ summed) ((path, sums), rest) =
-      let same_path : one.path ≡ e.0 = path in
-      let same_sum : text_or_none (sum_at one.sums alg) ≡ digest alg e.1 = ap text_or_none (sums.each alg has) in
-      let others = entries_are alg has files summed rest in
-      λ i. (same_sum i, same_path i) ∷ others i
+  entries_are alg has (e ∷ files) (one ∷ summed) ((path, sums), rest) = grind (arith, entries_are alg has files summed rest)
   entries_are alg has [] (one ∷ summed) h = absurd h
   entries_are alg has (e ∷ files) [] h = absurd h
 
@@ -59,10 +34,7 @@ streams_are files = length-map files entry_of ∙ sym (length-map files (λ (e :
 
 -- the size of the payload that listed files make
 size_is : (files : List File) → size_of (map entry_of files) ≡ oxum_of_files (new_payload files)
-size_is files =
-    let octets = octets_are files in
-    let streams = streams_are files in
-    λ i. record { octets = octets i; streams = streams i }
+size_is files = grind (arith, octets_are, streams_are)
 
 module _ (files : List File) (listed : List FileEntry) (payload : List SummedFile) (algs : List Alg) (info : List NewElement) (same : map entry_of files ≡ listed) (are : AreSummed algs (new_payload files) payload) where
   info_is : info_of listed info ≡ info_file files algs info

@@ -1,24 +1,7 @@
 -- What stands in a made bag, path by path.
-use Rattle.std.proofs.Common.{◌≡◌, ◌≢◌, ◌⊎◌, inl, inr, ℕ, Bool, true, false, not, ◌&&◌, ◌||◌, List, map, bytes_eq, Some, sym, ap, ◌∙◌, Contains}
-use Rattle.std.specs.Cmp.Lexicographic.{nat_list_cmp_total}
-use Rattle.std.specs.FinMap.{get-entries}
+use Rattle.bag_make.proofs.Common.{arith, ◌≡◌, ◌≢◌, ◌⊎◌, inl, inr, ℕ, Bool, true, false, not, ◌&&◌, ◌||◌, List, map, bytes_eq, Some, sym, ap, ◌∙◌, Contains, nat_list_cmp_total, get-entries, contains-insert, contains-retain, list_any, eq_by_cmp, and_parts, and_from, false_from_ne_true, false≢true, not-true, or_cases, or_left, or_right, bytes_eq-Decides, under, first_component, text_cmp, Alg, any_from, from_any, tag_path, Bag, HasFile, file, files_of, has_folder, one_text, text_itself, exact_texts, contains_mapped, mapped_contains, NewElement, IsMoved, IsNew, MadeHasTheseFiles, MadeHasTheseFolders, File, data_folder}
 use Rattle.std.specs.FinSet as set
-use Rattle.std.specs.FinSet.{contains-insert, contains-retain}
-use Rattle.std.specs.List.{list_any}
-use Rattle.std.specs.Ordering.{eq_by_cmp}
-use Rattle.std.proofs.lemmas.Bool.{and_parts, and_from, false_from_ne_true, false≢true, not-true, or_cases, or_left, or_right}
-use Rattle.std.proofs.lemmas.Slice.Eq.{bytes_eq-Decides}
-use Rattle.bag_text.specs.Path.{under, first_component}
-use Rattle.bag_text.specs.Text.{text_cmp}
-use Rattle.bag_text.specs.declared.alg.Alg.{Alg}
-use Rattle.bag_read.proofs.PickedOut.{any_from, from_any}
-use Rattle.bag_read.specs.TagName.{tag_path}
-use Rattle.bag_tree.specs.Bag.{Bag, HasFile, file, files_of, has_folder}
-use Rattle.bag_tree.proofs.SameText.{one_text, text_itself, exact_texts}
-use Rattle.bag_facts.proofs.Mapped.{contains_mapped, mapped_contains}
-use Rattle.bag_tags.specs.Element.{NewElement}
-use Rattle.bag_make.specs.Contents.{IsMoved, IsNew, MadeHasTheseFiles, MadeHasTheseFolders}
-use Rattle.bag_make.specs.Made.{File, data_folder, made}
+use Rattle.bag_make.specs.Made.{made}
 use Rattle.bag_make.proofs.FilesAreNamed.{tag_there}
 use Rattle.bag_make.proofs.Held.{content_of, found, has_listed, has_payload, held_is, one_file, payload_held, tag_held}
 use Rattle.bag_make.proofs.SumsAreEqual.{one_tag_text}
@@ -93,11 +76,7 @@ module _ (bag : Bag) (name : List ℕ) where
   IsLeft = (name ≡ data_folder) ⊎ ((has_folder bag name ≡ true) × HoldsNone)
 
   left : (eq_by_cmp text_cmp name data_folder || (has_folder bag name && stays name)) ≡ true → IsLeft
-  left e =
-      elim (or_cases (eq_by_cmp text_cmp name data_folder) (has_folder bag name && stays name) e) [
-        | inl same ↦ inl (one_text name data_folder same)
-        | inr there ↦ (let two = and_parts (has_folder bag name) (stays name) there in inr (two.0, none_in (not-true _ two.1)))
-      ]
+  left e = grind (arith, or_cases, one_text, and_parts, none_in, not-true)
 
   is_left : IsLeft → (eq_by_cmp text_cmp name data_folder || (has_folder bag name && stays name)) ≡ true
   is_left (inl same) = or_left (eq_by_cmp text_cmp name data_folder) _ (ap (λ q. eq_by_cmp text_cmp q data_folder) same ∙ text_itself data_folder)
@@ -105,7 +84,4 @@ module _ (bag : Bag) (name : List ℕ) where
 
 pub these_folders : MadeHasTheseFolders
 unfolding made
-these_folders bag algs info name = (
-  λ has. left bag name (sym (folder_test bag name) ∙ has),
-  λ h. folder_test bag name ∙ is_left bag name h,
-)
+these_folders bag algs info name = grind (arith, folder_test bag name, left, is_left)

@@ -1,17 +1,6 @@
 -- Stage 1: the declaration of a made bag has no fault.
-use Rattle.std.proofs.Common.{◌≡◌, true, false, List, sym, ◌∙◌, subst}
-use Rattle.bag_text.specs.declared.alg.Alg.{Alg}
-use Rattle.bag_text.specs.declared.code.Code.{Code}
-use Rattle.bag_text.specs.declared.code.Code.TheVariants.{NoDeclaration, DeclarationNotUtf8, DeclarationLineCount, DeclarationLine, VersionUnsupported, EncodingUnsupported}
-use Rattle.bag_read.specs.Declaration.{IsDeclarationFault}
-use Rattle.bag_read.specs.declared.tag_name.TagName.TheVariants.{Declaration}
-use Rattle.bag_tree.specs.Bag.{Bag}
-use Rattle.bag_facts.specs.declared.fault.Fault.{Fault}
+use Rattle.bag_make.proofs.Common.{◌≡◌, true, false, List, sym, ◌∙◌, subst, Alg, Code, NoDeclaration, DeclarationNotUtf8, DeclarationLineCount, DeclarationLine, VersionUnsupported, EncodingUnsupported, IsDeclarationFault, Declaration, Bag, Fault, in_line, NewElement, made, DeclarationIsReadAgain}
 use Rattle.bag_stages.specs.DeclarationStage.{InDeclaration, DeclarationHolds, IsOfDeclaration}
-use Rattle.bag_stages.specs.FaultFields.{in_line}
-use Rattle.bag_tags.specs.Element.{NewElement}
-use Rattle.bag_make.specs.Made.{made}
-use Rattle.bag_tags.specs.ReadAgain.{DeclarationIsReadAgain}
 use Rattle.bag_make.proofs.Held.{has_declaration, tag_held}
 
 module _ (reads : DeclarationIsReadAgain) (bag : Bag) (algs : List Alg) (info : List NewElement) (f : Fault) where

@@ -1,16 +1,8 @@
 -- A digest has the algorithm's length and lower-case digits.
-use Rattle.std.proofs.Common.{◌≡◌, ℕ, ◌*◌, ◌/◌, ◌%◌, ◌<◌, true, false, List, [], ◌∷◌, length, refl, ap, ◌∙◌, arith, slice_index}
-use Rattle.std.specs.List.{list_all}
-use Rattle.std.proofs.lemmas.Bool.{agree_below_at, and_from, or_from, not_from_true, eq-eqb}
-use Rattle.std.proofs.lemmas.List.Elements.{All-head, All-tail}
+use Rattle.bag_make.proofs.Common.{◌≡◌, ℕ, ◌*◌, ◌/◌, ◌%◌, ◌<◌, true, false, List, [], ◌∷◌, length, refl, ap, ◌∙◌, arith, slice_index, list_all, agree_below_at, and_from, or_from, not_from_true, eq-eqb, All-head, All-tail, hex_len, Alg, Md5, hash, hash_len, digest, is_lower_hex_digit, is_bad_digest}
 use Rattle.hex.specs.Hex.{encode_with, encode_lower, lower_digits}
 use Rattle.hex.proofs.HexLemmas.{length-encode_with}
-use Rattle.bag_text.specs.Alg.{hex_len}
-use Rattle.bag_text.specs.declared.alg.Alg.{Alg}
-use Rattle.bag_text.specs.declared.alg.Alg.TheVariants.{Md5}
-use Rattle.bag_tree.specs.Digest.{hash, hash_len, digest}
 use Rattle.bag_tree.proofs.HashValues.{AreBytes, value}
-use Rattle.bag_tags.specs.Entry.{is_lower_hex_digit, is_bad_digest}
 
 lower_digit : (d : ℕ) → d < 16 → is_lower_hex_digit (slice_index lower_digits d) ≡ true
 lower_digit d l = agree_below_at (λ d. is_lower_hex_digit (slice_index lower_digits d)) (λ d. true) 16 d refl l
@@ -32,7 +24,4 @@ digest_length alg bytes = length-encode_with lower_digits (hash alg bytes) ∙ a
 
 -- a digest can be written
 pub good_digest : (alg : Alg) (bytes : List ℕ) → is_bad_digest alg (digest alg bytes) ≡ false
-good_digest alg bytes =
-    or_from _ _
-    (not_from_true _ (eq-eqb (length (digest alg bytes)) (hex_len alg) (digest_length alg bytes)))
-    (not_from_true _ (lower_each (hash alg bytes) (value alg bytes).1))
+good_digest alg bytes = grind (arith, or_from, not_from_true, eq-eqb, digest_length, lower_each, value)

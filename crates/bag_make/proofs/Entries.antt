@@ -1,30 +1,10 @@
 -- What the manifests of a made bag name, with which digests.
-use Rattle.std.proofs.Common.{◌≡◌, inl, inr, ℕ, suc, ◌+◌, ◌-◌, List, [], ◌∷◌, Option, Some, None, refl, sym, ap, ◌∙◌, subst, Contains}
+use Rattle.bag_make.proofs.Common.{◌≡◌, inl, inr, ℕ, suc, ◌+◌, ◌-◌, List, [], ◌∷◌, Option, Some, None, refl, sym, ap, ◌∙◌, subst, Contains, slice_get_within, get_or_from_slice_get, IsText, V10, Alg, contains_cases, contains_nothing, IsEntry, named, Kind, Payload, Tag, Manifest, Bag, file, files_of, digest, rules_in, lines_or_none, manifest_of, Names, HasSupported, IsEntryIn, NewElement, NewEntry, CanWrite, ManifestIsReadAgain, File, new_payload, entries_of, manifest, named_tag_files, made, IsNewText, contains_mapped, mapped_contains}
 use Rattle.std.specs.Prelude.{All}
 use Rattle.std.specs.List.{slice_get}
-use Rattle.std.proofs.lemmas.Option.{slice_get_within, get_or_from_slice_get}
 use Rattle.bag_text.specs.Lines.{lines_of_file}
-use Rattle.bag_text.specs.Text.{IsText}
-use Rattle.bag_text.specs.declared.rules.Rules.TheVariants.{V10}
-use Rattle.bag_text.specs.declared.alg.Alg.{Alg}
-use Rattle.bag_text.proofs.ListOf.{contains_cases, contains_nothing}
-use Rattle.bag_read.specs.Manifest.{IsEntry, named}
-use Rattle.bag_read.specs.declared.kind.Kind.{Kind}
-use Rattle.bag_read.specs.declared.kind.Kind.TheVariants.{Payload, Tag}
 use Rattle.bag_read.specs.declared.manifest.ManifestEntry.{ManifestEntry}
-use Rattle.bag_read.specs.declared.tag_name.TagName.TheVariants.{Manifest}
 use Rattle.bag_read.proofs.ManifestEntries.{entry_named, named_has_entry}
-use Rattle.bag_tree.specs.Bag.{Bag, file, files_of}
-use Rattle.bag_tree.specs.Digest.{digest}
-use Rattle.bag_facts.specs.Facts.{rules_in}
-use Rattle.bag_stages.specs.TagFiles.{lines_or_none, manifest_of, Names, HasSupported}
-use Rattle.bag_stages.specs.ValidityStage.{IsEntryIn}
-use Rattle.bag_tags.specs.Element.{NewElement}
-use Rattle.bag_tags.specs.Entry.{NewEntry, CanWrite}
-use Rattle.bag_tags.specs.ReadAgain.{ManifestIsReadAgain}
-use Rattle.bag_make.specs.Made.{File, new_payload, entries_of, manifest, named_tag_files, made}
-use Rattle.bag_make.specs.Contents.{IsNewText}
-use Rattle.bag_facts.proofs.Mapped.{contains_mapped, mapped_contains}
 use Rattle.bag_make.proofs.FetchIsNotThere.{no_line}
 use Rattle.bag_make.proofs.Held.{tag_held, content_of}
 use Rattle.bag_make.proofs.MadeRules.{made_rules}
@@ -32,11 +12,7 @@ use Rattle.bag_make.proofs.MadeRules.{made_rules}
 -- the place of a member
 pub place_of : {A : Type 0} (xs : List A) (x : A) → Contains xs x → (k : ℕ) × (slice_get xs k ≡ Some x)
 place_of [] x h = absurd (contains_nothing x h)
-place_of (y ∷ xs) x h =
-    elim (contains_cases y xs x h) [
-      | inl e ↦ (0, ap Some e)
-      | inr d ↦ (let p = place_of xs x d in (suc p.0, p.1))
-    ]
+place_of (y ∷ xs) x h = elim (contains_cases y xs x h) [ inl e ↦ (0, ap Some e) | inr d ↦ (let p = place_of xs x d in (suc p.0, p.1)) ]
 
 pub at_place : {A : Type 0} (xs : List A) (k : ℕ) (x : A) → slice_get xs k ≡ Some x → Contains xs x
 at_place xs k x e = (k, slice_get_within xs k x e, get_or_from_slice_get xs k x x e)
@@ -49,8 +25,7 @@ module _ (bag : Bag) (algs : List Alg) (info : List NewElement) where
 
   -- each manifest can be written
   abbrev pub AreWritable : Type 0
-  AreWritable =
-      (kind : Kind) (alg : Alg) → All (λ entry. IsText entry.1) (entries_of alg (listed kind)) × CanWrite kind alg (entries_of alg (listed kind))
+  AreWritable = (kind : Kind) (alg : Alg) → All (λ entry. IsText entry.1) (entries_of alg (listed kind)) × CanWrite kind alg (entries_of alg (listed kind))
 
   pub holds_manifest : (kind : Kind) (alg : Alg) (c : List ℕ) → IsNewText bag algs info (Manifest kind alg) c → Contains algs alg × (c ≡ manifest alg (listed kind))
   holds_manifest Payload alg c h = h

@@ -1,39 +1,15 @@
 -- Stage 6: the manifests of a made bag name its payload, and the tag files that are there.
-use Rattle.std.proofs.Common.{◌≡◌, inl, inr, ℕ, ◌==◌, true, false, List, ◌∷◌, length, nat_lt, sym, ap, ◌∙◌, subst, Contains, arith}
-use Rattle.std.proofs.lemmas.Bool.{and_parts, eqb-true, ltb-true}
-use Rattle.bag_text.specs.Path.{under, components, is_path, is_payload_path}
-use Rattle.bag_text.specs.declared.alg.Alg.{Alg}
-use Rattle.bag_text.specs.declared.code.Code.{Code}
-use Rattle.bag_text.specs.declared.code.Code.TheVariants.{PayloadFileMissing, TagFileMissing, PayloadFileNotListed, NameClash}
-use Rattle.bag_text.proofs.ListOf.{contains_cases}
-use Rattle.bag_read.specs.TagName.{tag_path}
-use Rattle.bag_read.specs.declared.kind.Kind.{Kind}
-use Rattle.bag_read.specs.declared.kind.Kind.TheVariants.{Payload, Tag}
-use Rattle.bag_read.specs.declared.tag_name.TagName.{TagName}
-use Rattle.bag_read.specs.declared.tag_name.TagName.TheVariants.{Declaration, Info, Manifest}
-use Rattle.bag_read.proofs.TagPaths.{in_base}
-use Rattle.bag_tree.specs.Bag.{Bag, HasFile, file, files_of}
-use Rattle.bag_facts.specs.declared.fault.Fault.{Fault}
-use Rattle.bag_facts.specs.Facts.{rules_in}
+use Rattle.bag_make.proofs.Common.{◌≡◌, inl, inr, ℕ, true, false, List, ◌∷◌, nat_lt, sym, ap, ◌∙◌, subst, Contains, arith, and_parts, eqb-true, ltb-true, under, is_payload_path, Alg, Code, PayloadFileMissing, TagFileMissing, PayloadFileNotListed, NameClash, contains_cases, tag_path, Kind, Payload, Tag, TagName, Declaration, Info, Manifest, in_base, Bag, HasFile, file, files_of, Fault, rules_in, NewElement, ManifestIsReadAgain, File, data_folder, new_payload, named_tag_files, declaration_file, info_file, payload_manifests, made, full, IsNew, IsNewText, mapped_contains}
 use Rattle.bag_stages.proofs.LeftOut.{left_out_by, not_both}
 use Rattle.bag_stages.specs.CompletenessStage.{Missing, CompletenessHolds, IsOfCompleteness}
 use Rattle.bag_report.specs.Report.{asks}
-use Rattle.bag_tags.specs.Element.{NewElement}
-use Rattle.bag_tags.specs.ReadAgain.{ManifestIsReadAgain}
-use Rattle.bag_make.specs.Made.{File, data_folder, new_payload, named_tag_files, declaration_file, info_file, payload_manifests, made}
-use Rattle.bag_make.specs.Valid.{full}
 use Rattle.bag_make.proofs.Entries.{AreWritable, listed, listed_named, named_listed}
-use Rattle.bag_make.specs.Contents.{IsNew, IsNewText}
-use Rattle.bag_facts.proofs.Mapped.{mapped_contains}
 use Rattle.bag_make.proofs.MadeRules.{made_rules}
 use Rattle.bag_make.proofs.Held.{held_is, content_of, payload_member, payload_manifest_member, has_payload, has_declaration, has_info, has_manifest}
 
 -- a tag file stands in the base folder
 pub no_payload_tag : (tag : TagName) → is_payload_path (tag_path tag) ≡ true → ⊥
-no_payload_tag tag e =
-    let long : nat_lt 1 (length (components (tag_path tag))) ≡ true = (and_parts _ (nat_lt 1 (length (components (tag_path tag)))) e).1 in
-    let one : (length (components (tag_path tag)) == 1) ≡ true = (and_parts (is_path (tag_path tag)) (length (components (tag_path tag)) == 1) (in_base tag)).1 in
-    absurd (omega (arith, ltb-true 1 (length (components (tag_path tag))) long, eqb-true (length (components (tag_path tag))) 1 one))
+no_payload_tag tag e = grind (arith, nat_lt, and_parts, in_base, ltb-true, eqb-true)
 
 module _ (bag : Bag) (algs : List Alg) (info : List NewElement) where
   -- what tag manifests are to name are tag files
@@ -60,9 +36,7 @@ module _ (bag : Bag) (algs : List Alg) (info : List NewElement) where
   listed_there Payload q c h =
       let m = payload_member bag algs info q c h in
       subst (HasFile (made bag algs info)) (sym m.1) (has_payload bag algs info m.0 c m.2)
-  listed_there Tag q c h =
-      let m = named_tag q c h in
-      subst (HasFile (made bag algs info)) (sym m.1) (tag_there m.0 c m.2)
+  listed_there Tag q c h = grind (arith, named_tag q c h, tag_there)
 
   -- a file of the payload is one that the payload manifests are to name
   payload_listed : (q : List ℕ) → HasFile (made bag algs info) q → is_payload_path q ≡ true → (c : List ℕ) × Contains (new_payload (files_of bag)) (q, c)

@@ -1,12 +1,6 @@
 -- The first component of a path, and what is within a name.
-use Rattle.std.proofs.Common.{◌≡◌, ℕ, ◌<◌, ◌≤◌, ◌==◌, ◌⊎◌, inl, inr, true, false, List, [], ◌∷◌, length, take, All, add_comm, add-one, refl, ap, sym, ◌∙◌, arith, ⊎_elim}
-use Rattle.std.specs.List.{position_or_len}
-use Rattle.std.proofs.lemmas.Bool.{and_parts, and_from, eqb-true, ltb-true, cases_lt}
-use Rattle.std.proofs.lemmas.List.{take_all}
+use Rattle.bag_make.proofs.Common.{◌≡◌, ℕ, ◌<◌, ◌≤◌, ◌==◌, ◌⊎◌, inl, inr, true, false, List, [], ◌∷◌, length, take, All, add_comm, add-one, refl, ap, sym, ◌∙◌, arith, ⊎_elim, position_or_len, and_parts, and_from, eqb-true, ltb-true, cases_lt, take_all, fails_before_first, slash, components, is_path, is_base_name, first_component, under, is_slash, in_folder, first_is_base_name}
 use Rattle.std.proofs.lemmas.List.Splits.{slice_split_none}
-use Rattle.std.proofs.lemmas.List.Sums.{fails_before_first}
-use Rattle.bag_text.specs.Path.{slash, components, is_path, is_base_name, first_component, under}
-use Rattle.bag_tree.proofs.Parents.{is_slash, in_folder, first_is_base_name}
 
 none_until : (t : List ℕ) → length t ≤ position_or_len is_slash t → All (λ c. is_slash c ≡ false) t
 none_until t none k d within = fails_before_first is_slash t k d (omega arith)
@@ -25,10 +19,7 @@ first-name name is =
 
 -- the first component of a path is a name
 pub first_is_name : (path : List ℕ) → is_path path ≡ true → is_base_name (first_component path) ≡ true
-first_is_name path is =
-    ⊎_elim (λ place. first_is_base_name path is (in_folder path place))
-    (λ none. ap is_base_name (whole path none) ∙ and_from (is_path path) (length (components path) == 1) is (ap (λ (parts : List (List ℕ)). length parts == 1) (alone path none)))
-    (cases_lt (position_or_len is_slash path) (length path))
+first_is_name path is = grind (arith, ⊎_elim, first_is_base_name, in_folder, whole, and_from, alone, cases_lt, is_slash)
 
 -- a path is its first component, or stands under it
 pub parts : (path : List ℕ) → (path ≡ first_component path) ⊎ ((rest : List ℕ) × (path ≡ under (first_component path) rest))

@@ -1,40 +1,13 @@
 -- Which files a made bag holds, and with which bytes.
-use Rattle.std.proofs.Common.{◌≡◌, ◌⊎◌, inl, inr, ℕ, Bool, true, false, cond, List, [], ◌∷◌, ◌++◌, map, Option, Some, None, is_some, refl, sym, ap, ◌∙◌, subst, Contains, arith, get_or, drop, Ordering, ◌==◌}
-use Rattle.std.specs.Cmp.Lexicographic.{nat_list_cmp_total}
-use Rattle.std.specs.FinMap.{find, is_sorted, entries_sorted, get-entries, get-from_entries}
-use Rattle.std.specs.FinMap.Entries.{below_all}
-use Rattle.std.specs.Ordering.{eq_by_cmp, is_lt, is_eq}
-use Rattle.std.specs.declared.cmp.Ordering.TheVariants.{Less, Equal, Greater}
-use Rattle.std.proofs.Math.Dec.{T}
-use Rattle.std.proofs.lemmas.Bool.{and_parts}
-use Rattle.std.proofs.lemmas.Bool.Decides.{nat_tests}
-use Rattle.bag_text.specs.Alg.{name}
-use Rattle.bag_text.specs.Path.{under}
-use Rattle.bag_text.specs.Text.{text_cmp}
-use Rattle.bag_text.specs.declared.alg.Alg.{Alg}
-use Rattle.bag_text.proofs.ListOf.{contains_cases, contains_first, contains_behind, contains_nothing, contains_either, contains_front, contains_back}
-use Rattle.bag_read.specs.ManifestName.{manifest_name}
-use Rattle.bag_read.specs.TagName.{tag_path}
-use Rattle.bag_read.specs.declared.kind.Kind.{Kind}
-use Rattle.bag_read.specs.declared.kind.Kind.TheVariants.{Payload, Tag}
-use Rattle.bag_read.specs.declared.tag_name.TagName.{TagName}
-use Rattle.bag_read.specs.declared.tag_name.TagName.TheVariants.{Declaration, Info, Fetch, Manifest}
-use Rattle.bag_read.proofs.TagPaths.{paths_differ}
-use Rattle.bag_tree.specs.Bag.{Bag, file, HasFile, files_of}
-use Rattle.bag_facts.proofs.Mapped.{contains_mapped, mapped_contains}
+use Rattle.bag_make.proofs.Common.{◌≡◌, ◌⊎◌, inl, inr, ℕ, Bool, true, false, cond, List, [], ◌∷◌, ◌++◌, map, Option, Some, None, is_some, refl, sym, ap, ◌∙◌, subst, Contains, arith, get_or, Ordering, ◌==◌, nat_list_cmp_total, find, is_sorted, entries_sorted, get-entries, get-from_entries, below_all, eq_by_cmp, is_lt, is_eq, Less, Equal, Greater, T, and_parts, nat_tests, name, under, text_cmp, Alg, contains_cases, contains_first, contains_behind, contains_nothing, contains_either, contains_front, contains_back, manifest_name, tag_path, Kind, Payload, Tag, TagName, Declaration, Info, Fetch, Manifest, paths_differ, Bag, file, HasFile, files_of, contains_mapped, mapped_contains, one_text, text_itself, NewElement, info_text, IsNew, IsNewText, File, data_folder, new_payload, manifest, new_elements, named_tag_files, declaration_file, info_file, payload_manifests, tag_manifests, new_tag_files}
 use Rattle.bag_stages.proofs.PartFaults.{one_alg}
-use Rattle.bag_tree.proofs.SameText.{one_text, text_itself}
 use Rattle.bag_tags.specs.Declaration.{declaration_text}
-use Rattle.bag_tags.specs.Element.{NewElement, info_text}
-use Rattle.bag_make.specs.Contents.{IsNew, IsNewText}
-use Rattle.bag_make.specs.Made.{File, data_folder, new_payload, manifest, new_elements, named_tag_files, declaration_file, info_file, payload_manifests, tag_manifests, new_tag_files, made}
+use Rattle.bag_make.specs.Made.{made}
 
 -- what is found in a list stands in it
 found_by : (q k v c : List ℕ) (es : List File) (b : Bool) → eq_by_cmp text_cmp q k ≡ b → cond b (Some v) (find text_cmp q es) ≡ Some c
     → (find text_cmp q es ≡ Some c → Contains es (q, c)) → Contains ((k, v) ∷ es) (q, c)
-found_by q k v c es true e h more =
-    let same : (k, v) ≡ (q, c) = (let one : v ≡ c = cc in λ i. (sym (one_text q k e) i, one i)) in
-    subst (Contains ((k, v) ∷ es)) same (contains_first (k, v) es)
+found_by q k v c es true e h more = grind (arith, one_text q k e, contains_first (k, v) es)
 found_by q k v c es false e h more = contains_behind (k, v) es (q, c) (more h)
 
 pub found : (q c : List ℕ) (es : List File) → find text_cmp q es ≡ Some c → Contains es (q, c)
@@ -162,14 +135,10 @@ module _ (bag : Bag) (algs : List Alg) (info : List NewElement) where
       (m.0, sym (ap (λ (y : File). y.0) m.2), m.1, sym (ap (λ (y : File). y.1) m.2))
 
   pub payload_manifest_member : (q c : List ℕ) → Contains (payload_manifests files algs info) (q, c) → IsNew bag algs info q c
-  payload_manifest_member q c h =
-      let m = manifest_member Payload (λ alg. manifest alg (new_payload files)) q c h in
-      (Manifest Payload m.0, m.1, (m.2, m.3))
+  payload_manifest_member q c h = let m = manifest_member Payload (λ alg. manifest alg (new_payload files)) q c h in (Manifest Payload m.0, m.1, (m.2, m.3))
 
   tag_manifest_member : (q c : List ℕ) → Contains (tag_manifests files algs info) (q, c) → IsNew bag algs info q c
-  tag_manifest_member q c h =
-      let m = manifest_member Tag (λ alg. manifest alg (named_tag_files files algs info)) q c h in
-      (Manifest Tag m.0, m.1, (m.2, m.3))
+  tag_manifest_member q c h = let m = manifest_member Tag (λ alg. manifest alg (named_tag_files files algs info)) q c h in (Manifest Tag m.0, m.1, (m.2, m.3))
 
   abbrev manifests : List File
   manifests = payload_manifests files algs info ++ tag_manifests files algs info
@@ -196,19 +165,11 @@ module _ (bag : Bag) (algs : List Alg) (info : List NewElement) where
 
   -- a tag file of the made bag has its text
   pub tag_held : (tag : TagName) (c : List ℕ) → file (made bag algs info) (tag_path tag) ≡ Some c → IsNewText bag algs info tag c
-  tag_held tag c e =
-      elim (held_is (tag_path tag) c e) [
-        | inl (p, at, h) ↦ absurd (under_no_tag p tag (sym at))
-        | inr (other, at, h) ↦ subst (λ t. IsNewText bag algs info t c) (sym (paths_differ tag other at)) h
-      ]
+  tag_held tag c e = grind (arith, held_is, under_no_tag, paths_differ)
 
   -- a file under data/ is the folder's
   pub payload_held : (p c : List ℕ) → file (made bag algs info) (under data_folder p) ≡ Some c → Contains files (p, c)
-  payload_held p c e =
-      elim (held_is (under data_folder p) c e) [
-        | inl (q, at, h) ↦ subst (λ r. Contains files (r, c)) (sym (ap (drop 5) at)) h
-        | inr (tag, at, h) ↦ absurd (under_no_tag p tag at)
-      ]
+  payload_held p c e = grind (arith, held_is, under_no_tag)
 
   -- the tag files that it has
   has_tag : (q c : List ℕ) → Contains (new_tag_files files algs info) (q, c) → HasFile (made bag algs info) q
@@ -251,9 +212,7 @@ module _ (bag : Bag) (algs : List Alg) (info : List NewElement) where
 
   manifest_by : (kind : Kind) (alg c : List ℕ) → InPayload (manifest_name kind alg) c ⊎ IsNew bag algs info (manifest_name kind alg) c → (a : Alg) × (alg ≡ name a) × Contains algs a
   manifest_by kind alg c (inl (p, at, h)) = absurd (under_no_manifest p alg kind (sym at))
-  manifest_by kind alg c (inr (tag, at, h)) =
-      let m = named_manifest kind alg tag at in
-      (m.1, m.3, alg_of m.0 m.1 c (subst (λ t. IsNewText bag algs info t c) m.2 h))
+  manifest_by kind alg c (inr (tag, at, h)) = grind (arith, named_manifest kind alg tag at, alg_of)
 
   -- its manifests are of its algorithms, whatever the form of their names
   pub manifest_is : (kind : Kind) (alg : List ℕ) → HasFile (made bag algs info) (manifest_name kind alg) → (a : Alg) × (alg ≡ name a) × Contains algs a

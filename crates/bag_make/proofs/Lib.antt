@@ -1,3 +1,4 @@
+pub mod Common
 pub mod Composed
 pub mod ContentsOfMade
 pub mod DeclarationReads

@@ -1,17 +1,7 @@
 -- A bag that was made is judged by the rules of 1.0.
-use Rattle.std.proofs.Common.{◌≡◌, ℕ, List, Option, ap, ◌∙◌}
-use Rattle.std.specs.Prelude.{option_and_then}
+use Rattle.bag_make.proofs.Common.{◌≡◌, ℕ, List, Option, ap, ◌∙◌, option_and_then, V10, Alg, declared_version, tag_path, Declaration, Bag, file, NewElement, declaration_again, made}
 use Rattle.bag_text.specs.Rules.{rules_of}
-use Rattle.bag_text.specs.declared.rules.Rules.TheVariants.{V10}
-use Rattle.bag_text.specs.declared.alg.Alg.{Alg}
-use Rattle.bag_read.specs.Declaration.{declared_version}
-use Rattle.bag_read.specs.TagName.{tag_path}
-use Rattle.bag_read.specs.declared.tag_name.TagName.TheVariants.{Declaration}
-use Rattle.bag_tree.specs.Bag.{Bag, file}
 use Rattle.bag_facts.specs.Facts.{rules_in}
-use Rattle.bag_tags.specs.Element.{NewElement}
-use Rattle.bag_tags.proofs.DeclarationReadAgain.{declaration_again}
-use Rattle.bag_make.specs.Made.{made}
 use Rattle.bag_make.proofs.Held.{content_of, has_declaration, tag_held}
 
 pub made_rules : (bag : Bag) (algs : List Alg) (info : List NewElement) → rules_in (made bag algs info) ≡ V10

@@ -1,25 +1,7 @@
 -- Stage 5: each line of the manifests of a made bag reads, none names a path twice, and tag manifests name the payload manifests.
-use Rattle.std.proofs.Common.{List, ◌∷◌, sym, subst, Contains}
-use Rattle.bag_text.specs.declared.rules.Rules.TheVariants.{V10}
-use Rattle.bag_text.specs.declared.alg.Alg.{Alg}
-use Rattle.bag_text.specs.declared.code.Code.{Code}
-use Rattle.bag_text.specs.declared.code.Code.TheVariants.{ManifestLine, DigestLength, ManifestEscape, ManifestUnsafePath, ManifestOutsidePayload, TagmanifestNamesPayload, TagmanifestNamesTagmanifest, NamedAgain, PayloadManifestNotListed}
-use Rattle.bag_text.proofs.ListOf.{contains_behind}
-use Rattle.bag_read.specs.Manifest.{IsManifestFault}
-use Rattle.bag_read.specs.ManifestName.{manifest_name}
-use Rattle.bag_read.specs.TagName.{tag_path}
-use Rattle.bag_read.specs.declared.kind.Kind.TheVariants.{Payload, Tag}
-use Rattle.bag_read.specs.declared.tag_name.TagName.TheVariants.{Manifest}
-use Rattle.bag_tree.specs.Bag.{Bag, files_of}
-use Rattle.bag_facts.specs.declared.fault.Fault.{Fault}
-use Rattle.bag_stages.specs.FaultFields.{in_line}
+use Rattle.bag_make.proofs.Common.{List, ◌∷◌, sym, subst, Contains, V10, Alg, Code, ManifestLine, DigestLength, ManifestEscape, ManifestUnsafePath, ManifestOutsidePayload, TagmanifestNamesPayload, TagmanifestNamesTagmanifest, NamedAgain, PayloadManifestNotListed, contains_behind, IsManifestFault, manifest_name, tag_path, Payload, Tag, Manifest, Bag, files_of, Fault, in_line, Names, NewElement, ManifestIsReadAgain, File, new_payload, entries_of, manifest, named_tag_files, declaration_file, info_file, payload_manifests, made, mapped_contains}
 use Rattle.bag_stages.specs.ManifestsStage.{InManifest, ManifestHolds, IsOfManifests}
-use Rattle.bag_stages.specs.TagFiles.{Names}
-use Rattle.bag_tags.specs.Element.{NewElement}
-use Rattle.bag_tags.specs.ReadAgain.{ManifestIsReadAgain}
-use Rattle.bag_make.specs.Made.{File, new_payload, entries_of, manifest, named_tag_files, declaration_file, info_file, payload_manifests, made}
 use Rattle.bag_make.proofs.Entries.{AreWritable, holds_manifest, listed, listed_named}
-use Rattle.bag_facts.proofs.Mapped.{mapped_contains}
 use Rattle.bag_make.proofs.Held.{tag_held, manifest_is}
 use Rattle.bag_make.proofs.MadeRules.{made_rules}
 

@@ -1,33 +1,13 @@
 -- Stage 3: the metadata of a made bag reads, and its Payload-Oxum is the payload's size.
-use Rattle.std.proofs.Common.{◌≡◌, ℕ, zero, suc, ◌+◌, ◌<◌, ◌^◌, true, false, List, [], ◌∷◌, ◌++◌, length, Some, None, refl, sym, ap, ◌∙◌, subst, arith}
+use Rattle.bag_make.proofs.Common.{◌≡◌, ℕ, zero, suc, ◌+◌, ◌<◌, ◌^◌, true, false, List, [], ◌∷◌, ◌++◌, length, Some, refl, sym, ap, ◌∙◌, subst, arith, list_any, or_from, or_parts, All-push, list_any-append, IsText, same_label, V10, Alg, Code, InfoLine, OxumMalformed, OxumAgain, OxumDiffers, NoOxum, Oxum, Info, Bag, file, files_of, Fault, in_line, oxum_label, oxum_of_files, oxum_text, lines_in, lines_or_none, NewElement, info_text, is_bad_element, is_bad_label, is_bad_value, InfoIsReadAgain, new_payload, new_elements, made, CanMake, is_refused}
 use Rattle.std.specs.Prelude.{All}
 use Rattle.std.specs.Char.{encode_utf8}
-use Rattle.std.specs.List.{list_any, slice_get}
+use Rattle.std.specs.List.{slice_get}
 use Rattle.std.specs.Str.{is_utf8, chars}
-use Rattle.std.proofs.lemmas.Bool.{or_from, or_parts}
-use Rattle.std.proofs.lemmas.List.Elements.{All-push}
-use Rattle.std.proofs.lemmas.List.Folds.{list_any-append}
-use Rattle.bag_text.specs.Text.{IsText, same_label}
-use Rattle.bag_text.specs.declared.rules.Rules.TheVariants.{V10}
-use Rattle.bag_text.specs.declared.alg.Alg.{Alg}
-use Rattle.bag_text.specs.declared.code.Code.{Code}
-use Rattle.bag_text.specs.declared.code.Code.TheVariants.{InfoLine, OxumMalformed, OxumAgain, OxumDiffers, NoOxum}
 use Rattle.bag_read.specs.Info.{IsElement, IsInfoFault}
-use Rattle.bag_read.specs.Oxum.{oxum_of}
 use Rattle.bag_read.specs.declared.info.Element.{Element}
-use Rattle.bag_read.specs.declared.oxum.Oxum.{Oxum}
-use Rattle.bag_read.specs.declared.tag_name.TagName.TheVariants.{Info}
-use Rattle.bag_tree.specs.Bag.{Bag, file, files_of}
-use Rattle.bag_facts.specs.declared.fault.Fault.{Fault}
-use Rattle.bag_stages.specs.FaultFields.{in_line}
 use Rattle.bag_stages.specs.Metadata.{bag_info_txt, HasElement}
-use Rattle.bag_stages.specs.MetadataStage.{oxum_label, MetadataHolds, IsOfMetadata}
-use Rattle.bag_stages.specs.Payload.{oxum_of_files, oxum_text}
-use Rattle.bag_stages.specs.TagFiles.{lines_in, lines_or_none}
-use Rattle.bag_tags.specs.Element.{NewElement, info_text, is_bad_element, is_bad_label, is_bad_value}
-use Rattle.bag_tags.specs.ReadAgain.{InfoIsReadAgain}
-use Rattle.bag_make.specs.Made.{new_payload, new_elements, made}
-use Rattle.bag_make.specs.Valid.{CanMake, is_refused}
+use Rattle.bag_stages.specs.MetadataStage.{MetadataHolds, IsOfMetadata}
 use Rattle.bag_make.proofs.Held.{tag_held, has_info, content_of}
 use Rattle.bag_make.proofs.MadeRules.{made_rules}
 use Rattle.bag_make.proofs.OxumReads.{oxum_reads, oxum_is_text, oxum_is_good}
@@ -37,13 +17,8 @@ use Rattle.bag_make.proofs.PayloadIsTheFolder.{payload_size, oxum_is}
 only_last : (xs : List NewElement) (y z : NewElement) (k : ℕ) → list_any is_refused xs ≡ false → slice_get (xs ++ y ∷ []) k ≡ Some z → same_label z.0 oxum_label ≡ true → (k ≡ length xs) × (z ≡ y)
 only_last [] y z zero none at same = (refl, let one : y ≡ z = cc in sym one)
 only_last [] y z (suc k) none at same = cc
-only_last (x ∷ xs) y z zero none at same =
-    let one : x ≡ z = cc in
-    let lacks : same_label x.0 oxum_label ≡ false = (or_parts (is_bad_element x) _ (or_parts (is_refused x) _ none).0).1 in
-    (let clash : true ≡ false = sym same ∙ ap (λ (w : NewElement). same_label w.0 oxum_label) (sym one) ∙ lacks in cc)
-only_last (x ∷ xs) y z (suc k) none at same =
-    let more = only_last xs y z k (or_parts (is_refused x) _ none).1 at same in
-    (ap suc more.0, more.1)
+only_last (x ∷ xs) y z zero none at same = grind (arith, or_parts)
+only_last (x ∷ xs) y z (suc k) none at same = let more = only_last xs y z k (or_parts (is_refused x) _ none).1 at same in (ap suc more.0, more.1)
 
 last_place : (xs : List NewElement) (y : NewElement) → slice_get (xs ++ y ∷ []) (length xs) ≡ Some y
 last_place [] y = refl
@@ -109,14 +84,9 @@ module _ (bag : Bag) (algs : List Alg) (info : List NewElement) (can : CanMake b
       by_code InfoLine (at, alg, (bytes, held, wrong)) =
           (read elements elements_text elements_good).1 (in_line f)
           (subst (λ b. IsInfoFault V10 b (in_line f)) (tag_held bag algs info Info bytes held) (subst (λ rules. IsInfoFault rules bytes (in_line f)) (made_rules bag algs info) wrong))
-      by_code OxumMalformed (e, at, first, none) =
-          let read_as : oxum_of e.value ≡ Some sums = ap oxum_of (stands e first.0).1 ∙ oxum_reads sums octets streams in
-          (let clash : None ≡ Some sums = sym none ∙ read_as in cc)
+      by_code OxumMalformed (e, at, first, none) = grind (arith, stands e first.0, oxum_reads sums octets streams, octets, streams)
       by_code OxumAgain (e, at, (has, (d, earlier, low))) = absurd (omega (arith, (stands e has).0, (stands d earlier).0, low))
-      by_code OxumDiffers (e, other, at, first, reads, differs) =
-          let read_as : oxum_of e.value ≡ Some sums = ap oxum_of (stands e first.0).1 ∙ oxum_reads sums octets streams in
-          let same : other ≡ sums = (let both : Some other ≡ Some sums = sym reads ∙ read_as in cc) in
-          differs (same ∙ sym (oxum_is bag algs info can.is_bag))
+      by_code OxumDiffers (e, other, at, first, reads, differs) = grind (arith, stands e first.0, oxum_reads sums octets streams, octets, streams, oxum_is)
       by_code NoOxum (at, none) = none has_oxum.0 has_oxum.1
       by_code _ h = h
 

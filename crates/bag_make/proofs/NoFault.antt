@@ -1,16 +1,8 @@
 -- A bag that was made has no fault.
-use Rattle.std.proofs.Common.{◌≡◌, inl, inr, true, List, None}
-use Rattle.bag_text.specs.declared.alg.Alg.{Alg}
-use Rattle.bag_text.proofs.ListOf.{nothing_listed}
-use Rattle.bag_tree.specs.Bag.{Bag}
+use Rattle.bag_make.proofs.Common.{◌≡◌, inl, inr, true, List, None, Alg, nothing_listed, Bag, Fault, NewElement, DeclarationIsReadAgain, InfoIsReadAgain, ManifestIsReadAgain, made, CanMake, MadeIsValid, full}
 use Rattle.bag_facts.specs.FaultOrder.{fault_cmp}
-use Rattle.bag_facts.specs.declared.fault.Fault.{Fault}
 use Rattle.bag_report.specs.Is.{Is}
 use Rattle.bag_report.specs.Report.{asks, IsReported}
-use Rattle.bag_tags.specs.Element.{NewElement}
-use Rattle.bag_tags.specs.ReadAgain.{DeclarationIsReadAgain, InfoIsReadAgain, ManifestIsReadAgain}
-use Rattle.bag_make.specs.Made.{made}
-use Rattle.bag_make.specs.Valid.{CanMake, MadeIsValid, full}
 use Rattle.bag_make.proofs.DeclarationReads.{no_declaration_fault}
 use Rattle.bag_make.proofs.FetchIsNotThere.{no_fetch_fault}
 use Rattle.bag_make.proofs.FilesAreNamed.{no_completeness_fault}

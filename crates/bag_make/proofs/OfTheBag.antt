@@ -1,35 +1,6 @@
 -- What a listing says of a bag that it is of, and of the steps that are planned by it.
-use Rattle.std.proofs.Common.{◌≡◌, inl, inr, ◌||◌, ℕ, Bool, true, false, cond, List, [], ◌∷◌, ◌++◌, length, map, All, Contains, refl, ap, sym, ◌∙◌, subst}
-use Rattle.std.specs.List.{list_any}
-use Rattle.std.specs.Ordering.{eq_by_cmp}
-use Rattle.std.proofs.lemmas.Bool.{false≢true}
+use Rattle.bag_make.proofs.Common.{arith, ◌≡◌, inl, inr, ◌||◌, ℕ, Bool, true, false, cond, List, [], ◌∷◌, ◌++◌, length, map, All, Contains, refl, ap, sym, ◌∙◌, subst, list_any, eq_by_cmp, false≢true, All-nil, All-cons, All-append, is_base_name, is_path, first_component, text_cmp, contains_cases, contains_first, contains_behind, contains_nothing, contains_either, any_from, Bag, files_of, has_folder, IsListingOf, IsOrdered, FileEntry, Listing, listings_are_of_the_bag, text_itself, contains_mapped, is_within, itself_within, under_within, tag_path, Kind, Payload, Tag, Declaration, Info, Manifest, in_base, Alg, NewElement, File, data_folder, manifest, named_tag_files, new_payload, new_tag_files, payload_manifests, tag_manifests, declaration_file, info_file, is_in_the_way, tops, listed_tops, has_new, steps_for, new_file, new_folder, IsStep, Step, MoveIn}
 use Rattle.std.specs.Prelude.{IsTrue}
-use Rattle.std.proofs.lemmas.List.Elements.{All-nil, All-cons, All-append}
-use Rattle.bag_text.specs.Path.{is_base_name, is_path, first_component, under}
-use Rattle.bag_text.specs.Text.{text_cmp}
-use Rattle.bag_text.proofs.ListOf.{contains_cases, contains_first, contains_behind, contains_nothing, contains_either}
-use Rattle.bag_read.proofs.PickedOut.{any_from}
-use Rattle.bag_tree.specs.Bag.{Bag, files_of, has_folder}
-use Rattle.bag_tree.specs.Listing.{IsListingOf, IsOrdered}
-use Rattle.bag_tree.specs.declared.listing.FileEntry.{FileEntry}
-use Rattle.bag_tree.specs.declared.listing.Listing.{Listing}
-use Rattle.bag_tree.proofs.ListingLaw.{listings_are_of_the_bag}
-use Rattle.bag_tree.proofs.SameText.{text_itself}
-use Rattle.bag_facts.proofs.Mapped.{contains_mapped}
-use Rattle.bag_tree.specs.Moved.{is_within}
-use Rattle.bag_tree.proofs.Within.{itself_within, under_within}
-use Rattle.bag_read.specs.TagName.{tag_path}
-use Rattle.bag_read.specs.declared.kind.Kind.{Kind}
-use Rattle.bag_read.specs.declared.kind.Kind.TheVariants.{Payload, Tag}
-use Rattle.bag_read.specs.declared.tag_name.TagName.TheVariants.{Declaration, Info, Manifest}
-use Rattle.bag_read.proofs.TagPaths.{in_base}
-use Rattle.bag_text.specs.declared.alg.Alg.{Alg}
-use Rattle.bag_tags.specs.Element.{NewElement}
-use Rattle.bag_make.specs.Made.{File, data_folder, manifest, named_tag_files, new_payload, new_tag_files, payload_manifests, tag_manifests, declaration_file, info_file}
-use Rattle.bag_make.specs.Plan.{is_in_the_way, in_order, tops, listed_tops, has_new, steps_for, new_file}
-use Rattle.bag_make.specs.Steps.{new_folder, IsStep}
-use Rattle.bag_make.specs.declared.step.Step.{Step}
-use Rattle.bag_make.specs.declared.step.Step.TheVariants.{MakeFolder, MoveIn, Rename}
 use Rattle.bag_make.proofs.FirstParts.{first_is_name, parts}
 use Rattle.bag_make.proofs.Placed.{IsTop}
 use Rattle.bag_make.proofs.TopsInOrder.{listed_in_order}
@@ -57,10 +28,7 @@ data_where has_data = cond has_data (data_folder ∷ []) []
 
 -- what is moved of it is moved of the bag
 pub tops_are : (bag : Bag) (listing : Listing) → IsOrdered listing.files → IsListingOf bag listing → listed_tops listing ≡ tops (files_of bag) (has_folder bag data_folder)
-tops_are bag listing ordered listed =
-    ap (λ files. in_order (map first_of files ++ data_where listing.has_data)) (listings_are_of_the_bag bag listing ordered listed)
-    ∙ ap (λ names. in_order (names ++ data_where listing.has_data)) (firsts_of (files_of bag))
-    ∙ ap (λ b. in_order (map (λ (e : File). first_component e.0) (files_of bag) ++ data_where b)) listed.has_data
+tops_are bag listing ordered listed = grind (arith, listings_are_of_the_bag bag listing ordered listed, firsts_of (files_of bag))
 
 -- a name that is moved is a name, and not that of the folder that is made
 data_is_top : IsTop data_folder
@@ -71,13 +39,7 @@ data_top true t has = elim (contains_cases data_folder [] t has) [ inl same ↦ 
 data_top false t has = absurd (contains_nothing t has)
 
 first_top : (path : List ℕ) → is_path path ≡ true → is_within new_folder path ≡ false → IsTop (first_component path)
-first_top path is outside = (
-  first_is_name path is,
-  λ new. false≢true (sym outside ∙ elim (parts path) [
-    | inl same ↦ ap (is_within new_folder) (same ∙ new) ∙ itself_within new_folder
-    | inr more ↦ ap (is_within new_folder) (more.1 ∙ ap (λ f. under f more.0) new) ∙ under_within new_folder more.0
-  ]),
-)
+first_top path is outside = grind (arith, first_is_name, false≢true, parts, itself_within, under_within)
 
 test_false : (b : Bool) → (b ≡ true → ⊥) → b ≡ false
 test_false true h = absurd (h refl)
@@ -103,8 +65,7 @@ IsInBase e = IsTrue (is_base_name e.0)
 
 manifests_in_base : (kind : Kind) (bytes : Alg → List ℕ) (algs : List Alg) → All IsInBase (map (λ alg. (tag_path (Manifest kind alg), bytes alg)) algs)
 manifests_in_base kind bytes [] = All-nil IsInBase
-manifests_in_base kind bytes (alg ∷ algs) =
-    All-cons IsInBase (tag_path (Manifest kind alg), bytes alg) (map (λ alg. (tag_path (Manifest kind alg), bytes alg)) algs) (in_base (Manifest kind alg)) (manifests_in_base kind bytes algs)
+manifests_in_base kind bytes (alg ∷ algs) = grind (arith, in_base, manifests_in_base kind bytes algs)
 
 pub tag_files_in_base : (files : List File) (algs : List Alg) (info : List NewElement) → All IsInBase (new_tag_files files algs info)
 tag_files_in_base files algs info =
@@ -123,6 +84,4 @@ moves_fit (t ∷ tops) steps names more =
 
 -- such steps can be taken
 pub steps_fit : (tops : List (List ℕ)) (files : List File) → ((t : List ℕ) → Contains tops t → IsTop t) → ((e : File) → Contains files e → is_base_name e.0 ≡ true) → All IsStep (steps_for tops files)
-steps_fit tops files names file_names =
-    All-cons IsStep MakeFolder (map MoveIn tops ++ Rename ∷ map new_file files) tt
-    (moves_fit tops (Rename ∷ map new_file files) names (All-cons IsStep Rename (map new_file files) tt (files_fit files file_names)))
+steps_fit tops files names file_names = grind (arith, moves_fit, files_fit)

@@ -1,8 +1,5 @@
 -- A refusal is told of one file.
-use Rattle.std.proofs.Common.{ℕ, ◌≡◌, ◌<◌, ◌+◌, ◌++◌, ◌∷◌, inl, inr, List, [], Option, Some, None, is_some, true, false, take, length, slice_get, ap, sym, ◌∙◌, arith, length-append}
-use Rattle.std.proofs.lemmas.List.{length-take}
-use Rattle.std.proofs.lemmas.Option.{slice_get_within}
-use Rattle.bag_make.specs.Stops.{TellsOneFile}
+use Rattle.bag_make.proofs.Common.{ℕ, ◌≡◌, ◌<◌, ◌+◌, ◌++◌, ◌∷◌, inl, inr, List, [], Option, Some, None, is_some, true, false, take, length, slice_get, ap, sym, ◌∙◌, arith, length-append, length-take, slice_get_within, TellsOneFile}
 
 -- as many files were opened before
 module _ (paths old : List (List ℕ)) (k l : ℕ) (one other : List ℕ) (at : slice_get paths k ≡ Some one) (too : slice_get paths l ≡ Some other) where

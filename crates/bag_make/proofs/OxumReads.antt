@@ -1,28 +1,15 @@
 -- The size of a payload that is written is read again.
-use Rattle.std.proofs.Common.{◌≡◌, ℕ, zero, suc, ◌+◌, ◌-◌, ◌<◌, ◌^◌, Bool, true, false, not, ◌&&◌, ◌||◌, cond, List, [], ◌∷◌, ◌++◌, length, take, drop, reverse, get_or, nat_lt, Option, Some, None, refl, sym, ap, ◌∙◌, arith, codes, bytes_eq, append_assoc}
+use Rattle.bag_make.proofs.Common.{◌≡◌, ℕ, zero, suc, ◌+◌, ◌-◌, ◌<◌, ◌^◌, Bool, true, false, not, ◌||◌, cond, List, [], ◌∷◌, ◌++◌, length, take, drop, reverse, get_or, nat_lt, Option, Some, None, refl, sym, ap, ◌∙◌, arith, codes, bytes_eq, append_assoc, list_all, list_any, prefix_len, suffix_len, before_first, after_first, position_or_len, and_from, lt-ltb, not_from_false, or_from, both_ways, nat_tests, get_or-reverse, take_all, list_any-append, prefix_len_passes, suffix_len-le-length, prefix_len-le-length, bytes_eq-Decides, IsAscii-append, IsUtf8-from_ascii, is_utf8-from_IsUtf8, IsText, is_blank, trim, Oxum, both_true, oxum_text, is_bad_value}
 use Rattle.std.specs.Char.{is_ascii_digit}
 use Rattle.std.specs.Fmt.{decimal}
-use Rattle.std.specs.List.{list_all, list_any, prefix_len, suffix_len, before_first, after_first, position_or_len}
 use Rattle.std.specs.Str.{all_ascii_digits}
 use Rattle.std.specs.Str.Parse.{digits_value}
-use Rattle.std.proofs.lemmas.Bool.{and_from, lt-ltb, not_from_false, or_from, both_ways}
-use Rattle.std.proofs.lemmas.Bool.Decides.{nat_tests}
 use Rattle.std.proofs.lemmas.Fmt.{digits_decimal, digits_value-decimal, decimal_nonempty, IsAscii-decimal}
-use Rattle.std.proofs.lemmas.List.{get_or-reverse, take_all}
-use Rattle.std.proofs.lemmas.List.Folds.{list_any-append}
-use Rattle.std.proofs.lemmas.List.Sums.{prefix_len_passes, suffix_len-le-length, prefix_len-le-length}
-use Rattle.std.proofs.lemmas.Slice.Eq.{bytes_eq-Decides}
-use Rattle.std.proofs.lemmas.Str.{IsAscii-append, IsUtf8-from_ascii, is_utf8-from_IsUtf8}
 use Rattle.std.proofs.lemmas.Str.Parse.{numerals_by_value, tells_all_ascii_digits}
 use Rattle.bag_text.specs.LineEnd.{is_line_end}
 use Rattle.bag_text.specs.Number.{is_digits}
-use Rattle.bag_text.specs.Text.{IsText, is_blank, trim, without_trailing_blanks}
 use Rattle.bag_read.specs.Oxum.{is_number, is_dot, oxum_of}
-use Rattle.bag_read.specs.declared.oxum.Oxum.{Oxum}
 use Rattle.bag_read.proofs.Fronts.{front_len, take_front}
-use Rattle.bag_read.proofs.PickedOut.{both_true}
-use Rattle.bag_stages.specs.Payload.{oxum_text}
-use Rattle.bag_tags.specs.Element.{is_bad_value}
 
 -- ---- a text without a blank stays as it is when it is stays_whole
 
@@ -55,11 +42,7 @@ module _ (p : ℕ → Bool) (t : List ℕ) (none : list_any p t ≡ false) where
       absurd (both_ways (p (get_or t (length t - 1 - 0) 0)) (none_at p t (length t - 1 - 0) none (omega arith)) (ap p (sym at) ∙ passes))
 
 stays_whole : (t : List ℕ) → list_any is_blank t ≡ false → trim t ≡ t
-stays_whole t none =
-    let front : prefix_len is_blank t ≡ 0 = no_front is_blank t none _ refl in
-    let back : suffix_len is_blank t ≡ 0 = no_back is_blank t none _ refl in
-    let whole : length t - suffix_len is_blank t ≡ length t = omega arith in
-    ap (λ n. without_trailing_blanks (drop n t)) front ∙ ap (λ n. take n t) whole ∙ take_all (length t) t (omega arith)
+stays_whole t none = grind (arith, no_front, no_back, take_all)
 
 -- ---- digits
 
@@ -119,9 +102,7 @@ module _ (sums : Oxum) (octets : sums.octets < 2 ^ 64) (streams : sums.streams <
 
   drop_past : (xs : List ℕ) → drop (length xs + 1) (xs ++ 46 ∷ back) ≡ back
   drop_past [] = refl
-  drop_past (x ∷ xs) =
-      let step : suc (length xs) + 1 ≡ suc (length xs + 1) = omega arith in
-      ap (λ n. drop n (x ∷ xs ++ 46 ∷ back)) step ∙ drop_past xs
+  drop_past (x ∷ xs) = grind (arith, drop_past xs)
 
   after : after_first is_dot (oxum_text sums) ≡ back
   after = ap (after_first is_dot) text_is ∙ ap (λ n. drop (n + 1) (front ++ 46 ∷ back)) dot_place ∙ drop_past front
@@ -132,13 +113,7 @@ module _ (sums : Oxum) (octets : sums.octets < 2 ^ 64) (streams : sums.streams <
 
   -- it is read as the same two numbers
   pub oxum_reads : oxum_of (oxum_text sums) ≡ Some sums
-  oxum_reads =
-      chosen (is_number (before_first is_dot (oxum_text sums)) && is_number (after_first is_dot (oxum_text sums))) _ sums
-      (and_from _ _ (ap is_number before ∙ number_reads sums.octets octets) (ap is_number after ∙ number_reads sums.streams streams))
-      (λ i. record {
-        octets = (ap (digits_value 10) before ∙ value_is sums.octets octets) i;
-        streams = (ap (digits_value 10) after ∙ value_is sums.streams streams) i;
-      })
+  oxum_reads = grind (arith, chosen, and_from, before, number_reads, after, value_is)
 
   pub oxum_is_text : IsText (oxum_text sums)
   oxum_is_text =
@@ -150,14 +125,8 @@ module _ (sums : Oxum) (octets : sums.octets < 2 ^ 64) (streams : sums.streams <
       dot_ascii (suc i) = omega arith
 
   none_in : (test : ℕ → Bool) → ((c : ℕ) → is_ascii_digit c ≡ true → test c ≡ false) → test 46 ≡ false → list_any test (oxum_text sums) ≡ false
-  none_in test h dot =
-      list_any-append test (front ++ codes ".") back
-      ∙ or_from _ _
-      (list_any-append test front (codes ".") ∙ or_from _ _ (no_digit test h front (are_digits sums.octets octets)) (or_from (test 46) false dot refl))
-      (no_digit test h back (are_digits sums.streams streams))
+  none_in test h dot = grind (arith, list_any-append, or_from, no_digit, are_digits)
 
   -- and can be written
   pub oxum_is_good : is_bad_value (oxum_text sums) ≡ false
-  oxum_is_good =
-      or_from _ _ (none_in is_line_end digit_no_end refl)
-      (ap not ((bytes_eq-Decides (trim (oxum_text sums)) (oxum_text sums)).1 (stays_whole (oxum_text sums) (none_in is_blank digit_no_blank refl))))
+  oxum_is_good = grind (arith, or_from, none_in, digit_no_end, bytes_eq-Decides, stays_whole, digit_no_blank)

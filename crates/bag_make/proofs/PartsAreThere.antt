@@ -1,31 +1,10 @@
 -- Stage 2: the parts of a made bag are there, and its algorithms are supported.
-use Rattle.std.proofs.Common.{◌≡◌, ◌≢◌, ℕ, true, false, List, [], ◌∷◌, Some, None, refl, sym, ap, ◌∙◌, subst, Contains}
-use Rattle.std.specs.Cmp.Lexicographic.{nat_list_cmp_total}
+use Rattle.bag_make.proofs.Common.{arith, ◌≡◌, ◌≢◌, ℕ, true, false, List, [], ◌∷◌, refl, sym, ap, ◌∙◌, subst, Contains, nat_list_cmp_total, contains-insert, eq_by_cmp, or_left, name, text_cmp, IsNoText, Alg, Code, NoPayloadFolder, NoPayloadManifest, AlgorithmUnsupported, NotUtf8, contains_first, Payload, TagName, Declaration, Info, Fetch, Manifest, name_named, name_is_text, Bag, file, has_folder, text_itself, Fault, NewElement, InfoIsReadAgain, ManifestIsReadAgain, entries_of, data_folder, CanMake, IsNewText}
 use Rattle.std.specs.FinSet as set
-use Rattle.std.specs.FinSet.{contains-insert}
-use Rattle.std.specs.Ordering.{eq_by_cmp}
-use Rattle.std.proofs.lemmas.Bool.{or_left}
-use Rattle.bag_text.specs.Alg.{name, alg_named}
-use Rattle.bag_text.specs.Text.{text_cmp, IsNoText}
-use Rattle.bag_text.specs.declared.alg.Alg.{Alg}
-use Rattle.bag_text.specs.declared.code.Code.{Code}
-use Rattle.bag_text.specs.declared.code.Code.TheVariants.{NoPayloadFolder, NoPayloadManifest, AlgorithmUnsupported, NotUtf8}
-use Rattle.bag_text.proofs.ListOf.{contains_first}
-use Rattle.bag_read.specs.declared.kind.Kind.TheVariants.{Payload}
-use Rattle.bag_read.specs.declared.tag_name.TagName.{TagName}
-use Rattle.bag_read.specs.declared.tag_name.TagName.TheVariants.{Declaration, Info, Fetch, Manifest}
-use Rattle.bag_read.proofs.TagPaths.{name_named, name_is_text}
-use Rattle.bag_tree.specs.Bag.{Bag, file, has_folder}
-use Rattle.bag_tree.proofs.SameText.{text_itself}
-use Rattle.bag_facts.specs.declared.fault.Fault.{Fault}
 use Rattle.bag_stages.specs.PartsStage.{PartHolds, IsOfParts}
 use Rattle.bag_read.specs.LineFault.{not_utf8}
-use Rattle.bag_tags.specs.Element.{NewElement}
-use Rattle.bag_tags.specs.ReadAgain.{InfoIsReadAgain, ManifestIsReadAgain}
-use Rattle.bag_make.specs.Made.{entries_of, made, data_folder}
-use Rattle.bag_make.specs.Valid.{CanMake}
+use Rattle.bag_make.specs.Made.{made}
 use Rattle.bag_make.proofs.Entries.{holds_manifest, listed}
-use Rattle.bag_make.specs.Contents.{IsNewText}
 use Rattle.bag_make.proofs.Held.{tag_held, has_manifest, manifest_is}
 use Rattle.bag_make.proofs.MetadataReads.{elements, elements_text, elements_good}
 use Rattle.bag_make.proofs.Writable.{writable}
@@ -61,9 +40,7 @@ module _ (bag : Bag) (algs : List Alg) (info : List NewElement) where
       by_code NoPayloadManifest (at, none) =
           let m = some_member algs can.some_alg in
           none (name m.0) (name_is_text m.0, has_manifest bag algs info Payload m.0 m.1)
-      by_code AlgorithmUnsupported (kind, alg, at, has, none) =
-          let m = manifest_is bag algs info kind alg has.1 in
-          (let clash : None ≡ Some m.0 = sym none ∙ ap alg_named m.1 ∙ name_named m.0 in cc)
+      by_code AlgorithmUnsupported (kind, alg, at, has, none) = grind (arith, manifest_is, name_named)
       by_code NotUtf8 (at, ((tag, other, same), (bytes, held, bad))) =
           is_text tag bytes other (tag_held bag algs info tag bytes (ap (file (made bag algs info)) same ∙ held)) bad
       by_code _ h = h

@@ -1,22 +1,6 @@
 -- What manifests name is in path order.
-use Rattle.std.proofs.Common.{◌≡◌, ℕ, true, List, [], ◌∷◌, map, Ordering, refl, ◌∙◌}
-use Rattle.std.specs.FinMap.{is_sorted, entries_sorted}
-use Rattle.std.specs.FinMap.Entries.{below_all}
-use Rattle.std.specs.List.{AllByRecursion}
+use Rattle.bag_make.proofs.Common.{◌≡◌, ℕ, true, List, [], ◌∷◌, map, Ordering, refl, ◌∙◌, is_sorted, entries_sorted, below_all, AllByRecursion, is_lt, Less, Equal, Greater, and_parts, rank_cmp, text_cmp, Alg, Md5, tag_path, Payload, Declaration, Info, Manifest, files_of, AreInPathOrder, ManifestsAscend, File, new_payload, manifest}
 use Rattle.std.specs.List.Sorted.{IsStrictlySortedBy}
-use Rattle.std.specs.Ordering.{is_lt}
-use Rattle.std.specs.declared.cmp.Ordering.TheVariants.{Less, Equal, Greater}
-use Rattle.std.proofs.lemmas.Bool.{and_parts}
-use Rattle.bag_text.specs.Alg.{rank_cmp}
-use Rattle.bag_text.specs.Text.{text_cmp}
-use Rattle.bag_text.specs.declared.alg.Alg.{Alg}
-use Rattle.bag_text.specs.declared.alg.Alg.TheVariants.{Md5}
-use Rattle.bag_read.specs.TagName.{tag_path}
-use Rattle.bag_read.specs.declared.kind.Kind.TheVariants.{Payload}
-use Rattle.bag_read.specs.declared.tag_name.TagName.TheVariants.{Declaration, Info, Manifest}
-use Rattle.bag_tree.specs.Bag.{files_of}
-use Rattle.bag_make.specs.Contents.{AreInPathOrder, ManifestsAscend}
-use Rattle.bag_make.specs.Made.{File, new_payload, manifest}
 use Rattle.bag_make.proofs.Held.{true_from}
 use Rattle.bag_make.proofs.PayloadIsTheFolder.{sorted_payload}
 

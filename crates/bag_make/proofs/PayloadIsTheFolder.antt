@@ -1,20 +1,5 @@
 -- The payload of a made bag is the files of the folder, under data/.
-use Rattle.std.proofs.Common.{◌≡◌, ℕ, ◌+◌, Bool, true, false, cond, ◌&&◌, List, [], ◌∷◌, ◌++◌, length, sum_by, Some, None, refl, sym, ap, ◌∙◌, subst}
-use Rattle.std.specs.Cmp.Lexicographic.{nat_list_cmp_total}
-use Rattle.std.specs.FinMap.{find, is_sorted, entries_sorted, get-entries}
-use Rattle.std.specs.FinMap.Entries.{below_all, find-where_key, is_sorted-where_key, same_entries}
-use Rattle.std.specs.Ordering.{is_lt, eq_by_cmp}
-use Rattle.std.proofs.Math.Dec.{T}
-use Rattle.std.proofs.lemmas.List.{length-map}
-use Rattle.std.proofs.lemmas.List.Sums.{sum_by-cons}
-use Rattle.bag_text.specs.Path.{under, is_payload_path}
-use Rattle.bag_text.specs.Text.{text_cmp}
-use Rattle.bag_text.specs.declared.alg.Alg.{Alg}
-use Rattle.bag_tree.specs.Bag.{Bag, IsBag, files_of}
-use Rattle.bag_tree.proofs.SameText.{exact_texts}
-use Rattle.bag_stages.specs.Payload.{payload, oxum, oxum_of_files}
-use Rattle.bag_tags.specs.Element.{NewElement}
-use Rattle.bag_make.specs.Made.{File, data_folder, new_payload, new_tag_files, made}
+use Rattle.bag_make.proofs.Common.{◌≡◌, ℕ, ◌+◌, Bool, true, false, cond, ◌&&◌, List, [], ◌∷◌, ◌++◌, length, sum_by, Some, None, refl, sym, ap, ◌∙◌, subst, nat_list_cmp_total, find, is_sorted, entries_sorted, get-entries, below_all, find-where_key, is_sorted-where_key, same_entries, is_lt, eq_by_cmp, T, length-map, sum_by-cons, under, is_payload_path, text_cmp, Alg, Bag, IsBag, files_of, exact_texts, payload, oxum, oxum_of_files, NewElement, File, data_folder, new_payload, new_tag_files, made}
 use Rattle.bag_make.proofs.FilesAreNamed.{no_payload_tag}
 use Rattle.bag_make.proofs.Held.{none_by, all, held, found, tag_member, payload_member, has_listed}
 use Rattle.bag_make.proofs.Writable.{in_payload}

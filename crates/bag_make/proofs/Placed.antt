@@ -1,25 +1,8 @@
 -- Where the files of a bag are while it is made.
-use Rattle.std.proofs.Common.{◌≡◌, ◌≢◌, ℕ, inl, inr, Bool, true, false, ◌||◌, cond, List, [], ◌∷◌, Some, is_some, bytes_eq, drop, map, append_assoc, Contains, refl, ap, sym, ◌∙◌}
+use Rattle.bag_make.proofs.Common.{arith, ◌≡◌, ◌≢◌, ℕ, inl, inr, Bool, true, false, ◌||◌, cond, List, [], ◌∷◌, Some, is_some, bytes_eq, drop, map, append_assoc, Contains, refl, ap, sym, ◌∙◌, get-entries, get-empty, AllByRecursion, false≢true, or_left, or_right, bytes_eq-Decides, slash, is_base_name, first_component, under, text_cmp, contains_cases, contains_nothing, any_from, Bag, HasFile, file, files_of, first-under, Files, move_in, is_within, renamed, moved, IsWithin, within_cases, itself_within, under_within, not_within, goes_itself, goes_under, stays, data_folder, is_in_the_way, new_folder, after_steps, MoveIn}
 use Rattle.std.specs.FinMap as fin
-use Rattle.std.specs.FinMap.{get-entries, get-empty}
 use Rattle.std.specs.FinSet as set
-use Rattle.std.specs.List.{AllByRecursion}
-use Rattle.std.proofs.lemmas.Bool.{false≢true, or_left, or_right}
-use Rattle.std.proofs.lemmas.Slice.Eq.{bytes_eq-Decides}
-use Rattle.bag_text.specs.Path.{slash, is_base_name, first_component, under}
-use Rattle.bag_text.specs.Text.{text_cmp}
-use Rattle.bag_text.proofs.ListOf.{contains_cases, contains_nothing}
-use Rattle.bag_read.proofs.PickedOut.{any_from}
-use Rattle.bag_tree.specs.Bag.{Bag, HasFile, file, files_of}
-use Rattle.bag_tree.proofs.Parents.{first-under}
-use Rattle.bag_tree.specs.Steps.{Files, move_in}
-use Rattle.bag_tree.specs.Moved.{is_within, renamed, moved}
-use Rattle.bag_tree.proofs.Within.{IsWithin, within_cases, itself_within, under_within, not_within, goes_itself, goes_under, stays}
-use Rattle.bag_make.specs.Made.{data_folder}
 use Rattle.bag_make.proofs.Held.{content_of, found, has_listed, one_file}
-use Rattle.bag_make.specs.Plan.{is_in_the_way}
-use Rattle.bag_make.specs.Steps.{new_folder, after_steps}
-use Rattle.bag_make.specs.declared.step.Step.TheVariants.{MoveIn}
 use Rattle.bag_make.proofs.FirstParts.{first-name, parts}
 use Rattle.bag_make.proofs.PutFiles.{from_put, is_put}
 
@@ -77,10 +60,7 @@ name_within top k base (inl itself) = ap first_component itself ∙ first-name t
 name_within top k base (inr below) = ap first_component below.1 ∙ first-under top below.0 base
 
 within_first : (top k : List ℕ) → first_component k ≡ top → is_within top k ≡ true
-within_first top k first = elim (parts k) [
-  | inl same ↦ ap (is_within top) (same ∙ first) ∙ itself_within top
-  | inr more ↦ ap (is_within top) (more.1 ∙ ap (λ t. under t more.0) first) ∙ under_within top more.0
-]
+within_first top k first = grind (arith, parts, itself_within, under_within)
 
 -- where a path goes that is moved into the folder
 goes_in : (top path : List ℕ) → is_within top path ≡ true → renamed top (under new_folder top) path ≡ under new_folder path
@@ -152,7 +132,4 @@ module _ (bag : Bag) (free : is_in_the_way bag ≡ false) where
   -- where everything was moved, the files stand under data/ when the folder has that name
   pub all_under_data : (done : List ℕ → Bool) (files : Files) → IsPlaced bag (placed_by done) files → ((p : List ℕ) → HasFile bag p → done (first_component p) ≡ true)
       → IsPlaced bag (under data_folder) (moved new_folder data_folder files)
-  all_under_data done files placed all =
-      moved_placed bag (placed_by done) (under data_folder) new_folder data_folder files placed
-      (λ p has. ap (λ b. renamed new_folder data_folder (cond b (under new_folder p) p)) (all p has) ∙ goes_under new_folder data_folder p)
-      (λ p r _ _ e. ap (drop 5) e)
+  all_under_data done files placed all = grind (arith, moved_placed, goes_under)

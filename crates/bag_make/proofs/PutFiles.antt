@@ -1,14 +1,6 @@
 -- Files that are put into a map, one after the other.
-use Rattle.std.proofs.Common.{◌≡◌, ℕ, ◌⊎◌, inl, inr, true, false, cond, List, [], ◌∷◌, Option, Some, None, fold, Contains, refl, ap, sym, ◌∙◌, subst}
-use Rattle.std.specs.Cmp.Lexicographic.{nat_list_cmp_total}
+use Rattle.bag_make.proofs.Common.{◌≡◌, ℕ, ◌⊎◌, inl, inr, true, false, cond, List, [], ◌∷◌, Option, Some, None, fold, Contains, refl, ap, sym, ◌∙◌, subst, nat_list_cmp_total, get-insert, eq_by_cmp, text_cmp, contains_cases, contains_first, contains_behind, contains_nothing, exact_texts, one_text, text_itself, Files, File}
 use Rattle.std.specs.FinMap as fin
-use Rattle.std.specs.FinMap.{get-insert}
-use Rattle.std.specs.Ordering.{eq_by_cmp}
-use Rattle.bag_text.specs.Text.{text_cmp}
-use Rattle.bag_text.proofs.ListOf.{contains_cases, contains_first, contains_behind, contains_nothing}
-use Rattle.bag_tree.proofs.SameText.{exact_texts, one_text, text_itself}
-use Rattle.bag_tree.specs.Steps.{Files}
-use Rattle.bag_make.specs.Made.{File}
 
 -- each file is put at the path that it has then
 abbrev pub put_at : (List ℕ → List ℕ) → Files → List File → Files

@@ -1,38 +1,10 @@
 -- Reading the files of a folder.
-use Rattle.std.proofs.Common.{◌≡◌, inl, inr, ℕ, ◌++◌, List, [], ◌∷◌, true, false, IsTrue, length, map, take, slice_get, All, Contains, Some, refl, sym, ap, ◌∙◌, subst}
-use Rattle.std.specs.FinMap.{get-entries}
-use Rattle.std.specs.Option.{option_map}
-use Rattle.std.proofs.lemmas.List.Elements.{All-contains, All-from_recursion}
-use Rattle.bag_text.specs.Path.{is_path}
-use Rattle.bag_text.specs.declared.alg.Alg.{Alg}
-use Rattle.bag_text.proofs.ListOf.{contains_first, contains_behind, each_from_members}
-use Rattle.bag_tree.specs.Bag.{Bag, file, files_of}
-use Rattle.bag_tree.specs.Listing.{IsListingOf, IsOrdered}
-use Rattle.bag_tree.specs.Calm.{RefusesNothing}
-use Rattle.bag_tree.specs.Tree.{TreeState, IsEntryOf, Keeps, MayRefuse, refusal_of}
-use Rattle.bag_tree.specs.Whole.{IsRefusedAt}
-use Rattle.bag_tree.specs.declared.answer.Answer.TheVariants.{Unlisted}
-use Rattle.bag_tree.specs.declared.listing.FileEntry.{FileEntry}
-use Rattle.bag_tree.specs.declared.listing.Listing.{Listing}
-use Rattle.bag_tree.specs.declared.tree_fault.Stop.{Stop}
-use Rattle.bag_tree.specs.declared.tree_fault.TreeFault.{TreeFault}
-use Rattle.bag_tree.proofs.ListingLaw.{listings_are_of_the_bag}
-use Rattle.bag_facts.specs.Stops.{MayRefuseFacts}
-use Rattle.bag_facts.specs.Wanted.{paths_of}
+use Rattle.bag_make.proofs.Common.{arith, ◌≡◌, inl, inr, ℕ, ◌++◌, List, [], ◌∷◌, true, false, IsTrue, length, map, take, slice_get, All, Contains, Some, refl, sym, ap, ◌∙◌, subst, get-entries, option_map, All-contains, All-from_recursion, is_path, Alg, contains_first, contains_behind, each_from_members, Bag, file, files_of, IsListingOf, IsOrdered, RefusesNothing, TreeState, IsEntryOf, Keeps, MayRefuse, refusal_of, Unlisted, FileEntry, Listing, Stop, TreeFault, listings_are_of_the_bag, paths_of, contains_mapped, later_refusal, listing_refusal, path_some, File, new_payload, is_in_the_way, IsAtFile, MayStopMaking, StopsSumming, AreSummed, AreSummedFiles, OpensFirstOf, entry_of, MakeFault, SummedFile}
 use Rattle.bag_facts.proofs.ListedFiles.{own_size}
-use Rattle.bag_facts.proofs.Mapped.{contains_mapped}
-use Rattle.bag_facts.proofs.Reading.{later_refusal, listing_refusal}
-use Rattle.bag_facts.proofs.Refusing.{path_some}
-use Rattle.bag_make.specs.Made.{File, new_payload}
 use Rattle.bag_make.proofs.Entries.{at_place}
 use Rattle.bag_make.proofs.Held.{found, has_listed, one_file, content_of}
-use Rattle.bag_make.specs.Plan.{is_in_the_way}
 use Rattle.bag_make.specs.Reading.{HasOnlyListed, HasRefusedNothing, IsStopped, MayRefuseReading, OpensFolder}
-use Rattle.bag_make.specs.Stops.{IsAtFile, MayStopMaking, StopsSumming}
-use Rattle.bag_make.specs.Summed.{AreSummed, AreSummedFiles, OpensFirstOf, entry_of}
-use Rattle.bag_make.specs.declared.fault.MakeFault.{MakeFault}
 use Rattle.bag_make.specs.declared.fault.MakeFault.TheVariants as fault_of
-use Rattle.bag_make.specs.declared.summed.SummedFile.{SummedFile}
 
 abbrev first_path : List FileEntry → List ℕ
 first_path [] = []
@@ -67,26 +39,12 @@ paths_listed (e ∷ es) = ap (λ xs. e.0 ∷ xs) (paths_listed es)
 
 -- where nothing was refused behind the listing either
 pub nothing_refused : (old mid new : TreeState) → HasOnlyListed old mid → RefusesNothing mid new → HasRefusedNothing old new
-nothing_refused old mid new listed calm = record {
-  failures = calm.failures ∙ listed.failures;
-  plain = listed.plain;
-  last = elim calm.last [
-    | inl same ↦ ap (λ (state : TreeState). refusal_of state.last) same ∙ ap refusal_of listed.last
-    | inr none ↦ none
-  ];
-}
+nothing_refused old mid new listed calm = grind arith
 
 -- where the listing was refused, nothing is planned
 pub listing_refused : (old new : TreeState) (cause : TreeFault) (stop : Stop) (fault : MakeFault) → stop.cause ≡ cause → stop.path ≡ [] → new.openings ≡ old.openings → new.rest ≡ old.rest
     → MayRefuse ⊥ ⊥ old new cause → new.last ≡ Unlisted cause → IsStopped stop fault → MayRefuseReading old new fault
-listing_refused old new cause stop (fault_of.ReadStopped other) same none unopened left h last (is, not) =
-    let told : new.last ≡ Unlisted stop.cause = last ∙ ap Unlisted (sym same) in
-    subst (MayStopMaking old new) (sym is) (record {
-      cause = subst (MayRefuseFacts old new) (sym same) (listing_refusal old new cause h);
-      not_memory = not;
-      answered = inr (inl (none, told));
-      path = inl (none, unopened, left, told, subst (MayRefuse ⊥ ⊥ old new) (sym same) h);
-    })
+listing_refused old new cause stop (fault_of.ReadStopped other) same none unopened left h last (is, not) = grind (arith, listing_refusal)
 listing_refused old new cause stop fault_of.Memory same none unopened left h last is = inl (ap refusal_of last ∙ ap Some (sym same ∙ is))
 listing_refused old new cause stop fault_of.NoAlgorithm same none unopened left h last is = absurd is
 listing_refused old new cause stop fault_of.InTheWay same none unopened left h last is = absurd is
@@ -112,10 +70,7 @@ module _ (listing : Listing) (ordered : IsOrdered listing.files) where
     from_old honest n = ap (λ xs. xs ++ take n (paths_of listing.files)) none ∙ ap (λ xs. old.openings ++ take n xs) (paths_are old.bag (of honest))
 
     pub opens_folder : OpensFirstOf (paths_of listing.files) mid new → OpensFolder old new
-    opens_folder h = λ honest. (
-      h.0,
-      h.1 ∙ from_old honest h.0,
-    )
+    opens_folder h = grind (arith, from_old)
 
     pub opened_folder : new.openings ≡ mid.openings ++ paths_of listing.files → IsTrue old.honest → new.openings ≡ old.openings ++ map (λ (e : File). e.0) (files_of old.bag)
     opened_folder h honest = h ∙ ap (λ xs. xs ++ paths_of listing.files) none ∙ ap (λ xs. old.openings ++ xs) (paths_are old.bag (of honest))
@@ -127,11 +82,7 @@ module _ (listing : Listing) (ordered : IsOrdered listing.files) where
         ∙ sym ((of (sym keeps.honest ∙ honest)).files entry.path) ∙ own_size listing.files entry ordered.ascending c))
 
     at_file : (path : List ℕ) → IsAtFile (paths_of listing.files) mid new path → IsTrue old.honest → IsAtFile (map (λ (e : File). e.0) (files_of old.bag)) old new path
-    at_file path (k, at, refused) honest = (
-      k,
-      subst (λ xs. slice_get xs k ≡ Some path) (paths_are old.bag (of honest)) at,
-      subst (λ all. IsRefusedAt all path new) (from_old honest k) refused,
-    )
+    at_file path (k, at, refused) honest = grind (arith, slice_get, paths_are, from_old)
 
     listed_path : (path : List ℕ) → IsAtFile (paths_of listing.files) mid new path → is_path path ≡ true
     listed_path path at =
@@ -153,10 +104,7 @@ module _ (listing : Listing) (ordered : IsOrdered listing.files) where
         | inr at ↦ inr (listed_path stop.path at, λ honest. (at_file stop.path at honest, free honest))
       ];
     })
-    files_refused listed stop fault_of.Memory free h is = elim (h.wanting is) [
-      | inl last ↦ inl last
-      | inr calm ↦ inr (nothing_refused old mid new listed calm)
-    ]
+    files_refused listed stop fault_of.Memory free h is = grind (arith, nothing_refused)
     files_refused listed stop fault_of.NoAlgorithm free h is = absurd is
     files_refused listed stop fault_of.InTheWay free h is = absurd is
     files_refused listed stop fault_of.BadValue free h is = absurd is

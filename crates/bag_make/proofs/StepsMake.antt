@@ -1,31 +1,9 @@
 -- All steps make the bag.
-use Rattle.std.proofs.Common.{◌≡◌, ◌≢◌, ℕ, ◌⊎◌, inl, inr, Bool, true, false, not, ◌&&◌, ◌||◌, cond, List, [], ◌∷◌, ◌++◌, Some, map, Contains, refl, ap, sym, ◌∙◌, subst}
-use Rattle.std.specs.Cmp.Lexicographic.{nat_list_cmp_total}
+use Rattle.bag_make.proofs.Common.{arith, ◌≡◌, ◌≢◌, ℕ, ◌⊎◌, inl, inr, Bool, true, false, not, ◌&&◌, ◌||◌, cond, List, [], ◌∷◌, ◌++◌, Some, map, Contains, refl, ap, sym, ◌∙◌, subst, nat_list_cmp_total, contains-insert, contains-remove, same_set, list_any, eq_by_cmp, and_parts, and_from, false_from_ne_true, false≢true, not-true, or_cases, or_right, fold-append, is_base_name, first_component, under, text_cmp, Alg, contains_cases, contains_nothing, contains_either, contains_front, each_from_members, any_from, from_any, Bag, IsBag, HasFile, file, files_of, has_folder, exact_texts, one_text, text_itself, contains_mapped, mapped_contains, NewElement, make_folder, move_in, rename_folder, create, is_within, itself_within, under_within, File, data_folder, new_payload, new_tag_files, made, StepsMake, is_in_the_way, steps, tops, new_folder, after_steps, MoveIn, Create}
 use Rattle.std.specs.FinMap as fin
 use Rattle.std.specs.FinSet as set
-use Rattle.std.specs.FinSet.{contains-insert, contains-remove, same_set}
-use Rattle.std.specs.List.{list_any}
-use Rattle.std.specs.Ordering.{eq_by_cmp}
-use Rattle.std.proofs.lemmas.Bool.{and_parts, and_from, false_from_ne_true, false≢true, not-true, or_cases, or_right}
-use Rattle.std.proofs.lemmas.List.Sums.{fold-append}
-use Rattle.bag_text.specs.Path.{is_base_name, first_component, under}
-use Rattle.bag_text.specs.Text.{text_cmp}
-use Rattle.bag_text.specs.declared.alg.Alg.{Alg}
-use Rattle.bag_text.proofs.ListOf.{contains_cases, contains_nothing, contains_either, contains_front, each_from_members}
-use Rattle.bag_read.proofs.PickedOut.{any_from, from_any}
-use Rattle.bag_tree.specs.Bag.{Bag, IsBag, HasFile, file, files_of, has_folder}
-use Rattle.bag_tree.proofs.SameText.{exact_texts, one_text, text_itself}
-use Rattle.bag_facts.proofs.Mapped.{contains_mapped, mapped_contains}
-use Rattle.bag_tags.specs.Element.{NewElement}
-use Rattle.bag_tree.specs.Steps.{make_folder, move_in, rename_folder, create}
-use Rattle.bag_tree.specs.Moved.{is_within}
-use Rattle.bag_tree.proofs.Within.{itself_within, under_within}
-use Rattle.bag_make.specs.Made.{File, data_folder, new_payload, new_tag_files, made}
 use Rattle.bag_make.proofs.ContentsOfMade.{these_files, these_folders}
 use Rattle.bag_make.proofs.Held.{content_of, found, has_listed, held, payload_member, tag_member}
-use Rattle.bag_make.specs.Plan.{StepsMake, is_in_the_way, steps, tops}
-use Rattle.bag_make.specs.Steps.{new_folder, after_steps, change}
-use Rattle.bag_make.specs.declared.step.Step.TheVariants.{MoveIn, Rename, Create}
 use Rattle.bag_make.proofs.FirstParts.{first_is_name, parts}
 use Rattle.bag_make.proofs.Placed.{IsPlaced, IsMovedOn, IsTop, listed, held_at, none_within, moves_placed, all_under_data}
 use Rattle.bag_make.proofs.TopsInOrder.{same_any}
@@ -120,9 +98,7 @@ module _ (bag : Bag) (algs : List Alg) (info : List NewElement) (is : IsBag bag)
   ended = record { files = put_at (λ p. p) named.files tags; folders = named.folders }
 
   all_steps : after_steps (steps bag algs info) bag ≡ ended
-  all_steps =
-      fold-append (λ b step. change step b) begun (map MoveIn (moved_names bag)) (Rename ∷ map (λ (e : File). Create e.0 e.1) tags)
-      ∙ created tags named
+  all_steps = grind (arith, fold-append, created)
 
   name_is_top : (t : List ℕ) → Contains (moved_names bag) t → IsTop t
   name_is_top t has = elim (moved_name bag t (any_from (eq_by_cmp text_cmp t) (moved_names bag) t has (text_itself t))) [
@@ -155,9 +131,7 @@ module _ (bag : Bag) (algs : List Alg) (info : List NewElement) (is : IsBag bag)
   tag_there q c has = (these_files bag algs info q c).1 (inr (tag_member bag algs info q c has))
 
   one_there : (q c : List ℕ) → file (made bag algs info) q ≡ Some c → (p d : List ℕ) → Contains tags (p, d) → q ≡ p → d ≡ c
-  one_there q c at p d has same =
-      let value : Some d ≡ Some c = sym (tag_there p d has) ∙ ap (file (made bag algs info)) (sym same) ∙ at in
-      cc
+  one_there q c at p d has same = grind (arith, tag_there p d has)
 
   to_made : (q c : List ℕ) → fin.get ended.files q ≡ Some c → file (made bag algs info) q ≡ Some c
   to_made q c at = elim (from_put (λ p. p) tags named.files q c at) [
@@ -202,20 +176,8 @@ module _ (bag : Bag) (algs : List Alg) (info : List NewElement) (is : IsBag bag)
       ]
 
   from_left : (q : List ℕ) → IsLeft q → set.contains ended.folders q ≡ true
-  from_left q (inl same) = folder_test q ∙ ap (λ t. not (eq_by_cmp text_cmp t new_folder)
-      && (eq_by_cmp text_cmp t data_folder || (not (list_any (eq_by_cmp text_cmp t) (moved_names bag)) && (eq_by_cmp text_cmp t new_folder || has_folder bag t)))) same
-  from_left q (inr (has, none)) =
-      folder_test q
-      ∙ and_from _ _ (ap not (false_from_ne_true (eq_by_cmp text_cmp q new_folder) (λ new. false≢true (sym absent ∙ ap (has_folder bag) (sym (one_text q new_folder new)) ∙ has))))
-      (elim (eq_by_cmp text_cmp q data_folder) as (λ b. eq_by_cmp text_cmp q data_folder ≡ b → (b || (not (list_any (eq_by_cmp text_cmp q) (moved_names bag)) && (eq_by_cmp text_cmp q new_folder || has_folder bag q))) ≡ true) [
-        | true ↦ λ _. refl
-        | false ↦ λ other. and_from _ _
-            (ap not (false_from_ne_true (list_any (eq_by_cmp text_cmp q) (moved_names bag)) (λ there. elim (moved_name bag q there) [
-              | inl (p, file_is, first) ↦ none p file_is first
-              | inr same ↦ false≢true (sym other ∙ ap (λ t. eq_by_cmp text_cmp t data_folder) same ∙ text_itself data_folder)
-            ])))
-            (or_right (eq_by_cmp text_cmp q new_folder) (has_folder bag q) has)
-      ] refl)
+  from_left q (inl same) = grind (arith, folder_test)
+  from_left q (inr (has, none)) = grind (arith, folder_test, and_from, false_from_ne_true, false≢true, one_text, moved_name, text_itself, or_right)
 
   same_folders : ended.folders ≡ (made bag algs info).folders
   same_folders = same_set nat_list_cmp_total exact_texts ended.folders (made bag algs info).folders (λ q.

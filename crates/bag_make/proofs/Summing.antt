@@ -1,31 +1,8 @@
 -- Summing files one after another.
-use Rattle.std.proofs.Common.{◌≡◌, ◌≢◌, ◌<◌, ◌≤◌, ◌+◌, ◌++◌, ◌∷◌, inl, inr, ℕ, List, [], length, take, get_or, Some, IsTrue, All, Contains, refl, sym, ap, ◌∙◌, subst, arith, append_assoc, append-nil, slice_get}
-use Rattle.std.specs.Option.{option_map}
-use Rattle.std.proofs.lemmas.List.{map-append, take_all, take-map}
-use Rattle.std.proofs.lemmas.List.Elements.{All-nil, All-cons, All-append, All-contains}
-use Rattle.std.proofs.lemmas.Option.{slice_get_read, slice_get-map, slice_get_within}
-use Rattle.bag_text.specs.Path.{under}
-use Rattle.bag_text.specs.declared.alg.Alg.{Alg}
-use Rattle.bag_text.proofs.ListOf.{contains_first}
-use Rattle.bag_tree.specs.Bag.{file}
-use Rattle.bag_tree.specs.Calm.{RefusesNothing}
-use Rattle.bag_tree.specs.Tree.{TreeState, CameFromFile, IsEntryOf, Keeps, OpensAtMost}
+use Rattle.bag_make.proofs.Common.{◌≡◌, ◌≢◌, ◌<◌, ◌≤◌, ◌+◌, ◌++◌, ◌∷◌, inl, inr, ℕ, List, [], length, take, get_or, Some, IsTrue, All, Contains, refl, sym, ap, ◌∙◌, subst, arith, append_assoc, append-nil, slice_get, option_map, map-append, take_all, take-map, All-nil, All-cons, All-append, All-contains, slice_get_read, slice_get-map, slice_get_within, under, Alg, contains_first, file, RefusesNothing, TreeState, CameFromFile, IsEntryOf, Keeps, OpensAtMost, Refused, FileEntry, Stop, TreeFault, IsOutOfMemory, IsRefusalOf, MayRefuseFacts, paths_of, take_one_more, keeps_itself, keeps_on, later_refusal, came_from, refused_file, told_memory, File, data_folder, new_payload, IsAtFile, StopsSumming, HasItsSums, AreSummed, IsSummedEntry, AreSummedFiles, OpensFirstOf, entry_of, SummedFile}
 use Rattle.bag_tree.specs.Whole.{IsRefusedAt, MayRefuseWhole}
-use Rattle.bag_tree.specs.declared.answer.Answer.TheVariants.{Refused}
-use Rattle.bag_tree.specs.declared.listing.FileEntry.{FileEntry}
-use Rattle.bag_tree.specs.declared.tree_fault.Stop.{Stop}
-use Rattle.bag_tree.specs.declared.tree_fault.TreeFault.{TreeFault}
 use Rattle.bag_tree.specs.declared.tree_fault.TreeFault.TheVariants.{Changed}
 use Rattle.bag_tree.proofs.Calm.{memory_then, nothing_asked, nothing_then}
-use Rattle.bag_facts.specs.Stops.{IsOutOfMemory, IsRefusalOf, MayRefuseFacts}
-use Rattle.bag_facts.specs.Wanted.{paths_of}
-use Rattle.bag_facts.proofs.Mapped.{take_one_more}
-use Rattle.bag_facts.proofs.Reading.{keeps_itself, keeps_on, later_refusal}
-use Rattle.bag_facts.proofs.Refusing.{came_from, refused_file, told_memory}
-use Rattle.bag_make.specs.Made.{File, data_folder, new_payload}
-use Rattle.bag_make.specs.Stops.{IsAtFile, StopsSumming}
-use Rattle.bag_make.specs.Summed.{HasItsSums, AreSummed, IsSummedEntry, AreSummedFiles, OpensFirstOf, entry_of}
-use Rattle.bag_make.specs.declared.summed.SummedFile.{SummedFile}
 
 -- want of memory stops it
 pub stop_of_memory : (files : List FileEntry) (old new : TreeState) (stop : Stop) → IsOutOfMemory stop → RefusesNothing old new → StopsSumming files old new stop
@@ -43,12 +20,7 @@ stop_of_refusal entry old new cause stop refused answered opened (inl (not, same
   path = inr (0, ap Some (sym at), subst (λ all. IsRefusedAt all stop.path new) (sym (append-nil old.openings)) (subst (λ path. IsRefusedAt old.openings path new) (sym at) opened));
   wanting = λ m. absurd (not (sym same ∙ m));
 }
-stop_of_refusal entry old new cause stop refused answered opened (inr (is, m)) = record {
-  cause = λ are. rw m.0 tt;
-  answered = rw m.0 tt;
-  path = inl m;
-  wanting = λ _. told_memory old new cause answered is;
-}
+stop_of_refusal entry old new cause stop refused answered opened (inr (is, m)) = grind (arith, told_memory)
 
 abbrev moved : File → File
 moved e = (under data_folder e.0, e.1)
@@ -63,8 +35,7 @@ summed_more algs (x ∷ files) [] e one h s = absurd h
 -- the digests of the first of these files
 pub sums_more : (algs : List Alg) (files : List File) (i : ℕ) (e : File) (summed : List SummedFile) (one : SummedFile) → i < length files → e ≡ get_or files i e
     → AreSummed algs (take i files) summed → HasItsSums algs e one → AreSummed algs (take (i + 1) files) (summed ++ one ∷ [])
-sums_more algs files i e summed one lt is h s =
-    subst (λ xs. AreSummed algs xs (summed ++ one ∷ [])) (sym (take_one_more files i e lt is)) (summed_more algs (take i files) summed e one h s)
+sums_more algs files i e summed one lt is h s = grind (arith, take_one_more files i e lt is, summed_more algs (take i files) summed e one h s)
 
 -- the first of the listed files were summed
 pub record SumsFirst (files : List FileEntry) (count : ℕ) (algs : List Alg) (old new : TreeState) (sums : List SummedFile) : Type 0 where
@@ -74,16 +45,7 @@ pub record SumsFirst (files : List FileEntry) (count : ℕ) (algs : List Alg) (o
   pub summed : AreSummedFiles old (take count files) algs sums
 
 pub sums_none : (files : List FileEntry) (algs : List Alg) (old : TreeState) → SumsFirst files 0 algs old old []
-sums_none files algs old = record {
-  keeps = keeps_itself old;
-  calm = nothing_asked old;
-  opened = sym (append-nil old.openings);
-  summed = record { files = []; listed = refl; are = tt; honest = λ _. All-nil (λ (e : File). file old.bag e.0 ≡ Some e.1) };
-}
-
--- where it stopped before the first file, none was opened
-pub opens_no_file : (files : List FileEntry) (old : TreeState) → OpensFirstOf (paths_of files) old old
-opens_no_file files old = (0, sym (append-nil old.openings))
+sums_none files algs old = grind (arith, keeps_itself, nothing_asked, append-nil)
 
 module _ (files : List FileEntry) (i : ℕ) (entry : FileEntry) (algs : List Alg) (old mid new : TreeState) (summed : List SummedFile)
     (lt : i < length files) (is : entry ≡ get_or files i entry) (before : SumsFirst files i algs old mid summed) where
@@ -107,19 +69,12 @@ module _ (files : List FileEntry) (i : ℕ) (entry : FileEntry) (algs : List Alg
       }
 
   opened_more : new.openings ≡ mid.openings ++ entry.path ∷ [] → new.openings ≡ old.openings ++ paths_of (take (i + 1) files)
-  opened_more once =
-      once ∙ ap (λ xs. xs ++ entry.path ∷ []) before.opened ∙ append_assoc old.openings (paths_of (take i files)) (entry.path ∷ [])
-      ∙ ap (λ xs. old.openings ++ xs) (sym (ap paths_of next ∙ map-append (λ (e : FileEntry). e.path) (take i files) (entry ∷ [])))
+  opened_more once = grind (arith, append_assoc, next, map-append)
 
   -- one more was summed
   pub sums_one_more : (after : List SummedFile) (one : SummedFile) → after ≡ summed ++ one ∷ [] → Keeps mid new → RefusesNothing mid new
       → new.openings ≡ mid.openings ++ entry.path ∷ [] → IsSummedEntry mid entry algs one → SumsFirst files (i + 1) algs old new after
-  sums_one_more after one e k calm once s = record {
-    keeps = keeps_on old mid new before.keeps k;
-    calm = nothing_then old mid new before.calm calm;
-    opened = opened_more once;
-    summed = subst (AreSummedFiles old (take (i + 1) files) algs) (sym e) (added one s);
-  }
+  sums_one_more after one e k calm once s = grind (arith, keeps_on, nothing_then, opened_more, added)
 
   first_paths : (count : ℕ) → paths_of (take count files) ≡ take count (paths_of files)
   first_paths count = sym (take-map (λ (e : FileEntry). e.path) count files)
@@ -134,15 +89,7 @@ module _ (files : List FileEntry) (i : ℕ) (entry : FileEntry) (algs : List Alg
   its_path = slice_get-map (λ (e : FileEntry). e.path) files i ∙ ap (option_map (λ (e : FileEntry). e.path)) (slice_get_read files (length files) i entry refl lt is)
 
   at_the_file : (path : List ℕ) → IsAtFile (entry.path ∷ []) mid new path → IsAtFile (paths_of files) old new path
-  at_the_file path (k, at, refused) =
-      let first : k ≡ 0 = omega (arith, slice_get_within (entry.path ∷ []) k path at) in
-      let same : Some entry.path ≡ Some path = subst (λ n. slice_get (entry.path ∷ []) n ≡ Some path) first at in (
-        i,
-        its_path ∙ same,
-        subst (λ all. IsRefusedAt all path new)
-            (ap (λ n. mid.openings ++ take n (entry.path ∷ [])) first ∙ append-nil mid.openings ∙ before.opened ∙ ap (λ xs. old.openings ++ xs) (first_paths i))
-            refused,
-      )
+  at_the_file path (k, at, refused) = grind (arith, slice_get_within, slice_get, its_path, append-nil, first_paths)
 
   -- it stopped at a file
   pub opens_first : OpensAtMost mid new entry.path → OpensFirstOf (paths_of files) old new
@@ -150,21 +97,10 @@ module _ (files : List FileEntry) (i : ℕ) (entry : FileEntry) (algs : List Alg
   opens_first (inr once) = (i + 1, opened_next once)
 
   entry_is : (IsTrue old.honest → All (IsEntryOf old.bag) files) → IsTrue mid.honest → All (IsEntryOf mid.bag) (entry ∷ [])
-  entry_is are honest =
-      All-cons (IsEntryOf mid.bag) entry []
-      (subst (λ bag. IsEntryOf bag entry) (sym before.keeps.bag) (All-contains (IsEntryOf old.bag) files entry (are (sym before.keeps.honest ∙ honest)) listed))
-      (All-nil (IsEntryOf mid.bag))
+  entry_is are honest = grind (arith, listed)
 
   pub stops_at : (stop : Stop) → StopsSumming (entry ∷ []) mid new stop → StopsSumming files old new stop
-  stops_at stop h = record {
-    cause = λ are. later_refusal old mid new stop.cause before.keeps (h.cause (entry_is are));
-    answered = h.answered;
-    path = elim h.path [
-      | inl m ↦ inl m
-      | inr at ↦ inr (at_the_file stop.path at)
-    ];
-    wanting = λ m. memory_then old mid new before.calm (h.wanting m);
-  }
+  stops_at stop h = grind (arith, later_refusal, entry_is, at_the_file, memory_then)
 
 -- all were gone through
 module _ (files : List FileEntry) (count : ℕ) (algs : List Alg) (old new : TreeState) (summed : List SummedFile) (le : length files ≤ count) (all : SumsFirst files count algs old new summed) where

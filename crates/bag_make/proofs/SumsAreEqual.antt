@@ -1,22 +1,8 @@
 -- Stage 7: the files of a made bag have the digests that its manifests give.
-use Rattle.std.proofs.Common.{◌≡◌, ℕ, List, Some, sym, ap, ◌∙◌, Contains}
-use Rattle.bag_text.specs.declared.alg.Alg.{Alg}
-use Rattle.bag_text.specs.declared.code.Code.{Code}
-use Rattle.bag_text.specs.declared.code.Code.TheVariants.{PayloadSumDiffers, TagSumDiffers}
-use Rattle.bag_read.specs.declared.kind.Kind.{Kind}
-use Rattle.bag_read.specs.declared.kind.Kind.TheVariants.{Payload, Tag}
-use Rattle.bag_read.specs.declared.tag_name.TagName.{TagName}
-use Rattle.bag_read.specs.declared.tag_name.TagName.TheVariants.{Declaration, Info, Manifest}
-use Rattle.bag_tree.specs.Bag.{Bag, file}
-use Rattle.bag_tree.specs.Digest.{digest}
-use Rattle.bag_facts.specs.declared.fault.Fault.{Fault}
-use Rattle.bag_stages.specs.ValidityStage.{Differs, ValidityHolds, IsOfValidity}
-use Rattle.bag_tags.specs.Element.{NewElement}
-use Rattle.bag_tags.specs.ReadAgain.{ManifestIsReadAgain}
-use Rattle.bag_make.specs.Made.{made}
+use Rattle.bag_make.proofs.Common.{◌≡◌, ℕ, List, Some, sym, ap, ◌∙◌, Contains, Alg, Code, PayloadSumDiffers, TagSumDiffers, Kind, Payload, Tag, TagName, Declaration, Info, Manifest, Bag, file, digest, Fault, Differs, NewElement, ManifestIsReadAgain, made, IsNewText}
+use Rattle.bag_stages.specs.ValidityStage.{ValidityHolds, IsOfValidity}
 use Rattle.bag_make.proofs.Entries.{AreWritable, listed, entry_listed}
 use Rattle.bag_make.proofs.FilesAreNamed.{named_tag}
-use Rattle.bag_make.specs.Contents.{IsNewText}
 use Rattle.bag_make.proofs.Held.{tag_held, payload_held, payload_member, one_file}
 
 module _ (bag : Bag) (algs : List Alg) (info : List NewElement) where

@@ -1,21 +1,11 @@
 -- The names that are moved are listed in order, each once.
-use Rattle.std.proofs.Common.{◌≡◌, ℕ, true, List, [], ◌∷◌, map, Contains, refl, ap, sym, ◌∙◌, subst, is_lt, is_some}
-use Rattle.std.specs.Cmp.Lexicographic.{nat_list_cmp_total}
+use Rattle.bag_make.proofs.Common.{arith, ◌≡◌, ℕ, true, List, [], ◌∷◌, map, Contains, refl, ap, sym, ◌∙◌, is_some, nat_list_cmp_total, is_sorted, entries_sorted, contains_key-keys, get-from_entries, below_all, is_some-find, AllByRecursion, list_any, eq_by_cmp, Less, Equal, Greater, and_parts, text_cmp, any_from, from_any, one_text, text_itself, in_order}
+use Rattle.std.proofs.Common.{is_lt}
 use Rattle.std.specs.FinMap as fin
-use Rattle.std.specs.FinMap.{is_sorted, entries_sorted, contains_key-keys, get-from_entries}
-use Rattle.std.specs.FinMap.Entries.{below_all, is_some-find}
-use Rattle.std.specs.List.{AllByRecursion, list_any}
 use Rattle.std.specs.List.Sorted.{IsStrictlySortedBy}
-use Rattle.std.specs.Ordering.{eq_by_cmp}
 use Rattle.std.specs.declared.cmp.Ordering.{Ordering}
-use Rattle.std.specs.declared.cmp.Ordering.TheVariants.{Less, Equal, Greater}
-use Rattle.std.proofs.lemmas.Bool.{and_parts}
 use Rattle.bag_text.specs.Order.{IsListOf}
-use Rattle.bag_text.specs.Text.{text_cmp}
-use Rattle.bag_read.proofs.PickedOut.{any_from, from_any}
-use Rattle.bag_tree.proofs.SameText.{one_text, text_itself}
 use Rattle.bag_make.proofs.Held.{true_from}
-use Rattle.bag_make.specs.Plan.{in_order}
 
 abbrev Entry : Type 0
 Entry = List ℕ × Unit {0}
@@ -51,9 +41,7 @@ same_any texts t =
     ∙ ap (list_any (eq_by_cmp text_cmp t)) (unmarked texts)
 
 moves_over : (xs ys : List (List ℕ)) (t : List ℕ) → Contains xs t → list_any (eq_by_cmp text_cmp t) xs ≡ list_any (eq_by_cmp text_cmp t) ys → Contains ys t
-moves_over xs ys t has same =
-    let some = from_any (eq_by_cmp text_cmp t) ys (sym same ∙ any_from (eq_by_cmp text_cmp t) xs t has (text_itself t)) in
-    subst (Contains ys) (sym (one_text t some.0 some.2)) some.1
+moves_over xs ys t has same = grind (arith, any_from (eq_by_cmp text_cmp t) xs t has (text_itself t), from_any, text_itself, one_text)
 
 pub listed_in_order : (texts : List (List ℕ)) → IsListOf text_cmp (Contains texts) (in_order texts)
 listed_in_order texts = record {

@@ -1,41 +1,12 @@
 -- The manifests of a made bag can be written.
-use Rattle.std.proofs.Common.{◌≡◌, ◌≢◌, inl, inr, ℕ, Bool, true, false, not, List, [], ◌∷◌, map, refl, sym, ap, ◌∙◌, subst, Contains, codes, bytes_eq, IsUtf8, arith}
+use Rattle.bag_make.proofs.Common.{◌≡◌, ◌≢◌, inl, inr, ℕ, Bool, true, false, not, List, [], ◌∷◌, map, refl, sym, ap, ◌∙◌, subst, Contains, codes, bytes_eq, IsUtf8, arith, texts_ties, is_sorted, entries_sorted, below_all, AllByRecursion, list_any, is_lt, Less, and_parts, and_from, or_from, not_from_true, false_from_ne_true, All-from_recursion, bytes_eq-Decides, IsUtf8-append, IsUtf8-from_is_utf8, is_utf8-from_IsUtf8, rank_cmp, under, is_path, is_payload_path, text_cmp, IsText, Alg, Md5, contains_first, contains_behind, contains_cases, each_from_members, member_has, tag_path, Kind, Payload, Tag, TagName, Declaration, Info, Manifest, paths_differ, Bag, files_of, under_in_folder, first-under, digest, NewElement, NewEntry, is_bad_path, is_bad_entry, is_bad_digest, may_name, begins_with_mark, paths, File, data_folder, new_payload, entries_of, manifest, named_tag_files, payload_manifests, declaration_file, info_file, CanMake, contains_mapped}
 use Rattle.std.specs.Char.{encode_utf8}
-use Rattle.std.specs.Cmp.Lexicographic.{texts_ties}
-use Rattle.std.specs.FinMap.{is_sorted, entries_sorted}
-use Rattle.std.specs.FinMap.Entries.{below_all}
-use Rattle.std.specs.List.{AllByRecursion, IsDistinct, list_any}
+use Rattle.std.specs.List.{IsDistinct}
 use Rattle.std.specs.List.Sorted.{IsStrictlySortedBy}
-use Rattle.std.specs.Ordering.{is_lt}
 use Rattle.std.specs.Str.{is_utf8, chars}
-use Rattle.std.specs.declared.cmp.Ordering.TheVariants.{Less}
-use Rattle.std.proofs.lemmas.Bool.{and_parts, and_from, or_from, not_from_true, false_from_ne_true}
-use Rattle.std.proofs.lemmas.List.Elements.{All-from_recursion}
-use Rattle.std.proofs.lemmas.Slice.Eq.{bytes_eq-Decides}
-use Rattle.std.proofs.lemmas.Str.{IsUtf8-append, IsUtf8-from_is_utf8, is_utf8-from_IsUtf8}
-use Rattle.bag_text.specs.Alg.{rank, rank_cmp}
-use Rattle.bag_text.specs.Path.{under, first_component, is_path, is_payload_path}
-use Rattle.bag_text.specs.Text.{text_cmp, IsText}
-use Rattle.bag_text.specs.declared.alg.Alg.{Alg}
-use Rattle.bag_text.specs.declared.alg.Alg.TheVariants.{Md5}
-use Rattle.bag_text.proofs.ListOf.{contains_first, contains_behind, contains_cases, each_from_members, member_has}
 use Rattle.bag_read.proofs.FaultOrder.{lower}
-use Rattle.bag_read.specs.TagName.{tag_path}
-use Rattle.bag_read.specs.declared.kind.Kind.{Kind}
-use Rattle.bag_read.specs.declared.kind.Kind.TheVariants.{Payload, Tag}
-use Rattle.bag_read.specs.declared.tag_name.TagName.{TagName}
-use Rattle.bag_read.specs.declared.tag_name.TagName.TheVariants.{Declaration, Info, Manifest}
-use Rattle.bag_read.proofs.TagPaths.{paths_differ}
-use Rattle.bag_tree.specs.Bag.{Bag, files_of}
-use Rattle.bag_tree.proofs.Parents.{under_in_folder, first-under}
-use Rattle.bag_tree.specs.Digest.{digest}
-use Rattle.bag_tags.specs.Element.{NewElement}
-use Rattle.bag_tags.specs.Entry.{NewEntry, is_bad_path, is_bad_entry, is_bad_digest, may_name, begins_with_mark, paths}
-use Rattle.bag_make.specs.Made.{File, data_folder, new_payload, entries_of, manifest, named_tag_files, payload_manifests, declaration_file, info_file}
-use Rattle.bag_make.specs.Valid.{CanMake}
 use Rattle.bag_make.proofs.Digests.{good_digest}
 use Rattle.bag_make.proofs.Entries.{AreWritable, listed}
-use Rattle.bag_facts.proofs.Mapped.{contains_mapped}
 use Rattle.bag_make.proofs.Held.{payload_member, true_from, lt_not_eq, has_listed}
 
 none_from_members : {A : Type 0} (p : A → Bool) (xs : List A) → ((x : A) → Contains xs x → p x ≡ false) → list_any p xs ≡ false
@@ -51,9 +22,7 @@ unfolding is_utf8 chars encode_utf8
 data_utf8 = IsUtf8-from_is_utf8 (codes "data/") refl
 
 pub in_payload : (p : List ℕ) → is_path p ≡ true → is_payload_path (under data_folder p) ≡ true
-in_payload p is =
-    let first : bytes_eq (first_component (under data_folder p)) (codes "data") ≡ true = ap (λ t. bytes_eq t (codes "data")) (first-under data_folder p refl) in
-    and_from _ _ (and_from (is_path (under data_folder p)) _ is first) (under_in_folder data_folder p refl)
+in_payload p is = grind (arith, first-under data_folder p refl, under_in_folder data_folder p refl, and_from)
 
 name_payload : (p : List ℕ) → is_path p ≡ true → IsUtf8 p → CanName Payload (under data_folder p)
 name_payload p is text = (
@@ -100,9 +69,7 @@ tags_differ : (a b : TagName) → a ≢ b → bytes_eq (tag_path a) (tag_path b)
 tags_differ a b other = false_from_ne_true _ (λ same. other (paths_differ a b ((bytes_eq-Decides (tag_path a) (tag_path b)).0 same)))
 
 rank_less : (a b : Alg) → rank_cmp a b ≡ Less → Manifest Payload a ≢ Manifest Payload b
-rank_less a b e same =
-    let one : a ≡ b = cc in
-    omega (arith, ap rank one, lower (rank a) (rank b) e)
+rank_less a b e same = grind (arith, lower)
 
 module _ (alg : Alg) (text : Alg → List ℕ) where
   abbrev named_manifests : List Alg → List (List ℕ)
@@ -140,9 +107,7 @@ module _ (bag : Bag) (algs : List Alg) (info : List NewElement) (can : CanMake b
       let m = payload_member bag algs info q c h in
       let two = can.is_bag.paths m.0 (has_listed bag m.0 c m.2) in
       subst (CanName Payload) (sym m.1) (name_payload m.0 two.0 two.1)
-  can_name Tag q c h =
-      let m = name_tag bag algs info q c h in
-      subst (CanName Tag) (sym m.1) m.2
+  can_name Tag q c h = let m = name_tag bag algs info q c h in subst (CanName Tag) (sym m.1) m.2
 
   each_entry : (kind : Kind) (alg : Alg) (entry : NewEntry) → Contains (entries_of alg (listed bag algs info kind)) entry → IsText entry.1 × (is_bad_entry kind alg entry ≡ false)
   each_entry kind alg entry h =

@@ -1,6 +1,4 @@
-use Rattle.bag_tags.proofs.DeclarationReadAgain.{declaration_again}
-use Rattle.bag_tags.proofs.InfoReadAgain.{info_again}
-use Rattle.bag_tags.proofs.ManifestReadAgain.{manifest_again}
+use Rattle.bag_make.proofs.Common.{declaration_again, info_again, manifest_again}
 use Rattle.bag_make.proofs.NoFault.{made_is_valid}
 use Rattle.bag_make.proofs.laws.a_made_bag_has_no_fault.Goals as goal
 

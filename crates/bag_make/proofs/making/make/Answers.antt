@@ -1,10 +1,5 @@
-use Rattle.std.proofs.Common.{IsTrue}
-use Rattle.std.proofs.lemmas.Result.{on_ok_weaker, IfErr-weaker}
-use Rattle.bag_tags.proofs.DeclarationReadAgain.{declaration_again}
-use Rattle.bag_tags.proofs.InfoReadAgain.{info_again}
-use Rattle.bag_tags.proofs.ManifestReadAgain.{manifest_again}
+use Rattle.bag_make.proofs.Common.{IsTrue, on_ok_weaker, IfErr-weaker, declaration_again, info_again, manifest_again, Leaves, MayRefuseMaking}
 use Rattle.bag_make.proofs.NoFault.{made_is_valid}
-use Rattle.bag_make.specs.Make.{Leaves, MayRefuseMaking}
 use Rattle.bag_make.proofs.Made.{made_has_no_fault, leaves_bag}
 use Rattle.bag_make.proofs.making.make.Goals as goal
 

@@ -1,5 +1,4 @@
-use Rattle.std.proofs.Common.{◌∙◌, subst}
-use Rattle.bag_make.specs.Steps.{HasStopped, HasTaken}
+use Rattle.bag_make.proofs.Common.{◌∙◌, subst, HasStopped, HasTaken}
 use Rattle.bag_make.proofs.Made.{has_made, opens_nothing}
 use Rattle.bag_make.proofs.making.make_in.Goals as goal
 

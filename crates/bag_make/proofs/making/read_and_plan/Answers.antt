@@ -1,10 +1,4 @@
-use Rattle.std.proofs.Common.{◌∙◌, ◌++◌, inr, ap, sym, subst}
-use Rattle.bag_tree.specs.Bag.{files_of}
-use Rattle.bag_tree.specs.Listing.{IsListingOf}
-use Rattle.bag_facts.specs.Wanted.{paths_of}
-use Rattle.bag_make.specs.Made.{new_payload}
-use Rattle.bag_make.specs.Stops.{StopsSumming}
-use Rattle.bag_make.specs.Summed.{AreSummed, AreSummedFiles, OpensFirstOf}
+use Rattle.bag_make.proofs.Common.{◌∙◌, ◌++◌, inr, ap, sym, subst, files_of, IsListingOf, paths_of, new_payload, StopsSumming, AreSummed, AreSummedFiles, OpensFirstOf}
 use Rattle.bag_make.proofs.ReadFolder.{nothing_refused, files_are, listing_refused, opens_folder, opened_folder, files_refused}
 use Rattle.bag_make.proofs.making.read_and_plan.Goals as goal
 

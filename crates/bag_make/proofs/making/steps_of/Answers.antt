@@ -1,9 +1,4 @@
-use Rattle.std.proofs.Common.{◌∙◌, All, IsTrue, subst, sym}
-use Rattle.std.proofs.lemmas.Result.{IfOk-weaker}
-use Rattle.bag_tree.specs.Bag.{files_of}
-use Rattle.bag_tree.proofs.ListingLaw.{listings_are_of_the_bag}
-use Rattle.bag_text.specs.Path.{is_base_name}
-use Rattle.bag_make.specs.Made.{File}
+use Rattle.bag_make.proofs.Common.{◌∙◌, All, IsTrue, subst, sym, IfOk-weaker, files_of, listings_are_of_the_bag, is_base_name, File}
 use Rattle.bag_make.proofs.OfTheBag.{tag_files_in_base}
 use Rattle.bag_make.proofs.making.steps_of.Goals as goal
 

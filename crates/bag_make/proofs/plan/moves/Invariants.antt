@@ -1,6 +1,4 @@
-use Rattle.std.proofs.Common.{◌≡◌, ◌∷◌, map, take}
-use Rattle.bag_tags.specs.Distinct.{texts_of}
-use Rattle.bag_make.specs.declared.step.Step.TheVariants.{MakeFolder, MoveIn}
+use Rattle.bag_make.proofs.Common.{◌≡◌, ◌∷◌, map, take, texts_of, MakeFolder, MoveIn}
 use Rattle.bag_make.proofs.plan.moves.Given as goal
 
 abbrev pub invariant-loop-top : goal.invariant-loop-top

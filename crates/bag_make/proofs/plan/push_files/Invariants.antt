@@ -1,5 +1,4 @@
-use Rattle.std.proofs.Common.{◌≡◌, ◌++◌, map}
-use Rattle.bag_make.specs.Plan.{new_file}
+use Rattle.bag_make.proofs.Common.{◌≡◌, ◌++◌, map, new_file}
 use Rattle.bag_make.proofs.plan.push_files.Given as goal
 
 abbrev pub invariant-loop-name : goal.invariant-loop-name

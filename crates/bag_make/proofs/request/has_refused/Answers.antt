@@ -1,6 +1,4 @@
-use Rattle.std.proofs.Common.{sym, ap, ◌∙◌}
-use Rattle.std.proofs.lemmas.List.Folds.{list_any_at}
-use Rattle.bag_make.specs.Valid.{is_refused}
+use Rattle.bag_make.proofs.Common.{sym, ap, ◌∙◌, list_any_at, is_refused}
 use Rattle.bag_make.proofs.request.has_refused.Goals as goal
 
 pub returns-then-is_refused : goal.returns-then-is_refused

@@ -1,6 +1,4 @@
-use Rattle.std.proofs.Common.{◌≡◌, false, take}
-use Rattle.std.specs.List.{list_any}
-use Rattle.bag_make.specs.Valid.{is_refused}
+use Rattle.bag_make.proofs.Common.{◌≡◌, false, take, list_any, is_refused}
 use Rattle.bag_make.proofs.request.has_refused.Given as goal
 
 abbrev pub invariant-loop-element : goal.invariant-loop-element

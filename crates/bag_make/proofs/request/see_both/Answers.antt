@@ -1,4 +1,4 @@
-use Rattle.std.proofs.lemmas.Str.{is_utf8-from_IsUtf8}
+use Rattle.bag_make.proofs.Common.{is_utf8-from_IsUtf8}
 use Rattle.bag_make.proofs.request.see_both.Goals as goal
 
 pub returns : goal.returns

@@ -1,9 +1,4 @@
-use Rattle.std.proofs.Common.{All, sym, subst, take}
-use Rattle.std.proofs.lemmas.List.{take_all}
-use Rattle.std.proofs.lemmas.List.Elements.{All-nil, All-push}
-use Rattle.bag_facts.proofs.Mapped.{take_one_more}
-use Rattle.bag_text.specs.Text.{IsText}
-use Rattle.bag_make.specs.Request.{AreTexts}
+use Rattle.bag_make.proofs.Common.{All, sym, subst, take, take_all, All-nil, All-push, take_one_more, IsText, AreTexts}
 use Rattle.bag_make.proofs.request.see_texts.Goals as goal
 
 pub loop-element-init : goal.loop-element-init

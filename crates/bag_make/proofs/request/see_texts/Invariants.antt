@@ -1,5 +1,4 @@
-use Rattle.std.proofs.Common.{All, take}
-use Rattle.bag_make.specs.Request.{AreTexts}
+use Rattle.bag_make.proofs.Common.{All, take, AreTexts}
 use Rattle.bag_make.proofs.request.see_texts.Given as goal
 
 abbrev pub invariant-loop-element : goal.invariant-loop-element

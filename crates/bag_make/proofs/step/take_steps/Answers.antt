@@ -1,11 +1,4 @@
-use Rattle.std.proofs.Common.{◌≡◌, ℕ, ◌+◌, ◌-◌, ◌<◌, ◌++◌, ◌∷◌, List, [], length, take, get_or, IsTrue, slice_get, refl, ap, sym, ◌∙◌, subst, arith}
-use Rattle.std.proofs.lemmas.Option.{slice_get_read}
-use Rattle.std.proofs.lemmas.List.Sums.{fold_more}
-use Rattle.bag_tree.specs.Bag.{Bag}
-use Rattle.bag_tree.specs.Tree.{TreeState}
-use Rattle.bag_facts.proofs.Mapped.{take_one_more}
-use Rattle.bag_make.specs.Steps.{CanTake, CanTakeAll, HasDone, HasTaken, after_steps, change}
-use Rattle.bag_make.specs.declared.step.Step.{Step}
+use Rattle.bag_make.proofs.Common.{◌≡◌, ℕ, ◌+◌, ◌-◌, ◌<◌, ◌++◌, ◌∷◌, List, [], length, take, get_or, IsTrue, slice_get, refl, ap, sym, ◌∙◌, subst, arith, slice_get_read, fold_more, Bag, TreeState, take_one_more, CanTake, CanTakeAll, HasDone, HasTaken, after_steps, change, Step}
 use Rattle.bag_make.proofs.step.take_steps.Goals as goal
 
 one_back : (n : ℕ) → n + 1 - 1 ≡ n

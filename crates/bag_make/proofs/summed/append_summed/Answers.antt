@@ -1,5 +1,4 @@
-use Rattle.std.proofs.Common.{subst}
-use Rattle.bag_facts.specs.Stops.{IsRefusalOf}
+use Rattle.bag_make.proofs.Common.{subst, IsRefusalOf}
 use Rattle.bag_make.proofs.Summing.{stop_of_refusal}
 use Rattle.bag_make.proofs.summed.append_summed.Goals as goal
 

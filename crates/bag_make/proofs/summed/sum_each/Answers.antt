@@ -1,6 +1,5 @@
-use Rattle.std.proofs.Common.{sym, subst}
+use Rattle.bag_make.proofs.Common.{sym, subst, StopsSumming}
 use Rattle.bag_facts.proofs.PassedOn.{passed_on}
-use Rattle.bag_make.specs.Stops.{StopsSumming}
 use Rattle.bag_make.proofs.Summing.{SumsFirst, sums_none, sums_one_more, opens_first, stops_at, opens_all, opens_all_first, sums_all}
 use Rattle.bag_make.proofs.summed.sum_each.Goals as goal
 

@@ -1,5 +1,4 @@
-use Rattle.std.proofs.Common.{take}
-use Rattle.bag_make.specs.Summed.{AreSummed}
+use Rattle.bag_make.proofs.Common.{take, AreSummed}
 use Rattle.bag_make.proofs.summed.sum_tag_files.Given as goal
 
 abbrev pub invariant-loop-file : goal.invariant-loop-file

@@ -1,4 +1,4 @@
-use Rattle.std.proofs.Common.{[]}
+use Rattle.bag_make.proofs.Common.{[]}
 use Rattle.bag_make.proofs.summed.sums_of.Goals as goal
 
 pub returns : goal.returns

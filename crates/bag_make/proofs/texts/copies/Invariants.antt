@@ -1,4 +1,4 @@
-use Rattle.std.proofs.Common.{◌≡◌, take}
+use Rattle.bag_make.proofs.Common.{◌≡◌, take}
 use Rattle.bag_make.proofs.texts.copies.Given as goal
 
 abbrev pub invariant-loop-element : goal.invariant-loop-element

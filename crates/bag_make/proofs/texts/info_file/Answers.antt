@@ -1,8 +1,4 @@
-use Rattle.std.proofs.Common.{◌≡◌, ◌++◌, ◌∷◌, ◌∙◌, [], List, ap}
-use Rattle.bag_stages.specs.MetadataStage.{oxum_label}
-use Rattle.bag_stages.specs.Payload.{oxum_text}
-use Rattle.bag_tags.specs.Element.{NewElement, info_text}
-use Rattle.bag_make.specs.Texts.{size_of}
+use Rattle.bag_make.proofs.Common.{◌≡◌, ◌++◌, ◌∷◌, ◌∙◌, [], List, ap, oxum_label, oxum_text, NewElement, info_text, size_of}
 use Rattle.bag_make.proofs.texts.info_file.Goals as goal
 
 pub returns-in-Ok : goal.returns-in-Ok

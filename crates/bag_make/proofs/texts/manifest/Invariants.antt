@@ -1,6 +1,5 @@
-use Rattle.std.proofs.Common.{◌≡◌, map, take, string_bytes}
+use Rattle.bag_make.proofs.Common.{◌≡◌, map, take, string_bytes, summed_entry}
 use Rattle.bag_tags.specs.Entry as entry
-use Rattle.bag_make.specs.Summed.{summed_entry}
 use Rattle.bag_make.proofs.texts.manifest.Given as goal
 
 abbrev pub invariant-loop-file : goal.invariant-loop-file

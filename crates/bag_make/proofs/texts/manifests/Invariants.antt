@@ -1,5 +1,4 @@
-use Rattle.std.proofs.Common.{◌≡◌, take}
-use Rattle.bag_make.specs.Texts.{manifests_of}
+use Rattle.bag_make.proofs.Common.{◌≡◌, take, manifests_of}
 use Rattle.bag_make.proofs.texts.manifests.Given as goal
 
 abbrev pub invariant-loop-alg : goal.invariant-loop-alg

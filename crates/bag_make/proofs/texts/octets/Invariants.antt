@@ -1,5 +1,4 @@
-use Rattle.std.proofs.Common.{◌≡◌, ◌-◌, ◌*◌, ◌^◌, ◌≤◌, take}
-use Rattle.bag_make.specs.Texts.{size_of}
+use Rattle.bag_make.proofs.Common.{◌≡◌, ◌-◌, ◌*◌, ◌^◌, ◌≤◌, take, size_of}
 use Rattle.bag_make.proofs.texts.octets.Given as goal
 
 abbrev pub invariant-loop-entry : goal.invariant-loop-entry

@@ -1,8 +1,4 @@
-use Rattle.std.proofs.Common.{◌∙◌, ◌++◌, ap, subst}
-use Rattle.std.specs.List.{swap}
-use Rattle.bag_read.specs.declared.kind.Kind.TheVariants.{Tag}
-use Rattle.bag_make.specs.Summed.{AreSummed}
-use Rattle.bag_make.specs.Texts.{manifests_of, named_of}
+use Rattle.bag_make.proofs.Common.{◌∙◌, ◌++◌, ap, subst, swap, Tag, AreSummed, manifests_of, named_of}
 use Rattle.bag_make.proofs.Composed.{tag_files_are}
 use Rattle.bag_make.proofs.texts.tag_files.Goals as goal
 

@@ -1,6 +1,5 @@
-use Rattle.std.proofs.Common.{◌≡◌, map, take}
+use Rattle.bag_make.proofs.Common.{◌≡◌, map, take, texts_of}
 use Rattle.bag_text.specs.Path as spec
-use Rattle.bag_tags.specs.Distinct.{texts_of}
 use Rattle.bag_make.proofs.tops.first_components.Given as goal
 
 abbrev pub invariant-loop-entry : goal.invariant-loop-entry

@@ -1,9 +1,5 @@
-use Rattle.std.proofs.Common.{Contains}
-use Rattle.std.specs.Cmp.Lexicographic.{nat_list_cmp_total}
+use Rattle.bag_make.proofs.Common.{Contains, nat_list_cmp_total, one_list, text_cmp, texts_of}
 use Rattle.std.proofs.lemmas.List.Filters.{dedup_is}
-use Rattle.bag_text.proofs.ListOf.{one_list}
-use Rattle.bag_text.specs.Text.{text_cmp}
-use Rattle.bag_tags.specs.Distinct.{texts_of}
 use Rattle.bag_stages.proofs.PayloadNames.{sorted_listed}
 use Rattle.bag_make.specs.Plan as plan
 use Rattle.bag_make.proofs.TopsInOrder.{listed_in_order}
