@@ -15,7 +15,7 @@ pub use Rattle.std.specs.Cmp.Lexicographic.{nat_list_cmp_total, texts_ties}
 pub use Rattle.std.specs.FinMap.{contains_key-keys, entries_sorted, find, get-empty, get-entries, get-from_entries, get-insert, is_sorted}
 pub use Rattle.std.specs.FinMap.Entries.{below_all, find-where_key, is_some-find, is_sorted-where_key, same_entries}
 pub use Rattle.std.specs.FinSet.{contains-insert, contains-remove, contains-retain, same_set}
-pub use Rattle.std.specs.List.{AllByRecursion, after_first, before_first, list_all, list_any, position_or_len, prefix_len, suffix_len, swap}
+pub use Rattle.std.specs.List.{AllByRecursion, after_first, before_first, list_all, list_any, position_or_len, suffix_len, swap}
 pub use Rattle.std.specs.Option.{option_map}
 pub use Rattle.std.specs.Ordering.{eq_by_cmp, is_eq, is_lt}
 pub use Rattle.std.specs.Prelude.{option_and_then}
@@ -51,7 +51,7 @@ pub use Rattle.bag_tags.specs.Element.{NewElement, info_text, is_bad_element, is
 pub use Rattle.bag_tags.specs.Entry.{CanWrite, NewEntry, begins_with_mark, is_bad_digest, is_bad_entry, is_bad_path, is_lower_hex_digit, manifest_text, may_name, paths}
 pub use Rattle.bag_tags.specs.ReadAgain.{DeclarationIsReadAgain, InfoIsReadAgain, ManifestIsReadAgain}
 pub use Rattle.bag_text.proofs.ListOf.{contains_back, contains_behind, contains_cases, contains_either, contains_first, contains_front, contains_nothing, each_from_members, member_has, nothing_listed, one_list}
-pub use Rattle.bag_text.specs.Alg.{hex_len, name, rank_cmp}
+pub use Rattle.bag_text.specs.Alg.{name, rank_cmp}
 pub use Rattle.bag_text.specs.Path.{components, first_component, is_base_name, is_path, is_payload_path, slash, under}
 pub use Rattle.bag_text.specs.Text.{IsNoText, IsText, is_blank, same_label, text_cmp, trim}
 pub use Rattle.bag_text.specs.declared.alg.Alg.{Alg}
@@ -62,10 +62,10 @@ pub use Rattle.bag_text.specs.declared.rules.Rules.TheVariants.{V10}
 pub use Rattle.bag_tree.proofs.ListingLaw.{listings_are_of_the_bag}
 pub use Rattle.bag_tree.proofs.Parents.{first-under, first_is_base_name, in_folder, is_slash, under_in_folder}
 pub use Rattle.bag_tree.proofs.SameText.{exact_texts, one_text, text_itself}
-pub use Rattle.bag_tree.proofs.Within.{IsWithin, goes_itself, goes_under, itself_within, not_within, stays, under_within, within_cases}
+pub use Rattle.bag_tree.proofs.Within.{goes_itself, goes_under, itself_within, not_within, stays, under_within, within_cases}
 pub use Rattle.bag_tree.specs.Bag.{Bag, HasFile, IsBag, file, files_of, has_folder}
 pub use Rattle.bag_tree.specs.Calm.{RefusesNothing}
-pub use Rattle.bag_tree.specs.Digest.{digest, hash, hash_len}
+pub use Rattle.bag_tree.specs.Digest.{digest, hash}
 pub use Rattle.bag_tree.specs.Listing.{IsListingOf, IsOrdered}
 pub use Rattle.bag_tree.specs.Moved.{is_within, moved, renamed}
 pub use Rattle.bag_tree.specs.Steps.{Files, create, make_folder, move_in, rename_folder}

@@ -1,5 +1,5 @@
 -- What is composed of listed files and their digests is what is said of the bag.
-use Rattle.bag_make.proofs.Common.{arith, ◌≡◌, ◌+◌, ◌++◌, ◌∷◌, List, [], length, map, sum_by, Contains, refl, sym, ap, ◌∙◌, subst, swap, length-map, sum_by-cons, under, Alg, contains_first, contains_behind, Oxum, tag_path, Kind, Payload, Tag, Info, Manifest, FileEntry, oxum_label, oxum_of_files, oxum_text, NewElement, info_text, manifest_text, File, data_folder, new_payload, entries_of, manifest, named_tag_files, new_tag_files, declaration_file, info_file, AreSummed, entry_of, summed_entry, size_of, info_of, manifests_of, named_of, SummedFile}
+use Rattle.bag_make.proofs.Common.{arith, ◌≡◌, ◌+◌, ◌++◌, ◌∷◌, List, [], length, map, sum_by, Contains, refl, sym, ap, ◌∙◌, subst, swap, length-map, sum_by-cons, under, Alg, contains_first, contains_behind, tag_path, Kind, Payload, Tag, Manifest, FileEntry, oxum_label, oxum_text, NewElement, info_text, manifest_text, File, data_folder, new_payload, entries_of, manifest, named_tag_files, new_tag_files, declaration_file, info_file, AreSummed, entry_of, summed_entry, info_of, manifests_of, named_of, SummedFile}
 
 module _ (algs : List Alg) where
   -- what a manifest says of files with their digests
@@ -29,16 +29,9 @@ octets_are (e ∷ files) =
     ∙ ap (λ n. length e.1 + n) (octets_are files)
     ∙ sym (sum_by-cons (λ (x : File). length x.1) (under data_folder e.0, e.1) (new_payload files))
 
-streams_are : (files : List File) → length (map entry_of files) ≡ length (new_payload files)
-streams_are files = length-map files entry_of ∙ sym (length-map files (λ (e : File). (under data_folder e.0, e.1)))
-
--- the size of the payload that listed files make
-size_is : (files : List File) → size_of (map entry_of files) ≡ oxum_of_files (new_payload files)
-size_is files = grind (arith, octets_are, streams_are)
-
 module _ (files : List File) (listed : List FileEntry) (payload : List SummedFile) (algs : List Alg) (info : List NewElement) (same : map entry_of files ≡ listed) (are : AreSummed algs (new_payload files) payload) where
   info_is : info_of listed info ≡ info_file files algs info
-  info_is = ap (λ xs. info_of xs info) (sym same) ∙ ap (λ (size : Oxum). (tag_path Info, info_text (info ++ (oxum_label, oxum_text size) ∷ []))) (size_is files)
+  info_is = grind (arith, info_of, tag_path, info_text, oxum_label, oxum_text, octets_are, length-map, entry_of, under, data_folder)
 
   pub named_are : named_of listed payload algs info ≡ named_tag_files files algs info
   named_are =

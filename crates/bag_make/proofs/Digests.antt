@@ -1,5 +1,5 @@
 -- A digest has the algorithm's length and lower-case digits.
-use Rattle.bag_make.proofs.Common.{◌≡◌, ℕ, ◌*◌, ◌/◌, ◌%◌, ◌<◌, true, false, List, [], ◌∷◌, length, refl, ap, ◌∙◌, arith, slice_index, list_all, agree_below_at, and_from, or_from, not_from_true, eq-eqb, All-head, All-tail, hex_len, Alg, Md5, hash, hash_len, digest, is_lower_hex_digit, is_bad_digest}
+use Rattle.bag_make.proofs.Common.{◌≡◌, ℕ, ◌/◌, ◌%◌, ◌<◌, true, false, List, [], ◌∷◌, refl, arith, slice_index, list_all, agree_below_at, and_from, or_from, not_from_true, eq-eqb, All-head, All-tail, Alg, hash, digest, is_lower_hex_digit, is_bad_digest}
 use Rattle.hex.specs.Hex.{encode_with, encode_lower, lower_digits}
 use Rattle.hex.proofs.HexLemmas.{length-encode_with}
 use Rattle.bag_tree.proofs.HashValues.{AreBytes, value}
@@ -15,13 +15,6 @@ lower_each (b ∷ bytes) all =
     and_from _ _ (lower_digit (b / 16) (omega arith))
     (and_from _ _ (lower_digit (b % 16) (omega arith)) (lower_each bytes (All-tail (λ b. b < 256) b bytes all)))
 
-twice : (alg : Alg) → 2 * hash_len alg ≡ hex_len alg
-twice Md5 = refl
-twice _ = refl
-
-digest_length : (alg : Alg) (bytes : List ℕ) → length (digest alg bytes) ≡ hex_len alg
-digest_length alg bytes = length-encode_with lower_digits (hash alg bytes) ∙ ap (λ n. 2 * n) (value alg bytes).0 ∙ twice alg
-
 -- a digest can be written
 pub good_digest : (alg : Alg) (bytes : List ℕ) → is_bad_digest alg (digest alg bytes) ≡ false
-good_digest alg bytes = grind (arith, or_from, not_from_true, eq-eqb, digest_length, lower_each, value)
+good_digest alg bytes = grind (arith, or_from, not_from_true, eq-eqb, lower_each, value, length-encode_with, hash)

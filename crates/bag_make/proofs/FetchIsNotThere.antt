@@ -1,8 +1,7 @@
 -- Stage 4: a made bag has nothing to fetch.
 use Rattle.bag_make.proofs.Common.{arith, ◌≡◌, ℕ, List, [], Some, Alg, Code, FetchLine, FetchEscape, FetchUnsafePath, FetchOutsidePayload, FetchNotInManifest, Fetch, Bag, Fault, NewElement, made}
 use Rattle.std.specs.List.{slice_get}
-use Rattle.bag_read.specs.declared.fetch.FetchEntry.{FetchEntry}
-use Rattle.bag_stages.specs.FetchStage.{InFetch, HasFetch, FetchHolds, IsOfFetch}
+use Rattle.bag_stages.specs.FetchStage.{InFetch, FetchHolds, IsOfFetch}
 use Rattle.bag_make.proofs.Held.{no_fetch, tag_held}
 
 pub no_line : (k : ℕ) (line : List ℕ) → slice_get {X = List ℕ} [] k ≡ Some line → ⊥
@@ -12,16 +11,13 @@ module _ (bag : Bag) (algs : List Alg) (info : List NewElement) (f : Fault) wher
   not_there : InFetch (made bag algs info) f → ⊥
   not_there (at, alg, (bytes, held, wrong)) = tag_held bag algs info Fetch bytes held
 
-  nothing_fetched : (e : FetchEntry) → HasFetch (made bag algs info) e → ⊥
-  nothing_fetched e h = grind (arith, no_fetch, no_line)
-
   by_code : (code : Code) → FetchHolds (made bag algs info) f code → ⊥
   unfolding FetchHolds
   by_code FetchLine h = not_there h
   by_code FetchEscape h = not_there h
   by_code FetchUnsafePath h = not_there h
   by_code FetchOutsidePayload h = not_there h
-  by_code FetchNotInManifest h = nothing_fetched h.0 h.2
+  by_code FetchNotInManifest h = grind (arith, no_fetch, no_line)
   by_code _ h = h
 
   pub no_fetch_fault : IsOfFetch (made bag algs info) f → ⊥

@@ -1,15 +1,9 @@
 -- The first component of a path, and what is within a name.
-use Rattle.bag_make.proofs.Common.{◌≡◌, ℕ, ◌<◌, ◌≤◌, ◌==◌, ◌⊎◌, inl, inr, true, false, List, [], ◌∷◌, length, take, All, add_comm, add-one, refl, ap, sym, ◌∙◌, arith, ⊎_elim, position_or_len, and_parts, and_from, eqb-true, ltb-true, cases_lt, take_all, fails_before_first, slash, components, is_path, is_base_name, first_component, under, is_slash, in_folder, first_is_base_name}
+use Rattle.bag_make.proofs.Common.{◌≡◌, ℕ, ◌<◌, ◌≤◌, ◌==◌, ◌⊎◌, inl, inr, true, false, List, [], ◌∷◌, length, take, add_comm, add-one, refl, ap, sym, ◌∙◌, arith, ⊎_elim, position_or_len, and_parts, and_from, eqb-true, ltb-true, cases_lt, take_all, fails_before_first, slash, components, is_path, is_base_name, first_component, under, is_slash, in_folder, first_is_base_name}
 use Rattle.std.proofs.lemmas.List.Splits.{slice_split_none}
-
-none_until : (t : List ℕ) → length t ≤ position_or_len is_slash t → All (λ c. is_slash c ≡ false) t
-none_until t none k d within = fails_before_first is_slash t k d (omega arith)
 
 pub whole : (t : List ℕ) → length t ≤ position_or_len is_slash t → first_component t ≡ t
 whole t none = take_all (position_or_len is_slash t) t none
-
-alone : (t : List ℕ) → length t ≤ position_or_len is_slash t → components t ≡ t ∷ []
-alone t none = slice_split_none is_slash t (none_until t none)
 
 -- a name is its first component
 pub first-name : (name : List ℕ) → is_base_name name ≡ true → first_component name ≡ name
@@ -19,7 +13,7 @@ first-name name is =
 
 -- the first component of a path is a name
 pub first_is_name : (path : List ℕ) → is_path path ≡ true → is_base_name (first_component path) ≡ true
-first_is_name path is = grind (arith, ⊎_elim, first_is_base_name, in_folder, whole, and_from, alone, cases_lt, is_slash)
+first_is_name path is = grind (arith, ⊎_elim, first_is_base_name, in_folder, whole, and_from, cases_lt, is_slash, slice_split_none, fails_before_first)
 
 -- a path is its first component, or stands under it
 pub parts : (path : List ℕ) → (path ≡ first_component path) ⊎ ((rest : List ℕ) × (path ≡ under (first_component path) rest))

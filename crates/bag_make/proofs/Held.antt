@@ -84,20 +84,6 @@ under_no_tag p Fetch e = apart 100 102 refl (ap first e)
 under_no_tag p (Manifest Payload alg) e = apart 100 109 refl (ap first e)
 under_no_tag p (Manifest Tag alg) e = apart 100 116 refl (ap first e)
 
-under_no_manifest : (p alg : List ℕ) (kind : Kind) → under data_folder p ≡ manifest_name kind alg → ⊥
-under_no_manifest p alg Payload e = apart 100 109 refl (ap first e)
-under_no_manifest p alg Tag e = apart 100 116 refl (ap first e)
-
--- a tag file that has a manifest's name is the manifest of that algorithm
-named_manifest : (kind : Kind) (alg : List ℕ) (tag : TagName) → manifest_name kind alg ≡ tag_path tag → (k : Kind) × (a : Alg) × (tag ≡ Manifest k a) × (alg ≡ name a)
-named_manifest Payload alg Declaration e = absurd (apart 109 98 refl (ap first e))
-named_manifest Tag alg Declaration e = absurd (apart 116 98 refl (ap first e))
-named_manifest Payload alg Info e = absurd (apart 109 98 refl (ap first e))
-named_manifest Tag alg Info e = absurd (apart 116 98 refl (ap first e))
-named_manifest Payload alg Fetch e = absurd (apart 109 102 refl (ap first e))
-named_manifest Tag alg Fetch e = absurd (apart 116 102 refl (ap first e))
-named_manifest kind alg (Manifest k a) e = (k, a, refl, one_alg kind k alg (name a) e)
-
 pub none_by : (o : Option (List ℕ)) → ((c : List ℕ) → o ≡ Some c → ⊥) → o ≡ None
 none_by None h = refl
 none_by (Some c) h = absurd (h c refl)
@@ -206,16 +192,6 @@ module _ (bag : Bag) (algs : List Alg) (info : List NewElement) where
   pub no_fetch : file (made bag algs info) (tag_path Fetch) ≡ None
   no_fetch = none_by (file (made bag algs info) (tag_path Fetch)) (tag_held Fetch)
 
-  alg_of : (kind : Kind) (a : Alg) (c : List ℕ) → IsNewText bag algs info (Manifest kind a) c → Contains algs a
-  alg_of Payload a c h = h.0
-  alg_of Tag a c h = h.0
-
-  manifest_by : (kind : Kind) (alg c : List ℕ) → InPayload (manifest_name kind alg) c ⊎ IsNew bag algs info (manifest_name kind alg) c → (a : Alg) × (alg ≡ name a) × Contains algs a
-  manifest_by kind alg c (inl (p, at, h)) = absurd (under_no_manifest p alg kind (sym at))
-  manifest_by kind alg c (inr (tag, at, h)) = grind (arith, named_manifest kind alg tag at, alg_of)
-
   -- its manifests are of its algorithms, whatever the form of their names
   pub manifest_is : (kind : Kind) (alg : List ℕ) → HasFile (made bag algs info) (manifest_name kind alg) → (a : Alg) × (alg ≡ name a) × Contains algs a
-  manifest_is kind alg has =
-      let c = content_of (file (made bag algs info) (manifest_name kind alg)) has in
-      manifest_by kind alg c.0 (held_is (manifest_name kind alg) c.0 c.1)
+  manifest_is kind alg has = grind (arith, content_of, held_is, apart, one_alg)

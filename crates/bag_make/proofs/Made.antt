@@ -1,23 +1,16 @@
 -- What making a bag leaves.
-use Rattle.bag_make.proofs.Common.{arith, ◌≡◌, inl, inr, ◌++◌, List, true, false, Bool, ◌||◌, IsTrue, map, take, All, refl, false_from_ne_true, rank_cmp, Alg, IsBag, files_of, has_folder, TreeState, Keeps, NewElement, File, MadeIsValid, CanAsk, CanTell, HasMade, HasNoFault, Leaves, MayRefuseMaking, is_in_the_way, steps, AreTexts, HasLeft, HasTaken, new_folder, MakeFault, Step, MakeFolder, MoveIn, Rename, Create}
+use Rattle.bag_make.proofs.Common.{arith, ◌≡◌, inl, inr, ◌++◌, List, false, IsTrue, map, take, All, false_from_ne_true, rank_cmp, Alg, IsBag, files_of, TreeState, Keeps, NewElement, File, MadeIsValid, CanAsk, CanTell, HasMade, HasNoFault, Leaves, MayRefuseMaking, is_in_the_way, steps, AreTexts, HasLeft, HasTaken, MakeFault, Step, MakeFolder, MoveIn, Rename, Create}
 use Rattle.std.specs.List.Sorted.{IsStrictlySortedBy}
 use Rattle.bag_make.specs.declared.fault.MakeFault.TheVariants as fault_of
 use Rattle.bag_make.proofs.StepsMake.{steps_make}
 
-no_folder : (file folder : Bool) → ¬ ((file || folder) ≡ true) → folder ≡ false
-no_folder true folder h = absurd (h refl)
-no_folder false folder h = false_from_ne_true folder h
-
 module _ (algs : List Alg) (info : List NewElement) (old mid new : TreeState) (planned : List Step) (is_bag : IsBag old.bag) (keeps : Keeps old mid)
     (are : IsTrue old.honest → (planned ≡ steps old.bag algs info) × (is_in_the_way old.bag ≡ false)) (taken : HasTaken planned mid new) where
   -- nothing had the name of the folder that holds the files meanwhile
-  folder_is_free : IsTrue old.honest → has_folder old.bag new_folder ≡ false
-  folder_is_free honest = grind (arith, no_folder)
-
   -- all steps make the bag
   pub has_made : CanAsk algs info → All AreTexts info → IsStrictlySortedBy rank_cmp algs → (IsTrue old.honest → IsTrue old.plain) → mid.failures ≡ old.failures
       → (IsTrue old.honest → mid.openings ≡ old.openings ++ map (λ (e : File). e.0) (files_of old.bag)) → HasMade algs info old new
-  has_made asked texts ascend plain calm opened = grind (arith, steps_make, folder_is_free)
+  has_made asked texts ascend plain calm opened = grind (arith, steps_make, false_from_ne_true)
 
 -- and it has no fault
 pub made_has_no_fault : MadeIsValid → (algs : List Alg) (info : List NewElement) (old new : TreeState) → IsBag old.bag → HasMade algs info old new → IsTrue old.honest → CanTell old.bag

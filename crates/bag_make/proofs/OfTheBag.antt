@@ -30,12 +30,8 @@ data_where has_data = cond has_data (data_folder ∷ []) []
 pub tops_are : (bag : Bag) (listing : Listing) → IsOrdered listing.files → IsListingOf bag listing → listed_tops listing ≡ tops (files_of bag) (has_folder bag data_folder)
 tops_are bag listing ordered listed = grind (arith, listings_are_of_the_bag bag listing ordered listed, firsts_of (files_of bag))
 
--- a name that is moved is a name, and not that of the folder that is made
-data_is_top : IsTop data_folder
-data_is_top = (refl, λ same. let clash : false ≡ true = ap (λ t. eq_by_cmp text_cmp t new_folder) same ∙ text_itself new_folder in false≢true clash)
-
 data_top : (b : Bool) (t : List ℕ) → Contains (data_where b) t → IsTop t
-data_top true t has = elim (contains_cases data_folder [] t has) [ inl same ↦ subst IsTop same data_is_top | inr none ↦ absurd (contains_nothing t none) ]
+data_top true t has = grind (arith, contains_cases, data_folder, contains_nothing, eq_by_cmp, text_cmp, new_folder, text_itself, false≢true)
 data_top false t has = absurd (contains_nothing t has)
 
 first_top : (path : List ℕ) → is_path path ≡ true → is_within new_folder path ≡ false → IsTop (first_component path)

@@ -1,25 +1,19 @@
 -- The size of a payload that is written is read again.
-use Rattle.bag_make.proofs.Common.{◌≡◌, ℕ, zero, suc, ◌+◌, ◌-◌, ◌<◌, ◌^◌, Bool, true, false, not, ◌||◌, cond, List, [], ◌∷◌, ◌++◌, length, take, drop, reverse, get_or, nat_lt, Option, Some, None, refl, sym, ap, ◌∙◌, arith, codes, bytes_eq, append_assoc, list_all, list_any, prefix_len, suffix_len, before_first, after_first, position_or_len, and_from, lt-ltb, not_from_false, or_from, both_ways, nat_tests, get_or-reverse, take_all, list_any-append, prefix_len_passes, suffix_len-le-length, prefix_len-le-length, bytes_eq-Decides, IsAscii-append, IsUtf8-from_ascii, is_utf8-from_IsUtf8, IsText, is_blank, trim, Oxum, both_true, oxum_text, is_bad_value}
+use Rattle.bag_make.proofs.Common.{◌≡◌, ℕ, zero, suc, ◌+◌, ◌-◌, ◌<◌, ◌^◌, Bool, true, false, not, ◌||◌, cond, List, [], ◌∷◌, ◌++◌, length, take, drop, reverse, get_or, nat_lt, Option, Some, None, refl, sym, ap, ◌∙◌, arith, codes, bytes_eq, append_assoc, list_all, list_any, suffix_len, before_first, after_first, position_or_len, and_from, lt-ltb, not_from_false, or_from, both_ways, nat_tests, get_or-reverse, take_all, list_any-append, prefix_len_passes, suffix_len-le-length, prefix_len-le-length, bytes_eq-Decides, IsAscii-append, IsUtf8-from_ascii, is_utf8-from_IsUtf8, IsText, is_blank, trim, Oxum, both_true, oxum_text, is_bad_value}
 use Rattle.std.specs.Char.{is_ascii_digit}
 use Rattle.std.specs.Fmt.{decimal}
 use Rattle.std.specs.Str.{all_ascii_digits}
 use Rattle.std.specs.Str.Parse.{digits_value}
 use Rattle.std.proofs.lemmas.Fmt.{digits_decimal, digits_value-decimal, decimal_nonempty, IsAscii-decimal}
 use Rattle.std.proofs.lemmas.Str.Parse.{numerals_by_value, tells_all_ascii_digits}
-use Rattle.bag_text.specs.LineEnd.{is_line_end}
-use Rattle.bag_text.specs.Number.{is_digits}
-use Rattle.bag_read.specs.Oxum.{is_number, is_dot, oxum_of}
+use Rattle.bag_read.specs.Oxum.{is_dot, oxum_of}
 use Rattle.bag_read.proofs.Fronts.{front_len, take_front}
 
 -- ---- a text without a blank stays as it is when it is stays_whole
 
 none_at : (p : ℕ → Bool) (t : List ℕ) (i : ℕ) → list_any p t ≡ false → i < length t → p (get_or t i 0) ≡ false
 none_at p [] i e l = absurd (omega arith)
-none_at p (c ∷ t) zero e l = none_first (p c) (list_any p t) e
-  where
-    none_first : (a b : Bool) → (a || b) ≡ false → a ≡ false
-    none_first true b e = cc
-    none_first false b e = refl
+none_at p (c ∷ t) zero e l = grind arith
 none_at p (c ∷ t) (suc i) e l = none_at p t i (none_behind (p c) (list_any p t) e) (omega arith)
   where
     none_behind : (a b : Bool) → (a || b) ≡ false → b ≡ false
@@ -27,12 +21,6 @@ none_at p (c ∷ t) (suc i) e l = none_at p t i (none_behind (p c) (list_any p t
     none_behind false b e = e
 
 module _ (p : ℕ → Bool) (t : List ℕ) (none : list_any p t ≡ false) where
-  no_front : (n : ℕ) → prefix_len p t ≡ n → n ≡ 0
-  no_front zero e = refl
-  no_front (suc n) e =
-      let passes : p (get_or t 0 0) ≡ true = prefix_len_passes p t 0 0 (omega arith) in
-      absurd (both_ways (p (get_or t 0 0)) (none_at p t 0 none (omega (arith, prefix_len-le-length p t))) passes)
-
   no_back : (n : ℕ) → suffix_len p t ≡ n → n ≡ 0
   no_back zero e = refl
   no_back (suc n) e =
@@ -42,7 +30,7 @@ module _ (p : ℕ → Bool) (t : List ℕ) (none : list_any p t ≡ false) where
       absurd (both_ways (p (get_or t (length t - 1 - 0) 0)) (none_at p t (length t - 1 - 0) none (omega arith)) (ap p (sym at) ∙ passes))
 
 stays_whole : (t : List ℕ) → list_any is_blank t ≡ false → trim t ≡ t
-stays_whole t none = grind (arith, no_front, no_back, take_all)
+stays_whole t none = grind (arith, no_back, take_all, prefix_len_passes, both_ways, none_at, prefix_len-le-length)
 
 -- ---- digits
 
@@ -51,12 +39,6 @@ no_digit test h [] e = refl
 no_digit test h (c ∷ t) e =
     let two = both_true (is_ascii_digit c) (all_ascii_digits t) e in
     or_from (test c) (list_any test t) (h c two.0) (no_digit test h t two.1)
-
-digit_no_blank : (c : ℕ) → is_ascii_digit c ≡ true → is_blank c ≡ false
-digit_no_blank c e = grind (arith, nat_tests)
-
-digit_no_end : (c : ℕ) → is_ascii_digit c ≡ true → is_line_end c ≡ false
-digit_no_end c e = grind (arith, nat_tests)
 
 digits_no_dot : (t : List ℕ) → all_ascii_digits t ≡ true → list_all (λ c. not (is_dot c)) t ≡ true
 digits_no_dot [] e = refl
@@ -80,9 +62,6 @@ module _ (n : ℕ) (small : n < 2 ^ 64) where
       some_text : (t : List ℕ) → 0 < length t → bytes_eq t [] ≡ false
       some_text [] l = absurd (omega arith)
       some_text (c ∷ t) l = refl
-
-  number_reads : is_number (decimal n) ≡ true
-  number_reads = and_from (is_digits (decimal n)) _ (and_from _ _ some_digit are_digits) (ap (λ v. nat_lt v (2 ^ 64)) value_is ∙ lt-ltb n (2 ^ 64) small)
 
 module _ (sums : Oxum) (octets : sums.octets < 2 ^ 64) (streams : sums.streams < 2 ^ 64) where
   abbrev front : List ℕ
@@ -113,7 +92,7 @@ module _ (sums : Oxum) (octets : sums.octets < 2 ^ 64) (streams : sums.streams <
 
   -- it is read as the same two numbers
   pub oxum_reads : oxum_of (oxum_text sums) ≡ Some sums
-  oxum_reads = grind (arith, chosen, and_from, before, number_reads, after, value_is)
+  oxum_reads = grind (arith, chosen, and_from, before, after, value_is, some_digit, are_digits, nat_lt, lt-ltb)
 
   pub oxum_is_text : IsText (oxum_text sums)
   oxum_is_text =
@@ -129,4 +108,4 @@ module _ (sums : Oxum) (octets : sums.octets < 2 ^ 64) (streams : sums.streams <
 
   -- and can be written
   pub oxum_is_good : is_bad_value (oxum_text sums) ≡ false
-  oxum_is_good = grind (arith, or_from, none_in, digit_no_end, bytes_eq-Decides, stays_whole, digit_no_blank)
+  oxum_is_good = grind (arith, or_from, none_in, bytes_eq-Decides, stays_whole, nat_tests)

@@ -1,6 +1,5 @@
 -- Stage 2: the parts of a made bag are there, and its algorithms are supported.
 use Rattle.bag_make.proofs.Common.{arith, ◌≡◌, ◌≢◌, ℕ, true, false, List, [], ◌∷◌, refl, sym, ap, ◌∙◌, subst, Contains, nat_list_cmp_total, contains-insert, eq_by_cmp, or_left, name, text_cmp, IsNoText, Alg, Code, NoPayloadFolder, NoPayloadManifest, AlgorithmUnsupported, NotUtf8, contains_first, Payload, TagName, Declaration, Info, Fetch, Manifest, name_named, name_is_text, Bag, file, has_folder, text_itself, Fault, NewElement, InfoIsReadAgain, ManifestIsReadAgain, entries_of, data_folder, CanMake, IsNewText}
-use Rattle.std.specs.FinSet as set
 use Rattle.bag_stages.specs.PartsStage.{PartHolds, IsOfParts}
 use Rattle.bag_read.specs.LineFault.{not_utf8}
 use Rattle.bag_make.specs.Made.{made}
@@ -13,13 +12,10 @@ some_member : (algs : List Alg) → algs ≢ [] → (alg : Alg) × Contains algs
 some_member [] some = absurd (some refl)
 some_member (alg ∷ algs) some = (alg, contains_first alg algs)
 
-put_there : (names : set.FinSet text_cmp) → set.contains (set.insert names data_folder) data_folder ≡ true
-put_there names = contains-insert nat_list_cmp_total names data_folder data_folder ∙ or_left (eq_by_cmp text_cmp data_folder data_folder) (set.contains names data_folder) (text_itself data_folder)
-
 module _ (bag : Bag) (algs : List Alg) (info : List NewElement) where
   pub has_data : has_folder (made bag algs info) data_folder ≡ true
   unfolding made
-  has_data = put_there _
+  has_data = grind (arith, contains-insert, nat_list_cmp_total, data_folder, or_left, eq_by_cmp, text_cmp, text_itself)
 
   module _ (can : CanMake bag algs info) (info_read : InfoIsReadAgain) (manifest_read : ManifestIsReadAgain) where
     -- each tag file that is read as lines is a text

@@ -1,5 +1,6 @@
 -- What manifests name is in path order.
-use Rattle.bag_make.proofs.Common.{◌≡◌, ℕ, true, List, [], ◌∷◌, map, Ordering, refl, ◌∙◌, is_sorted, entries_sorted, below_all, AllByRecursion, is_lt, Less, Equal, Greater, and_parts, rank_cmp, text_cmp, Alg, Md5, tag_path, Payload, Declaration, Info, Manifest, files_of, AreInPathOrder, ManifestsAscend, File, new_payload, manifest}
+use Rattle.std.proofs.Common.{arith}
+use Rattle.bag_make.proofs.Common.{◌≡◌, ℕ, true, List, [], ◌∷◌, map, Ordering, refl, ◌∙◌, is_sorted, entries_sorted, below_all, AllByRecursion, is_lt, Less, Equal, Greater, and_parts, rank_cmp, text_cmp, Alg, tag_path, Payload, Declaration, Info, Manifest, files_of, AreInPathOrder, ManifestsAscend, File, new_payload, manifest}
 use Rattle.std.specs.List.Sorted.{IsStrictlySortedBy}
 use Rattle.bag_make.proofs.Held.{true_from}
 use Rattle.bag_make.proofs.PayloadIsTheFolder.{sorted_payload}
@@ -21,12 +22,6 @@ rising (e ∷ es) h = let two = and_parts (below_all text_cmp e.0 es) (is_sorted
 abbrev path_of : Alg → List ℕ
 path_of alg = tag_path (Manifest Payload alg)
 
--- the names of manifests are in the order of their algorithms
-path_order : (a b : Alg) → text_cmp (path_of a) (path_of b) ≡ rank_cmp a b
-path_order Md5 Md5 = refl
-path_order _ Md5 = refl
-path_order _ _ = refl
-
 module _ (text : Alg → List ℕ) where
   abbrev manifests : List Alg → List File
   manifests algs = map (λ alg. (path_of alg, text alg)) algs
@@ -37,7 +32,7 @@ module _ (text : Alg → List ℕ) where
 
   above_manifest : (a : Alg) (algs : List Alg) → AllByRecursion (λ b. rank_cmp a b ≡ Less) algs → AllByRecursion (λ p. text_cmp (path_of a) p ≡ Less) (map (λ (e : File). e.0) (manifests algs))
   above_manifest a [] up = tt
-  above_manifest a (b ∷ algs) up = (path_order a b ∙ up.0, above_manifest a algs up.1)
+  above_manifest a (b ∷ algs) up = grind (arith, above_manifest a algs up.1)
 
   manifests_rise : (algs : List Alg) → IsStrictlySortedBy rank_cmp algs → AreInPathOrder (manifests algs)
   unfolding IsStrictlySortedBy

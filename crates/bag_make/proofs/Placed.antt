@@ -1,5 +1,5 @@
 -- Where the files of a bag are while it is made.
-use Rattle.bag_make.proofs.Common.{arith, ◌≡◌, ◌≢◌, ℕ, inl, inr, Bool, true, false, ◌||◌, cond, List, [], ◌∷◌, Some, is_some, bytes_eq, drop, map, append_assoc, Contains, refl, ap, sym, ◌∙◌, get-entries, get-empty, AllByRecursion, false≢true, or_left, or_right, bytes_eq-Decides, slash, is_base_name, first_component, under, text_cmp, contains_cases, contains_nothing, any_from, Bag, HasFile, file, files_of, first-under, Files, move_in, is_within, renamed, moved, IsWithin, within_cases, itself_within, under_within, not_within, goes_itself, goes_under, stays, data_folder, is_in_the_way, new_folder, after_steps, MoveIn}
+use Rattle.bag_make.proofs.Common.{arith, ◌≡◌, ◌≢◌, ℕ, inl, inr, Bool, true, false, ◌||◌, cond, List, [], ◌∷◌, Some, is_some, bytes_eq, drop, map, append_assoc, Contains, ap, sym, ◌∙◌, get-entries, get-empty, AllByRecursion, false≢true, or_left, or_right, bytes_eq-Decides, slash, is_base_name, first_component, under, text_cmp, contains_cases, contains_nothing, any_from, Bag, HasFile, file, files_of, first-under, Files, move_in, is_within, renamed, moved, within_cases, itself_within, under_within, not_within, goes_itself, goes_under, stays, data_folder, is_in_the_way, new_folder, after_steps, MoveIn}
 use Rattle.std.specs.FinMap as fin
 use Rattle.std.specs.FinSet as set
 use Rattle.bag_make.proofs.Held.{content_of, found, has_listed, one_file}
@@ -55,10 +55,6 @@ placed_by done p = cond (done (first_component p)) (under new_folder p) p
 abbrev with_name : (List ℕ → Bool) → List ℕ → List ℕ → Bool
 with_name done top t = done t || bytes_eq t top
 
-name_within : (top k : List ℕ) → is_base_name top ≡ true → IsWithin top k → first_component k ≡ top
-name_within top k base (inl itself) = ap first_component itself ∙ first-name top base
-name_within top k base (inr below) = ap first_component below.1 ∙ first-under top below.0 base
-
 within_first : (top k : List ℕ) → first_component k ≡ top → is_within top k ≡ true
 within_first top k first = grind (arith, parts, itself_within, under_within)
 
@@ -75,16 +71,7 @@ abbrev pub IsTop : List ℕ → Type 0
 IsTop top = (is_base_name top ≡ true) × (top ≢ new_folder)
 
 goes_on : (done : List ℕ → Bool) (top p : List ℕ) → IsTop top → renamed top (under new_folder top) (placed_by done p) ≡ placed_by (with_name done top) p
-goes_on done top p is =
-    elim (done (first_component p)) as (λ b. renamed top (under new_folder top) (cond b (under new_folder p) p) ≡ cond (b || bytes_eq (first_component p) top) (under new_folder p) p) [
-      | true ↦ stays top (under new_folder top) (under new_folder p)
-          (not_within top (under new_folder p) (λ within. is.1 (sym (name_within top (under new_folder p) is.0 within) ∙ first-under new_folder p refl)))
-      | false ↦ elim (bytes_eq (first_component p) top) as (λ b. bytes_eq (first_component p) top ≡ b → renamed top (under new_folder top) p ≡ cond b (under new_folder p) p) [
-        | true ↦ λ same. goes_in top p (within_first top p ((bytes_eq-Decides (first_component p) top).0 same))
-        | false ↦ λ other. stays top (under new_folder top) p
-            (not_within top p (λ within. false≢true (sym other ∙ (bytes_eq-Decides (first_component p) top).1 (name_within top p is.0 within))))
-      ] refl
-    ]
+goes_on done top p is = grind (arith, first_component, renamed, under, new_folder, stays, not_within, first-under, goes_in, within_first, bytes_eq-Decides, false≢true, first-name)
 
 module _ (bag : Bag) (free : is_in_the_way bag ≡ false) where
   pub none_within : (r : List ℕ) → HasFile bag r → is_within new_folder r ≡ true → ⊥

@@ -1,5 +1,5 @@
 -- Summing files one after another.
-use Rattle.bag_make.proofs.Common.{◌≡◌, ◌≢◌, ◌<◌, ◌≤◌, ◌+◌, ◌++◌, ◌∷◌, inl, inr, ℕ, List, [], length, take, get_or, Some, IsTrue, All, Contains, refl, sym, ap, ◌∙◌, subst, arith, append_assoc, append-nil, slice_get, option_map, map-append, take_all, take-map, All-nil, All-cons, All-append, All-contains, slice_get_read, slice_get-map, slice_get_within, under, Alg, contains_first, file, RefusesNothing, TreeState, CameFromFile, IsEntryOf, Keeps, OpensAtMost, Refused, FileEntry, Stop, TreeFault, IsOutOfMemory, IsRefusalOf, MayRefuseFacts, paths_of, take_one_more, keeps_itself, keeps_on, later_refusal, came_from, refused_file, told_memory, File, data_folder, new_payload, IsAtFile, StopsSumming, HasItsSums, AreSummed, IsSummedEntry, AreSummedFiles, OpensFirstOf, entry_of, SummedFile}
+use Rattle.bag_make.proofs.Common.{◌≡◌, ◌≢◌, ◌<◌, ◌≤◌, ◌+◌, ◌++◌, ◌∷◌, inl, inr, ℕ, List, [], length, take, get_or, Some, All, Contains, sym, ap, ◌∙◌, subst, arith, append_assoc, append-nil, slice_get, map-append, take_all, take-map, All-nil, All-cons, All-append, All-contains, slice_get_read, slice_get-map, slice_get_within, under, Alg, contains_first, file, RefusesNothing, TreeState, CameFromFile, IsEntryOf, Keeps, OpensAtMost, Refused, FileEntry, Stop, TreeFault, IsOutOfMemory, IsRefusalOf, MayRefuseFacts, paths_of, take_one_more, keeps_itself, keeps_on, later_refusal, came_from, refused_file, told_memory, File, data_folder, new_payload, StopsSumming, HasItsSums, AreSummed, IsSummedEntry, AreSummedFiles, OpensFirstOf, entry_of, SummedFile}
 use Rattle.bag_tree.specs.Whole.{IsRefusedAt, MayRefuseWhole}
 use Rattle.bag_tree.specs.declared.tree_fault.TreeFault.TheVariants.{Changed}
 use Rattle.bag_tree.proofs.Calm.{memory_then, nothing_asked, nothing_then}
@@ -79,28 +79,13 @@ module _ (files : List FileEntry) (i : ℕ) (entry : FileEntry) (algs : List Alg
   first_paths : (count : ℕ) → paths_of (take count files) ≡ take count (paths_of files)
   first_paths count = sym (take-map (λ (e : FileEntry). e.path) count files)
 
-  still : new.openings ≡ mid.openings → new.openings ≡ old.openings ++ take i (paths_of files)
-  still none = none ∙ before.opened ∙ ap (λ xs. old.openings ++ xs) (first_paths i)
-
-  opened_next : new.openings ≡ mid.openings ++ entry.path ∷ [] → new.openings ≡ old.openings ++ take (i + 1) (paths_of files)
-  opened_next once = opened_more once ∙ ap (λ xs. old.openings ++ xs) (first_paths (i + 1))
-
-  its_path : slice_get (paths_of files) i ≡ Some entry.path
-  its_path = slice_get-map (λ (e : FileEntry). e.path) files i ∙ ap (option_map (λ (e : FileEntry). e.path)) (slice_get_read files (length files) i entry refl lt is)
-
-  at_the_file : (path : List ℕ) → IsAtFile (entry.path ∷ []) mid new path → IsAtFile (paths_of files) old new path
-  at_the_file path (k, at, refused) = grind (arith, slice_get_within, slice_get, its_path, append-nil, first_paths)
-
   -- it stopped at a file
   pub opens_first : OpensAtMost mid new entry.path → OpensFirstOf (paths_of files) old new
-  opens_first (inl none) = (i, still none)
-  opens_first (inr once) = (i + 1, opened_next once)
-
-  entry_is : (IsTrue old.honest → All (IsEntryOf old.bag) files) → IsTrue mid.honest → All (IsEntryOf mid.bag) (entry ∷ [])
-  entry_is are honest = grind (arith, listed)
+  opens_first (inl none) = grind (arith, first_paths)
+  opens_first (inr once) = grind (arith, opened_more, first_paths)
 
   pub stops_at : (stop : Stop) → StopsSumming (entry ∷ []) mid new stop → StopsSumming files old new stop
-  stops_at stop h = grind (arith, later_refusal, entry_is, at_the_file, memory_then)
+  stops_at stop h = grind (arith, later_refusal, memory_then, listed, slice_get_within, slice_get, append-nil, first_paths, slice_get-map, slice_get_read)
 
 -- all were gone through
 module _ (files : List FileEntry) (count : ℕ) (algs : List Alg) (old new : TreeState) (summed : List SummedFile) (le : length files ≤ count) (all : SumsFirst files count algs old new summed) where
