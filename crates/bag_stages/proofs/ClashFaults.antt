@@ -31,13 +31,6 @@ pub record AreFirsts (names seen : List (List ℕ)) (first : List ℕ → Option
 pub no_firsts : (names : List (List ℕ)) (first : List ℕ → Option (List ℕ)) → ((form : List ℕ) → first form ≡ None) → AreFirsts names [] first
 no_firsts names first none = grind (arith, contains_nothing)
 
--- whose first name a form has, where one more name is seen
-first_by : (o : Option (List ℕ)) (b : Bool) (name form n : List ℕ) → bytes_eq (nfc_of name) form ≡ b → first_with o name form ≡ Some n
-    → (o ≡ Some n) ⊎ ((o ≡ None) × (nfc_of name ≡ form) × (name ≡ n))
-first_by (Some first) b name form n is e = inl e
-first_by None true name form n is e = grind (arith, bytes_eq-Decides)
-first_by None false name form n is e = let clash : None ≡ Some n = sym (ap (λ t. if t then Some name else None) is) ∙ e in cc
-
 still_some : (o : Option (List ℕ)) (name form : List ℕ) → o ≢ None → first_with o name form ≢ None
 still_some None name form some = absurd (some refl)
 still_some (Some first) name form some = some
@@ -61,7 +54,7 @@ module _ (names : List (List ℕ)) (i : ℕ) (name : List ℕ) (sorted : IsStric
     cases form n = (old form ≡ Some n) ⊎ ((old form ≡ None) × (nfc_of name ≡ form) × (name ≡ n))
 
     of_new : (form n : List ℕ) → new form ≡ Some n → cases form n
-    of_new form n e = first_by (old form) (bytes_eq (nfc_of name) form) name form n refl (sym (made form) ∙ e)
+    of_new form n e = grind (arith, nfc_of, bytes_eq-Decides)
 
     pub one_name_more : AreFirsts names (take (i + 1) names) new
     one_name_more = record {

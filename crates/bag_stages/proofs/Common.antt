@@ -1,7 +1,7 @@
 -- The names that this crate's proofs cite, passed on from one place. Declares nothing.
 pub use Rattle.std.proofs.Common.{Bool, Contains, IsTrue, List, None, Option, Some, [], add-one, ap, append-nil, append_assoc, arith, bytes_eq, codes, cond, drop, false, get_or, inl, inr, is_lt, is_some, length, map, min, not, of_calls, position, refl, rules, string_bytes, subst, suc, sum_by, sym, take, take-append-drop, true, zero, ℕ, ◌*◌, ◌++◌, ◌+◌, ◌-◌, ◌<◌, ◌==◌, ◌^◌, ◌↔◌, ◌∙◌, ◌∷◌, ◌≡◌, ◌≢◌, ◌≤◌, ◌⊎◌}
 pub use Rattle.std.proofs.Math.ListN.{get_or-map}
-pub use Rattle.std.proofs.lemmas.Bool.Decides.{Decides-eqb, nat_tests}
+pub use Rattle.std.proofs.lemmas.Bool.Decides.{nat_tests}
 pub use Rattle.std.proofs.lemmas.Grind.{common_steps}
 pub use Rattle.std.proofs.lemmas.List.{append_cancel_left, get_or_default, length-map, length-take, map-append, take-append-le, take-map, take_all, take_min, take_rest}
 pub use Rattle.std.proofs.lemmas.List.Elements.{All-contains, filter-append, filter_map-append}

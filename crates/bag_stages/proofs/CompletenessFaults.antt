@@ -1,4 +1,5 @@
 -- The faults of completeness and of names.
+use Rattle.std.proofs.Common.{arith}
 use Rattle.bag_stages.proofs.Common.{◌≡◌, ◌⊎◌, inl, inr, ◌++◌, List, [], Bool, true, false, Option, None, Some, refl, sym, ap, ◌∙◌, subst, is_lt, IsPermutation, IsSortedBy, stage, IsListOf, Alg, Code, PayloadFileMissing, TagFileMissing, PayloadFileNotListed, NameClash, nothing_listed, same_members, Kind, Payload, Tag, Bag, of_path, fault_cmp, Fault, rules_in, At, IsLeftOut, IsClashFault, IsSoughtClash, missing_code, HasEachOnce, IsIncomplete, IsMissingFromSome, IsNotListed, IsUnlistedInAll, IsWrongOfSome, CompletenessFaultsAreOfStageSix, IsPayloadFile, IsSoughtInStageSix}
 use Rattle.bag_stages.proofs.LeftOut.{by_all, by_one, left_out_by, not_both}
 use Rattle.bag_stages.specs.CompletenessStage.{CompletenessHolds, IsOfCompleteness}
@@ -81,9 +82,6 @@ module _ (bag : Bag) (f : Fault) where
   pub is_either : IsOfCompleteness bag f → IsIncomplete bag f ⊎ IsClashFault bag f
   is_either h = elim (is_incomplete h) [ inl a ↦ inl a | inr e ↦ inr (h, e) ]
 
-  missing_apart : IsMissingFromSome bag Payload f → IsMissingFromSome bag Tag f → ⊥
-  missing_apart h k = let clash : PayloadFileMissing ≡ TagFileMissing = sym (missing_code_is Payload h) ∙ missing_code_is Tag k in cc
-
   unlisted_apart : IsMissingFromSome bag Payload f ⊎ IsMissingFromSome bag Tag f → IsNotListed bag f → ⊥
   unlisted_apart (inl h) k = let clash : PayloadFileMissing ≡ PayloadFileNotListed = sym (missing_code_is Payload h) ∙ unlisted_code_is k in cc
   unlisted_apart (inr h) k = let clash : TagFileMissing ≡ PayloadFileNotListed = sym (missing_code_is Tag h) ∙ unlisted_code_is k in cc
@@ -112,7 +110,7 @@ module _ (bag : Bag) where
   of_one_or_all f (inr (inr h)) = inr h
 
   tags_apart : (f : Fault) → IsWrongOfSome bag f → IsMissingFromSome bag Tag f → ⊥
-  tags_apart f (alg, inl h) k = missing_apart bag f (alg, h) k
+  tags_apart f (alg, inl h) k = grind (arith, missing_code_is)
   tags_apart f (alg, inr h) k = unlisted_apart bag f (inr k) (inl (alg, h))
 
   all_apart : (f : Fault) → OfOne f → IsUnlistedInAll bag f → ⊥

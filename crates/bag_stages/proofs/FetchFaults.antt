@@ -11,17 +11,10 @@ use Rattle.bag_stages.proofs.LeftOut.{by_all, by_one, left_out_by, not_both}
 use Rattle.bag_stages.proofs.ManifestFaults.{names_entry, entry_names}
 use Rattle.bag_stages.proofs.Sorted.{sorted_together}
 
-reason_stage : (bag : Bag) (c : Code) → IsReasonCode (rules_in bag) c → stage c ≡ 4
-reason_stage bag FetchLine is = refl
-reason_stage bag FetchEscape is = refl
-reason_stage bag FetchUnsafePath is = refl
-reason_stage bag FetchOutsidePayload is = refl
-reason_stage bag other is = absurd is
-
 -- what is wrong with a text is found at the fourth stage
 text_stage : (bag : Bag) (c : Code) (bytes : List ℕ) (x : LineFault) → is_utf8 bytes ≡ true → FetchFault (rules_in bag) c bytes x → stage c ≡ 4
 text_stage bag NotUtf8 bytes x text h = let clash : true ≡ false = sym text ∙ h.2 in cc
-text_stage bag c bytes x text h = reason_stage bag c (reason_code (rules_in bag) h.0 (c, x.detail) h.2.1)
+text_stage bag c bytes x text h = grind (arith, reason_code, rules_in)
 
 -- bytes that aren't UTF-8 are of the second stage
 other_stage : stage NotUtf8 ≡ 4 → ⊥
@@ -46,14 +39,6 @@ module _ (bag : Bag) (f : Fault) where
   holds_stage FetchNotInManifest h = refl
   holds_stage other h = absurd h
 
-  line_row : (c : Code) → IsReasonCode (rules_in bag) c → InFetch bag f → FetchHolds bag f c
-  unfolding FetchHolds
-  line_row FetchLine is h = h
-  line_row FetchEscape is h = h
-  line_row FetchUnsafePath is h = h
-  line_row FetchOutsidePayload is h = h
-  line_row other is h = absurd is
-
   -- payload manifests leave a file out: one does, or all do
   not_listed : f.code ≡ FetchNotInManifest → (e : FetchEntry) → At f fetch_txt f.alg e.line e.path → HasFetch bag e → IsLeftOut (rules_in bag) bag f.alg e.path → IsNotListed bag f
   not_listed code e at has out =
@@ -62,14 +47,6 @@ module _ (bag : Bag) (f : Fault) where
         | inl one ↦ inl (one.0, (one.1.0, (code, (e, told (Some one.1.0) one.1.1, has, one.1.2))))
         | inr all ↦ inr (all.0, (code, (e, told None all.1, has, all.2)))
       ]
-
-  untold : (e : FetchEntry) (alg : Option Alg) → At f fetch_txt alg e.line e.path → At f fetch_txt f.alg e.line e.path
-  untold e alg at = subst (λ a. At f fetch_txt a e.line e.path) (sym at.alg_is) at
-
-  listed_holds : IsNotListed bag f → FetchHolds bag f FetchNotInManifest
-  unfolding FetchHolds
-  listed_holds (inl (by, (alg, (code, (e, at, has, out))))) = grind (arith, untold, by_one)
-  listed_holds (inr (by, (code, (e, at, has, out)))) = grind (arith, untold, by_all)
 
   pub listed_code : IsNotListed bag f → f.code ≡ FetchNotInManifest
   listed_code (inl (by, (alg, (code, more)))) = code
@@ -90,8 +67,8 @@ module _ (bag : Bag) (f : Fault) where
 
   pub some_is : IsOfLine ⊎ IsNotListed bag f → IsOfFetch bag f
   unfolding IsOfFetch FetchHolds
-  some_is (inl h) = line_row f.code (line_code bag f.code h.0.2.0 (in_line f) h.1 h.0.2.2) h.0
-  some_is (inr h) = subst (FetchHolds bag f) (sym (listed_code h)) (listed_holds h)
+  some_is (inl h) = grind (arith, line_code, in_line)
+  some_is (inr h) = grind (arith, listed_code, by_one, by_all)
 
 pub fetch_of_stage_four : FetchFaultsAreOfStageFour
 unfolding IsOfFetch

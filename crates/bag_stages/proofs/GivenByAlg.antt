@@ -1,5 +1,5 @@
 -- What manifests give for a file, one algorithm after another.
-use Rattle.bag_stages.proofs.Common.{arith, ◌≡◌, ◌<◌, ◌≤◌, ◌+◌, ◌++◌, ◌∷◌, ◌⊎◌, ◌↔◌, inl, inr, ℕ, List, [], length, map, take, get_or, Option, None, Some, Contains, refl, sym, ap, ◌∙◌, subst, filter_map, cons_option, option_to_list, map-append, filter_map-append, algs, IsListOf, IsOnly, contains_back, contains_cases, contains_either, contains_first, contains_front, contains_nothing, Alg, Kind, Bag, file, fault_cmp, Fault, take_one_more, Names, AreNaming, IsGivenBy, differing, faults_of_bytes, kind_of, IsFaultOfFile, Expected}
+use Rattle.bag_stages.proofs.Common.{arith, ◌≡◌, ◌<◌, ◌≤◌, ◌+◌, ◌++◌, ◌∷◌, ◌⊎◌, ◌↔◌, inl, inr, ℕ, List, [], length, map, take, get_or, Option, None, Some, Contains, sym, subst, filter_map, cons_option, option_to_list, map-append, filter_map-append, algs, IsListOf, IsOnly, contains_back, contains_cases, contains_either, contains_first, contains_front, contains_nothing, Alg, Kind, Bag, file, fault_cmp, Fault, take_one_more, Names, AreNaming, IsGivenBy, differing, faults_of_bytes, kind_of, IsFaultOfFile, Expected}
 use Rattle.bag_facts.proofs.AlgsOf.{all_algs, no_alg_yet, one_alg_more, one_alg_other, AreThose}
 use Rattle.bag_stages.proofs.ByItem.{OfSome, no_items}
 use Rattle.bag_stages.proofs.SumFaults as of_sum
@@ -8,13 +8,8 @@ use Rattle.bag_stages.proofs.SumFaults.{none_by_alg, only_differing, spelled_is_
 abbrev pub algs_of : List Expected → List Alg
 algs_of expected = map (λ one. one.alg) expected
 
--- a list, and one more at its end
-option_same : (h : Expected → Option Fault) (one : Expected) (o : Option Fault) → h one ≡ o → option_to_list (h one) ≡ filter_map h (one ∷ [])
-option_same h one None e = (λ j. option_to_list (e j)) ∙ (λ j. cons_option (sym e j) [])
-option_same h one (Some f) e = (λ j. option_to_list (e j)) ∙ (λ j. cons_option (sym e j) [])
-
 pub pushed : (h : Expected → Option Fault) (before : List Expected) (one : Expected) → filter_map h before ++ option_to_list (h one) ≡ filter_map h (before ++ one ∷ [])
-pushed h before one = ap (λ l. filter_map h before ++ l) (option_same h one (h one) refl) ∙ sym (filter_map-append h before (one ∷ []))
+pushed h before one = grind (arith, filter_map, filter_map-append, option_to_list, cons_option)
 
 -- one more of them was looked at
 pub looked_at : (h : Expected → Option Fault) (xs : List Expected) (i : ℕ) (x : Expected) (before : List Fault) (o : Option Fault) → i < length xs → x ≡ get_or xs i x

@@ -205,14 +205,8 @@ module _ (bag : Bag) (f : Fault) where
   unfolding IsOfManifests
   of_some h = some_of_holds f.code refl h
 
-  -- it is of a file that is there
-  of_manifest_at : (kind : Kind) (alg : Alg) → IsOfManifest bag kind alg f → (f.path ≡ manifest_of kind alg) × HasFile bag (manifest_of kind alg)
-  of_manifest_at Payload alg (inl h) = absurd h
-  of_manifest_at Tag alg (inl h) = (h.2.1.path_is, h.2.2)
-  of_manifest_at kind alg (inr h) = (h.0.0, ap is_some h.0.2.1)
-
   of_tag_at : (tag : TagName) → IsOfTag tag → (f.path ≡ tag_path tag) × HasFile bag (tag_path tag)
-  of_tag_at (tag_name.Manifest kind alg) h = of_manifest_at kind alg h
+  of_tag_at (tag_name.Manifest kind alg) h = grind arith
   of_tag_at other h = absurd h
 
   pub of_tag_is : (tag : TagName) → IsOfTag tag → IsOfManifests bag f

@@ -1,5 +1,5 @@
 -- The faults of the metadata.
-use Rattle.bag_stages.proofs.Common.{arith, ◌≡◌, ◌≢◌, ◌⊎◌, inl, inr, ◌++◌, ℕ, List, [], ◌∷◌, map, Option, None, Some, Bool, true, false, is_lt, refl, sym, ap, ◌∙◌, subst, if◌then◌else◌, IsPermutation, IsSortedBy, is_utf8, stage, IsLine, lines_of_file, IsListOf, Code, NotUtf8, InfoLine, OxumMalformed, OxumAgain, OxumDiffers, NoOxum, nothing_listed, same_members, IsElement, InfoFault, IsInfoFault, AreFaults, LineFault, Oxum, elements_of, Bag, file, Fault, fault_cmp, fault_cmp_total, fault_cmp_same, rules_in, IsReadOf, IsMetadataOf, in_file, in_line, InFile, bag_info_txt, MetadataFaultsAreOfStageThree, no_oxum, oxums, oxum_faults, oxum, lines_or_none}
+use Rattle.bag_stages.proofs.Common.{arith, ◌≡◌, ◌⊎◌, inl, inr, ◌++◌, ℕ, List, [], ◌∷◌, map, Option, None, Some, Bool, true, false, is_lt, refl, sym, ap, ◌∙◌, subst, if◌then◌else◌, IsPermutation, IsSortedBy, is_utf8, stage, IsLine, lines_of_file, IsListOf, Code, NotUtf8, InfoLine, OxumMalformed, OxumAgain, OxumDiffers, NoOxum, nothing_listed, same_members, IsElement, InfoFault, IsInfoFault, AreFaults, LineFault, Oxum, elements_of, Bag, file, Fault, fault_cmp, fault_cmp_total, fault_cmp_same, rules_in, IsReadOf, IsMetadataOf, in_file, in_line, InFile, bag_info_txt, MetadataFaultsAreOfStageThree, no_oxum, oxums, oxum_faults, oxum, lines_or_none}
 use Rattle.bag_facts.specs.declared.tag_facts.Metadata.{Metadata}
 use Rattle.bag_stages.specs.MetadataStage.{MetadataHolds, IsOfMetadata}
 use Rattle.bag_stages.proofs.InFile.{listed_in_file}
@@ -18,10 +18,6 @@ no_lines bytes line k e h = let none : IsLine [] k line = rw e at h in let clash
 no_line_fault : (bag : Bag) (c : Code) (bytes : List ℕ) (x : LineFault) → is_utf8 bytes ≡ false → c ≡ InfoLine → InfoFault (rules_in bag) c bytes x → ⊥
 no_line_fault bag InfoLine bytes x lacks e h = no_lines bytes h.0 x.line lacks h.2
 no_line_fault bag c bytes x lacks e h = no_lines bytes (subst (λ d. InfoFault (rules_in bag) d bytes x) e h).0 x.line lacks (subst (λ d. InfoFault (rules_in bag) d bytes x) e h).2
-
-line_or_other : (c : Code) → (c ≡ InfoLine) ⊎ (c ≢ InfoLine)
-line_or_other InfoLine = inl refl
-line_or_other c = inr (λ e. cc)
 
 module _ (bag : Bag) where
   -- a fault of a line, beside those of elements
@@ -67,12 +63,8 @@ module _ (bag : Bag) where
   either_is f (inl h) = h.0
   either_is f (inr h) = h.0
 
-  either_by : (f : Fault) → (f.code ≡ InfoLine) ⊎ (f.code ≢ InfoLine) → IsOfMetadata bag f → IsOfOxum bag f ⊎ IsOfLine f
-  either_by f (inl e) h = inr (h, e)
-  either_by f (inr other) h = inl (h, other)
-
   pub is_either : (f : Fault) → IsOfMetadata bag f → IsOfOxum bag f ⊎ IsOfLine f
-  is_either f h = either_by f (line_or_other f.code) h
+  is_either f h = grind arith
 
   -- what was read of the file tells the faults
   read_listed : (bytes : List ℕ) (metadata : Metadata) (faults : List Fault) → file bag bag_info_txt ≡ Some bytes → IsMetadataOf (rules_in bag) bytes metadata
@@ -112,14 +104,8 @@ module _ (bag : Bag) where
       → IsListOf fault_cmp (IsOfMetadata bag) faults
   unread_metadata_listed path faults read at is = rw (is, at) (unread_by (file bag bag_info_txt) refl read)
 
-  -- the bytes of which something was read
-  bytes_by : (content : Option (List ℕ)) (metadata : Metadata) → file bag bag_info_txt ≡ content → IsReadOf (IsMetadataOf (rules_in bag)) content (Some metadata)
-      → (bytes : List ℕ) × (file bag bag_info_txt ≡ Some bytes) × IsMetadataOf (rules_in bag) bytes metadata
-  bytes_by None metadata there read = absurd read
-  bytes_by (Some bytes) metadata there read = (bytes, there, read)
-
   pub bytes_read : (metadata : Metadata) → IsReadOf (IsMetadataOf (rules_in bag)) (file bag bag_info_txt) (Some metadata) → (bytes : List ℕ) × (file bag bag_info_txt ≡ Some bytes) × IsMetadataOf (rules_in bag) bytes metadata
-  bytes_read metadata read = bytes_by (file bag bag_info_txt) metadata refl read
+  bytes_read metadata read = grind (arith, file, bag_info_txt)
 
   -- the faults are of the third stage
   holds_stage : (f : Fault) (c : Code) → MetadataHolds bag f c → stage c ≡ 3

@@ -1,5 +1,5 @@
 -- The faults of the elements that tell the payload's size are those of the bag.
-use Rattle.bag_stages.proofs.Common.{◌≡◌, ◌≢◌, ◌<◌, ◌≤◌, ◌↔◌, inl, inr, ◌++◌, ℕ, List, [], ◌∷◌, map, Option, None, Some, Bool, true, false, cond, refl, sym, ap, ◌∙◌, subst, arith, Contains, nat_cmp, on, Ordering, Less, Decides-eqb, IsStrictlySortedBy-filter, stage, IsListOf, Code, InfoLine, OxumMalformed, OxumAgain, OxumDiffers, NoOxum, contains_cases, contains_first, contains_behind, contains_nothing, contains_front, contains_back, contains_either, each_from_members, member_has, ascending_joined, IsElement, line_fault, Element, Oxum, both_true, lower, Bag, Fault, fault_cmp, rules_in, mapped_contains, contains_mapped, kept, passed, At, bag_info_txt, HasElement, HasFirst, HasLater, oxum_label, pair, same_oxum, of_element, again, no_oxum, is_oxum, oxums, differs, told_faults, first_faults, oxum_faults, oxum, oxum_text, lines_in}
+use Rattle.bag_stages.proofs.Common.{◌≡◌, ◌≢◌, ◌<◌, ◌≤◌, ◌↔◌, inl, inr, ◌++◌, ℕ, List, [], ◌∷◌, map, Option, None, Some, Bool, true, false, cond, refl, sym, ap, subst, arith, Contains, nat_cmp, on, Ordering, Less, IsStrictlySortedBy-filter, stage, IsListOf, Code, InfoLine, OxumMalformed, OxumAgain, OxumDiffers, NoOxum, contains_cases, contains_first, contains_behind, contains_nothing, contains_front, contains_back, contains_either, each_from_members, member_has, ascending_joined, IsElement, line_fault, Element, Oxum, both_true, lower, Bag, Fault, fault_cmp, rules_in, mapped_contains, contains_mapped, kept, passed, At, bag_info_txt, HasElement, HasFirst, HasLater, oxum_label, pair, same_oxum, of_element, again, no_oxum, is_oxum, oxums, differs, told_faults, first_faults, oxum_faults, oxum, oxum_text, lines_in}
 use Rattle.std.specs.List.Sorted.{IsStrictlySortedBy}
 use Rattle.bag_read.specs.Oxum.{oxum_of}
 use Rattle.bag_stages.specs.MetadataStage.{MetadataHolds, IsOfMetadata}
@@ -9,15 +9,8 @@ use Rattle.bag_stages.proofs.InFile.{less_in_file}
 abbrev pub by_line : Element → Element → Ordering
 by_line = on (λ e. e.line) nat_cmp
 
--- two sizes are one just where they are found to be
-same_sizes : (a b : Oxum) → same_oxum a b ≡ true → a ≡ b
-same_sizes a b e = grind (arith, both_true)
-
-itself : (a : Oxum) → same_oxum a a ≡ true
-itself a = rw ((Decides-eqb a.octets a.octets).1 refl, (Decides-eqb a.streams a.streams).1 refl) refl
-
 other_size : (a b : Oxum) → same_oxum a b ≡ false → a ≢ b
-other_size a b e same = let clash : false ≡ true = sym e ∙ ap (same_oxum a) (sym same) ∙ itself a in cc
+other_size a b e same = grind (arith, same_oxum)
 
 -- the fields of a fault of an element
 of_fields : (code : Code) (e : Element) (detail : List ℕ) → At (of_element bag_info_txt code e detail) bag_info_txt None e.line detail
@@ -40,27 +33,18 @@ again_ascend (x ∷ later) s = (
 
 module _ (found : Oxum) where
   -- the first has one fault at most
-  differs_ascend : (e : Element) (b : Bool) → IsStrictlySortedBy fault_cmp (cond b [] (differs bag_info_txt found e ∷ []))
-  unfolding IsStrictlySortedBy
-  differs_ascend e true = tt
-  differs_ascend e false = (tt, tt)
-
   told_ascend : (e : Element) (o : Option Oxum) → IsStrictlySortedBy fault_cmp (told_faults bag_info_txt found e o)
   unfolding IsStrictlySortedBy
   told_ascend e None = (tt, tt)
-  told_ascend e (Some told) = differs_ascend e (same_oxum told found)
+  told_ascend e (Some told) = grind (arith, same_oxum)
 
   -- and it is of the element
   abbrev IsOfElement : Element → Fault → Type 0
   IsOfElement e f = (code : Code) × (detail : List ℕ) × (stage code ≡ 3) × (of_element bag_info_txt code e detail ≡ f)
 
-  differs_of : (e : Element) (b : Bool) (f : Fault) → Contains (cond b [] (differs bag_info_txt found e ∷ [])) f → IsOfElement e f
-  differs_of e true f c = absurd (contains_nothing f c)
-  differs_of e false f c = grind (arith, contains_cases, contains_nothing)
-
   told_of : (e : Element) (o : Option Oxum) (f : Fault) → Contains (told_faults bag_info_txt found e o) f → IsOfElement e f
   told_of e None f c = grind (arith, contains_cases, contains_nothing)
-  told_of e (Some told) f c = differs_of e (same_oxum told found) f c
+  told_of e (Some told) f c = grind (arith, same_oxum, contains_nothing, contains_cases)
 
   -- the faults stand in the order of their elements
   all_ascend : (xs : List Element) → IsStrictlySortedBy by_line xs → IsStrictlySortedBy fault_cmp (oxum_faults bag_info_txt found xs)
@@ -112,13 +96,9 @@ module _ (bag : Bag) where
   malformed_in : (e : Element) (f : Fault) → f.code ≡ OxumMalformed → At f bag_info_txt None e.line e.value → oxum_of e.value ≡ None → Contains (first_faults bag_info_txt (oxum bag) e) f
   malformed_in e f code at none = grind (arith, made_of, contains_first)
 
-  found_other : (told : Oxum) (b : Bool) → same_oxum told (oxum bag) ≡ b → told ≢ oxum bag → b ≡ false
-  found_other told true e other = absurd (other (same_sizes told (oxum bag) e))
-  found_other told false e other = refl
-
   differs_in : (e : Element) (told : Oxum) (f : Fault) → f.code ≡ OxumDiffers → At f bag_info_txt None e.line (pair e.value (oxum_text (oxum bag))) → oxum_of e.value ≡ Some told → told ≢ oxum bag
       → Contains (first_faults bag_info_txt (oxum bag) e) f
-  differs_in e told f code at is other = grind (arith, found_other, made_of, contains_first)
+  differs_in e told f code at is other = grind (arith, made_of, contains_first, oxum, both_true)
 
   again_in : (e : Element) (later : List Element) (f : Fault) → f.code ≡ OxumAgain → At f bag_info_txt None e.line e.value → Contains later e → Contains (map (again bag_info_txt) later) f
   again_in e later f code at c = grind (arith, made_of f OxumAgain bag_info_txt None e.line e.value code at, mapped_contains (again bag_info_txt) later e c)

@@ -17,18 +17,6 @@ abbrev mark : Kind → ℕ
 mark Payload = 109
 mark Tag = 116
 
-first_of : (kind : Kind) (alg : List ℕ) → first_byte (manifest_name kind alg) ≡ mark kind
-first_of Payload alg = refl
-first_of Tag alg = refl
-
-not_b : (kind : Kind) → mark kind ≡ 98 → ⊥
-not_b Payload h = absurd (omega arith)
-not_b Tag h = absurd (omega arith)
-
-not_f : (kind : Kind) → mark kind ≡ 102 → ⊥
-not_f Payload h = absurd (omega arith)
-not_f Tag h = absurd (omega arith)
-
 not_both : mark Payload ≡ mark Tag → ⊥
 not_both h = absurd (omega arith)
 
@@ -39,20 +27,9 @@ one_alg Tag Tag a b e = same_alg Tag (manifest_name Tag a) (a ++ codes ".txt") a
 one_alg Payload Tag a b e = absurd (not_both (ap first_byte e))
 one_alg Tag Payload a b e = absurd (not_both (ap first_byte (sym e)))
 
--- a manifest has one text of an algorithm
-unsupported_once : (path one other : List ℕ) → IsUnsupported path one → IsUnsupported path other → one ≡ other
-unsupported_once path one other h k = one_alg h.0 k.0 one other (sym h.2 ∙ k.2)
-
 -- a manifest whose algorithm is supported is no unsupported one
 pub supported_alone : (path text alg : List ℕ) (kind : Kind) (a : Alg) → path ≡ manifest_name kind text → alg_named text ≡ Some a → IsUnsupported path alg → ⊥
 supported_alone path text alg kind a at named h = grind (arith, one_alg)
-
--- a manifest whose algorithm isn't supported isn't read
-unsupported_unread : (path alg : List ℕ) (tag : TagName) → IsUnsupported path alg → tag ≢ tag_name.Declaration → tag_path tag ≡ path → ⊥
-unsupported_unread path alg tag_name.Declaration h other at = other refl
-unsupported_unread path alg tag_name.Info h other at = not_b h.0 (sym (first_of h.0 alg) ∙ ap first_byte (sym h.2 ∙ sym at))
-unsupported_unread path alg tag_name.Fetch h other at = not_f h.0 (sym (first_of h.0 alg) ∙ ap first_byte (sym h.2 ∙ sym at))
-unsupported_unread path alg (tag_name.Manifest kind a) h other at = supported_alone path (name a) alg kind a (sym at) (name_named a) h
 
 -- a listed file's path isn't empty
 pub path_not_empty : (files : List FileEntry) (path : List ℕ) → IsOrdered files → Contains (paths_of files) path → path ≢ []
@@ -72,19 +49,10 @@ file_fault_stage bag f (inr h) = ap stage h.0
 abbrev pub unsupported_fault : List ℕ → List ℕ → Fault
 unsupported_fault path alg = of_path AlgorithmUnsupported path None alg
 
-same_fault : (bag : Bag) (path alg : List ℕ) → IsUnsupported path alg → (y : Fault) → y.path ≡ path → IsFileFault bag y → y ≡ unsupported_fault path alg
-same_fault bag path alg h y at (inl (e, fields, k)) =
-    let detail : y.detail ≡ alg = unsupported_once path y.detail alg (subst (λ p. IsUnsupported p y.detail) at k) h in
-    made_of y AlgorithmUnsupported path None 0 alg e (record { path_is = at; alg_is = fields.alg_is; line_is = fields.line_is; detail_is = detail })
-same_fault bag path alg h y at (inr (e, fields, k)) = absurd (unsupported_unread path alg k.0.0 h k.0.1 (k.0.2 ∙ at))
-
 -- a manifest whose algorithm isn't supported has that fault alone
 pub only_unsupported : (bag : Bag) (path shown alg : List ℕ) (f : Fault) → shown ≡ path → IsUnsupported shown alg → f ≡ unsupported_fault path alg
     → ((f.path ≡ path) × IsFileFault bag f) × ((y : Fault) → (y.path ≡ path) × IsFileFault bag y → y ≡ f)
-only_unsupported bag path shown alg f as_shown unsupported is =
-    let h : IsUnsupported path alg = subst (λ p. IsUnsupported p alg) as_shown unsupported in
-    subst (λ g. ((g.path ≡ path) × IsFileFault bag g) × ((y : Fault) → (y.path ≡ path) × IsFileFault bag y → y ≡ g)) (sym is)
-    ((refl, inl (refl, record { path_is = refl; alg_is = refl; line_is = refl; detail_is = refl }, h)), λ y k. same_fault bag path alg h y k.0 k.1)
+only_unsupported bag path shown alg f as_shown unsupported is = grind (arith, made_of, one_alg, supported_alone, name_named)
 
 abbrev pub textless_fault : List ℕ → Fault
 textless_fault path = of_path NotUtf8 path None []

@@ -17,13 +17,10 @@ AreBefore names files rest = names ≡ payload_paths files ++ rest
 payload_more : (files : List (List ℕ)) (path : List ℕ) → is_payload_path path ≡ true → payload_paths (files ++ path ∷ []) ≡ payload_paths files ++ path ∷ []
 payload_more files path is = filter-append is_payload_path files (path ∷ []) ∙ ap (λ b. payload_paths files ++ cond b (path ∷ []) []) is
 
-other_more : (files : List (List ℕ)) (path : List ℕ) → is_payload_path path ≡ false → payload_paths (files ++ path ∷ []) ≡ payload_paths files
-other_more files path not = grind (arith, filter-append, append-nil)
-
 -- one file more
 before_more : (names files rest after : List (List ℕ)) (path : List ℕ) → AreBefore names files rest → GoesOn rest path after → AreBefore names (files ++ path ∷ []) after
 before_more names files rest after path before (inl (is, e)) = grind (arith, append_assoc, payload_more)
-before_more names files rest after path before (inr (not, e)) = grind (arith, other_more)
+before_more names files rest after path before (inr (not, e)) = grind (arith, filter-append, append-nil)
 
 paths_more : (files : List FileEntry) (i : ℕ) (file : FileEntry) → i < length files → file ≡ get_or files i file → paths_of (take (i + 1) files) ≡ paths_of (take i files) ++ file.path ∷ []
 paths_more files i file within here = ap paths_of (take_one_more files i file within here) ∙ map-append (λ (e : FileEntry). e.path) (take i files) (file ∷ [])

@@ -1,5 +1,5 @@
 -- The size of the payload among the files of a listing is that of the bag's.
-use Rattle.bag_stages.proofs.Common.{arith, ◌≡◌, ◌+◌, ℕ, List, [], ◌∷◌, length, map, sum_by, Bool, true, false, cond, refl, sym, ap, ◌∙◌, length-map, is_payload_path, Bag, files_of, IsOrdered, IsListingOf, FileEntry, oxum, oxum_of_files, payload_entries, listed_oxum}
+use Rattle.bag_stages.proofs.Common.{arith, ◌≡◌, ◌+◌, ℕ, List, [], ◌∷◌, length, map, sum_by, refl, sym, ap, ◌∙◌, length-map, is_payload_path, Bag, files_of, IsOrdered, IsListingOf, FileEntry, oxum, oxum_of_files, payload_entries, listed_oxum}
 use Rattle.std.proofs.Common.{filter}
 use Rattle.std.proofs.lemmas.List.Sums.{sum_by-cons}
 use Rattle.bag_tree.specs.declared.listing.Listing.{Listing}
@@ -14,14 +14,9 @@ entry_of e = record { path = e.0; size = length e.1 }
 abbrev payload_of : List Held → List Held
 payload_of files = filter (λ e. is_payload_path e.0) files
 
-kept_by : (b : Bool) (e : Held) (files : List Held) → payload_entries (map entry_of files) ≡ map entry_of (payload_of files)
-    → cond b (entry_of e ∷ payload_entries (map entry_of files)) (payload_entries (map entry_of files)) ≡ map entry_of (cond b (e ∷ payload_of files) (payload_of files))
-kept_by true e files rest = ap (λ es. entry_of e ∷ es) rest
-kept_by false e files rest = rest
-
 kept : (files : List Held) → payload_entries (map entry_of files) ≡ map entry_of (payload_of files)
 kept [] = refl
-kept (e ∷ files) = kept_by (is_payload_path e.0) e files (kept files)
+kept (e ∷ files) = grind (arith, is_payload_path, kept files)
 
 summed : (files : List Held) → sum_by (λ (entry : FileEntry). entry.size) (map entry_of files) ≡ sum_by (λ (e : Held). length e.1) files
 summed [] = refl
