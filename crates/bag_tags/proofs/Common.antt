@@ -1,5 +1,5 @@
 -- The names that this crate's proofs cite, passed on from one place. Declares nothing.
-pub use Rattle.std.proofs.Common.{Bool, Err, List, None, Ok, OnErr, Option, Result, Some, [], ap, append_assoc, arith, bytes_eq, codes, cond, drop, eqb, false, flat_map, get_or, inl, inr, length, length-drop, length-take, lit<, map, nat_lt, not, option_map, refl, reverse, string_bytes, subst, suc, sym, take, true, unwrap_or, zero, ℕ, ◌&&◌, ◌++◌, ◌+◌, ◌-◌, ◌<◌, ◌==◌, ◌||◌, ◌∙◌, ◌∷◌, ◌≡◌, ◌≢◌, ◌≤◌}
+pub use Rattle.std.proofs.Common.{Bool, Err, List, None, Ok, OnErr, Option, Result, Some, [], ap, append_assoc, arith, bytes_eq, codes, drop, eqb, false, flat_map, get_or, inl, inr, length, length-drop, length-take, lit<, map, nat_lt, not, option_map, refl, reverse, string_bytes, subst, suc, sym, take, true, unwrap_or, zero, ℕ, ◌&&◌, ◌++◌, ◌+◌, ◌-◌, ◌<◌, ◌∙◌, ◌∷◌, ◌≡◌, ◌≢◌, ◌≤◌}
 pub use Rattle.std.proofs.lemmas.Bool.Decides.{nat_tests}
 pub use Rattle.std.proofs.lemmas.List.{append-nil, get_or-map, get_or-reverse, length-map, length-reverse}
 pub use Rattle.std.proofs.lemmas.List.Elements.{All-from_recursion, recursion_from_All}
@@ -25,15 +25,15 @@ pub use Rattle.bag_read.specs.declared.kind.Kind.TheVariants.{Payload, Tag}
 pub use Rattle.bag_read.specs.declared.line_fault.LineFault.{LineFault}
 pub use Rattle.bag_text.proofs.SpellingLaws.{read_again, strict_spellings, unescaped_plain}
 pub use Rattle.bag_text.specs.LineEnd.{is_line_end}
-pub use Rattle.bag_text.specs.Lines.{HasNoEnd, IsLine, line_feed, lines, lines_of_file, lines_of_text}
+pub use Rattle.bag_text.specs.Lines.{HasNoEnd, IsLine, line_feed, lines, lines_of_file}
 pub use Rattle.bag_text.specs.Path.{is_path, is_payload_path}
 pub use Rattle.bag_text.specs.Spelling.{both, escape, escape_one, percent, unescaped_strictly}
-pub use Rattle.bag_text.specs.Text.{IsText, ends_with_blank, has_mark, is_blank, is_some_blank, text_cmp, trim, without_trailing_blanks}
+pub use Rattle.bag_text.specs.Text.{IsText, ends_with_blank, has_mark, is_blank, is_some_blank, text_cmp, trim}
 pub use Rattle.bag_text.specs.declared.alg.Alg.{Alg}
 pub use Rattle.bag_text.specs.declared.code.Code.{Code}
-pub use Rattle.bag_text.specs.declared.code.Code.TheVariants.{DeclarationLine, DeclarationLineCount, DeclarationNotUtf8, EncodingUnsupported, InfoLine, NamedAgain, NotUtf8, VersionUnsupported}
+pub use Rattle.bag_text.specs.declared.code.Code.TheVariants.{InfoLine, NamedAgain, NotUtf8}
 pub use Rattle.bag_text.specs.declared.rules.Rules.TheVariants.{V10}
 pub use Rattle.bag_tags.specs.Distinct.{AreAscending, texts_of}
-pub use Rattle.bag_tags.specs.Element.{NewElement, has_outer_blank, info_line, info_text, is_bad_element, is_bad_label, is_bad_value}
+pub use Rattle.bag_tags.specs.Element.{NewElement, has_outer_blank, info_line, info_text, is_bad_element}
 pub use Rattle.bag_tags.specs.Entry.{NamesEachOnce, NewEntry, begins_with_mark, entry_line, is_bad_digest, is_bad_entry, is_bad_path, is_lower_hex_digit, is_tag_manifest, manifest_text, may_name, paths}
 pub use Rattle.bag_tags.specs.ReadAgain.{DeclarationIsReadAgain, InfoIsReadAgain, ManifestIsReadAgain, StandsOn}

@@ -1,20 +1,13 @@
 -- Paths as they are written in manifests.
-use Rattle.bag_tags.proofs.Common.{◌≡◌, ◌≢◌, ℕ, Bool, true, false, ◌==◌, List, [], ◌∷◌, ◌++◌, refl, ap, sym, ◌∙◌, subst, Option, Some, None, arith, codes, eqb, list_any, IsUtf8, encode_utf8_all, all_scalars, IsScalar, nat_tests, list_any-append, IsUtf8-append, IsUtf8-nil, IsUtf8-encode, IsUtf8-from_is_utf8, is_line_end, is_path, percent, unescaped_strictly, both, escape_one, escape, is_blank, unescaped_plain, read_again, BeginsUnblank, both_true, begins_with_mark}
+use Rattle.bag_tags.proofs.Common.{◌≡◌, ◌≢◌, ℕ, Bool, true, false, List, [], ◌∷◌, ◌++◌, refl, ap, sym, ◌∙◌, subst, Option, Some, None, arith, codes, eqb, list_any, IsUtf8, encode_utf8_all, all_scalars, IsScalar, nat_tests, list_any-append, IsUtf8-append, IsUtf8-nil, IsUtf8-encode, IsUtf8-from_is_utf8, is_line_end, is_path, percent, unescaped_strictly, both, escape_one, escape, is_blank, unescaped_plain, read_again, BeginsUnblank, both_true, begins_with_mark}
 use Rattle.std.specs.Str.{is_utf8, chars}
 use Rattle.std.specs.Char.{encode_utf8}
 use Rattle.std.proofs.lemmas.List.Concat.{flat_map-append}
 use Rattle.bag_text.proofs.Spellings.{escape-encode}
 
--- a character as it is written has no line end
-one_line : (c : ℕ) (feed back mark : Bool) → (c == 10) ≡ feed → (c == 13) ≡ back → (c == 37) ≡ mark → list_any is_line_end (escape_one c) ≡ false
-one_line c true back mark f b m = rw f refl
-one_line c false true mark f b m = rw (f, b) refl
-one_line c false false true f b m = rw (f, b, m) refl
-one_line c false false false f b m = rw (f, b, m) (rw (f, b) refl)
-
 pub no_end_written : (path : List ℕ) → list_any is_line_end (escape path) ≡ false
 no_end_written [] = refl
-no_end_written (c ∷ path) = grind (arith, list_any-append, one_line, no_end_written path)
+no_end_written (c ∷ path) = grind (arith, list_any-append, no_end_written path)
 
 feed_utf8 : IsUtf8 (escape (encode_utf8 10))
 unfolding is_utf8 chars encode_utf8

@@ -1,16 +1,6 @@
 -- Texts of hex digits in lower case.
-use Rattle.bag_tags.proofs.Common.{◌≡◌, ◌≢◌, ℕ, zero, suc, ◌<◌, Bool, true, false, not, ◌==◌, List, [], ◌∷◌, ◌++◌, length, get_or, refl, ap, sym, ◌∙◌, arith, lit<, is_ascii_hexdigit, to_ascii_lowercase, list_all, list_any, IsUtf8, str_to_ascii_lowercase, nat_tests, IsUtf8-from_ascii, is_line_end, is_blank, has_mark, Alg, or_false, not_false, both_true, is_lower_hex_digit, is_bad_digest}
+use Rattle.bag_tags.proofs.Common.{◌≡◌, ◌≢◌, ℕ, zero, suc, ◌<◌, Bool, true, false, not, List, [], ◌∷◌, ◌++◌, length, get_or, refl, ap, sym, ◌∙◌, arith, lit<, is_ascii_hexdigit, to_ascii_lowercase, list_all, list_any, IsUtf8, str_to_ascii_lowercase, nat_tests, IsUtf8-from_ascii, is_line_end, is_blank, has_mark, Alg, or_false, not_false, both_true, is_lower_hex_digit, is_bad_digest}
 use Rattle.bag_text.specs.Alg.{hex_len}
-use Rattle.bag_text.specs.declared.alg.Alg.TheVariants.{Md5}
-
-digit_hex : (c : ℕ) → is_lower_hex_digit c ≡ true → is_ascii_hexdigit c ≡ true
-digit_hex c e = (both_true (is_ascii_hexdigit c) _ e).0
-
-digit_unblank : (c : ℕ) → is_lower_hex_digit c ≡ true → not (is_blank c) ≡ true
-digit_unblank c e = grind (arith, nat_tests)
-
-digit_small : (c : ℕ) → is_lower_hex_digit c ≡ true → c < 128
-digit_small c e = grind (arith, nat_tests)
 
 digit_plain : (c : ℕ) → is_lower_hex_digit c ≡ true → is_line_end c ≡ false
 digit_plain c e = grind (arith, nat_tests)
@@ -18,31 +8,21 @@ digit_plain c e = grind (arith, nat_tests)
 digit_low : (c : ℕ) → is_lower_hex_digit c ≡ true → to_ascii_lowercase c ≡ c
 digit_low c e = grind (arith, nat_tests)
 
-digit_no_mark : (c : ℕ) → is_lower_hex_digit c ≡ true → (0xef == c) ≡ false
-digit_no_mark c e = grind (arith, nat_tests)
-
 each_passes : (p q : ℕ → Bool) → ((c : ℕ) → p c ≡ true → q c ≡ true) → (t : List ℕ) → list_all p t ≡ true → list_all q t ≡ true
 each_passes p q more [] e = refl
 each_passes p q more (c ∷ t) e = let two = both_true (p c) (list_all p t) e in rw (more c two.0) (each_passes p q more t two.1)
 
 small_at : (t : List ℕ) (i : ℕ) → list_all is_lower_hex_digit t ≡ true → get_or t i 0 < 128
 small_at [] i e = lit< tt
-small_at (c ∷ t) zero e = digit_small c (both_true (is_lower_hex_digit c) (list_all is_lower_hex_digit t) e).0
+small_at (c ∷ t) zero e = grind (arith, both_true, nat_tests)
 small_at (c ∷ t) (suc i) e = small_at t i (both_true (is_lower_hex_digit c) (list_all is_lower_hex_digit t) e).1
-
-some_digits : (alg : Alg) → 0 < hex_len alg
-some_digits Md5 = lit< tt
-some_digits _ = lit< tt
-
-same_number : (m n : ℕ) → (m == n) ≡ true → m ≡ n
-same_number m n e = grind (arith, nat_tests)
 
 module _ (t : List ℕ) (digits : list_all is_lower_hex_digit t ≡ true) where
   pub all_hex : list_all is_ascii_hexdigit t ≡ true
-  all_hex = each_passes is_lower_hex_digit is_ascii_hexdigit digit_hex t digits
+  all_hex = grind (arith, each_passes, both_true)
 
   pub no_blank : list_all (λ c. not (is_blank c)) t ≡ true
-  no_blank = each_passes is_lower_hex_digit (λ c. not (is_blank c)) digit_unblank t digits
+  no_blank = grind (arith, each_passes, nat_tests)
 
   pub hex_utf8 : IsUtf8 t
   hex_utf8 = IsUtf8-from_ascii t (λ i. small_at t i digits)
@@ -59,17 +39,14 @@ low_hex (c ∷ t) e =
 
 pub no_hex_mark : (t rest : List ℕ) → t ≢ [] → list_all is_lower_hex_digit t ≡ true → has_mark (t ++ rest) ≡ false
 no_hex_mark [] rest some e = absurd (some refl)
-no_hex_mark (c ∷ t) rest some e = grind (arith, digit_no_mark, both_true)
+no_hex_mark (c ∷ t) rest some e = grind (arith, both_true, nat_tests)
 
 module _ (alg : Alg) (t : List ℕ) (good : is_bad_digest alg t ≡ false) where
-  parts : (not (length t == hex_len alg) ≡ false) × (not (list_all is_lower_hex_digit t) ≡ false)
-  parts = or_false (not (length t == hex_len alg)) (not (list_all is_lower_hex_digit t)) good
-
   pub digest_length : length t ≡ hex_len alg
-  digest_length = same_number (length t) (hex_len alg) (not_false _ parts.0)
+  digest_length = grind (arith, not_false, nat_tests)
 
   pub digest_digits : list_all is_lower_hex_digit t ≡ true
-  digest_digits = not_false _ parts.1
+  digest_digits = grind (arith, not_false, or_false)
 
   pub digest_some : t ≢ []
-  digest_some same = omega (arith, some_digits alg, digest_length, ap length same)
+  digest_some same = grind (arith, digest_length, lit<)

@@ -1,5 +1,5 @@
 -- The line of an entry that can be written, as it is read.
-use Rattle.bag_tags.proofs.Common.{arith, ◌≡◌, ◌≢◌, ℕ, inr, true, false, not, ◌&&◌, List, [], ◌++◌, refl, ap, sym, ◌∙◌, codes, append_assoc, nat_lt, list_any, IsUtf8, list_any-append, IsUtf8-append, IsUtf8-from_is_utf8, is_line_end, is_path, is_payload_path, escape, IsText, has_mark, V10, Alg, strict_spellings, read_again, IsCut, or_false, not_false, not_true, both_true, Reads, Kind, Payload, Tag, named_is, NewEntry, entry_line, is_bad_digest, is_bad_path, is_bad_entry, is_tag_manifest, may_name, begins_with_mark}
+use Rattle.bag_tags.proofs.Common.{arith, ◌≡◌, ℕ, inr, true, false, not, ◌&&◌, List, ◌++◌, refl, sym, ◌∙◌, codes, append_assoc, nat_lt, list_any, IsUtf8, list_any-append, IsUtf8-append, IsUtf8-from_is_utf8, is_line_end, is_path, is_payload_path, escape, IsText, has_mark, V10, Alg, strict_spellings, read_again, IsCut, or_false, not_false, not_true, both_true, Reads, Kind, Payload, Tag, named_is, NewEntry, entry_line, is_bad_digest, is_bad_path, is_bad_entry, is_tag_manifest, may_name, begins_with_mark}
 use Rattle.std.specs.Char.{encode_utf8}
 use Rattle.std.specs.Str.{is_utf8, chars}
 use Rattle.bag_read.specs.ManifestLine.{IsSpelling, MayName, ReadsAs}
@@ -8,15 +8,9 @@ use Rattle.bag_tags.proofs.EscapedPaths.{no_end_written, written_utf8, no_star, 
 use Rattle.bag_tags.proofs.HexTexts.{all_hex, no_blank, hex_utf8, no_hex_end, low_hex, no_hex_mark, digest_length, digest_digits, digest_some}
 use Rattle.bag_tags.proofs.WrittenLines.{IsWritten}
 
-payload_safe : (path : List ℕ) → is_payload_path path ≡ true → is_path path ≡ true
-payload_safe path e = grind (arith, both_true, nat_lt)
-
 module _ (path : List ℕ) (e : may_name Tag path ≡ true) where
   tag_parts : (is_path path && not (is_payload_path path) ≡ true) × (not (is_tag_manifest path) ≡ true)
   tag_parts = both_true (is_path path && not (is_payload_path path)) (not (is_tag_manifest path)) e
-
-  tag_safe : is_path path ≡ true
-  tag_safe = (both_true (is_path path) (not (is_payload_path path)) tag_parts.0).0
 
   tag_place : MayName Tag path
   tag_place = (
@@ -25,22 +19,16 @@ module _ (path : List ℕ) (e : may_name Tag path ≡ true) where
   )
 
 safe : (kind : Kind) (path : List ℕ) → may_name kind path ≡ true → is_path path ≡ true
-safe Payload path e = payload_safe path e
-safe Tag path e = tag_safe path e
+safe Payload path e = grind (arith, both_true, nat_lt)
+safe Tag path e = grind (arith, both_true)
 
 place : (kind : Kind) (path : List ℕ) → may_name kind path ≡ true → MayName kind path
 place Payload path e = e
 place Tag path e = tag_place path e
 
-path_some : (path : List ℕ) → is_path path ≡ true → path ≢ []
-path_some path e same = let clash : false ≡ true = sym (ap is_path same) ∙ e in cc
-
 spaces_utf8 : IsUtf8 (codes "  ")
 unfolding is_utf8 chars encode_utf8
 spaces_utf8 = IsUtf8-from_is_utf8 (codes "  ") refl
-
-spaces_some : codes "  " ≢ []
-spaces_some e = cc
 
 module _ (kind : Kind) (alg : Alg) (entry : NewEntry) (good : is_bad_entry kind alg entry ≡ false) where
   abbrev digest : List ℕ
@@ -61,11 +49,8 @@ module _ (kind : Kind) (alg : Alg) (entry : NewEntry) (good : is_bad_entry kind 
   is_safe_path : is_path path ≡ true
   is_safe_path = safe kind path may
 
-  some_path : path ≢ []
-  some_path = path_some path is_safe_path
-
   cut : IsCut (entry_line entry) digest (escape path)
-  cut = grind (arith, digest_some, no_blank, digest_digits, spaces_some, begins_unblank, some_path)
+  cut = grind (arith, digest_some, no_blank, digest_digits, begins_unblank, is_safe_path)
 
   spelling : IsSpelling (escape path) (escape path)
   spelling = (escape path, inr (refl, no_star path path_parts.1), inr (refl, no_dot_slash path is_safe_path))

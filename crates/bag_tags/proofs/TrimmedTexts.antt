@@ -1,5 +1,5 @@
 -- Texts that trimming leaves as they are.
-use Rattle.bag_tags.proofs.Common.{◌≡◌, ℕ, ◌+◌, ◌-◌, ◌≤◌, Bool, true, false, List, ◌∷◌, length, drop, get_or, reverse, refl, ap, sym, ◌∙◌, arith, length-take, length-drop, prefix_len, suffix_len, get_or-reverse, length-reverse, slice_get-get_or, bytes_eq-Decides, is_blank, trim, without_trailing_blanks, is_some_blank, ends_with_blank, not_false, has_outer_blank}
+use Rattle.bag_tags.proofs.Common.{◌≡◌, ℕ, ◌+◌, ◌-◌, ◌≤◌, Bool, true, false, List, ◌∷◌, length, get_or, reverse, refl, ap, sym, ◌∙◌, arith, length-take, length-drop, prefix_len, suffix_len, get_or-reverse, length-reverse, slice_get-get_or, bytes_eq-Decides, is_blank, trim, is_some_blank, ends_with_blank, not_false, has_outer_blank}
 use Rattle.std.proofs.lemmas.List.Sums.{prefix_len_stops, suffix_len-le-length}
 
 -- a text without a blank at its ends stays as it is
@@ -27,14 +27,8 @@ module _ (c : ℕ) (t : List ℕ) (h : trim (c ∷ t) ≡ c ∷ t) where
   abbrev whole : List ℕ
   whole = c ∷ t
 
-  front_none : prefix_len is_blank whole ≡ 0
-  front_none = rw (first_unblank c t h) refl
-
-  back_kept : without_trailing_blanks whole ≡ whole
-  back_kept = sym (ap (λ n. without_trailing_blanks (drop n whole)) front_none) ∙ h
-
   back_none : suffix_len is_blank whole ≡ 0
-  back_none = omega (arith, length-take (length whole - suffix_len is_blank whole) whole, ap length back_kept, suffix_len-le-length is_blank whole)
+  back_none = grind (arith, length-take, suffix_len-le-length, first_unblank)
 
   last_unblank : is_blank (get_or whole (length whole - 1) 0) ≡ false
   last_unblank =

@@ -1,5 +1,5 @@
 -- Lines that are written, each with an LF behind it, are the lines that are read.
-use Rattle.bag_tags.proofs.Common.{◌≡◌, ℕ, zero, suc, ◌-◌, Bool, true, false, cond, List, [], ◌∷◌, ◌++◌, drop, map, flat_map, append_assoc, refl, ap, sym, ◌∙◌, subst, Option, Some, None, arith, option_map, AllByRecursion, list_any, slice_get, IsUtf8, nat_tests, All-from_recursion, slice_get-map, IsUtf8-append, IsUtf8-nil, IsUtf8-from_is_utf8, is_utf8-from_IsUtf8, is_line_end, line_feed, lines, lines_of_text, lines_of_file, HasNoEnd, IsLine, IsText, has_mark, or_false, StandsOn}
+use Rattle.bag_tags.proofs.Common.{◌≡◌, ℕ, zero, suc, ◌-◌, false, List, [], ◌∷◌, ◌++◌, drop, map, flat_map, append_assoc, refl, ap, ◌∙◌, subst, Some, arith, AllByRecursion, list_any, slice_get, IsUtf8, nat_tests, All-from_recursion, slice_get-map, IsUtf8-append, IsUtf8-nil, IsUtf8-from_is_utf8, is_utf8-from_IsUtf8, is_line_end, line_feed, lines, lines_of_file, HasNoEnd, IsLine, IsText, has_mark, or_false, StandsOn}
 use Rattle.std.specs.Char.{encode_utf8}
 use Rattle.std.specs.Str.{is_utf8, chars}
 use Rattle.bag_text.proofs.FirstLine.{lines_split}
@@ -19,11 +19,6 @@ no_end t e = All-from_recursion IsPlain t (plain_each t e)
 feed_utf8 : IsUtf8 (line_feed ∷ [])
 unfolding is_utf8 chars encode_utf8
 feed_utf8 = IsUtf8-from_is_utf8 (line_feed ∷ []) refl
-
-file_by : (t : List ℕ) (u m : Bool) → u ≡ true → m ≡ false → lines_of_text (cond u (Some (cond m (drop 3 t) t)) None) ≡ lines t
-file_by t true false e f = refl
-file_by t true true e f = cc
-file_by t false m e f = cc
 
 -- what is known of each element of a list is known of those behind
 pub behind : {A : Type 0} (P : A → Type 0) (k : ℕ) (xs : List A) → AllByRecursion P xs → AllByRecursion P (drop k xs)
@@ -64,15 +59,11 @@ module _ (line : Pair → List ℕ) where
   lines_again (x ∷ xs) all = grind (arith, lines_split, no_end, lines_again xs all.1)
 
   pub file_lines : (items : List Pair) → AllByRecursion IsWritten items → lines_of_file (text items) ≡ map line items
-  file_lines items all = file_by (text items) _ _ (is_text items all) (no_mark items all) ∙ lines_again items all
-
-  found : (items : List Pair) (k : ℕ) (l : List ℕ) (o : Option Pair) → slice_get items k ≡ o → option_map line o ≡ Some l → (x : Pair) × (slice_get items k ≡ Some x) × (l ≡ line x)
-  found items k l None e h = cc
-  found items k l (Some x) e h = (x, e, let same : line x ≡ l = cc in sym same)
+  file_lines items all = grind (arith, is_text, no_mark, lines_again)
 
   -- a line that is read is that of an item, on its place
   pub line_of_item : (items : List Pair) (n : ℕ) (l : List ℕ) → IsLine (map line items) n l → (x : Pair) × StandsOn items n x × (l ≡ line x)
-  line_of_item items n l (some, e) = grind (arith, found, slice_get-map)
+  line_of_item items n l (some, e) = grind (arith, slice_get-map)
 
   pub item_on_line : (items : List Pair) (n : ℕ) (x : Pair) → StandsOn items n x → IsLine (map line items) n (line x)
   item_on_line items n x (k, at, here) = grind (arith, slice_get-map)
