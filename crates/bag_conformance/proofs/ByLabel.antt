@@ -1,5 +1,5 @@
 -- Elements that are sorted by their labels, and the run of one label among them.
-use Rattle.bag_conformance.proofs.Common.{◌≡◌, ◌≤◌, zero, suc, ◌+◌, ℕ, List, [], ◌∷◌, length, take, drop, filter, get_or, Bool, true, false, not, ◌&&◌, cond, eqb, refl, sym, ap, ◌∙◌, subst, arith, nat_list_cmp_total, AllWithin, IsNonDecreasingBy, IsPartitionedBy, IsPartitionPoint, IsStableBy, ties, is_lt, ordering_index, ordering_reverse, bytes_eq, str_to_ascii_lowercase, Decides-eqb, get_or-drop, IsNonDecreasingBy-drop, searchable_from_sorted, bytes_eq-Decides, same_label, text_cmp, Element, text_same, lent, labelled, label_cmp, folded_label, IsByLabel}
+use Rattle.bag_conformance.proofs.Common.{◌≡◌, ◌≤◌, zero, suc, ℕ, List, [], ◌∷◌, length, take, drop, filter, get_or, Bool, true, false, not, ◌&&◌, cond, eqb, refl, sym, ap, ◌∙◌, subst, arith, nat_list_cmp_total, AllWithin, IsNonDecreasingBy, IsPartitionedBy, IsPartitionPoint, IsStableBy, ties, is_lt, ordering_index, ordering_reverse, bytes_eq, str_to_ascii_lowercase, get_or-drop, searchable_from_sorted, bytes_eq-Decides, same_label, text_cmp, Element, text_same, lent, labelled, label_cmp, folded_label, IsByLabel}
 use Rattle.std.proofs.Common.{Bor}
 use Rattle.std.specs.Cmp.{tied_itself}
 use Rattle.std.specs.declared.cmp.Ordering.{Ordering}
@@ -29,15 +29,9 @@ module _ {X : Type 0} (p : X → Bool) where
       ∙ ap (λ ys. x ∷ ys)
       (kept_front xs n (λ k d low high. passes (suc k) d (omega arith) (omega arith)) (λ k d low high. fails (suc k) d (omega arith) (omega arith)) (omega arith))
 
--- a test of what is lent
-kept_lent_by : (b : Bool) (p : Element → Bool) (x : Bor Element) (xs : List (Bor Element)) → filter p (lent xs) ≡ lent (filter (λ y. p y.now) xs)
-    → cond b (x.now ∷ filter p (lent xs)) (filter p (lent xs)) ≡ lent (cond b (x ∷ filter (λ y. p y.now) xs) (filter (λ y. p y.now) xs))
-kept_lent_by true p x xs e = ap (λ ys. x.now ∷ ys) e
-kept_lent_by false p x xs e = e
-
 kept_lent : (p : Element → Bool) (xs : List (Bor Element)) → filter p (lent xs) ≡ lent (filter (λ y. p y.now) xs)
 kept_lent p [] = refl
-kept_lent p (x ∷ xs) = kept_lent_by (p x.now) p x xs (kept_lent p xs)
+kept_lent p (x ∷ xs) = grind (arith, kept_lent p xs)
 
 -- what an answer tells: that a text is below another, and that both are one
 lower_ranks : (o : Ordering) → is_lt o ≡ true → ordering_index o ≡ 0
@@ -49,11 +43,6 @@ ranks_lower : (o : Ordering) → ordering_index o ≡ 0 → is_lt o ≡ true
 ranks_lower Less e = refl
 ranks_lower Equal e = absurd (omega (arith, e))
 ranks_lower Greater e = absurd (omega (arith, e))
-
-no_lower : (o : Ordering) → is_lt o ≡ false → 1 ≤ ordering_index o
-no_lower Less e = cc
-no_lower Equal e = omega arith
-no_lower Greater e = omega arith
 
 same_by : (a b : List ℕ) (r : Bool) (o : Ordering) → bytes_eq a b ≡ r → text_cmp a b ≡ o → r ≡ eqb (ordering_index o) 1
 same_by a b true o is e =
@@ -115,14 +104,7 @@ module _ (label : List ℕ) where
     module _ (i : ℕ) (split : IsPartitionPoint (λ e. is_below e ≡ true) (λ e. is_below e ≡ false) elements i) where
       -- and then those that have it
       pub label_first : IsPartitionedBy has_label (drop i elements)
-      label_first j k d low high has =
-          let x : Bor Element = get_or (drop i elements) j d in
-          let y : Bor Element = get_or (drop i elements) k d in
-          let up : rank x ≤ rank y = IsNonDecreasingBy-drop rank i elements rises j k d low high in
-          let here : rank y ≡ 1 = (Decides-eqb (rank y) 1).0 (sym (label_ranks y) ∙ has) in
-          let not_below : is_below x ≡ false = ap is_below (get_or-drop i elements j d) ∙ split.1 (i + j) d (omega arith) (omega (arith, length-drop i elements)) in
-          let above : 1 ≤ rank x = no_lower (label_cmp x.now.label label) not_below in
-          label_ranks x ∙ (Decides-eqb (rank x) 1).1 (omega (arith, up, here, above))
+      label_first j k d low high has = grind (arith, rises, label_ranks, get_or-drop, length-drop)
 
       pub run_is : (k : ℕ) → i ≤ length elements → k ≤ length (drop i elements) → IsPartitionPoint (λ e. has_label e ≡ true) (λ e. has_label e ≡ false) (drop i elements) k
           → lent (take k (drop i elements)) ≡ labelled label (lent elements)

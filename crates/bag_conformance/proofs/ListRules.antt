@@ -4,7 +4,6 @@ use Rattle.std.specs.Prelude.{◌≢◌}
 use Rattle.bag_read.specs.declared.tag_name.TagName.{TagName}
 use Rattle.bag_read.specs.declared.tag_name.TagName.TheVariants as tag_name
 use Rattle.bag_read.proofs.TagPaths.{name_is_text}
-use Rattle.bag_text.specs.Alg.{name}
 
 -- a search tells whether a name is among ascending ones
 pub name_found : (texts : List (List ℕ)) (text : List ℕ) (r : Result ℕ ℕ) (b : Bool) → b ≡ is_ok r → IsStrictlySortedBy text_cmp texts → IsSearchInRange r (length texts)
@@ -51,12 +50,6 @@ module _ (path : List ℕ) where
   abbrev pub NoTag : Type 0
   NoTag = (tag : TagName) → tag_path tag ≢ path
 
-  free_at_none : IsFreeTagFile path → NoTag
-  free_at_none free tag_name.Declaration e = free.no_declaration (sym e)
-  free_at_none free tag_name.Info e = free.no_info (sym e)
-  free_at_none free tag_name.Fetch e = free.no_fetch (sym e)
-  free_at_none free (tag_name.Manifest kind alg) e = free.no_manifest kind (name alg) (name_is_text alg) (sym e)
-
   no_manifest_by : NoManifest Payload → NoManifest Tag → (kind : Kind) → NoManifest kind
   no_manifest_by p t Payload = p
   no_manifest_by p t Tag = t
@@ -80,7 +73,7 @@ module _ (path : List ℕ) where
   pub at_none : (o : Option TagName) (b : Bool) → AtTag o → is_some o ≡ not b → IsFreeTagFile path → b ≡ true
   at_none None true at e free = refl
   at_none None false at e free = cc
-  at_none (Some tag) b at e free = absurd (free_at_none free tag at)
+  at_none (Some tag) b at e free = grind (arith, name_is_text)
 
   abbrev OfManifest : Kind → Option (Bor (List ℕ)) → Type 0
   OfManifest kind o = MatchOption o (NoManifest kind) (λ alg. IsTrue (is_alg_text alg.now) × (path ≡ manifest_name kind alg.now))
