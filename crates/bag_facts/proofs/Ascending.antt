@@ -1,24 +1,10 @@
 -- An ascending list is determined by its members.
-use Rattle.bag_facts.proofs.Common.{◌≡◌, zero, suc, List, [], ◌∷◌, refl, sym, ap, subst, ◌∙◌, ◌⊎◌, inl, inr, ◌↔◌, true, arith, Contains, Ordering, Less, Equal, Greater, ordering_reverse, is_eq, eq_by_cmp, IsTotalOrder, AllByRecursion, OneOfThree}
+use Rattle.bag_facts.proofs.Common.{◌≡◌, zero, suc, List, [], ◌∷◌, refl, sym, subst, ◌⊎◌, inl, inr, ◌↔◌, true, arith, Contains, Ordering, Less, Equal, eq_by_cmp, IsTotalOrder, AllByRecursion, OneOfThree}
 use Rattle.std.specs.List.Sorted.{IsStrictlySortedBy}
-
-less_not_greater : Less ≡ Greater → ⊥
-less_not_greater h = cc
-
--- an answer that stays the same the other way round
-self_tie : (o : Ordering) → o ≡ ordering_reverse o → o ≡ Equal
-self_tie Less e = cc
-self_tie Equal e = refl
-self_tie Greater e = cc
-
-tie_is : (o : Ordering) → is_eq o ≡ true → o ≡ Equal
-tie_is Less e = cc
-tie_is Equal e = refl
-tie_is Greater e = cc
 
 module _ {A : Type 0} {R : A → A → Ordering} (total : IsTotalOrder R) where
   pub not_both : (x y : A) → R x y ≡ Less → R y x ≡ Less → ⊥
-  not_both x y p q = less_not_greater (sym p ∙ total.antisymm x y ∙ ap ordering_reverse q)
+  not_both x y p q = grind arith
 
   none_in_empty : (z : A) → Contains [] z → ⊥
   none_in_empty z (k, inside, is) = absurd (omega arith)
@@ -66,19 +52,13 @@ module _ {A : Type 0} {R : A → A → Ordering} (total : IsTotalOrder R) where
       λ i. same i ∷ rest i
 
   pub self_ties : (x : A) → R x x ≡ Equal
-  self_ties x = self_tie (R x x) (total.antisymm x x)
+  self_ties x = grind arith
 
   pub not_less_than_itself : (x y : A) → x ≡ y → R x y ≡ Less → ⊥
   not_less_than_itself x y same less = let self : R x x ≡ Less = subst (λ z. R x z ≡ Less) (sym same) less in not_both x x self self
 
-  -- one of three facts holds, and no two of them do
-  one_of : (x y : A) (o : Ordering) → (R x y ≡ Equal → x ≡ y) → R x y ≡ o → (R x y ≡ Less) ⊎ ((x ≡ y) ⊎ (R y x ≡ Less))
-  one_of x y Less tied e = inl e
-  one_of x y Equal tied e = inr (inl (tied e))
-  one_of x y Greater tied e = inr (inr (total.antisymm y x ∙ ap ordering_reverse e))
-
   pub one_of_three : ((x y : A) → R x y ≡ Equal → x ≡ y) → (x y : A) → OneOfThree (R x y ≡ Less) (x ≡ y) (R y x ≡ Less)
-  one_of_three tied x y = grind (arith, one_of, not_less_than_itself, not_both)
+  one_of_three tied x y = grind (arith, not_less_than_itself, not_both)
 
   pub equal_is_one : ((x y : A) → R x y ≡ Equal → x ≡ y) → (x y : A) → (eq_by_cmp R x y ≡ true) ↔ (x ≡ y)
-  equal_is_one tied x y = (λ h. tied x y (tie_is (R x y) h), λ same. ap is_eq (subst (λ z. R x z ≡ Equal) same (self_ties x)))
+  equal_is_one tied x y = grind (arith, self_ties)

@@ -2,9 +2,6 @@
 use Rattle.bag_facts.proofs.Common.{◌≡◌, ℕ, ◌<◌, true, List, [], ◌∷◌, All, subst, arith, nat_lt, IsUtf8, all_scalars, encode_utf8_all, cond_both, nat_tests, All-nil, All-cons, All-append, IsByte}
 use Rattle.std.specs.Char.{encode_utf8, IsScalar}
 
-last_scalar : (c : ℕ) → IsScalar c → c < 1114112
-last_scalar c s = grind (arith, nat_tests)
-
 one : (a : ℕ) → a < 256 → All IsByte (a ∷ [])
 one a h = All-cons IsByte a [] h (All-nil IsByte)
 
@@ -14,15 +11,12 @@ two a b h k = All-cons IsByte a (b ∷ []) h (one b k)
 three : (a b c : ℕ) → a < 256 → b < 256 → c < 256 → All IsByte (a ∷ b ∷ c ∷ [])
 three a b c h k l = All-cons IsByte a (b ∷ c ∷ []) h (two b c k l)
 
-four : (a b c d : ℕ) → a < 256 → b < 256 → c < 256 → d < 256 → All IsByte (a ∷ b ∷ c ∷ d ∷ [])
-four a b c d h k l m = All-cons IsByte a (b ∷ c ∷ d ∷ []) h (three b c d k l m)
-
 below : (c n : ℕ) → nat_lt c n ≡ true → c < n
 below c n h = grind (arith, nat_tests)
 
 char_bytes : (c : ℕ) → IsScalar c → All IsByte (encode_utf8 c)
 unfolding encode_utf8
-char_bytes c s = grind (arith, last_scalar, cond_both, nat_lt, below, one, two, three, four)
+char_bytes c s = grind (arith, cond_both, nat_lt, below, one, two, three, nat_tests)
 
 text_bytes : (cs : List ℕ) → all_scalars cs ≡ true → All IsByte (encode_utf8_all cs)
 text_bytes [] s = All-nil IsByte

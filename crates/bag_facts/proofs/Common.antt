@@ -59,7 +59,7 @@ pub use Rattle.bag_tree.specs.declared.tree_fault.TreeFault.{TreeFault}
 pub use Rattle.bag_tree.specs.declared.tree_fault.TreeFault.TheVariants.{Changed, Device, Exists, Memory, Name, NoneOpen, NotFound, Special, TooMany}
 pub use Rattle.percent_encoding.proofs.PercentLemmas.{All-percent_encode, IsByte, IsEscapeByte, round_trip}
 pub use Rattle.percent_encoding.specs.AsciiSet.{contains, should_percent_encode}
-pub use Rattle.percent_encoding.specs.Percent.{encode_byte, percent_decode, percent_encode, percent_encode_byte}
+pub use Rattle.percent_encoding.specs.Percent.{percent_decode, percent_encode}
 pub use Rattle.bag_facts.specs.Facts.{AreJudged, AreParsed, AreRulesOf, IsFactsOf, rules_in}
 pub use Rattle.bag_facts.specs.FaultLine.{LinesTellFaultsApart, alg_field, encoded, field, is_encoded, line_field}
 pub use Rattle.bag_facts.specs.FaultOrder.{AscendingFaultsAreOne, EqualFaultsAreOne, FaultsAreOrdered, OneOfThree, OneOfThreeHolds, fault_cmp}

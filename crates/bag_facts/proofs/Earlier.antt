@@ -11,16 +11,6 @@ same_field : (alg : Option Alg) → ((a : Alg) → alg ≡ Some a → 0 < earlie
 same_field None was = refl
 same_field (Some alg) was = same_name alg (was alg refl)
 
-none_first : (alg : Alg) → 0 < earlier_rank alg → nat_cmp 0 (rank alg) ≡ nat_cmp 0 (earlier_rank alg)
-none_first Sha224 was = absurd (omega (arith, was))
-none_first Sha384 was = absurd (omega (arith, was))
-none_first _ was = refl
-
-none_behind : (alg : Alg) → 0 < earlier_rank alg → nat_cmp (rank alg) 0 ≡ nat_cmp (earlier_rank alg) 0
-none_behind Sha224 was = absurd (omega (arith, was))
-none_behind Sha384 was = absurd (omega (arith, was))
-none_behind _ was = refl
-
 same_order : (a b : Alg) → 0 < earlier_rank a → 0 < earlier_rank b → nat_cmp (rank a) (rank b) ≡ nat_cmp (earlier_rank a) (earlier_rank b)
 same_order Sha224 b was was_too = absurd (omega (arith, was))
 same_order Sha384 b was was_too = absurd (omega (arith, was))
@@ -31,8 +21,8 @@ same_order _ _ was was_too = refl
 same_place : (a b : Option Alg) → ((alg : Alg) → a ≡ Some alg → 0 < earlier_rank alg) → ((alg : Alg) → b ≡ Some alg → 0 < earlier_rank alg)
     → nat_cmp (rank_or_zero a) (rank_or_zero b) ≡ nat_cmp (earlier_rank_or_zero a) (earlier_rank_or_zero b)
 same_place None None was was_too = refl
-same_place None (Some b) was was_too = none_first b (was_too b refl)
-same_place (Some a) None was was_too = none_behind a (was a refl)
+same_place None (Some b) was was_too = grind arith
+same_place (Some a) None was was_too = grind arith
 same_place (Some a) (Some b) was was_too = same_order a b (was a refl) (was_too b refl)
 
 pub earlier_faults_keep_their_order : EarlierFaultsKeepTheirOrder

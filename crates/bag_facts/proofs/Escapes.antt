@@ -1,5 +1,5 @@
 -- The escapes of a field.
-use Rattle.bag_facts.proofs.Common.{◌≡◌, ℕ, ◌||◌, ◌==◌, Bool, true, false, not, cond, length, List, [], ◌∷◌, ◌++◌, refl, ap, ◌∙◌, nat_lt, arith, codes, agree_below, agree_below_at, nat_tests, contains, percent_encode_byte, encode_byte, ESCAPED, is_encoded, encoded, field}
+use Rattle.bag_facts.proofs.Common.{◌≡◌, ℕ, ◌||◌, ◌==◌, Bool, true, false, not, length, List, [], ◌∷◌, refl, nat_lt, arith, codes, agree_below, agree_below_at, nat_tests, contains, ESCAPED, is_encoded, encoded, field}
 use Rattle.std.specs.Str.{bytes_eq}
 use Rattle.std.specs.List.{flat_map}
 use Rattle.percent_encoding.specs.AsciiSet.{should_percent_encode}
@@ -17,13 +17,10 @@ pub same_test : (b : ℕ) → should_percent_encode ESCAPED b ≡ is_encoded b
 unfolding should_percent_encode
 same_test b = same_test_at b (nat_lt b 128) refl
 
-same_byte : (b : ℕ) → encode_byte ESCAPED b ≡ encoded b
-same_byte b = ap (λ t. cond t (percent_encode_byte b) (b ∷ [])) (same_test b)
-
 pub same_escapes : (bs : List ℕ) → percent_encode ESCAPED bs ≡ flat_map encoded bs
 unfolding percent_encode
 same_escapes [] = refl
-same_escapes (b ∷ bs) = ap (λ front. front ++ flat_map (encode_byte ESCAPED) bs) (same_byte b) ∙ ap (λ rest. encoded b ++ rest) (same_escapes bs)
+same_escapes (b ∷ bs) = grind (arith, same_test, same_escapes bs)
 
 -- a text that is neither empty nor a hyphen
 pub other_field : (t : List ℕ) → bytes_eq t [] ≡ false → bytes_eq t (codes "-") ≡ false → field t ≡ flat_map encoded t

@@ -4,12 +4,9 @@ use Rattle.std.specs.Str.{bytes_eq}
 use Rattle.percent_encoding.specs.Percent.{percent_encode, percent_encode_byte}
 use Rattle.percent_encoding.specs.AsciiSet.{should_percent_encode}
 
-not_empty : (x : ℕ) (t : List ℕ) → (length (x ∷ t) == 0) ≡ true → ⊥
-not_empty x t e = grind (arith, nat_tests)
-
 pub empty_field : (t : List ℕ) → (length t == 0) ≡ true → field t ≡ codes "-"
 empty_field [] e = refl
-empty_field (x ∷ t) e = absurd (not_empty x t e)
+empty_field (x ∷ t) e = grind (arith, nat_tests)
 
 pub hyphen_field : (t : List ℕ) → bytes_eq t [] ≡ false → bytes_eq t (codes "-") ≡ true → field t ≡ codes "%2D"
 hyphen_field t some is = grind arith

@@ -24,25 +24,17 @@ equal_texts s t e = (bytes_eq-Decides s t).0 e
 other_texts : (s t : List ℕ) → bytes_eq s t ≡ false → s ≢ t
 other_texts s t e same = let yes = (bytes_eq-Decides s t).1 same in cc
 
-differ_at : (s t : List ℕ) (b : Bool) → bytes_eq s t ≡ b → s ≢ t → bytes_eq s t ≡ false
-differ_at s t true e other = absurd (other (equal_texts s t e))
-differ_at s t false e other = e
-
 -- the text that a field stands for
 abbrev pub unfield : List ℕ → List ℕ
 unfield w = cond (bytes_eq w (codes "-")) [] (percent_decode w)
 
--- what is escaped is a hyphen only where the text is one
-not_dash : (t : List ℕ) → All IsByte t → t ≢ codes "-" → flat_map encoded t ≢ codes "-"
-not_dash t small other e = other (sym (decoded t small) ∙ ap percent_decode e ∙ dash_stays)
-
 unfield_at : (w t : List ℕ) → w ≢ codes "-" → percent_decode w ≡ t → unfield w ≡ t
-unfield_at w t other read = ap (λ b. cond b [] (percent_decode w)) (differ_at w (codes "-") _ refl other) ∙ read
+unfield_at w t other read = grind (arith, equal_texts)
 
 unfield_field_at : (t : List ℕ) (b c : Bool) → bytes_eq t [] ≡ b → bytes_eq t (codes "-") ≡ c → All IsByte t → unfield (field t) ≡ t
 unfield_field_at t true c e f small = subst (λ x. unfield (field x) ≡ x) (sym (equal_texts t [] e)) refl
 unfield_field_at t false true e f small = subst (λ x. unfield (field x) ≡ x) (sym (equal_texts t (codes "-") f)) dash_decoded
-unfield_field_at t false false e f small = grind (arith, other_field, unfield_at, flat_map, not_dash, other_texts, decoded)
+unfield_field_at t false false e f small = grind (arith, other_field, unfield_at, flat_map, other_texts, decoded, dash_stays)
 
 pub unfield_field : (t : List ℕ) → IsUtf8 t → unfield (field t) ≡ t
 unfield_field t u = unfield_field_at t _ _ refl refl (utf8_bytes t u)

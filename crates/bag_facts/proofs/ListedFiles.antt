@@ -1,5 +1,5 @@
 -- The files of a listing.
-use Rattle.bag_facts.proofs.Common.{arith, ◌≡◌, ◌∷◌, inl, inr, ℕ, List, [], Option, None, Some, Bool, true, false, cond, refl, sym, ap, ◌∙◌, subst, is_some, map, Contains, bytes_eq, option_map, tied_itself, nat_list_cmp_total, Less, Equal, bytes_eq-Decides, text_cmp, contains_cases, contains_first, contains_behind, contains_nothing, member_has, Bag, file, HasFile, entry_at, size_at, FileEntry, AreListed, paths_of}
+use Rattle.bag_facts.proofs.Common.{arith, ◌≡◌, ◌∷◌, inl, inr, ℕ, List, [], Option, Some, Bool, true, false, cond, refl, sym, ap, ◌∙◌, subst, is_some, map, Contains, bytes_eq, option_map, tied_itself, nat_list_cmp_total, Less, Equal, bytes_eq-Decides, text_cmp, contains_cases, contains_first, contains_behind, contains_nothing, member_has, Bag, file, HasFile, entry_at, size_at, FileEntry, AreListed, paths_of}
 use Rattle.std.specs.List.{find}
 use Rattle.std.specs.List.Sorted.{IsStrictlySortedBy}
 use Rattle.bag_facts.proofs.Mapped.{mapped_contains}
@@ -24,44 +24,25 @@ module _ {A : Type 0} (key : A → List ℕ) where
     | inr d ↦ own_by x y xs (bytes_eq (key x) (key y)) refl (member_has _ (map key xs) (key y) s.0 (mapped_contains key xs y d)) (own_item xs y s.1 d)
   ]
 
-  found_by : (b : Bool) (x y : A) (xs : List A) (q : List ℕ) → bytes_eq (key x) q ≡ b → (item_at xs q ≡ Some y → Contains xs y × (key y ≡ q)) → cond b (Some x) (item_at xs q) ≡ Some y
-      → Contains (x ∷ xs) y × (key y ≡ q)
-  found_by true x y xs q same rest is = grind (arith, contains_first, bytes_eq-Decides)
-  found_by false x y xs q same rest is = (contains_behind x xs y (rest is).0, (rest is).1)
-
   -- an item that is found is there, and has the text
   pub found_item : (xs : List A) (q : List ℕ) (y : A) → item_at xs q ≡ Some y → Contains xs y × (key y ≡ q)
   found_item [] q y is = cc
-  found_item (x ∷ xs) q y is = found_by (bytes_eq (key x) q) x y xs q refl (found_item xs q y) is
+  found_item (x ∷ xs) q y is = grind (arith, contains_first, bytes_eq-Decides, contains_behind, found_item xs q y)
 
 -- the size of a listed file
 pub own_size : (files : List FileEntry) (entry : FileEntry) → IsStrictlySortedBy text_cmp (paths_of files) → Contains files entry → size_at files entry.path ≡ Some entry.size
 own_size files entry s c = ap (option_map (λ (e : FileEntry). e.size)) (own_item (λ (e : FileEntry). e.path) files entry s c)
 
-listed_by : (e : FileEntry) (files : List FileEntry) (path : List ℕ) (b : Bool) → bytes_eq e.path path ≡ b → (is_some (entry_at files path) ≡ true → Contains (paths_of files) path)
-    → is_some (cond b (Some e) (entry_at files path)) ≡ true → Contains (paths_of (e ∷ files)) path
-listed_by e files path true same rest h = subst (Contains (paths_of (e ∷ files))) ((bytes_eq-Decides e.path path).0 same) (contains_first e.path (paths_of files))
-listed_by e files path false same rest h = contains_behind e.path (paths_of files) path (rest h)
-
 listed_path : (files : List FileEntry) (path : List ℕ) → is_some (entry_at files path) ≡ true → Contains (paths_of files) path
 listed_path [] path h = cc
-listed_path (e ∷ files) path h = listed_by e files path (bytes_eq e.path path) refl (listed_path files path) h
-
-some_by : (e : FileEntry) (files : List FileEntry) (path : List ℕ) (b : Bool) → bytes_eq e.path path ≡ b → (Contains (paths_of files) path → is_some (entry_at files path) ≡ true)
-    → Contains (paths_of (e ∷ files)) path → is_some (cond b (Some e) (entry_at files path)) ≡ true
-some_by e files path true same rest c = refl
-some_by e files path false same rest c = grind (arith, contains_cases, bytes_eq-Decides)
+listed_path (e ∷ files) path h = grind (arith, bytes_eq-Decides, contains_first, contains_behind, listed_path files path)
 
 path_listed : (files : List FileEntry) (path : List ℕ) → Contains (paths_of files) path → is_some (entry_at files path) ≡ true
 path_listed [] path c = absurd (contains_nothing path c)
-path_listed (e ∷ files) path c = some_by e files path (bytes_eq e.path path) refl (path_listed files path) c
-
-some_mapped : {A B : Type 0} (f : A → B) (o : Option A) → is_some (option_map f o) ≡ is_some o
-some_mapped f None = refl
-some_mapped f (Some x) = refl
+path_listed (e ∷ files) path c = grind (arith, contains_cases, bytes_eq-Decides, path_listed files path)
 
 there : (bag : Bag) (files : List FileEntry) → AreListed bag files → (path : List ℕ) → is_some (entry_at files path) ≡ is_some (file bag path)
-there bag files listed path = grind (arith, some_mapped)
+there bag files listed path = grind arith
 
 -- a file of the bag is listed
 pub file_listed : (bag : Bag) (files : List FileEntry) (path : List ℕ) → AreListed bag files → HasFile bag path → Contains (paths_of files) path

@@ -16,15 +16,10 @@ contains_mapped g (x ∷ xs) y c = elim (contains_cases (g x) (map g xs) y c) [
 ]
 
 module _ {A : Type 0} (p : A → Bool) where
-  kept_by : (b : Bool) (y : A) (xs : List A) (x : A) → p y ≡ b → (Contains (filter p xs) x → (p x ≡ true) × Contains xs x)
-      → Contains (cond b (y ∷ filter p xs) (filter p xs)) x → (p x ≡ true) × Contains (y ∷ xs) x
-  kept_by true y xs x is rest c = grind (arith, contains_cases, contains_first, contains_behind)
-  kept_by false y xs x is rest c = ((rest c).0, contains_behind y xs x (rest c).1)
-
   -- what a filter keeps passes it, and was there
   pub kept : (xs : List A) (x : A) → Contains (filter p xs) x → (p x ≡ true) × Contains xs x
   kept [] x c = absurd (contains_nothing x c)
-  kept (y ∷ xs) x c = kept_by (p y) y xs x refl (kept xs x) c
+  kept (y ∷ xs) x c = grind (arith, contains_cases, contains_first, contains_behind, kept xs x)
 
   passed_by : (b : Bool) (y : A) (xs : List A) (x : A) → p y ≡ b → p x ≡ true → (Contains xs x → Contains (filter p xs) x)
       → Contains (y ∷ xs) x → Contains (cond b (y ∷ filter p xs) (filter p xs)) x

@@ -1,5 +1,5 @@
 -- The stop of a file that was refused, and for want of memory.
-use Rattle.bag_facts.proofs.Common.{arith, ◌≡◌, ◌≢◌, ◌∙◌, inl, inr, ℕ, List, [], length, Option, None, Some, true, false, is_some, IsTrue, refl, sym, ap, subst, and_parts, option_map, is_path, in_base, HasFile, file, MayTellMemory, RefusesNothing, TreeState, CameFromFile, IsEntryOf, MayRefuseWhole, Refused, FileEntry, Stop, TreeFault, NotFound, Changed, NoneOpen, Memory, memory_refused, IsOutOfMemory, IsRefusalOf, MayRefuseFacts, MayStopReading, StopsReading, IsWanted, Options}
+use Rattle.bag_facts.proofs.Common.{arith, ◌≡◌, ◌≢◌, ◌∙◌, inl, inr, ℕ, List, [], length, None, Some, true, false, IsTrue, sym, ap, subst, and_parts, option_map, is_path, in_base, HasFile, MayTellMemory, RefusesNothing, TreeState, CameFromFile, IsEntryOf, MayRefuseWhole, Refused, FileEntry, Stop, TreeFault, NotFound, Changed, NoneOpen, Memory, memory_refused, IsOutOfMemory, IsRefusalOf, MayRefuseFacts, MayStopReading, StopsReading, IsWanted, Options}
 
 -- what may refuse a listed file of an honest tree
 pub refused_file : (old new : TreeState) (entry : FileEntry) (cause : TreeFault) → (IsTrue old.honest → IsEntryOf old.bag entry) → MayRefuseWhole old new entry cause
@@ -26,13 +26,8 @@ path_some path is none = let clash : false ≡ true = sym (ap is_path none) ∙ 
 pub wanted_some : (options : Options) (path : List ℕ) → IsWanted options path → path ≢ []
 wanted_some options path (name, at, wants) = path_some path (subst (λ p. is_path p ≡ true) at (and_parts _ _ (in_base name)).0)
 
--- a listed file of a bag is there
-is_there : (content : Option (List ℕ)) (size : ℕ) → option_map length content ≡ Some size → is_some content ≡ true
-is_there None size e = let clash : None ≡ Some size = e in cc
-is_there (Some bytes) size e = refl
-
 pub has_entry : (old : TreeState) (entry : FileEntry) → (IsTrue old.honest → IsEntryOf old.bag entry) → IsTrue old.honest → HasFile old.bag entry.path
-has_entry old entry is honest = is_there (file old.bag entry.path) entry.size (is honest)
+has_entry old entry is honest = grind arith
 
 -- want of memory stops reading files
 pub stop_of_memory : (options : Options) (old new : TreeState) (stop : Stop) → IsOutOfMemory stop → RefusesNothing old new → StopsReading options old new stop

@@ -1,4 +1,5 @@
 -- The rules of what was read are those of the bag.
+use Rattle.std.proofs.Common.{arith}
 use Rattle.bag_facts.proofs.Common.{◌≡◌, inl, inr, ℕ, List, Option, None, Some, refl, sym, ap, ◌∙◌, is_some, map, Contains, Any, option_and_then, rules_of, Rules, declared_version, tag_path, Declaration, paths_differ, Bag, file, FileEntry, AreRulesOf, IsReadOf, IsDeclarationOf, AreListed, read_path, AreWanted, Options, TagBytes}
 use Rattle.bag_read.specs.declared.declaration.Declaration as declared
 use Rattle.bag_facts.specs.Facts.{rules_in}
@@ -9,23 +10,15 @@ use Rattle.bag_facts.proofs.Mapped.{contains_mapped}
 abbrev rules_by : Option (List ℕ) → Rules
 rules_by content = rules_of (option_and_then declared_version content)
 
-told_by : (content : Option (List ℕ)) (known : declared.Declaration) → IsReadOf IsDeclarationOf content (Some known) → rules_of known.version ≡ rules_by content
-told_by None known read = absurd read
-told_by (Some bytes) known read = ap rules_of read.version
-
-untold_by : (content : Option (List ℕ)) → IsReadOf IsDeclarationOf content None → rules_of None ≡ rules_by content
-untold_by None read = refl
-untold_by (Some bytes) read = absurd read
-
 -- what is known of the declaration tells the rules
 pub rules_told : (bag : Bag) (known : declared.Declaration) → IsReadOf IsDeclarationOf (file bag (tag_path Declaration)) (Some known) → rules_of known.version ≡ rules_in bag
 unfolding rules_in
-rules_told bag known read = told_by (file bag (tag_path Declaration)) known read
+rules_told bag known read = grind arith
 
 -- and where there is none, they are those of no version
 pub rules_untold : (bag : Bag) → IsReadOf IsDeclarationOf (file bag (tag_path Declaration)) None → rules_of None ≡ rules_in bag
 unfolding rules_in
-rules_untold bag read = untold_by (file bag (tag_path Declaration)) read
+rules_untold bag read = grind arith
 
 module _ (bag : Bag) (options : Options) (files : List FileEntry) (read : List TagBytes) (listed : AreListed bag files) (wanted : AreWanted options files (map read_path read))
     (are : (one : TagBytes) → Contains read one → file bag (read_path one) ≡ Some one.bytes.items) where

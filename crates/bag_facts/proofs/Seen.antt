@@ -1,15 +1,11 @@
 -- A bag that has the listed files, with the bytes that were read of some.
-use Rattle.bag_facts.proofs.Common.{arith, ◌≡◌, ℕ, List, [], ◌∷◌, length, map, replicate, Bool, true, false, cond, Option, None, Some, refl, ap, sym, ◌∙◌, Contains, option_map, IsStrictlySortedBy, find, from_entries, get-from_entries, nat_list_cmp_total, length-replicate, text_cmp, Bag, file, IsOrdered, HasItsFolder, IsListingOf, entry_at, size_at, FileEntry, Listing, same_test, read_path, paths_of, TagBytes}
+use Rattle.bag_facts.proofs.Common.{arith, ◌≡◌, ℕ, List, [], ◌∷◌, length, map, replicate, Option, None, Some, refl, ap, sym, ◌∙◌, Contains, option_map, IsStrictlySortedBy, find, from_entries, get-from_entries, nat_list_cmp_total, length-replicate, text_cmp, Bag, file, IsOrdered, HasItsFolder, IsListingOf, entry_at, size_at, FileEntry, Listing, same_test, read_path, paths_of, TagBytes}
 use Rattle.bag_facts.proofs.ListedFiles.{item_at, own_item, found_item, own_size}
 use Rattle.bag_facts.proofs.SeenFolders.{folders_of, data_listed}
 
-map-cond : {A B : Type 0} (f : A → B) (b : Bool) (x : A) (o : Option A) → option_map f (cond b (Some x) o) ≡ cond b (Some (f x)) (option_map f o)
-map-cond f true x o = refl
-map-cond f false x o = refl
-
 find-mapped : (f : FileEntry → List ℕ) (files : List FileEntry) (q : List ℕ) → find text_cmp q (map (λ e. (e.path, f e)) files) ≡ option_map f (entry_at files q)
 find-mapped f [] q = refl
-find-mapped f (e ∷ files) q = grind (arith, same_test, map-cond, find-mapped f files q)
+find-mapped f (e ∷ files) q = grind (arith, same_test, find-mapped f files q)
 
 -- the bytes that were read, or as many as were listed
 abbrev pub bytes_or : Option TagBytes → ℕ → List ℕ

@@ -1,5 +1,5 @@
 -- The wanted tag files among listed files.
-use Rattle.bag_facts.proofs.Common.{◌≡◌, ◌≢◌, inl, inr, ◌&&◌, ℕ, List, [], ◌∷◌, ◌++◌, Bool, true, false, cond, refl, sym, ap, ◌∙◌, arith, Contains, map, bytes_eq, filter, list_any, IsStrictlySortedBy, and_from, map-append, filter-append, bytes_eq-Decides, text_cmp, algs, each_is_listed, contains_behind, contains_front, contains_back, tag_path, TagName, Declaration, Info, Fetch, Manifest, any_from, from_any, both_true, FileEntry, Wants, IsWanted, AreWanted, paths_of, Options}
+use Rattle.bag_facts.proofs.Common.{◌≡◌, inl, inr, ◌&&◌, ℕ, List, [], ◌∷◌, ◌++◌, Bool, true, false, cond, refl, ap, arith, Contains, map, bytes_eq, filter, list_any, IsStrictlySortedBy, and_from, map-append, filter-append, bytes_eq-Decides, text_cmp, algs, each_is_listed, contains_behind, contains_front, contains_back, tag_path, TagName, Declaration, Info, Fetch, Manifest, any_from, from_any, both_true, FileEntry, Wants, IsWanted, AreWanted, paths_of, Options}
 use Rattle.std.proofs.lemmas.List.Kept.{IsStrictlySortedBy-filter}
 use Rattle.bag_read.specs.declared.kind.Kind.TheVariants.{Payload, Tag}
 use Rattle.bag_facts.specs.declared.options.Depth.{Depth}
@@ -28,15 +28,6 @@ abbrev is_deep : Depth → Bool
 is_deep depth_of.Declaration = false
 is_deep other = true
 
-deep : (depth : Depth) → depth ≢ depth_of.Declaration → is_deep depth ≡ true
-deep depth_of.Declaration other = absurd (other refl)
-deep depth_of.Fast other = refl
-deep depth_of.Complete other = refl
-deep depth_of.Full other = refl
-
-deeper : (depth : Depth) → is_deep depth ≡ true → depth ≢ depth_of.Declaration
-deeper depth is same = let clash : true ≡ false = sym is ∙ ap is_deep same in cc
-
 abbrev wants : Options → TagName → Bool
 wants options Declaration = true
 wants options other = is_deep options.depth
@@ -44,11 +35,11 @@ wants options other = is_deep options.depth
 to_wants : (options : Options) (name : TagName) → Wants options name → wants options name ≡ true
 to_wants options Declaration h = refl
 to_wants options other (inl e) = cc
-to_wants options other (inr more) = deep options.depth more
+to_wants options other (inr more) = grind arith
 
 from_wants : (options : Options) (name : TagName) → wants options name ≡ true → Wants options name
 from_wants options Declaration h = inl refl
-from_wants options other h = inr (deeper options.depth h)
+from_wants options other h = grind arith
 
 abbrev pub is_wanted : Options → List ℕ → Bool
 is_wanted options path = list_any (λ name. wants options name && bytes_eq (tag_path name) path) names
