@@ -12,13 +12,13 @@ pub use Rattle.std.specs.Borrow.{Bor}
 pub use Rattle.std.specs.Char.{is_ascii_digit, is_ascii_hexdigit, to_ascii_lowercase}
 pub use Rattle.std.specs.Cmp.{IsTotalOrder, nat_cmp_is}
 pub use Rattle.std.specs.List.{AllByRecursion, IsDistinct, after_first, before_first, cons_option, enumerate_from, filter, join_with_byte, list_all, list_any, position_or_len, prefix_len, slice_get, starts_with}
-pub use Rattle.std.specs.Option.{is_some, option_copied, option_to_list}
+pub use Rattle.std.specs.Option.{is_some, option_copied}
 pub use Rattle.std.specs.Ordering.{is_eq, is_lt, nat_cmp, on, ordering_reverse}
-pub use Rattle.std.specs.Prelude.{Contains, IfOk, IsTrue, OkIff, decimal, filter_map, nat_le, option_and_then, ◌↔◌}
+pub use Rattle.std.specs.Prelude.{Contains, IfOk, IsTrue, OkIff, filter_map, nat_le, option_and_then, ◌↔◌}
 pub use Rattle.std.specs.Str.{all_ascii_digits, byte, is_utf8, str_to_ascii_lowercase}
 pub use Rattle.std.specs.Str.Parse.{ParsesUnsigned, digits_value}
 pub use Rattle.std.specs.declared.cmp.Ordering.{Ordering}
-pub use Rattle.std.specs.declared.cmp.Ordering.TheVariants.{Equal, Greater, Less}
+pub use Rattle.std.specs.declared.cmp.Ordering.TheVariants.{Equal, Less}
 pub use Rattle.bag_text.proofs.LineEnds.{spellings}
 pub use Rattle.bag_text.proofs.ListOf.{contains_behind, contains_cases, contains_first, contains_nothing, each_from_members, joined, member_has, nothing_listed, one_listed, one_more, only_from_some, only_listed, same_members}
 pub use Rattle.bag_text.proofs.Numbered.{length-numbered, line_is_numbered, numbered_is_line}
@@ -28,7 +28,7 @@ pub use Rattle.bag_text.specs.Lines.{IsLine, line_feed, lines, lines_of_file, li
 pub use Rattle.bag_text.specs.Number.{is_digits}
 pub use Rattle.bag_text.specs.NumberedRest.{numbered_rest}
 pub use Rattle.bag_text.specs.Order.{IsListOf}
-pub use Rattle.bag_text.specs.Path.{components, first_component, is_base_name, is_path, is_payload_path}
+pub use Rattle.bag_text.specs.Path.{is_path, is_payload_path}
 pub use Rattle.bag_text.specs.Spelling.{unescaped}
 pub use Rattle.bag_text.specs.Text.{IsNoText, IsText, after_blanks, after_prefix, before_blank, begins_with_blank, ends_with_blank, has_mark, is_blank, is_blank_line, same_label, text_cmp, text_of, trim, without_mark, without_prefix}
 pub use Rattle.bag_text.specs.declared.alg.Alg.{Alg}
@@ -38,13 +38,13 @@ pub use Rattle.bag_text.specs.declared.rules.Rules.{Rules}
 pub use Rattle.hex.specs.Hex.{encode_lower, lower_digits}
 pub use Rattle.bag_read.specs.Declaration.{DeclarationFault, IsDeclarationFault, IsUnread, encoding_of, is_encoding, is_supported_version, is_version, version_of, when}
 pub use Rattle.bag_read.specs.DeclarationLine.{DeclaresNone, DeclaresOne, EncodingLinesReadAsTheirParts, IsEncodingLine, IsFaulty, IsVersionLine, LinesDeclareOrAreFaulty, VersionLinesReadAsTheirParts}
-pub use Rattle.bag_read.specs.Fetch.{FetchFault, HasReason, IsFetch, IsFetchFault, entry, entry_in, fetch_line, fetched_path, is_length, lacks_part, length_of, path_spelled, spelling_of, url_of, written_of}
+pub use Rattle.bag_read.specs.Fetch.{FetchFault, IsFetch, IsFetchFault, entry, entry_in, fetch_line, fetched_path, is_length, lacks_part, length_of, path_spelled, spelling_of, url_of, written_of}
 pub use Rattle.bag_read.specs.Info.{DoesNotSplit, InfoFault, IsElement, IsInfoFault, IsOrphan, begins_element, continuations, is_colon, is_continuation, is_label, leading_continuations, split, value_of_parts}
 pub use Rattle.bag_read.specs.InfoPlaces.{ContinuationsAreBelow, EachLineHasOnePlace, EachLineIsOfOneElement, GoesOn, IsAbove, IsFaultOf, IsFirstOf, IsPartOf, IsPassedOver}
-pub use Rattle.bag_read.specs.InfoReader.{Numbered, after_line, all_elements, all_faults, element_at, element_if, elements, fault_at, fault_unless, faults, value_on, with_part, wrong}
-pub use Rattle.bag_read.specs.LineFault.{AreFaults, entries_read, entry_of, fault_in, fault_of, faults_read, line_fault, line_fault_cmp, not_utf8}
+pub use Rattle.bag_read.specs.InfoReader.{Numbered, after_line, all_elements, all_faults, element_at, elements, fault_at, fault_unless, faults, value_on, with_part, wrong}
+pub use Rattle.bag_read.specs.LineFault.{AreFaults, entries_read, entry_of, fault_of, faults_read, line_fault, line_fault_cmp, not_utf8}
 pub use Rattle.bag_read.specs.LineParts.{AreDigits, BeginsUnblank, IsCut, IsFronted, IsWithout}
-pub use Rattle.bag_read.specs.Manifest.{IsEntry, IsManifestFault, ManifestFault, Reads, checked_digest, digest_of, entry_unless, line_by_spelling, manifest_line, named, named_before, named_path, path_read, placed, spelled_path, without_marks}
+pub use Rattle.bag_read.specs.Manifest.{IsEntry, IsManifestFault, ManifestFault, Reads, checked_digest, digest_of, line_by_spelling, manifest_line, named, named_before, named_path, path_read, placed, spelled_path, without_marks}
 pub use Rattle.bag_read.specs.ManifestName.{is_alg_text, is_manifest_name, manifest_name, prefix}
 pub use Rattle.bag_read.specs.Oxum.{IsOxum, OxumsReadAsTheirParts, Writes, is_dot, is_number, number_of, oxum_of}
 pub use Rattle.bag_read.specs.Reason.{IsFirst, Reason, decoded_or, ◌>>=◌}

@@ -1,13 +1,7 @@
 -- The faults of a declaration: first of the whole file, then of each line.
-use Rattle.bag_read.proofs.Common.{◌≡◌, ◌≢◌, ℕ, suc, ◌≤◌, ◌⊎◌, inl, inr, Bool, true, false, ◌==◌, List, [], ◌∷◌, length, refl, ap, sym, ◌∙◌, subst, codes, Some, None, Option, arith, lit<, cond, ◌-◌, decimal, nat_le, option_and_then, slice_get, Less, IsText, IsNoText, has_mark, same_label, lines_of_file, Code, DeclarationNotUtf8, DeclarationLineCount, DeclarationLine, VersionUnsupported, EncodingUnsupported, nat_tests, only_listed, one_listed, one_more, same_members, only_from_some, LineFault, AreFaults, line_fault_cmp, line_fault, IsDeclarationFault, DeclarationFault, IsUnread, version_of, encoding_of, is_supported_version}
+use Rattle.bag_read.proofs.Common.{◌≡◌, ℕ, suc, ◌≤◌, ◌⊎◌, inl, inr, Bool, true, false, List, [], ◌∷◌, length, refl, ap, sym, ◌∙◌, subst, codes, Some, None, Option, arith, lit<, cond, ◌-◌, nat_le, option_and_then, slice_get, Less, IsText, IsNoText, has_mark, same_label, lines_of_file, Code, DeclarationNotUtf8, DeclarationLineCount, DeclarationLine, VersionUnsupported, EncodingUnsupported, nat_tests, only_listed, one_listed, one_more, same_members, only_from_some, LineFault, AreFaults, line_fault_cmp, line_fault, IsDeclarationFault, DeclarationFault, IsUnread, version_of, encoding_of, is_supported_version}
 use Rattle.bag_read.proofs.FaultOrder.{is_fault, line_below, code_below}
 use Rattle.bag_read.specs.DeclarationFaults.{utf8_fault, mark_fault, count_fault, version_fault, encoding_fault, on_line, text_faults}
-
-other_number : (n m : ℕ) → (n == m) ≡ false → n ≢ m
-other_number n m e same = grind (arith, nat_tests)
-
-number_test : (n m : ℕ) → n ≢ m → (n == m) ≡ false
-number_test n m h = grind (arith, nat_tests, h)
 
 -- the fault of a line, where the line is there
 abbrev first_line_fault : Option (List ℕ) → Option LineFault
@@ -63,15 +57,11 @@ module _ (bytes : List ℕ) (text : IsText bytes) where
   mark_line : (f : LineFault) → Mark f → f.line ≡ 0
   mark_line f (c, h) = grind arith
 
-  count_go : (b : Bool) (f : LineFault) → (length lines == 2) ≡ b → cond b None (Some (line_fault 0 DeclarationLineCount (decimal (length lines)))) ≡ Some f → Count f
-  count_go true f e h = cc
-  count_go false f e h = grind (arith, other_number (length lines) 2 e)
-
   count_is : (f : LineFault) → count_fault (length lines) ≡ Some f → Count f
-  count_is f h = count_go (length lines == 2) f refl h
+  count_is f h = grind (arith, nat_tests)
 
   is_count : (f : LineFault) → Count f → count_fault (length lines) ≡ Some f
-  is_count f (c, h) = grind (arith, number_test, is_fault)
+  is_count f (c, h) = grind (arith, is_fault, nat_tests)
 
   count_line : (f : LineFault) → Count f → f.line ≡ 0
   count_line f (c, h) = let row : DeclarationFault DeclarationLineCount bytes f = subst (λ code. DeclarationFault code bytes f) c h in row.0
@@ -161,17 +151,8 @@ module _ (bytes : List ℕ) (text : IsText bytes) where
   to_fault f (inl (inr h)) = h.1
   to_fault f (inr h) = h.1
 
-  from_code : (code : Code) (f : LineFault) → f.code ≡ code → DeclarationFault code bytes f → IsDeclarationFault bytes f → ((Mark f ⊎ Count f) ⊎ First f) ⊎ Second f
-  from_code DeclarationNotUtf8 f c h is = inl (inl (inl (c, is)))
-  from_code DeclarationLineCount f c h is = inl (inl (inr (c, is)))
-  from_code DeclarationLine f c (inl x) is = inl (inr (x.0, is))
-  from_code DeclarationLine f c (inr x) is = inr (x.0, is)
-  from_code VersionUnsupported f c h is = inl (inr (h.0, is))
-  from_code EncodingUnsupported f c h is = inr (h.0, is)
-  from_code other f c h is = absurd h
-
   from_fault : (f : LineFault) → IsDeclarationFault bytes f → ((Mark f ⊎ Count f) ⊎ First f) ⊎ Second f
-  from_fault f h = from_code f.code f refl h h
+  from_fault f h = grind arith
 
   -- the faults of a file that is UTF-8
   pub faults_of_text : AreFaults (IsDeclarationFault bytes) (text_faults bytes lines)

@@ -1,5 +1,5 @@
 -- The two lines of the declaration and their parts.
-use Rattle.bag_read.proofs.Common.{◌≡◌, ◌≢◌, ℕ, Bool, true, false, not, ◌==◌, cond, List, [], ◌∷◌, ◌++◌, refl, ap, subst, codes, Option, Some, None, bytes_eq, nat_eq, arith, IsTrue, option_and_then, is_ascii_digit, list_all, before_first, after_first, byte, nat_tests, is_digits, after_prefix, is_blank, when, is_version, is_encoding, AreDigits, VersionLinesReadAsTheirParts, EncodingLinesReadAsTheirParts}
+use Rattle.bag_read.proofs.Common.{◌≡◌, ◌≢◌, ℕ, Bool, true, not, ◌==◌, List, [], ◌∷◌, ◌++◌, refl, codes, Some, bytes_eq, nat_eq, arith, IsTrue, option_and_then, is_ascii_digit, list_all, before_first, after_first, byte, nat_tests, is_digits, after_prefix, is_blank, when, is_version, is_encoding, AreDigits, VersionLinesReadAsTheirParts, EncodingLinesReadAsTheirParts}
 use Rattle.bag_read.proofs.AreDigits.{are_digits, digits_are}
 use Rattle.bag_read.proofs.FirstMark.{cut_before, before_is, behind_is}
 use Rattle.bag_read.proofs.Fronts.{drop_front}
@@ -35,18 +35,9 @@ is_version_of t (major, minor, a, b, e) =
     let after : after_first is_dot t ≡ minor = behind_is (byte ".") major minor t (digits_no_dot major a.1) e in
     rw (before, after, digits_are major a, digits_are minor b) refl
 
--- a text that passes its test, after its label
-when_by : (test : List ℕ → Bool) (t u : List ℕ) (b : Bool) → test t ≡ b → cond b (Some t) None ≡ Some u → (test u ≡ true) × (t ≡ u)
-when_by test t u true e h = let same : t ≡ u = cc in (subst (λ s. test s ≡ true) same e, same)
-when_by test t u false e h = cc
-
-then_some : (test : List ℕ → Bool) (o : Option (List ℕ)) (u : List ℕ) → option_and_then (when test) o ≡ Some u → (o ≡ Some u) × (test u ≡ true)
-then_some test None u e = cc
-then_some test (Some t) u e = let two = when_by test t u (test t) refl e in (ap Some two.1, two.0)
-
 module _ (test : List ℕ → Bool) (label line value : List ℕ) where
   pub labelled : option_and_then (when test) (after_prefix label line) ≡ Some value → (line ≡ label ++ value) × (test value ≡ true)
-  labelled e = let two = then_some test (after_prefix label line) value e in (after_is label line value two.0, two.1)
+  labelled e = grind (arith, after_prefix, after_is)
 
   pub labelled_back : line ≡ label ++ value → test value ≡ true → option_and_then (when test) (after_prefix label line) ≡ Some value
   labelled_back at good = grind (arith, nat_eq, prefix_test, drop_front)

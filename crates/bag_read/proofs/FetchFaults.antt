@@ -1,7 +1,7 @@
 -- The entries and the faults of fetch.txt.
-use Rattle.bag_read.proofs.Common.{arith, ◌≡◌, ℕ, true, false, List, [], ◌∷◌, refl, ap, sym, ◌∙◌, Ok, nat_cmp, on, IsLine, lines_of_file, IsText, IsNoText, IsListOf, Rules, Code, NotUtf8, nothing_listed, one_listed, same_members, AreFaults, line_fault_cmp, not_utf8, entries_read, faults_read, url_of, length_of, fetch_line, entry, entry_in, HasReason, IsFetch, IsFetchFault, FetchFault, LineFault, FetchEntry}
+use Rattle.bag_read.proofs.Common.{arith, ◌≡◌, ℕ, true, false, List, [], ◌∷◌, refl, ap, sym, ◌∙◌, Ok, nat_cmp, on, lines_of_file, IsText, IsNoText, IsListOf, Rules, Code, NotUtf8, nothing_listed, one_listed, same_members, AreFaults, line_fault_cmp, not_utf8, entries_read, faults_read, url_of, length_of, fetch_line, entry, entry_in, IsFetch, IsFetchFault, FetchFault, LineFault, FetchEntry}
 use Rattle.bag_read.proofs.FaultOrder.{is_fault}
-use Rattle.bag_read.proofs.FetchLine.{IsReasonCode, reason_code}
+use Rattle.bag_read.proofs.FetchLine.{reason_code}
 use Rattle.bag_read.proofs.LinesRead.{IsRead, IsUnread, entries_listed, faults_listed}
 use Rattle.bag_read.proofs.Reason.{bind_ok, bind_err, ok_same}
 use Rattle.bag_read.proofs.Utf8.{no_line}
@@ -32,12 +32,8 @@ module _ (rules : Rules) where
     abbrev all : List (List ℕ)
     all = lines_of_file bytes
 
-    row : (code : Code) (f : LineFault) → IsReasonCode rules code → (line : List ℕ) × IsLine all f.line line × HasReason rules line (code, f.detail) → FetchFault rules code bytes f
-    row NotUtf8 f r h = absurd r
-    row other f r h = h
-
     fault_read : (f : LineFault) → IsUnread (entry_in rules) all f → IsFetchFault rules bytes f
-    fault_read f (line, at, (some, is)) = grind (arith, bind_err, row, reason_code)
+    fault_read f (line, at, (some, is)) = grind (arith, bind_err, reason_code)
 
     from_code : (code : Code) (f : LineFault) → f.code ≡ code → FetchFault rules code bytes f → IsUnread (entry_in rules) all f
     from_code NotUtf8 f e h = let clash : true ≡ false = sym is_utf8 ∙ h.2 in cc

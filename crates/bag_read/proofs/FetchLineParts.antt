@@ -1,5 +1,5 @@
 -- A line of fetch.txt and its parts.
-use Rattle.bag_read.proofs.Common.{arith, ◌≡◌, ◌≢◌, ℕ, ◌⊎◌, inl, inr, Bool, true, false, not, ◌&&◌, ◌||◌, cond, List, [], refl, sym, ap, ◌∙◌, subst, codes, length, Some, Result, Ok, Err, bytes_eq, nat_lt, IsTrue, bytes_eq-Decides, is_digits, is_path, is_payload_path, first_component, components, unescaped, is_blank_line, before_blank, after_blanks, without_prefix, Rules, FetchLine, FetchEscape, FetchOutsidePayload, FetchUnsafePath, spellings, Reason, decoded_or, IsWithout, url_of, length_of, written_of, is_length, lacks_part, spelling_of, fetched_path}
+use Rattle.bag_read.proofs.Common.{arith, ◌≡◌, ◌≢◌, ℕ, ◌⊎◌, inl, inr, Bool, true, false, not, ◌||◌, cond, List, [], refl, sym, ap, ◌∙◌, subst, codes, length, Some, Result, Ok, Err, bytes_eq, nat_lt, IsTrue, bytes_eq-Decides, is_path, is_payload_path, unescaped, is_blank_line, before_blank, after_blanks, without_prefix, Rules, FetchLine, FetchEscape, FetchOutsidePayload, FetchUnsafePath, spellings, Reason, decoded_or, IsWithout, url_of, length_of, written_of, is_length, lacks_part, spelling_of}
 use Rattle.bag_read.specs.Fetch.{fetch_line}
 use Rattle.bag_read.specs.FetchLine.{IsLength, ReadsAs, FetchLinesReadAsTheirParts, OnlyReads, HasOnlyReason, FetchLinesReadOrHaveOneReason}
 use Rattle.bag_read.proofs.AreDigits.{are_digits, digits_are}
@@ -17,11 +17,7 @@ length_told t e = grind (arith, either_true, bytes_eq-Decides, are_digits)
 
 pub told_length : (t : List ℕ) → IsLength t → is_length t ≡ true
 told_length t (inl e) = rw ((bytes_eq-Decides t (codes "-")).1 e) refl
-told_length t (inr digits) = digits_too (bytes_eq t (codes "-")) (digits_are t digits)
-  where
-    digits_too : (b : Bool) → is_digits t ≡ true → (b || is_digits t) ≡ true
-    digits_too true e = refl
-    digits_too false e = e
+told_length t (inr digits) = grind (arith, digits_are)
 
 pub length_some : (t : List ℕ) → is_length (before_blank t) ≡ true → t ≢ []
 length_some t e none = let clash : false ≡ true = ap (λ s. is_length (before_blank s)) (sym none) ∙ e in cc
@@ -48,12 +44,6 @@ fetched_by : (path fetched : List ℕ) (a b : Bool) → is_path path ≡ a → i
 fetched_by path fetched true true e f h = (f, let same : path ≡ fetched = cc in same)
 fetched_by path fetched true false e f h = cc
 fetched_by path fetched false b e f h = cc
-
-pub payload_is_path : (path : List ℕ) → is_payload_path path ≡ true → is_path path ≡ true
-payload_is_path path e = (both_true (is_path path) (bytes_eq (first_component path) (codes "data")) (both_true (is_path path && bytes_eq (first_component path) (codes "data")) (nat_lt 1 (length (components path))) e).0).0
-
-payload_fetched : (path : List ℕ) → is_payload_path path ≡ true → fetched_path path ≡ Ok path
-payload_fetched path e = grind (arith, payload_is_path)
 
 module _ (rules : Rules) where
   -- a line that reads, and its parts
@@ -90,15 +80,12 @@ module _ (rules : Rules) where
     written_is : written_of line ≡ r.written
     written_is = ap after_blanks behind_is ∙ cut_rest r.behind size r.written r.length_next
 
-    has_all : HasTests (url_of line) (length_of line) (written_of line)
-    has_all = grind (arith, url_is, size_is, told_length, written_is, begins_some)
-
     spelling_is : spelling_of line ≡ Ok r.spelling
-    spelling_is = grind (arith, lacks_none, has_all, written_is, without_alone)
+    spelling_is = grind (arith, lacks_none, written_is, without_alone, url_is, size_is, told_length, begins_some)
 
     pub path_is : fetch_line rules line ≡ Ok path
     unfolding fetch_line
-    path_is = grind (arith, spelling_is, spellings, payload_fetched)
+    path_is = grind (arith, spelling_is, spellings, both_true, nat_lt)
 
   result_by : (line : List ℕ) (r : Result (List ℕ) Reason) → is_blank_line line ≡ false → fetch_line rules line ≡ r → OnlyReads rules line ⊎ HasOnlyReason rules line
   result_by line (Ok x) some e = inl (

@@ -64,9 +64,6 @@ module _ (rules : Rules) (line : List ℕ) where
     unescaped_is : (text : List ℕ) → IsWritten rules line text → unescaped rules spelling ≡ Some text
     unescaped_is text (s, at, spells) = ap (unescaped rules) (spelled_alone s at) ∙ (spellings rules s text).0 spells
 
-    bad_escape : unescaped rules spelling ≡ None → Holds FetchEscape rules line spelling
-    bad_escape e = (is_spelled, λ path spells. none_some (unescaped rules spelling) path e ((spellings rules spelling path).0 spells))
-
     module _ (path : List ℕ) (e : unescaped rules spelling ≡ Some path) where
       no_bad_escape : (detail : List ℕ) → ¬ (Holds FetchEscape rules line detail)
       no_bad_escape detail (at, none) = none path ((spellings rules detail path).1 (sym (ap (unescaped rules) (spelled_alone detail at)) ∙ e))
@@ -92,7 +89,7 @@ module _ (rules : Rules) (line : List ℕ) where
 
     spelling_first : (reason : Reason) (o : Option (List ℕ)) → unescaped rules spelling ≡ o
         → (decoded_or FetchEscape o spelling >>= λ path. fetched_path path) ≡ Err reason → IsFirstOf behind_parts reason
-    spelling_first reason None e h = subst (IsFirstOf behind_parts) (err_same _ _ h) (inl (refl, bad_escape e))
+    spelling_first reason None e h = grind (arith, err_same, is_spelled, none_some, unescaped, spellings)
     spelling_first reason (Some path) e h = inr (no_bad_escape path e, path_first path e reason (is_path path) (is_payload_path path) refl refl h)
 
   abbrev FirstOf : List Code → Reason → Type 0

@@ -10,10 +10,6 @@ pub take_front : (xs ys : List ℕ) → take (length xs) (xs ++ ys) ≡ xs
 take_front [] ys = refl
 take_front (x ∷ xs) ys = ap (λ zs. x ∷ zs) (take_front xs ys)
 
-fails : (b : Bool) → not b ≡ true → b ≡ false
-fails true e = cc
-fails false e = refl
-
 module _ (p : ℕ → Bool) where
   -- the text is empty or begins with a character that doesn't pass
   abbrev pub stops : List ℕ → Bool
@@ -36,11 +32,7 @@ module _ (p : ℕ → Bool) where
   rest_stops [] = refl
   rest_stops (c ∷ t) = stops_on c t (p c) refl (rest_stops t)
 
-  no_front : (t : List ℕ) → stops t ≡ true → prefix_len p t ≡ 0
-  no_front [] e = refl
-  no_front (c ∷ t) e = rw (fails (p c) e) refl
-
   -- and no other front is one
   pub front_len : (front rest : List ℕ) → list_all p front ≡ true → stops rest ≡ true → prefix_len p (front ++ rest) ≡ length front
-  front_len [] rest e h = no_front rest h
+  front_len [] rest e h = grind arith
   front_len (c ∷ front) rest e h = let two = both_true (p c) (list_all p front) e in rw two.0 (omega (arith, front_len front rest two.1 h))

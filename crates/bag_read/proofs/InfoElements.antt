@@ -1,5 +1,5 @@
 -- The elements of numbered lines are those of the file, and no others.
-use Rattle.bag_read.proofs.Common.{◌≡◌, ℕ, zero, suc, ◌+◌, ◌-◌, ◌⊎◌, inl, inr, Bool, true, false, cond, List, [], ◌∷◌, ◌++◌, drop, take, map, refl, ap, sym, ◌∙◌, arith, Option, Some, None, append_assoc, append-nil, not, enumerate_from, slice_get, filter, prefix_len, join_with_byte, Ordering, nat_cmp, on, is_blank_line, trim, begins_with_blank, line_feed, IsListOf, nothing_listed, joined, only_listed, only_from_some, same_members, Rules, is_continuation, begins_element, split, leading_continuations, value_of_parts, IsElement, value_on, with_part, element_if, element_at, elements, Element}
+use Rattle.bag_read.proofs.Common.{◌≡◌, ℕ, zero, suc, ◌+◌, ◌-◌, ◌⊎◌, inl, inr, Bool, true, false, cond, List, [], ◌∷◌, ◌++◌, drop, take, map, refl, ap, sym, ◌∙◌, arith, Some, append_assoc, append-nil, not, enumerate_from, slice_get, filter, prefix_len, join_with_byte, Ordering, nat_cmp, on, is_blank_line, trim, begins_with_blank, line_feed, IsListOf, nothing_listed, joined, only_listed, only_from_some, same_members, Rules, is_continuation, begins_element, split, leading_continuations, value_of_parts, IsElement, value_on, with_part, element_at, elements, Element}
 use Rattle.bag_read.proofs.FaultOrder.{less}
 
 -- the parts behind the first
@@ -44,16 +44,8 @@ module _ (rules : Rules) where
       × (split rules line ≡ Some (e.label, part))
       × (e.value ≡ value_of_parts (part ∷ leading_continuations more))
 
-  made_cases : (n : ℕ) (line : List ℕ) (more : List (List ℕ)) (e : Element) (b : Bool) (s : Option (List ℕ × List ℕ)) → begins_element line ≡ b → split rules line ≡ s → cond b (element_if n s (enumerate_from (n + 1) more)) None ≡ Some e → Makes n line more e
-  made_cases n line more e false s eb es h = cc
-  made_cases n line more e true None eb es h = cc
-  made_cases n line more e true (Some x) eb es h = grind (arith, value_is)
-
   made : (n : ℕ) (line : List ℕ) (more : List (List ℕ)) (e : Element) → element_at rules n line (enumerate_from (n + 1) more) ≡ Some e → Makes n line more e
-  made n line more e h = made_cases n line more e (begins_element line) (split rules line) refl refl h
-
-  makes : (n : ℕ) (line : List ℕ) (more : List (List ℕ)) (e : Element) → Makes n line more e → element_at rules n line (enumerate_from (n + 1) more) ≡ Some e
-  makes n line more e (part, at, begins, splits, value) = grind (arith, value_is)
+  made n line more e h = grind (arith, value_is)
 
   -- an element of lines that are counted from n
   abbrev MakesFrom : ℕ → List (List ℕ) → Element → Type 0
@@ -88,9 +80,7 @@ module _ (rules : Rules) where
       to e (inr (m, l, at, (part, here, begins, splits, value))) = (suc m, l, at, (part, omega (arith, here), begins, splits, value))
 
       from : (e : Element) → MakesFrom n (line ∷ more) e → Either e
-      from e (zero, l, at, (part, here, begins, splits, value)) =
-          let same : line ≡ l = cc in
-          inl (makes n line more e (part, omega (arith, here), ap begins_element same ∙ begins, ap (split rules) same ∙ splits, value))
+      from e (zero, l, at, (part, here, begins, splits, value)) = grind (arith, value_is)
       from e (suc m, l, at, (part, here, begins, splits, value)) = inr (m, l, at, (part, omega (arith, here), begins, splits, value))
 
   -- the elements of a list of lines

@@ -1,5 +1,5 @@
 -- The faults of numbered lines are those of the file, and no others.
-use Rattle.bag_read.proofs.Common.{◌≡◌, ℕ, zero, suc, ◌+◌, ◌-◌, ◌⊎◌, inl, inr, Bool, true, false, ◌&&◌, ◌||◌, not, cond, List, [], ◌∷◌, take, refl, ap, sym, ◌∙◌, subst, arith, Option, Some, None, enumerate_from, slice_get, list_any, nat_cmp, on, is_blank_line, IsText, IsNoText, begins_with_blank, IsLine, lines_of_file, IsListOf, Code, NotUtf8, InfoLine, nothing_listed, one_listed, joined, only_listed, only_from_some, same_members, is_continuation, begins_element, split, DoesNotSplit, InfoFault, IsInfoFault, IsElement, fault_unless, fault_at, faults, wrong, AreFaults, line_fault_cmp, not_utf8, LineFault, Rules}
+use Rattle.bag_read.proofs.Common.{◌≡◌, ℕ, zero, suc, ◌+◌, ◌-◌, ◌⊎◌, inl, inr, Bool, true, false, ◌||◌, not, cond, List, [], ◌∷◌, take, refl, ap, sym, ◌∙◌, subst, arith, Option, Some, None, enumerate_from, slice_get, list_any, nat_cmp, on, is_blank_line, IsText, IsNoText, begins_with_blank, IsLine, lines_of_file, IsListOf, Code, NotUtf8, InfoLine, nothing_listed, one_listed, joined, only_listed, only_from_some, same_members, is_continuation, begins_element, split, DoesNotSplit, InfoFault, IsInfoFault, IsElement, fault_unless, fault_at, faults, wrong, AreFaults, line_fault_cmp, not_utf8, LineFault, Rules}
 use Rattle.bag_read.proofs.FaultOrder.{is_fault, line_below}
 use Rattle.bag_read.proofs.Utf8.{no_line}
 
@@ -18,16 +18,8 @@ module _ (rules : Rules) where
   fault_read : (begun : Bool) (n : ℕ) (line : List ℕ) (f : LineFault) → fault_at rules begun n line ≡ Some f → (f ≡ wrong n) × Why begun line
   fault_read begun n line f h = read_in begun n line f (is_blank_line line) (begins_with_blank line) (split rules line) refl refl refl h
 
-  made_in : (begun : Bool) (n : ℕ) (line : List ℕ) (f : LineFault) (b w : Bool) → f ≡ wrong n → (((not b && not w) ≡ true) × (split rules line ≡ None)) ⊎ (((not b && w) ≡ true) × (begun ≡ false)) → cond b None (cond w (cond begun None (Some (wrong n))) (fault_unless n (split rules line))) ≡ Some f
-  made_in begun n line f true w same (inl h) = let clash : false ≡ true = h.0 in cc
-  made_in begun n line f false true same (inl h) = let clash : false ≡ true = h.0 in cc
-  made_in begun n line f false false same (inl h) = rw (h.1) (ap Some (sym same))
-  made_in begun n line f true w same (inr h) = let clash : false ≡ true = h.0 in cc
-  made_in begun n line f false true same (inr h) = rw (h.1) (ap Some (sym same))
-  made_in begun n line f false false same (inr h) = let clash : false ≡ true = h.0 in cc
-
   fault_made : (begun : Bool) (n : ℕ) (line : List ℕ) (f : LineFault) → f ≡ wrong n → Why begun line → fault_at rules begun n line ≡ Some f
-  fault_made begun n line f same why = made_in begun n line f (is_blank_line line) (begins_with_blank line) same why
+  fault_made begun n line f same why = grind (arith, is_blank_line, begins_with_blank)
 
   -- a fault of lines that are counted from n
   abbrev WrongFrom : Bool → ℕ → List (List ℕ) → LineFault → Type 0

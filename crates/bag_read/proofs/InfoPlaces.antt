@@ -1,5 +1,5 @@
 -- Each line that isn't blank has one place.
-use Rattle.bag_read.proofs.Common.{◌≡◌, ℕ, zero, suc, ◌-◌, ◌<◌, ◌⊎◌, inl, inr, Bool, true, false, ◌&&◌, ◌||◌, not, List, [], ◌∷◌, take, refl, ap, sym, ◌∙◌, subst, arith, Option, Some, None, slice_get, list_any, cases_lt, is_blank_line, begins_with_blank, lines_of_file, IsLine, Code, NotUtf8, InfoLine, Rules, is_continuation, begins_element, split, continuations, value_of_parts, DoesNotSplit, IsOrphan, IsElement, InfoFault, IsAbove, GoesOn, IsFirstOf, IsPartOf, IsFaultOf, IsPassedOver, EachLineHasOnePlace, EachLineIsOfOneElement, wrong, LineFault, Element}
+use Rattle.bag_read.proofs.Common.{◌≡◌, ℕ, zero, suc, ◌-◌, ◌<◌, ◌⊎◌, inl, inr, Bool, true, false, ◌||◌, List, [], ◌∷◌, take, refl, ap, sym, ◌∙◌, subst, arith, Option, Some, None, slice_get, list_any, cases_lt, is_blank_line, begins_with_blank, lines_of_file, IsLine, Code, NotUtf8, InfoLine, Rules, is_continuation, begins_element, split, continuations, value_of_parts, DoesNotSplit, IsOrphan, IsElement, InfoFault, IsAbove, GoesOn, IsFirstOf, IsPartOf, IsFaultOf, IsPassedOver, EachLineHasOnePlace, EachLineIsOfOneElement, wrong, LineFault, Element}
 
 pub clash : (b : Bool) → b ≡ true → b ≡ false → ⊥
 clash true e f = cc
@@ -8,23 +8,13 @@ clash false e f = cc
 same_line : (all : List (List ℕ)) (k : ℕ) (a b : List ℕ) → IsLine all k a → IsLine all k b → a ≡ b
 same_line all k a b (s, e) (t, f) = let both : Some a ≡ Some b = sym e ∙ f in cc
 
-kind_in : (b w : Bool) → b ≡ false → ((not b && not w) ≡ true) ⊎ ((not b && w) ≡ true)
-kind_in true w e = cc
-kind_in false true e = inr refl
-kind_in false false e = inl refl
-
 -- a line that isn't blank begins an element or is a continuation
 kind : (line : List ℕ) → is_blank_line line ≡ false → (begins_element line ≡ true) ⊎ (is_continuation line ≡ true)
-kind line e = kind_in (is_blank_line line) (begins_with_blank line) e
-
-never_in : (b w : Bool) → (not b && not w) ≡ true → (not b && w) ≡ true → ⊥
-never_in true w e f = cc
-never_in false true e f = cc
-never_in false false e f = cc
+kind line e = grind (arith, is_blank_line, begins_with_blank)
 
 -- and not both
 pub never_both : (line : List ℕ) → begins_element line ≡ true → is_continuation line ≡ true → ⊥
-never_both line e f = never_in (is_blank_line line) (begins_with_blank line) e f
+never_both line e f = grind (arith, is_blank_line, begins_with_blank)
 
 one_kind : (all : List (List ℕ)) (k : ℕ) (a b : List ℕ) → IsLine all k a → begins_element a ≡ true → IsLine all k b → is_continuation b ≡ true → ⊥
 one_kind all k a b s e t f = never_both b (ap begins_element (sym (same_line all k a b s t)) ∙ e) f
@@ -44,13 +34,6 @@ module _ (p : List ℕ → Bool) where
   any_none (suc m) [] i line e l at = cc
   any_none (suc m) (x ∷ xs) zero line e l at = let same : x ≡ line = cc in ap p (sym same) ∙ (or_false (p x) (list_any p (take m xs)) e).0
   any_none (suc m) (x ∷ xs) (suc i) line e l at = any_none m xs i line (or_false (p x) (list_any p (take m xs)) e).1 (omega (arith, l)) at
-
-abbrev some_or : List ℕ × List ℕ → Option (List ℕ × List ℕ) → List ℕ × List ℕ
-some_or x None = x
-some_or x (Some y) = y
-
-in_some : (x y : List ℕ × List ℕ) → Some x ≡ Some y → x ≡ y
-in_some x y e = ap (some_or x) e
 
 abbrev begins_there : Option (List ℕ) → Bool
 begins_there None = false
@@ -106,7 +89,7 @@ module _ (rules : Rules) (all : List (List ℕ)) where
   one_above k i j (a, (text, at, begins), none) (b, (other, there, starts), nothing) = grind (arith, cases_lt, clash)
 
   same_element : (d e : Element) → IsElement rules all d → IsElement rules all e → d.line ≡ e.line → d ≡ e
-  same_element d e (a, p, at, begins, splits, value) (b, q, there, starts, parts, whole) n = grind (arith, same_line, in_some)
+  same_element d e (a, p, at, begins, splits, value) (b, q, there, starts, parts, whole) n = grind (arith, same_line)
 
   one_element : (k : ℕ) (d e : Element) → IsFirstOf rules all k d ⊎ IsPartOf rules all k d → IsFirstOf rules all k e ⊎ IsPartOf rules all k e → d ≡ e
   one_element k d e (inl (is, at)) (inl (other, there)) = same_element d e is other (at ∙ sym there)

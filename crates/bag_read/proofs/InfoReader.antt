@@ -1,4 +1,5 @@
 -- A line moves what it makes from the lines that follow to what was read.
+use Rattle.std.proofs.Common.{arith}
 use Rattle.bag_read.proofs.Common.{◌≡◌, ℕ, Bool, true, false, List, [], ◌∷◌, refl, Option, Some, None, append_assoc, is_blank_line, trim, begins_with_blank, split, Numbered, all_elements, all_faults, after_line, elements, faults, value_on, wrong, Rules}
 use Rattle.bag_read.specs.declared.info_reader.Above.{Above}
 use Rattle.bag_read.specs.declared.info_reader.Above.TheVariants.{Nothing, Refused, Begun}
@@ -23,19 +24,5 @@ module _ (rules : Rules) where
     pub elements_kept : all_elements rules (after_line rules r n line) xs ≡ all_elements rules r ((n, line) ∷ xs)
     elements_kept = elements_in (is_blank_line line) (begins_with_blank line) (split rules line) r.above refl refl refl refl
 
-    faults_in : (b w : Bool) (s : Option (List ℕ × List ℕ)) (a : Above) → is_blank_line line ≡ b → begins_with_blank line ≡ w → split rules line ≡ s → r.above ≡ a → all_faults rules (after_line rules r n line) xs ≡ all_faults rules r ((n, line) ∷ xs)
-    faults_in true w s Nothing eb ew es ea = rw (ea) (rw (eb) refl)
-    faults_in true w s Refused eb ew es ea = rw (ea) (rw (eb) refl)
-    faults_in true w s (Begun e) eb ew es ea = rw (ea) (rw (eb) refl)
-    faults_in false true s Nothing eb ew es ea = rw (ea) (rw (eb, ew) (append_assoc r.faults (wrong n ∷ []) (faults rules false xs)))
-    faults_in false true s Refused eb ew es ea = rw (ea) (rw (eb, ew) refl)
-    faults_in false true s (Begun e) eb ew es ea = rw (ea) (rw (eb, ew) refl)
-    faults_in false false None Nothing eb ew es ea = rw (ea) (rw (eb, ew, es) (append_assoc r.faults (wrong n ∷ []) (faults rules true xs)))
-    faults_in false false None Refused eb ew es ea = rw (ea) (rw (eb, ew, es) (append_assoc r.faults (wrong n ∷ []) (faults rules true xs)))
-    faults_in false false None (Begun e) eb ew es ea = rw (ea) (rw (eb, ew, es) (append_assoc r.faults (wrong n ∷ []) (faults rules true xs)))
-    faults_in false false (Some x) Nothing eb ew es ea = rw (ea) (rw (eb, ew, es) refl)
-    faults_in false false (Some x) Refused eb ew es ea = rw (ea) (rw (eb, ew, es) refl)
-    faults_in false false (Some x) (Begun e) eb ew es ea = rw (ea) (rw (eb, ew, es) refl)
-
     pub faults_kept : all_faults rules (after_line rules r n line) xs ≡ all_faults rules r ((n, line) ∷ xs)
-    faults_kept = faults_in (is_blank_line line) (begins_with_blank line) (split rules line) r.above refl refl refl refl
+    faults_kept = grind (arith, is_blank_line, begins_with_blank, split, append_assoc, wrong, faults)

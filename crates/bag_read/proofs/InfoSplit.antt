@@ -49,12 +49,8 @@ may_follow : (rules : Rules) (t : List ℕ) → may_follow_colon rules t ≡ tru
 may_follow V10 t e = after_colon t e
 may_follow V097 t e = tt
 
-after_test : (t : List ℕ) → (t ≡ []) ⊎ ((c : ℕ) × (more : List ℕ) × (t ≡ c ∷ more) × (is_blank c ≡ true)) → is_after_colon t ≡ true
-after_test t (inl none) = ap is_after_colon none
-after_test t (inr (c, more, e, blank)) = ap is_after_colon e ∙ blank
-
 follow_test : (rules : Rules) (t : List ℕ) → MayFollow rules t → may_follow_colon rules t ≡ true
-follow_test V10 t h = after_test t h
+follow_test V10 t h = grind arith
 follow_test V097 t h = refl
 
 -- ---- the line

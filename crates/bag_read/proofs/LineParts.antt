@@ -1,5 +1,5 @@
 -- The parts of a line: what stands before its blanks, and what follows them.
-use Rattle.bag_read.proofs.Common.{◌≡◌, ◌≢◌, ◌⊎◌, ℕ, suc, ◌+◌, inl, inr, Bool, true, false, not, ◌||◌, ◌==◌, cond, List, [], ◌∷◌, ◌++◌, length, take, drop, refl, sym, ap, ◌∙◌, subst, bytes_eq, nat_eq, arith, append_assoc, list_all, prefix_len, starts_with, nat_tests, take-append-drop, bytes_eq-Decides, is_blank, is_blank_line, before_blank, after_blanks, without_prefix, BeginsUnblank, IsCut, IsFronted, IsWithout}
+use Rattle.bag_read.proofs.Common.{◌≡◌, ◌≢◌, ◌⊎◌, ℕ, suc, ◌+◌, inl, inr, Bool, true, false, not, ◌||◌, cond, List, [], ◌∷◌, ◌++◌, length, take, drop, refl, sym, ap, ◌∙◌, subst, bytes_eq, nat_eq, arith, append_assoc, list_all, prefix_len, nat_tests, take-append-drop, bytes_eq-Decides, is_blank, is_blank_line, before_blank, after_blanks, without_prefix, BeginsUnblank, IsCut, IsFronted, IsWithout}
 use Rattle.std.proofs.lemmas.List.Folds.{length-prefix_len}
 use Rattle.bag_read.proofs.Fronts.{drop_front, take_front, stops, front_passes, rest_stops, front_len}
 use Rattle.bag_read.proofs.PickedOut.{both_true}
@@ -88,9 +88,6 @@ blank_stops : (blanks rest : List ℕ) → blanks ≢ [] → list_all is_blank b
 blank_stops [] rest h e = absurd (h refl)
 blank_stops (c ∷ blanks) rest h e = rw (both_true (is_blank c) (list_all is_blank blanks) e).0 refl
 
-zero_suc : (n : ℕ) → (0 == suc n) ≡ false
-zero_suc n = grind (arith, nat_tests)
-
 -- and it is cut so in no other way
 module _ (text part rest : List ℕ) (cut : IsCut text part rest) where
   abbrev behind : List ℕ
@@ -102,15 +99,12 @@ module _ (text part rest : List ℕ) (cut : IsCut text part rest) where
   pub cut_part : before_blank text ≡ part
   cut_part = grind (arith, text_at, front_len, blank_stops, take_front)
 
-  tail_is : drop (length (before_blank text)) text ≡ behind
-  tail_is = ap (λ h. drop (length h) text) cut_part ∙ ap (drop (length part)) text_at ∙ drop_front part behind
-
   pub cut_rest : after_blanks text ≡ rest
-  cut_rest = grind (arith, tail_is, front_len, stops_blank, drop_front)
+  cut_rest = grind (arith, front_len, stops_blank, drop_front, cut_part, text_at)
 
   begins_so : (p t : List ℕ) → p ≢ [] → list_all unblank p ≡ true → is_blank_line (p ++ t) ≡ false
   begins_so [] t some e = absurd (some refl)
-  begins_so (c ∷ p) t some e = rw (not_true (is_blank c) (both_true (unblank c) (list_all unblank p) e).0) (zero_suc (length (p ++ t)))
+  begins_so (c ∷ p) t some e = grind (arith, not_true, both_true, nat_tests)
 
   pub not_blank : is_blank_line text ≡ false
   not_blank = ap is_blank_line text_at ∙ begins_so part behind cut.some_part cut.no_blank
@@ -118,10 +112,6 @@ module _ (text part rest : List ℕ) (cut : IsCut text part rest) where
 behind_stops : (blanks rest : List ℕ) → list_all is_blank blanks ≡ true → (blanks ≡ [] → rest ≡ []) → stops unblank (blanks ++ rest) ≡ true
 behind_stops [] rest e h = subst (λ t. stops unblank t ≡ true) (sym (h refl)) refl
 behind_stops (c ∷ blanks) rest e h = rw (both_true (is_blank c) (list_all is_blank blanks) e).0 refl
-
-rest_begins : (t : List ℕ) → (t ≡ []) ⊎ BeginsUnblank t → stops is_blank t ≡ true
-rest_begins t (inl none) = subst (λ s. stops is_blank s ≡ true) (sym none) refl
-rest_begins t (inr some) = stops_blank t some
 
 -- and it has one longest front
 module _ (text front rest : List ℕ) (at : IsFronted text front rest) where
@@ -132,27 +122,18 @@ module _ (text front rest : List ℕ) (at : IsFronted text front rest) where
   fronted_part = grind (arith, text_behind, front_len, behind_stops, take_front)
 
   pub fronted_rest : after_blanks text ≡ rest
-  fronted_rest = grind (arith, fronted_part, text_behind, drop_front, front_len, rest_begins)
+  fronted_rest = grind (arith, fronted_part, text_behind, drop_front, front_len, stops, stops_blank)
 
 pub begins_some : (t : List ℕ) → BeginsUnblank t → t ≢ []
 begins_some t (c, more, e, u) same = let clash : c ∷ more ≡ [] = sym e ∙ same in cc
 
--- what stands behind a mark
-without_by : (mark text : List ℕ) (b : Bool) → starts_with nat_eq text mark ≡ b → IsWithout mark text (cond b (drop (length mark) text) text)
-without_by mark text true e = inl ((prefix_test mark text).0 e)
-without_by mark text false e = inr (refl, λ more same. (let clash : false ≡ true = sym e ∙ (prefix_test mark text).1 more same in cc))
-
 pub is_without : (mark text : List ℕ) → IsWithout mark text (without_prefix mark text)
-is_without mark text = without_by mark text (starts_with nat_eq text mark) refl
+is_without mark text = grind (arith, nat_eq, prefix_test)
 
 pub without_is : (mark behind : List ℕ) → without_prefix mark (mark ++ behind) ≡ behind
 without_is mark behind = rw ((prefix_test mark (mark ++ behind)).1 behind refl) (drop_front mark behind)
 
-lacks_by : (mark text : List ℕ) (b : Bool) → starts_with nat_eq text mark ≡ b → ((more : List ℕ) → text ≢ mark ++ more) → cond b (drop (length mark) text) text ≡ text
-lacks_by mark text true e h = absurd (h _ ((prefix_test mark text).0 e))
-lacks_by mark text false e h = refl
-
 -- and nothing else stands there
 pub without_alone : (mark text r : List ℕ) → IsWithout mark text r → without_prefix mark text ≡ r
 without_alone mark text r (inl e) = ap (without_prefix mark) e ∙ without_is mark r
-without_alone mark text r (inr h) = lacks_by mark text (starts_with nat_eq text mark) refl h.1 ∙ sym h.0
+without_alone mark text r (inr h) = grind (arith, nat_eq, prefix_test)

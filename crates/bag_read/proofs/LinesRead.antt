@@ -1,7 +1,6 @@
 -- What is read of lines, each by itself: the lists of what reads and of what doesn't.
-use Rattle.bag_read.proofs.Common.{◌≡◌, ℕ, ◌+◌, ◌≤◌, inl, inr, Bool, true, false, cond, List, [], ◌∷◌, refl, ap, sym, ◌∙◌, subst, Some, None, Result, Ok, Err, arith, Contains, enumerate_from, Ordering, Less, nat_cmp, on, IsLine, is_blank_line, IsListOf, contains_cases, contains_nothing, each_from_members, numbered_is_line, line_is_numbered, Reason, line_fault_cmp, AreFaults, fault_in, entry_of, fault_of, entries_read, faults_read, LineFault}
+use Rattle.bag_read.proofs.Common.{◌≡◌, ℕ, ◌+◌, ◌≤◌, inl, inr, false, List, [], ◌∷◌, refl, ap, sym, subst, Some, Result, Ok, Err, arith, Contains, enumerate_from, Ordering, Less, nat_cmp, on, IsLine, is_blank_line, IsListOf, contains_cases, contains_nothing, each_from_members, numbered_is_line, line_is_numbered, Reason, line_fault_cmp, AreFaults, entry_of, fault_of, entries_read, faults_read, LineFault}
 use Rattle.std.specs.List.Sorted.{IsStrictlySortedBy}
-use Rattle.std.specs.Result.{result_ok}
 use Rattle.bag_read.proofs.FaultOrder.{less}
 use Rattle.bag_read.proofs.PickedOut.{picked, is_picked, ascending_picked}
 
@@ -30,13 +29,8 @@ module _ {E : Type 0} (reads : ℕ → List ℕ → Result E Reason) where
   abbrev pub ReadsSo : ℕ → List ℕ → Result E Reason → Type 0
   ReadsSo n line r = (is_blank_line line ≡ false) × (reads n line ≡ r)
 
-  entry_by : (n : ℕ) (line : List ℕ) (e : E) (b : Bool) (r : Result E Reason) → is_blank_line line ≡ b → reads n line ≡ r → cond b None (result_ok r) ≡ Some e → ReadsSo n line (Ok e)
-  entry_by n line e true r blank is h = cc
-  entry_by n line e false (Err reason) blank is h = cc
-  entry_by n line e false (Ok x) blank is h = let same : x ≡ e = cc in (blank, is ∙ ap {B = Result E Reason} Ok same)
-
   entry_is : (x : ℕ × List ℕ) (e : E) → entry_of reads x ≡ Some e → ReadsSo x.0 x.1 (Ok e)
-  entry_is x e h = entry_by x.0 x.1 e (is_blank_line x.1) (reads x.0 x.1) refl refl h
+  entry_is x e h = grind (arith, is_blank_line)
 
   is_entry : (n : ℕ) (line : List ℕ) (e : E) → ReadsSo n line (Ok e) → entry_of reads (n, line) ≡ Some e
   is_entry n line e (some, is) = rw (some, is) refl
@@ -44,13 +38,8 @@ module _ {E : Type 0} (reads : ℕ → List ℕ → Result E Reason) where
   abbrev IsFaultOf : ℕ → List ℕ → LineFault → Type 0
   IsFaultOf n line f = (f.line ≡ n) × ReadsSo n line (Err (f.code, f.detail))
 
-  fault_by : (n : ℕ) (line : List ℕ) (f : LineFault) (b : Bool) (r : Result E Reason) → is_blank_line line ≡ b → reads n line ≡ r → cond b None (fault_in n r) ≡ Some f → IsFaultOf n line f
-  fault_by n line f true r blank is h = cc
-  fault_by n line f false (Ok x) blank is h = cc
-  fault_by n line f false (Err reason) blank is h = grind arith
-
   fault_is : (x : ℕ × List ℕ) (f : LineFault) → fault_of reads x ≡ Some f → IsFaultOf x.0 x.1 f
-  fault_is x f h = fault_by x.0 x.1 f (is_blank_line x.1) (reads x.0 x.1) refl refl h
+  fault_is x f h = grind (arith, is_blank_line)
 
   is_fault : (f : LineFault) (line : List ℕ) → ReadsSo f.line line (Err (f.code, f.detail)) → fault_of reads (f.line, line) ≡ Some f
   is_fault f line (some, is) = rw (some, is) refl

@@ -1,22 +1,12 @@
 -- The codes of a manifest's faults, their stages and their lines.
-use Rattle.bag_read.proofs.Common.{◌≡◌, ◌≢◌, ℕ, ◌<◌, ◌⊎◌, inl, inr, List, refl, stage, Rules, Alg, Code, NotUtf8, ManifestLine, DigestLength, ManifestEscape, ManifestUnsafePath, ManifestOutsidePayload, TagmanifestNamesPayload, TagmanifestNamesTagmanifest, NamedAgain, Kind, LineFault, ManifestFault, IsManifestFault}
+use Rattle.std.proofs.Common.{arith}
+use Rattle.bag_read.proofs.Common.{◌≡◌, ◌≢◌, ℕ, ◌<◌, ◌⊎◌, inl, inr, List, refl, stage, Rules, Alg, Code, NotUtf8, NamedAgain, Kind, LineFault, ManifestFault, IsManifestFault}
 use Rattle.bag_read.proofs.ManifestLine.{IsReasonCode, reason_code}
 
 -- the codes of faults of a manifest's lines
 abbrev pub IsManifestCode : Code → Type 0
 IsManifestCode NamedAgain = Unit {0}
 IsManifestCode code = IsReasonCode code
-
-pub manifest_code_stage : (code : Code) → IsManifestCode code → stage code ≡ 5
-manifest_code_stage ManifestLine is = refl
-manifest_code_stage DigestLength is = refl
-manifest_code_stage ManifestEscape is = refl
-manifest_code_stage ManifestUnsafePath is = refl
-manifest_code_stage ManifestOutsidePayload is = refl
-manifest_code_stage TagmanifestNamesPayload is = refl
-manifest_code_stage TagmanifestNamesTagmanifest is = refl
-manifest_code_stage NamedAgain is = refl
-manifest_code_stage other is = absurd is
 
 module _ (rules : Rules) (kind : Kind) (alg : Alg) (bytes : List ℕ) where
   -- a fault of a line, or the one fault of bytes that aren't UTF-8
@@ -41,7 +31,7 @@ module _ (rules : Rules) (kind : Kind) (alg : Alg) (bytes : List ℕ) where
 
   -- a fault of another code than NotUtf8 is of stage 5
   pub manifest_fault_stage : (f : LineFault) → IsManifestFault rules kind alg bytes f → f.code ≢ NotUtf8 → stage f.code ≡ 5
-  manifest_fault_stage f h other = manifest_code_stage f.code (fault_of_line f (manifest_fault_code f h) other).0
+  manifest_fault_stage f h other = grind (arith, fault_of_line, manifest_fault_code)
 
   -- and of a line
   pub manifest_fault_line : (f : LineFault) → IsManifestFault rules kind alg bytes f → f.code ≢ NotUtf8 → 0 < f.line

@@ -1,5 +1,5 @@
 -- The entries and the faults of a manifest.
-use Rattle.bag_read.proofs.Common.{arith, ◌≡◌, ◌⊎◌, inl, inr, ℕ, Bool, true, false, List, [], ◌∷◌, refl, ap, sym, ◌∙◌, subst, Some, Result, Ok, Err, bytes_eq, Contains, list_any, nat_cmp, on, is_utf8, bytes_eq-Decides, IsLine, lines, lines_of_file, lines_of_text, text_of, IsText, IsNoText, IsListOf, Rules, Alg, Code, NotUtf8, NamedAgain, nothing_listed, one_listed, same_members, Kind, LineFault, ManifestEntry, AreFaults, line_fault, line_fault_cmp, not_utf8, entries_read, faults_read, manifest_line, entry_unless, named_before, IsEntry, IsManifestFault, ManifestFault, Reason, ◌>>=◌, TellsRepeats, IsReadOnce}
+use Rattle.bag_read.proofs.Common.{arith, ◌≡◌, ◌⊎◌, inl, inr, ℕ, Bool, true, false, List, [], ◌∷◌, refl, ap, sym, ◌∙◌, subst, Some, Result, Ok, Err, bytes_eq, Contains, list_any, nat_cmp, on, is_utf8, bytes_eq-Decides, IsLine, lines, lines_of_file, lines_of_text, text_of, IsText, IsNoText, IsListOf, Rules, Alg, Code, NotUtf8, NamedAgain, nothing_listed, one_listed, same_members, Kind, LineFault, ManifestEntry, AreFaults, line_fault, line_fault_cmp, not_utf8, entries_read, faults_read, manifest_line, named_before, IsEntry, IsManifestFault, ManifestFault, Reason, TellsRepeats, IsReadOnce}
 use Rattle.bag_read.specs.Manifest.{HasReason, entry_in}
 use Rattle.bag_read.proofs.FaultOrder.{is_fault}
 use Rattle.bag_read.proofs.LinesRead.{IsRead, IsUnread, entries_listed, faults_listed}
@@ -20,13 +20,9 @@ module _ (rules : Rules) (kind : Kind) (alg : Alg) where
     abbrev Says : ℕ → List ℕ × List ℕ → ManifestEntry → Type 0
     Says n said e = (◌≡◌ {A = List ℕ × List ℕ} said (e.digest, e.path)) × (names_again n e.path ≡ false) × (e.line ≡ n)
 
-    entry_by : (n : ℕ) (said : List ℕ × List ℕ) (e : ManifestEntry) (b : Bool) → names_again n said.1 ≡ b → entry_unless b n said ≡ Ok e → Says n said e
-    entry_by n said e true t h = cc
-    entry_by n said e false t h = grind arith
-
     -- what a line that is an entry says
     pub entry_parts : (n : ℕ) (line : List ℕ) (e : ManifestEntry) → reads n line ≡ Ok e → (manifest_line rules kind alg line ≡ Ok (e.digest, e.path)) × (names_again n e.path ≡ false) × (e.line ≡ n)
-    entry_parts n line e h = grind (arith, bind_ok, entry_by)
+    entry_parts n line e h = grind (arith, bind_ok)
 
     pub numbered : (n : ℕ) (line : List ℕ) (e : ManifestEntry) → reads n line ≡ Ok e → line_of e ≡ n
     numbered n line e h = (entry_parts n line e h).2
@@ -37,17 +33,8 @@ module _ (rules : Rules) (kind : Kind) (alg : Alg) where
         (manifest_line rules kind alg line ≡ Err reason)
         ⊎ ((said : List ℕ × List ℕ) × (manifest_line rules kind alg line ≡ Ok said) × (names_again n said.1 ≡ true) × (◌≡◌ {A = Reason} (NamedAgain, said.1) reason))
 
-    again_by : (n : ℕ) (said : List ℕ × List ℕ) (reason : Reason) (b : Bool) → names_again n said.1 ≡ b → entry_unless b n said ≡ Err reason → (names_again n said.1 ≡ true) × (◌≡◌ {A = Reason} (NamedAgain, said.1) reason)
-    again_by n said reason true t h = (t, err_same {A = ManifestEntry} (NamedAgain, said.1) reason h)
-    again_by n said reason false t h = cc
-
-    why_by : (n : ℕ) (line : List ℕ) (reason : Reason) (r : Result (List ℕ × List ℕ) Reason) → manifest_line rules kind alg line ≡ r
-        → ◌≡◌ {A = Result ManifestEntry Reason} (r >>= λ said. entry_unless (names_again n said.1) n said) (Err reason) → IsWhy n line reason
-    why_by n line reason (Err other) e h = inl (e ∙ ap {B = Result (List ℕ × List ℕ) Reason} Err (err_same {A = ManifestEntry} other reason h))
-    why_by n line reason (Ok said) e h = let again = again_by n said reason (names_again n said.1) refl h in inr (said, e, again.0, again.1)
-
     why : (n : ℕ) (line : List ℕ) (reason : Reason) → reads n line ≡ Err reason → IsWhy n line reason
-    why n line reason h = why_by n line reason (manifest_line rules kind alg line) refl h
+    why n line reason h = grind (arith, manifest_line, err_same)
 
     module _ (all : List (List ℕ)) (tells : TellsRepeats rules kind alg all names_again) where
       entry_read : (e : ManifestEntry) → IsRead reads all line_of e → IsEntry rules kind alg all e

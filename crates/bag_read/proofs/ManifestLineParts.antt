@@ -1,5 +1,5 @@
 -- A line of a manifest and its parts.
-use Rattle.bag_read.proofs.Common.{◌≡◌, ◌≢◌, ℕ, ◌⊎◌, inl, inr, Bool, true, false, not, ◌||◌, ◌==◌, cond, List, [], length, refl, sym, ap, ◌∙◌, subst, codes, Some, Result, Ok, Err, bytes_eq, arith, IsTrue, is_ascii_hexdigit, list_all, str_to_ascii_lowercase, nat_tests, hex_len, is_path, is_payload_path, unescaped, is_blank_line, before_blank, after_blanks, without_prefix, Rules, Alg, ManifestLine, DigestLength, ManifestEscape, ManifestOutsidePayload, ManifestUnsafePath, TagmanifestNamesPayload, TagmanifestNamesTagmanifest, spellings, Kind, Payload, Tag, checked_digest, digest_of, spelled_path, placed, named_path, without_marks, is_manifest_name, Reason, ◌>>=◌, decoded_or}
+use Rattle.bag_read.proofs.Common.{◌≡◌, ◌≢◌, ℕ, ◌⊎◌, inl, inr, Bool, true, false, not, ◌==◌, cond, List, [], length, refl, sym, ap, ◌∙◌, subst, codes, Some, Result, Ok, Err, arith, IsTrue, is_ascii_hexdigit, list_all, str_to_ascii_lowercase, nat_tests, hex_len, is_path, is_payload_path, unescaped, is_blank_line, before_blank, after_blanks, without_prefix, Rules, Alg, ManifestEscape, ManifestUnsafePath, TagmanifestNamesPayload, TagmanifestNamesTagmanifest, spellings, Kind, Payload, Tag, checked_digest, digest_of, spelled_path, placed, named_path, without_marks, is_manifest_name, Reason, ◌>>=◌, decoded_or}
 use Rattle.bag_read.specs.Manifest.{manifest_line}
 use Rattle.bag_read.specs.ManifestLine.{IsSpelling, MayName, ReadsAs, LinesReadAsTheirParts, OnlyReads, HasOnlyReason, LinesReadOrHaveOneReason}
 use Rattle.bag_read.proofs.LineParts.{or_false, not_false, not_empty, empty_test, is_cut, cut_part, cut_rest, not_blank, begins_some, is_without, without_alone}
@@ -9,35 +9,21 @@ use Rattle.bag_read.proofs.ManifestName.{named_test, named_is}
 pub same_number : (m n : ℕ) → (m == n) ≡ true → m ≡ n
 same_number m n e = grind (arith, nat_tests)
 
-number_same : (m n : ℕ) → m ≡ n → (m == n) ≡ true
-number_same m n e = grind (arith, nat_tests)
-
 -- a digest that passes its test
 abbrev IsGoodDigest : Alg → List ℕ → List ℕ → List ℕ → Type 0
 IsGoodDigest alg h r digest = (h ≢ []) × (list_all is_ascii_hexdigit h ≡ true) × (r ≢ []) × (length h ≡ hex_len alg) × (digest ≡ str_to_ascii_lowercase h)
 
-good_by : (alg : Alg) (h r digest : List ℕ) (a b : Bool) → (bytes_eq h [] || not (list_all is_ascii_hexdigit h) || bytes_eq r []) ≡ a → not (length h == hex_len alg) ≡ b
-    → cond {A = Result (List ℕ) Reason} a (Err (ManifestLine, [])) (cond b (Err (DigestLength, h)) (Ok (str_to_ascii_lowercase h))) ≡ Ok digest → IsGoodDigest alg h r digest
-good_by alg h r digest true b e f k = cc
-good_by alg h r digest false true e f k = cc
-good_by alg h r digest false false e f k = grind (arith, or_false, not_empty, not_false, same_number)
-
 good_digest : (alg : Alg) (h r digest : List ℕ) → checked_digest alg h r ≡ Ok digest → IsGoodDigest alg h r digest
-good_digest alg h r digest k = good_by alg h r digest _ _ refl refl k
+good_digest alg h r digest k = grind (arith, or_false, not_empty, not_false, same_number)
 
 digest_good : (alg : Alg) (h r : List ℕ) → h ≢ [] → list_all is_ascii_hexdigit h ≡ true → r ≢ [] → length h ≡ hex_len alg → checked_digest alg h r ≡ Ok (str_to_ascii_lowercase h)
-digest_good alg h r some digits follows long = rw (empty_test h some, digits, empty_test r follows, number_same (length h) (hex_len alg) long) refl
+digest_good alg h r some digits follows long = grind (arith, empty_test, hex_len, nat_tests)
 
 pub written_is : (rest : List ℕ) → IsSpelling rest (without_marks rest)
 written_is rest = (without_prefix (codes "*") rest, is_without (codes "*") rest, is_without (codes "./") (without_prefix (codes "*") rest))
 
 pub written_alone : (rest spelling : List ℕ) → IsSpelling rest spelling → without_marks rest ≡ spelling
 written_alone rest spelling (unmarked, star, here) = ap (without_prefix (codes "./")) (without_alone (codes "*") rest unmarked star) ∙ without_alone (codes "./") unmarked spelling here
-
--- where a path may stand
-placed_payload : (path named : List ℕ) (b : Bool) → is_payload_path path ≡ b → cond {A = Result (List ℕ) Reason} b (Ok path) (Err (ManifestOutsidePayload, path)) ≡ Ok named → MayName Payload path × (path ≡ named)
-placed_payload path named true e h = (e, let same : path ≡ named = cc in same)
-placed_payload path named false e h = cc
 
 placed_tag : (path named : List ℕ) (a b : Bool) → is_payload_path path ≡ a → is_manifest_name Tag path ≡ b
     → cond {A = Result (List ℕ) Reason} a (Err (TagmanifestNamesPayload, path)) (cond b (Err (TagmanifestNamesTagmanifest, path)) (Ok path)) ≡ Ok named → MayName Tag path × (path ≡ named)
@@ -47,7 +33,7 @@ placed_tag path named false false e f h =
     ((e, λ alg good same. (let clash : false ≡ true = sym f ∙ named_is Tag path alg (good, same) in cc)), (let same : path ≡ named = cc in same))
 
 placed_ok : (kind : Kind) (path named : List ℕ) → placed kind path ≡ Ok named → MayName kind path × (path ≡ named)
-placed_ok Payload path named h = placed_payload path named (is_payload_path path) refl h
+placed_ok Payload path named h = grind (arith, is_payload_path)
 placed_ok Tag path named h = placed_tag path named (is_payload_path path) (is_manifest_name Tag path) refl refl h
 
 may_placed : (kind : Kind) (path : List ℕ) → MayName kind path → placed kind path ≡ Ok path

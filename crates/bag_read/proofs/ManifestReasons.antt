@@ -71,9 +71,6 @@ module _ (rules : Rules) (alg : Alg) (line : List ℕ) where
   unescaped_is : (text : List ℕ) → IsWritten rules line text → unescaped rules spelling ≡ Some text
   unescaped_is text (s, at, spells) = ap (unescaped rules) (spelled_alone s at) ∙ (spellings rules s text).0 spells
 
-  bad_escape : (kind : Kind) → unescaped rules spelling ≡ None → Holds ManifestEscape rules kind alg line spelling
-  bad_escape kind e = (is_spelled, λ path spells. none_some (unescaped rules spelling) path e ((spellings rules spelling path).0 spells))
-
   module _ (path : List ℕ) (e : unescaped rules spelling ≡ Some path) where
     no_bad_escape : (kind : Kind) (detail : List ℕ) → ¬ (Holds ManifestEscape rules kind alg line detail)
     no_bad_escape kind detail (at, none) = none path ((spellings rules detail path).1 (sym (ap (unescaped rules) (spelled_alone detail at)) ∙ e))
@@ -130,7 +127,7 @@ module _ (rules : Rules) (alg : Alg) (line : List ℕ) where
 
   spelling_first : (kind : Kind) (digest : List ℕ) (reason : Reason) (o : Option (List ℕ)) → unescaped rules spelling ≡ o
       → path_named kind digest o ≡ Err reason → IsFirstOf kind behind_digest reason
-  spelling_first kind digest reason None e h = subst (IsFirstOf kind behind_digest) (err_same _ _ h) (inl (refl, bad_escape kind e))
+  spelling_first kind digest reason None e h = grind (arith, err_same, is_spelled, none_some, unescaped, spellings)
   spelling_first kind digest reason (Some path) e h = inr (no_bad_escape path e kind, path_first path e kind digest reason (is_path path) refl h)
 
   abbrev digest_read : Bool → Bool → Result (List ℕ) Reason

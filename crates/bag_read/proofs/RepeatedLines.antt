@@ -1,5 +1,5 @@
 -- Whether entries of a manifest name each path once, and which lines name a path again.
-use Rattle.bag_read.proofs.Common.{◌≡◌, ◌⊎◌, ℕ, ◌+◌, ◌-◌, ◌<◌, ◌≤◌, inl, inr, Bool, true, false, cond, List, length, get_or, map, refl, ap, sym, ◌∙◌, subst, Ok, Some, bytes_eq, nat_eq, nat_lt, ◌==◌, arith, rules, Contains, ◌↔◌, IsTrue, IsDistinct, slice_get, IsTotalOrder, Ordering, Less, Equal, Greater, is_lt, is_eq, nat_cmp, on, ordering_reverse, cases_lt, eqb-true, nat_tests, get_or-map, length-map, slice_get_within, slice_get-get_or, get_or_from_slice_get, bytes_eq-Decides, eq-or-lt_of_le, IsLine, IsListOf, text_cmp, Rules, Alg, Kind, ManifestEntry, entries_read, Reads, named_before, fingerprint, mark_of, AreAscending, AreDifferent, NamesBelow, RepeatsBelow, IsRepeatedLine, TellsRepeats}
+use Rattle.bag_read.proofs.Common.{◌≡◌, ◌⊎◌, ℕ, ◌+◌, ◌-◌, ◌<◌, ◌≤◌, inl, inr, Bool, true, false, cond, List, length, get_or, map, refl, ap, sym, ◌∙◌, subst, Ok, Some, bytes_eq, nat_eq, nat_lt, arith, rules, Contains, ◌↔◌, IsTrue, IsDistinct, slice_get, IsTotalOrder, Ordering, Less, is_lt, is_eq, nat_cmp, on, ordering_reverse, cases_lt, eqb-true, nat_tests, get_or-map, length-map, slice_get_within, slice_get-get_or, get_or_from_slice_get, bytes_eq-Decides, eq-or-lt_of_le, IsLine, IsListOf, text_cmp, Rules, Alg, Kind, ManifestEntry, entries_read, Reads, named_before, fingerprint, mark_of, AreAscending, AreDifferent, NamesBelow, RepeatsBelow, IsRepeatedLine, TellsRepeats}
 use Rattle.std.specs.List.Sorted.{IsPermutation, IsSortedBy, IsStrictlyIncreasing}
 use Rattle.std.specs.Cmp.Rules.{comparing}
 use Rattle.std.proofs.lemmas.List.Sorted.{IsPermutation-sym, sorted_far, ranks_by}
@@ -50,21 +50,10 @@ different_by_order entries up = λ i j d low high same.
     let none = sym far ∙ ap is_lt near in
     cc
 
-line_test : (a b : Bool) → is_eq (cond {A = Ordering} a Less (cond b Equal Greater)) ≡ true → b ≡ true
-line_test true b e = cc
-line_test false true e = refl
-line_test false false e = cc
-
-same_line : (m n : ℕ) → is_eq (nat_cmp m n) ≡ true → m ≡ n
-same_line m n e = eqb-true m n (line_test (nat_lt m n) (m == n) e)
-
 -- one entry more
 module _ (entries : List ManifestEntry) (k : ℕ) (e : ManifestEntry) (at : slice_get entries k ≡ Some e) where
   here : (i : ℕ) (d : ManifestEntry) → i ≡ k → slice_get entries i ≡ Some d → d ≡ e
   here i d place there = let one : Some d ≡ Some e = sym there ∙ ap (slice_get entries) place ∙ at in cc
-
-  names_either : (path : List ℕ) → NamesBelow entries (k + 1) path → NamesBelow entries k path ⊎ (e.path ≡ path)
-  names_either path (i, d, low, there, same) = grind (arith, cases_lt, same, here)
 
   repeats_either : (n : ℕ) → RepeatsBelow entries (k + 1) n → RepeatsBelow entries k n ⊎ ((e.line ≡ n) × NamesBelow entries k e.path)
   repeats_either n (i, d, low, there, line, names) = grind (arith, cases_lt, here)
@@ -83,7 +72,7 @@ module _ (entries : List ManifestEntry) (k : ℕ) (e : ManifestEntry) (at : slic
       to false eq h = let before = (is path).0 h in let low = before.2 in (before.0, before.1, omega arith, before.3, before.4)
 
       from : NamesBelow entries (k + 1) path → cond (bytes_eq e.path path) true (old path) ≡ true
-      from h = grind (arith, names_either, kept, same, bytes_eq-Decides)
+      from h = grind (arith, kept, same, bytes_eq-Decides, cases_lt, here)
 
   widened : (n : ℕ) → RepeatsBelow entries k n → RepeatsBelow entries (k + 1) n
   widened n (i, d, low, there, line, names) = (i, d, omega arith, there, line, names)
@@ -94,7 +83,7 @@ module _ (entries : List ManifestEntry) (k : ℕ) (e : ManifestEntry) (at : slic
   line_more names old new step is n = (λ h. to (is_eq (nat_cmp e.line n)) refl (sym (step n) ∙ h), λ h. step n ∙ from h)
     where
       to : (b : Bool) → is_eq (nat_cmp e.line n) ≡ b → cond b true (old n) ≡ true → RepeatsBelow entries (k + 1) n
-      to true eq h = (k, e, omega arith, at, same_line e.line n eq, names)
+      to true eq h = grind (arith, eqb-true, nat_lt)
       to false eq h = widened n ((is n).0 h)
 
       from : RepeatsBelow entries (k + 1) n → cond (is_eq (nat_cmp e.line n)) true (old n) ≡ true

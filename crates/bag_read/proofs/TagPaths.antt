@@ -1,5 +1,5 @@
 -- The paths of tag files.
-use Rattle.bag_read.proofs.Common.{◌≡◌, ◌≢◌, ◌++◌, ℕ, List, [], ◌∷◌, find, subst, Option, None, Some, Bool, true, false, refl, sym, ap, ◌∙◌, cond, arith, ◌==◌, append_assoc, get_or, MatchOption, codes, bytes_eq, nat_tests, list_all, slice_get, bytes_eq-Decides, algs, name, alg_named, is_base_name, Alg, Kind, Payload, Tag, manifest_name, is_alg_text, prefix}
+use Rattle.bag_read.proofs.Common.{◌≡◌, ◌≢◌, ◌++◌, ℕ, List, [], ◌∷◌, find, Option, None, Some, Bool, true, false, refl, sym, ap, ◌∙◌, arith, ◌==◌, append_assoc, get_or, MatchOption, codes, bytes_eq, nat_tests, list_all, slice_get, bytes_eq-Decides, algs, name, alg_named, Alg, Kind, Payload, Tag, manifest_name, is_alg_text, prefix}
 use Rattle.std.proofs.lemmas.List.Elements.{All-contains}
 use Rattle.std.proofs.lemmas.List.Sums.{AllPass-from_list_all}
 use Rattle.bag_text.proofs.AlgSets.{each_is_listed, name_is_read_again, names_tell_apart}
@@ -18,15 +18,10 @@ name_named = name_is_read_again
 pub name_is_text : (a : Alg) → is_alg_text (name a) ≡ true
 name_is_text = each_alg (λ a. is_alg_text (name a)) refl
 
-by_first : (test : Alg → Bool) (b : Bool) (first found : Alg) (later : Option Alg) → test first ≡ b → (later ≡ Some found → test found ≡ true)
-    → cond b (Some first) later ≡ Some found → test found ≡ true
-by_first test true first found later passes there e = let same : first ≡ found = cc in subst (λ a. test a ≡ true) same passes
-by_first test false first found later passes there e = there e
-
 -- what is found passes the test
 found_passes : (test : Alg → Bool) (all : List Alg) (found : Alg) → find test all ≡ Some found → test found ≡ true
 found_passes test [] found e = cc
-found_passes test (first ∷ rest) found e = by_first test (test first) first found (find test rest) refl (found_passes test rest found) e
+found_passes test (first ∷ rest) found e = grind (arith, find, found_passes test rest found)
 
 -- the algorithm of a name has this name
 pub alg_named_is : (t : List ℕ) (a : Alg) → alg_named t ≡ Some a → t ≡ name a
@@ -75,30 +70,15 @@ paths_differ (Manifest Tag a) Fetch e = absurd (apart 116 102 refl (ap first e))
 paths_differ (Manifest Tag a) (Manifest Payload b) e = absurd (apart 116 109 refl (ap first e))
 paths_differ (Manifest Tag a) (Manifest Tag b) e = ap (Manifest Tag) (same_name a b (one_text Tag (name a) (name b) e))
 
-abbrev first_or : Option ℕ → ℕ
-first_or None = 0
-first_or (Some x) = x
-
 -- no tag file's path begins with a d
 pub no_tag_begins_so : (path : List ℕ) → slice_get path 0 ≡ Some 100 → (name : TagName) → tag_path name ≢ path
-no_tag_begins_so path begins name same = begins_other name (ap (λ t. first_or (slice_get t 0)) same ∙ ap first_or begins)
-  where
-    begins_other : (name : TagName) → first_or (slice_get (tag_path name) 0) ≡ 100 → ⊥
-    begins_other Declaration e = apart 98 100 refl e
-    begins_other Info e = apart 98 100 refl e
-    begins_other Fetch e = apart 102 100 refl e
-    begins_other (Manifest Payload a) e = apart 109 100 refl e
-    begins_other (Manifest Tag a) e = apart 116 100 refl e
-
-manifest_in_base : (kind : Kind) (alg : Alg) → is_base_name (manifest_name kind (name alg)) ≡ true
-manifest_in_base Payload = each_alg (λ a. is_base_name (manifest_name Payload (name a))) refl
-manifest_in_base Tag = each_alg (λ a. is_base_name (manifest_name Tag (name a))) refl
+no_tag_begins_so path begins name same = grind (arith, apart)
 
 pub in_base : TagFilesStandInTheBase
 in_base Declaration = refl
 in_base Info = refl
 in_base Fetch = refl
-in_base (Manifest kind alg) = manifest_in_base kind alg
+in_base (Manifest kind alg) = grind (arith, each_alg)
 
 -- the manifest of a supported algorithm, at a path that has the form of a manifest's
 pub manifest_by : (kind : Kind) (path text : List ℕ) (alg : Alg) → path ≡ manifest_name kind text → Some alg ≡ alg_named text → tag_path (Manifest kind alg) ≡ path

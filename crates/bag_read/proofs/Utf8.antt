@@ -1,19 +1,12 @@
 -- Bytes that are UTF-8, and bytes that aren't: what is read of them.
-use Rattle.bag_read.proofs.Common.{◌≡◌, ℕ, ◌-◌, Bool, true, false, List, refl, sym, ap, ◌∙◌, subst, Some, None, cond, Result, IfOk, is_utf8, slice_get, Ordering, IfOk-weaker, IsLine, lines, lines_of_file, lines_of_text, IsListOf, text_of, IsText, IsNoText, without_mark}
-
-text_test : (bytes t : List ℕ) (b : Bool) → is_utf8 bytes ≡ b → cond b (Some (without_mark bytes)) None ≡ Some t → IsText bytes
-text_test bytes t true e h = e
-text_test bytes t false e h = cc
+use Rattle.std.proofs.Common.{arith}
+use Rattle.bag_read.proofs.Common.{◌≡◌, ℕ, ◌-◌, List, sym, ap, ◌∙◌, subst, Some, None, cond, Result, IfOk, is_utf8, slice_get, Ordering, IfOk-weaker, IsLine, lines, lines_of_file, lines_of_text, IsListOf, text_of, IsText, IsNoText, without_mark}
 
 pub is_text : (bytes t : List ℕ) → text_of bytes ≡ Some t → IsText bytes
-is_text bytes t h = text_test bytes t (is_utf8 bytes) refl h
-
-no_text_test : (bytes : List ℕ) (b : Bool) → is_utf8 bytes ≡ b → cond b (Some (without_mark bytes)) None ≡ None → IsNoText bytes
-no_text_test bytes true e h = cc
-no_text_test bytes false e h = e
+is_text bytes t h = grind (arith, is_utf8)
 
 pub is_no_text : (bytes : List ℕ) → text_of bytes ≡ None → IsNoText bytes
-is_no_text bytes h = no_text_test bytes (is_utf8 bytes) refl h
+is_no_text bytes h = grind (arith, is_utf8)
 
 -- bytes that aren't UTF-8 have no line
 pub no_line : (bytes : List ℕ) → IsNoText bytes → (k : ℕ) (line : List ℕ) → IsLine (lines_of_file bytes) k line → ⊥
