@@ -42,18 +42,9 @@ pub rank_within : (alg : Alg) → rank alg - 1 < length algs
 rank_within Md5 = omega arith
 rank_within _ = omega arith
 
-rank_positive : (alg : Alg) → 0 < rank alg
-rank_positive Md5 = omega arith
-rank_positive _ = omega arith
-
-more_at : (flags : List Bool) (alg a : Alg) (same : Bool) → length flags ≡ length algs → same_alg a alg ≡ same
-    → get_or (set flags (rank alg - 1) true) (rank a - 1) false ≡ (same || get_or flags (rank a - 1) false)
-more_at flags alg a true long s = grind (arith, nat_tests, get_or-set_at, rank_within)
-more_at flags alg a false long s = grind (arith, nat_tests, get_or-set_other, rank_positive)
-
 -- one more flag
 flag_more : (s : Inside) (alg a : Alg) → IsTable s → flag (record { flags = set s.flags (rank alg - 1) true }) a ≡ (same_alg a alg || flag s a)
-flag_more s alg a long = more_at s.flags alg a _ long refl
+flag_more s alg a long = grind (arith, nat_tests, get_or-set_at, rank_within, get_or-set_other)
 
 -- one more flag is one more member
 pub members_more : (s : Inside) (alg : Alg) → IsTable s → members (record { flags = set s.flags (rank alg - 1) true }) ≡ with_member (members s) alg
@@ -72,22 +63,13 @@ Contains-with_member p alg a =
       (λ h. here.1 (elim h [ inl old ↦ or_right (same_alg a alg) _ (has_member-from_Contains _ a old) | inr same ↦ ap (λ b. b || has_member (filter p algs) a) (ap (λ x. same_alg x alg) same ∙ same_alg_self alg) ])),
     )
 
-set_flag : (b c : Bool) → (beq b true || c) ≡ (b || c)
-set_flag true c = refl
-set_flag false c = refl
-
 any_map : (p : Alg → Bool) (xs : List Alg) → list_any (λ b. beq b true) (map p xs) ≡ list_any p xs
 any_map p [] = refl
-any_map p (x ∷ xs) = set_flag (p x) _ ∙ ap (λ b. p x || b) (any_map p xs)
-
-no_member_at : (p : Alg → Bool) (x : Alg) (xs : List Alg) (here : Bool) → p x ≡ here → IsTrue (not (list_any p xs)) ↔ (filter p xs ≡ [])
-    → IsTrue (not (list_any p (x ∷ xs))) ↔ (filter p (x ∷ xs) ≡ [])
-no_member_at p x xs true h more = rw h ((λ e. cc), (λ e. cc))
-no_member_at p x xs false h more = rw h more
+any_map p (x ∷ xs) = grind (arith, any_map p xs)
 
 no_member : (p : Alg → Bool) (xs : List Alg) → IsTrue (not (list_any p xs)) ↔ (filter p xs ≡ [])
 no_member p [] = (λ _. refl, λ _. refl)
-no_member p (x ∷ xs) = no_member_at p x xs (p x) refl (no_member p xs)
+no_member p (x ∷ xs) = grind (arith, no_member p xs)
 
 -- no flag is set where there is no member
 pub no_flag : (s : Inside) → IsTable s → IsTrue (not (list_any (λ b. beq b true) s.flags)) ↔ (members s ≡ [])

@@ -1,5 +1,5 @@
 -- Where a text may be cut beside blanks.
-use Rattle.bag_text.proofs.Common.{◌≡◌, ℕ, zero, suc, ◌+◌, ◌-◌, ◌<◌, ◌≤◌, Bool, true, false, not, nat_lt, List, length, get_or, reverse, subst, ap, ◌∙◌, refl, arith, prefix_len, suffix_len, IsUtf8, IsCharBoundary, nat_tests, get_or-reverse, prefix_len_passes, prefix_len_stops, prefix_len-le-length, suffix_len-le-length, IsCharBoundary-start, IsCharBoundary-end, IsCharBoundary-before_ascii, IsCharBoundary-after_ascii, is_blank}
+use Rattle.bag_text.proofs.Common.{◌≡◌, ℕ, zero, suc, ◌+◌, ◌-◌, ◌<◌, true, not, nat_lt, List, length, get_or, reverse, subst, ap, ◌∙◌, refl, arith, prefix_len, suffix_len, IsUtf8, IsCharBoundary, nat_tests, get_or-reverse, prefix_len_passes, prefix_len_stops, prefix_len-le-length, suffix_len-le-length, IsCharBoundary-start, IsCharBoundary-end, IsCharBoundary-before_ascii, IsCharBoundary-after_ascii, is_blank}
 
 blank_small : (c : ℕ) → is_blank c ≡ true → c < 128
 blank_small c e = grind (arith, nat_tests)
@@ -30,14 +30,6 @@ before_blanks t (suc k) e =
 pub trailing_boundary : (t : List ℕ) → IsCharBoundary t (length t - suffix_len is_blank t)
 trailing_boundary t = before_blanks t _ refl
 
-before_blank_at : (t : List ℕ) (n : ℕ) (b : Bool) → nat_lt n (length t) ≡ b → n ≤ length t → (n < length t → get_or t n 0 < 128) → IsCharBoundary t n
-before_blank_at t n true e h small = grind (arith, nat_tests)
-before_blank_at t n false e h small = grind (arith, nat_tests)
-
-not_false : (b : Bool) → not b ≡ false → b ≡ true
-not_false true e = refl
-not_false false e = cc
-
 -- and before the first blank
 pub before_blank_boundary : (t : List ℕ) → IsCharBoundary t (prefix_len (λ c. not (is_blank c)) t)
-before_blank_boundary t = grind (arith, before_blank_at, nat_lt, prefix_len-le-length, blank_small, not_false, prefix_len_stops)
+before_blank_boundary t = grind (arith, nat_lt, prefix_len-le-length, blank_small, prefix_len_stops, nat_tests)

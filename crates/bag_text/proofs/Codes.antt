@@ -1,5 +1,6 @@
 -- Codes in the table of codes are found by their numbers.
-use Rattle.bag_text.proofs.Common.{◌≡◌, List, [], ◌∷◌, ℕ, Bool, true, false, cond, Option, None, Some, unwrap_or, find, map, ◌==◌, refl, sym, ap, ◌∙◌, Bor, option_map}
+use Rattle.std.proofs.Common.{arith}
+use Rattle.bag_text.proofs.Common.{◌≡◌, List, [], ◌∷◌, ℕ, Bool, Option, None, Some, unwrap_or, find, map, ◌==◌, refl, sym, ap, ◌∙◌, Bor, option_map}
 use Rattle.bag_text.specs.Code.{number, word, all_codes, words}
 use Rattle.bag_text.specs.declared.code.Code.{Code}
 use Rattle.bag_text.specs.declared.code.Code.TheVariants.{NoDeclaration, DeclarationNotUtf8, DeclarationLineCount, DeclarationLine, VersionUnsupported, EncodingUnsupported, NoPayloadFolder, NoPayloadManifest, AlgorithmUnsupported, NotUtf8, InfoLine, OxumMalformed, OxumAgain, OxumDiffers, NoOxum, FetchLine, FetchEscape, FetchUnsafePath, FetchOutsidePayload, FetchNotInManifest, ManifestLine, DigestLength, ManifestEscape, ManifestUnsafePath, ManifestOutsidePayload, TagmanifestNamesPayload, TagmanifestNamesTagmanifest, NamedAgain, PayloadManifestNotListed, PayloadFileMissing, TagFileMissing, PayloadFileNotListed, NameClash, PayloadSumDiffers, TagSumDiffers, ProfileIdentifier, LabelRequired, LabelRepeated, ValueNotAllowed, ManifestRequired, ManifestNotAllowed, TagmanifestRequired, TagmanifestNotAllowed, TagFileRequired, TagFileNotAllowed, FetchNotAllowed, VersionNotAccepted, SerializationRequired}
@@ -58,15 +59,10 @@ numbered_code FetchNotAllowed = refl
 numbered_code VersionNotAccepted = refl
 numbered_code SerializationRequired = refl
 
-found_cond : {A B : Type 0} (f : A → B) (b : Bool) (x : A) (later : Option A) (read : Option B)
-    → option_map f later ≡ read → option_map f (cond b (Some x) later) ≡ cond b (Some (f x)) read
-found_cond f true x later read e = refl
-found_cond f false x later read e = e
-
 -- what is found in a mapped list is mapped
 found_mapped : {A B : Type 0} (f : A → B) (test : B → Bool) (xs : List A) → option_map f (find (λ x. test (f x)) xs) ≡ find test (map f xs)
 found_mapped f test [] = refl
-found_mapped f test (x ∷ xs) = found_cond f (test (f x)) x (find (λ y. test (f y)) xs) (find test (map f xs)) (found_mapped f test xs)
+found_mapped f test (x ∷ xs) = grind (arith, find, found_mapped f test xs)
 
 -- a code beside its word
 abbrev worded : Code → Code × List ℕ

@@ -29,4 +29,4 @@ pub use Rattle.bag_text.specs.SortKey.{CommonFrontIsTheLongest, IsFront, IsLonge
 pub use Rattle.bag_text.specs.Spelling.{BeginsWithNone, EscapedIsReadAgain, SpellsLineEnds, SpellsStrictly, UnescapedIsSpelled, both, escape, escape_one, escaped, itself, line_end, percent, unescaped_strictly, with_line_ends}
 pub use Rattle.bag_text.specs.Text.{is_blank, without_leading_blanks, without_trailing_blanks}
 pub use Rattle.bag_text.specs.declared.path.Part.{Part}
-pub use Rattle.bag_text.specs.declared.path.Part.TheVariants.{Dot, Empty, Name, TwoDots}
+pub use Rattle.bag_text.specs.declared.path.Part.TheVariants.{Empty, Name}

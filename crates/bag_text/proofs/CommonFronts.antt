@@ -1,11 +1,5 @@
 -- The longest front of two texts.
-use Rattle.bag_text.proofs.Common.{◌≡◌, ◌≢◌, ℕ, suc, ◌+◌, ◌==◌, ◌≤◌, Bool, true, false, cond, List, [], ◌∷◌, ◌++◌, length, take, refl, sym, ◌∙◌, subst, arith, common_prefix_len, nat_tests, common_front, IsFront, IsLongestFront, CommonFrontIsTheLongest}
-
-first_same : (x c : ℕ) (xs ys : List ℕ) → x ∷ xs ≡ c ∷ ys → x ≡ c
-first_same x c xs ys e = cc
-
-rest_same : (x c : ℕ) (xs ys : List ℕ) → x ∷ xs ≡ c ∷ ys → xs ≡ ys
-rest_same x c xs ys e = cc
+use Rattle.bag_text.proofs.Common.{◌≡◌, ◌≢◌, ℕ, suc, ◌+◌, ◌==◌, ◌≤◌, Bool, true, false, cond, List, [], ◌∷◌, length, take, refl, subst, arith, common_prefix_len, nat_tests, common_front, IsFront, IsLongestFront, CommonFrontIsTheLongest}
 
 fronts_of_none : (other : List ℕ) → IsFront other [] → length other ≤ 0
 fronts_of_none [] h = omega arith
@@ -13,12 +7,12 @@ fronts_of_none (c ∷ other) (rest, e) = cc
 
 fronts_of_unlike : (x y : ℕ) (xs ys : List ℕ) → x ≢ y → (other : List ℕ) → IsFront other (x ∷ xs) → IsFront other (y ∷ ys) → length other ≤ 0
 fronts_of_unlike x y xs ys h [] f g = omega arith
-fronts_of_unlike x y xs ys h (c ∷ other) (r, e) (s, i) = absurd (h (first_same x c xs (other ++ r) e ∙ sym (first_same y c ys (other ++ s) i)))
+fronts_of_unlike x y xs ys h (c ∷ other) (r, e) (s, i) = grind arith
 
 fronts_of_more : (x y : ℕ) (front xs ys : List ℕ) → ((other : List ℕ) → IsFront other xs → IsFront other ys → length other ≤ length front)
     → (other : List ℕ) → IsFront other (x ∷ xs) → IsFront other (y ∷ ys) → length other ≤ length (x ∷ front)
 fronts_of_more x y front xs ys h [] f g = omega arith
-fronts_of_more x y front xs ys h (c ∷ other) (r, e) (s, i) = grind (arith, rest_same)
+fronts_of_more x y front xs ys h (c ∷ other) (r, e) (s, i) = grind arith
 
 longest_more : (x y : ℕ) (front xs ys : List ℕ) → x ≡ y → IsLongestFront front xs ys → IsLongestFront (x ∷ front) (x ∷ xs) (y ∷ ys)
 longest_more x y front xs ys same ((r, e), (s, i), h) = grind (arith, fronts_of_more x y front xs ys h)

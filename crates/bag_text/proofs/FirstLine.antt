@@ -32,30 +32,16 @@ cut_after t i false u l e h = IsCharBoundary-after_ascii t i u l (end_small _ e)
 pub cut_after_end : (t : List ℕ) (i : ℕ) → IsUtf8 t → i < length t → is_line_end (get_or t i 0) ≡ true → IsCharBoundary t (i + end_len t i)
 cut_after_end t i u l e = cut_after t i _ u l e refl
 
--- a feed after a return is part of its end
-after_return : (c : ℕ) (t : List ℕ) (b : Bool) → eqb c 10 ≡ b → lines (13 ∷ c ∷ t) ≡ [] ∷ lines (drop (cond b 2 1) (13 ∷ c ∷ t))
-after_return c t true e = let same : c ≡ 10 = grind (arith, nat_tests) in rw same refl
-after_return c t false e = let other : starts_with eqb (c ∷ t) (10 ∷ []) ≡ false = grind (arith, nat_tests) in rw other refl
-
-after_front : (c : ℕ) (t : List ℕ) (feed back : Bool) → eqb c 10 ≡ feed → eqb c 13 ≡ back → is_line_end c ≡ true → lines (c ∷ t) ≡ [] ∷ lines (drop (end_len (c ∷ t) 0) (c ∷ t))
-after_front c t true back f r e = let same : c ≡ 10 = grind (arith, nat_tests) in rw same refl
-after_front c [] false true f r e = let same : c ≡ 13 = grind (arith, nat_tests) in rw same refl
-after_front c (d ∷ t) false true f r e = let same : c ≡ 13 = grind (arith, nat_tests) in rw same (after_return d t _ refl)
-after_front c t false false f r e = absurd (grind (arith, nat_tests))
-
 plain_at : (c : ℕ) → is_line_end c ≡ false → IsPlain c
 plain_at c e = ((λ feed. grind (arith, nat_tests)), (λ back. grind (arith, nat_tests)))
 
-end_len-cons : (c : ℕ) (t : List ℕ) (i : ℕ) → end_len (c ∷ t) (suc i) ≡ end_len t i
-end_len-cons c t i = grind arith
-
 after_end-cons : (c : ℕ) (t : List ℕ) (i : ℕ) → drop (suc i + end_len (c ∷ t) (suc i)) (c ∷ t) ≡ drop (i + end_len t i) t
-after_end-cons c t i = grind (arith, end_len-cons)
+after_end-cons c t i = grind arith
 
 -- the lines of a text whose first line ends at this place
 pub lines_from_end : (t : List ℕ) (i : ℕ) → i < length t → is_line_end (get_or t i 0) ≡ true → ((k : ℕ) → k < i → is_line_end (get_or t k 0) ≡ false) → lines t ≡ take i t ∷ lines (drop (i + end_len t i) t)
 lines_from_end [] i l e n = absurd (omega arith)
-lines_from_end (c ∷ t) zero l e n = grind (arith, after_front)
+lines_from_end (c ∷ t) zero l e n = grind (arith, nat_tests)
 lines_from_end (c ∷ t) (suc i) l e n =
     lines_plain c t (plain_at c (n 0 (omega arith)))
     ∙ ap (onto_first c) (lines_from_end t i (omega arith) e (λ k h. n (suc k) (omega arith)))

@@ -1,5 +1,5 @@
 -- Spellings in which the ends of lines alone are escaped.
-use Rattle.bag_text.proofs.Common.{◌≡◌, ◌≢◌, ◌<◌, ◌≤◌, ℕ, suc, List, [], ◌∷◌, ◌++◌, length, get_or, Option, Some, None, Bool, true, false, refl, sym, ap, subst, ◌∙◌, inl, inr, arith, unwrap_or, ◌==◌, append-nil, append_assoc, nat_lt, bytes_eq, ◌&&◌, lit<, to_ascii_lowercase, IsUtf8, IsCharBoundary, nat_tests, IsCharBoundary-after_ascii, percent, line_end, BeginsWithNone, SpellsLineEnds, with_line_ends, UnescapedIsSpelled}
+use Rattle.bag_text.proofs.Common.{◌≡◌, ◌≢◌, ◌<◌, ◌≤◌, ℕ, suc, List, [], ◌∷◌, ◌++◌, length, get_or, Option, Some, None, Bool, true, false, refl, sym, ap, subst, ◌∙◌, inl, inr, arith, unwrap_or, ◌==◌, append-nil, append_assoc, nat_lt, bytes_eq, lit<, to_ascii_lowercase, IsUtf8, IsCharBoundary, nat_tests, IsCharBoundary-after_ascii, percent, line_end, BeginsWithNone, SpellsLineEnds, with_line_ends, UnescapedIsSpelled}
 use Rattle.bag_text.proofs.SpellingLaws.{strict_spellings}
 use Rattle.bag_text.specs.declared.rules.Rules.TheVariants.{V10, V097}
 
@@ -37,10 +37,6 @@ spelled_is_read [] s is = ap with_line_ends is
 spelled_is_read (c ∷ path) s (rest, more, inl (high, low, is, stands)) = grind (arith, escape_in_front, spelled_is_read path rest more)
 spelled_is_read (c ∷ path) s (rest, more, inr (is, none)) = grind (arith, plain_in_front c rest (subst BeginsWithNone is none), spelled_is_read path rest more)
 
--- one or two characters begin no escape
-short_begins_none : (c : ℕ) → BeginsWithNone (c ∷ [])
-short_begins_none c x rest (high, low, is, stands) = cc
-
 two_begin_none : (c d : ℕ) → BeginsWithNone (c ∷ d ∷ [])
 two_begin_none c d x rest (high, low, is, stands) = cc
 
@@ -58,7 +54,7 @@ spells_three c d e s false o m is short long = grind (arith, plain_spells, other
 
 read_is_spelled : (s : List ℕ) → SpellsLineEnds s (with_line_ends s)
 read_is_spelled [] = refl
-read_is_spelled (c ∷ []) = plain_spells c [] (short_begins_none c) refl
+read_is_spelled (c ∷ []) = grind (arith, plain_spells)
 read_is_spelled (c ∷ d ∷ []) = plain_spells c (d ∷ []) (two_begin_none c d) (read_is_spelled (d ∷ []))
 read_is_spelled (c ∷ d ∷ e ∷ s) = spells_three c d e s (c == percent) (line_end d e) refl refl (read_is_spelled s) (read_is_spelled (d ∷ e ∷ s))
 
@@ -89,22 +85,12 @@ read_all t path rest new read none now = now ∙ ap (λ x. path ++ x) (sym (read
 
 -- ---- two characters that can't be cut off
 
-lower_large : (c : ℕ) → 128 ≤ c → to_ascii_lowercase c ≡ c
-lower_large c h = grind (arith, nat_tests)
-
-never : (b c : Bool) → c ≡ false → (b && (c && true)) ≡ false
-never true c e = ap (λ x. x && true) e
-never false c e = refl
-
 never_escaped : (d e k : ℕ) → 128 ≤ e → k < 128 → (c : ℕ) → bytes_eq (to_ascii_lowercase d ∷ to_ascii_lowercase e ∷ []) (c ∷ k ∷ []) ≡ false
-never_escaped d e k h l c = grind (arith, nat_tests, lower_large, never)
-
-line_end_large : (d e : ℕ) → 128 ≤ e → line_end d e ≡ None
-line_end_large d e h = rw (never_escaped d e 97 h (lit< tt) 48, never_escaped d e 100 h (lit< tt) 48) refl
+never_escaped d e k h l c = grind (arith, nat_tests)
 
 second : (d e : ℕ) (s : List ℕ) → IsUtf8 (d ∷ e ∷ s) → ¬ (IsCharBoundary (d ∷ e ∷ s) 2) → (small : Bool) → nat_lt e 128 ≡ small → line_end d e ≡ None
 second d e s u h true b = absurd (h (IsCharBoundary-after_ascii (d ∷ e ∷ s) 1 u (omega arith) (grind (arith, nat_tests))))
-second d e s u h false b = line_end_large d e (grind (arith, nat_tests))
+second d e s u h false b = grind (arith, nat_tests, never_escaped, lit<)
 
 -- where the two characters after a % can't be cut off, it is itself
 pub cut_off : (after : List ℕ) → IsUtf8 after → ¬ (IsCharBoundary after 2) → with_line_ends (percent ∷ after) ≡ percent ∷ with_line_ends after

@@ -16,12 +16,9 @@ numbered_at all i d l = grind (arith, get_or-enumerate_from)
 pub line_at : (all : List (List ℕ)) (i : ℕ) (d : List ℕ) → i < length all → IsLine all (i + 1) (get_or all i d)
 line_at all i d l = grind (arith, slice_get-get_or)
 
-is_item : (all : List (List ℕ)) (i k : ℕ) (line d : List ℕ) → i < length all → ◌≡◌ {A = ℕ × List ℕ} (i + 1, get_or all i d) (k, line) → IsLine all k line
-is_item all i k line d l e = grind (arith, line_at)
-
 -- each numbered line is the line of its number
 pub numbered_is_line : (all : List (List ℕ)) (k : ℕ) (line : List ℕ) → Contains (enumerate_from 1 all) (k, line) → IsLine all k line
-numbered_is_line all k line (i, within, same) = grind (arith, length-numbered, is_item, numbered_at)
+numbered_is_line all k line (i, within, same) = grind (arith, length-numbered, numbered_at, line_at)
 
 -- and each line of a number is numbered so
 pub line_is_numbered : (all : List (List ℕ)) (k : ℕ) (line : List ℕ) → IsLine all k line → Contains (enumerate_from 1 all) (k, line)

@@ -1,30 +1,13 @@
 -- Paths that are read byte by byte.
-use Rattle.bag_text.proofs.Common.{◌≡◌, ◌≢◌, ℕ, suc, ◌+◌, ◌<◌, Bool, true, false, not, cond, ◌&&◌, ◌||◌, IsTrue, List, [], ◌∷◌, ◌++◌, length, get_or, drop, refl, sym, ap, ◌∙◌, eqb, arith, append_assoc, append-nil, list_all, onto_first, drop-cons, slash, components, is_component, is_path, Part, Empty, Dot, TwoDots, Name}
+use Rattle.bag_text.proofs.Common.{◌≡◌, ℕ, suc, ◌+◌, ◌<◌, Bool, true, false, not, cond, ◌&&◌, ◌||◌, IsTrue, List, [], ◌∷◌, ◌++◌, length, get_or, drop, refl, ap, ◌∙◌, eqb, arith, append_assoc, append-nil, list_all, drop-cons, slash, components, is_component, is_path, Part, Empty, Name}
 use Rattle.bag_text.specs.PathPart.{part_of, with_byte, is_name}
 use Rattle.bag_text.proofs.Paths.{is_slash, some_component}
 
-second_byte : (b : Bool) (c : ℕ) → cond (b && eqb c 46) TwoDots Name ≡ with_byte (cond b Dot Name) c
-second_byte true c = refl
-second_byte false c = refl
-
-third_byte : (b : Bool) (c : ℕ) → Name ≡ with_byte (cond b TwoDots Name) c
-third_byte true c = refl
-third_byte false c = refl
-
 part_more : (p : List ℕ) (c : ℕ) → part_of (p ++ c ∷ []) ≡ with_byte (part_of p) c
 part_more [] c = refl
-part_more (x ∷ []) c = second_byte (eqb x 46) c
-part_more (x ∷ y ∷ []) c = third_byte (eqb x 46 && eqb y 46) c
+part_more (x ∷ []) c = grind arith
+part_more (x ∷ y ∷ []) c = grind arith
 part_more (x ∷ y ∷ z ∷ rest) c = refl
-
-one_byte : (b : Bool) → (not (b && true) && not (b && false)) ≡ is_name (cond b Dot Name)
-one_byte true = refl
-one_byte false = refl
-
-two_bytes : (b d : Bool) → (not (b && false) && not (b && (d && true))) ≡ is_name (cond (b && d) TwoDots Name)
-two_bytes true true = refl
-two_bytes true false = refl
-two_bytes false d = refl
 
 more_bytes : (b d : Bool) → (not (b && false) && not (b && (d && false))) ≡ true
 more_bytes true true = refl
@@ -33,8 +16,8 @@ more_bytes false d = refl
 
 name_test : (p : List ℕ) → is_component p ≡ is_name (part_of p)
 name_test [] = refl
-name_test (x ∷ []) = one_byte (eqb x 46)
-name_test (x ∷ y ∷ []) = two_bytes (eqb x 46) (eqb y 46)
+name_test (x ∷ []) = grind arith
+name_test (x ∷ y ∷ []) = grind arith
 name_test (x ∷ y ∷ z ∷ rest) = more_bytes (eqb x 46) (eqb y 46)
 
 -- the components of a text behind the front of its first one
@@ -45,22 +28,11 @@ behind p (part ∷ parts) = (p ++ part) ∷ parts
 abbrev are_good : List ℕ → List ℕ → Bool
 are_good p t = list_all is_component (behind p (components t))
 
-behind_nothing : (parts : List (List ℕ)) → parts ≢ [] → behind [] parts ≡ parts
-behind_nothing [] some = absurd (some refl)
-behind_nothing (part ∷ parts) some = refl
-
-behind_more : (p : List ℕ) (c : ℕ) (parts : List (List ℕ)) → behind p (onto_first c parts) ≡ behind (p ++ c ∷ []) parts
-behind_more p c [] = refl
-behind_more p c (part ∷ parts) = ap (λ x. x ∷ parts) (sym (append_assoc p (c ∷ []) part))
-
 good_start : (t : List ℕ) → is_path t ≡ are_good [] t
-good_start t = ap (list_all is_component) (sym (behind_nothing (components t) (some_component t)))
+good_start t = grind (arith, some_component)
 
 good_byte : (p : List ℕ) (c : ℕ) (t : List ℕ) → is_slash c ≡ false → are_good p (c ∷ t) ≡ are_good (p ++ c ∷ []) t
-good_byte p c t e = rw e (ap (list_all is_component) (behind_more p c (components t)))
-
-good_slash : (p : List ℕ) (c : ℕ) (t : List ℕ) → is_slash c ≡ true → are_good p (c ∷ t) ≡ (is_name (part_of p) && are_good [] t)
-good_slash p c t e = rw (e, append-nil p, name_test p) (ap (λ b. is_name (part_of p) && b) (good_start t))
+good_byte p c t e = grind (arith, append_assoc)
 
 and_true : (b : Bool) → (b && true) ≡ b
 and_true true = refl
@@ -79,11 +51,8 @@ at t k h = let step : suc k ≡ k + 1 = omega arith in drop-cons t k 0 h ∙ ap 
 pub read_byte : (part : Part) (t : List ℕ) (k : ℕ) → k < length t → is_slash (get_or t k 0) ≡ false → IsReadTo part t k → IsReadTo (with_byte part (get_or t k 0)) t (k + 1)
 read_byte part t k h other (p, is, good) = grind (arith, part_more, at, good_byte)
 
-slash_read : (part : Part) (t : List ℕ) (k : ℕ) → k < length t → is_slash (get_or t k 0) ≡ true → IsReadTo part t k → is_path t ≡ (is_name part && are_good [] (drop (k + 1) t))
-slash_read part t k h slash (p, is, good) = grind (arith, at, good_slash)
-
 pub read_slash : (part : Part) (t : List ℕ) (k : ℕ) → k < length t → is_slash (get_or t k 0) ≡ true → is_name part ≡ true → IsReadTo part t k → IsReadTo Empty t (k + 1)
-read_slash part t k h slash name read = ([], refl, slash_read part t k h slash read ∙ ap (λ b. b && are_good [] (drop (k + 1) t)) name)
+read_slash part t k h slash name read = grind (arith, at, append-nil, name_test, good_start)
 
 -- of components that don't begin with a dot, what is read where one begins or behind its first byte
 plain_byte : (begins is_end is_dot : Bool) (t : List ℕ) (k : ℕ) → k < length t → is_slash (get_or t k 0) ≡ is_end → eqb (get_or t k 0) 46 ≡ is_dot

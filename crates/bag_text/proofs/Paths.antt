@@ -12,9 +12,6 @@ IsClean part = All (λ c. c ≢ slash) part
 pub not_slash : (c : ℕ) → c ≢ slash → is_slash c ≡ false
 not_slash c h = grind (arith, nat_tests)
 
-is_no_slash : (c : ℕ) → is_slash c ≡ false → c ≢ slash
-is_no_slash c h e = grind (arith, nat_tests)
-
 clean_fails : (part : List ℕ) → IsClean part → All (λ c. is_slash c ≡ false) part
 clean_fails part clean k d l = not_slash _ (clean k d l)
 
@@ -30,16 +27,9 @@ joined_again (part ∷ parts) some clean = split_join part parts clean
 clean_nil : IsClean []
 clean_nil k d l = absurd (omega arith)
 
-clean_cons : (c : ℕ) (part : List ℕ) → is_slash c ≡ false → IsClean part → IsClean (c ∷ part)
-clean_cons c part e clean = All-from_recursion (λ x. x ≢ slash) (c ∷ part) (is_no_slash c e, recursion_from_All (λ x. x ≢ slash) part clean)
-
-clean_onto : (c : ℕ) (parts : List (List ℕ)) → is_slash c ≡ false → AllByRecursion IsClean parts → AllByRecursion IsClean (onto_first c parts)
-clean_onto c [] e clean = (clean_cons c [] e clean_nil, tt)
-clean_onto c (part ∷ parts) e clean = (clean_cons c part e clean.0, clean.1)
-
 clean_next : (c : ℕ) (parts : List (List ℕ)) (b : Bool) → is_slash c ≡ b → AllByRecursion IsClean parts → AllByRecursion IsClean (cond b ([] ∷ parts) (onto_first c parts))
 clean_next c parts true e clean = (clean_nil, clean)
-clean_next c parts false e clean = clean_onto c parts e clean
+clean_next c parts false e clean = grind (arith, clean_nil, recursion_from_All, nat_tests)
 
 -- no component has a slash
 components_clean : (t : List ℕ) → AllByRecursion IsClean (components t)

@@ -1,5 +1,5 @@
 -- Spellings of paths.
-use Rattle.bag_text.proofs.Common.{◌≡◌, ◌≢◌, ◌↔◌, ℕ, List, [], ◌∷◌, ◌++◌, Option, Some, None, Bool, true, false, refl, sym, ap, subst, ◌∙◌, inl, inr, arith, unwrap_or, is_some, ◌==◌, nat_tests, line_feed, carriage_return, percent, escaped, SpellsStrictly, both, itself, unescaped_strictly, escape_one, escape, EscapedIsReadAgain}
+use Rattle.bag_text.proofs.Common.{◌≡◌, ◌≢◌, ◌↔◌, ℕ, List, [], ◌∷◌, Option, Some, None, Bool, true, false, refl, sym, ap, subst, ◌∙◌, inl, inr, arith, unwrap_or, is_some, ◌==◌, nat_tests, percent, escaped, SpellsStrictly, both, itself, unescaped_strictly, escape, EscapedIsReadAgain}
 
 some_is_not_none : {A : Type 0} (x : A) → Some x ≡ None → ⊥
 some_is_not_none x e = let h : true ≡ false = ap is_some e in cc
@@ -72,14 +72,7 @@ unescaped_is_spelled (c ∷ d ∷ e ∷ s) = backs_three c d e s _ refl (unescap
 pub strict_spellings : (s path : List ℕ) → SpellsStrictly s path ↔ (unescaped_strictly s ≡ Some path)
 strict_spellings s path = (spelled_is_unescaped path s, unescaped_is_spelled s path)
 
-unescape_one : (c : ℕ) (s : List ℕ) (feed back mark : Bool) → (c == line_feed) ≡ feed → (c == carriage_return) ≡ back → (c == percent) ≡ mark
-    → unescaped_strictly (escape_one c ++ s) ≡ both (Some c) (unescaped_strictly s)
-unescape_one c s true back mark f b m = let same : c ≡ line_feed = grind (arith, nat_tests) in rw same refl
-unescape_one c s false true mark f b m = let same : c ≡ carriage_return = grind (arith, nat_tests) in rw same refl
-unescape_one c s false false true f b m = let same : c ≡ percent = grind (arith, nat_tests) in rw same refl
-unescape_one c s false false false f b m = rw (f, b, m) (unescaped_plain c s (is_other c m))
-
 -- a path that is written is read again
 pub read_again : EscapedIsReadAgain
 read_again [] = refl
-read_again (c ∷ path) = unescape_one c (escape path) _ _ _ refl refl refl ∙ ap (both (Some c)) (read_again path)
+read_again (c ∷ path) = grind (arith, nat_tests, unescaped_plain, is_other, read_again path)

@@ -1,5 +1,5 @@
 -- Reading and writing spellings piece by piece.
-use Rattle.bag_text.proofs.Common.{◌≡◌, ◌≢◌, ◌↔◌, IsTrue, ℕ, suc, ◌<◌, ◌≤◌, List, [], ◌∷◌, ◌++◌, length, get_or, Option, Some, None, Bool, true, false, not, ◌&&◌, ◌||◌, refl, sym, ap, ◌∙◌, arith, eqb, append_assoc, append-nil, encode_utf8, nat_lt, lit<, to_ascii_lowercase, list_all, option_map, IsUtf8, IsCharBoundary, NoCharPasses, encode_utf8_all, nat_tests, list_all_at, NoCharPasses-byte, encodes-append, IsCharBoundary-after_ascii, percent, escaped, both, unescaped_strictly, escape_one, escape}
+use Rattle.bag_text.proofs.Common.{◌≡◌, ◌≢◌, ◌↔◌, IsTrue, ℕ, suc, ◌<◌, ◌≤◌, List, [], ◌∷◌, ◌++◌, length, get_or, Option, Some, None, Bool, true, false, not, ◌||◌, refl, sym, ap, ◌∙◌, arith, eqb, append_assoc, append-nil, encode_utf8, nat_lt, lit<, to_ascii_lowercase, list_all, option_map, IsUtf8, IsCharBoundary, NoCharPasses, encode_utf8_all, nat_tests, list_all_at, NoCharPasses-byte, encodes-append, IsCharBoundary-after_ascii, percent, escaped, both, unescaped_strictly, escape_one, escape}
 use Rattle.std.specs.Str.{bytes_eq}
 use Rattle.std.proofs.lemmas.List.Concat.{flat_map-append}
 use Rattle.bag_text.proofs.SpellingLaws.{unescaped_plain}
@@ -25,14 +25,10 @@ escape-encode c e =
     let none : NoCharPasses is_escaped (encode_utf8 c) = (c ∷ [], append-nil (encode_utf8 c), (e, tt)) in
     escape_plain (encode_utf8 c) (λ i l. plain_byte (encode_utf8 c) i l (NoCharPasses-byte is_escaped (encode_utf8 c) i none l))
 
--- one more character
-escape_more : (cs : List ℕ) (c : ℕ) → escape (encode_utf8_all (cs ++ c ∷ [])) ≡ escape (encode_utf8_all cs) ++ escape (encode_utf8 c)
-escape_more cs c = ap escape (encodes-append cs (c ∷ []) ∙ ap (λ x. encode_utf8_all cs ++ x) (append-nil (encode_utf8 c))) ∙ flat_map-append escape_one (encode_utf8_all cs) (encode_utf8 c)
-
 -- and what is written for it stands behind the others
 pub escape_behind : (cs : List ℕ) (c : ℕ) (text new written : List ℕ) → new ≡ text ++ written → text ≡ escape (encode_utf8_all cs) → escape (encode_utf8 c) ≡ written
     → new ≡ escape (encode_utf8_all (cs ++ c ∷ []))
-escape_behind cs c text new written now so_far one = grind (arith, escape_more)
+escape_behind cs c text new written now so_far one = grind (arith, encodes-append, append-nil, encode_utf8, flat_map-append)
 
 both_front : (c : ℕ) (front : List ℕ) (o : Option (List ℕ)) → both (Some c) (option_map (λ more. front ++ more) o) ≡ option_map (λ more. c ∷ front ++ more) o
 both_front c front None = refl
@@ -62,22 +58,12 @@ pub read_more : (path plain : List ℕ) (c : ℕ) (o : Option (List ℕ)) → op
 read_more path plain c None = refl
 read_more path plain c (Some more) = grind (arith, append_assoc)
 
-lower_large : (c : ℕ) → 128 ≤ c → to_ascii_lowercase c ≡ c
-lower_large c h = grind (arith, nat_tests)
-
-never : (b c : Bool) → c ≡ false → (b && (c && true)) ≡ false
-never true c e = ap (λ x. x && true) e
-never false c e = refl
-
 never_escaped : (d e k : ℕ) → 128 ≤ e → k < 128 → (c : ℕ) → bytes_eq (to_ascii_lowercase d ∷ to_ascii_lowercase e ∷ []) (c ∷ k ∷ []) ≡ false
-never_escaped d e k h l c = grind (arith, nat_tests, lower_large, never)
-
-escaped_large : (d e : ℕ) → 128 ≤ e → escaped d e ≡ None
-escaped_large d e h = rw (never_escaped d e 97 h (lit< tt) 48, never_escaped d e 100 h (lit< tt) 48, never_escaped d e 53 h (lit< tt) 50) refl
+never_escaped d e k h l c = grind (arith, nat_tests)
 
 second : (d e : ℕ) (s : List ℕ) → IsUtf8 (d ∷ e ∷ s) → ¬ (IsCharBoundary (d ∷ e ∷ s) 2) → (small : Bool) → nat_lt e 128 ≡ small → escaped d e ≡ None
 second d e s u h true b = absurd (h (IsCharBoundary-after_ascii (d ∷ e ∷ s) 1 u (omega arith) (grind (arith, nat_tests))))
-second d e s u h false b = escaped_large d e (grind (arith, nat_tests))
+second d e s u h false b = grind (arith, nat_tests, never_escaped, lit<)
 
 -- where the two characters after a % can't be cut off, they are no escape
 pub cut_escape : (after : List ℕ) → IsUtf8 after → ¬ (IsCharBoundary after 2) → unescaped_strictly (percent ∷ after) ≡ None
@@ -95,10 +81,6 @@ nothing_put : (front : List ℕ) (o : Option (List ℕ)) → (option_map (λ mor
 nothing_put front None = (λ _. refl, λ _. refl)
 nothing_put front (Some more) = (λ e. cc, λ e. cc)
 
-nothing_behind : (c : ℕ) (o : Option (List ℕ)) → (both (Some c) o ≡ None) ↔ (o ≡ None)
-nothing_behind c None = (λ _. refl, λ _. refl)
-nothing_behind c (Some more) = (λ e. cc, λ e. cc)
-
 -- a bad escape behind what has none
 pub none_before : (rest plain after : List ℕ) → rest ≡ plain ++ percent ∷ after → ((i : ℕ) → i < length plain → get_or plain i 0 ≢ percent)
     → unescaped_strictly (percent ∷ after) ≡ None → unescaped_strictly rest ≡ None
@@ -108,7 +90,7 @@ none_before rest plain after is none bad = ap unescaped_strictly is ∙ unescape
 pub none_behind : (t rest plain after more : List ℕ) (c : ℕ) → (unescaped_strictly t ≡ None) ↔ (unescaped_strictly rest ≡ None) → rest ≡ plain ++ percent ∷ after
     → ((i : ℕ) → i < length plain → get_or plain i 0 ≢ percent) → unescaped_strictly (percent ∷ after) ≡ both (Some c) (unescaped_strictly more)
     → (unescaped_strictly t ≡ None) ↔ (unescaped_strictly more ≡ None)
-none_behind t rest plain after more c alike is none here = grind (arith, unescaped_front, nothing_behind, nothing_put)
+none_behind t rest plain after more c alike is none here = grind (arith, unescaped_front, nothing_put)
 
 -- where no % is left, none is bad
 pub none_whole : (t rest : List ℕ) → (unescaped_strictly t ≡ None) ↔ (unescaped_strictly rest ≡ None) → ((i : ℕ) → i < length rest → get_or rest i 0 ≢ percent)

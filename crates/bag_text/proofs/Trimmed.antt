@@ -17,12 +17,9 @@ module _ (p : ℕ → Bool) where
   abbrev StopsAt : List ℕ → Type 0
   StopsAt t = (c : ℕ) (more : List ℕ) → t ≡ c ∷ more → p c ≡ false
 
-  same_first : (c d : ℕ) (t more : List ℕ) → c ∷ t ≡ d ∷ more → c ≡ d
-  same_first c d t more e = cc
-
   stops_on : (c : ℕ) (t : List ℕ) (b : Bool) → p c ≡ b → StopsAt (drop (prefix_len p t) t) → StopsAt (drop (cond b (1 + prefix_len p t) 0) (c ∷ t))
   stops_on c t true e h = let on : suc (prefix_len p t) ≡ 1 + prefix_len p t = omega arith in subst (λ n. StopsAt (drop n (c ∷ t))) on h
-  stops_on c t false e h = λ d more is. ap p (sym (same_first c d t more is)) ∙ e
+  stops_on c t false e h = grind arith
 
   rest_stops : (t : List ℕ) → StopsAt (drop (prefix_len p t) t)
   rest_stops [] = λ c more is. cc
