@@ -1,5 +1,6 @@
 -- What a profile holds at each of its keys.
-use Rattle.bag_profile.proofs.Common.{◌≡◌, ◌⊎◌, inl, inr, ℕ, Bool, true, false, cond, List, [], Option, Some, None, Result, Ok, Err, refl, sym, ap, ◌∙◌, subst, codes, option_map, option_and_then, is_some, Data, Members, get, as_bool, as_str, as_object, ProfileFault, Key, LabelRule, ◌>>=◌, shaped, at, present, needed, optional, flag, allowed_values, label_rules, name_rules, name_lists_of, as_record, of_object, serialization_named, terms_of, texts, unchecked_of}
+use Rattle.std.proofs.Common.{arith}
+use Rattle.bag_profile.proofs.Common.{◌≡◌, ◌⊎◌, inl, inr, ℕ, Bool, true, false, cond, List, [], Option, Some, None, Result, Ok, Err, refl, sym, ap, subst, codes, option_map, option_and_then, is_some, Data, Members, get, as_bool, as_str, as_object, ProfileFault, Key, LabelRule, ◌>>=◌, shaped, at, optional, flag, allowed_values, label_rules, name_rules, name_lists_of, of_object, serialization_named, terms_of, texts, unchecked_of}
 use Rattle.bag_profile.specs.declared.key.Key.TheVariants as key
 use Rattle.bag_profile.specs.declared.name_lists.NameRules.{NameRules}
 use Rattle.bag_profile.specs.declared.name_lists.NameLists.{NameLists}
@@ -97,22 +98,10 @@ terms_are d terms e =
 
 -- ---- the identifier and the labels
 
-present_ok : {A : Type 0} (k : Key) (reading : Data → Option A) (o : Option Data) (x : A) → present k reading o ≡ Ok x → (value : Data) × (o ≡ Some value) × (reading value ≡ Some x)
-present_ok k reading None x e = cc
-present_ok k reading (Some value) x e = (value, refl, shaped_ok k (reading value) x e)
-
-itself : (value info : Data) (o : Option Members) → option_map (λ _. value) o ≡ Some info → value ≡ info
-itself value info None e = cc
-itself value info (Some _) e = some_same value info e
-
 identifier_is : (d : Data) (identifier : List ℕ) → identifier_of d ≡ Ok identifier
     → (info value : Data) × (get (key_name key.ProfileInfo) d ≡ Some info) × (get (key_name key.ProfileIdentifier) info ≡ Some value) × (as_str value ≡ Some identifier)
 unfolding identifier_of
-identifier_is d identifier e =
-    let one = bind_ok (needed key.ProfileInfo as_record d) _ identifier e in
-    let info = present_ok key.ProfileInfo as_record (get (key_name key.ProfileInfo) d) one.0 one.1 in
-    let value = present_ok key.ProfileIdentifier as_str (get (key_name key.ProfileIdentifier) one.0) identifier one.2 in
-    (one.0, value.0, info.1 ∙ ap Some (itself info.0 one.0 (as_object info.0) info.2), value.1, value.2)
+identifier_is d identifier e = grind (arith, bind_ok, shaped_ok, some_same)
 
 labels_are : (d : Data) (labels : List LabelRule) → labels_of d ≡ Ok labels → IsAt (key_name key.BagInfo) [] label_rules d labels
 unfolding labels_of

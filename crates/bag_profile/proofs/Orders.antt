@@ -1,5 +1,6 @@
 -- What is read of an object is in the order of its keys.
-use Rattle.bag_profile.proofs.Common.{◌≡◌, ℕ, Bool, true, false, cond, List, [], ◌∷◌, Option, Some, None, String, Global, refl, sym, ap, subst, ◌∙◌, string_bytes, codes, ForSome, option_map, option_and_then, is_some, AllByRecursion, Less, Data, Members, no_members, member, get, as_object, as_array, members_view, text_cmp, LabelRule, IsOrderly, labels, optional, flag, allowed_values, rules_of, keys, IsAscending, texts_of, text_set}
+use Rattle.std.proofs.Common.{arith}
+use Rattle.bag_profile.proofs.Common.{◌≡◌, ℕ, List, [], ◌∷◌, Option, Some, None, String, Global, refl, sym, ap, subst, ◌∙◌, string_bytes, ForSome, option_map, option_and_then, AllByRecursion, Less, Data, Members, no_members, member, members_view, text_cmp, LabelRule, IsOrderly, labels, rules_of, keys, IsAscending}
 use Rattle.std.specs.List.Sorted.{IsStrictlySortedBy}
 use Rattle.std.specs.Map.{keys_of}
 use Rattle.std.specs.String.{string_cmp}
@@ -27,34 +28,13 @@ pub unchecked_ascend : (es : List Entry) → IsStrictlySortedBy string_cmp (keys
 unfolding unchecked_of
 unchecked_ascend es up = IsStrictlySortedBy-filter text_cmp _ (keys (members_view es)) (keys_ascend es up)
 
-set_ascends : (o : Option (List (List ℕ))) → ForSome (option_map text_set o) IsAscending
-set_ascends None = λ x e. cc
-set_ascends (Some ts) = λ x e. let is : text_set ts ≡ x = cc in subst IsAscending is (ascending_with_texts [] ts ascending_nothing)
-
 texts_ascend : (d : Data) → ForSome (texts d) IsAscending
 unfolding texts
-texts_ascend d = set_ascends (option_and_then texts_of (as_array d))
-
-values_at : (o : Option Data) → ForSome (optional [] texts o) IsAscending
-values_at None = λ x e. let is : [] ≡ x = cc in subst IsAscending is ascending_nothing
-values_at (Some d) = texts_ascend d
-
-rule_at : (b : Bool) (label : List ℕ) (required repeatable : Option Bool) (values : Option (List (List ℕ))) (rule : LabelRule) → ForSome values IsAscending
-    → cond b (option_and_then (λ x. option_and_then (λ y. option_map (λ z. record { label = label; required = x; repeatable = y; values = z }) values) repeatable) required) None ≡ Some rule
-    → (rule.label ≡ label) × IsAscending rule.values
-rule_at false label required repeatable values rule up e = absurd (cc)
-rule_at true label None repeatable values rule up e = absurd (cc)
-rule_at true label (Some x) None values rule up e = absurd (cc)
-rule_at true label (Some x) (Some y) None rule up e = absurd (cc)
-rule_at true label (Some x) (Some y) (Some z) rule up e =
-    let made : LabelRule = record { label = label; required = x; repeatable = y; values = z } in
-    let is : made ≡ rule = cc in
-    (sym (ap (λ r. r.label) is), subst (λ r. IsAscending r.values) is (up z refl))
+texts_ascend d = grind (arith, ascending_with_texts, ascending_nothing)
 
 rule_is : (label : List ℕ) (d : Data) (rule : LabelRule) → label_rule label d ≡ Some rule → (rule.label ≡ label) × IsAscending rule.values
 unfolding label_rule
-rule_is label d rule e =
-    rule_at (is_some (as_object d)) label (flag (codes "required") false d) (flag (codes "repeatable") true d) (allowed_values d) rule (values_at (get (codes "values") d)) e
+rule_is label d rule e = grind (arith, ascending_nothing, texts_ascend)
 
 abbrev AreRules : Members → List LabelRule → Type 0
 AreRules ms rules = (labels rules ≡ keys ms) × AllByRecursion (λ rule. IsAscending rule.values) rules

@@ -1,5 +1,6 @@
 -- A value is read where it has its shape, and the first fault is told.
-use Rattle.bag_profile.proofs.Common.{◌≡◌, ℕ, Bool, true, false, cond, not, ◌&&◌, List, [], ◌∷◌, Option, Some, None, Result, Ok, Err, refl, sym, ap, ◌∙◌, codes, find, option_or, option_map, option_and_then, is_some, Data, Items, no_items, item, Members, no_members, member, get, as_bool, as_str, as_array, as_object, ProfileFault, Key, LabelRule, ◌>>=◌, shaped, at, present, needed, optional, flag, allowed_values, rules_of, name_rules, name_lists_of, as_record, of_object, serialization_named, terms_of, texts_of, text_set}
+use Rattle.std.proofs.Common.{arith}
+use Rattle.bag_profile.proofs.Common.{◌≡◌, ℕ, Bool, true, false, cond, ◌&&◌, List, [], ◌∷◌, Option, Some, None, Result, Ok, Err, refl, sym, ap, ◌∙◌, codes, find, option_or, option_map, option_and_then, is_some, Data, Items, no_items, item, Members, no_members, member, get, as_bool, as_str, as_array, as_object, ProfileFault, Key, LabelRule, ◌>>=◌, shaped, at, present, needed, optional, flag, allowed_values, rules_of, name_rules, name_lists_of, as_record, of_object, terms_of, texts_of, text_set}
 use Rattle.bag_profile.specs.declared.fault.ProfileFault.TheVariants.{WrongShape}
 use Rattle.bag_profile.specs.declared.key.Key.TheVariants as key
 use Rattle.bag_profile.specs.Key.{key_name}
@@ -77,9 +78,6 @@ labels_shape : (d : Data) → is_some (label_rules d) ≡ spec.has_shape key.Bag
 unfolding label_rules
 labels_shape d = passed_on rules_of spec.are_rules rules_are (as_object d)
 
-serialization_shape : (d : Data) → is_some (option_and_then serialization_named (as_str d)) ≡ spec.has_shape key.Serialization d
-serialization_shape d = passed_on serialization_named (λ text. is_some (serialization_named text)) (λ text. refl) (as_str d)
-
 -- ---- the fault at a key
 
 abbrev wrong : Data → Key → Fault
@@ -89,16 +87,8 @@ shaped_fault : {A : Type 0} (k : Key) (o : Option A) → spec.fault_of (shaped k
 shaped_fault k None = refl
 shaped_fault k (Some x) = refl
 
-turned : (b : Bool) (fault : Fault) → cond b None fault ≡ cond (not b) fault None
-turned true fault = refl
-turned false fault = refl
-
 at_fault : {A : Type 0} (k : Key) (default : A) (shape : Data → Option A) (d : Data) → ((v : Data) → is_some (shape v) ≡ spec.has_shape k v) → spec.fault_of (at k default shape d) ≡ wrong d k
-at_fault k default shape d h =
-    let value = get (key_name k) d in
-    shaped_fault k (optional default shape value)
-    ∙ ap (λ b. cond b None (Some (WrongShape k))) (optional_shape default shape (spec.has_shape k) h value)
-    ∙ turned (spec.may_be (spec.has_shape k) value) (Some (WrongShape k))
+at_fault k default shape d h = grind (arith, shaped_fault, optional_shape)
 
 texts_fault : (k : Key) (d : Data) → ((v : Data) → spec.is_list_of_texts v ≡ spec.has_shape k v) → spec.fault_of (texts_at k d) ≡ wrong d k
 unfolding texts_at
@@ -114,7 +104,7 @@ allow_fetch_fault d = at_fault key.AllowFetch true as_bool d (λ v. refl)
 
 serialization_fault : (d : Data) → spec.fault_of (serialization_of d) ≡ wrong d key.Serialization
 unfolding serialization_of
-serialization_fault d = at_fault key.Serialization _ (λ v. option_and_then serialization_named (as_str v)) d serialization_shape
+serialization_fault d = grind (arith, at_fault, passed_on)
 
 -- ---- one key after the other
 
@@ -155,33 +145,18 @@ terms_fault d =
 
 -- ---- the identifier
 
-info_at : {B : Type 0} (info : Data) (m : Option Members) (f : Data → Result B ProfileFault)
-    → spec.fault_of (shaped key.ProfileInfo (option_map (λ _. info) m) >>= f) ≡ option_or (cond (is_some m) None (Some (WrongShape key.ProfileInfo))) (spec.fault_of (f info))
-info_at info None f = refl
-info_at info (Some m) f = refl
-
-text_at : (o : Option Data) → spec.fault_of (present key.ProfileIdentifier as_str o) ≡ spec.needed_fault key.ProfileIdentifier o
-text_at None = refl
-text_at (Some d) = shaped_fault key.ProfileIdentifier (as_str d)
-
 abbrev two_fault : Option Data → Fault
 two_fault o = option_or (spec.needed_fault key.ProfileInfo o) (spec.needed_fault key.ProfileIdentifier (option_and_then (get (key_name key.ProfileIdentifier)) o))
 
 identifier_at : (o : Option Data) → spec.fault_of (present key.ProfileInfo as_record o >>= needed key.ProfileIdentifier as_str) ≡ two_fault o
 identifier_at None = refl
-identifier_at (Some info) =
-    info_at info (as_object info) (needed key.ProfileIdentifier as_str)
-    ∙ ap (option_or (spec.needed_fault key.ProfileInfo (Some info))) (text_at (get (key_name key.ProfileIdentifier) info))
+identifier_at (Some info) = grind (arith, shaped_fault)
 
 identifier_fault : (d : Data) → spec.fault_of (identifier_of d) ≡ two_fault (get (key_name key.ProfileInfo) d)
 unfolding identifier_of
 identifier_fault d = identifier_at (get (key_name key.ProfileInfo) d)
 
 -- ---- all keys
-
-found_at : (b : Bool) (k : Key) (o : Option Key) → option_map WrongShape (cond b (Some k) o) ≡ option_or (cond b (Some (WrongShape k)) None) (option_map WrongShape o)
-found_at true k o = refl
-found_at false k o = refl
 
 -- the fault at the first key of wrong shape
 abbrev each_wrong : Data → List Key → Fault
@@ -190,7 +165,7 @@ each_wrong d (k ∷ ks) = option_or (wrong d k) (each_wrong d ks)
 
 first_wrong : (d : Data) (ks : List Key) → option_map WrongShape (find (spec.is_wrong d) ks) ≡ each_wrong d ks
 first_wrong d [] = refl
-first_wrong d (k ∷ ks) = found_at (spec.is_wrong d k) k (find (spec.is_wrong d) ks) ∙ ap (option_or (wrong d k)) (first_wrong d ks)
+first_wrong d (k ∷ ks) = grind (arith, first_wrong d ks)
 
 regrouped : (i j l a b c e f g h m n : Fault)
     → option_or (option_or i j) (option_or l (option_or (option_or (option_or a (option_or b None)) (option_or (option_or c (option_or e None)) (option_or (option_or f (option_or g None)) None))) (option_or (option_or h (option_or m (option_or n None))) None)))
@@ -223,10 +198,6 @@ object_fault d members =
     ∙ ap (λ o. option_or (spec.needed_fault key.ProfileInfo info) (option_or (spec.needed_fault key.ProfileIdentifier (option_and_then (get (key_name key.ProfileIdentifier)) info)) o))
     (sym (first_wrong d spec.optional_keys))
 
-whole_at : (d : Data) (m : Option Members) → spec.fault_of (shaped key.Whole m >>= of_object d) ≡ cond (is_some m) (spec.first_fault_of_object d) (Some (WrongShape key.Whole))
-whole_at d None = refl
-whole_at d (Some members) = object_fault d members
-
 pub first_fault_is_told : spec.FirstFaultIsTold
 unfolding profile_of
-first_fault_is_told d = whole_at d (as_object d)
+first_fault_is_told d = grind (arith, object_fault)
