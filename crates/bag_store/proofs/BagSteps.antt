@@ -244,12 +244,8 @@ lacks_it nodes name is none = ap not (folder_of_disk nodes name is ∙ no_folder
 pub lacks_place : (nodes : Nodes) (top folder : List ℕ) → is_base_name folder ≡ true → (node nodes folder ≡ Some Folder → ⊥) → lacks_source (bag_of nodes) top folder ≡ true
 lacks_place nodes top folder is none = ap (λ b. not (b && is_taken (bag_of nodes) top)) (folder_of_disk nodes folder is ∙ no_folder_there (node nodes folder) none)
 
-not_both : (b : Bool) → not (b && false) ≡ true
-not_both true = refl
-not_both false = refl
-
 pub lacks_top : (nodes : Nodes) (top folder : List ℕ) → is_taken (bag_of nodes) top ≡ false → lacks_source (bag_of nodes) top folder ≡ true
-lacks_top nodes top folder none = ap (λ b. not (has_folder (bag_of nodes) folder && b)) none ∙ not_both (has_folder (bag_of nodes) folder)
+lacks_top nodes top folder none = grind arith
 
 -- where a folder stands, and what is to be moved, neither is lacking
 pub has_it : (nodes : Nodes) (name : List ℕ) → is_base_name name ≡ true → node nodes name ≡ Some Folder → lacks_folder (bag_of nodes) name ≡ true → ⊥

@@ -1,5 +1,5 @@
 -- Names of the base folder, and what stands in its folders.
-use Rattle.bag_store.proofs.Common.{◌≡◌, ℕ, ◌<◌, ◌==◌, true, IsTrue, List, [], ◌∷◌, length, length-append, take, get_or, nat_lt, Some, inr, refl, ap, sym, ◌∙◌, arith, ⊎_elim, position_or_len, and_parts, cases_lt, eqb-true, eq-eqb, false≢true, take-append_seam, get_or-append_seam, slash, components, is_base_name, is_path, under, Nodes, node, IsReached, Folder, path_in}
+use Rattle.bag_store.proofs.Common.{◌≡◌, ℕ, ◌<◌, ◌==◌, true, IsTrue, List, [], ◌∷◌, length, length-append, take, get_or, nat_lt, Some, refl, ap, sym, ◌∙◌, arith, ⊎_elim, position_or_len, and_parts, cases_lt, eqb-true, eq-eqb, false≢true, take-append_seam, get_or-append_seam, slash, components, is_base_name, is_path, under, Nodes, node, IsReached, Folder, path_in}
 use Rattle.std.proofs.lemmas.List.{get_or_append_left}
 use Rattle.std.proofs.lemmas.List.Splits.{length-slice_split}
 use Rattle.std.proofs.lemmas.List.Sums.{fails_before_first}
@@ -19,9 +19,6 @@ base_not_under name folder rest is same = grind (arith, one_component, component
 -- nothing is on the way to a name of the base folder
 pub base_reached : (nodes : Nodes) (name : List ℕ) → is_base_name name ≡ true → IsReached nodes name
 base_reached nodes name is folder rest same = absurd (base_not_under name folder rest is same)
-
-pub base_is_path : (name : List ℕ) → is_base_name name ≡ true → is_path name ≡ true
-base_is_path name is = (and_parts (is_path name) (length (components name) == 1) is).0
 
 -- a text of one component has no slash
 no_slash : (name : List ℕ) (k : ℕ) → length (components name) ≡ 1 → k < length name → get_or name k 0 ≡ slash → ⊥
@@ -70,4 +67,4 @@ path_in_is_under [] name is = absurd (false≢true is)
 path_in_is_under (c ∷ folder) name is = refl
 
 pub target_is_path : (folder name : List ℕ) → is_base_name folder ≡ true → is_base_name name ≡ true → IsTrue (is_path (path_in folder name))
-target_is_path folder name is named = path_in_folder folder name (inr (base_is_path folder is)) (base_is_path name named)
+target_is_path folder name is named = grind (arith, path_in_folder, and_parts)

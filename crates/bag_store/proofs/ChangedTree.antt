@@ -1,5 +1,5 @@
 -- What a step makes of a tree of the files on a disk.
-use Rattle.bag_store.proofs.Common.{◌≡◌, ℕ, ◌+◌, ◌≤◌, true, false, cond, IsTrue, List, take, Some, None, is_some, inl, inr, ◌⊎◌, refl, ap, sym, subst, ◌∙◌, arith, false≢true, get-insert, eq_by_cmp, nat_list_cmp_total, text_cmp, is_base_name, under, Bag, HasBegun, HasChanged, IsSame, Keeps, within_cases, DiskState, Nodes, Node, node, IsDisk, OnlyLooks, entry_count, is_plain, is_plain_node, File, Folder, Other, Closes, MakesFolder, MovesAll, is_within, moved, nodes_move, IsMovedIn, IsRenamed, MovesInto, Renames, bag_of, state_after, count_after, Begins, Makes, MakesFileOf, failures_after, Refusal, all_plain, other_not_plain}
+use Rattle.bag_store.proofs.Common.{◌≡◌, ℕ, ◌+◌, ◌≤◌, true, false, cond, IsTrue, List, take, Some, None, is_some, inl, inr, ◌⊎◌, refl, ap, sym, ◌∙◌, arith, false≢true, get-insert, eq_by_cmp, nat_list_cmp_total, text_cmp, is_base_name, under, Bag, HasBegun, HasChanged, IsSame, Keeps, within_cases, DiskState, Nodes, Node, node, IsDisk, OnlyLooks, entry_count, is_plain, is_plain_node, Closes, MakesFolder, MovesAll, is_within, moved, nodes_move, IsMovedIn, IsRenamed, bag_of, state_after, count_after, Begins, Makes, failures_after, Refusal, all_plain, other_not_plain}
 use Rattle.std.specs.FinMap as map
 use Rattle.bag_tree.specs.declared.answer.Answer.{Answer}
 use Rattle.bag_tree.specs.Steps as step
@@ -10,13 +10,8 @@ use Rattle.bag_store.proofs.BagSteps.{bag_moved_in, bag_renamed, file_made, fold
 abbrev NothingElse : Nodes → Nodes → Type 0
 NothingElse old new = (path : List ℕ) (n : Node) → node new path ≡ Some n → (is_plain_node n ≡ true) ⊎ ((q : List ℕ) × (node old q ≡ Some n))
 
-plain_value : (n : Node) → (n ≡ Other → ⊥) → is_plain_node n ≡ true
-plain_value (File bytes) none = refl
-plain_value Folder none = refl
-plain_value Other none = absurd (none refl)
-
 stays_plain : (old new : Nodes) → NothingElse old new → is_plain old ≡ true → is_plain new ≡ true
-stays_plain old new from plain = grind (arith, all_plain, plain_value, false≢true, other_not_plain)
+stays_plain old new from plain = grind (arith, all_plain, false≢true, other_not_plain)
 
 nothing_else_put : (nodes : Nodes) (name : List ℕ) (n : Node) → is_plain_node n ≡ true → NothingElse nodes (map.insert nodes name n)
 nothing_else_put nodes name n good path m is = elim (eq_by_cmp text_cmp path name) as (λ b. cond b (Some n) (node nodes path) ≡ Some m → (is_plain_node m ≡ true) ⊎ ((q : List ℕ) × (node nodes q ≡ Some m))) [
@@ -45,34 +40,6 @@ record Steps (change : Bag → Bag) (more : ℕ) (old new : Nodes) : Type 0 wher
   plain : is_plain old ≡ true → is_plain new ≡ true
   entries : entry_count new ≤ entry_count old + more
 
-folder_steps : (old new : Nodes) (name : List ℕ) → IsDisk old → IsDisk new → is_base_name name ≡ true → MakesFolder old new name → Steps (step.make_folder name) 1 old new
-folder_steps old new name disk disk_then is makes = subst (Steps (step.make_folder name) 1 old) (sym makes.made) (record {
-  bag = folder_made old name disk (subst IsDisk makes.made disk_then) is makes.free;
-  plain = stays_plain old _ (nothing_else_put old name Folder refl);
-  entries = more_put old name Folder refl;
-})
-
-file_steps : (old new : Nodes) (name bytes : List ℕ) → IsDisk old → IsDisk new → MakesFileOf old new name bytes → Steps (step.create name bytes) 1 old new
-file_steps old new name bytes disk disk_then makes = subst (Steps (step.create name bytes) 1 old) (sym makes.made) (record {
-  bag = file_made old name bytes disk (subst IsDisk makes.made disk_then) makes.free;
-  plain = stays_plain old _ (nothing_else_put old name (File bytes) refl);
-  entries = more_put old name (File bytes) refl;
-})
-
-moved_steps : (old new : Nodes) (top folder : List ℕ) → IsDisk old → IsDisk new → is_base_name top ≡ true → MovesInto old new top folder → Steps (step.move_in top folder) 0 old new
-moved_steps old new top folder disk disk_then is moves = subst (Steps (step.move_in top folder) 0 old) (sym moves.moved.moved) (record {
-  bag = bag_moved_in old top folder disk (subst IsDisk moves.moved.moved disk_then) is moves.free;
-  plain = stays_plain old _ (nothing_else_moved old top (under folder top) disk moves.free);
-  entries = as_many_moved top (under folder top) old;
-})
-
-renamed_steps : (old new : Nodes) (from to : List ℕ) → IsDisk old → IsDisk new → is_base_name from ≡ true → is_base_name to ≡ true → Renames old new from to → Steps (step.rename_folder from to) 0 old new
-renamed_steps old new from to disk disk_then from_is to_is moves = subst (Steps (step.rename_folder from to) 0 old) (sym moves.moved.moved) (record {
-  bag = bag_renamed old from to disk (subst IsDisk moves.moved.moved disk_then) from_is to_is moves.folder_is moves.free;
-  plain = stays_plain old _ (nothing_else_moved old from to disk moves.free);
-  entries = as_many_moved from to old;
-})
-
 module _ (old new : DiskState) (own own_then given given_then : ℕ) (last last_then : Answer) where
   changed : (change : Bag → Bag) (more : ℕ) → Closes old new → old.failures + own ≤ new.failures + own_then → (IsTrue old.honest → Steps change more old.nodes new.nodes)
       → HasChanged change more (state_after old own given last) (state_after new own_then given_then last_then)
@@ -80,23 +47,19 @@ module _ (old new : DiskState) (own own_then given given_then : ℕ) (last last_
 
   pub folder_changed : (name : List ℕ) → IsDisk old.nodes → IsDisk new.nodes → is_base_name name ≡ true → old.failures + own ≤ new.failures + own_then → Closes old new → (IsTrue old.honest → MakesFolder old.nodes new.nodes name)
       → HasChanged (step.make_folder name) 1 (state_after old own given last) (state_after new own_then given_then last_then)
-  folder_changed name disk disk_then is grows closes makes =
-      changed (step.make_folder name) 1 closes grows (λ honest. folder_steps old.nodes new.nodes name disk disk_then is (makes honest))
+  folder_changed name disk disk_then is grows closes makes = grind (arith, changed, folder_made, stays_plain, nothing_else_put, more_put)
 
   pub file_changed : (name bytes : List ℕ) → IsDisk old.nodes → IsDisk new.nodes → old.failures + own ≤ new.failures + own_then → Makes old new name bytes
       → HasChanged (step.create name bytes) 1 (state_after old own given last) (state_after new own_then given_then last_then)
-  file_changed name bytes disk disk_then grows makes =
-      changed (step.create name bytes) 1 makes.closed grows (λ honest. file_steps old.nodes new.nodes name bytes disk disk_then (makes.file honest))
+  file_changed name bytes disk disk_then grows makes = grind (arith, changed, file_made, stays_plain, nothing_else_put, more_put)
 
   pub moved_changed : (top folder : List ℕ) → IsDisk old.nodes → IsDisk new.nodes → is_base_name top ≡ true → old.failures + own ≤ new.failures + own_then → Closes old new → IsMovedIn old new top folder
       → HasChanged (step.move_in top folder) 0 (state_after old own given last) (state_after new own_then given_then last_then)
-  moved_changed top folder disk disk_then is grows closes moves =
-      changed (step.move_in top folder) 0 closes grows (λ honest. moved_steps old.nodes new.nodes top folder disk disk_then is (moves honest))
+  moved_changed top folder disk disk_then is grows closes moves = grind (arith, changed, bag_moved_in, stays_plain, nothing_else_moved, as_many_moved)
 
   pub renamed_changed : (from to : List ℕ) → IsDisk old.nodes → IsDisk new.nodes → is_base_name from ≡ true → is_base_name to ≡ true → old.failures + own ≤ new.failures + own_then → Closes old new → IsRenamed old new from to
       → HasChanged (step.rename_folder from to) 0 (state_after old own given last) (state_after new own_then given_then last_then)
-  renamed_changed from to disk disk_then from_is to_is grows closes moves =
-      changed (step.rename_folder from to) 0 closes grows (λ honest. renamed_steps old.nodes new.nodes from to disk disk_then from_is to_is (moves honest))
+  renamed_changed from to disk disk_then from_is to_is grows closes moves = grind (arith, changed, bag_renamed, stays_plain, nothing_else_moved, as_many_moved)
 
   -- a call that changes nothing that stands there keeps the tree
   pub tree_keeps : new.nodes ≡ old.nodes → new.honest ≡ old.honest → old.failures + own ≤ new.failures + own_then → Keeps (state_after old own given last) (state_after new own_then given_then last_then)

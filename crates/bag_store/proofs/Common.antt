@@ -30,7 +30,7 @@ pub use Rattle.bag_tree.specs.Moved.{MovesAll, is_within, moved, renamed, with_r
 pub use Rattle.bag_tree.specs.Steps.{create, has_within, is_taken, lacks_folder, lacks_source, make_folder}
 pub use Rattle.bag_tree.specs.Tree.{Keeps, MayRefuse, TreeState, most_entries}
 pub use Rattle.bag_store.specs.Answered.{count_after, failure_or_memory, fault_of, one_more_failure}
-pub use Rattle.bag_store.specs.Changing.{IsMovedIn, IsRenamed, MovesInto, Renames}
+pub use Rattle.bag_store.specs.Changing.{IsMovedIn, IsRenamed, MovesInto}
 pub use Rattle.bag_store.specs.FileTree.{TellsOfDisk, state_after}
 pub use Rattle.bag_store.specs.Standing.{IsStanding}
-pub use Rattle.bag_store.specs.Writing.{Begins, HasWritten, HasWrittenSome, Makes, MakesFileOf}
+pub use Rattle.bag_store.specs.Writing.{Begins, HasWritten, HasWrittenSome, Makes}

@@ -1,5 +1,5 @@
 -- How a tree answers what its disk refuses.
-use Rattle.bag_store.proofs.Common.{◌≡◌, ℕ, ◌+◌, ◌<◌, false, IsTrue, inl, inr, sym, subst, refl, arith, MayRefuseChange, TreeState, MayRefuse, most_entries, DiskState, MeetsSpecial, MeetsUnnamed, IsDue, IsDueInListing, IsDueInMove, IsDueInStep, failures_after, Refusal, TellsOfDisk, count_after, failure_or_memory, fault_of, one_more_failure}
+use Rattle.bag_store.proofs.Common.{◌≡◌, ℕ, ◌+◌, ◌<◌, false, IsTrue, refl, arith, MayRefuseChange, TreeState, MayRefuse, most_entries, DiskState, MeetsSpecial, MeetsUnnamed, IsDue, IsDueInListing, IsDueInMove, IsDueInStep, failures_after, Refusal, TellsOfDisk, count_after, failure_or_memory, fault_of, one_more_failure}
 use Rattle.bag_tree.specs.declared.tree_fault.TreeFault.{TreeFault}
 use Rattle.bag_tree.specs.declared.tree_fault.TreeFault.TheVariants as fault
 use Rattle.bag_disk.specs.declared.refusal.Refusal.TheVariants.{Device, Special, Name, NotFound, TooMany, Memory, Exists, Contradicts, InTheWay}
@@ -101,26 +101,11 @@ module _ (old new : TreeState) (before after own own_then : ℕ) where
       answered Contradicts n due = as_step Contradicts n due
       answered InTheWay n due = counted (MayRefuseChange absent taken old new) fault.Device own own_then tt (λ more. own_rose old new before after own own_then n.old_is n.new_is n.disk_is more) n.own_is
 
--- what is told of a disk by a failure, or Memory in its place
-told_or_memory : (answer : TreeFault → Type 0) (failure : TreeFault) (own : ℕ) → answer fault.Memory → answer failure → answer (failure_or_memory failure own)
-told_or_memory answer failure own memory told = grind arith
-
 module _ (r : Refusal) (answer : TreeFault) (own : ℕ) (old new : DiskState) where
   -- what the answer to a refusal tells of the disk
   tells_for : (reason : Type 0) → answer ≡ fault_of r own → new.failures ≡ failures_after r old.failures → (r ≡ Special → MeetsSpecial old) → (r ≡ Name → MeetsUnnamed old) → (r ≡ Contradicts → reason) → (r ≡ InTheWay → reason)
       → TellsOfDisk reason old new answer
-  tells_for reason is counts special unnamed odd blocked = subst (TellsOfDisk reason old new) (sym is) (told r counts special unnamed odd blocked)
-    where
-      told : (r : Refusal) → new.failures ≡ failures_after r old.failures → (r ≡ Special → MeetsSpecial old) → (r ≡ Name → MeetsUnnamed old) → (r ≡ Contradicts → reason) → (r ≡ InTheWay → reason) → TellsOfDisk reason old new (fault_of r own)
-      told Device more special unnamed odd blocked = inl (omega (arith, more))
-      told Special same special unnamed odd blocked = told_or_memory (TellsOfDisk reason old new) fault.Special own tt (special refl)
-      told Name same special unnamed odd blocked = told_or_memory (TellsOfDisk reason old new) fault.Name own tt (unnamed refl)
-      told NotFound same special unnamed odd blocked = tt
-      told TooMany same special unnamed odd blocked = tt
-      told Memory same special unnamed odd blocked = tt
-      told Exists same special unnamed odd blocked = tt
-      told Contradicts same special unnamed odd blocked = told_or_memory (TellsOfDisk reason old new) fault.Device own tt (inr (odd refl))
-      told InTheWay same special unnamed odd blocked = told_or_memory (TellsOfDisk reason old new) fault.Device own tt (inr (blocked refl))
+  tells_for reason is counts special unnamed odd blocked = grind arith
 
   pub tells_due : (special unnamed gone many : Type 0) → answer ≡ fault_of r own → new.failures ≡ failures_after r old.failures → (special → MeetsSpecial old) → (unnamed → MeetsUnnamed old) → IsDue special unnamed gone many r → TellsOfDisk ⊥ old new answer
   tells_due special unnamed gone many is counts over wrong due = grind (arith, tells_for)

@@ -75,17 +75,13 @@ written_more old mid new written now first next all joined same before more clos
       (more (before.honest ∙ honest) path (same ∙ is) (file_after old.nodes mid.nodes path first one));
 }
 
--- a call left what was written
-pub written_kept : (old mid new : DiskState) (written : Option (List ℕ)) (bytes : List ℕ) → HasWritten old mid written bytes → new.nodes ≡ mid.nodes → Closes mid new → HasWritten old new written bytes
-written_kept old mid new written bytes before same closes = grind arith
-
 pub written_same : (old mid new : DiskState) (written : Option (List ℕ)) (bytes : List ℕ) → HasWritten old mid written bytes → OnlyLooks mid new → HasWritten old new written bytes
 written_same old mid new written bytes before looks = grind arith
 
 -- a file was written, then synced, and then a folder
 pub written_synced : (old mid synced new : DiskState) (written : Option (List ℕ)) (bytes : List ℕ) → HasWritten old mid written bytes → synced.nodes ≡ mid.nodes → Closes mid synced → OnlyLooks synced new
     → HasWritten old new written bytes
-written_synced old mid synced new written bytes before same closes looks = written_same old synced new written bytes (written_kept old mid synced written bytes before same closes) looks
+written_synced old mid synced new written bytes before same closes looks = grind (arith, written_same)
 
 -- all bytes are some first ones
 pub all_written : (old new : DiskState) (written : Option (List ℕ)) (bytes : List ℕ) → HasWritten old new written bytes → HasWrittenSome old new written bytes
