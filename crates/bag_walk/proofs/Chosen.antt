@@ -1,5 +1,5 @@
 -- The files whose digests are to be compared, and their faults.
-use Rattle.bag_walk.proofs.Common.{arith, ◌≡◌, ◌≢◌, ◌<◌, ◌≤◌, ◌+◌, ◌++◌, ◌∷◌, ◌⊎◌, inl, inr, ℕ, Bool, true, false, List, [], length, map, take, get_or, Option, None, Some, Contains, refl, sym, ap, ◌∙◌, subst, is_some, nat_lt, ◌==◌, ◌&&◌, ◌||◌, nat_cmp, ordering_then, nat_cmp_is, Ordering, Less, Equal, Greater, length-map, map-append, take-map, take_all, eqb-true, ltb-true, rank_or_zero, number, stage, IsListOf, text_cmp, contains_back, contains_behind, contains_cases, contains_either, contains_first, contains_front, contains_nothing, joined, member_has, nothing_listed, one_listed, same_members, Bag, file, HasFile, FileEntry, fault_cmp, Fault, not_both, fault_cmp_total, IsFactsOf, paths_of, Facts, Depth, Declaration, Fast, Complete, Full, take_one_more, before_next, less_by_path, faults_of_bytes, IsNamed, IsSummed, IsFaultOfFile, IsOfValidity, Expected, validity_of_stage_seven, above, is_above, filtered_list, AreToSum, IsNamedAhead, TellsItsFaults, faults_at, faults_in, faults_of_files, paths_to_sum, is_passed, AreFilesOf, IsOfBag, ToSum}
+use Rattle.bag_walk.proofs.Common.{arith, ◌≡◌, ◌≢◌, ◌<◌, ◌≤◌, ◌+◌, ◌++◌, ◌∷◌, ◌⊎◌, inl, inr, ℕ, Bool, true, false, List, [], length, map, take, get_or, Option, None, Some, Contains, refl, sym, ap, ◌∙◌, subst, is_some, nat_cmp, ordering_then, nat_cmp_is, Ordering, Less, Equal, Greater, length-map, map-append, take-map, take_all, eqb-true, ltb-true, rank_or_zero, number, stage, IsListOf, text_cmp, contains_back, contains_behind, contains_cases, contains_either, contains_first, contains_front, contains_nothing, joined, member_has, nothing_listed, one_listed, same_members, Bag, file, HasFile, FileEntry, fault_cmp, Fault, not_both, fault_cmp_total, IsFactsOf, paths_of, Facts, Depth, Declaration, Full, take_one_more, before_next, less_by_path, faults_of_bytes, IsNamed, IsSummed, IsFaultOfFile, IsOfValidity, Expected, validity_of_stage_seven, above, is_above, filtered_list, AreToSum, IsNamedAhead, TellsItsFaults, faults_at, faults_in, faults_of_files, paths_to_sum, is_passed, AreFilesOf, IsOfBag, ToSum}
 use Rattle.std.proofs.Common.{is_lt}
 use Rattle.std.specs.List.Sorted.{IsStrictlySortedBy}
 use Rattle.std.proofs.Math.ListN.{get_or-map}
@@ -160,15 +160,8 @@ bool_cases true P if_true if_false = if_true refl
 bool_cases false P if_true if_false = if_false refl
 
 module _ (cursor f : Fault) (seven : stage f.code ≡ 7) where
-  less_if : (later same less : Bool) → nat_lt 7 (stage cursor.code) ≡ later → (stage cursor.code == 7) ≡ same → is_lt (text_cmp f.path cursor.path) ≡ less
-      → (later || (same && less)) ≡ true → fault_cmp f cursor ≡ Less
-  less_if true same less e g h passed = less_by_stage f cursor (subst (λ n. n < stage cursor.code) (sym seven) (ltb-true _ _ e))
-  less_if false true true e g h passed = less_by_path f cursor (seven ∙ sym (eqb-true _ _ g)) (less_is _ h)
-  less_if false true false e g h passed = cc
-  less_if false false less e g h passed = cc
-
   passed_is_less : is_passed (Some cursor) f.path ≡ true → fault_cmp f cursor ≡ Less
-  passed_is_less = less_if _ _ _ refl refl refl
+  passed_is_less = grind (arith, less_by_stage, stage, ltb-true, less_by_path, eqb-true, less_is)
 
   above_is_ahead : is_above (Some cursor) f ≡ true → is_passed (Some cursor) f.path ≡ false
   above_is_ahead above =
@@ -246,11 +239,5 @@ module _ (bag : Bag) (after : Option Fault) (facts : Facts) (of : IsFactsOf bag 
   of_none : facts.options.depth ≢ Full → IsOfBag bag after chosen []
   of_none other = subst (λ l. IsOfBag bag after l []) (sym (at_other other)) (none_of bag after)
 
-  of_by : (depth : Depth) → facts.options.depth ≡ depth → IsOfBag bag after chosen []
-  of_by Declaration e = of_none (λ full. let clash : Declaration ≡ Full = sym e ∙ full in cc)
-  of_by Fast e = of_none (λ full. let clash : Fast ≡ Full = sym e ∙ full in cc)
-  of_by Complete e = of_none (λ full. let clash : Complete ≡ Full = sym e ∙ full in cc)
-  of_by Full e = of_all e
-
   pub chosen_is_of : IsOfBag bag after chosen []
-  chosen_is_of = of_by facts.options.depth refl
+  chosen_is_of = grind (arith, of_none, of_all)

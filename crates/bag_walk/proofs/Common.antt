@@ -58,7 +58,7 @@ pub use Rattle.bag_text.proofs.ListOf.{contains_back, contains_behind, contains_
 pub use Rattle.bag_text.specs.Alg.{algs, rank_or_zero}
 pub use Rattle.bag_text.specs.Code.{number, stage}
 pub use Rattle.bag_text.specs.Order.{IsListOf}
-pub use Rattle.bag_text.specs.Path.{is_base_name, is_path, is_payload_path}
+pub use Rattle.bag_text.specs.Path.{is_path, is_payload_path}
 pub use Rattle.bag_text.specs.Text.{text_cmp}
 pub use Rattle.bag_text.specs.declared.code.Code.{Code}
 pub use Rattle.bag_text.specs.declared.code.Code.TheVariants.{NameClash, NoDeclaration, NoOxum}
@@ -82,11 +82,11 @@ pub use Rattle.bag_walk.specs.Merge.{fronts, least_of, union, union_is}
 pub use Rattle.bag_walk.specs.Openings.{IsBeforeFile, IsReached, NoneBehind, NoneWaits, Opens, OpensAgain, OpensNoneBehind, StillWait}
 pub use Rattle.bag_walk.specs.Run.{AreFirst, EndsAt, IsAsked, IsRun, IsRunByReport, SeesOneBag, check_of}
 pub use Rattle.bag_walk.specs.RunOpenings.{AreEarly, IsListed, LooksNoFurther, OpensInRun, OpensInTurn, OpensListed, OpensNonePassed, OpensUpToSummed, StopsInTurn, written_before}
-pub use Rattle.bag_walk.specs.Segment.{ClosesSegment, EndsSegment, IfUnread, IsRead, IsSegment, MayStopRun, MayStopWalk, StopsAt, StopsWalk, WritesCalmly, WroteFirst, looked_past, still_to_come}
+pub use Rattle.bag_walk.specs.Segment.{ClosesSegment, EndsSegment, IfUnread, IsRead, IsSegment, MayStopRun, MayStopWalk, StopsAt, WritesCalmly, WroteFirst, looked_past, still_to_come}
 pub use Rattle.bag_walk.specs.SegmentOpenings.{AreListed, EachBagHasListedFiles, IsListedFile, NoneBehindLast, OpensFew, OpensInSegment, not_passed}
 pub use Rattle.bag_walk.specs.Segments.{AreSegments, GoesOn, IsStopped, MayLose, RunsOfSegments, SegmentsFrom, SegmentsJoin, WroteSegments, cost, cursor_behind, is_last, outcome_at}
 pub use Rattle.bag_walk.specs.Shown.{front_is, none_is}
-pub use Rattle.bag_walk.specs.Source.{AllBelow, MayRefuseAnyway, MayStopAnyway, MayStopFilling, Sees, Where, first_of, rest_of}
+pub use Rattle.bag_walk.specs.Source.{AllBelow, MayStopAnyway, MayStopFilling, Sees, Where, first_of, rest_of}
 pub use Rattle.bag_walk.specs.Start.{AreAheadBefore, IsListedToOpen, IsStarted, IsToOpen}
 pub use Rattle.bag_walk.specs.Steps.{Gives, IsAhead, IsNextOf, LendsNext, MayStopStep, StandsAt, left, shown, shown_by, to_give, went}
 pub use Rattle.bag_walk.specs.Stops.{IfStopped, MayStop}

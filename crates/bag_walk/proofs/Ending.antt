@@ -1,5 +1,5 @@
 -- How a run ends.
-use Rattle.bag_walk.proofs.Common.{◌≡◌, ℕ, zero, suc, get_or, ◌<◌, ◌≤◌, inl, inr, Bool, true, false, cond, List, length, take, min, Option, None, Some, nat_le, refl, sym, subst, arith, slice_get, nat_tests, common_steps, concat, Appends, OutState, Stop, Fault, closing, count_of, written, lines_of_run, limit_of, MayEnd, ReachesEnd, Wrote, ended, ideal, Closes, WritesReport, Outcome, Clean, Faults, Stopped, Rest, Unread, Unwritten, Request}
+use Rattle.bag_walk.proofs.Common.{◌≡◌, ℕ, get_or, ◌<◌, ◌≤◌, inl, inr, List, length, take, min, Some, nat_le, refl, sym, subst, arith, slice_get, nat_tests, common_steps, concat, Appends, OutState, Stop, Fault, closing, count_of, written, lines_of_run, limit_of, MayEnd, ReachesEnd, Wrote, ended, ideal, Closes, WritesReport, Outcome, Clean, Faults, Stopped, Rest, Unread, Unwritten, Request}
 use Rattle.bag_walk.proofs.RunLines.{concat-append_one, last_of_run, all_of_run, cut_at}
 use Rattle.bag_walk.proofs.Writing.{Appends-append}
 
@@ -53,25 +53,12 @@ module _ (request : Request) (Stops : Stop → Type 0) where
       → WritesReport request faults Stops old new result
   closed_report faults n old mid new ending result within m all t c = grind (arith, wrote_closed, take_length)
 
-  ended_may_end : (after : Option Fault) (n : ℕ) → request.after ≡ after → n < limit_of request → MayEnd request n Stops (ended after n)
-  ended_may_end None zero e h = (refl, h, e)
-  ended_may_end None (suc n) e h = (refl, omega arith, h, e)
-  ended_may_end (Some cursor) n e h = (refl, h, (cursor, e))
-
   -- a run that shows all faults
   pub end_may_end : (n : ℕ) → n < limit_of request → MayEnd request n Stops (ended request.after n)
-  end_may_end n h = ended_may_end request.after n refl h
-
-  ideal_by : (n : ℕ) (b : Bool) → nat_le (limit_of request) n ≡ b → MayEnd request (min (limit_of request) n) Stops (cond b (Stopped (limit_of request)) (ended request.after n))
-  ideal_by n true e = let le : limit_of request ≤ n = grind (arith, nat_tests) in (omega arith, omega arith)
-  ideal_by n false e = grind (arith, nat_tests, end_may_end)
+  end_may_end n h = grind arith
 
   pub ideal_may_end : (faults : List Fault) → MayEnd request (min (limit_of request) (length faults)) Stops (ideal request faults)
-  ideal_may_end faults = ideal_by (length faults) (nat_le (limit_of request) (length faults)) refl
-
-  ideal_all_by : (n : ℕ) (b : Bool) → nat_le (limit_of request) n ≡ b → ReachesEnd (cond b (Stopped (limit_of request)) (ended request.after n)) → min (limit_of request) n ≡ n
-  ideal_all_by n true e reached = absurd reached
-  ideal_all_by n false e reached = let less : n < limit_of request = grind (arith, nat_tests) in omega arith
+  ideal_may_end faults = grind (arith, nat_le, limit_of, nat_tests, end_may_end)
 
   pub ideal_all : (faults : List Fault) → ReachesEnd (ideal request faults) → min (limit_of request) (length faults) ≡ length faults
-  ideal_all faults = ideal_all_by (length faults) (nat_le (limit_of request) (length faults)) refl
+  ideal_all faults = grind (arith, nat_le, limit_of, nat_tests)

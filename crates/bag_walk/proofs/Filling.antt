@@ -1,5 +1,5 @@
 -- What is opened, seen and left behind when one source is filled, and then another.
-use Rattle.bag_walk.proofs.Common.{arith, Bool, true, false, Option, None, Some, is_some, ◌≡◌, ◌≢◌, ◌⊎◌, ◌++◌, ◌∷◌, inl, inr, ℕ, List, [], Contains, refl, ap, sym, ◌∙◌, subst, append_assoc, append-nil, Result, Ok, Err, IfErr, OnOk, OnErr, append_cancel_left, contains_behind, contains_first, contains_front, contains_back, contains_either, contains_cases, contains_nothing, Bag, RefusesNothing, TreeState, Keeps, IsRefusedAt, Stop, TreeFault, Device, Special, Name, NotFound, TooMany, Changed, NoneOpen, Memory, Exists, Fault, IsOutOfMemory, memory_then, later_refusal, IsReached, NoneWaits, Opens, OpensAgain, OpensNoneBehind, NoneBehind, option_copied, first_of, rest_of, AllBelow, Sees, MayRefuseAnyway, MayStopAnyway, MayStopFilling}
+use Rattle.bag_walk.proofs.Common.{arith, Bool, true, false, Option, None, Some, is_some, ◌≡◌, ◌≢◌, ◌⊎◌, ◌++◌, ◌∷◌, inl, inr, ℕ, List, [], Contains, refl, ap, sym, ◌∙◌, subst, append_assoc, append-nil, Result, Ok, Err, IfErr, OnOk, OnErr, append_cancel_left, contains_behind, contains_first, contains_front, contains_back, contains_either, contains_cases, contains_nothing, Bag, RefusesNothing, TreeState, Keeps, IsRefusedAt, Stop, Fault, IsOutOfMemory, memory_then, later_refusal, IsReached, NoneWaits, Opens, OpensAgain, OpensNoneBehind, NoneBehind, option_copied, first_of, rest_of, AllBelow, Sees, MayStopAnyway, MayStopFilling}
 use Rattle.std.proofs.Common.{Bor}
 
 module _ {A : Type 0} where
@@ -132,19 +132,8 @@ stop_later old mid new zs stop k calm h = grind (arith, later_refusal, memory_th
 pub anyway_front : (old new : TreeState) (zs ys : List (List ℕ)) (stop : Stop) → MayStopAnyway zs old new stop → MayStopAnyway (zs ++ ys) old new stop
 anyway_front old new zs ys stop h = grind arith
 
-later_anyway : (old mid new : TreeState) (cause : TreeFault) → Keeps old mid → MayRefuseAnyway mid new cause → MayRefuseAnyway old new cause
-later_anyway old mid new NotFound k h = tt
-later_anyway old mid new Changed k h = tt
-later_anyway old mid new Device k h = later_refusal old mid new Device k h
-later_anyway old mid new Special k h = later_refusal old mid new Special k h
-later_anyway old mid new Name k h = later_refusal old mid new Name k h
-later_anyway old mid new TooMany k h = later_refusal old mid new TooMany k h
-later_anyway old mid new NoneOpen k h = later_refusal old mid new NoneOpen k h
-later_anyway old mid new Memory k h = later_refusal old mid new Memory k h
-later_anyway old mid new Exists k h = later_refusal old mid new Exists k h
-
 pub anyway_later : (old mid new : TreeState) (zs : List (List ℕ)) (stop : Stop) → Keeps old mid → RefusesNothing old mid → MayStopAnyway zs mid new stop → MayStopAnyway zs old new stop
-anyway_later old mid new zs stop k calm h = grind (arith, later_anyway, memory_then)
+anyway_later old mid new zs stop k calm h = grind (arith, memory_then, later_refusal)
 
 pub anyway_in_turn : {A : Type 0} (old mid new : TreeState) (zs : List (List ℕ)) (r : Result A Stop) → Keeps old mid → RefusesNothing old mid → IfErr r (MayStopAnyway zs mid new) → IfErr r (MayStopAnyway zs old new)
 anyway_in_turn old mid new zs (Ok x) k calm h = tt

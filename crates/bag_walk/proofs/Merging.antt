@@ -8,11 +8,8 @@ use Rattle.bag_walk.proofs.Filling.{append_nothing, sees_first, sees_second}
 pub quiet_opens : (old new : TreeState) (xs zs : List (List ℕ)) → xs ≡ [] → Opens xs zs old new → new.openings ≡ old.openings
 quiet_opens old new xs zs none p = grind (arith, append_nothing, append-nil)
 
-quiet_again_by : (old new : TreeState) (passed : List (List ℕ)) (zs : List (List ℕ)) → zs ≡ [] → passed ≡ [] → (path : List ℕ) (rest : List (List ℕ)) → zs ≡ path ∷ rest → new.openings ≡ old.openings
-quiet_again_by old new passed zs none e path rest is = let clash : [] ≡ path ∷ rest = sym none ∙ is in cc
-
 pub quiet_again : (old new : TreeState) (xs zs : List (List ℕ)) → xs ≡ [] → OpensAgain xs zs old new → new.openings ≡ old.openings
-quiet_again old new xs zs none p = grind (arith, append_nothing, append-nil, quiet_again_by)
+quiet_again old new xs zs none p = grind (arith, append_nothing, append-nil)
 
 -- where nothing was to be opened and nothing was
 module _ (old new : TreeState) (xs zs : List (List ℕ)) (none : xs ≡ []) (left : zs ≡ []) (same : new.openings ≡ old.openings) where
@@ -57,32 +54,13 @@ pub some_at : (b : Bool) (a : Option Fault) → IsSome (if b then a else None) �
 some_at true a some = some
 some_at false a some = cc
 
-merged_less : (fs gs : List Fault) → IsStrictlySortedBy fault_cmp fs → IsStrictlySortedBy fault_cmp gs → fronts (first_of fs) (first_of gs) ≡ Less → union (rest_of fs) gs ≡ rest_of (union fs gs)
-merged_less [] [] p q e = cc
-merged_less [] (y ∷ ys) p q e = cc
-merged_less (x ∷ xs) [] p q e = rest_alone x xs p
-merged_less (x ∷ xs) (y ∷ ys) p q e = rest_less x y xs ys p q e
-
-merged_greater : (fs gs : List Fault) → IsStrictlySortedBy fault_cmp fs → IsStrictlySortedBy fault_cmp gs → fronts (first_of fs) (first_of gs) ≡ Greater → union fs (rest_of gs) ≡ rest_of (union fs gs)
-merged_greater [] [] p q e = cc
-merged_greater [] (y ∷ ys) p q e = rest_other y ys q
-merged_greater (x ∷ xs) [] p q e = cc
-merged_greater (x ∷ xs) (y ∷ ys) p q e = rest_greater x y xs ys p q e
-
-merged_equal : (fs gs : List Fault) → IsStrictlySortedBy fault_cmp fs → IsStrictlySortedBy fault_cmp gs → fronts (first_of fs) (first_of gs) ≡ Equal → IsSome (least_of (first_of fs) (first_of gs))
-    → union (rest_of fs) (rest_of gs) ≡ rest_of (union fs gs)
-merged_equal [] [] p q e some = cc
-merged_equal [] (y ∷ ys) p q e some = cc
-merged_equal (x ∷ xs) [] p q e some = cc
-merged_equal (x ∷ xs) (y ∷ ys) p q e some = rest_equal x y xs ys p q e
-
 -- by what the sources show
 module _ (fs gs : List Fault) (p : IsStrictlySortedBy fault_cmp fs) (q : IsStrictlySortedBy fault_cmp gs) (a b : Option Fault) (known : (a ≡ first_of fs) × (b ≡ first_of gs)) where
   pub left_less : fronts a b ≡ Less → (more : List Fault) → more ≡ rest_of fs → union more gs ≡ rest_of (union fs gs)
-  left_less e more is = ap (λ l. union l gs) is ∙ merged_less fs gs p q ((λ i. fronts (sym known.0 i) (sym known.1 i)) ∙ e)
+  left_less e more is = grind (arith, union, fronts, rest_alone, rest_less)
 
   pub left_greater : fronts a b ≡ Greater → (more : List Fault) → more ≡ rest_of gs → union fs more ≡ rest_of (union fs gs)
-  left_greater e more is = ap (λ l. union fs l) is ∙ merged_greater fs gs p q ((λ i. fronts (sym known.0 i) (sym known.1 i)) ∙ e)
+  left_greater e more is = grind (arith, union, fronts, rest_other, rest_greater)
 
   pub left_equal : fronts a b ≡ Equal → IsSome (least_of a b) → (more others : List Fault) → more ≡ rest_of fs → others ≡ rest_of gs → union more others ≡ rest_of (union fs gs)
-  left_equal e some more others is are = grind (arith, merged_equal)
+  left_equal e some more others is are = grind (arith, rest_equal)

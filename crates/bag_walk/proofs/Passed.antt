@@ -1,5 +1,5 @@
 -- The files that a cursor has passed.
-use Rattle.bag_walk.proofs.Common.{◌≡◌, ◌≢◌, ◌<◌, ◌≤◌, ◌+◌, ◌++◌, ◌∷◌, ◌∙◌, ◌==◌, ◌&&◌, ◌||◌, inl, ℕ, zero, suc, Bool, true, false, cond, not, List, [], Option, None, Some, Contains, length, filter, nat_lt, refl, sym, ap, subst, arith, nat_list_cmp_total, ordering_reverse, Ordering, Less, Equal, Greater, eq-eqb, eqb-true, lt-ltb, ltb-true, or_left, or_parts, or_right, nat_tests, length-append, filter-append, IsStrictlySortedBy-filter, stage, text_cmp, contains_behind, contains_first, fault_cmp, Fault, not_both, not_less_than_itself, fault_cmp_total, kept, front_ascends, less_by_path, IsBeforeFile, is_passed, NoneBehindLast, not_passed, cursor_behind}
+use Rattle.bag_walk.proofs.Common.{◌≡◌, ◌≢◌, ◌<◌, ◌≤◌, ◌+◌, ◌++◌, ◌∷◌, ◌∙◌, ◌==◌, ◌&&◌, ◌||◌, inl, ℕ, zero, suc, Bool, true, false, not, List, [], Option, None, Some, Contains, length, filter, nat_lt, refl, sym, ap, subst, arith, nat_list_cmp_total, ordering_reverse, Ordering, Less, Equal, Greater, eq-eqb, eqb-true, lt-ltb, ltb-true, or_left, or_parts, or_right, nat_tests, length-append, filter-append, IsStrictlySortedBy-filter, stage, text_cmp, contains_behind, contains_first, fault_cmp, Fault, not_both, not_less_than_itself, fault_cmp_total, kept, front_ascends, less_by_path, IsBeforeFile, is_passed, NoneBehindLast, not_passed, cursor_behind}
 use Rattle.std.proofs.Common.{is_lt}
 use Rattle.std.specs.List.Sorted.{IsStrictlySortedBy}
 use Rattle.bag_tree.proofs.SameText.{exact_texts}
@@ -69,27 +69,18 @@ passed_later (suc n) (suc k) report sorted within path passed =
 
 -- ---- how many are left
 
-fewer_by : (b : Bool) (x : List ℕ) (ys xs : List (List ℕ)) → length ys ≤ length xs → length (cond b (x ∷ ys) ys) ≤ length (x ∷ xs)
-fewer_by true x ys xs le = omega (arith, le)
-fewer_by false x ys xs le = omega (arith, le)
-
 fewer : (p : List ℕ → Bool) (xs : List (List ℕ)) → length (filter p xs) ≤ length xs
 fewer p [] = omega arith
-fewer p (x ∷ xs) = fewer_by (p x) x (filter p xs) xs (fewer p xs)
+fewer p (x ∷ xs) = grind (arith, fewer p xs)
 
 pub no_more : (cursor : Option Fault) (listed : List (List ℕ)) → length (not_passed cursor listed) ≤ length listed
 no_more cursor listed = fewer (λ path. not (is_passed cursor path)) listed
 
 module _ (cursor last : Option Fault) (later : (path : List ℕ) → is_passed cursor path ≡ true → is_passed last path ≡ true) where
-  twice_by : (b : Bool) (x : List ℕ) (xs : List (List ℕ)) → is_passed cursor x ≡ b → not_passed last xs ≡ not_passed last (not_passed cursor xs)
-      → not_passed last (x ∷ xs) ≡ not_passed last (not_passed cursor (x ∷ xs))
-  twice_by true x xs e rest = rw (e, later x e) rest
-  twice_by false x xs e rest = rw e (ap (λ ys. cond (not (is_passed last x)) (x ∷ ys) ys) rest)
-
   -- what the last hasn't passed is among what the first hasn't
   passed_twice : (xs : List (List ℕ)) → not_passed last xs ≡ not_passed last (not_passed cursor xs)
   passed_twice [] = refl
-  passed_twice (x ∷ xs) = twice_by (is_passed cursor x) x xs refl (passed_twice xs)
+  passed_twice (x ∷ xs) = grind (arith, is_passed, passed_twice xs)
 
 same_by : (o : Ordering) (p q : List ℕ) → text_cmp p q ≡ o → text_cmp p q ≢ Less → text_cmp q p ≢ Less → p ≡ q
 same_by Less p q is below above = absurd (below is)

@@ -1,13 +1,6 @@
 -- Filling stopped at a file that was refused, or for want of memory.
-use Rattle.bag_walk.proofs.Common.{arith, ◌≡◌, ◌≢◌, ◌∷◌, inl, inr, ℕ, List, IsTrue, MayTellMemory, TreeState, IsEntryOf, MayRefuseWhole, FileEntry, Stop, TreeFault, NotFound, Changed, NoneOpen, Memory, IsOutOfMemory, IsRefusalOf, came_from, has_entry, refused_file, told_memory, MayRefuseAnyway, MayStopAnyway, MayStopFilling}
+use Rattle.bag_walk.proofs.Common.{arith, ◌≡◌, ◌≢◌, ◌∷◌, inl, inr, ℕ, List, IsTrue, MayTellMemory, TreeState, IsEntryOf, MayRefuseWhole, FileEntry, Stop, TreeFault, Changed, IsOutOfMemory, IsRefusalOf, came_from, has_entry, refused_file, told_memory, MayStopAnyway, MayStopFilling}
 use Rattle.bag_tree.specs.declared.answer.Answer.TheVariants.{Refused}
-
-refused_anyway : (old new : TreeState) (entry : FileEntry) (cause : TreeFault) → MayRefuseWhole old new entry cause → MayRefuseAnyway old new cause
-refused_anyway old new entry NotFound h = tt
-refused_anyway old new entry Changed h = tt
-refused_anyway old new entry NoneOpen (closed, came) = absurd closed
-refused_anyway old new entry Memory h = tt
-refused_anyway old new entry other h = h.0
 
 module _ (todo : List (List ℕ)) (old new : TreeState) (stop : Stop) (m : IsOutOfMemory stop) (tells : MayTellMemory old new) where
   pub filling_of_memory : MayStopFilling todo old new stop
@@ -22,5 +15,5 @@ module _ (entry : FileEntry) (rest : List (List ℕ)) (old new : TreeState) (cau
   filling_of_refusal (inr (memory, m)) is = filling_of_memory (entry.path ∷ rest) old new stop m (told_memory old new cause answered memory)
 
   pub anyway_of_refusal : IsRefusalOf cause entry.path stop → MayStopAnyway (entry.path ∷ rest) old new stop
-  anyway_of_refusal (inl (not, same, at)) = grind (arith, refused_anyway, came_from)
+  anyway_of_refusal (inl (not, same, at)) = grind (arith, came_from)
   anyway_of_refusal (inr (memory, m)) = anyway_of_memory (entry.path ∷ rest) old new stop m (told_memory old new cause answered memory)

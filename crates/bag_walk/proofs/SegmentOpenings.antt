@@ -46,12 +46,6 @@ module _ (old mid new : TreeState) (options : Options) (todo left : List (List �
   payload_is : filter is_payload_path opened ≡ filter is_payload_path paths
   payload_is = payload_of options read.0 paths read.3
 
-  openings_are : new.openings ≡ old.openings ++ opened
-  openings_are = (opened_front todo left mid new again).2 ∙ ap (λ o. o ++ paths) read.1 ∙ append_assoc old.openings read.0 paths
-
-  front_is : filter is_payload_path todo ≡ filter is_payload_path opened ++ filter is_payload_path more
-  front_is = grind (arith, opened_front, filter-append, payload_is)
-
   none_before : (faults : List Fault) → OpensNoneBehind faults mid new → NoneBehind faults (filter is_payload_path opened)
   none_before faults behind f path c d =
       behind paths (opened_front todo left mid new again).2 f path c (kept is_payload_path paths path (subst (λ l. Contains l path) payload_is d)).1
@@ -72,7 +66,7 @@ module _ (old mid new : TreeState) (options : Options) (todo left : List (List �
 
     pub opens_front : (listed : List (List ℕ)) (cursor : Option Fault) → filter is_payload_path todo ≡ not_passed cursor listed
         → OpensInSegment listed cursor (cursor_behind (n + segment.written) report) old new segment.end
-    opens_front listed cursor same = grind (arith, openings_are, front_is, last_at)
+    opens_front listed cursor same = grind (arith, last_at, opened_front, append_assoc, filter-append, payload_is)
 
 -- ---- segment after segment
 

@@ -74,11 +74,7 @@ module _ (n k : ℕ) (report : List Fault) (began before after : OutState) (so :
   -- what a segment wrote behind what others wrote
   pub wrote_on : (end : SegmentEnd) → WroteFirst (drop n report) k before after end → WroteSegments (n + k) report began after (outcome_at (n + k) end)
   wrote_on end_of.Full more = whole more
-  wrote_on end_of.AtEnd more = wrote_ended (n + k) (whole more)
-    where
-      wrote_ended : (m : ℕ) → Appends began.taken after.taken (concat (written (first (n + k) report))) → WroteSegments (n + k) report began after (ended None m)
-      wrote_ended zero t = t
-      wrote_ended (suc m) t = t
+  wrote_on end_of.AtEnd more = grind (arith, whole)
   wrote_on (end_of.Unread stop) more = whole more
   wrote_on end_of.Unwritten (is, (bytes, (part, rest, at, some, all), taken)) = (
     is,
@@ -117,21 +113,10 @@ paid_by NoneOpen old new le h = omega arith
 paid_by Memory old new le h = omega arith
 paid_by Exists old new le h = omega arith
 
-lasting_refusal : (old mid new : TreeState) (cause : TreeFault) → Keeps mid new → MayRefuseFacts old mid cause → MayRefuseFacts old new cause
-lasting_refusal old mid new Device k h = omega arith
-lasting_refusal old mid new Special k h = let rose : old.failures < mid.failures = h.0 in (omega arith, h.1)
-lasting_refusal old mid new Name k h = let rose : old.failures < mid.failures = h.0 in (omega arith, h.1)
-lasting_refusal old mid new NotFound k h = h
-lasting_refusal old mid new TooMany k h = h
-lasting_refusal old mid new Changed k h = h
-lasting_refusal old mid new NoneOpen k h = h
-lasting_refusal old mid new Memory k h = h
-lasting_refusal old mid new Exists k h = h
-
 module _ (options : Options) (old mid next new : TreeState) (k : Keeps old mid) (l : Keeps next new) (stop : Stop) where
   -- a stop of one segment, as a stop of them all
   pub may_lose : MayStop options mid next stop → MayLose options old new stop
-  may_lose h = grind (arith, lasting_refusal, later_refusal)
+  may_lose h = grind (arith, later_refusal)
 
 ended_is_no_stop : (options : Options) (limits : List ℕ) (old new : TreeState) (n : ℕ) → IsStopped options limits old new (ended None n)
 ended_is_no_stop options limits old new zero = tt

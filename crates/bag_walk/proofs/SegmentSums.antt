@@ -7,15 +7,12 @@ AddUp report all u r u' r' n' outcome' =
     (u' ≡ u) × (r' ≡ r) × (n' ≡ min all (length report)) × (outcome' ≡ cond (nat_le all (length report)) (Stopped all) (ended None (length report)))
 
 module _ (report : List Fault) where
-  all_within : (all u r : ℕ) → all ≤ length report → AddUp report all u r u r all (Stopped all)
-  all_within all u r within = grind (arith, nat_le, nat_tests)
-
   past_end : (all u r : ℕ) → length report < all → AddUp report all u r u r (length report) (ended None (length report))
   past_end all u r past = grind (arith, nat_le, nat_tests)
 
   from : (limits : List ℕ) (u r n u' r' n' : ℕ) (outcome' : Outcome) → n ≤ length report → ((k : ℕ) → outcome' ≢ Unwritten k)
       → SegmentsFrom report (λ stop. ⊥) u r n (Stopped n) limits u' r' n' outcome' → AddUp report (n + sum limits) u r u' r' n' outcome'
-  from [] u r n u' r' n' outcome' within written (lost, unread, count, last) = grind (arith, all_within)
+  from [] u r n u' r' n' outcome' within written (lost, unread, count, last) = grind (arith, nat_le, nat_tests)
   from (m ∷ limits) u r n u' r' n' outcome' within written (inl (full, rest)) =
       let same : n + m + sum limits ≡ n + sum (m ∷ limits) = omega (arith, sum_by-cons (λ (x : ℕ). x) m limits) in
       let P : ℕ → Type 0 = λ all. AddUp report all u r u' r' n' outcome' in

@@ -7,10 +7,6 @@ from_one : (c : Code) → 1 ≤ stage c
 from_one NoDeclaration = omega arith
 from_one other = omega arith
 
-to_eight : (c : Code) → stage c ≤ 8
-to_eight NoDeclaration = omega arith
-to_eight other = omega arith
-
 below_or_at : (m k : ℕ) → m < k + 1 → (m < k) ⊎ (m ≡ k)
 below_or_at zero zero h = inr refl
 below_or_at zero (suc k) h = inl (omega arith)
@@ -45,7 +41,7 @@ module _ (check : Check) (after : Option Fault) where
       (joined fault_cmp (IsAheadBefore k) (IsAt k) faults more before at (λ x y less now. less_by_stage x y (omega (arith, less.1, now.0.1))))
 
   pub all_stages : (faults : List Fault) → AreAheadBefore check 9 after faults → StandsAt check after faults
-  all_stages faults list = grind (arith, same_members, to_eight)
+  all_stages faults list = grind (arith, same_members)
 
   -- at depth Full the faults of validity are those of the seventh stage
   pub seventh_at_full : (faults : List Fault) → check.options.depth ≡ Full → IsListOf fault_cmp (λ f. IsOfValidity check.bag f × (is_above after f ≡ true)) faults → IsStageAbove check 7 after faults

@@ -1,5 +1,5 @@
 -- Two ascending lists of faults as one, of which the least is taken.
-use Rattle.bag_walk.proofs.Common.{◌≡◌, ◌⊎◌, inl, inr, ◌++◌, ◌∷◌, List, [], Option, None, Some, IsSome, drop, length, Contains, arith, refl, ap, sym, ◌∙◌, subst, append-nil, append_assoc, if◌then◌else◌, option_copied, option_to_list, is_gt, Ordering, Less, Equal, Greater, IsListOf, contains_back, contains_either, contains_front, contains_nothing, one_list, fault_cmp, Fault, fault_cmp_total, above, is_above, filtered_list, IsAbove, TakesLeast, fronts, union, union_is, first_of, rest_of, first_of_union}
+use Rattle.bag_walk.proofs.Common.{◌≡◌, ◌⊎◌, inl, inr, ◌++◌, ◌∷◌, List, [], Option, None, Some, IsSome, drop, length, Contains, arith, refl, ap, sym, ◌∙◌, append-nil, append_assoc, if◌then◌else◌, option_copied, option_to_list, is_gt, Ordering, Less, Equal, Greater, IsListOf, contains_back, contains_either, contains_front, contains_nothing, one_list, fault_cmp, Fault, fault_cmp_total, above, is_above, filtered_list, IsAbove, TakesLeast, fronts, union, union_is, first_of, rest_of, first_of_union}
 use Rattle.std.proofs.Common.{Bor}
 use Rattle.std.specs.List.Sorted.{IsStrictlySortedBy}
 use Rattle.std.specs.Slice.{IsItemAt}
@@ -68,27 +68,9 @@ module _ (fs gs : List Fault) (p : IsStrictlySortedBy fault_cmp fs) (q : IsStric
     others_ascend = rest_ascends gs q;
   }
 
-equal_rest : (fs gs : List Fault) → IsStrictlySortedBy fault_cmp fs → IsStrictlySortedBy fault_cmp gs → fronts (first_of fs) (first_of gs) ≡ Equal
-    → union (rest_of fs) (rest_of gs) ≡ rest_of (union fs gs)
-equal_rest [] [] p q e = none_in_nothing ∙ sym (ap rest_of none_in_nothing)
-equal_rest [] (y ∷ ys) p q e = cc
-equal_rest (x ∷ xs) [] p q e = cc
-equal_rest (x ∷ xs) (y ∷ ys) p q e =
-    left_equal (x ∷ xs) (y ∷ ys) p q (Some x) (Some y) (refl, refl) e (subst (λ o. IsSome (if is_gt o then Some y else Some x)) (sym e) refl) xs ys refl refl
-
 pub takes_equal : (fs gs : List Fault) → IsStrictlySortedBy fault_cmp fs → IsStrictlySortedBy fault_cmp gs → fronts (first_of fs) (first_of gs) ≡ Equal
     → TakesLeast fs gs (first_of fs) (rest_of fs) (rest_of gs)
-takes_equal fs gs p q e = record {
-  first = first_of_union fs gs p q ∙ ap (λ o. if is_gt o then first_of gs else first_of fs) e;
-  rest = equal_rest fs gs p q e;
-  ascends = rest_ascends fs p;
-  others_ascend = rest_ascends gs q;
-}
-
--- what is taken and what is left are all
-first_and_rest : (u : List Fault) (f : Fault) → first_of u ≡ Some f → u ≡ f ∷ rest_of u
-first_and_rest [] f e = cc
-first_and_rest (x ∷ u) f e = let same : x ≡ f = cc in ap (λ y. y ∷ u) same
+takes_equal fs gs p q e = grind (arith, first_of_union, is_gt, first_of, rest_ascends, none_in_nothing, rest_of, left_equal)
 
 -- The first faults of two lists were taken.
 pub record HasTaken (all others taken left others_left : List Fault) : Type 0 where
@@ -101,7 +83,7 @@ none_taken fs gs p q = record { parts = refl; ascends = p; others_ascend = q }
 
 module _ (fs gs taken left others_left : List Fault) (has : HasTaken fs gs taken left others_left) where
   pub one_taken : (f : Fault) (more others_more : List Fault) → TakesLeast left others_left (Some f) more others_more → HasTaken fs gs (taken ++ f ∷ []) more others_more
-  one_taken f more others_more takes = grind (arith, append_assoc, first_and_rest)
+  one_taken f more others_more takes = grind (arith, append_assoc)
 
   pub all_taken : (more others_more : List Fault) → TakesLeast left others_left None more others_more → taken ≡ union fs gs
   all_taken more others_more takes = sym (append-nil taken) ∙ ap (λ rest. taken ++ rest) (sym (nothing_left (union left others_left) (sym takes.first))) ∙ has.parts

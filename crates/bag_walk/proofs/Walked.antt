@@ -1,5 +1,5 @@
 -- A run over a walk, by its segment.
-use Rattle.bag_walk.proofs.Common.{◌≡◌, ◌≤◌, ◌-◌, inl, inr, ℕ, List, min, subst, arith, RefusesNothing, OutState, TreeState, Stop, Fault, Outcome, Request, count_of, IsReached, MayStopFilling, ClosesSegment, EndsSegment, IfUnread, IsRead, MayStopRun, MayStopWalk, StopsAt, StopsWalk, WritesCalmly, looked_past, IfStopped, Segment, SegmentEnd, AtEnd}
+use Rattle.bag_walk.proofs.Common.{◌≡◌, ◌≤◌, ◌-◌, inl, inr, ℕ, List, min, subst, arith, RefusesNothing, OutState, TreeState, Stop, Fault, Outcome, Request, count_of, ClosesSegment, EndsSegment, IfUnread, IsRead, MayStopRun, MayStopWalk, StopsAt, WritesCalmly, looked_past, IfStopped, Segment, SegmentEnd, AtEnd}
 use Rattle.bag_walk.specs.declared.outcome.Outcome.TheVariants as outcome_of
 use Rattle.bag_walk.specs.declared.segment.SegmentEnd.TheVariants.{Full, Unread, Unwritten}
 use Rattle.bag_walk.proofs.Running.{wider_end}
@@ -17,12 +17,9 @@ within_limit faults limit n (Unread stop) e = omega (arith, e.0)
 within_limit faults limit n Unwritten e = omega (arith, e.0)
 
 module _ (todo left : List (List ℕ)) (old new : TreeState) where
-  stops_at : (stop : Stop) → IsReached todo old new stop.path → MayStopFilling left old new stop → StopsWalk todo old new stop
-  stops_at stop reached h = record { cause = h.cause; answered = h.answered; path = inr reached; memory = h.memory; wanting = h.wanting }
-
   stops_run : (IsOf : Type 0) (stop : Stop) → MayStopWalk IsOf todo left old new stop → MayStopRun IsOf todo old new stop
   stops_run IsOf stop (inl memory) = inl memory
-  stops_run IsOf stop (inr (reached, h)) = inr (λ of. stops_at stop reached (h of))
+  stops_run IsOf stop (inr (reached, h)) = grind arith
 
   -- the stop of a segment
   pub stops_segment : (IsOf : Type 0) (end : SegmentEnd) → IfUnread end (MayStopWalk IsOf todo left old new) → IfUnread end (MayStopRun IsOf todo old new)

@@ -35,15 +35,12 @@ cut_off old mid new text rest some so_far kept =
     let size : length text ≡ length so_far.front + length rest = ap length so_far.joins ∙ length-append so_far.front rest in
     (length so_far.front, omega arith, subst (Appends old new) (sym (take_front text so_far.front rest so_far.joins)) (Appends-keeps old mid new so_far.front so_far.taken kept))
 
-pub take_in_first : (first second : List ℕ) (n : ℕ) → n < length first → take n (first ++ second) ≡ take n first
-take_in_first first second n within = grind (arith, common_steps)
-
 take_past_first : (first second : List ℕ) (n : ℕ) → take (length first + n) (first ++ second) ≡ first ++ take n second
 take_past_first first second n = take-append-add first second n
 
 -- a text that was cut off is a cut of a longer one
 pub IsCut-append : (old new : Option (List ℕ)) (first second : List ℕ) → IsCut old new first → IsCut old new (first ++ second)
-IsCut-append old new first second cut = grind (arith, length-append, take_in_first)
+IsCut-append old new first second cut = grind (arith, length-append, common_steps)
 
 -- and so is one whose second part was cut off
 pub append-IsCut : (old mid new : Option (List ℕ)) (first second : List ℕ) → Appends old mid first → IsCut mid new second → IsCut old new (first ++ second)
