@@ -51,14 +51,9 @@ listed_has_folder es names listing passes files has_data entry within is =
     (subst (λ p. has_file (bag_of es names) p ≡ true) (payload_under path payload) (ap is_some (get-from_entries nat_list_cmp_total es path) ∙ has))))
     (subst (λ files. Contains files entry) files within) is
 
-one_more : (b : Bool) (e : List ℕ × List ℕ) (rest : Option FileEntry) (others : Option (List ℕ)) → option_map (λ x. x.size) rest ≡ option_map length others
-    → option_map (λ (x : FileEntry). x.size) (cond b (Some (record { path = e.0; size = length e.1 })) rest) ≡ option_map length (cond b (Some e.1) others)
-one_more true e rest others h = refl
-one_more false e rest others h = h
-
 listed_size : (es : List (List ℕ × List ℕ)) (q : List ℕ) → size_at (listed es) q ≡ option_map length (lookup (is_at (text_cmp q)) es)
 listed_size [] q = refl
-listed_size (e ∷ es) q = grind (arith, same_test, one_more, listed_size es q)
+listed_size (e ∷ es) q = grind (arith, same_test, listed_size es q)
 
 pub listed_files : (es : List (List ℕ × List ℕ)) (q : List ℕ) → size_at (listed es) q ≡ option_map length (get (from_entries {R = text_cmp} es) q)
 listed_files es q = listed_size es q ∙ ap (option_map length) (sym (file_at es q))
