@@ -4,11 +4,7 @@ use Rattle.std.proofs.lemmas.Grind.{common_steps}
 
 -- a path at one of its slashes
 pub at_slash : (path folder : List ℕ) (end : ℕ) → end < length path → get_or path end 0 ≡ slash → folder ≡ take end path → path ≡ under folder (drop (end + 1) path)
-at_slash path folder end within is same =
-    sym (take-append-drop end path) ∙ ap (λ t. t ++ drop end path) (sym same) ∙ ap (λ t. folder ++ t) (next_byte path end within ∙ ap (λ c. c ∷ drop (end + 1) path) is)
-  where
-    next_byte : (path : List ℕ) (end : ℕ) → end < length path → drop end path ≡ get_or path end 0 ∷ drop (end + 1) path
-    next_byte path end within = grind (arith, common_steps)
+at_slash path folder end within is same = grind (arith, take-append-drop, common_steps)
 
 take_under : (folder rest : List ℕ) → take (length folder) (under folder rest) ≡ folder
 take_under folder rest = take-append_seam folder (slash ∷ rest)

@@ -1,5 +1,5 @@
 -- The files and folders of a disk, without what else stands there.
-use Rattle.bag_disk.proofs.Common.{arith, ◌≡◌, ℕ, Bool, true, false, cond, List, [], ◌∷◌, filter, length, Option, Some, None, is_some, refl, ap, sym, ◌∙◌, subst, and_parts, and_from, find, is_sorted, get-entries, get-from_entries, entries_sorted, len-entries, eq_by_cmp, nat_list_cmp_total, text_cmp, exact_texts, one_text, none_below, t_true, Nodes, Node, node, Has, entry_count, files_and_folders, is_plain_node, is_plain_found, File, Folder, Other}
+use Rattle.bag_disk.proofs.Common.{arith, ◌≡◌, ℕ, Bool, true, false, cond, List, [], ◌∷◌, filter, length, Option, Some, None, refl, ap, sym, ◌∙◌, subst, and_parts, and_from, find, is_sorted, get-entries, get-from_entries, entries_sorted, len-entries, eq_by_cmp, nat_list_cmp_total, text_cmp, exact_texts, one_text, none_below, t_true, Nodes, Node, node, Has, entry_count, files_and_folders, is_plain_node, is_plain_found, File, Folder, Other}
 use Rattle.std.proofs.Math.Dec.{T}
 use Rattle.std.specs.FinMap as fin
 use Rattle.std.specs.FinMap.Entries.{below_all, same_entries}
@@ -33,13 +33,9 @@ pub node_alone : (nodes : Nodes) (path : List ℕ) → node (files_and_folders n
 node_alone nodes path =
     get-from_entries nat_list_cmp_total (filter plain_entry (fin.entries nodes)) path ∙ plain_found (fin.entries nodes) path (t_true _ (entries_sorted nodes)) ∙ ap plain_of (sym (get-entries nodes path))
 
-some_plain : (o : Option Node) → is_plain_found o ≡ true → is_some (plain_of o) ≡ true
-some_plain None plain = plain
-some_plain (Some n) plain = ap (λ b. is_some (cond b (Some n) None)) plain
-
 -- a file or a folder stands among the files and folders
 pub stands_alone : (nodes : Nodes) (path : List ℕ) → is_plain_found (node nodes path) ≡ true → Has (files_and_folders nodes) path
-stands_alone nodes path plain = ap is_some (node_alone nodes path) ∙ some_plain (node nodes path) plain
+stands_alone nodes path plain = grind (arith, node_alone)
 
 below_filtered : (k : List ℕ) (es : List (List ℕ × Node)) → below_all text_cmp k es ≡ true → below_all text_cmp k (filter plain_entry es) ≡ true
 below_filtered k [] h = refl

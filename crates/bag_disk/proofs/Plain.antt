@@ -1,5 +1,5 @@
 -- A disk on which only files and folders stand, with names in UTF-8.
-use Rattle.bag_disk.proofs.Common.{◌≡◌, ℕ, ◌+◌, ◌<◌, ◌&&◌, Bool, true, false, cond, IsUtf8, List, [], ◌∷◌, ◌++◌, length, length-append, suc, add-one, get_or, drop, Option, Some, None, is_some, refl, ap, sym, ◌∙◌, subst, inl, inr, arith, Contains, false≢true, and_parts, and_from, get_or-append_seam, option_map, list_all, find, is_sorted, get-entries, entries_sorted, eq_by_cmp, text_cmp, slash, is_path, under, path_in, Nodes, Node, node, Has, IsFolder, IsDisk, IsReached, HasSpecial, HasUnnamed, HasUnnamedPath, entry_of, is_plain, is_plain_node, File, Folder, Other, one_text, text_itself, none_below, t_true, Walked, Entry, FileEntry}
+use Rattle.bag_disk.proofs.Common.{◌≡◌, ℕ, ◌+◌, ◌<◌, ◌&&◌, Bool, true, false, cond, IsUtf8, List, [], ◌∷◌, ◌++◌, length, length-append, suc, add-one, get_or, drop, Some, None, is_some, refl, ap, sym, ◌∙◌, subst, inl, inr, arith, Contains, false≢true, and_parts, and_from, get_or-append_seam, option_map, list_all, find, is_sorted, get-entries, entries_sorted, eq_by_cmp, text_cmp, slash, is_path, under, path_in, Nodes, Node, node, Has, IsFolder, IsDisk, IsReached, HasSpecial, HasUnnamed, HasUnnamedPath, entry_of, is_plain, is_plain_node, File, Other, one_text, text_itself, none_below, t_true, Walked, Entry, FileEntry}
 use Rattle.std.proofs.lemmas.Str.{IsUtf8-drop, IsCharBoundary-after_ascii}
 use Rattle.std.specs.FinMap as fin
 use Rattle.bag_disk.specs.declared.disk.Entry.TheVariants as entry
@@ -41,13 +41,7 @@ all_plain nodes plain = all_among (fin.entries nodes) (t_true _ (entries_sorted 
 
 -- where what was answered is no file and no folder, something special stands there
 pub other_seen : (nodes : Nodes) (path : List ℕ) (found : Entry) → IsUtf8 path → option_map entry_of (node nodes path) ≡ Some found → found ≡ entry.Other → HasSpecial nodes
-other_seen nodes path found text is other = (path, other_there (node nodes path) (is ∙ ap Some other), text)
-  where
-    other_there : (o : Option Node) → option_map entry_of o ≡ Some entry.Other → o ≡ Some Other
-    other_there None e = cc
-    other_there (Some (File bytes)) e = cc
-    other_there (Some Folder) e = cc
-    other_there (Some Other) e = refl
+other_seen nodes path found text is other = grind arith
 
 -- the same, where the path's text is known in three ways
 pub name_is_other : (nodes : Nodes) (location path text : List ℕ) (found : Entry) → IsDisk nodes → IsUtf8 text → path ≡ location → text ≡ path
@@ -72,10 +66,6 @@ text_in : (folder name : List ℕ) → IsUtf8 (path_in folder name) → IsUtf8 n
 text_in [] name text = text
 text_in (c ∷ folder) name text = text_under (c ∷ folder) name text
 
--- what has a name that isn't UTF-8 is something else
-unnamed_is_other : (nodes : Nodes) (path : List ℕ) → IsDisk nodes → Has nodes path → ¬ (IsUtf8 path) → node nodes path ≡ Some Other
-unnamed_is_other nodes path disk has unnamed = grind (arith, false≢true)
-
 -- where a name of a folder isn't UTF-8 a path isn't
 pub unnamed_there : (nodes : Nodes) (folder : List ℕ) (names : List (List ℕ)) → ((name : List ℕ) → Contains names name → Has nodes (path_in folder name)) → HasUnnamed names → HasUnnamedPath nodes
 unnamed_there nodes folder names there unnamed = (path_in folder unnamed.0, there unnamed.0 unnamed.1, λ text. unnamed.2 (text_in folder unnamed.0 text))
@@ -86,7 +76,7 @@ special_not_plain nodes special = other_not_plain nodes special.0 special.1
 
 -- where a path isn't UTF-8 the disk isn't plain
 pub unnamed_not_plain : (nodes : Nodes) → IsDisk nodes → HasUnnamedPath nodes → is_plain nodes ≡ false
-unnamed_not_plain nodes disk unnamed = other_not_plain nodes unnamed.0 (unnamed_is_other nodes unnamed.0 disk unnamed.1 unnamed.2)
+unnamed_not_plain nodes disk unnamed = grind (arith, other_not_plain, false≢true)
 
 -- where a whole walk was made the disk is plain
 pub walked_plain : (nodes : Nodes) (files : List FileEntry) (listed : List (List ℕ)) → IsDisk nodes → Walked nodes files [] listed [] → is_plain nodes ≡ true

@@ -1,4 +1,5 @@
 -- When a refusal of the disk is due.
+use Rattle.std.proofs.Common.{arith}
 use Rattle.bag_disk.proofs.Common.{◌≡◌, ℕ, true, false, Result, Ok, Err, IfErr, refl, subst, sym, ap, ◌∙◌, DiskState}
 use Rattle.bag_disk.specs.Refusal.{IsCounted, IsDue, IsDueInListing, IsDueInMove, IsDueInStep, IsNoFailure, at_known, failures_after, is_device, of_path, of_name}
 use Rattle.bag_disk.specs.declared.disk.DiskFault.{DiskFault}
@@ -114,22 +115,11 @@ due_in_listing special unnamed many contradiction Exists due = due
 due_in_listing special unnamed many contradiction Contradicts due = absurd due
 due_in_listing special unnamed many contradiction InTheWay due = due
 
-listed_for : (special unnamed many contradiction contradiction' : Type 0) (r : Refusal) → (contradiction → contradiction') → IsDueInListing ⊥ ⊥ ⊥ contradiction r → IsDueInListing special unnamed many contradiction' r
-listed_for special unnamed many contradiction contradiction' Device f due = due
-listed_for special unnamed many contradiction contradiction' Special f due = absurd due
-listed_for special unnamed many contradiction contradiction' Name f due = absurd due
-listed_for special unnamed many contradiction contradiction' NotFound f due = due
-listed_for special unnamed many contradiction contradiction' TooMany f due = absurd due
-listed_for special unnamed many contradiction contradiction' Memory f due = due
-listed_for special unnamed many contradiction contradiction' Exists f due = due
-listed_for special unnamed many contradiction contradiction' Contradicts f due = f due
-listed_for special unnamed many contradiction contradiction' InTheWay f due = due
-
 -- a listing of what a walk found is refused as it may be
 pub listed_for_err : {T : Type 0} (special unnamed many contradiction contradiction' : Type 0) (result : Result T Refusal) → (contradiction → contradiction') → IfErr result (IsDueInListing ⊥ ⊥ ⊥ contradiction)
     → IfErr result (IsDueInListing special unnamed many contradiction')
 listed_for_err special unnamed many contradiction contradiction' (Ok x) f due = tt
-listed_for_err special unnamed many contradiction contradiction' (Err r) f due = listed_for special unnamed many contradiction contradiction' r f due
+listed_for_err special unnamed many contradiction contradiction' (Err r) f due = grind (arith, due)
 
 -- a refusal that isn't the device's isn't counted
 pub not_counted : (r : Refusal) (before after : ℕ) → after ≡ before → is_device r ≡ false → after ≡ failures_after r before
