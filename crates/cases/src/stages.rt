@@ -1,74 +1,12 @@
-//! The faults of one stage.
+//! The faults of one stage of a folder.
 use crate::world::World;
-use bag_facts::{Depth, Facts, Options};
-use bag_profile::Profile;
-use bag_report::stage_faults;
-use bag_store::MemoryTree;
-use case_files::{Answer, Bytes, Mistake, Report, Sight};
+use case_files::{Mistake, Report, Sight};
 
-/// The depths by their names.
-const DEPTHS: &[(&str, Depth)] = &[
-    ("declaration", Depth::Declaration),
-    ("fast", Depth::Fast),
-    ("complete", Depth::Complete),
-    ("full", Depth::Full),
-];
-
-/// What a word asks for, as `complete` or `complete+clashes`.
-fn options_of(word: &str) -> Option<Options> {
-    let (name, clashes) = match word.strip_suffix("+clashes") {
-        Some(name) => (name, true),
-        None => (word, false),
-    };
-    for (known, depth) in DEPTHS {
-        if *known == name {
-            let depth = *depth;
-            return Some(Options { depth, clashes });
-        }
-    }
-    None
-}
-
-/// Adds the lines of the faults of a stage of a tree, beside a profile where there is one.
-fn put_stage(
-    tree: &mut MemoryTree,
-    options: Options,
-    profile: Option<&Profile>,
-    stage: u8,
-    out: &mut Bytes,
-) {
-    let alloc = out.alloc;
-    match Facts::read(alloc, tree, options) {
-        Ok(facts) => out.take(stage_faults(alloc, &facts, profile, stage)),
-        Err(_) => out.fail(Mistake::Memory),
-    }
-}
-
-/// Compares the faults of a stage at each depth.
-fn see_depths(
-    sight: &Sight<'_>,
-    tree: &mut MemoryTree,
-    profile: Option<&Profile>,
-    (number, depths): (&str, &str),
-    report: &mut Report,
-) {
-    let alloc = sight.texts.alloc;
-    for depth in depths.split(',') {
-        let mut found = Bytes::new(alloc);
-        match (options_of(depth), number.parse::<u8>()) {
-            (Some(options), Ok(stage)) => put_stage(tree, options, profile, stage, &mut found),
-            _ => found.fail(Mistake::Command),
-        }
-        let found = Answer::of(alloc, found, 0);
-        report.see(sight, depth, &found);
-    }
-}
-
-/// The same, for a folder that can be a tree.
+/// Compares the faults of a stage of a folder that can be a tree, beside a profile where one is given.
 fn see_folder(
     sight: &Sight<'_>,
     name: &str,
-    profile: Option<&Profile>,
+    profile: Option<&[u8]>,
     asked: (&str, &str),
     world: &World,
     report: &mut Report,
@@ -78,7 +16,7 @@ fn see_folder(
         return;
     }
     match world.tree(name) {
-        Ok(mut tree) => see_depths(sight, &mut tree, profile, asked, report),
+        Ok(mut tree) => case_files::see_stage(sight, &mut tree, profile, asked, report),
         Err(_) => report.text.fail(Mistake::Memory),
     }
 }
@@ -90,13 +28,10 @@ pub(crate) fn see_stage(sight: &Sight<'_>, words: &[&str], world: &World, report
             see_folder(sight, *name, None, (*number, *depths), world, report);
         }
         [number, depths, name, file] => match world.file(*file) {
-            Some(bytes) => match Profile::read(sight.texts.alloc, bytes) {
-                Ok(profile) => {
-                    let asked = (*number, *depths);
-                    see_folder(sight, *name, Some(&profile), asked, world, report);
-                }
-                Err(_) => report.text.fail(Mistake::Name),
-            },
+            Some(bytes) => {
+                let asked = (*number, *depths);
+                see_folder(sight, *name, Some(bytes), asked, world, report);
+            }
             None => report.text.fail(Mistake::Name),
         },
         _ => report.text.fail(Mistake::Command),
