@@ -1,6 +1,5 @@
 -- The files whose digests are to be compared, and their faults.
-use Rattle.bag_walk.proofs.Common.{arith, ◌≡◌, ◌≢◌, ◌<◌, ◌≤◌, ◌+◌, ◌++◌, ◌∷◌, ◌⊎◌, inl, inr, ℕ, Bool, true, false, List, [], length, map, take, get_or, Option, None, Some, Contains, refl, sym, ap, ◌∙◌, subst, is_some, nat_cmp, ordering_then, nat_cmp_is, Ordering, Less, Equal, Greater, length-map, map-append, take-map, take_all, eqb-true, ltb-true, rank_or_zero, number, stage, IsListOf, text_cmp, contains_back, contains_behind, contains_cases, contains_either, contains_first, contains_front, contains_nothing, joined, member_has, nothing_listed, one_listed, same_members, Bag, file, HasFile, FileEntry, fault_cmp, Fault, not_both, fault_cmp_total, IsFactsOf, paths_of, Facts, Depth, Declaration, Full, take_one_more, before_next, less_by_path, faults_of_bytes, IsNamed, IsSummed, IsFaultOfFile, IsOfValidity, Expected, validity_of_stage_seven, above, is_above, filtered_list, AreToSum, IsNamedAhead, TellsItsFaults, faults_at, faults_in, faults_of_files, paths_to_sum, is_passed, AreFilesOf, IsOfBag, ToSum}
-use Rattle.std.proofs.Common.{is_lt}
+use Rattle.bag_walk.proofs.Common.{arith, ◌≡◌, ◌≢◌, ◌<◌, ◌+◌, ◌++◌, ◌∷◌, ◌⊎◌, inl, inr, ℕ, true, false, List, [], length, map, take, get_or, Option, None, Some, Contains, refl, sym, ap, ◌∙◌, subst, is_some, nat_cmp_is, Ordering, Less, length-map, map-append, take-map, eqb-true, ltb-true, stage, IsListOf, text_cmp, contains_behind, contains_cases, contains_first, contains_front, contains_nothing, joined, member_has, nothing_listed, one_listed, same_members, Bag, file, HasFile, FileEntry, fault_cmp, Fault, not_both, fault_cmp_total, IsFactsOf, paths_of, Facts, Depth, Declaration, Full, take_one_more, before_next, less_by_path, faults_of_bytes, IsNamed, IsSummed, IsFaultOfFile, IsOfValidity, Expected, validity_of_stage_seven, above, is_above, filtered_list, AreToSum, IsNamedAhead, TellsItsFaults, faults_at, faults_in, faults_of_files, paths_to_sum, is_passed, AreFilesOf, IsOfBag, ToSum, is_lt, false_from_ne_true, Contains-push_cases, Contains-push, nil_from_length}
 use Rattle.std.specs.List.Sorted.{IsStrictlySortedBy}
 use Rattle.std.proofs.Math.ListN.{get_or-map}
 use Rattle.bag_facts.proofs.ListedFiles.{file_listed, listed_file, own_size}
@@ -31,58 +30,33 @@ module _ (bag : Bag) (after : Option Fault) where
     from_before path h = (subst (λ l. Contains l path) (sym paths_now) (contains_front (paths_of before) (file.path ∷ []) path h.0), h.1)
 
     to_cases : (path : List ℕ) → IsNow path → IsBefore path ⊎ ((path ≡ file.path) × IsNamedAhead bag after path)
-    to_cases path h = elim (contains_either (paths_of before) (file.path ∷ []) path (subst (λ l. Contains l path) paths_now h.0)) [
-      | inl a ↦ inl (a, h.1)
-      | inr b ↦ elim (contains_cases file.path [] path b) [ inl same ↦ inr (sym same, h.1) | inr none ↦ absurd (contains_nothing path none) ]
-    ]
-
-    listed_now : (to_sum : ToSum) → Contains chosen to_sum → Contains (before ++ file ∷ []) to_sum.file
-    listed_now to_sum c = contains_front before (file ∷ []) to_sum.file (so_far.listed to_sum c)
+    to_cases path h =
+        elim (Contains-push_cases (paths_of before) file.path path (rw (← paths_now) h.0)) [ inl a ↦ inl (a, h.1) | inr same ↦ inr (sym same, h.1) ]
 
     pub passed_over : ¬ (IsNamedAhead bag after file.path) → AreToSum bag after (before ++ file ∷ []) chosen
     passed_over lacks = record {
       paths = same_members text_cmp IsBefore IsNow (paths_to_sum chosen) from_before
           (λ path h. elim (to_cases path h) [ inl a ↦ a | inr b ↦ absurd (lacks (subst (IsNamedAhead bag after) b.0 b.1)) ]) so_far.paths;
-      listed = listed_now;
+      listed = λ t c. contains_front before (file ∷ []) t.file (so_far.listed t c);
       faults = so_far.faults;
     }
 
     module _ (to_sum : ToSum) (is : to_sum.file ≡ file) (ahead : IsNamedAhead bag after file.path) (tells : TellsItsFaults bag to_sum)
         (less : (path : List ℕ) → Contains (paths_of before) path → text_cmp path file.path ≡ Less) where
-      last : IsListOf text_cmp (λ path. path ≡ file.path) (file.path ∷ [])
-      last = one_listed text_cmp (λ path. path ≡ file.path) file.path refl (λ y e. e)
-
-      more : IsListOf text_cmp IsNow (paths_to_sum chosen ++ file.path ∷ [])
-      more =
-          same_members text_cmp (λ path. IsBefore path ⊎ (path ≡ file.path)) IsNow (paths_to_sum chosen ++ file.path ∷ [])
-          (λ path h. elim h [
-            | inl a ↦ from_before path a
-            | inr e ↦ (
-              subst (λ l. Contains l path) (sym paths_now) (contains_back (paths_of before) (file.path ∷ []) path (subst (Contains (file.path ∷ [])) (sym e) (contains_first file.path []))),
-              subst (IsNamedAhead bag after) (sym e) ahead,
-            )
-          ])
-          (λ path h. elim (to_cases path h) [ inl a ↦ inl a | inr b ↦ inr b.0 ])
-          (joined text_cmp IsBefore (λ path. path ≡ file.path) (paths_to_sum chosen) (file.path ∷ []) so_far.paths last
-          (λ x y a e. subst (λ p. text_cmp x p ≡ Less) (sym e) (less x a.0)))
-
-      path_more : paths_to_sum (chosen ++ to_sum ∷ []) ≡ paths_to_sum chosen ++ file.path ∷ []
-      path_more = map-append (λ (t : ToSum). t.file.path) chosen (to_sum ∷ []) ∙ ap (λ (f : FileEntry). paths_to_sum chosen ++ f.path ∷ []) is
-
-      old_or_new : (t : ToSum) → Contains (chosen ++ to_sum ∷ []) t → Contains chosen t ⊎ (to_sum ≡ t)
-      old_or_new t c = elim (contains_either chosen (to_sum ∷ []) t c) [
-        | inl a ↦ inl a
-        | inr b ↦ elim (contains_cases to_sum [] t b) [ inl same ↦ inr same | inr none ↦ absurd (contains_nothing t none) ]
-      ]
-
       pub added : AreToSum bag after (before ++ file ∷ []) (chosen ++ to_sum ∷ [])
       added = record {
-        paths = subst (IsListOf text_cmp IsNow) (sym path_more) more;
-        listed = λ t c. elim (old_or_new t c) [
-          | inl a ↦ listed_now t a
-          | inr e ↦ subst (Contains (before ++ file ∷ [])) (sym is ∙ ap (λ (x : ToSum). x.file) e) (contains_back before (file ∷ []) file (contains_first file []))
+        paths =
+            rw (map-append (λ (t : ToSum). t.file.path) chosen (to_sum ∷ []), is)
+            (same_members text_cmp (λ path. IsBefore path ⊎ (path ≡ file.path)) IsNow (paths_to_sum chosen ++ file.path ∷ [])
+            (λ path h. elim h [ inl a ↦ from_before path a | inr e ↦ rw e (rw paths_now (Contains-push (paths_of before) file.path), ahead) ])
+            (λ path h. elim (to_cases path h) [ inl a ↦ inl a | inr b ↦ inr b.0 ])
+            (joined text_cmp IsBefore (λ path. path ≡ file.path) (paths_to_sum chosen) (file.path ∷ []) so_far.paths
+            (one_listed text_cmp _ file.path refl (λ y e. e)) (λ x y a e. rw e (less x a.0))));
+        listed = λ t c. elim (Contains-push_cases chosen to_sum t c) [
+          | inl a ↦ contains_front before (file ∷ []) t.file (so_far.listed t a)
+          | inr e ↦ rw (← e, is) (Contains-push before file)
         ];
-        faults = λ t c. elim (old_or_new t c) [ inl a ↦ so_far.faults t a | inr e ↦ subst (TellsItsFaults bag) e tells ];
+        faults = λ t c. elim (Contains-push_cases chosen to_sum t c) [ inl a ↦ so_far.faults t a | inr e ↦ subst (TellsItsFaults bag) e tells ];
       }
 
 -- the first files of a list, and one more
@@ -107,8 +81,8 @@ module _ (bag : Bag) (after : Option Fault) (files : List FileEntry) (i : ℕ) (
       subst (λ l. AreToSum bag after l (chosen ++ to_sum ∷ [])) (sym more_files)
       (added bag after (take i files) file chosen so_far to_sum is ahead tells (behind_all ordered))
 
-pub all_chosen : (bag : Bag) (after : Option Fault) (files : List FileEntry) (i : ℕ) (chosen : List ToSum) → length files ≤ i → AreToSum bag after (take i files) chosen → AreToSum bag after files chosen
-all_chosen bag after files i chosen le h = subst (λ l. AreToSum bag after l chosen) (take_all i files le) h
+pub full_or_not : (d : Depth) → (d ≡ Full) ⊎ (d ≢ Full)
+full_or_not d = grind arith
 
 pub not_declaration : (depth : Depth) → depth ≡ Full → depth ≢ Declaration
 not_declaration depth full is = let clash : Full ≡ Declaration = sym full ∙ is in cc
@@ -128,49 +102,27 @@ pub tells : (bag : Bag) (to_sum : ToSum)
 tells bag to_sum each = tells_by bag to_sum (file bag to_sum.file.path) refl each
 
 -- there is a digest exactly where a manifest names the file
-some_algs : (expected : List Expected) → expected ≢ [] → map (λ (one : Expected). one.alg) expected ≢ []
-some_algs [] some = absurd (some refl)
-some_algs (one ∷ expected) some = λ none. cc
-
 pub named_by : (bag : Bag) (path : List ℕ) (expected : List Expected) → AreNaming bag path (map (λ one. one.alg) expected) → expected ≢ [] → IsNamed bag path
-named_by bag path expected are some = some_named bag path (map (λ one. one.alg) expected) are (some_algs expected some)
+named_by bag path expected are some =
+    some_named bag path (map (λ one. one.alg) expected) are
+    (λ none. some (nil_from_length expected (sym (length-map expected (λ (one : Expected). one.alg)) ∙ ap length none)))
 
 pub unnamed_by : (bag : Bag) (path : List ℕ) (expected : List Expected) → AreNaming bag path (map (λ one. one.alg) expected) → expected ≡ [] → ¬ (IsNamed bag path)
 unnamed_by bag path expected are none named = named_some bag path (map (λ one. one.alg) expected) are named (ap (map (λ (one : Expected). one.alg)) none)
 
 -- a fault of an earlier stage is less
 pub less_by_stage : (x y : Fault) → stage x.code < stage y.code → fault_cmp x y ≡ Less
-less_by_stage x y less =
-    let paths : Ordering = text_cmp x.path y.path in
-    let algs : Ordering = nat_cmp (rank_or_zero x.alg) (rank_or_zero y.alg) in
-    let lines : Ordering = nat_cmp x.line y.line in
-    let numbers : Ordering = nat_cmp (number x.code) (number y.code) in
-    let details : Ordering = text_cmp x.detail y.detail in
-    ap (λ o. ordering_then (ordering_then (ordering_then (ordering_then (ordering_then o paths) algs) lines) numbers) details)
-    (sym (nat_cmp_is (stage x.code) (stage y.code) Less less))
+less_by_stage x y less = rw (sym (nat_cmp_is (stage x.code) (stage y.code) Less less)) refl
 
 -- a fault above a cursor is of a file that the cursor hasn't passed
-less_is : (o : Ordering) → is_lt o ≡ true → o ≡ Less
-less_is Less h = refl
-less_is Equal h = cc
-less_is Greater h = cc
+pub less_is : (o : Ordering) → is_lt o ≡ true → o ≡ Less
+less_is o h = grind arith
 
-bool_cases : (b : Bool) (P : Type 0) → (b ≡ true → P) → (b ≡ false → P) → P
-bool_cases true P if_true if_false = if_true refl
-bool_cases false P if_true if_false = if_false refl
-
-module _ (cursor f : Fault) (seven : stage f.code ≡ 7) where
-  passed_is_less : is_passed (Some cursor) f.path ≡ true → fault_cmp f cursor ≡ Less
-  passed_is_less = grind (arith, less_by_stage, stage, ltb-true, less_by_path, eqb-true, less_is)
-
-  above_is_ahead : is_above (Some cursor) f ≡ true → is_passed (Some cursor) f.path ≡ false
-  above_is_ahead above =
-      bool_cases (is_passed (Some cursor) f.path) (is_passed (Some cursor) f.path ≡ false)
-      (λ passed. absurd (not_both fault_cmp_total f cursor (passed_is_less passed) (less_is _ above))) (λ e. e)
+passed_is_less : (cursor f : Fault) → stage f.code ≡ 7 → is_passed (Some cursor) f.path ≡ true → fault_cmp f cursor ≡ Less
+passed_is_less cursor f seven = grind (arith, less_by_stage, stage, ltb-true, less_by_path, eqb-true, less_is)
 
 ahead_of : (bag : Bag) (after : Option Fault) (f : Fault) → IsOfValidity bag f → is_above after f ≡ true → is_passed after f.path ≡ false
-ahead_of bag None f valid above = refl
-ahead_of bag (Some cursor) f valid above = above_is_ahead cursor f (validity_of_stage_seven bag f valid) above
+ahead_of bag after f valid above = grind (arith, false_from_ne_true, not_both fault_cmp_total, passed_is_less, validity_of_stage_seven, less_is)
 
 -- the faults of files that have them, one file after another
 module _ (bag : Bag) (after : Option Fault) where
@@ -187,31 +139,22 @@ module _ (bag : Bag) (after : Option Fault) where
   listed_faults (t ∷ ts) s tell =
       let path : List ℕ = t.file.path in
       let paths : List (List ℕ) = paths_to_sum ts in
-      let first : IsListOf fault_cmp (λ f. IsFaultOfFile bag path f × (is_above after f ≡ true)) (above after (faults_in bag t)) =
-      filtered_list fault_cmp (IsFaultOfFile bag path) (is_above after) (faults_in bag t) (tell t (contains_first t ts)) in
-      let rest : IsListOf fault_cmp (Among paths) (faults_of_files bag after ts) = listed_faults ts s.1 (λ other c. tell other (contains_behind t ts other c)) in
+      let first = filtered_list fault_cmp (IsFaultOfFile bag path) (is_above after) (faults_in bag t) (tell t (contains_first t ts)) in
       same_members fault_cmp (λ f. (IsFaultOfFile bag path f × (is_above after f ≡ true)) ⊎ Among paths f) (Among (path ∷ paths)) (above after (faults_in bag t) ++ faults_of_files bag after ts)
-      (λ f h. elim h [
-        | inl a ↦ (subst (Contains (path ∷ paths)) (sym a.0.1) (contains_first path paths), (a.0.0, a.1))
-        | inr b ↦ (contains_behind path paths f.path b.0, b.1)
-      ])
+      (λ f h. elim h [ inl a ↦ (rw a.0.1 (contains_first path paths), (a.0.0, a.1)) | inr b ↦ (contains_behind path paths f.path b.0, b.1) ])
       (λ f h. elim (contains_cases path paths f.path h.0) [ inl e ↦ inl ((h.1.0, sym e), h.1.1) | inr c ↦ inr (c, h.1) ])
-      (joined fault_cmp (λ f. IsFaultOfFile bag path f × (is_above after f ≡ true)) (Among paths) (above after (faults_in bag t)) (faults_of_files bag after ts) first rest
+      (joined fault_cmp (λ f. IsFaultOfFile bag path f × (is_above after f ≡ true)) (Among paths) (above after (faults_in bag t)) (faults_of_files bag after ts)
+      first (listed_faults ts s.1 (λ other c. tell other (contains_behind t ts other c)))
       (λ x y a b. less_by_path x y (validity_of_stage_seven bag x a.0.0 ∙ sym (validity_of_stage_seven bag y b.1.0))
       (rw a.0.1 (member_has _ paths y.path s.0 b.0))))
 
 -- of the files of a bag
 module _ (bag : Bag) (after : Option Fault) (facts : Facts) (of : IsFactsOf bag facts) (chosen : List ToSum) (are : AreToSum bag after facts.listing.files chosen) where
-  has_file : (path : List ℕ) → Contains (paths_of facts.listing.files) path → HasFile bag path
-  has_file path c = listed_file bag facts.listing.files path of.listing.files c
-
-  is_listed : (path : List ℕ) → HasFile bag path → Contains (paths_of facts.listing.files) path
-  is_listed path h = file_listed bag facts.listing.files path of.listing.files h
-
   pub chosen_todo : IsListOf text_cmp (λ path. IsSummed bag path × (is_passed after path ≡ false)) (paths_to_sum chosen)
   chosen_todo =
       same_members text_cmp (λ path. Contains (paths_of facts.listing.files) path × IsNamedAhead bag after path) (λ path. IsSummed bag path × (is_passed after path ≡ false)) (paths_to_sum chosen)
-      (λ path h. ((has_file path h.0, h.1.0), h.1.1)) (λ path h. (is_listed path h.0.0, (h.0.1, h.1))) are.paths
+      (λ path h. ((listed_file bag facts.listing.files path of.listing.files h.0, h.1.0), h.1.1))
+      (λ path h. (file_listed bag facts.listing.files path of.listing.files h.0.0, (h.0.1, h.1))) are.paths
 
   pub chosen_faults : IsListOf fault_cmp (λ f. IsOfValidity bag f × (is_above after f ≡ true)) (faults_of_files bag after chosen)
   chosen_faults =
@@ -230,14 +173,9 @@ none_of bag after = record { files = record { in_order = tt; entries = λ to_sum
 -- of a bag, whatever the depth
 module _ (bag : Bag) (after : Option Fault) (facts : Facts) (of : IsFactsOf bag facts) (chosen : List ToSum)
     (at_full : facts.options.depth ≡ Full → AreToSum bag after facts.listing.files chosen) (at_other : facts.options.depth ≢ Full → chosen ≡ []) where
-  of_all : facts.options.depth ≡ Full → IsOfBag bag after chosen []
-  of_all full = record {
-    files = chosen_of bag after facts of chosen (at_full full);
-    ascends = (chosen_faults bag after facts of chosen (at_full full)).ascending;
-  }
-
-  of_none : facts.options.depth ≢ Full → IsOfBag bag after chosen []
-  of_none other = subst (λ l. IsOfBag bag after l []) (sym (at_other other)) (none_of bag after)
-
   pub chosen_is_of : IsOfBag bag after chosen []
-  chosen_is_of = grind (arith, of_none, of_all)
+  chosen_is_of = elim (full_or_not facts.options.depth) [
+    | inl full ↦ (let are = at_full full in
+        record { files = chosen_of bag after facts of chosen are; ascends = (chosen_faults bag after facts of chosen are).ascending })
+    | inr other ↦ rw (at_other other) (none_of bag after)
+  ]

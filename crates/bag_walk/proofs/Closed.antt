@@ -1,8 +1,49 @@
--- The closing line behind a segment.
-use Rattle.bag_walk.proofs.Common.{◌≡◌, ◌<◌, ◌≤◌, ◌++◌, ◌∷◌, ℕ, zero, suc, List, [], inl, inr, None, Some, Option, length, min, take, slice_get, refl, sym, ap, ◌∙◌, subst, arith, concat, OutState, Stop, Fault, closing, MayEnd, ended, ideal, limit_of, written, written_line, Closes, Outcome, Request, ClosesSegment, EndsSegment, IsRead, IsSegment, WroteFirst, IfStopped, Segment, SegmentEnd, AtEnd}
+-- How a run ends: the closing line behind a segment.
+use Rattle.bag_walk.proofs.Common.{◌≡◌, ◌<◌, ◌≤◌, ◌++◌, ◌∷◌, ℕ, zero, suc, List, [], Option, length, min, take, slice_get, refl, sym, ap, ◌∙◌, subst, arith, concat, OutState, Stop, Fault, closing, MayEnd, ended, ideal, limit_of, written, Closes, Outcome, Request, ClosesSegment, IsSegment, IfStopped, Segment, AtEnd, length-take-le, common_steps, take-map, take-take, inl, inr, length-map, Some, nat_le, nat_tests, Appends, count_of, written_line, lines_of_run, ReachesEnd, Wrote, WritesReport, take_at}
 use Rattle.bag_walk.specs.declared.outcome.Outcome.TheVariants as outcome
-use Rattle.bag_walk.proofs.Ending.{closed_report, end_may_end, ideal_all, ideal_may_end, take_length, wrote_closed}
 use Rattle.bag_walk.specs.declared.segment.SegmentEnd.TheVariants.{Full, Unread, Unwritten}
+use Rattle.bag_walk.proofs.RunLines.{concat-append_one, cut_at, place_behind}
+use Rattle.bag_walk.proofs.Writing.{Appends-append}
+
+-- what a run wrote whose lines are followed by a closing line
+module _ (request : Request) (Stops : Stop → Type 0) where
+  -- the closing line was taken
+  wrote_all : (n : ℕ) (shown : List Fault) (old new : OutState) (ending : Outcome)
+      → MayEnd request n Stops ending → Appends old.taken new.taken (concat (lines_of_run request shown ending)) → Wrote request shown ending old new ending
+  wrote_all n shown old new ending m t = grind arith
+
+  counted : (n : ℕ) (ending : Outcome) → MayEnd request n Stops ending → count_of ending ≡ n
+  counted n ending m = grind arith
+
+  -- a run closes
+  pub wrote_closed : (shown : List Fault) (old mid new : OutState) (ending result : Outcome)
+      → MayEnd request (length shown) Stops ending → Appends old.taken mid.taken (concat (written shown)) → Closes request ending mid new result
+      → Wrote request shown ending old new result
+  wrote_closed shown old mid new ending result m t (inl c) = grind (arith, wrote_all, concat-append_one, Appends-append)
+  wrote_closed shown old mid new ending result m t (inr c) =
+      let last : List ℕ = closing request ending in
+      let at : slice_get (lines_of_run request shown ending) (count_of ending) ≡ Some last =
+      rw (counted (length shown) ending m, ← length-map shown written_line) (place_behind (written shown) [] last) in
+      let before : Appends old.taken mid.taken (concat (take (count_of ending) (lines_of_run request shown ending))) =
+      rw (counted (length shown) ending m, take_at (written shown) (last ∷ []) (length shown) (length-map shown written_line)) t in
+      subst (Wrote request shown ending old new) (sym c.0) (c.1, cut_at (lines_of_run request shown ending) (count_of ending) last old.taken mid.taken new.taken at before c.2)
+
+  -- the report was written as far as the ending says
+  pub closed_report : (faults : List Fault) (n : ℕ) (old mid new : OutState) (ending result : Outcome)
+      → n ≤ length faults → MayEnd request n Stops ending → (ReachesEnd ending → n ≡ length faults)
+      → Appends old.taken mid.taken (concat (written (take n faults))) → Closes request ending mid new result
+      → WritesReport request faults Stops old new result
+  closed_report faults n old mid new ending result within m all t c = grind (arith, wrote_closed, length-take-le)
+
+  -- a run that shows all faults
+  pub end_may_end : (n : ℕ) → n < limit_of request → MayEnd request n Stops (ended request.after n)
+  end_may_end n h = grind arith
+
+  pub ideal_may_end : (faults : List Fault) → MayEnd request (min (limit_of request) (length faults)) Stops (ideal request faults)
+  ideal_may_end faults = grind (arith, nat_le, limit_of, nat_tests, end_may_end)
+
+  pub ideal_all : (faults : List Fault) → ReachesEnd (ideal request faults) → min (limit_of request) (length faults) ≡ length faults
+  ideal_all faults = grind (arith, nat_le, limit_of, nat_tests)
 
 -- a line of the first faults is one of all their lines
 line_of_first : (faults : List Fault) (last : List ℕ) (n m : ℕ) → n < m → m ≤ length faults → slice_get (written faults) n ≡ slice_get (written (take m faults) ++ last ∷ []) n
@@ -12,45 +53,34 @@ line_of_first (f ∷ faults) last zero (suc m) less within = refl
 line_of_first (f ∷ faults) last (suc n) (suc m) less within = line_of_first faults last n m (omega arith) (omega arith)
 
 lines_of_first : (faults : List Fault) (last : List ℕ) (n m : ℕ) → n ≤ m → m ≤ length faults → take n (written faults) ≡ take n (written (take m faults) ++ last ∷ [])
-lines_of_first faults last zero m less within = refl
-lines_of_first faults last (suc n) zero less within = absurd (omega arith)
-lines_of_first [] last (suc n) (suc m) less within = absurd (omega arith)
-lines_of_first (f ∷ faults) last (suc n) (suc m) less within = ap (λ lines. written_line f ∷ lines) (lines_of_first faults last n m (omega arith) (omega arith))
+lines_of_first faults last n m less within = grind (arith, take-map, take-take, common_steps)
 
 module _ (request : Request) (faults : List Fault) (before mid : OutState) (segment : Segment) where
   abbrev IsSo : Type 0
   IsSo = IsSegment faults (limit_of request) before mid segment
-
-  ends_by : (end : SegmentEnd) → segment.end ≡ end → IsSo → EndsSegment faults (limit_of request) segment.written end
-  ends_by end is s = subst (EndsSegment faults (limit_of request) segment.written) is s.ends
-
-  wrote_by : (end : SegmentEnd) → segment.end ≡ end → IsSo → WroteFirst faults segment.written before mid end
-  wrote_by end is s = subst (WroteFirst faults segment.written before mid) is s.wrote
-
-  read_by : (end : SegmentEnd) → segment.end ≡ end → IsRead end → IsRead segment.end
-  read_by end is read = subst IsRead (sym is) read
 
   abbrev Tells : Stop → Type 0
   Tells stop = segment.end ≡ Unread stop
 
   pub closes_full : (after : OutState) (result : Outcome) → segment.end ≡ Full → Closes request (outcome.Stopped segment.written) mid after result → IsSo → ClosesSegment request faults segment before after result
   closes_full after result is closes s =
-      let ends = ends_by Full is s in (
-        closed_report request Tells faults segment.written before mid after (outcome.Stopped segment.written) result ends.1 (refl, ends.0) (λ reached. absurd reached) (wrote_by Full is s) closes,
-        λ answered. read_by Full is tt,
+      let ends = rw is at s.ends in (
+        closed_report request Tells faults segment.written before mid after (outcome.Stopped segment.written) result ends.1 (refl, ends.0)
+            (λ reached. absurd reached) (rw is at s.wrote) closes,
+        λ answered. rw is tt,
       )
 
   pub closes_at_end : (after : OutState) (result : Outcome) → segment.end ≡ AtEnd → Closes request (ended request.after segment.written) mid after result → IsSo → ClosesSegment request faults segment before after result
   closes_at_end after result is closes s =
-      let ends = ends_by AtEnd is s in (
+      let ends = rw is at s.ends in (
         closed_report request Tells faults segment.written before mid after (ended request.after segment.written) result (omega (arith, ends.1)) (end_may_end request Tells segment.written ends.0) (λ reached. ends.1)
-            (wrote_by AtEnd is s) closes,
-        λ answered. read_by AtEnd is tt,
+            (rw is at s.wrote) closes,
+        λ answered. rw is tt,
       )
 
   pub closes_unread : (stop : Stop) (after : OutState) (result : Outcome) → segment.end ≡ Unread stop → Closes request (outcome.Unread segment.written stop) mid after result → IsSo → ClosesSegment request faults segment before after result
   closes_unread stop after result is closes s =
-      let ends = ends_by (Unread stop) is s in
+      let ends = rw is at s.ends in
       let n : ℕ = segment.written in (
         record {
           count = n;
@@ -59,7 +89,7 @@ module _ (request : Request) (faults : List Fault) (before mid : OutState) (segm
           may_end = (refl, ends.0, is);
           all = λ reached. absurd reached;
           wrote = wrote_closed request Tells (take n faults) before mid after (outcome.Unread n stop) result
-              (subst (λ k. MayEnd request k Tells (outcome.Unread n stop)) (sym (take_length n faults ends.1)) (refl, ends.0, is)) (wrote_by (Unread stop) is s) closes;
+              (subst (λ k. MayEnd request k Tells (outcome.Unread n stop)) (sym (length-take-le n faults ends.1)) (refl, ends.0, is)) (rw is at s.wrote) closes;
         },
         λ answered. absurd answered,
       )
@@ -67,8 +97,8 @@ module _ (request : Request) (faults : List Fault) (before mid : OutState) (segm
   -- the output refused a line
   pub closes_unwritten : segment.end ≡ Unwritten → IsSo → ClosesSegment request faults segment before mid (outcome.Unwritten segment.written)
   closes_unwritten is s =
-      let ends = ends_by Unwritten is s in
-      let (is_refused, (bytes, (part, more, at, some, all), taken)) = wrote_by Unwritten is s in
+      let ends = rw is at s.ends in
+      let (is_refused, (bytes, (part, more, at, some, all), taken)) = rw is at s.wrote in
       let n : ℕ = min (limit_of request) (length faults) in
       let last : List ℕ = closing request (ideal request faults) in
       let less : segment.written < n = omega (arith, ends.0, ends.1) in
@@ -94,15 +124,12 @@ module _ (request : Request) (faults : List Fault) (before mid : OutState) (segm
             ),
           );
         },
-        λ answered. read_by Unwritten is tt,
+        λ answered. rw is tt,
       )
 
 -- a closing line leaves the outcome's stop
 pub told_by : (P : Stop → Type 0) (request : Request) (ending result : Outcome) (before after : OutState) → Closes request ending before after result → IfStopped ending P → IfStopped result P
-told_by P request ending result before after (inl c) told = subst (λ o. IfStopped o P) (sym c.0) told
-told_by P request ending result before after (inr c) told = subst (λ o. IfStopped o P) (sym c.0) tt
+told_by P request ending result before after c told = grind arith
 
 pub end_has_no_stop : (P : Stop → Type 0) (cursor : Option Fault) (n : ℕ) → IfStopped (ended cursor n) P
-end_has_no_stop P None zero = tt
-end_has_no_stop P None (suc n) = tt
-end_has_no_stop P (Some cursor) n = tt
+end_has_no_stop P cursor n = grind arith

@@ -1,28 +1,32 @@
 -- The names that this crate's proofs cite, passed on from one place. Declares nothing.
-pub use Rattle.std.proofs.Common.{Bool, Contains, IsSome, IsTrue, List, None, Option, Some, [], add-one, ap, append-nil, append_assoc, arith, codes, cond, drop, false, filter, get_or, inl, inr, is_some, length, length-drop, map, min, nat_le, nat_lt, not, refl, rules, slice_get, string_bytes, subst, suc, sym, take, take-append-drop, true, true≢false, unwrap_or, vec_len, zero, ℕ, ◌&&◌, ◌*◌, ◌++◌, ◌+◌, ◌-◌, ◌<◌, ◌==◌, ◌||◌, ◌∙◌, ◌∷◌, ◌≡◌, ◌≢◌, ◌≤◌, ◌⊎◌}
+pub use Rattle.std.proofs.Common.{Bool, Contains, IsSome, IsTrue, List, None, Option, Some, [], ap, append-nil, append_assoc, arith, codes, cond, drop, false, filter, get_or, inl, inr, is_some, length, length-drop, map, min, nat_le, nat_lt, not, refl, rules, slice_get, string_bytes, subst, suc, sym, take, take-append-drop, true, true≢false, unwrap_or, vec_len, zero, ℕ, ◌&&◌, ◌*◌, ◌++◌, ◌+◌, ◌-◌, ◌<◌, ◌==◌, ◌∙◌, ◌∷◌, ◌≡◌, ◌≢◌, ◌≤◌, ◌⊎◌}
 pub use Rattle.std.proofs.Math.Seq.{take-append-add, take-append_seam}
-pub use Rattle.std.proofs.lemmas.Bool.{and_parts, and_right, eq-eqb, eqb-true, lt-ltb, ltb-true, or_left, or_parts, or_right}
+pub use Rattle.std.proofs.lemmas.Bool.{and_parts, and_right, cases_Bool, cases_lt, eq-eqb, eqb-true, false_from_ne_true, lt-ltb, ltb-true, not-true, or_cases, or_left, or_parts, or_right}
 pub use Rattle.std.proofs.lemmas.Bool.Decides.{nat_tests}
 pub use Rattle.std.proofs.lemmas.Grind.{common_steps}
-pub use Rattle.std.proofs.lemmas.List.{append_cancel_left, drop_all, drop_more, get_or_default, length-append, length-map, map-append, take-map, take_all}
-pub use Rattle.std.proofs.lemmas.List.Elements.{All-append, All-filter, All-nil, filter-append}
+pub use Rattle.std.proofs.lemmas.List.{append_cancel_left, drop-drop, drop-map, drop-take, drop_all, drop_at, drop_more, get_or_default, length-append, length-map, length-take-le, map-append, nil_from_length, same_from_push, take-map, take-take, take_all, take_at}
+pub use Rattle.std.proofs.lemmas.List.Elements.{All-append, All-contains, All-filter, All-from_recursion, All-get_or, All-nil, All-take, Contains-push, Contains-push_cases, filter-append, recursion_from_All}
+pub use Rattle.std.proofs.lemmas.List.Filters.{length-filter_both}
 pub use Rattle.std.proofs.lemmas.List.Kept.{IsStrictlySortedBy-filter}
 pub use Rattle.std.proofs.lemmas.List.Sums.{sum_by-cons, sum_by-take-le, sum_by_more}
+pub use Rattle.std.proofs.lemmas.Option.{get_or_from_slice_get, slice_get-map, slice_get_within}
+pub use Rattle.std.proofs.lemmas.Map.Keys.{Less-from_sorted}
+pub use Rattle.std.proofs.lemmas.Map.Views.{All-before_last}
 pub use Rattle.std.proofs.lemmas.Result.{IfErr-weaker, IfOk-weaker, MatchResult-weaker, err_from_is_err_and, on_err_weaker, on_ok_weaker}
 pub use Rattle.std.specs.Borrow.{Bor}
 pub use Rattle.std.specs.Cmp.{IsTotalOrder, nat_cmp_is}
 pub use Rattle.std.specs.Cmp.Lexicographic.{nat_list_cmp_total}
 pub use Rattle.std.specs.Io.KnownBytes.{Appends}
-pub use Rattle.std.specs.List.{All, AllByRecursion, concat, cons_option, sum}
+pub use Rattle.std.specs.List.{All, AllByRecursion, concat, sum}
 pub use Rattle.std.specs.List.Sorted.{IsStrictlySortedBy}
-pub use Rattle.std.specs.Option.{option_copied, option_to_list}
-pub use Rattle.std.specs.Ordering.{is_gt, is_lt, nat_cmp, ordering_reverse, ordering_then}
-pub use Rattle.std.specs.Prelude.{Err, IfErr, IfOk, MatchResult, Ok, OnErr, OnOk, Result, filter_map, flat_map, if◌then◌else◌, ⊤}
+pub use Rattle.std.specs.Option.{option_copied, option_map, option_to_list}
+pub use Rattle.std.specs.Ordering.{is_gt, is_lt, ordering_reverse}
+pub use Rattle.std.specs.Prelude.{Err, IfErr, IfOk, MatchResult, Ok, OnErr, OnOk, Result, flat_map, if◌then◌else◌, ⊤}
 pub use Rattle.std.specs.declared.cmp.Ordering.{Ordering}
 pub use Rattle.std.specs.declared.cmp.Ordering.TheVariants.{Equal, Greater, Less}
 pub use Rattle.bag_facts.proofs.Ascending.{not_both, not_less_than_itself}
 pub use Rattle.bag_facts.proofs.Mapped.{kept, mapped_contains, take_one_more, taken_cases}
-pub use Rattle.bag_facts.proofs.Opens.{all_along, front_ascends, opens_all_first}
+pub use Rattle.bag_facts.proofs.Opens.{all_along, front_ascends, opens_all_first, opens_none as reads_none}
 pub use Rattle.bag_facts.proofs.Ordered.{fault_cmp_total}
 pub use Rattle.bag_facts.proofs.Reading.{keeps_itself, keeps_on, later_refusal}
 pub use Rattle.bag_facts.proofs.Refusing.{came_from, has_entry, path_some, refused_file, told_memory}
@@ -35,7 +39,7 @@ pub use Rattle.bag_facts.specs.Wanted.{AreWanted, ForListing, IsWanted, OpensAll
 pub use Rattle.bag_facts.specs.declared.facts.Facts.{Facts}
 pub use Rattle.bag_facts.specs.declared.fault.Fault.{Fault}
 pub use Rattle.bag_facts.specs.declared.options.Depth.{Depth}
-pub use Rattle.bag_facts.specs.declared.options.Depth.TheVariants.{Complete, Declaration, Fast, Full}
+pub use Rattle.bag_facts.specs.declared.options.Depth.TheVariants.{Declaration, Full}
 pub use Rattle.bag_facts.specs.declared.options.Options.{Options}
 pub use Rattle.bag_profile.specs.Profile.{Profile}
 pub use Rattle.bag_read.specs.declared.kind.Kind.TheVariants.{Payload, Tag}
@@ -55,13 +59,13 @@ pub use Rattle.bag_stages.specs.TagFiles.{Names, named_in}
 pub use Rattle.bag_stages.specs.ValidityStage.{IsFaultOfFile, IsOfValidity}
 pub use Rattle.bag_stages.specs.declared.expected.Expected.{Expected}
 pub use Rattle.bag_text.proofs.ListOf.{contains_back, contains_behind, contains_cases, contains_either, contains_first, contains_front, contains_nothing, each_from_members, joined, member_has, nothing_listed, one_list, one_listed, same_lists, same_members}
-pub use Rattle.bag_text.specs.Alg.{algs, rank_or_zero}
-pub use Rattle.bag_text.specs.Code.{number, stage}
+pub use Rattle.bag_text.specs.Alg.{algs}
+pub use Rattle.bag_text.specs.Code.{stage}
 pub use Rattle.bag_text.specs.Order.{IsListOf}
 pub use Rattle.bag_text.specs.Path.{is_path, is_payload_path}
 pub use Rattle.bag_text.specs.Text.{text_cmp}
 pub use Rattle.bag_text.specs.declared.code.Code.{Code}
-pub use Rattle.bag_text.specs.declared.code.Code.TheVariants.{NameClash, NoDeclaration, NoOxum}
+pub use Rattle.bag_text.specs.declared.code.Code.TheVariants.{NameClash}
 pub use Rattle.bag_tree.proofs.Calm.{memory_then, nothing_asked, nothing_then}
 pub use Rattle.bag_tree.specs.Bag.{Bag, HasFile, IsBag, file, has_file}
 pub use Rattle.bag_tree.specs.Calm.{MayTellMemory, RefusesNothing}
@@ -71,7 +75,7 @@ pub use Rattle.bag_tree.specs.Whole.{IsRefusedAt, MayRefuseWhole}
 pub use Rattle.bag_tree.specs.declared.listing.FileEntry.{FileEntry}
 pub use Rattle.bag_tree.specs.declared.tree_fault.Stop.{Stop}
 pub use Rattle.bag_tree.specs.declared.tree_fault.TreeFault.{TreeFault}
-pub use Rattle.bag_tree.specs.declared.tree_fault.TreeFault.TheVariants.{Changed, Device, Exists, Memory, Name, NoneOpen, NotFound, Special, TooMany}
+pub use Rattle.bag_tree.specs.declared.tree_fault.TreeFault.TheVariants.{Changed, Memory}
 pub use Rattle.bag_walk.specs.Closing.{closing, count_of}
 pub use Rattle.bag_walk.specs.Completeness.{IsAbove, IsOfAlg, IsOfSomeAlg, IsSoughtAbove, IsStageAbove, TakesLeast}
 pub use Rattle.bag_walk.specs.Ending.{IsAnswered, IsCutAt, MayEnd, ReachesEnd, Wrote, ended, ideal, limit_of, lines_of_run, written, written_line}
@@ -96,7 +100,7 @@ pub use Rattle.bag_walk.specs.Validity.{AreFilesOf, IsOfBag, is_passed}
 pub use Rattle.bag_walk.specs.Write.{IsCut, IsTaken, Writes, text_of}
 pub use Rattle.bag_walk.specs.Writer.{Closes, WritesReport}
 pub use Rattle.bag_walk.specs.declared.outcome.Outcome.{Outcome}
-pub use Rattle.bag_walk.specs.declared.outcome.Outcome.TheVariants.{Clean, Faults, Rest, Stopped, Unread, Unwritten}
+pub use Rattle.bag_walk.specs.declared.outcome.Outcome.TheVariants.{Stopped, Unread, Unwritten}
 pub use Rattle.bag_walk.specs.declared.outcome.Request.{Request}
 pub use Rattle.bag_walk.specs.declared.segment.Segment.{Segment}
 pub use Rattle.bag_walk.specs.declared.segment.SegmentEnd.{SegmentEnd}

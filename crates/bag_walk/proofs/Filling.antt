@@ -1,168 +1,126 @@
 -- What is opened, seen and left behind when one source is filled, and then another.
-use Rattle.bag_walk.proofs.Common.{arith, Bool, true, false, Option, None, Some, is_some, ◌≡◌, ◌≢◌, ◌⊎◌, ◌++◌, ◌∷◌, inl, inr, ℕ, List, [], Contains, refl, ap, sym, ◌∙◌, subst, append_assoc, append-nil, Result, Ok, Err, IfErr, OnOk, OnErr, append_cancel_left, contains_behind, contains_first, contains_front, contains_back, contains_either, contains_cases, contains_nothing, Bag, RefusesNothing, TreeState, Keeps, IsRefusedAt, Stop, Fault, IsOutOfMemory, memory_then, later_refusal, IsReached, NoneWaits, Opens, OpensAgain, OpensNoneBehind, NoneBehind, option_copied, first_of, rest_of, AllBelow, Sees, MayStopAnyway, MayStopFilling}
-use Rattle.std.proofs.Common.{Bor}
+use Rattle.bag_walk.proofs.Common.{arith, Bool, true, false, Option, None, Some, is_some, ◌≡◌, ◌⊎◌, ◌++◌, ◌∷◌, inl, inr, ℕ, List, [], Contains, refl, ap, sym, ◌∙◌, subst, append_assoc, Result, OnOk, OnErr, append_cancel_left, contains_behind, contains_front, contains_back, contains_either, Bag, RefusesNothing, TreeState, Keeps, Stop, Fault, IsOutOfMemory, memory_then, later_refusal, IsReached, NoneWaits, Opens, OpensAgain, OpensNoneBehind, NoneBehind, option_copied, first_of, rest_of, AllBelow, Sees, MayStopAnyway, MayStopFilling, Bor}
 
 module _ {A : Type 0} where
   pub append_nothing : (xs ys : List A) → xs ++ ys ≡ [] → (xs ≡ []) × (ys ≡ [])
   append_nothing [] ys e = (refl, e)
   append_nothing (x ∷ xs) ys e = cc
 
-pub sees_first : (state : TreeState) (xs ys : List (List ℕ)) (bag : Bag) → Sees state (xs ++ ys) bag → Sees state xs bag
-sees_first state xs ys bag (inl honest) = inl honest
-sees_first state xs ys bag (inr none) = inr (append_nothing xs ys none).0
+pub sees_parts : (state : TreeState) (xs ys : List (List ℕ)) (bag : Bag) → Sees state (xs ++ ys) bag → Sees state xs bag × Sees state ys bag
+sees_parts state xs ys bag sees = grind (arith, append_nothing)
 
-pub sees_second : (state : TreeState) (xs ys : List (List ℕ)) (bag : Bag) → Sees state (xs ++ ys) bag → Sees state ys bag
-sees_second state xs ys bag (inl honest) = inl honest
-sees_second state xs ys bag (inr none) = inr (append_nothing xs ys none).1
+pub sees_later : {old mid : TreeState} (paths : List (List ℕ)) (bag : Bag) → Keeps old mid → Sees old paths bag → Sees mid paths bag
+sees_later paths bag k sees = grind arith
 
-pub sees_later : (old mid : TreeState) (paths : List (List ℕ)) (bag : Bag) → Keeps old mid → Sees old paths bag → Sees mid paths bag
-sees_later old mid paths bag k (inl (honest, is)) = inl (k.honest ∙ honest, k.bag ∙ is)
-sees_later old mid paths bag k (inr none) = inr none
+-- some files were opened, and then others
+module _ {old mid : TreeState} {xs ys : List (List ℕ)} (p : Opens xs ys old mid) where
+  pub once : OpensAgain xs ys old mid
+  once = record { passed = p.opened; left = p.left; openings = inl p.openings }
 
-module _ (old mid new : TreeState) (xs ys zs : List (List ℕ)) where
-  pub opens_both : Opens xs [] old mid → Opens ys zs mid new → Opens (xs ++ ys) zs old new
-  opens_both p q = grind (arith, append_assoc, append-nil)
+  pub opens_on : {new : TreeState} {zs : List (List ℕ)} → Opens ys zs mid new → Opens xs zs old new
+  opens_on q = grind (arith, append_assoc)
 
-  pub again_both : Opens xs [] old mid → OpensAgain ys zs mid new → OpensAgain (xs ++ ys) zs old new
-  again_both p q = record {
+  pub again_on : {new : TreeState} {zs : List (List ℕ)} → OpensAgain ys zs mid new → OpensAgain xs zs old new
+  again_on {new} {zs} q = record {
     passed = p.opened ++ q.passed;
-    left = ap (λ l. l ++ ys) (p.left ∙ append-nil p.opened) ∙ ap (λ l. p.opened ++ l) q.left ∙ sym (append_assoc p.opened q.passed zs);
+    left = p.left ∙ ap (λ l. p.opened ++ l) q.left ∙ sym (append_assoc p.opened q.passed zs);
     openings = elim q.openings [
-      | inl e ↦ inl (e ∙ ap (λ o. o ++ q.passed) p.openings ∙ append_assoc old.openings p.opened q.passed)
-      | inr (path, rest, is, e) ↦ inr (
-        path,
-        rest,
-        is,
-        e ∙ ap (λ o. o ++ (q.passed ++ path ∷ [])) p.openings ∙ append_assoc old.openings p.opened (q.passed ++ path ∷ [])
-            ∙ ap (λ l. old.openings ++ l) (sym (append_assoc p.opened q.passed (path ∷ []))),
-      )
+      | inl e ↦ inl (rw (e, p.openings) (simp append_assoc))
+      | inr (path, rest, is, e) ↦ inr (path, rest, is, rw (e, p.openings) (simp append_assoc))
     ];
   }
 
-  pub reached_both : Opens xs [] old mid → (path : List ℕ) → IsReached ys mid new path → IsReached (xs ++ ys) old new path
-  reached_both p path (passed, rest, cut, refused) = (
-    p.opened ++ passed,
-    rest,
-    ap (λ l. l ++ ys) (p.left ∙ append-nil p.opened) ∙ ap (λ l. p.opened ++ l) cut ∙ sym (append_assoc p.opened passed (path ∷ rest)),
-    subst (λ all. IsRefusedAt all path new) (ap (λ o. o ++ passed) p.openings ∙ append_assoc old.openings p.opened passed) refused,
-  )
+  pub reached_on : (new : TreeState) (path : List ℕ) → IsReached ys mid new path → IsReached xs old new path
+  reached_on new path (passed, rest, cut, refused) = grind (arith, append_assoc)
 
-  pub reached_front : (path : List ℕ) → IsReached xs old new path → IsReached (xs ++ ys) old new path
-  reached_front path (passed, rest, cut, refused) = (passed, rest ++ ys, ap (λ l. l ++ ys) cut ∙ append_assoc passed (path ∷ rest) ys, refused)
+  -- others are to be opened behind them
+  pub opens_front : (zs : List (List ℕ)) → Opens (xs ++ zs) (ys ++ zs) old mid
+  opens_front zs = record { opened = p.opened; openings = p.openings; left = ap (λ l. l ++ zs) p.left ∙ append_assoc p.opened ys zs }
 
-  pub opens_front : Opens xs zs old new → Opens (xs ++ ys) (zs ++ ys) old new
-  opens_front p = record { opened = p.opened; openings = p.openings; left = ap (λ l. l ++ ys) p.left ∙ append_assoc p.opened zs ys }
+pub reached_front : (old new : TreeState) (xs ys : List (List ℕ)) (path : List ℕ) → IsReached xs old new path → IsReached (xs ++ ys) old new path
+reached_front old new xs ys path (passed, rest, cut, refused) = (passed, rest ++ ys, ap (λ l. l ++ ys) cut ∙ append_assoc passed (path ∷ rest) ys, refused)
 
-module _ (old new : TreeState) (xs zs : List (List ℕ)) where
+module _ {old new : TreeState} {xs zs : List (List ℕ)} (p : OpensAgain xs zs old new) where
+  -- what was opened of the files that were to be opened, and the others
+  pub opened_front : (paths : List (List ℕ)) × (more : List (List ℕ)) × (new.openings ≡ old.openings ++ paths) × (xs ≡ paths ++ more)
+  opened_front = grind (arith, append_assoc)
+
   -- what was opened was to be opened
-  pub opens_within : Opens xs zs old new → (opened : List (List ℕ)) → new.openings ≡ old.openings ++ opened → (path : List ℕ) → Contains opened path → Contains xs path
-  opens_within p opened e path c =
-      let same : opened ≡ p.opened = append_cancel_left old.openings opened p.opened (sym e ∙ p.openings) in
-      subst (λ l. Contains l path) (sym p.left) (contains_front p.opened zs path (subst (λ l. Contains l path) same c))
+  pub again_within : (opened : List (List ℕ)) → new.openings ≡ old.openings ++ opened → (path : List ℕ) → Contains opened path → Contains xs path
+  again_within opened e path c =
+      let front = opened_front in
+      let same : opened ≡ front.0 = append_cancel_left old.openings opened front.0 (sym e ∙ front.2) in
+      subst (λ l. Contains l path) (sym front.3) (contains_front front.0 front.1 path (subst (λ l. Contains l path) same c))
 
-  within_last : (passed rest opened : List (List ℕ)) (last path : List ℕ) → xs ≡ passed ++ zs → zs ≡ last ∷ rest → opened ≡ passed ++ last ∷ [] → Contains opened path → Contains xs path
-  within_last passed rest opened last path left is same c =
-      subst (λ l. Contains l path) (sym left)
-      (elim (contains_either passed (last ∷ []) path (subst (λ l. Contains l path) same c)) [
-        | inl a ↦ contains_front passed zs path a
-        | inr b ↦ contains_back passed zs path (subst (λ l. Contains l path) (sym is) (elim (contains_cases last [] path b) [
-          | inl e ↦ subst (Contains (last ∷ rest)) e (contains_first last rest)
-          | inr none ↦ absurd (contains_nothing path none)
-        ]))
-      ])
-
-  pub again_within : OpensAgain xs zs old new → (opened : List (List ℕ)) → new.openings ≡ old.openings ++ opened → (path : List ℕ) → Contains opened path → Contains xs path
-  again_within p opened e path c = elim p.openings [
-    | inl done ↦ (let same : opened ≡ p.passed = append_cancel_left old.openings opened p.passed (sym e ∙ done) in
-        subst (λ l. Contains l path) (sym p.left) (contains_front p.passed zs path (subst (λ l. Contains l path) same c)))
-    | inr (last, rest, is, done) ↦ within_last p.passed rest opened last path p.left is (append_cancel_left old.openings opened (p.passed ++ last ∷ []) (sym e ∙ done)) c
-  ]
-
-  -- something was opened
-  pub some_opened : OpensAgain xs zs old new → (opened : List (List ℕ)) × (new.openings ≡ old.openings ++ opened)
-  some_opened p = elim p.openings [ inl done ↦ (p.passed, done) | inr (last, rest, is, done) ↦ (p.passed ++ last ∷ [], done) ]
+-- no file behind a later fault was opened, and then none behind those that were left
+pub behind_on : (first later : List Fault) {old mid new : TreeState} {xs ys zs : List (List ℕ)} → OpensAgain xs ys old mid → OpensAgain ys zs mid new
+    → OpensNoneBehind first old mid → OpensNoneBehind later mid new → ((f : Fault) → Contains later f → Contains first f) → OpensNoneBehind later old new
+behind_on first later {old} p q before after within all e f path c d =
+    let one = opened_front p in
+    let two = opened_front q in
+    let same : all ≡ one.0 ++ two.0 =
+    append_cancel_left old.openings all (one.0 ++ two.0) (sym e ∙ two.2 ∙ ap (λ o. o ++ two.0) one.2 ∙ append_assoc old.openings one.0 two.0) in
+    elim (contains_either one.0 two.0 path (subst (λ l. Contains l path) same d)) [
+      | inl a ↦ before one.0 one.2 f path (within f c) a
+      | inr b ↦ after two.0 two.2 f path c b
+    ]
 
 module _ (fs gs : List Fault) (old new : TreeState) (xs : List (List ℕ)) (apart : NoneBehind gs xs) where
   -- the first source alone was filled
-  pub behind_first : OpensNoneBehind fs old new → ((opened : List (List ℕ)) → new.openings ≡ old.openings ++ opened → (path : List ℕ) → Contains opened path → Contains xs path)
-      → OpensNoneBehind (fs ++ gs) old new
-  behind_first behind within opened e f path c d = elim (contains_either fs gs f c) [
+  pub behind_first : {zs : List (List ℕ)} → OpensAgain xs zs old new → OpensNoneBehind fs old new → OpensNoneBehind (fs ++ gs) old new
+  behind_first p behind opened e f path c d = elim (contains_either fs gs f c) [
     | inl a ↦ behind opened e f path a d
-    | inr b ↦ apart f path b (within opened e path d)
+    | inr b ↦ apart f path b (again_within p opened e path d)
   ]
 
   -- and then it stopped at one of its files
-  reached_listed : (stop : Stop) → IsOutOfMemory stop ⊎ IsReached xs old new stop.path → stop.path ≢ [] → Contains xs stop.path
-  reached_listed stop (inl memory) some = absurd (some memory.1)
-  reached_listed stop (inr (passed, rest, cut, refused)) some =
-      subst (λ l. Contains l stop.path) (sym cut) (contains_back passed (stop.path ∷ rest) stop.path (contains_first stop.path rest))
-
   pub waits_first : (stop : Stop) → IsOutOfMemory stop ⊎ IsReached xs old new stop.path → NoneWaits fs stop.path → NoneWaits (fs ++ gs) stop.path
-  waits_first stop reached waits some f path c d before = elim (contains_either fs gs f c) [
+  waits_first stop (inl memory) waits some f path c d before = absurd (some memory.1)
+  waits_first stop (inr (passed, rest, cut, refused)) waits some f path c d before = elim (contains_either fs gs f c) [
     | inl a ↦ waits some f path a d before
-    | inr b ↦ elim (contains_cases stop.path [] path d) [
-      | inl e ↦ apart f path b (subst (λ p. Contains xs p) e (reached_listed stop reached some)) before
-      | inr none ↦ absurd (contains_nothing path none)
-    ]
+    | inr b ↦ apart f path b (rw cut (contains_back passed (stop.path ∷ rest) path (contains_front (stop.path ∷ []) rest path d))) before
   ]
 
-  -- and then the second
-  pub behind_both : (mid : TreeState) → fs ≡ [] → Opens xs [] old mid → OpensNoneBehind gs mid new → ((opened : List (List ℕ)) × (new.openings ≡ mid.openings ++ opened))
-      → OpensNoneBehind (fs ++ gs) old new
-  behind_both mid none p behind (more, e) opened all f path c d =
-      let same : opened ≡ p.opened ++ more =
-      append_cancel_left old.openings opened (p.opened ++ more) (sym all ∙ e ∙ ap (λ o. o ++ more) p.openings ∙ append_assoc old.openings p.opened more) in
-      elim (contains_either fs gs f c) [
-        | inl a ↦ absurd (contains_nothing f (subst (λ l. Contains l f) none a))
-        | inr b ↦ elim (contains_either p.opened more path (subst (λ l. Contains l path) same d)) [
-          | inl u ↦ apart f path b (opens_within old mid xs [] p p.opened p.openings path u)
-          | inr v ↦ behind more e f path b v
-        ]
-      ]
+module _ {old new : TreeState} {zs : List (List ℕ)} {stop : Stop} where
+  -- what refused the first source
+  pub stop_front : (ys : List (List ℕ)) → MayStopFilling zs old new stop → MayStopFilling (zs ++ ys) old new stop
+  stop_front ys h = grind arith
 
--- what refused the first source
-pub stop_front : (old new : TreeState) (zs ys : List (List ℕ)) (stop : Stop) → MayStopFilling zs old new stop → MayStopFilling (zs ++ ys) old new stop
-stop_front old new zs ys stop h = grind arith
+  -- and what refused the second
+  pub stop_later : {mid : TreeState} → Keeps old mid → RefusesNothing old mid → MayStopFilling zs mid new stop → MayStopFilling zs old new stop
+  stop_later k calm h = grind (arith, later_refusal, memory_then)
 
--- and what refused the second
-pub stop_later : (old mid new : TreeState) (zs : List (List ℕ)) (stop : Stop) → Keeps old mid → RefusesNothing old mid → MayStopFilling zs mid new stop → MayStopFilling zs old new stop
-stop_later old mid new zs stop k calm h = grind (arith, later_refusal, memory_then)
+  -- the same whatever the tree
+  pub anyway_front : (ys : List (List ℕ)) → MayStopAnyway zs old new stop → MayStopAnyway (zs ++ ys) old new stop
+  anyway_front ys h = grind arith
 
--- the same whatever the tree
-pub anyway_front : (old new : TreeState) (zs ys : List (List ℕ)) (stop : Stop) → MayStopAnyway zs old new stop → MayStopAnyway (zs ++ ys) old new stop
-anyway_front old new zs ys stop h = grind arith
+  pub anyway_later : {mid : TreeState} → Keeps old mid → RefusesNothing old mid → MayStopAnyway zs mid new stop → MayStopAnyway zs old new stop
+  anyway_later k calm h = grind (arith, memory_then, later_refusal)
 
-pub anyway_later : (old mid new : TreeState) (zs : List (List ℕ)) (stop : Stop) → Keeps old mid → RefusesNothing old mid → MayStopAnyway zs mid new stop → MayStopAnyway zs old new stop
-anyway_later old mid new zs stop k calm h = grind (arith, memory_then, later_refusal)
-
-pub anyway_in_turn : {A : Type 0} (old mid new : TreeState) (zs : List (List ℕ)) (r : Result A Stop) → Keeps old mid → RefusesNothing old mid → IfErr r (MayStopAnyway zs mid new) → IfErr r (MayStopAnyway zs old new)
-anyway_in_turn old mid new zs (Ok x) k calm h = tt
-anyway_in_turn old mid new zs (Err stop) k calm h = anyway_later old mid new zs stop k calm h
-
--- what the first source has left
-pub below_same : (fs gs more : List Fault) → more ≡ fs → AllBelow fs gs → AllBelow more gs
-below_same fs gs more e below = subst (λ l. AllBelow l gs) (sym e) below
-
-pub none_left : (gs : List Fault) (xs passed zs : List (List ℕ)) → xs ≡ passed ++ zs → NoneBehind gs xs → NoneBehind gs zs
-none_left gs xs passed zs e h f path c d = h f path c (subst (λ l. Contains l path) (sym e) (contains_back passed zs path d))
+-- the first source is filled: what it has left is as it was, and of its files the first were opened
+pub front_same : (fs gs more : List Fault) (xs zs : List (List ℕ)) (A B InOrder : Type 0) → A × (more ≡ fs) → AllBelow fs gs → (InOrder → NoneBehind gs xs) → B
+    → (InOrder → (passed : List (List ℕ)) × (xs ≡ passed ++ zs)) → ((A × AllBelow more gs × (InOrder → NoneBehind gs zs)) × B) × (more ++ gs ≡ fs ++ gs)
+front_same fs gs more xs zs A B InOrder (a, same) below apart b cut = (
+  (
+    (
+      a,
+      subst (λ l. AllBelow l gs) (sym same) below,
+      λ ordered f path c d. let left = cut ordered in apart ordered f path c (subst (λ l. Contains l path) (sym left.1) (contains_back left.0 zs path d)),
+    ),
+    b,
+  ),
+  ap (λ l. l ++ gs) same,
+)
 
 -- what is shown
-pub some_shown : (r : Option (Bor Fault)) (a : Option Fault) (b : Bool) → option_copied r ≡ a → b ≡ is_some r → b ≡ true → is_some a ≡ true
-some_shown None a b e is holds = let clash : false ≡ true = sym is ∙ holds in cc
-some_shown (Some f) a b e is holds = ap is_some (sym e)
+pub some_shown : (r : Option (Bor Fault)) {a : Option Fault} {b : Bool} → option_copied r ≡ a → b ≡ is_some r → b ≡ true → is_some a ≡ true
+some_shown r e is holds = grind arith
 
-pub none_shown : (r : Option (Bor Fault)) (a : Option Fault) (b : Bool) → option_copied r ≡ a → b ≡ is_some r → b ≡ false → a ≡ None
-none_shown None a b e is fails = sym e
-none_shown (Some f) a b e is fails = let clash : true ≡ false = sym is ∙ fails in cc
+pub none_shown : (r : Option (Bor Fault)) {a : Option Fault} {b : Bool} → option_copied r ≡ a → b ≡ is_some r → b ≡ false → a ≡ None
+none_shown r e is fails = grind arith
 
 pub first_front : (a : Option Fault) (fs gs : List Fault) → is_some a ≡ true → a ≡ first_of fs → a ≡ first_of (fs ++ gs)
-first_front a [] gs some e = let none : false ≡ true = ap is_some (sym e) ∙ some in cc
-first_front a (f ∷ fs) gs some e = e
-
--- nothing is left of the first source
-pub none_before : (a : Option Fault) (fs more : List Fault) → a ≡ None → a ≡ first_of more → more ≡ fs → fs ≡ []
-none_before a fs [] none e same = sym same
-none_before a fs (f ∷ more) none e same = let clash : None ≡ Some f = sym none ∙ e in cc
+first_front a fs gs some e = grind arith
 
 -- the first of two lists is taken away
 pub taken_first : (a : Option Fault) (fs gs more : List Fault) → is_some a ≡ true → ((f : Fault) → a ≡ Some f → first_of fs ≡ Some f) → more ≡ rest_of fs
@@ -172,7 +130,6 @@ taken_first (Some f) [] gs more some first e below = let clash : None ≡ Some f
 taken_first (Some f) (x ∷ fs) gs more some first e below = grind (arith, contains_behind)
 
 -- a call opens some files
-pub opened_by : (old new : TreeState) (xs zs : List (List ℕ)) (r : Result (Unit {0}) Stop) → OnOk r (Opens xs zs old new) → OnErr r (OpensAgain xs zs old new)
-    → (opened : List (List ℕ)) × (new.openings ≡ old.openings ++ opened)
-opened_by old new xs zs (Ok x) opens again = (opens.opened, opens.openings)
-opened_by old new xs zs (Err stop) opens again = some_opened old new xs zs again
+pub opened_by : {old new : TreeState} {xs zs : List (List ℕ)} (r : Result (Unit {0}) Stop) → OnOk r (Opens xs zs old new) → OnErr r (OpensAgain xs zs old new)
+    → OpensAgain xs zs old new
+opened_by r opens again = grind (arith, once)

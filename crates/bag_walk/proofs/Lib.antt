@@ -1,13 +1,7 @@
-pub mod ByReport
 pub mod Chosen
 pub mod Closed
 pub mod Common
-pub mod CursorLaw
-pub mod Early
-pub mod Ending
 pub mod Filling
-pub mod LastLines
-pub mod Lending
 pub mod RunLines
 pub mod ListedFiles
 pub mod Merging
@@ -16,7 +10,6 @@ pub mod Passed
 pub mod Places
 pub mod Positions
 pub mod Refusing
-pub mod Rest
 pub mod Running
 pub mod SegmentLines
 pub mod SegmentOpenings
@@ -24,10 +17,8 @@ pub mod SegmentStart
 pub mod SegmentSteps
 pub mod SegmentSums
 pub mod Shown
-pub mod Sources
 pub mod StageSix
 pub mod Stages
 pub mod Summing
 pub mod UnitedLists
-pub mod Walked
 pub mod Writing

@@ -1,6 +1,7 @@
--- What stands at a place of a list of faults.
-use Rattle.bag_walk.proofs.Common.{◌≡◌, ◌<◌, ◌+◌, ◌∷◌, ℕ, zero, suc, List, [], length, drop, slice_get, unwrap_or, Some, Contains, refl, ap, subst, arith, AllByRecursion, Less, contains_first, fault_cmp, Fault}
+-- What stands at a place of a list, and behind it.
+use Rattle.bag_walk.proofs.Common.{◌≡◌, ◌<◌, ◌+◌, ◌∷◌, ℕ, zero, suc, List, [], length, drop, slice_get, unwrap_or, Some, Contains, refl, ap, subst, arith, Less, contains_first, fault_cmp, Fault, get_or_from_slice_get, slice_get_within, Less-from_sorted, rest_of, ◌++◌, filter, take, Ordering, is_lt, IsTotalOrder, AllByRecursion, fault_cmp_total, All-from_recursion, All-get_or, drop-drop, sym, ◌∙◌}
 use Rattle.std.specs.List.Sorted.{IsStrictlySortedBy}
+use Rattle.bag_walk.specs.Cursor.{CursorCutsList}
 
 pub at_place : (n : ℕ) (faults : List Fault) → n < length faults → (f : Fault) × (slice_get faults n ≡ Some f)
 at_place n [] less = absurd (omega arith)
@@ -8,7 +9,7 @@ at_place zero (f ∷ faults) less = (f, refl)
 at_place (suc n) (f ∷ faults) less = at_place n faults (omega arith)
 
 -- a fault of the rest stands so much later
-pub at_later : (n k : ℕ) (faults : List Fault) (f : Fault) → slice_get (drop n faults) k ≡ Some f → slice_get faults (n + k) ≡ Some f
+pub at_later : {A : Type 0} (n k : ℕ) (faults : List A) (f : A) → slice_get (drop n faults) k ≡ Some f → slice_get faults (n + k) ≡ Some f
 at_later zero k faults f at = let same : k ≡ 0 + k = omega arith in subst (λ i. slice_get faults i ≡ Some f) same at
 at_later (suc n) k [] f at = cc
 at_later (suc n) k (x ∷ faults) f at = let same : suc n + k ≡ suc (n + k) = omega arith in rw same (at_later n k faults f at)
@@ -19,15 +20,40 @@ contains_from k [] f at = cc
 contains_from zero (x ∷ faults) f at = let same : x ≡ f = ap (λ o. unwrap_or o x) at in subst (Contains (x ∷ faults)) same (contains_first x faults)
 contains_from (suc k) (x ∷ faults) f at = contains_from k faults f at
 
-has_at : (P : Fault → Type 0) (faults : List Fault) (k : ℕ) (f : Fault) → AllByRecursion P faults → slice_get faults k ≡ Some f → P f
-has_at P [] k f all at = cc
-has_at P (x ∷ faults) zero f all at = subst P (ap (λ o. unwrap_or o x) at) all.0
-has_at P (x ∷ faults) (suc k) f all at = has_at P faults k f all.1 at
-
 -- of two places of an ascending list the later has the greater fault
 pub less_at : (faults : List Fault) (i k : ℕ) (f g : Fault) → IsStrictlySortedBy fault_cmp faults → i < k → slice_get faults i ≡ Some f → slice_get faults k ≡ Some g → fault_cmp f g ≡ Less
+less_at faults i k f g sorted less at later =
+    rw (get_or_from_slice_get faults i f f at, get_or_from_slice_get faults k g f later) at
+    (Less-from_sorted fault_cmp faults i k f sorted less (slice_get_within faults k g later))
+
+-- the rest of a list
+pub drop_one : {A : Type 0} (xs : List A) → drop 1 xs ≡ rest_of xs
+drop_one [] = refl
+drop_one (x ∷ xs) = refl
+
+pub drop_rest : {A : Type 0} (xs : List A) (n : ℕ) → drop (n + 1) xs ≡ rest_of (drop n xs)
+drop_rest xs n = sym (drop-drop 1 n xs) ∙ drop_one (drop n xs)
+
+pub rest_ascends : (faults : List Fault) → IsStrictlySortedBy fault_cmp faults → IsStrictlySortedBy fault_cmp (rest_of faults)
 unfolding IsStrictlySortedBy
-less_at [] i k f g sorted less at later = cc
-less_at (x ∷ faults) i zero f g sorted less at later = absurd (omega arith)
-less_at (x ∷ faults) zero (suc k) f g sorted less at later = subst (λ y. fault_cmp y g ≡ Less) (ap (λ o. unwrap_or o x) at) (has_at (λ y. fault_cmp x y ≡ Less) faults k g sorted.0 later)
-less_at (x ∷ faults) (suc i) (suc k) f g sorted less at later = less_at faults i k f g sorted.1 (omega arith) at later
+rest_ascends [] s = tt
+rest_ascends (f ∷ faults) s = s.1
+
+-- a cursor cuts a list
+module _ {A : Type 0} {R : A → A → Ordering} (total : IsTotalOrder R) where
+  -- all of a list is kept where all of it is above
+  all_above : (f : A) (xs : List A) → AllByRecursion (λ y. R f y ≡ Less) xs → filter (λ y. is_lt (R f y)) xs ≡ xs
+  all_above f [] all = refl
+  all_above f (x ∷ xs) all = rw all.0 (ap (λ ys. x ∷ ys) (all_above f xs all.1))
+
+  member_at : (P : A → Type 0) (xs : List A) (n : ℕ) (f : A) → AllByRecursion P xs → slice_get xs n ≡ Some f → P f
+  member_at P xs n f all at = rw (get_or_from_slice_get xs n f f at) at (All-get_or P xs n f (slice_get_within xs n f at) (All-from_recursion P xs all))
+
+  pub cut_at_member : (xs : List A) (n : ℕ) (f : A) → IsStrictlySortedBy R xs → slice_get xs n ≡ Some f → take (suc n) xs ++ filter (λ y. is_lt (R f y)) xs ≡ xs
+  unfolding IsStrictlySortedBy
+  cut_at_member [] n f sorted at = cc
+  cut_at_member (x ∷ xs) zero f sorted at = grind (arith, unwrap_or, all_above)
+  cut_at_member (x ∷ xs) (suc n) f sorted at = grind (arith, member_at, cut_at_member xs n f sorted.1 at)
+
+pub cursor_cuts_list : CursorCutsList
+cursor_cuts_list faults n f sorted at = let one_more : n + 1 ≡ suc n = omega arith in rw one_more (cut_at_member fault_cmp_total faults n f sorted at)

@@ -1,16 +1,11 @@
 -- A walk over a report.
-use Rattle.bag_walk.proofs.Common.{arith, ◌≡◌, ◌++◌, ◌∷◌, inl, inr, ℕ, List, [], true, Option, None, Some, Contains, refl, ap, subst, is_lt, Ordering, Less, Equal, Greater, contains_behind, contains_cases, contains_either, contains_first, contains_front, contains_nothing, member_has, TreeState, fault_cmp, Fault, not_less_than_itself, fault_cmp_total, Check, is_above, Opens, OpensAgain, OpensNoneBehind, StillWait, first_of, rest_of, Gives, StandsAt}
+use Rattle.bag_walk.proofs.Common.{arith, ◌≡◌, ◌++◌, ◌∷◌, inl, inr, ℕ, List, [], true, Option, Some, Contains, ap, subst, is_lt, Less, contains_behind, contains_cases, contains_either, contains_first, contains_front, contains_nothing, member_has, TreeState, fault_cmp, Fault, not_less_than_itself, fault_cmp_total, Check, is_above, Opens, OpensAgain, OpensNoneBehind, StillWait, first_of, rest_of, Gives, StandsAt, Result, Ok, Err, IfErr, IfOk, MatchResult, OnErr, Bor, option_copied, Keeps, Stop, MayStopAnyway, MayStopFilling, went, IsNextOf, MayStopStep}
 use Rattle.std.specs.List.Sorted.{IsStrictlySortedBy}
-
-lt_is : (o : Ordering) → is_lt o ≡ true → o ≡ Less
-lt_is Less e = refl
-lt_is Equal e = cc
-lt_is Greater e = cc
+use Rattle.bag_walk.proofs.Chosen.{less_is}
 
 -- what is above a fault that is above a position is above the position
 above_on : (position : Option Fault) (f g : Fault) → is_above position f ≡ true → fault_cmp f g ≡ Less → is_above position g ≡ true
-above_on None f g a less = refl
-above_on (Some p) f g a less = ap is_lt (fault_cmp_total.trans p f g (lt_is _ a) less)
+above_on position f g a less = grind (arith, less_is, fault_cmp_total.trans)
 
 module _ (check : Check) (position : Option Fault) where
   -- behind its first fault stands what is above that
@@ -20,7 +15,7 @@ module _ (check : Check) (position : Option Fault) where
     ascending = h.ascending.1;
     members = λ g. (
       λ c. (((h.members g).0 (contains_behind f faults g c)).0, ap is_lt (member_has (λ w. fault_cmp f w ≡ Less) faults g h.ascending.0 c)),
-      λ m. (let less : fault_cmp f g ≡ Less = lt_is _ m.1 in
+      λ m. (let less : fault_cmp f g ≡ Less = less_is _ m.1 in
           let ahead : Contains (f ∷ faults) g = (h.members g).1 (m.0, above_on position f g ((h.members f).0 (contains_first f faults)).1 less) in
           elim (contains_cases f faults g ahead) [ inl e ↦ absurd (not_less_than_itself fault_cmp_total f g e less) | inr d ↦ d ]),
     );
@@ -42,7 +37,7 @@ module _ (check : Check) (position : Option Fault) where
   gives left after shown e d h = grind (arith, gives_first)
 
 -- files before which a fault stands wait on
-module _ (files before after : List (List ℕ)) (left : List Fault) (old new : TreeState) (behind : OpensNoneBehind left old new) where
+module _ (files : List (List ℕ)) {before after : List (List ℕ)} (left : List Fault) {old new : TreeState} (behind : OpensNoneBehind left old new) where
   pub still_wait : Opens before after old new → StillWait files left before → StillWait files left after
   still_wait p waits f path c d ahead = elim (contains_either p.opened after path (subst (λ l. Contains l path) p.left (waits f path c d ahead))) [
     | inl u ↦ absurd (behind p.opened p.openings f path c u ahead)
@@ -57,3 +52,17 @@ module _ (files before after : List (List ℕ)) (left : List Fault) (old new : T
     ])
     | inr v ↦ v
   ]
+
+-- what a walk lends: the fault that is lent is the next
+pub lends_next : (check : Check) (position : Option Fault) (answer : Result (Option (Bor Fault)) Stop) (shown : Option Fault) (after : List Fault) (Q : Type 0)
+    → MatchResult (went answer) (λ _. Gives check position shown after) (λ _. Q) → IfOk answer (λ f. option_copied f ≡ shown)
+    → IfOk answer (λ f. IsNextOf check position (option_copied f))
+lends_next check position answer shown after Q given e = grind arith
+
+-- a step that was refused may stop so
+pub stops_there : (answer : Result (Option (Bor Fault)) Stop) (old new : TreeState) (before after : List (List ℕ)) (IsOf : Type 0) → Keeps old new
+    → OnErr (went answer) (OpensAgain before after old new) → IfErr (went answer) (λ stop. IsOf → MayStopFilling after old new stop)
+    → IfErr (went answer) (MayStopAnyway after old new) → IfErr answer (MayStopStep before old IsOf)
+stops_there (Ok f) old new before after IsOf keeps again may anyway = tt
+stops_there (Err stop) old new before after IsOf keeps again may anyway =
+    record { new = new; left = after; keeps = keeps; opened = again; anyway = anyway; refused = may }

@@ -1,30 +1,15 @@
 -- The lines of a run.
-use Rattle.bag_walk.proofs.Common.{◌≡◌, ◌≢◌, ℕ, zero, suc, get_or, ◌∷◌, ◌+◌, ◌<◌, ◌++◌, List, [], length, take, drop, Option, Some, refl, ap, sym, ◌∙◌, append_assoc, append-nil, take-append-drop, length-drop, add-one, arith, slice_get, concat, Appends, Fault, written_line, written, IsCutAt, IsCut}
+use Rattle.bag_walk.proofs.Common.{◌≡◌, ◌≢◌, ℕ, ◌∷◌, ◌<◌, ◌++◌, List, [], length, take, drop, Option, Some, refl, ap, sym, ◌∙◌, append_assoc, append-nil, take-append-drop, length-drop, arith, slice_get, concat, Appends, IsCutAt, IsCut, ◌+◌, None, codes, IsLineOf, Fault, IsLastLine, IsLastOf, same_from_push, length-append}
 use Rattle.bag_walk.proofs.Writing.{Appends-append}
+use Rattle.bag_facts.proofs.Lines.{lines_tell_faults_apart}
+
+pub concat_joined : (xs ys : List (List ℕ)) → concat (xs ++ ys) ≡ concat xs ++ concat ys
+concat_joined [] ys = refl
+concat_joined (x ∷ xs) ys = ap (λ rest. x ++ rest) (concat_joined xs ys) ∙ sym (append_assoc x (concat xs) (concat ys))
 
 -- lines, and one after them
 pub concat-append_one : (lines : List (List ℕ)) (line : List ℕ) → concat (lines ++ line ∷ []) ≡ concat lines ++ line
-concat-append_one [] line = append-nil line
-concat-append_one (l ∷ lines) line = ap (λ rest. l ++ rest) (concat-append_one lines line) ∙ sym (append_assoc l (concat lines) line)
-
--- the lines of the first faults, and of one more
-pub written_more : (faults : List Fault) (i : ℕ) (d : Fault) → i < length faults → concat (written (take (i + 1) faults)) ≡ concat (written (take i faults)) ++ written_line (get_or faults i d)
-written_more faults i d h = rw add-one (go faults i h)
-  where
-    go : (fs : List Fault) (k : ℕ) → k < length fs → concat (written (take (suc k) fs)) ≡ concat (written (take k fs)) ++ written_line (get_or fs k d)
-    go [] k l = absurd (omega arith)
-    go (f ∷ fs) zero l = append-nil (written_line f)
-    go (f ∷ fs) (suc k) l = ap (λ rest. written_line f ++ rest) (go fs k (omega arith)) ∙ sym (append_assoc (written_line f) (concat (written (take k fs))) (written_line (get_or fs k d)))
-
-module _ (last : List ℕ) where
-  -- the last line
-  pub last_of_run : (shown : List Fault) → slice_get (written shown ++ last ∷ []) (length shown) ≡ Some last
-  last_of_run [] = refl
-  last_of_run (f ∷ fs) = last_of_run fs
-
-  pub all_of_run : (shown : List Fault) → take (length shown) (written shown ++ last ∷ []) ≡ written shown
-  all_of_run [] = refl
-  all_of_run (f ∷ fs) = ap (λ rest. written_line f ∷ rest) (all_of_run fs)
+concat-append_one lines line = concat_joined lines (line ∷ []) ∙ ap (λ rest. concat lines ++ rest) (append-nil line)
 
 -- what is left of a line that was cut off
 some_left : (line : List ℕ) (n : ℕ) → n < length line → drop n line ≢ []
@@ -40,3 +25,20 @@ cut_at lines i line old mid new at taken cut =
       (take n line, drop n line, whole, some_left line n cut.1, refl),
       Appends-append old mid new (concat (take i lines)) (take n line) taken cut.2,
     )
+
+-- the line that was written last, read back: the fault that is read from a fault's line without its end is that fault
+read_back : (f g : Fault) (text line : List ℕ) → IsLastLine (Some f) text → text ≡ line ++ codes "\n" → IsLineOf line g → g ≡ f
+read_back f g text line (is, same) cut read = grind (arith, lines_tell_faults_apart, same_from_push)
+
+-- and so it is read back
+pub read_cursor : (last : Option Fault) (g : Fault) (text line : List ℕ) → IsLastLine last text → text ≡ line ++ codes "\n" → IsLineOf line g → Some g ≡ last
+read_cursor None g text line is cut read = absurd (omega (arith, ap length (sym is ∙ cut), length-append line (codes "\n")))
+read_cursor (Some f) g text line is cut read = ap Some (read_back f g text line is cut read)
+
+pub place_behind : {A : Type 0} (given rest : List A) (f : A) → slice_get (given ++ f ∷ rest) (length given) ≡ Some f
+place_behind [] rest f = refl
+place_behind (g ∷ given) rest f = place_behind given rest f
+
+-- one fault more was given
+pub last_given : (given rest : List Fault) (f : Fault) (n : ℕ) (old new : List ℕ) → length given ≡ n → IsLastLine (Some f) new → IsLastOf ((given ++ f ∷ []) ++ rest) (n + 1) old new
+last_given given rest f n old new count is = grind (arith, place_behind given rest f, slice_get, append_assoc)

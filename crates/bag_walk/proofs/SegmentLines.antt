@@ -1,73 +1,27 @@
 -- A segment of a report, line after line.
-use Rattle.bag_walk.proofs.Common.{◌≡◌, ◌<◌, ◌≤◌, ◌+◌, ◌-◌, ◌++◌, ◌∷◌, ◌⊎◌, inl, inr, ℕ, zero, suc, true, List, [], Option, None, Some, Contains, length, take, drop, slice_get, IsTrue, refl, sym, ap, ◌∙◌, subst, arith, append-nil, append_assoc, Appends, concat, length-append, map-append, append_cancel_left, take-append_seam, contains_behind, contains_either, OutState, Bag, MayTellMemory, RefusesNothing, TreeState, Keeps, Stop, Memory, memory_then, IsOutOfMemory, Fault, written, written_line, IsCut, IsReached, NoneWaits, Opens, OpensAgain, OpensNoneBehind, first_of, rest_of, MayStopFilling, Sees, front_is, none_is, IsLastOf, IsSegment, MayStopWalk, Segment, AtEnd}
-use Rattle.bag_walk.proofs.RunLines.{concat-append_one, cut_at}
+use Rattle.bag_walk.proofs.Common.{◌≡◌, ◌<◌, ◌≤◌, ◌+◌, ◌-◌, ◌++◌, ◌∷◌, ◌⊎◌, inl, inr, ℕ, List, [], Option, None, Some, Contains, length, take, drop, slice_get, IsTrue, refl, sym, ap, ◌∙◌, subst, arith, append-nil, Appends, concat, length-append, map-append, take-map, append_cancel_left, take-append-drop, take-append_seam, contains_back, OutState, Bag, MayTellMemory, RefusesNothing, TreeState, Keeps, Stop, Memory, memory_then, IsOutOfMemory, Fault, written, written_line, IsCut, IsReached, NoneWaits, Opens, OpensAgain, OpensNoneBehind, first_of, rest_of, MayStopFilling, Sees, front_is, none_is, IsLastOf, IsSegment, MayStopWalk, AtEnd, drop-drop, drop_at, take_at, slice_get-map, option_map, true}
+use Rattle.bag_walk.proofs.RunLines.{concat-append_one, cut_at, place_behind}
 use Rattle.bag_walk.proofs.Writing.{Appends-append}
-use Rattle.bag_walk.proofs.Filling.{sees_later, sees_second, stop_later}
+use Rattle.bag_walk.proofs.Filling.{behind_on, once, reached_on, sees_later, sees_parts, stop_later}
 use Rattle.bag_walk.specs.declared.segment.SegmentEnd.TheVariants.{Unread, Unwritten}
-
-module _ (old mid new : TreeState) (xs ys zs : List (List ℕ)) (p : Opens xs ys old mid) where
-  pub opens_on : Opens ys zs mid new → Opens xs zs old new
-  opens_on q = grind (arith, append_assoc)
-
-  pub again_on : OpensAgain ys zs mid new → OpensAgain xs zs old new
-  again_on q = record {
-    passed = p.opened ++ q.passed;
-    left = p.left ∙ ap (λ l. p.opened ++ l) q.left ∙ sym (append_assoc p.opened q.passed zs);
-    openings = elim q.openings [
-      | inl e ↦ inl (e ∙ ap (λ o. o ++ q.passed) p.openings ∙ append_assoc old.openings p.opened q.passed)
-      | inr (path, rest, is, e) ↦ inr (
-        path,
-        rest,
-        is,
-        e ∙ ap (λ o. o ++ (q.passed ++ path ∷ [])) p.openings ∙ append_assoc old.openings p.opened (q.passed ++ path ∷ [])
-            ∙ ap (λ l. old.openings ++ l) (sym (append_assoc p.opened q.passed (path ∷ []))),
-      )
-    ];
-  }
-
-  pub reached_on : (path : List ℕ) → IsReached ys mid new path → IsReached xs old new path
-  reached_on path (passed, rest, cut, refused) = grind (arith, append_assoc)
-
-pub once : (old new : TreeState) (xs zs : List (List ℕ)) → Opens xs zs old new → OpensAgain xs zs old new
-once old new xs zs p = record { passed = p.opened; left = p.left; openings = inl p.openings }
 
 pub opens_nothing : (old : TreeState) (xs : List (List ℕ)) → Opens xs xs old old
 opens_nothing old xs = record { opened = []; openings = sym (append-nil old.openings); left = refl }
-
--- no file behind a later fault was opened, and then none behind those that were left
-behind_on : (first later : List Fault) (old mid new : TreeState) (opened more : List (List ℕ)) → mid.openings ≡ old.openings ++ opened → new.openings ≡ mid.openings ++ more
-    → OpensNoneBehind first old mid → OpensNoneBehind later mid new → ((f : Fault) → Contains later f → Contains first f) → OpensNoneBehind later old new
-behind_on first later old mid new opened more p q before after within all e f path c d =
-    let same : all ≡ opened ++ more =
-    append_cancel_left old.openings all (opened ++ more) (sym e ∙ q ∙ ap (λ o. o ++ more) p ∙ append_assoc old.openings opened more) in
-    elim (contains_either opened more path (subst (λ l. Contains l path) same d)) [
-      | inl a ↦ before opened p f path (within f c) a
-      | inr b ↦ after more q f path c b
-    ]
 
 pub none_opened : (old : TreeState) (faults : List Fault) → OpensNoneBehind faults old old
 none_opened old faults opened e f path c d = grind (arith, append-nil old.openings, append_cancel_left)
 
 -- what is left behind so many is left behind fewer
 dropped_within : (n m : ℕ) (faults : List Fault) (f : Fault) → m ≤ n → Contains (drop n faults) f → Contains (drop m faults) f
-dropped_within zero zero faults f h c = c
-dropped_within zero (suc m) faults f h c = absurd (omega arith)
-dropped_within (suc n) zero [] f h c = c
-dropped_within (suc n) zero (x ∷ faults) f h c = contains_behind x faults f (dropped_within n 0 faults f (omega arith) c)
-dropped_within (suc n) (suc m) [] f h c = c
-dropped_within (suc n) (suc m) (x ∷ faults) f h c = dropped_within n m faults f (omega arith) c
-
-behind_given : (given rest : List Fault) → drop (length given) (given ++ rest) ≡ rest
-behind_given [] rest = refl
-behind_given (g ∷ given) rest = behind_given given rest
+dropped_within n m faults f h c =
+    let all : m + (n - m) ≡ n = omega arith in
+    subst (λ l. Contains l f) (take-append-drop (n - m) (drop m faults)) (contains_back (take (n - m) (drop m faults)) _ f (rw (drop-drop, all) c))
 
 line_at : (given rest : List Fault) (f : Fault) → slice_get (written (given ++ f ∷ rest)) (length given) ≡ Some (written_line f)
-line_at [] rest f = refl
-line_at (g ∷ given) rest f = line_at given rest f
+line_at given rest f = slice_get-map written_line (given ++ f ∷ rest) (length given) ∙ ap (option_map written_line) (place_behind given rest f)
 
 lines_before : (given rest : List Fault) → take (length given) (written (given ++ rest)) ≡ written given
-lines_before [] rest = refl
-lines_before (g ∷ given) rest = ap (λ lines. written_line g ∷ lines) (lines_before given rest)
+lines_before given rest = take-map written_line (length given) (given ++ rest) ∙ ap written (take_at given rest (length given) refl)
 
 -- one line more
 pub one_line_more : (given : List Fault) (f : Fault) (old mid new : OutState) → Appends old.taken mid.taken (concat (written given)) → Appends mid.taken new.taken (written_line f)
@@ -89,20 +43,24 @@ pub record HasWritten (limit count : ℕ) (IsOf IsOfNow : Bag → Type 0) (left 
   pub behind : (bag : Bag) → IsOf bag → Sees old todo bag → OpensNoneBehind (drop (count - 1) (left bag)) old now
   pub seen : (bag : Bag) → IsOf bag → Sees old todo bag → IsOfNow bag × (left bag ≡ given ++ left_now bag)
 
-module _ (limit count : ℕ) (IsOf IsOfNow : Bag → Type 0) (left left_now : Bag → List Fault) (todo todo_now : List (List ℕ)) (old now new : TreeState) (before mid : OutState) (line line_now : List ℕ)
+module _ {limit count : ℕ} {IsOf IsOfNow : Bag → Type 0} {left left_now : Bag → List Fault} {todo todo_now : List (List ℕ)}
+    {old now : TreeState} {before mid : OutState} {line line_now : List ℕ}
     (has : HasWritten limit count IsOf IsOfNow left left_now todo todo_now old now before mid line line_now) where
-  pub sees_now : (bag : Bag) → Sees old todo bag → Sees now todo_now bag
-  sees_now bag sees = sees_later old now todo_now bag has.keeps (sees_second old has.opens.opened todo_now bag (subst (λ l. Sees old l bag) has.opens.left sees))
+  -- what is so of a bag that is seen now is so of one that was
+  pub seen_now : (P : Bag → Type 0) → ((bag : Bag) → IsOfNow bag → Sees now todo_now bag → P bag) → (bag : Bag) → IsOf bag → Sees old todo bag → P bag
+  seen_now P so bag h sees =
+      so bag (has.seen bag h sees).0
+      (sees_later todo_now bag has.keeps (sees_parts old has.opens.opened todo_now bag (subst (λ l. Sees old l bag) has.opens.left sees)).1)
 
   of_now : (IsTrue old.honest → IsOf old.bag) → IsTrue now.honest → IsOfNow now.bag
   of_now of honest = grind arith
 
   -- the next step stopped
-  pub stops_now : (todo_new : List (List ℕ)) (stop : Stop) → IsOutOfMemory stop ⊎ IsReached todo_now now new stop.path → (stop.cause ≡ Memory → MayTellMemory now new)
-      → ((IsTrue now.honest → IsOfNow now.bag) → MayStopFilling todo_new now new stop) → MayStopWalk (IsTrue old.honest → IsOf old.bag) todo todo_new old new stop
-  stops_now todo_new stop (inl memory) tells h = inl (memory, memory_then old now new has.calm (tells memory.0))
-  stops_now todo_new stop (inr reached) tells h =
-      inr (reached_on old now new todo todo_now todo_new has.opens stop.path reached, λ of. stop_later old now new todo_new stop has.keeps has.calm (h (of_now of)))
+  pub stops_now : (new : TreeState) (todo_new : List (List ℕ)) (stop : Stop) → IsOutOfMemory stop ⊎ IsReached todo_now now new stop.path
+      → (stop.cause ≡ Memory → MayTellMemory now new) → ((IsTrue now.honest → IsOfNow now.bag) → MayStopFilling todo_new now new stop)
+      → MayStopWalk (IsTrue old.honest → IsOf old.bag) todo todo_new old new stop
+  stops_now new todo_new stop (inl memory) tells h = inl (memory, memory_then old now new has.calm (tells memory.0))
+  stops_now new todo_new stop (inr reached) tells h = inr (reached_on has.opens new stop.path reached, λ of. stop_later has.keeps has.calm (h (of_now of)))
 
   -- so many lines were written
   pub lines_written : (rest : List Fault) → Appends before.taken mid.taken (concat (written (take count (has.given ++ rest))))
@@ -111,24 +69,24 @@ module _ (limit count : ℕ) (IsOf IsOfNow : Bag → Type 0) (left left_now : Ba
   size : (rest : List Fault) → length (has.given ++ rest) ≡ count + length rest
   size rest = length-append has.given rest ∙ ap (λ n. n + length rest) has.count_is
 
-  pub ends_at_end : (segment : Segment) → count < limit → segment ≡ record { written = count; end = AtEnd } → IsSegment (has.given ++ []) limit before mid segment
-  ends_at_end segment less is = rw is (record { ends = (less, omega (arith, size [])); wrote = lines_written [] })
+  pub ends_at_end : count < limit → IsSegment (has.given ++ []) limit before mid (record { written = count; end = AtEnd })
+  ends_at_end less = record { ends = (less, omega (arith, size [])); wrote = lines_written [] }
 
-  pub ends_unread : (rest : List Fault) (stop : Stop) (segment : Segment) → count < limit → segment ≡ record { written = count; end = Unread stop } → IsSegment (has.given ++ rest) limit before mid segment
-  ends_unread rest stop segment less is = rw is (record { ends = (less, omega (arith, size rest)); wrote = lines_written rest })
+  pub ends_unread : (rest : List Fault) (stop : Stop) → count < limit
+      → IsSegment (has.given ++ rest) limit before mid (record { written = count; end = Unread stop })
+  ends_unread rest stop less = record { ends = (less, omega (arith, size rest)); wrote = lines_written rest }
 
-  pub ends_unwritten : (f : Fault) (rest : List Fault) (after : OutState) (segment : Segment) → count < limit → after.has_refused ≡ true → IsCut mid.taken after.taken (written_line f)
-      → segment ≡ record { written = count; end = Unwritten } → IsSegment (has.given ++ f ∷ rest) limit before after segment
-  ends_unwritten f rest after segment less is_refused cut is = rw is (record {
+  pub ends_unwritten : (f : Fault) (rest : List Fault) (after : OutState) → count < limit → after.has_refused ≡ true
+      → IsCut mid.taken after.taken (written_line f) → IsSegment (has.given ++ f ∷ rest) limit before after (record { written = count; end = Unwritten })
+  ends_unwritten f rest after less is_refused cut = record {
     ends = (less, omega (arith, size (f ∷ rest)));
     wrote = (
       is_refused,
-      cut_at (written (has.given ++ f ∷ rest)) count (written_line f) before.taken mid.taken after.taken
-          (ap (slice_get (written (has.given ++ f ∷ rest))) (sym has.count_is) ∙ line_at has.given rest f)
-          (subst (λ lines. Appends before.taken mid.taken (concat lines)) (sym (ap (λ n. take n (written (has.given ++ f ∷ rest))) (sym has.count_is) ∙ lines_before has.given (f ∷ rest))) has.written_so_far)
-          cut,
+      rw (← has.count_is)
+          (cut_at (written (has.given ++ f ∷ rest)) (length has.given) (written_line f) before.taken mid.taken after.taken (line_at has.given rest f)
+          (rw (lines_before has.given (f ∷ rest)) has.written_so_far) cut),
     );
-  })
+  }
 
   -- of a bag that is seen
   module _ (bag : Bag) (h : IsOf bag) (sees : Sees old todo bag) where
@@ -137,21 +95,10 @@ module _ (limit count : ℕ) (IsOf IsOfNow : Bag → Type 0) (left left_now : Ba
 
     -- and the last line is of the last of them
     pub last_is : (same : List ℕ) → same ≡ line_now → IsLastOf (left bag) count line same
-    last_is same e = rw e (subst (λ faults. IsLastOf faults count line line_now) (sym left_is) (has.last (left_now bag)))
+    last_is same e = rw (e, left_is) (has.last (left_now bag))
 
     to_come : drop count (left bag) ≡ left_now bag
-    to_come = ap (drop count) left_is ∙ ap (λ n. drop n (has.given ++ left_now bag)) (sym has.count_is) ∙ behind_given has.given (left_now bag)
-
-    -- it stopped at a file before which nothing stands that is left
-    pub waits_now : (path : List ℕ) → NoneWaits (left_now bag) path → NoneWaits (drop count (left bag)) path
-    waits_now path waits = subst (λ l. NoneWaits l path) (sym to_come) waits
-
-    -- one step more opened no file behind what was left
-    pub behind_now : OpensNoneBehind (left_now bag) now new → ((opened : List (List ℕ)) × (new.openings ≡ now.openings ++ opened)) → OpensNoneBehind (drop count (left bag)) old new
-    behind_now after more =
-        behind_on (drop (count - 1) (left bag)) (drop count (left bag)) old now new has.opens.opened more.0 has.opens.openings more.1 (has.behind bag h sees)
-        (subst (λ l. OpensNoneBehind l now new) (sym to_come) after)
-        (λ f c. dropped_within count (count - 1) (left bag) f (omega arith) c)
+    to_come = ap (drop count) left_is ∙ drop_at has.given (left_now bag) count has.count_is
 
     module _ (shown : Option Fault) (first : shown ≡ first_of (left_now bag)) where
       pub left_at_end : shown ≡ None → left bag ≡ has.given ++ []
@@ -159,3 +106,16 @@ module _ (limit count : ℕ) (IsOf IsOfNow : Bag → Type 0) (left left_now : Ba
 
       pub left_at : (f : Fault) → shown ≡ Some f → left bag ≡ has.given ++ f ∷ rest_of (left_now bag)
       left_at f some = left_is ∙ ap (λ l. has.given ++ l) (front_is (left_now bag) f (sym first ∙ some))
+
+  -- it stopped at a file before which nothing stands that is left
+  pub waits_now : (path : List ℕ) → ((bag : Bag) → IsOfNow bag → Sees now todo_now bag → NoneWaits (left_now bag) path)
+      → (bag : Bag) → IsOf bag → Sees old todo bag → NoneWaits (drop count (left bag)) path
+  waits_now path waits bag h sees = rw (to_come bag h sees) (seen_now _ waits bag h sees)
+
+  -- one step more opened no file behind what was left
+  pub behind_now : {new : TreeState} {todo_new : List (List ℕ)} → OpensAgain todo_now todo_new now new
+      → ((bag : Bag) → IsOfNow bag → Sees now todo_now bag → OpensNoneBehind (left_now bag) now new)
+      → (bag : Bag) → IsOf bag → Sees old todo bag → OpensNoneBehind (drop count (left bag)) old new
+  behind_now again after bag h sees =
+      behind_on (drop (count - 1) (left bag)) (drop count (left bag)) (once has.opens) again (has.behind bag h sees)
+      (rw (to_come bag h sees) (seen_now _ after bag h sees)) (λ f c. dropped_within count (count - 1) (left bag) f (omega arith) c)

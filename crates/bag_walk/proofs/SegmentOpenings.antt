@@ -1,20 +1,20 @@
 -- The payload files that segments open.
-use Rattle.bag_walk.proofs.Common.{◌≡◌, ◌<◌, ◌≤◌, ◌+◌, ◌-◌, ◌*◌, ◌++◌, ◌∙◌, inl, inr, ℕ, suc, Bool, true, not, List, [], Option, None, Some, Contains, length, drop, filter, sym, ap, subst, append-nil, append_assoc, arith, IsStrictlySortedBy, length-append, filter-append, IsListOf, is_payload_path, text_cmp, contains_either, contains_front, contains_nothing, same_members, TreeState, Fault, OpensWanted, Options, kept, Check, filtered_list, NoneBehind, OpensAgain, OpensNoneBehind, IsListedToOpen, is_passed, EndsSegment, looked_past, still_to_come, AreListed, IsListedFile, NoneBehindLast, OpensFew, OpensInSegment, not_passed, cursor_behind, Segment, SegmentEnd}
+use Rattle.bag_walk.proofs.Common.{◌≡◌, ◌<◌, ◌≤◌, ◌+◌, ◌-◌, ◌*◌, ◌++◌, ◌∙◌, inl, inr, ℕ, suc, Bool, true, not, List, [], Option, None, Some, Contains, length, drop, filter, sym, ap, subst, append-nil, append_assoc, arith, IsStrictlySortedBy, length-append, filter-append, IsListOf, is_payload_path, text_cmp, contains_either, contains_front, contains_nothing, same_members, TreeState, Fault, OpensWanted, Options, kept, Check, filtered_list, NoneBehind, OpensAgain, OpensNoneBehind, IsListedToOpen, is_passed, EndsSegment, looked_past, still_to_come, AreListed, IsListedFile, NoneBehindLast, OpensFew, OpensInSegment, not_passed, cursor_behind, Segment, SegmentEnd, not-true}
 use Rattle.bag_walk.specs.declared.segment.SegmentEnd.TheVariants.{Full}
-use Rattle.bag_walk.proofs.Openings.{no_payload, opened_front, payload_of}
-use Rattle.bag_walk.proofs.Passed.{no_more, one_twice, opposite}
+use Rattle.bag_walk.proofs.Filling.{opened_front}
+use Rattle.bag_walk.proofs.Openings.{no_payload, payload_of}
+use Rattle.bag_walk.proofs.Passed.{no_more, one_twice}
 use Rattle.bag_walk.proofs.Places.{at_later, at_place, contains_from}
 
 -- ---- one segment
 
 none_behind_nothing : (last : Option Fault) (paths : List (List ℕ)) → paths ≡ [] → NoneBehindLast last paths
-none_behind_nothing None paths none = none
-none_behind_nothing (Some f) paths none = λ path c. absurd (contains_nothing path (subst (λ l. Contains l path) none c))
+none_behind_nothing last paths none = grind (arith, contains_nothing)
 
 -- where tag files alone were read, no payload file was opened
-pub opens_no_payload : (options : Options) (listed : List (List ℕ)) (cursor last : Option Fault) (old new : TreeState) (end : SegmentEnd) → OpensWanted options old new
-    → OpensInSegment listed cursor last old new end
-opens_no_payload options listed cursor last old new end read =
+pub opens_no_payload : (options : Options) {listed : List (List ℕ)} {cursor last : Option Fault} {old new : TreeState} {end : SegmentEnd}
+    → OpensWanted options old new → OpensInSegment listed cursor last old new end
+opens_no_payload options {listed} {cursor} {last} {old} {new} read =
     let none : filter is_payload_path read.0 ≡ [] = no_payload options old new read read.0 read.1 in
     record {
       opened = read.0;
@@ -29,16 +29,13 @@ pub not_passed_listed : (check : Check) (cursor : Option Fault) (listed : List (
 not_passed_listed check cursor listed are =
     let ahead : List ℕ → Bool = λ path. not (is_passed cursor path) in
     same_members text_cmp (λ path. IsListedFile check.options check.bag path × (ahead path ≡ true)) (IsListedToOpen check cursor) (not_passed cursor listed)
-    (λ path h. (h.0.0, h.0.1, h.0.2, h.0.3, opposite (is_passed cursor path) h.1)) (λ path h. ((h.0, h.1, h.2, h.3), ap not h.4))
+    (λ path h. (h.0.0, h.0.1, h.0.2, h.0.3, not-true (is_passed cursor path) h.1)) (λ path h. ((h.0, h.1, h.2, h.3), ap not h.4))
     (filtered_list text_cmp (IsListedFile check.options check.bag) ahead listed are)
 
 -- tag files were read, and then files were opened that were to be
 module _ (old mid new : TreeState) (options : Options) (todo left : List (List ℕ)) (read : OpensWanted options old mid) (again : OpensAgain todo left mid new) where
   abbrev paths : List (List ℕ)
-  paths = (opened_front todo left mid new again).0
-
-  abbrev more : List (List ℕ)
-  more = (opened_front todo left mid new again).1
+  paths = (opened_front again).0
 
   abbrev opened : List (List ℕ)
   opened = read.0 ++ paths
@@ -48,7 +45,7 @@ module _ (old mid new : TreeState) (options : Options) (todo left : List (List �
 
   none_before : (faults : List Fault) → OpensNoneBehind faults mid new → NoneBehind faults (filter is_payload_path opened)
   none_before faults behind f path c d =
-      behind paths (opened_front todo left mid new again).2 f path c (kept is_payload_path paths path (subst (λ l. Contains l path) payload_is d)).1
+      behind paths (opened_front again).2 f path c (kept is_payload_path paths path (subst (λ l. Contains l path) payload_is d)).1
 
   module _ (n limit : ℕ) (report : List Fault) (segment : Segment) (some : 0 < limit) (ends : EndsSegment (drop n report) limit segment.written segment.end)
       (behind : OpensNoneBehind (still_to_come segment (drop n report)) mid new) where
@@ -90,33 +87,21 @@ module _ (listed : List (List ℕ)) (i unread : ℕ) (cursor last : Option Fault
   abbrev both : List (List ℕ)
   both = so.opened ++ opens.opened
 
-  both_are : new.openings ≡ old.openings ++ both
-  both_are = opens.openings ∙ ap (λ o. o ++ opens.opened) so.openings ∙ append_assoc old.openings so.opened opens.opened
-
-  payload_both : filter is_payload_path both ≡ filter is_payload_path so.opened ++ filter is_payload_path opens.opened
-  payload_both = filter-append is_payload_path so.opened opens.opened
-
-  size : length (filter is_payload_path both) ≡ length (filter is_payload_path so.opened) + length (filter is_payload_path opens.opened)
-  size = ap length payload_both ∙ length-append (filter is_payload_path so.opened) (filter is_payload_path opens.opened)
-
-  ahead : length (not_passed cursor listed) ≡ length (filter is_payload_path opens.opened) + length opens.rest
-  ahead = ap length opens.first ∙ length-append (filter is_payload_path opens.opened) opens.rest
-
   only : (path : List ℕ) → Contains (filter is_payload_path both) path → Contains listed path
-  only path c = elim (contains_either (filter is_payload_path so.opened) (filter is_payload_path opens.opened) path (subst (λ l. Contains l path) payload_both c)) [
+  only path c = elim (contains_either (filter is_payload_path so.opened) (filter is_payload_path opens.opened) path (rw (← filter-append) c)) [
     | inl a ↦ so.only_listed path a
     | inr b ↦ (kept (λ p. not (is_passed cursor p)) listed path (subst (λ l. Contains l path) (sym opens.first) (contains_front (filter is_payload_path opens.opened) opens.rest path b))).1
   ]
 
   -- one segment more, behind which none follows
   pub few_with_last : (segments : ℕ) → i < segments → OpensFew listed segments unread old new
-  few_with_last segments less = grind (arith, both_are, only, size, ahead)
+  few_with_last segments less = grind (arith, only, append_assoc, filter-append, length-append)
 
   -- and one behind which others follow: a full one
   pub full_more : IsStrictlySortedBy text_cmp listed → ((path : List ℕ) → is_passed cursor path ≡ true → is_passed last path ≡ true) → end ≡ Full
       → OpenedSoFar listed (i + 1) unread last old new
-  full_more sorted later full = grind (arith, both_are, only, size, ahead, one_twice)
+  full_more sorted later full = grind (arith, only, append_assoc, filter-append, length-append, one_twice)
 
   -- or one that was unread
   pub unread_more : OpenedSoFar listed (i + 1) (unread + 1) last old new
-  unread_more = grind (arith, both_are, only, size, ahead, no_more)
+  unread_more = grind (arith, only, append_assoc, filter-append, length-append, no_more)

@@ -1,6 +1,6 @@
 -- A segment over a walk that was started behind others.
-use Rattle.bag_walk.proofs.Common.{arith, ◌≡◌, ◌<◌, ◌≤◌, ◌+◌, ℕ, inl, true, List, [], length, drop, filter, Option, None, IsTrue, sym, ap, ◌∙◌, subst, nat_list_cmp_total, is_payload_path, text_cmp, one_list, OutState, Bag, RefusesNothing, TreeState, Keeps, fault_cmp, Fault, fault_cmp_total, OpensWanted, Options, Profile, Check, IsReport, above, Request, OpensAgain, OpensNoneBehind, Sees, IsListedToOpen, IsStarted, IsLastLine, IsLastOf, IsAsked, IfUnread, IsSegment, MayStopRun, still_to_come, AreListed, OpensInSegment, not_passed, cursor_behind, GoesOn, MayStop, Segment, SegmentEnd, AtEnd}
-use Rattle.bag_walk.specs.declared.segment.SegmentEnd.TheVariants.{Full, Unread, Unwritten}
+use Rattle.bag_walk.proofs.Common.{arith, ◌≡◌, ◌<◌, ◌≤◌, ◌+◌, ℕ, inl, true, List, [], length, drop, filter, Option, None, IsTrue, sym, ap, ◌∙◌, subst, nat_list_cmp_total, is_payload_path, text_cmp, one_list, OutState, Bag, RefusesNothing, TreeState, Keeps, fault_cmp, Fault, fault_cmp_total, OpensWanted, Options, Profile, Check, IsReport, above, Request, OpensAgain, OpensNoneBehind, Sees, IsListedToOpen, IsStarted, IsLastLine, IsLastOf, IsAsked, IfUnread, IsSegment, MayStopRun, still_to_come, AreListed, OpensInSegment, not_passed, cursor_behind, GoesOn, MayStop, Segment, SegmentEnd}
+use Rattle.bag_walk.specs.declared.segment.SegmentEnd.TheVariants.{Unread}
 use Rattle.bag_walk.proofs.Running.{sees_of, stop_of_walk}
 use Rattle.bag_walk.proofs.SegmentOpenings.{not_passed_listed, opens_front}
 use Rattle.bag_walk.proofs.SegmentSteps.{above_behind, last_later}
@@ -10,13 +10,11 @@ use Rattle.bag_walk.proofs.Shown.{above_report}
 abbrev asking_of : Options → Option Fault → Request
 asking_of options after = record { options = options; after = after; limit = None; quiet = true; name = [] }
 
-module _ (old mid new : TreeState) (profile : Option Profile) (options : Options) (after : Option Fault) (IsOf : Bag → Type 0) (left : Bag → List Fault) (todo : List (List ℕ))
-    (started : IsStarted old profile options after IsOf left todo) (k : Keeps old mid) where
+module _ {old mid : TreeState} (new : TreeState) {profile : Option Profile} {options : Options} {after : Option Fault} {IsOf : Bag → Type 0}
+    {left : Bag → List Fault} {todo : List (List ℕ)} (started : IsStarted old profile options after IsOf left todo) (k : Keeps old mid) where
   pub stop_of_started : RefusesNothing old mid → (end : SegmentEnd) → IfUnread end (MayStopRun (IsTrue mid.honest → IsOf mid.bag) todo mid new) → IfUnread end (MayStop options old new)
-  stop_of_started calm Full stops = tt
-  stop_of_started calm AtEnd stops = tt
-  stop_of_started calm (Unread stop) stops = stop_of_walk old mid new profile (asking_of options after) IsOf left todo started k calm stop stops
-  stop_of_started calm Unwritten stops = tt
+  stop_of_started calm (Unread stop) stops = stop_of_walk new (asking_of options after) started k calm stop stops
+  stop_of_started calm other stops = tt
 
   module _ (honest : IsTrue old.honest) (report : List Fault) (is : IsReport (record { bag = old.bag; profile = profile; options = options }) report) (n : ℕ) (within : n ≤ length report)
       (behind : after ≡ cursor_behind n report) where
@@ -49,7 +47,7 @@ module _ (old mid new : TreeState) (profile : Option Profile) (options : Options
         → (listed : List (List ℕ)) → AreListed options old.bag listed
         → OpensInSegment listed (cursor_behind n report) (cursor_behind (n + segment.written) report) old new segment.end
     opens_behind read others again limit some before then segment seen none listed are =
-        let sees = sees_of old mid new profile (asking_of options after) IsOf left todo started k (inl honest) in
+        let sees = sees_of new (asking_of options after) started k (inl honest) in
         let s = subst (λ faults. IsSegment faults limit before then segment) left_behind (seen started.seen started.of sees) in
         let b = subst (λ faults. OpensNoneBehind (still_to_come segment faults) mid new) left_behind (none started.seen started.of sees) in
         opens_front old mid new options todo others read again n limit report segment some s.ends b listed (cursor_behind n report) (payload_left listed are)

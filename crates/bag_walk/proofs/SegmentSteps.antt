@@ -1,59 +1,37 @@
 -- Segment after segment of a report.
-use Rattle.bag_walk.proofs.Common.{◌≡◌, ◌<◌, ◌≤◌, ◌+◌, ◌-◌, ◌++◌, ◌∷◌, inl, inr, ℕ, zero, suc, true, false, List, [], length, take, drop, get_or, slice_get, None, Some, refl, sym, ap, ◌∙◌, subst, arith, true≢false, append_assoc, concat, sum, IsStrictlySortedBy, Appends, append_cancel_left, drop_more, drop_all, map-append, OutState, TreeState, Keeps, Stop, TreeFault, Device, Special, Name, NotFound, TooMany, Changed, NoneOpen, Memory, Exists, fault_cmp, Fault, MayRefuseFacts, Options, keeps_itself, keeps_on, later_refusal, above, first, ended, written, written_line, Outcome, Stopped, Unwritten, IsLastLine, IsLastOf, EndsSegment, IfUnread, WroteFirst, AreListed, OpensFew, OpensInSegment, cursor_behind, SegmentsJoin, cost, SegmentsFrom, AreSegments, WroteSegments, MayLose, IsStopped, RunsOfSegments, is_last, outcome_at, MayStop, SegmentEnd}
-use Rattle.std.proofs.lemmas.List.{take-append-drop, length-drop}
+use Rattle.bag_walk.proofs.Common.{◌≡◌, ◌<◌, ◌≤◌, ◌+◌, ◌-◌, ◌++◌, ◌∷◌, inl, inr, ℕ, zero, suc, true, false, List, [], length, take, drop, get_or, None, Some, refl, sym, ap, ◌∙◌, subst, arith, true≢false, append_assoc, take-append-drop, length-drop, take-map, concat, sum, IsStrictlySortedBy, Appends, append_cancel_left, drop_more, drop_all, OutState, TreeState, Keeps, Stop, TreeFault, fault_cmp, Fault, MayRefuseFacts, Options, keeps_itself, keeps_on, later_refusal, above, first, ended, written, written_line, Outcome, Stopped, IsLastLine, IsLastOf, EndsSegment, IfUnread, WroteFirst, AreListed, OpensFew, OpensInSegment, cursor_behind, SegmentsJoin, cost, SegmentsFrom, AreSegments, WroteSegments, MayLose, IsStopped, RunsOfSegments, is_last, outcome_at, MayStop, SegmentEnd, drop-map, drop-take, take-take}
 use Rattle.bag_walk.proofs.Writing.{Appends-append, Appends-nil}
 use Rattle.bag_walk.specs.declared.segment.SegmentEnd.TheVariants as end_of
-use Rattle.bag_walk.proofs.CursorLaw.{cursor_cuts_list}
+use Rattle.bag_walk.proofs.Closed.{end_has_no_stop}
 use Rattle.bag_walk.proofs.Passed.{passed_later}
-use Rattle.bag_walk.proofs.Places.{at_later, at_place}
+use Rattle.bag_walk.proofs.RunLines.{concat_joined}
+use Rattle.bag_walk.proofs.UnitedLists.{above_none}
+use Rattle.bag_walk.proofs.Places.{at_later, at_place, cursor_cuts_list}
 use Rattle.bag_walk.proofs.SegmentOpenings.{OpenedSoFar, few_of, few_with_last, full_more, opened_none, unread_more}
 
 -- ---- what stands behind the first faults
 
-all_above : (faults : List Fault) → above None faults ≡ faults
-all_above [] = refl
-all_above (f ∷ faults) = ap (λ rest. f ∷ rest) (all_above faults)
-
 -- what is above the last of the first n faults is the rest
 pub above_behind : (n : ℕ) (report : List Fault) → IsStrictlySortedBy fault_cmp report → n ≤ length report → above (cursor_behind n report) report ≡ drop n report
-above_behind zero report sorted within = all_above report
+above_behind zero report sorted within = sym (above_none report)
 above_behind (suc n) report sorted within =
     let at = at_place n report (omega arith) in
     let same : suc n ≡ n + 1 = omega arith in
     let cut : take (suc n) report ++ above (Some at.0) report ≡ report = subst (λ k. take k report ++ above (Some at.0) report ≡ report) (sym same) (cursor_cuts_list report n at.0 sorted at.1) in
     ap (λ cursor. above cursor report) at.1 ∙ append_cancel_left (take (suc n) report) _ _ (cut ∙ sym (take-append-drop (suc n) report))
 
-take_nothing : (n : ℕ) → take {A = Fault} n [] ≡ []
-take_nothing zero = refl
-take_nothing (suc n) = refl
-
-take_joined : (n m : ℕ) (faults : List Fault) → take n faults ++ take m (drop n faults) ≡ take (n + m) faults
-take_joined zero m faults = let same : m ≡ 0 + m = omega arith in ap (λ k. take k faults) same
-take_joined (suc n) m [] = take_nothing m ∙ sym (take_nothing (suc n + m))
-take_joined (suc n) m (f ∷ faults) = let same : suc n + m ≡ suc (n + m) = omega arith in rw same (ap (λ rest. f ∷ rest) (take_joined n m faults))
+take_joined : {A : Type 0} (n m : ℕ) (xs : List A) → take n xs ++ take m (drop n xs) ≡ take (n + m) xs
+take_joined n m xs = let within : n ≤ n + m = omega arith in rw (take-take n (n + m) xs within, drop-take n m xs) at (take-append-drop n (take (n + m) xs))
 
 pub segments_join : SegmentsJoin
 segments_join report n m sorted within = ap (λ rest. take n report ++ take m rest) (above_behind n report sorted within) ∙ take_joined n m report
 
--- a line of the rest stands so much later
-line_later : (n k : ℕ) (faults : List Fault) (line : List ℕ) → slice_get (written (drop n faults)) k ≡ Some line → slice_get (written faults) (n + k) ≡ Some line
-line_later zero k faults line at = let same : k ≡ 0 + k = omega arith in subst (λ i. slice_get (written faults) i ≡ Some line) same at
-line_later (suc n) k [] line at = cc
-line_later (suc n) k (x ∷ faults) line at = let same : suc n + k ≡ suc (n + k) = omega arith in rw same (line_later n k faults line at)
-
-lines_joined : (n k : ℕ) (faults : List Fault) → take n (written faults) ++ take k (written (drop n faults)) ≡ take (n + k) (written faults)
-lines_joined zero k faults = let same : k ≡ 0 + k = omega arith in ap (λ i. take i (written faults)) same
-lines_joined (suc n) k [] = lines_of_none k ∙ sym (lines_of_none (suc n + k))
-  where
-    lines_of_none : (i : ℕ) → take {A = List ℕ} i [] ≡ []
-    lines_of_none zero = refl
-    lines_of_none (suc i) = refl
-lines_joined (suc n) k (x ∷ faults) =
-    let same : suc n + k ≡ suc (n + k) = omega arith in rw same (ap (λ rest. written_line x ∷ rest) (lines_joined n k faults))
-
-concat_joined : (xs ys : List (List ℕ)) → concat (xs ++ ys) ≡ concat xs ++ concat ys
-concat_joined [] ys = refl
-concat_joined (x ∷ xs) ys = ap (λ rest. x ++ rest) (concat_joined xs ys) ∙ sym (append_assoc x (concat xs) (concat ys))
+-- the lines of the first faults, and those of the first of the rest
+lines_joined : (n k : ℕ) (faults : List Fault)
+    → concat (written (take n faults)) ++ concat (take k (written (drop n faults))) ≡ concat (take (n + k) (written faults))
+lines_joined n k faults =
+    rw (← take-map written_line n faults, ← drop-map written_line n faults)
+    (sym (concat_joined (take n (written faults)) (take k (drop n (written faults)))) ∙ ap concat (take_joined n k (written faults)))
 
 -- the line of the last of the rest's first faults
 pub last_later : (n k : ℕ) (report : List Fault) (old new : List ℕ) → IsLastLine (cursor_behind n report) old → IsLastOf (drop n report) k old new → IsLastLine (cursor_behind (n + k) report) new
@@ -67,8 +45,7 @@ last_later n (suc k) report old new was (f, at, is) =
 module _ (n k : ℕ) (report : List Fault) (began before after : OutState) (so : Appends began.taken before.taken (concat (written (first n report)))) where
   whole : Appends before.taken after.taken (concat (written (take k (drop n report)))) → Appends began.taken after.taken (concat (written (first (n + k) report)))
   whole more =
-      subst (Appends began.taken after.taken)
-      (sym (concat_joined (written (take n report)) (written (take k (drop n report)))) ∙ ap concat (sym (map-append written_line (take n report) (take k (drop n report))) ∙ ap written (take_joined n k report)))
+      subst (Appends began.taken after.taken) (simp take-map at (lines_joined n k report))
       (Appends-append began.taken before.taken after.taken (concat (written (take n report))) _ so more)
 
   -- what a segment wrote behind what others wrote
@@ -83,58 +60,33 @@ module _ (n k : ℕ) (report : List Fault) (began before after : OutState) (so :
       (
         part,
         rest,
-        line_later n k report (part ++ rest) at,
+        at_later n k (written report) (part ++ rest) (rw (drop-map written_line n report) at),
         some,
         ap (λ b. concat (written (take n report)) ++ b) all
             ∙ sym (append_assoc (concat (written (take n report))) (concat (take k (written (drop n report)))) part)
-            ∙ ap (λ b. b ++ part)
-            (ap (λ l. concat l ++ concat (take k (written (drop n report)))) (lines_taken n report)
-            ∙ sym (concat_joined (take n (written report)) (take k (written (drop n report)))) ∙ ap concat (lines_joined n k report)),
+            ∙ ap (λ b. b ++ part) (lines_joined n k report),
       ),
       Appends-append began.taken before.taken after.taken (concat (written (take n report))) bytes so taken,
     ),
   )
-    where
-      lines_taken : (m : ℕ) (faults : List Fault) → written (take m faults) ≡ take m (written faults)
-      lines_taken zero faults = refl
-      lines_taken (suc m) [] = refl
-      lines_taken (suc m) (f ∷ faults) = ap (λ l. written_line f ∷ l) (lines_taken m faults)
 
 -- ---- why a segment stopped, by what the tree was before all of them and after
 
 paid_by : (cause : TreeFault) (old new : TreeState) → old.failures ≤ new.failures → MayRefuseFacts old new cause → old.failures + cost cause ≤ new.failures
-paid_by Device old new le h = omega arith
-paid_by Special old new le h = let rose : old.failures < new.failures = h.0 in omega arith
-paid_by Name old new le h = let rose : old.failures < new.failures = h.0 in omega arith
-paid_by NotFound old new le h = omega arith
-paid_by TooMany old new le h = omega arith
-paid_by Changed old new le h = omega arith
-paid_by NoneOpen old new le h = omega arith
-paid_by Memory old new le h = omega arith
-paid_by Exists old new le h = omega arith
+paid_by cause old new le h = grind arith
 
 module _ (options : Options) (old mid next new : TreeState) (k : Keeps old mid) (l : Keeps next new) (stop : Stop) where
   -- a stop of one segment, as a stop of them all
   pub may_lose : MayStop options mid next stop → MayLose options old new stop
   may_lose h = grind (arith, later_refusal)
 
-ended_is_no_stop : (options : Options) (limits : List ℕ) (old new : TreeState) (n : ℕ) → IsStopped options limits old new (ended None n)
-ended_is_no_stop options limits old new zero = tt
-ended_is_no_stop options limits old new (suc n) = tt
-
 pub stopped_at_last : (options : Options) (limits : List ℕ) (old mid new : TreeState) (n : ℕ) (end : SegmentEnd) → Keeps old mid → (sum limits ≡ 0 → mid ≡ old) → IfUnread end (MayStop options mid new)
     → IsStopped options limits old new (outcome_at n end)
-stopped_at_last options limits old mid new n end_of.Full k same h = tt
-stopped_at_last options limits old mid new n end_of.AtEnd k same h = ended_is_no_stop options limits old new n
-stopped_at_last options limits old mid new n (end_of.Unread stop) k same h = grind (arith, may_lose, keeps_itself)
-stopped_at_last options limits old mid new n end_of.Unwritten k same h = tt
+stopped_at_last options limits old mid new n end k same h = grind (arith, may_lose, keeps_itself, end_has_no_stop)
 
 -- behind which none follows
 pub last_is_no_stop : (options : Options) (limits : List ℕ) (old new : TreeState) (n : ℕ) (end : SegmentEnd) → is_last end ≡ true → IsStopped options limits old new (outcome_at n end)
-last_is_no_stop options limits old new n end_of.Full last = absurd (true≢false (sym last))
-last_is_no_stop options limits old new n end_of.AtEnd last = ended_is_no_stop options limits old new n
-last_is_no_stop options limits old new n (end_of.Unread stop) last = absurd (true≢false (sym last))
-last_is_no_stop options limits old new n end_of.Unwritten last = tt
+last_is_no_stop options limits old new n end last = grind (arith, end_has_no_stop)
 
 -- ---- segment after segment
 
@@ -167,13 +119,14 @@ so_far_none options report limits old line before none = record {
   opens = λ listed are. opened_none listed old;
 }
 
-module _ (options : Options) (report : List Fault) (limits : List ℕ) (i : ℕ) (old now : TreeState) (count : ℕ) (line : List ℕ) (before after : OutState) (outcome : Outcome)
-    (so : SoFar options report limits i old now count line before after outcome) (kept : Keeps old now) (sorted : IsStrictlySortedBy fault_cmp report) where
+module _ {options : Options} {report : List Fault} {limits : List ℕ} {i : ℕ} {old now : TreeState} {count : ℕ} {line : List ℕ}
+    {before after : OutState} {outcome : Outcome} (so : SoFar options report limits i old now count line before after outcome)
+    (kept : Keeps old now) (sorted : IsStrictlySortedBy fault_cmp report) where
   -- all limits were gone through
   pub all_segments : length limits ≤ i → RunsOfSegments options report limits old now before after outcome
   all_segments past = grind (arith, keeps_itself, drop_all, few_of)
 
-  module _ (m : ℕ) (new : TreeState) (k : ℕ) (next : List ℕ) (then : OutState) (less : i < length limits) (is : m ≡ get_or limits i 0) (keeps : Keeps now new)
+  module _ {m : ℕ} {new : TreeState} (k : ℕ) (next : List ℕ) (then : OutState) (less : i < length limits) (is : m ≡ get_or limits i 0) (keeps : Keeps now new)
       (last : IsLastLine (cursor_behind (count + k) report) next) where
     at_limit : drop i limits ≡ m ∷ drop (i + 1) limits
     at_limit = drop_more limits i 0 less ∙ ap (λ limit. limit ∷ drop (i + 1) limits) (sym is)
@@ -207,7 +160,6 @@ module _ (options : Options) (report : List Fault) (limits : List ℕ) (i : ℕ)
           full_more listed i so.unread (cursor_behind count report) (cursor_behind (count + k) report) old now new end_of.Full (so.opens listed are) (front listed are) are.ascending
           (passed_later count k report sorted (omega (arith, ends.1, left, so.within))) refl;
     }
-    one_segment_more end_of.AtEnd goes ends wrote stops front = absurd (true≢false goes)
     one_segment_more (end_of.Unread stop) goes ends wrote stops front =
         let paid : now.failures + cost stop.cause ≤ new.failures = paid_by stop.cause now new keeps.failures stops.cause in record {
           lost = so.lost + cost stop.cause;
@@ -224,31 +176,26 @@ module _ (options : Options) (report : List Fault) (limits : List ℕ) (i : ℕ)
           opens = λ listed are.
               unread_more listed i so.unread (cursor_behind count report) (cursor_behind (count + k) report) old now new (end_of.Unread stop) (so.opens listed are) (front listed are);
         }
-    one_segment_more end_of.Unwritten goes ends wrote stops front = absurd (true≢false goes)
+    one_segment_more other goes ends wrote stops front = absurd (true≢false goes)
 
     -- and one behind which none follows
+    none_follows : (end : SegmentEnd) → is_last end ≡ true → EndsSegment (drop count report) m k end
+        → SegmentsFrom report (MayLose options old new) so.lost so.unread count outcome (drop i limits)
+        so.lost so.unread (count + k) (outcome_at (count + k) end)
+    none_follows end_of.AtEnd ends_all ends =
+        let all : count + k ≡ length report = omega (arith, ends.1, left, so.within) in
+        rw at_limit (inr (inl (omega (arith, ends.0, ends.1, left), refl, refl, all, ap (ended None) all)))
+    none_follows end_of.Unwritten ends_all ends = rw at_limit (inr (inr (inr (k, ends.0, omega (arith, ends.1, left), refl, refl, refl, refl))))
+    none_follows other ends_all ends = absurd (true≢false (sym ends_all))
+
     pub last_segment : (end : SegmentEnd) → is_last end ≡ true → EndsSegment (drop count report) m k end → WroteFirst (drop count report) k after then end → OpensFront end
         → RunsOfSegments options report limits old new before then (outcome_at (count + k) end)
-    last_segment end_of.Full ends_all ends wrote front = absurd (true≢false (sym ends_all))
-    last_segment end_of.AtEnd ends_all ends wrote front =
-        let all : count + k ≡ length report = omega (arith, ends.1, left, so.within) in record {
-          lost = so.lost;
-          unread = so.unread;
-          count = count + k;
-          segments = so.follows new keeps so.lost so.unread (count + k) (ended None (count + k))
-              (rw at_limit (inr (inl (omega (arith, ends.0, ends.1, left), refl, refl, all, ap (ended None) all))));
-          few_lost = omega (arith, so.few_lost, keeps.failures);
-          wrote = wrote_on count k report before after then so.wrote end_of.AtEnd wrote;
-          opens = few_then end_of.AtEnd front;
-        }
-    last_segment (end_of.Unread stop) ends_all ends wrote front = absurd (true≢false (sym ends_all))
-    last_segment end_of.Unwritten ends_all ends wrote front = record {
+    last_segment end ends_all ends wrote front = record {
       lost = so.lost;
       unread = so.unread;
       count = count + k;
-      segments = so.follows new keeps so.lost so.unread (count + k) (Unwritten (count + k))
-          (rw at_limit (inr (inr (inr (k, ends.0, omega (arith, ends.1, left), refl, refl, refl, refl)))));
+      segments = so.follows new keeps so.lost so.unread (count + k) _ (none_follows end ends_all ends);
       few_lost = omega (arith, so.few_lost, keeps.failures);
-      wrote = wrote_on count k report before after then so.wrote end_of.Unwritten wrote;
-      opens = few_then end_of.Unwritten front;
+      wrote = wrote_on count k report before after then so.wrote end wrote;
+      opens = few_then end front;
     }

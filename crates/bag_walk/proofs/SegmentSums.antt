@@ -1,5 +1,5 @@
 -- What segments come to where nothing is refused.
-use Rattle.bag_walk.proofs.Common.{◌≡◌, ◌≢◌, ◌<◌, ◌≤◌, ◌+◌, ◌∷◌, ◌∙◌, inl, inr, ℕ, cond, List, [], None, length, min, nat_le, subst, arith, sum, nat_tests, sum_by-cons, Fault, ended, Outcome, Stopped, Unwritten, SegmentsFrom}
+use Rattle.bag_walk.proofs.Common.{◌≡◌, ◌≢◌, ◌<◌, ◌≤◌, ◌+◌, ◌∷◌, inl, inr, ℕ, cond, List, [], None, length, min, nat_le, arith, sum, nat_tests, sum_by-cons, Fault, ended, Outcome, Stopped, Unwritten, SegmentsFrom}
 use Rattle.bag_walk.specs.SegmentLaws.{SegmentsAddUp}
 
 abbrev AddUp : List Fault → ℕ → ℕ → ℕ → ℕ → ℕ → ℕ → Outcome → Type 0
@@ -14,13 +14,9 @@ module _ (report : List Fault) where
       → SegmentsFrom report (λ stop. ⊥) u r n (Stopped n) limits u' r' n' outcome' → AddUp report (n + sum limits) u r u' r' n' outcome'
   from [] u r n u' r' n' outcome' within written (lost, unread, count, last) = grind (arith, nat_le, nat_tests)
   from (m ∷ limits) u r n u' r' n' outcome' within written (inl (full, rest)) =
-      let same : n + m + sum limits ≡ n + sum (m ∷ limits) = omega (arith, sum_by-cons (λ (x : ℕ). x) m limits) in
-      let P : ℕ → Type 0 = λ all. AddUp report all u r u' r' n' outcome' in
-      subst P same (from limits u r (n + m) u' r' n' outcome' (omega (arith, full, within)) written rest)
+      grind (arith, sum_by-cons (λ (x : ℕ). x) m limits, from limits u r (n + m) u' r' n' outcome')
   from (m ∷ limits) u r n u' r' n' outcome' within written (inr (inl (less, lost, unread, count, last))) =
-      let past : length report < n + sum (m ∷ limits) = omega (arith, less, within, sum_by-cons (λ (x : ℕ). x) m limits) in
-      let whole = past_end (n + sum (m ∷ limits)) u r past in
-      (lost ∙ whole.0, unread ∙ whole.1, count ∙ whole.2, last ∙ whole.3)
+      grind (arith, past_end, sum_by-cons (λ (x : ℕ). x) m limits)
   from (m ∷ limits) u r n u' r' n' outcome' within written (inr (inr (inl stopped))) = absurd stopped.4
   from (m ∷ limits) u r n u' r' n' outcome' within written (inr (inr (inr unwritten))) = absurd (written _ unwritten.6)
 

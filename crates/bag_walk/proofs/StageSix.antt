@@ -1,5 +1,5 @@
 -- The faults of completeness and of names above a cursor.
-use Rattle.bag_walk.proofs.Common.{◌≡◌, ◌⊎◌, inl, inr, ◌<◌, ◌≤◌, ◌&&◌, ◌+◌, ◌++◌, ◌∷◌, ℕ, List, [], length, take, get_or, Bool, true, false, Option, arith, refl, ap, sym, ◌∙◌, subst, get_or_default, algs, stage, IsListOf, Code, NoOxum, NameClash, contains_nothing, nothing_listed, same_members, Bag, fault_cmp, Fault, take_one_more, reaches, Options, OfSome, of_last_or_before, of_one_more, IsSoughtClash, IsIncomplete, IsUnlistedInAll, IsWrong, Check, is_above, IsReported, asked_clash, not_reached, filtered_list, is_of_completeness, of_completeness, IsAbove, IsOfAlg, IsOfSomeAlg, IsSoughtAbove, IsStageAbove, union}
+use Rattle.bag_walk.proofs.Common.{◌≡◌, ◌⊎◌, inl, inr, ◌<◌, ◌≤◌, ◌+◌, ◌++◌, ◌∷◌, ℕ, List, [], length, take, get_or, Bool, true, false, Option, arith, refl, sym, subst, get_or_default, algs, stage, IsListOf, Code, NameClash, contains_nothing, nothing_listed, same_members, Bag, fault_cmp, Fault, take_one_more, reaches, Options, OfSome, of_last_or_before, of_one_more, IsSoughtClash, IsIncomplete, IsUnlistedInAll, IsWrong, Check, is_above, IsReported, asked_clash, not_reached, filtered_list, is_of_completeness, of_completeness, IsAbove, IsOfAlg, IsOfSomeAlg, IsSoughtAbove, IsStageAbove, union, cases_Bool}
 use Rattle.bag_text.specs.declared.alg.Alg.{Alg}
 use Rattle.bag_text.proofs.AlgSets.{each_is_listed}
 use Rattle.bag_stages.proofs.ByPath.{take_whole}
@@ -35,7 +35,7 @@ module _ (after : Option Fault) (bag : Bag) where
       let at : alg ≡ get_or algs i alg = sym (get_or_default algs i alg any lt) in
       subst (λ some. IsListOf fault_cmp (IsAbove after (OfAlgs some)) (union faults of_alg)) (sym (take_one_more algs i alg lt at))
       (same_above after (λ f. OfAlgs before f ⊎ IsOfAlg bag alg f) (OfAlgs (before ++ alg ∷ [])) (union faults of_alg) (of_one_more (IsOfAlg bag) before alg) (of_last_or_before (IsOfAlg bag) before alg)
-      (united after (OfAlgs before) (IsOfAlg bag alg) faults of_alg first next))
+      (united after (OfAlgs before) (IsOfAlg bag alg) first next))
 
   pub all_algs : (i : ℕ) (faults : List Fault) → length algs ≤ i → IsListOf fault_cmp (IsAbove after (OfAlgs (take i algs))) faults
       → IsListOf fault_cmp (IsAbove after (IsOfSomeAlg bag)) faults
@@ -44,40 +44,33 @@ module _ (after : Option Fault) (bag : Bag) where
       (subst (λ some. IsListOf fault_cmp (IsAbove after (OfAlgs some)) faults) (take_whole algs i le) list)
 
   to_incomplete : (f : Fault) → IsOfSomeAlg bag f ⊎ IsUnlistedInAll bag f → IsIncomplete bag f
-  to_incomplete f (inl (alg, inl (inl h))) = inl (inl (alg, h))
-  to_incomplete f (inl (alg, inl (inr h))) = inr (inl (alg, h))
-  to_incomplete f (inl (alg, inr h)) = inl (inr (alg, h))
-  to_incomplete f (inr h) = inr (inr h)
+  to_incomplete f h = grind arith
 
   from_incomplete : (f : Fault) → IsIncomplete bag f → IsOfSomeAlg bag f ⊎ IsUnlistedInAll bag f
-  from_incomplete f (inl (inl (alg, h))) = inl (alg, inl (inl h))
-  from_incomplete f (inl (inr (alg, h))) = inl (alg, inr h)
-  from_incomplete f (inr (inl (alg, h))) = inl (alg, inl (inr h))
-  from_incomplete f (inr (inr h)) = inr h
+  from_incomplete f h = grind arith
 
   -- and those of all payload manifests at once
   pub algs_and_all : (of_algs of_all : List Fault) → IsListOf fault_cmp (IsAbove after (IsOfSomeAlg bag)) of_algs → IsListOf fault_cmp (IsAbove after (IsUnlistedInAll bag)) of_all
       → IsListOf fault_cmp (IsAbove after (IsIncomplete bag)) (union of_algs of_all)
   algs_and_all of_algs of_all p q =
       same_above after (λ f. IsOfSomeAlg bag f ⊎ IsUnlistedInAll bag f) (IsIncomplete bag) (union of_algs of_all) to_incomplete from_incomplete
-      (united after (IsOfSomeAlg bag) (IsUnlistedInAll bag) of_algs of_all p q)
+      (united after (IsOfSomeAlg bag) (IsUnlistedInAll bag) p q)
 
   -- and the clashes of names
   pub all_sought : (clashes : Bool) (files names : List Fault) → IsListOf fault_cmp (IsAbove after (IsIncomplete bag)) files
       → IsListOf fault_cmp (IsAbove after (IsSoughtClash clashes bag)) names → IsListOf fault_cmp (IsSoughtAbove clashes bag after) (union files names)
   all_sought clashes files names p q =
       same_above after (λ f. IsIncomplete bag f ⊎ IsSoughtClash clashes bag f) (IsSoughtInStageSix clashes bag) (union files names) (sought_is bag clashes) (is_sought bag clashes)
-      (united after (IsIncomplete bag) (IsSoughtClash clashes bag) files names p q)
+      (united after (IsIncomplete bag) (IsSoughtClash clashes bag) p q)
 
 -- what is asked for of a stage that the depth reaches
 asked_at_six : (options : Options) (c : Code) → reaches options.depth 6 ≡ true → stage c ≡ 6 → (c ≡ NameClash → options.clashes ≡ true) → asks options c ≡ true
 unfolding asks
-asked_at_six options NoOxum reach at sought = absurd (omega (arith, at))
-asked_at_six options NameClash reach at sought = ap (λ b. b && reaches options.depth 6) (sought refl) ∙ reach
-asked_at_six options other reach at sought = subst (λ n. reaches options.depth n ≡ true) (sym at) reach
+asked_at_six options c reach at sought = grind arith
 
 module _ (check : Check) (after : Option Fault) (faults : List Fault) where
-  pub reached_part : reaches check.options.depth 6 ≡ true → IsListOf fault_cmp (IsSoughtAbove check.options.clashes check.bag after) faults → IsStageAbove check 6 after faults
+  reached_part : reaches check.options.depth 6 ≡ true
+      → IsListOf fault_cmp (IsSoughtAbove check.options.clashes check.bag after) faults → IsStageAbove check 6 after faults
   reached_part reach list =
       same_above after (IsSoughtInStageSix check.options.clashes check.bag) (λ f. IsReported check f × (stage f.code ≡ 6)) faults
       (λ f h. let at : stage f.code ≡ 6 = completeness_of_stage_six check.bag f h.0 in
@@ -85,15 +78,10 @@ module _ (check : Check) (after : Option Fault) (faults : List Fault) where
       (λ f h. (of_completeness check.bag check.profile f h.0.0 h.1, asked_clash check.options f.code h.0.1))
       list
 
-  pub part_beyond : reaches check.options.depth 6 ≡ false → faults ≡ [] → IsStageAbove check 6 after faults
-  part_beyond beyond none = rw none (filtered_list fault_cmp _ (is_above after) [] (not_reached check 6 [] beyond refl))
-
-  part_by : (reach : Bool) → reaches check.options.depth 6 ≡ reach → (reaches check.options.depth 6 ≡ true → IsListOf fault_cmp (IsSoughtAbove check.options.clashes check.bag after) faults)
-      → (reaches check.options.depth 6 ≡ false → faults ≡ []) → IsStageAbove check 6 after faults
-  part_by true e sought none = reached_part e (sought e)
-  part_by false e sought none = part_beyond e (none e)
-
   -- both as the part of the report
   pub part_of_report : (reaches check.options.depth 6 ≡ true → IsListOf fault_cmp (IsSoughtAbove check.options.clashes check.bag after) faults)
       → (reaches check.options.depth 6 ≡ false → faults ≡ []) → IsStageAbove check 6 after faults
-  part_of_report sought none = part_by (reaches check.options.depth 6) refl sought none
+  part_of_report sought none = elim (cases_Bool (reaches check.options.depth 6)) [
+    | inl e ↦ reached_part e (sought e)
+    | inr e ↦ rw (none e) (filtered_list fault_cmp _ (is_above after) [] (not_reached check 6 [] e refl))
+  ]

@@ -1,11 +1,10 @@
 -- Two ascending lists of faults as one, of which the least is taken.
-use Rattle.bag_walk.proofs.Common.{◌≡◌, ◌⊎◌, inl, inr, ◌++◌, ◌∷◌, List, [], Option, None, Some, IsSome, drop, length, Contains, arith, refl, ap, sym, ◌∙◌, append-nil, append_assoc, if◌then◌else◌, option_copied, option_to_list, is_gt, Ordering, Less, Equal, Greater, IsListOf, contains_back, contains_either, contains_front, contains_nothing, one_list, fault_cmp, Fault, fault_cmp_total, above, is_above, filtered_list, IsAbove, TakesLeast, fronts, union, union_is, first_of, rest_of, first_of_union}
-use Rattle.std.proofs.Common.{Bor}
+use Rattle.bag_walk.proofs.Common.{◌≡◌, ◌⊎◌, ◌++◌, ◌∷◌, List, [], Option, None, Some, IsSome, drop, length, Contains, arith, refl, ap, sym, ◌∙◌, append-nil, append_assoc, option_copied, option_to_list, is_gt, Ordering, Less, Equal, Greater, IsListOf, contains_back, contains_either, contains_front, one_list, fault_cmp, Fault, fault_cmp_total, above, is_above, filtered_list, IsAbove, TakesLeast, fronts, union, union_is, first_of, rest_of, first_of_union, Bor}
 use Rattle.std.specs.List.Sorted.{IsStrictlySortedBy}
 use Rattle.std.specs.Slice.{IsItemAt}
 use Rattle.bag_walk.specs.Lists.{nothing_left}
 use Rattle.bag_walk.proofs.Merging.{left_equal, left_greater, left_less}
-use Rattle.bag_walk.proofs.Rest.{rest_ascends}
+use Rattle.bag_walk.proofs.Places.{rest_ascends}
 
 -- without a cursor each fault is left
 pub above_none : (faults : List Fault) → faults ≡ above None faults
@@ -25,20 +24,12 @@ popped_is [] ys (Some y) parts rest = let clash : [] ≡ y ∷ ys = parts in cc
 popped_is (x ∷ xs) ys None parts rest = absurd (omega (arith, ap length parts, ap length rest))
 popped_is (x ∷ xs) ys (Some y) parts rest = let same : x ∷ xs ≡ y ∷ ys = parts in cc
 
-pub popped_rest : {A : Type 0} (xs : List A) → drop 1 xs ≡ rest_of xs
-popped_rest [] = refl
-popped_rest (x ∷ xs) = refl
-
-pub nothing_by_length : {A : Type 0} (xs : List A) → length xs ≡ 0 → xs ≡ []
-nothing_by_length [] none = refl
-nothing_by_length (x ∷ xs) none = absurd (omega arith)
-
 -- a list and nothing
 module _ (xs : List Fault) (s : IsStrictlySortedBy fault_cmp xs) where
   pub union_nothing : xs ≡ union xs []
   union_nothing =
       one_list fault_cmp fault_cmp_total (Contains (xs ++ [])) xs (union xs [])
-      (record { ascending = s; members = λ f. (λ c. contains_front xs [] f c, λ c. elim (contains_either xs [] f c) [ inl a ↦ a | inr b ↦ absurd (contains_nothing f b) ]) }) (union_is xs [])
+      (record { ascending = s; members = λ f. rw append-nil (λ c. c, λ c. c) }) (union_is xs [])
 
   pub nothing_union : xs ≡ union [] xs
   nothing_union = one_list fault_cmp fault_cmp_total (Contains xs) xs (union [] xs) (record { ascending = s; members = λ f. (λ c. c, λ c. c) }) (union_is [] xs)
@@ -53,20 +44,10 @@ module _ (fs gs : List Fault) (p : IsStrictlySortedBy fault_cmp fs) (q : IsStric
   order = fronts (first_of fs) (first_of gs)
 
   pub takes_less : order ≡ Less → TakesLeast fs gs (first_of fs) (rest_of fs) gs
-  takes_less e = record {
-    first = first_of_union fs gs p q ∙ ap (λ o. if is_gt o then first_of gs else first_of fs) e;
-    rest = left_less fs gs p q (first_of fs) (first_of gs) (refl, refl) e (rest_of fs) refl;
-    ascends = rest_ascends fs p;
-    others_ascend = q;
-  }
+  takes_less e = grind (arith, first_of_union, is_gt, first_of, rest_ascends, rest_of, left_less)
 
   pub takes_greater : order ≡ Greater → TakesLeast fs gs (first_of gs) fs (rest_of gs)
-  takes_greater e = record {
-    first = first_of_union fs gs p q ∙ ap (λ o. if is_gt o then first_of gs else first_of fs) e;
-    rest = left_greater fs gs p q (first_of fs) (first_of gs) (refl, refl) e (rest_of gs) refl;
-    ascends = p;
-    others_ascend = rest_ascends gs q;
-  }
+  takes_greater e = grind (arith, first_of_union, is_gt, first_of, rest_ascends, rest_of, left_greater)
 
 pub takes_equal : (fs gs : List Fault) → IsStrictlySortedBy fault_cmp fs → IsStrictlySortedBy fault_cmp gs → fronts (first_of fs) (first_of gs) ≡ Equal
     → TakesLeast fs gs (first_of fs) (rest_of fs) (rest_of gs)
@@ -89,17 +70,11 @@ module _ (fs gs taken left others_left : List Fault) (has : HasTaken fs gs taken
   all_taken more others_more takes = sym (append-nil taken) ∙ ap (λ rest. taken ++ rest) (sym (nothing_left (union left others_left) (sym takes.first))) ∙ has.parts
 
 -- what is above a cursor of two sets
-module _ (after : Option Fault) (P Q : Fault → Type 0) (xs ys : List Fault) (p : IsListOf fault_cmp (IsAbove after P) xs) (q : IsListOf fault_cmp (IsAbove after Q) ys) where
+module _ (after : Option Fault) (P Q : Fault → Type 0) {xs ys : List Fault} (p : IsListOf fault_cmp (IsAbove after P) xs) (q : IsListOf fault_cmp (IsAbove after Q) ys) where
   pub united : IsListOf fault_cmp (IsAbove after (λ f. P f ⊎ Q f)) (union xs ys)
   united = record {
     ascending = (union_is xs ys).ascending;
-    members = λ f. (
-      λ c. elim (contains_either xs ys f (((union_is xs ys).members f).0 c)) [
-        | inl a ↦ (let h = (p.members f).0 a in (inl h.0, h.1))
-        | inr b ↦ (let h = (q.members f).0 b in (inr h.0, h.1))
-      ],
-      λ h. ((union_is xs ys).members f).1 (elim h.0 [ inl a ↦ contains_front xs ys f ((p.members f).1 (a, h.1)) | inr b ↦ contains_back xs ys f ((q.members f).1 (b, h.1)) ]),
-    );
+    members = λ f. grind (arith, (union_is xs ys).members f, contains_either xs ys f, contains_front xs ys f, contains_back xs ys f, p.members f, q.members f);
   }
 
 pub cut_above : (after : Option Fault) (P : Fault → Type 0) (xs : List Fault) → IsListOf fault_cmp P xs → IsListOf fault_cmp (IsAbove after P) (above after xs)

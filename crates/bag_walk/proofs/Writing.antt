@@ -1,42 +1,32 @@
 -- A text is written piece by piece.
-use Rattle.bag_walk.proofs.Common.{◌≡◌, ℕ, zero, suc, get_or, ◌∷◌, ◌+◌, ◌<◌, ◌++◌, List, [], length, take, drop, Option, None, Some, refl, ap, sym, ◌∙◌, subst, append_assoc, append-nil, take-append-drop, arith, common_steps, take-append-add, MatchResult-weaker, Result, Appends, Bor, OutState, IsCut, IsTaken, Writes, text_of}
-use Rattle.std.proofs.Common.{length-append}
+use Rattle.bag_walk.proofs.Common.{◌≡◌, ℕ, zero, suc, get_or, ◌∷◌, ◌+◌, ◌<◌, ◌++◌, List, [], length, take, drop, Option, refl, ap, sym, ◌∙◌, subst, append_assoc, append-nil, take-append-drop, arith, common_steps, take-append-add, MatchResult-weaker, Result, Appends, Bor, OutState, IsCut, IsTaken, Writes, text_of, length-append, take_at}
 use Rattle.std.specs.Io.KnownBytes.{Keeps}
 use Rattle.bag_tree.specs.declared.out.Refused.{Refused}
 
 -- nothing was written yet
 pub Appends-nil : (old : Option (List ℕ)) → Appends old old []
-Appends-nil None = tt
-Appends-nil (Some xs) = sym (append-nil xs)
+Appends-nil old = grind (arith, append-nil)
 
 -- one text after another
 pub Appends-append : (old mid new : Option (List ℕ)) (first second : List ℕ) → Appends old mid first → Appends mid new second → Appends old new (first ++ second)
-Appends-append None mid new first second p q = tt
-Appends-append (Some xs) None new first second p q = absurd p
-Appends-append (Some xs) (Some ys) None first second p q = absurd q
-Appends-append (Some xs) (Some ys) (Some zs) first second p q = q ∙ ap (λ front. front ++ second) p ∙ append_assoc xs first second
+Appends-append old mid new first second p q = grind (arith, append_assoc)
 
 Appends-keeps : (old mid new : Option (List ℕ)) (text : List ℕ) → Appends old mid text → Keeps mid new → Appends old new text
-Appends-keeps None mid new text p k = tt
-Appends-keeps (Some xs) None new text p k = absurd p
-Appends-keeps (Some xs) (Some ys) None text p k = absurd k
-Appends-keeps (Some xs) (Some ys) (Some zs) text p k = k ∙ p
+Appends-keeps old mid new text p k = grind arith
 
 -- a call took some more
 pub taken_more : (old mid new : Option (List ℕ)) (text rest : List ℕ) (n : ℕ) → IsTaken old mid text rest → Appends mid new (take n rest) → IsTaken old new text (drop n rest)
 taken_more old mid new text rest n so_far more = grind (arith, take-append-drop, append_assoc, Appends-append)
 
-take_front : (text front rest : List ℕ) → text ≡ front ++ rest → take (length front) text ≡ front
-take_front text front rest e = grind (arith, common_steps)
-
 -- a call refused, and some of the text was left
 pub cut_off : (old mid new : Option (List ℕ)) (text rest : List ℕ) → 0 < length rest → IsTaken old mid text rest → Keeps mid new → IsCut old new text
 cut_off old mid new text rest some so_far kept =
-    let size : length text ≡ length so_far.front + length rest = ap length so_far.joins ∙ length-append so_far.front rest in
-    (length so_far.front, omega arith, subst (Appends old new) (sym (take_front text so_far.front rest so_far.joins)) (Appends-keeps old mid new so_far.front so_far.taken kept))
-
-take_past_first : (first second : List ℕ) (n : ℕ) → take (length first + n) (first ++ second) ≡ first ++ take n second
-take_past_first first second n = take-append-add first second n
+    let size : length text ≡ length so_far.front + length rest = ap length so_far.joins ∙ length-append so_far.front rest in (
+      length so_far.front,
+      omega arith,
+      rw (so_far.joins, take_at so_far.front rest (length so_far.front) refl)
+          (Appends-keeps old mid new so_far.front so_far.taken kept),
+    )
 
 -- a text that was cut off is a cut of a longer one
 pub IsCut-append : (old new : Option (List ℕ)) (first second : List ℕ) → IsCut old new first → IsCut old new (first ++ second)
@@ -45,8 +35,12 @@ IsCut-append old new first second cut = grind (arith, length-append, common_step
 -- and so is one whose second part was cut off
 pub append-IsCut : (old mid new : Option (List ℕ)) (first second : List ℕ) → Appends old mid first → IsCut mid new second → IsCut old new (first ++ second)
 append-IsCut old mid new first second taken cut =
-    let within : cut.0 < length second = cut.1 in
-    (length first + cut.0, omega (arith, length-append first second), subst (Appends old new) (sym (take_past_first first second cut.0)) (Appends-append old mid new first (take cut.0 second) taken cut.2))
+    let within : cut.0 < length second = cut.1 in (
+      length first + cut.0,
+      omega (arith, length-append first second),
+      rw (take-append-add first second cut.0)
+          (Appends-append old mid new first (take cut.0 second) taken cut.2),
+    )
 
 -- a second text after a first
 pub writes_after : (old mid new : OutState) (first second : List ℕ) (result : Result (Unit {0}) Refused) → Writes mid new second result → Appends old.taken mid.taken first → Writes old new (first ++ second) result

@@ -1,4 +1,4 @@
-use Rattle.bag_walk.proofs.Common.{option_copied, IfOk-weaker, IsListOf, fault_cmp, IsSoughtClash, IsAbove}
+use Rattle.bag_walk.proofs.Common.{option_copied, IfOk-weaker, IsSoughtClash}
 use Rattle.bag_walk.proofs.StageSix.{all_sought}
 use Rattle.bag_walk.proofs.UnitedLists.{cut_above}
 use Rattle.bag_walk.proofs.completeness.sought.Goals as goal
@@ -9,8 +9,6 @@ returns c = IfOk-weaker c.merged.result _ _
     let after = option_copied c.args.after in
     let clashes = c.args.facts.now.options.clashes in
     let files = c.in_ok-of_files.ensures bag facts deep in
-    let names : IsListOf fault_cmp (IsAbove after (IsSoughtClash clashes bag)) c.above-of_names.result.items =
-    rw c.above-of_names.ensures (cut_above after (IsSoughtClash clashes bag) c.in_ok-clashes_asked.field-0.items (c.in_ok-clashes_asked.ensures bag facts deep)) in
-    rw (is files.ascending names.ascending)
-    (all_sought after bag clashes c.in_ok-of_files.of_files.items c.above-of_names.result.items files names))
+    let names = cut_above after (IsSoughtClash clashes bag) _ (c.in_ok-clashes_asked.ensures bag facts deep) in
+    rw (is files.ascending (rw c.above-of_names.ensures names.ascending), c.above-of_names.ensures) (all_sought after bag clashes _ _ files names))
     c.merged.ensures

@@ -1,5 +1,5 @@
-use Rattle.bag_walk.proofs.Common.{subst, option_copied, paths_of, IsToSum, IsStrictlySortedBy, text_cmp}
-use Rattle.bag_walk.proofs.Chosen.{all_chosen, none_chosen, one_added, one_passed_over}
+use Rattle.bag_walk.proofs.Common.{subst, option_copied, paths_of, IsToSum, IsStrictlySortedBy, text_cmp, take_all}
+use Rattle.bag_walk.proofs.Chosen.{none_chosen, one_added, one_passed_over}
 use Rattle.bag_walk.proofs.files.files_to_sum.Goals as goal
 
 pub loop-file-init : goal.loop-file-init
@@ -25,6 +25,5 @@ loop-file-preserved c = λ bag of full.
 
 pub returns-clause-files : goal.returns-clause-files
 returns-clause-files c = λ bag of full.
-    let after = option_copied c.args.after in
-    rw c.files-file-items.ensures at
-    (all_chosen bag after c.files-file-items.result.now c.loop-file.file-index c.loop-file.files.items c.loop-file-test.false (c.loop-file.invariant bag of full))
+    let files = c.files-file-items in
+    rw (take_all c.loop-file.file-index files.result.now c.loop-file-test.false, files.ensures) at (c.loop-file.invariant bag of full)

@@ -1,5 +1,5 @@
 use Rattle.bag_walk.proofs.Common.{IsTrue}
-use Rattle.bag_walk.proofs.Walked.{stops_segment, within_limit}
+use Rattle.bag_walk.proofs.Running.{stops_segment, within_limit}
 use Rattle.bag_walk.proofs.segments.segment_of_walk.Goals as goal
 
 pub returns-clause-bounded : goal.returns-clause-bounded

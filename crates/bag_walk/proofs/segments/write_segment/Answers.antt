@@ -1,5 +1,4 @@
-use Rattle.bag_walk.proofs.Common.{◌≡◌, ◌+◌, inr, refl, subst, arith, string_bytes, option_copied, nothing_asked, IsLastLine, cursor_behind}
-use Rattle.bag_facts.proofs.Opens.{opens_none as reads_none}
+use Rattle.bag_walk.proofs.Common.{◌≡◌, ◌+◌, inr, refl, arith, nothing_asked, reads_none}
 use Rattle.bag_walk.proofs.Running.{memory_may_stop, stop_of_reading}
 use Rattle.bag_walk.proofs.SegmentOpenings.{opens_no_payload}
 use Rattle.bag_walk.proofs.SegmentStart.{goes_on, opens_behind, stop_of_started}
@@ -8,42 +7,37 @@ use Rattle.bag_walk.proofs.segments.write_segment.Goals as goal
 
 pub returns-in-Ok-start-clause-stop : goal.returns-in-Ok-start-clause-stop
 returns-in-Ok-start-clause-stop g c =
-    let state = g.T.Tree.state in
     let begun = c.in-Ok-start.ensures in
-    stop_of_started (state c.args.tree) (state c.in-Ok-start.walk.tree) (state c.segment_of_walk.result.0) (option_copied c.args.profile) c.args.options c.in-Ok.after _ _ _ begun.started begun.keeps
-    begun.calm c.segment_of_walk.result.1.end c.segment_of_walk.ensures.stop
+    let then = c.segment_of_walk in
+    stop_of_started (g.T.Tree.state then.result.0) begun.started begun.keeps begun.calm then.result.1.end then.ensures.stop
 
 pub returns-in-Ok-start-clause-segment : goal.returns-in-Ok-start-clause-segment
 returns-in-Ok-start-clause-segment g c = λ honest report is n within was.
-    let state = g.T.Tree.state in
     let begun = c.in-Ok-start.ensures in
-    goes_on (state c.args.tree) (state c.in-Ok-start.walk.tree) (state c.segment_of_walk.result.0) (option_copied c.args.profile) c.args.options c.in-Ok.after _ _ _ begun.started begun.keeps
-    honest report is n within (c.in-Ok.ensures _ was) c.args.limit _ _ _ _ c.segment_of_walk.result.1 was c.segment_of_walk.ensures.seen c.segment_of_walk.ensures.last
+    let then = c.segment_of_walk in
+    goes_on (g.T.Tree.state then.result.0) begun.started begun.keeps honest report is n within (c.in-Ok.ensures _ was) c.args.limit _ _ _ _ then.result.1 was
+    then.ensures.seen then.ensures.last
+
+pub returns-in-Ok-start-clause-opens : goal.returns-in-Ok-start-clause-opens
+returns-in-Ok-start-clause-opens g c = λ honest report is n within was listed are.
+    let begun = c.in-Ok-start.ensures in
+    let then = c.segment_of_walk in
+    opens_behind (g.T.Tree.state then.result.0) begun.started begun.keeps honest report is n within (c.in-Ok.ensures _ was) begun.opens _
+    then.ensures.opens.1 c.args.limit (omega (arith, c.if-limit-eq0.false)) _ _ then.result.1 then.ensures.seen then.ensures.behind listed are
 
 pub returns-in-Err-clause-stop : goal.returns-in-Err-clause-stop
 returns-in-Err-clause-stop g c = let state = g.T.Tree.state in stop_of_reading c.args.options (state c.args.tree) (state c.in-Err.tree) c.in-Err.stop c.in-Err.ensures.stop
 
-pub returns-in-Ok-start-clause-opens : goal.returns-in-Ok-start-clause-opens
-returns-in-Ok-start-clause-opens g c = λ honest report is n within was listed are.
-    let state = g.T.Tree.state in
-    let begun = c.in-Ok-start.ensures in
-    let then = c.segment_of_walk.ensures in
-    opens_behind (state c.args.tree) (state c.in-Ok-start.walk.tree) (state c.segment_of_walk.result.0) (option_copied c.args.profile) c.args.options c.in-Ok.after _ _ _ begun.started begun.keeps
-    honest report is n within (c.in-Ok.ensures _ was) begun.opens _ then.opens.1 c.args.limit (omega (arith, c.if-limit-eq0.false)) _ _ c.segment_of_walk.result.1 then.seen then.behind listed are
-
 pub returns-in-Err-clause-opens : goal.returns-in-Err-clause-opens
-returns-in-Err-clause-opens g c = λ honest report is n within was listed are.
-    let state = g.T.Tree.state in opens_no_payload c.args.options listed (cursor_behind n report) (cursor_behind (n + 0) report) (state c.args.tree) (state c.in-Err.tree) _ c.in-Err.ensures.opens
+returns-in-Err-clause-opens g c = λ honest report is n within was listed are. opens_no_payload c.args.options c.in-Err.ensures.opens
 
 pub returns-in_default-clause-opens : goal.returns-in_default-clause-opens
 returns-in_default-clause-opens g c = λ honest report is n within was listed are.
-    let state = g.T.Tree.state c.args.tree in
-    opens_no_payload c.args.options listed (cursor_behind n report) (cursor_behind (n + 0) report) state state _ (reads_none c.args.options state state refl)
+    let state = g.T.Tree.state c.args.tree in opens_no_payload c.args.options (reads_none c.args.options state state refl)
 
 pub returns-then-limit-eq0-clause-opens : goal.returns-then-limit-eq0-clause-opens
 returns-then-limit-eq0-clause-opens g c = λ honest report is n within was listed are.
-    let state = g.T.Tree.state c.args.tree in
-    opens_no_payload c.args.options listed (cursor_behind n report) (cursor_behind (n + 0) report) state state _ (reads_none c.args.options state state refl)
+    let state = g.T.Tree.state c.args.tree in opens_no_payload c.args.options (reads_none c.args.options state state refl)
 
 pub returns-in_default-clause-stop : goal.returns-in_default-clause-stop
 returns-in_default-clause-stop g c =
@@ -54,5 +48,5 @@ returns-in-Err-clause-segment g c = λ honest report is n within was.
     let same : n ≡ n + 0 = omega arith in
     record {
       writes = record { ends = (omega (arith, c.if-limit-eq0.false), omega arith); wrote = Appends-nil (g.W.Out.state c.args.out.now).taken };
-      last = subst (λ k. IsLastLine (cursor_behind k report) (string_bytes c.args.lines.now.last)) same was;
+      last = rw (← same) was;
     }

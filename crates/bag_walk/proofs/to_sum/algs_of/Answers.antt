@@ -1,5 +1,4 @@
-use Rattle.bag_walk.proofs.Common.{inl, inr, sym, ap, subst, take_all, taken_cases, Expected}
-use Rattle.std.specs.Prelude.{Contains}
+use Rattle.bag_walk.proofs.Common.{inl, inr, sym, ap, subst, take_all, taken_cases, Expected, Contains}
 use Rattle.bag_walk.proofs.to_sum.algs_of.Goals as goal
 
 pub loop-one-preserved : goal.loop-one-preserved

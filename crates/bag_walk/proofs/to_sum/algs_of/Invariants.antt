@@ -1,5 +1,4 @@
-use Rattle.bag_walk.proofs.Common.{take, Expected}
-use Rattle.std.specs.Prelude.{Contains}
+use Rattle.bag_walk.proofs.Common.{take, Expected, Contains}
 use Rattle.bag_walk.proofs.to_sum.algs_of.Given as goal
 
 abbrev pub invariant-loop-one : goal.invariant-loop-one

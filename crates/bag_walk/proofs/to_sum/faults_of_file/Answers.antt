@@ -1,5 +1,4 @@
-use Rattle.bag_walk.proofs.Common.{◌∙◌, ◌∷◌, inr, sym, ap, subst, option_copied, nothing_asked, IsRefusalOf, above, faults_at}
-use Rattle.std.specs.Prelude.{Contains}
+use Rattle.bag_walk.proofs.Common.{◌∙◌, inr, sym, ap, subst, option_copied, nothing_asked, above, faults_at, Contains}
 use Rattle.bag_walk.proofs.Refusing.{anyway_of_memory, anyway_of_refusal, filling_of_memory, filling_of_refusal}
 use Rattle.bag_walk.proofs.Summing.{named_at}
 use Rattle.bag_walk.proofs.to_sum.faults_of_file.Goals as goal
@@ -13,28 +12,23 @@ returns-in-Ok-faults_above-clause-faults g c = λ honest.
 
 pub returns-in-Err-clause-refused : goal.returns-in-Err-clause-refused
 returns-in-Err-clause-refused g c =
-    let state = g.T.Tree.state in
-    named_at (state c.args.tree.now).openings c.in-Err.cause c.args.to_sum.now.file.path (state c.digest_file.new.tree) c.refusal_of.result
-    (subst (λ path. IsRefusalOf c.in-Err.cause path c.refusal_of.result) c.in-Ok.ensures c.refusal_of.ensures) c.in-Err.ensures.refused_at
+    named_at (g.T.Tree.state c.args.tree.now).openings c.in-Err.cause c.args.to_sum.now.file.path (g.T.Tree.state c.digest_file.new.tree) c.refusal_of.result
+    (rw c.in-Ok.ensures at c.refusal_of.ensures) c.in-Err.ensures.refused_at
 
 pub returns-in_default-clause-stop : goal.returns-in_default-clause-stop
 returns-in_default-clause-stop g c = λ rest is.
-    let state = g.T.Tree.state c.args.tree.now in
-    filling_of_memory (c.args.to_sum.now.file.path ∷ rest) state state c.without_path.result (c.without_path.ensures.cause, c.without_path.ensures.path) (inr (nothing_asked state))
+    let memory = c.without_path in filling_of_memory memory.result (memory.ensures.cause, memory.ensures.path) (inr (nothing_asked _))
 
 pub returns-in_default-clause-anyway : goal.returns-in_default-clause-anyway
 returns-in_default-clause-anyway g c = λ rest.
-    let state = g.T.Tree.state c.args.tree.now in
-    anyway_of_memory (c.args.to_sum.now.file.path ∷ rest) state state c.without_path.result (c.without_path.ensures.cause, c.without_path.ensures.path) (inr (nothing_asked state))
+    let memory = c.without_path in anyway_of_memory memory.result (memory.ensures.cause, memory.ensures.path) (inr (nothing_asked _))
 
 pub returns-in-Err-clause-stop : goal.returns-in-Err-clause-stop
 returns-in-Err-clause-stop g c = λ rest.
-    let state = g.T.Tree.state in
-    filling_of_refusal c.args.to_sum.now.file rest (state c.args.tree.now) (state c.digest_file.new.tree) c.in-Err.cause c.refusal_of.result c.in-Err.ensures.refused c.in-Err.ensures.answered
-    (subst (λ path. IsRefusalOf c.in-Err.cause path c.refusal_of.result) c.in-Ok.ensures c.refusal_of.ensures)
+    let stop = c.in-Err.ensures in
+    filling_of_refusal c.args.to_sum.now.file rest c.in-Err.cause c.refusal_of.result stop.refused stop.answered (rw c.in-Ok.ensures at c.refusal_of.ensures)
 
 pub returns-in-Err-clause-anyway : goal.returns-in-Err-clause-anyway
 returns-in-Err-clause-anyway g c = λ rest.
-    let state = g.T.Tree.state in
-    anyway_of_refusal c.args.to_sum.now.file rest (state c.args.tree.now) (state c.digest_file.new.tree) c.in-Err.cause c.refusal_of.result c.in-Err.ensures.refused c.in-Err.ensures.answered
-    (subst (λ path. IsRefusalOf c.in-Err.cause path c.refusal_of.result) c.in-Ok.ensures c.refusal_of.ensures)
+    let stop = c.in-Err.ensures in
+    anyway_of_refusal c.args.to_sum.now.file rest c.in-Err.cause c.refusal_of.result stop.refused stop.answered (rw c.in-Ok.ensures at c.refusal_of.ensures)

@@ -1,5 +1,5 @@
 use Rattle.bag_walk.proofs.Common.{sym, subst, IsStrictlySortedBy, fault_cmp}
-use Rattle.bag_walk.proofs.Rest.{rest_ascends}
+use Rattle.bag_walk.proofs.Places.{rest_ascends}
 use Rattle.bag_walk.proofs.fixed.FixedSource.advance.Goals as goal
 
 pub returns-clause-rest : goal.returns-clause-rest

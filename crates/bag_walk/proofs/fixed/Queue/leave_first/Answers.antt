@@ -1,5 +1,5 @@
 use Rattle.bag_walk.proofs.Common.{◌∙◌, ap, rest_of}
-use Rattle.bag_walk.proofs.Rest.{drop_rest}
+use Rattle.bag_walk.proofs.Places.{drop_rest}
 use Rattle.bag_walk.proofs.fixed.Queue.leave_first.Goals as goal
 
 pub returns : goal.returns

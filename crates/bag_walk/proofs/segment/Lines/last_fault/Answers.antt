@@ -1,5 +1,5 @@
 use Rattle.bag_walk.proofs.Common.{◌++◌, sym, ap, codes, ◌∙◌}
-use Rattle.bag_walk.proofs.LastLines.{read_cursor}
+use Rattle.bag_walk.proofs.RunLines.{read_cursor}
 use Rattle.bag_walk.proofs.segment.Lines.last_fault.Goals as goal
 
 pub returns-in-Ok : goal.returns-in-Ok

@@ -50,7 +50,7 @@ use Rattle.std.proofs.option.Option.TheLaws.{the_row_laws as option_laws}
 use Rattle.bag_facts.specs.contracts.fault.Fault.{the_row as fault_row}
 use Rattle.bag_facts.proofs.fault.Fault.TheLaws.{the_row_laws as fault_laws}
 use Rattle.bag_walk.specs.Steps.{GoesOn}
-use Rattle.bag_walk.proofs.Lending.{lends_next, stops_there}
+use Rattle.bag_walk.proofs.Positions.{lends_next, stops_there}
 use Rattle.std.specs.contracts.result.Result.{the_row as result}
 use Rattle.std.proofs.result.Result.TheLaws.{the_row_laws as result_laws}
 use Rattle.bag_tree.specs.contracts.tree_fault.Stop.{the_row as stop_row}

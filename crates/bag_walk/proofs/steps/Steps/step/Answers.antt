@@ -1,23 +1,15 @@
-use Rattle.bag_walk.proofs.Common.{arith, subst, NoneWaits, OpensNoneBehind, Sees}
+use Rattle.bag_walk.proofs.Common.{arith}
 use Rattle.bag_walk.proofs.steps.Steps.step.Goals as goal
 
 pub returns-in-Ok-clause-behind : goal.returns-in-Ok-clause-behind
 returns-in-Ok-clause-behind g c = λ bag h sees.
-    let state = g.T.Tree.state in
     let left = c.leave.ensures.left bag h in
-    let seen : Sees (state c.leave.new.self.tree) (g.S.Source.todo c.leave.new.self.source) bag = rw (c.leave.ensures.tree, c.leave.ensures.todo) sees in
-    subst (λ fs. OpensNoneBehind fs (state c.args.self.now.tree) (state c.fill.new.tree)) left.1
-    (subst (λ t. OpensNoneBehind (g.S.Source.remaining bag c.leave.new.self.source) (state t) (state c.fill.new.tree)) c.leave.ensures.tree
-    (c.fill.ensures.behind g.met.S.InOrder.is_in_order bag left.0 seen))
+    rw (c.leave.ensures.tree, left.1) at (c.fill.ensures.behind g.met.S.InOrder.is_in_order bag left.0 (rw (c.leave.ensures.tree, c.leave.ensures.todo) sees))
 
 pub returns-in-Err-clause-behind : goal.returns-in-Err-clause-behind
 returns-in-Err-clause-behind g c = λ bag h sees.
-    let state = g.T.Tree.state in
     let left = c.leave.ensures.left bag h in
-    let seen : Sees (state c.leave.new.self.tree) (g.S.Source.todo c.leave.new.self.source) bag = rw (c.leave.ensures.tree, c.leave.ensures.todo) sees in
-    subst (λ fs. OpensNoneBehind fs (state c.args.self.now.tree) (state c.fill.new.tree)) left.1
-    (subst (λ t. OpensNoneBehind (g.S.Source.remaining bag c.leave.new.self.source) (state t) (state c.fill.new.tree)) c.leave.ensures.tree
-    (c.fill.ensures.behind g.met.S.InOrder.is_in_order bag left.0 seen))
+    rw (c.leave.ensures.tree, left.1) at (c.fill.ensures.behind g.met.S.InOrder.is_in_order bag left.0 (rw (c.leave.ensures.tree, c.leave.ensures.todo) sees))
 
 pub returns-in-Ok-clause-opens : goal.returns-in-Ok-clause-opens
 returns-in-Ok-clause-opens g c = grind arith
@@ -30,10 +22,8 @@ returns-in-Err-clause-reached g c = rw (c.leave.ensures.tree, c.leave.ensures.to
 
 pub returns-in-Err-clause-waits : goal.returns-in-Err-clause-waits
 returns-in-Err-clause-waits g c = λ bag h sees.
-    let state = g.T.Tree.state in
     let left = c.leave.ensures.left bag h in
-    let seen : Sees (state c.leave.new.self.tree) (g.S.Source.todo c.leave.new.self.source) bag = rw (c.leave.ensures.tree, c.leave.ensures.todo) sees in
-    subst (λ fs. NoneWaits fs c.in-Err.stop.path) left.1 (c.in-Err.ensures.waits g.met.S.InOrder.is_in_order bag left.0 seen)
+    rw left.1 at (c.in-Err.ensures.waits g.met.S.InOrder.is_in_order bag left.0 (rw (c.leave.ensures.tree, c.leave.ensures.todo) sees))
 
 pub returns-in-Ok-clause-calm : goal.returns-in-Ok-clause-calm
 returns-in-Ok-clause-calm g c = rw c.leave.ensures.tree at c.in-Ok.ensures.calm

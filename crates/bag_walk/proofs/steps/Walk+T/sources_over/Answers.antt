@@ -1,5 +1,5 @@
 use Rattle.bag_walk.proofs.Common.{arith, option_copied, opens_all_first}
-use Rattle.bag_walk.proofs.Sources.{started}
+use Rattle.bag_walk.proofs.Stages.{started}
 use Rattle.bag_walk.proofs.steps.Walk+T.sources_over.Goals as goal
 
 pub returns-in-Ok-clause-started : goal.returns-in-Ok-clause-started

@@ -1,5 +1,5 @@
 use Rattle.bag_walk.proofs.Common.{◌≡◌, ◌∙◌, ◌++◌, sym, ap, subst, IsStrictlySortedBy, fault_cmp, rest_of, faults_of_files}
-use Rattle.bag_walk.proofs.Rest.{rest_ascends}
+use Rattle.bag_walk.proofs.Places.{rest_ascends}
 use Rattle.bag_walk.proofs.Summing.{rest_front}
 use Rattle.bag_walk.proofs.validity.ValiditySource.advance.Goals as goal
 
