@@ -1,7 +1,7 @@
 -- What lists have: the files of a bag and its manifests, and a set for each kind, algorithm and tag file.
-use Rattle.bag_stages.proofs.Common.{◌≡◌, ◌⊎◌, inl, inr, ℕ, List, [], ◌∷◌, length, take, ◌-◌, Bool, true, false, refl, sym, ◌∙◌, subst, arith, Contains, bytes_eq, eq_by_cmp_equiv, nat_list_cmp_total, keys, contains_key-keys, Contains-from_any, list_any-from_Contains, bytes_eq-Decides, algs, without_prefix, Alg, each_is_listed, prefix, manifest_name, is_alg_text, is_manifest_name, Kind, Payload, Tag, TagName, Info, Fetch, IsManifestName, named_is, both_true, Bag, HasFile, one_text, HasList, HasManifest}
+use Rattle.bag_stages.proofs.Common.{◌≡◌, ◌++◌, map, ℕ, List, [], ◌∷◌, length, take, ◌-◌, Bool, true, false, refl, sym, ◌∙◌, subst, arith, Contains, bytes_eq, eq_by_cmp_equiv, nat_list_cmp_total, keys, contains_key-keys, Contains-from_any, list_any-from_Contains, bytes_eq-Decides, algs, without_prefix, Alg, each_is_listed, contains_back, contains_front, mapped_contains, prefix, manifest_name, is_alg_text, is_manifest_name, Kind, Payload, Tag, TagName, Info, Fetch, IsManifestName, named_is, both_true, Bag, HasFile, one_text, HasList, HasManifest, eq_by_cmp, list_any, text_cmp, ◌≢◌}
 use Rattle.bag_read.specs.declared.tag_name.TagName.TheVariants.{Declaration, Manifest}
-use Rattle.bag_stages.proofs.HasLists.{Decided, nothing, one_where, only, same_set, some_decided, either, for_each, for_all}
+use Rattle.bag_stages.proofs.HasLists.{Decided, nothing, one_where, only, same_set, some_decided, for_each, for_all, true_or_not, not_decided}
 use Rattle.bag_stages.proofs.PartFaults.{one_alg}
 
 -- the algorithm's text in the name of a manifest
@@ -22,10 +22,7 @@ module _ (bag : Bag) where
   pub files_listed : HasList (HasFile bag)
   files_listed = (
     keys bag.files,
-    λ path. (
-      λ c. contains_key-keys bag.files path ∙ list_any-from_Contains (eq_by_cmp_equiv nat_list_cmp_total) path (keys bag.files) c,
-      λ h. Contains-from_any one_text path (keys bag.files) (sym (contains_key-keys bag.files path) ∙ h),
-    ),
+    λ path. grind (arith, contains_key-keys bag.files path, list_any-from_Contains (eq_by_cmp_equiv nat_list_cmp_total) path (keys bag.files), Contains-from_any one_text path (keys bag.files)),
   )
 
   -- the algorithms of the manifests of a kind
@@ -40,6 +37,23 @@ each_kind : (kind : Kind) → Contains (Payload ∷ Tag ∷ []) kind
 each_kind Payload = (0, omega arith, refl)
 each_kind Tag = (1, omega arith, refl)
 
+abbrev manifests_of : Kind → List TagName
+manifests_of kind = map (Manifest kind) algs
+
+abbrev names : List TagName
+names = Declaration ∷ Info ∷ Fetch ∷ (manifests_of Payload ++ manifests_of Tag)
+
+each_name : (name : TagName) → Contains names name
+each_name Declaration = (0, omega arith, refl)
+each_name Info = (1, omega arith, refl)
+each_name Fetch = (2, omega arith, refl)
+each_name (Manifest Payload alg) =
+    contains_back (Declaration ∷ Info ∷ Fetch ∷ []) (manifests_of Payload ++ manifests_of Tag) _
+    (contains_front (manifests_of Payload) (manifests_of Tag) _ (mapped_contains (Manifest Payload) algs alg (each_is_listed alg)))
+each_name (Manifest Tag alg) =
+    contains_back (Declaration ∷ Info ∷ Fetch ∷ []) (manifests_of Payload ++ manifests_of Tag) _
+    (contains_back (manifests_of Payload) (manifests_of Tag) _ (mapped_contains (Manifest Tag) algs alg (each_is_listed alg)))
+
 module _ {A : Type 0} where
   pub over_kinds : (P : Kind → A → Type 0) → ((kind : Kind) → HasList (P kind)) → HasList (λ x. (kind : Kind) × P kind x)
   over_kinds P each = for_all P each (Payload ∷ Tag ∷ []) each_kind
@@ -47,36 +61,23 @@ module _ {A : Type 0} where
   pub over_algs : (P : Alg → A → Type 0) → ((alg : Alg) → HasList (P alg)) → HasList (λ x. (alg : Alg) × P alg x)
   over_algs P each = for_all P each algs each_is_listed
 
-  module _ (P : TagName → A → Type 0) where
-    abbrev OfManifest : Kind → A → Type 0
-    OfManifest kind x = (alg : Alg) × P (Manifest kind alg) x
-
-    abbrev OfEither : A → Type 0
-    OfEither x = P Declaration x ⊎ (P Info x ⊎ (P Fetch x ⊎ ((kind : Kind) × OfManifest kind x)))
-
-    to_name : (x : A) → OfEither x → (name : TagName) × P name x
-    to_name x (inl h) = (Declaration, h)
-    to_name x (inr (inl h)) = (Info, h)
-    to_name x (inr (inr (inl h))) = (Fetch, h)
-    to_name x (inr (inr (inr (kind, (alg, h))))) = (Manifest kind alg, h)
-
-    from_name : (x : A) (name : TagName) → P name x → OfEither x
-    from_name x Declaration h = inl h
-    from_name x Info h = inr (inl h)
-    from_name x Fetch h = inr (inr (inl h))
-    from_name x (Manifest kind alg) h = inr (inr (inr (kind, (alg, h))))
-
-    pub over_names : ((name : TagName) → HasList (P name)) → HasList (λ x. (name : TagName) × P name x)
-    over_names each =
-        let manifests = over_kinds OfManifest (λ kind. over_algs (λ alg. P (Manifest kind alg)) (λ alg. each (Manifest kind alg))) in
-        same_set OfEither (λ x. (name : TagName) × P name x) to_name (λ x h. from_name x h.0 h.1)
-        (either (P Declaration) _ (each Declaration) (either (P Info) _ (each Info) (either (P Fetch) _ (each Fetch) manifests)))
+  pub over_names : (P : TagName → A → Type 0) → ((name : TagName) → HasList (P name)) → HasList (λ x. (name : TagName) × P name x)
+  over_names P each = for_all P each names each_name
 
 -- whether something holds of some algorithm
 pub some_alg : (D : Alg → Type 0) → ((alg : Alg) → Decided (D alg)) → Decided ((alg : Alg) × D alg)
 some_alg D each =
     let all = over_algs (λ (alg : Alg) (x : Alg). D alg × (x ≡ alg)) (λ alg. one_where alg (D alg) (each alg)) in
-    elim (some_decided _ all) [
-      | inl h ↦ inl (h.1.0, h.1.1.0)
-      | inr none ↦ inr (λ h. none (h.0, (h.0, (h.1, refl))))
-    ]
+    grind (arith, some_decided _ all)
+
+-- whether two texts are one
+pub same_or_not : (a b : List ℕ) → Decided (a ≡ b)
+same_or_not a b = grind (arith, true_or_not (bytes_eq a b), bytes_eq-Decides a b)
+
+pub other_or_not : (a b : List ℕ) → Decided (a ≢ b)
+other_or_not a b = not_decided (a ≡ b) (same_or_not a b)
+
+-- whether a path is among these
+pub there_or_not : (paths : List (List ℕ)) (path : List ℕ) → Decided (Contains paths path)
+there_or_not paths path =
+    grind (arith, true_or_not (list_any (eq_by_cmp text_cmp path) paths), Contains-from_any one_text path paths, list_any-from_Contains (eq_by_cmp_equiv nat_list_cmp_total) path paths)

@@ -1,36 +1,21 @@
 -- Every bag has a list of the faults of its names.
-use Rattle.bag_stages.proofs.Common.{arith, ◌≡◌, ◌≢◌, inl, inr, ℕ, List, true, refl, sym, subst, bytes_eq, Ordering, Less, Equal, Greater, bytes_eq-Decides, is_payload_path, text_cmp, Alg, Payload, Bag, HasFile, Fault, HasList, named_in, Names, name_clash, IsClashAmong, IsClashFault, nfc_of, AreAlike, IsPayloadFile, IsPayloadName}
-use Rattle.bag_stages.proofs.BagLists.{files_listed, over_algs}
-use Rattle.bag_stages.proofs.HasLists.{Decided, both_decided, either, for_each, none_decided, one_where, same_set, true_or_not}
+use Rattle.bag_stages.proofs.Common.{arith, ◌≡◌, ◌≢◌, inl, inr, ℕ, List, true, refl, Ordering, Less, is_payload_path, text_cmp, Alg, Payload, Bag, HasFile, Fault, HasList, named_in, Names, name_clash, IsClashAmong, IsClashFault, nfc_of, AreAlike, IsPayloadFile, IsPayloadName}
+use Rattle.bag_stages.proofs.BagLists.{files_listed, over_algs, same_or_not, other_or_not}
+use Rattle.bag_stages.proofs.HasLists.{Decided, both_decided, either, for_each, none_decided, one_where, same_set, true_or_not, those}
 use Rattle.bag_stages.proofs.ClashFaults.{clash_is_fault, fault_is_clash}
 
 module _ (bag : Bag) where
-  abbrev IsOfPayload : List ℕ → List ℕ → Type 0
-  IsOfPayload path p = (is_payload_path path ≡ true) × (p ≡ path)
-
   pub payload_files_listed : HasList (IsPayloadFile bag)
-  payload_files_listed =
-      same_set (λ p. (path : List ℕ) × HasFile bag path × IsOfPayload path p) (IsPayloadFile bag)
-      (λ p h. subst (IsPayloadFile bag) (sym h.2.1) (h.1, h.2.0))
-      (λ p h. (p, h.0, (h.1, refl)))
-      (for_each IsOfPayload (λ path. one_where path (is_payload_path path ≡ true) (true_or_not (is_payload_path path))) (HasFile bag) (files_listed bag))
+  payload_files_listed = those (HasFile bag) (λ path. is_payload_path path ≡ true) (files_listed bag) (λ path. true_or_not (is_payload_path path))
 
   pub payload_names_listed : HasList (IsPayloadName bag)
   payload_names_listed =
       either (IsPayloadFile bag) (λ path. (alg : Alg) × Names bag Payload alg path) payload_files_listed
       (over_algs (λ alg path. Names bag Payload alg path) (λ alg. (named_in bag Payload alg, λ path. (λ c. c, λ h. h))))
 
--- what can be decided of texts
-pub same_or_not : (a b : List ℕ) → Decided (a ≡ b)
-same_or_not a b = grind (arith, true_or_not (bytes_eq a b), bytes_eq-Decides a b)
-
-other_or_not : (a b : List ℕ) → Decided (a ≢ b)
-other_or_not a b = elim (same_or_not a b) [ inl is ↦ inr (λ other. other is) | inr other ↦ inl other ]
-
 is_less : (o : Ordering) → Decided (o ≡ Less)
 is_less Less = inl refl
-is_less Equal = inr (λ e. cc)
-is_less Greater = inr (λ e. cc)
+is_less o = inr (λ e. cc)
 
 -- the names of a set that a list has
 module _ (IsName : List ℕ → Type 0) (names : HasList IsName) where

@@ -1,9 +1,9 @@
 -- The names that this crate's proofs cite, passed on from one place. Declares nothing.
-pub use Rattle.std.proofs.Common.{Bool, Contains, IsTrue, List, None, Option, Some, [], add-one, ap, append-nil, append_assoc, arith, bytes_eq, codes, cond, drop, false, get_or, inl, inr, is_lt, is_some, length, map, min, not, of_calls, position, refl, rules, string_bytes, subst, suc, sum_by, sym, take, take-append-drop, true, zero, ℕ, ◌*◌, ◌++◌, ◌+◌, ◌-◌, ◌<◌, ◌==◌, ◌^◌, ◌↔◌, ◌∙◌, ◌∷◌, ◌≡◌, ◌≢◌, ◌≤◌, ◌⊎◌}
+pub use Rattle.std.proofs.Common.{Bool, Bor, Contains, Equal, Greater, IsTrue, Less, List, None, Option, Ordering, Some, [], add-one, ap, append-nil, append_assoc, arith, bytes_eq, chars, codes, cond, drop, drop-cons, encode_utf8_all, false, filter_map, get_or, if◌then◌else◌, inl, inr, is_lt, is_some, length, map, min, not, of_calls, option_map, option_to_list, position, refl, rules, string_bytes, subst, suc, sum_by, sym, take, take-append-drop, true, zero, ℕ, ◌*◌, ◌++◌, ◌+◌, ◌-◌, ◌<◌, ◌==◌, ◌^◌, ◌↔◌, ◌∙◌, ◌∷◌, ◌≡◌, ◌≢◌, ◌≤◌, ◌⊎◌}
 pub use Rattle.std.proofs.Math.ListN.{get_or-map}
 pub use Rattle.std.proofs.lemmas.Bool.Decides.{nat_tests}
 pub use Rattle.std.proofs.lemmas.Grind.{common_steps}
-pub use Rattle.std.proofs.lemmas.List.{append_cancel_left, get_or_default, length-map, length-take, map-append, take-append-le, take-map, take_all, take_min, take_rest}
+pub use Rattle.std.proofs.lemmas.List.{append_cancel_left, get_or_default, length-map, length-take, map-append, take-append-le, take_all, take_min, take_rest}
 pub use Rattle.std.proofs.lemmas.List.Elements.{All-contains, filter-append, filter_map-append}
 pub use Rattle.std.proofs.lemmas.List.Kept.{Any-dedup, Contains-from_dedup, IsStrictlySortedBy-dedup, IsStrictlySortedBy-filter}
 pub use Rattle.std.proofs.lemmas.List.Sorted.{Contains-permutation, IsPermutation-filter_both, IsPermutation-sym}
@@ -11,18 +11,13 @@ pub use Rattle.std.proofs.lemmas.Map.Keys.{IsDistinct-IsPermutation, IsDistinct-
 pub use Rattle.std.proofs.lemmas.Map.Views.{Contains-from_any, list_any-from_Contains}
 pub use Rattle.std.proofs.lemmas.Result.{IfOk-weaker, on_ok_weaker}
 pub use Rattle.std.proofs.lemmas.Slice.Eq.{bytes_eq-Decides}
-pub use Rattle.std.specs.Borrow.{Bor}
-pub use Rattle.std.specs.Cmp.{IsTotalOrder, eq_by_cmp_equiv, nat_cmp_total, tied_itself}
+pub use Rattle.std.specs.Cmp.{eq_by_cmp_equiv, nat_cmp_total, tied_itself}
 pub use Rattle.std.specs.Cmp.Lexicographic.{nat_list_cmp_total, on_texts, on_texts_equal, pointwise, same_text, texts_ties}
-pub use Rattle.std.specs.FinMap.{IsAntisymmetric, contains_key-keys, keys}
-pub use Rattle.std.specs.List.{cons_option, dedup, enumerate_from, filter, list_any, position_from}
+pub use Rattle.std.specs.FinMap.{contains_key-keys, keys}
+pub use Rattle.std.specs.List.{cons_option, dedup, enumerate_from, filter, list_any}
 pub use Rattle.std.specs.List.Sorted.{IsPermutation, IsSorted, IsSortedBy, IsStrictlySortedBy}
-pub use Rattle.std.specs.Option.{option_map, option_to_list}
-pub use Rattle.std.specs.Ordering.{eq_by_cmp, is_eq, nat_cmp, on, ordering_reverse, ordering_then}
-pub use Rattle.std.specs.Prelude.{chars, encode_utf8_all, filter_map, if◌then◌else◌}
+pub use Rattle.std.specs.Ordering.{eq_by_cmp, is_eq, nat_cmp, on, ordering_reverse}
 pub use Rattle.std.specs.Str.{IsAscii, is_utf8}
-pub use Rattle.std.specs.declared.cmp.Ordering.{Ordering}
-pub use Rattle.std.specs.declared.cmp.Ordering.TheVariants.{Equal, Greater, Less}
 pub use Rattle.bag_facts.proofs.Ascending.{not_both, not_less_than_itself, self_ties}
 pub use Rattle.bag_facts.proofs.ByPath.{items_ascend, less_case, paths_ascend, reversed, tie_case}
 pub use Rattle.bag_facts.proofs.ListedFiles.{file_listed, listed_file}
@@ -47,14 +42,13 @@ pub use Rattle.bag_read.proofs.ManifestLineParts.{lines_read}
 pub use Rattle.bag_read.proofs.ManifestName.{IsManifestName, named_is, same_alg}
 pub use Rattle.bag_read.proofs.PickedOut.{both_true}
 pub use Rattle.bag_read.proofs.TagPaths.{name_named, paths_differ}
-pub use Rattle.bag_read.specs.Declaration.{DeclarationFault, IsDeclarationFault, declared_encoding, declared_version}
+pub use Rattle.bag_read.specs.Declaration.{DeclarationFault, IsDeclarationFault}
 pub use Rattle.bag_read.specs.Fetch.{FetchFault, IsFetch, IsFetchFault, entry_in}
 pub use Rattle.bag_read.specs.Info.{InfoFault, IsElement, IsInfoFault}
 pub use Rattle.bag_read.specs.LineFault.{AreFaults, entries_read, faults_read, line_fault, line_fault_cmp, not_utf8}
 pub use Rattle.bag_read.specs.Manifest.{IsEntry, IsManifestFault, ManifestFault}
 pub use Rattle.bag_read.specs.ManifestName.{is_alg_text, is_manifest_name, manifest_name, prefix}
 pub use Rattle.bag_read.specs.TagName.{tag_path}
-pub use Rattle.bag_read.specs.declared.declaration.Declaration.{Declaration}
 pub use Rattle.bag_read.specs.declared.fetch.FetchEntry.{FetchEntry}
 pub use Rattle.bag_read.specs.declared.info.Element.{Element}
 pub use Rattle.bag_read.specs.declared.kind.Kind.{Kind}
@@ -65,17 +59,17 @@ pub use Rattle.bag_read.specs.declared.oxum.Oxum.{Oxum}
 pub use Rattle.bag_read.specs.declared.tag_name.TagName.{TagName}
 pub use Rattle.bag_read.specs.declared.tag_name.TagName.TheVariants.{Fetch, Info}
 pub use Rattle.bag_text.proofs.AlgSets.{each_is_listed, list_ascends}
-pub use Rattle.bag_text.proofs.ListOf.{ascending_joined, contains_back, contains_behind, contains_cases, contains_either, contains_first, contains_front, contains_nothing, each_from_members, joined, member_has, nothing_listed, one_listed, only_listed, same_lists, same_members}
-pub use Rattle.bag_text.specs.Alg.{alg_named, algs, hex_len, name, rank, rank_cmp, rank_or_zero}
-pub use Rattle.bag_text.specs.Code.{number, stage}
-pub use Rattle.bag_text.specs.Lines.{IsLine, lines_of_file}
+pub use Rattle.bag_text.proofs.ListOf.{contains_back, contains_behind, contains_cases, contains_either, contains_first, contains_front, contains_nothing, each_from_members, joined, member_has, nothing_listed, one_listed, only_listed, same_lists, same_members}
+pub use Rattle.bag_text.specs.Alg.{alg_named, algs, hex_len, rank, rank_cmp, rank_or_zero}
+pub use Rattle.bag_text.specs.Code.{stage}
+pub use Rattle.bag_text.specs.Lines.{lines_of_file}
 pub use Rattle.bag_text.specs.Order.{IsListOf, IsOnly}
 pub use Rattle.bag_text.specs.Path.{is_path, is_payload_path}
 pub use Rattle.bag_text.specs.Text.{IsNoText, text_cmp, without_prefix}
 pub use Rattle.bag_text.specs.declared.alg.Alg.{Alg}
 pub use Rattle.bag_text.specs.declared.alg.Alg.TheVariants.{Md5}
 pub use Rattle.bag_text.specs.declared.code.Code.{Code}
-pub use Rattle.bag_text.specs.declared.code.Code.TheVariants.{AlgorithmUnsupported, DeclarationLine, DeclarationLineCount, DeclarationNotUtf8, DigestLength, EncodingUnsupported, FetchEscape, FetchLine, FetchNotInManifest, FetchOutsidePayload, FetchUnsafePath, InfoLine, ManifestEscape, ManifestLine, ManifestOutsidePayload, ManifestUnsafePath, NameClash, NamedAgain, NoDeclaration, NoOxum, NoPayloadFolder, NoPayloadManifest, NotUtf8, OxumAgain, OxumDiffers, OxumMalformed, PayloadFileMissing, PayloadFileNotListed, PayloadManifestNotListed, PayloadSumDiffers, TagFileMissing, TagSumDiffers, TagmanifestNamesPayload, TagmanifestNamesTagmanifest, VersionUnsupported}
+pub use Rattle.bag_text.specs.declared.code.Code.TheVariants.{AlgorithmUnsupported, DeclarationNotUtf8, FetchNotInManifest, InfoLine, NameClash, NoDeclaration, NoOxum, NoPayloadFolder, NoPayloadManifest, NotUtf8, OxumAgain, OxumDiffers, OxumMalformed, PayloadFileMissing, PayloadFileNotListed, PayloadManifestNotListed, PayloadSumDiffers, TagFileMissing}
 pub use Rattle.bag_text.specs.declared.rules.Rules.TheVariants.{V097, V10}
 pub use Rattle.bag_tree.proofs.SameText.{exact_texts, one_text}
 pub use Rattle.bag_tree.specs.Bag.{Bag, HasFile, LacksFile, file, files_of, has_file, has_folder}
@@ -84,19 +78,19 @@ pub use Rattle.bag_tree.specs.Listing.{IsListingOf, IsOrdered}
 pub use Rattle.bag_tree.specs.declared.listing.FileEntry.{FileEntry}
 pub use Rattle.hex.specs.Hex.{encode_lower, lower_digits}
 pub use Rattle.bag_stages.specs.ClashFaults.{IsClashAmong, IsClashOf, first_of, first_with, name_clash}
-pub use Rattle.bag_stages.specs.ClashStage.{ClashesAndLeastsAreAllNames, IsClashFault, IsSoughtClash}
-pub use Rattle.bag_stages.specs.Clashes.{AreAlike, Clashes, IsLeast, IsLeastAlike, nfc_of}
+pub use Rattle.bag_stages.specs.ClashStage.{IsClashFault, IsSoughtClash}
+pub use Rattle.bag_stages.specs.Clashes.{AreAlike, IsLeast, IsLeastAlike, nfc_of}
 pub use Rattle.bag_stages.specs.CompletenessFaults.{HasEachOnce, IsIncomplete, IsLeftByAll, IsLeftByOne, IsMissing, IsMissingFromSome, IsNotListed, IsOfPath, IsOfPathAmong, IsUnlistedAmong, IsUnlistedFile, IsUnlistedInAll, IsUnlistedInSome, IsUnlistedPath, IsUnnamed, IsUnnamedPath, IsWrong, IsWrongOfSome, missing_code}
 pub use Rattle.bag_stages.specs.CompletenessStage.{CompletenessFaultsAreListed, CompletenessFaultsAreOfStageSix, IsOfCompleteness, IsPayloadFile, IsPayloadName, IsSoughtInStageSix}
 pub use Rattle.bag_stages.specs.DeclarationStage.{DeclarationFaultsAreListed, DeclarationFaultsAreOfStageOne, InDeclaration, IsOfDeclaration}
 pub use Rattle.bag_stages.specs.FaultFields.{At, InFile, in_file, in_line, of_bag}
 pub use Rattle.bag_stages.specs.FetchFaults.{AreByLine, AreFetched, IsNamedByNone, IsNamedByNoneAmong, IsNotInAny, IsNotInManifest, IsNotInSome, IsNotNamed, IsNotNamedAmong, not_in_manifest}
-pub use Rattle.bag_stages.specs.FetchStage.{FetchFaultsAreListed, FetchFaultsAreOfStageFour, HasFetch, InFetch, IsOfFetch, fetch_txt}
+pub use Rattle.bag_stages.specs.FetchStage.{FetchFaultsAreListed, FetchFaultsAreOfStageFour, HasFetch, IsOfFetch, fetch_txt}
 pub use Rattle.bag_stages.specs.FileFaults.{AreTagsOf, HasTextless, IsFaultAmong, IsFileFault, IsUnsupported, ListsPayloadManifest}
 pub use Rattle.bag_stages.specs.Given.{AreNaming, IsGivenBy, IsSpelledBy}
 pub use Rattle.bag_stages.specs.HasList.{HasList}
 pub use Rattle.bag_stages.specs.LeftOut.{IsLeftOut, IsLeftOutByAll, IsLeftOutByOne, IsNamedBySome}
-pub use Rattle.bag_stages.specs.ManifestFaults.{IsAskedUnnamed, IsLineFault, IsOfManifest, IsUnlistedManifest, IsUnnamedAmong, IsUnnamedFault, unnamed}
+pub use Rattle.bag_stages.specs.ManifestFaults.{IsAskedUnnamed, IsLineFault, IsOfManifest, IsUnlistedManifest, IsUnnamedFault, unnamed}
 pub use Rattle.bag_stages.specs.ManifestsStage.{InManifest, IsOfManifests, ManifestFaultsAreListed, ManifestFaultsAreOfStageFive}
 pub use Rattle.bag_stages.specs.Metadata.{HasElement, HasFirst, HasLater, bag_info_txt}
 pub use Rattle.bag_stages.specs.MetadataStage.{IsOfMetadata, MetadataFaultsAreListed, MetadataFaultsAreOfStageThree, oxum_label, pair}

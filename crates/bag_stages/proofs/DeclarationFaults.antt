@@ -1,100 +1,60 @@
 -- The faults of the declaration.
-use Rattle.bag_stages.proofs.Common.{◌≡◌, ℕ, List, [], ◌∷◌, Option, None, Some, true, false, map, refl, ap, sym, ◌∙◌, subst, is_some, stage, IsListOf, Code, NoDeclaration, DeclarationNotUtf8, DeclarationLineCount, DeclarationLine, VersionUnsupported, EncodingUnsupported, one_listed, same_members, Bag, file, Declaration, LineFault, DeclarationFault, IsDeclarationFault, of_path, Fault, fault_cmp, IsReadOf, IsDeclarationOf, InDeclaration, DeclarationFaultsAreOfStageOne, in_file, in_line, bagit_txt}
+use Rattle.bag_stages.proofs.Common.{arith, ◌≡◌, ◌↔◌, ◌⊎◌, inl, inr, ℕ, List, [], ◌∷◌, None, Some, true, map, refl, ap, sym, subst, is_some, stage, IsListOf, Code, NoDeclaration, DeclarationNotUtf8, one_listed, same_members, Bag, LacksFile, file, AreFaults, LineFault, DeclarationFault, IsDeclarationFault, of_path, Fault, fault_cmp, InDeclaration, DeclarationFaultsAreOfStageOne, in_file, in_line, bagit_txt}
 use Rattle.bag_stages.specs.DeclarationStage.{DeclarationHolds, IsOfDeclaration}
-use Rattle.bag_stages.proofs.FaultFields.{made_of}
-use Rattle.bag_stages.proofs.InFile.{listed_in_file}
+use Rattle.bag_stages.proofs.FaultFields.{has_fields, made_of}
+use Rattle.bag_stages.proofs.InFile.{IsOfLine, lines_listed}
 
 -- what is wrong with a declaration is found at the first stage
 declaration_stage : (c : Code) (bytes : List ℕ) (f : LineFault) → DeclarationFault c bytes f → stage c ≡ 1
 declaration_stage DeclarationNotUtf8 bytes f h = refl
-declaration_stage DeclarationLineCount bytes f h = refl
-declaration_stage DeclarationLine bytes f h = refl
-declaration_stage VersionUnsupported bytes f h = refl
-declaration_stage EncodingUnsupported bytes f h = refl
-declaration_stage other bytes f h = absurd h
+declaration_stage c bytes f h = grind arith
+
+pub line_tells : (bytes : List ℕ) (x : LineFault) → IsDeclarationFault bytes x → (stage x.code ≡ 1) ↔ (true ≡ true)
+line_tells bytes x h = (λ s. refl, λ e. declaration_stage x.code bytes x h)
 
 abbrev pub no_declaration : Fault
 no_declaration = of_path NoDeclaration bagit_txt None []
 
-module _ (bag : Bag) where
-  holds_stage : (f : Fault) (c : Code) → DeclarationHolds bag f c → stage c ≡ 1
-  unfolding DeclarationHolds
-  holds_stage f NoDeclaration h = refl
-  holds_stage f DeclarationNotUtf8 h = refl
-  holds_stage f DeclarationLineCount h = refl
-  holds_stage f DeclarationLine h = refl
-  holds_stage f VersionUnsupported h = refl
-  holds_stage f EncodingUnsupported h = refl
-  holds_stage f other h = absurd h
+-- what the codes of the stage say
+module _ (bag : Bag) (f : Fault) where
+  -- the declaration isn't there, or something is wrong with it
+  abbrev pub IsNone : Type 0
+  IsNone = LacksFile bag bagit_txt × (f ≡ no_declaration)
 
-  holds_of_file : (f : Fault) (c : Code) (bytes : List ℕ) → DeclarationFault c bytes (in_line f) → InDeclaration bag f → DeclarationHolds bag f c
-  unfolding DeclarationHolds
-  holds_of_file f DeclarationNotUtf8 bytes h i = i
-  holds_of_file f DeclarationLineCount bytes h i = i
-  holds_of_file f DeclarationLine bytes h i = i
-  holds_of_file f VersionUnsupported bytes h i = i
-  holds_of_file f EncodingUnsupported bytes h i = i
-  holds_of_file f other bytes h i = absurd h
+  abbrev pub OfLine : Type 0
+  OfLine = IsOfLine bag bagit_txt None 1 IsDeclarationFault f
 
-  file_of_holds : (f : Fault) (c : Code) (bytes : List ℕ) → file bag bagit_txt ≡ Some bytes → DeclarationHolds bag f c → InDeclaration bag f
+  some_of_holds : (c : Code) → f.code ≡ c → DeclarationHolds bag f c → IsNone ⊎ OfLine
   unfolding DeclarationHolds
-  file_of_holds f NoDeclaration bytes there h = let clash : true ≡ false = ap is_some (sym there) ∙ h.1 in cc
-  file_of_holds f DeclarationNotUtf8 bytes there h = h
-  file_of_holds f DeclarationLineCount bytes there h = h
-  file_of_holds f DeclarationLine bytes there h = h
-  file_of_holds f VersionUnsupported bytes there h = h
-  file_of_holds f EncodingUnsupported bytes there h = h
-  file_of_holds f other bytes there h = absurd h
+  some_of_holds NoDeclaration e (at, lacks) = inl (lacks, made_of f NoDeclaration bagit_txt None 0 [] e at)
+  some_of_holds c e h = grind arith
 
-  -- the declaration is there
-  declared_listed : (bytes : List ℕ) (d : Declaration) (faults : List Fault) → file bag bagit_txt ≡ Some bytes → IsDeclarationOf bytes d
-      → faults ≡ map (in_file bagit_txt None) d.faults → IsListOf fault_cmp (IsOfDeclaration bag) faults
+  pub of_some : IsOfDeclaration bag f → IsNone ⊎ OfLine
   unfolding IsOfDeclaration
-  declared_listed bytes d faults there says is =
-      rw is (same_members fault_cmp _ _ (map (in_file bagit_txt None) d.faults)
-      (λ f h. holds_of_file f f.code bytes h.2 (h.0, h.1, (bytes, there, h.2)))
-      (λ f h. let i = file_of_holds f f.code bytes there h in
-      let same : i.2.0 ≡ bytes = (let e : Some i.2.0 ≡ Some bytes = sym i.2.1 ∙ there in cc) in
-      (i.0, i.1, subst (λ b. IsDeclarationFault b (in_line f)) same i.2.2))
-      (listed_in_file bagit_txt None 1 (IsDeclarationFault bytes) d.faults (λ x h. declaration_stage x.code bytes x h) says.faults))
+  of_some h = some_of_holds f.code refl h
 
-  only_missing : (f : Fault) (c : Code) → f.code ≡ c → file bag bagit_txt ≡ None → DeclarationHolds bag f c → f ≡ no_declaration
+  holds_of_file : (c : Code) (bytes : List ℕ) → DeclarationFault c bytes (in_line f) → InDeclaration bag f → DeclarationHolds bag f c
   unfolding DeclarationHolds
-  only_missing f NoDeclaration e none h = made_of f NoDeclaration bagit_txt None 0 [] e h.0
-  only_missing f DeclarationNotUtf8 e none h = let clash : None ≡ Some h.2.0 = sym none ∙ h.2.1 in cc
-  only_missing f DeclarationLineCount e none h = let clash : None ≡ Some h.2.0 = sym none ∙ h.2.1 in cc
-  only_missing f DeclarationLine e none h = let clash : None ≡ Some h.2.0 = sym none ∙ h.2.1 in cc
-  only_missing f VersionUnsupported e none h = let clash : None ≡ Some h.2.0 = sym none ∙ h.2.1 in cc
-  only_missing f EncodingUnsupported e none h = let clash : None ≡ Some h.2.0 = sym none ∙ h.2.1 in cc
-  only_missing f other e none h = absurd h
+  holds_of_file NoDeclaration bytes h i = absurd h
+  holds_of_file c bytes h i = grind arith
 
-  -- there is no declaration
-  missing_listed : (faults : List Fault) → file bag bagit_txt ≡ None → faults ≡ no_declaration ∷ [] → IsListOf fault_cmp (IsOfDeclaration bag) faults
+  pub some_is : IsNone ⊎ OfLine → IsOfDeclaration bag f
   unfolding IsOfDeclaration DeclarationHolds
-  missing_listed faults none is =
-      rw is (one_listed fault_cmp _ no_declaration
-      (record { path_is = refl; alg_is = refl; line_is = refl; detail_is = refl }, ap is_some none)
-      (λ f h. only_missing f f.code refl none h))
-
-  -- what was read of it tells the faults
-  read_listed : (content : Option (List ℕ)) (d : Declaration) (faults : List Fault) → file bag bagit_txt ≡ content → IsReadOf IsDeclarationOf content (Some d)
-      → faults ≡ map (in_file bagit_txt None) d.faults → IsListOf fault_cmp (IsOfDeclaration bag) faults
-  read_listed None d faults there read is = absurd read
-  read_listed (Some bytes) d faults there read is = declared_listed bytes d faults there read is
-
-  unread_listed : (content : Option (List ℕ)) (faults : List Fault) → file bag bagit_txt ≡ content → IsReadOf IsDeclarationOf content None
-      → faults ≡ no_declaration ∷ [] → IsListOf fault_cmp (IsOfDeclaration bag) faults
-  unread_listed None faults there read is = missing_listed faults there is
-  unread_listed (Some bytes) faults there read is = absurd read
-
-  pub read_declaration_listed : (d : Declaration) (faults : List Fault) → IsReadOf IsDeclarationOf (file bag bagit_txt) (Some d)
-      → faults ≡ map (in_file bagit_txt None) d.faults → IsListOf fault_cmp (IsOfDeclaration bag) faults
-  read_declaration_listed d faults read is = read_listed (file bag bagit_txt) d faults refl read is
-
-  pub missing_declaration_listed : (faults : List Fault) → IsReadOf IsDeclarationOf (file bag bagit_txt) None
-      → faults ≡ no_declaration ∷ [] → IsListOf fault_cmp (IsOfDeclaration bag) faults
-  missing_declaration_listed faults read is = unread_listed (file bag bagit_txt) faults refl read is
+  some_is (inl (lacks, is)) = subst (DeclarationHolds bag f) (sym (ap (λ (x : Fault). x.code) is)) (has_fields f NoDeclaration bagit_txt None 0 [] is, lacks)
+  some_is (inr (i, s)) = holds_of_file f.code i.2.0 i.2.2 i
 
 pub declaration_of_stage_one : DeclarationFaultsAreOfStageOne
-unfolding IsOfDeclaration
-declaration_of_stage_one bag f h = holds_stage bag f f.code h
+declaration_of_stage_one bag f h = elim (of_some bag f h) [ inl none ↦ ap (λ (x : Fault). stage x.code) none.1 | inr line ↦ line.1 ]
+
+module _ (bag : Bag) where
+  -- the declaration is there
+  pub declared_listed : (bytes : List ℕ) (lines : List LineFault) → file bag bagit_txt ≡ Some bytes → AreFaults (IsDeclarationFault bytes) lines
+      → IsListOf fault_cmp (IsOfDeclaration bag) (map (in_file bagit_txt None) lines)
+  declared_listed bytes lines there list =
+      same_members fault_cmp _ _ (map (in_file bagit_txt None) lines) (λ f h. some_is bag f (inr h)) (λ f h. grind (arith, of_some bag f h))
+      (lines_listed bag bagit_txt None 1 IsDeclarationFault (λ b. true) line_tells bytes true lines there refl list)
+
+  -- there is no declaration
+  pub missing_listed : file bag bagit_txt ≡ None → IsListOf fault_cmp (IsOfDeclaration bag) (no_declaration ∷ [])
+  missing_listed none =
+      one_listed fault_cmp _ no_declaration (some_is bag no_declaration (inl (ap is_some none, refl))) (λ f h. grind (arith, of_some bag f h))

@@ -1,5 +1,5 @@
 -- A digest that a manifest gives has no more bytes than the longest one has.
-use Rattle.bag_stages.proofs.Common.{◌≡◌, ◌≤◌, ◌*◌, ℕ, List, length, take, ap, ◌∙◌, arith, length-map, take_all, encode_lower, lower_digits, hex_len, Alg, Md5, Kind, ManifestEntry, lines_read, Bag, rules_in, IsEntryIn}
+use Rattle.bag_stages.proofs.Common.{◌≡◌, ◌≤◌, ℕ, List, length, take, ap, arith, length-map, take_all, encode_lower, lower_digits, hex_len, Alg, Md5, Kind, ManifestEntry, lines_read, Bag, rules_in, IsEntryIn}
 use Rattle.std.specs.Char.{to_ascii_lowercase}
 use Rattle.hex.proofs.HexLemmas.{length-encode_with}
 
@@ -11,11 +11,8 @@ module _ (bag : Bag) (kind : Kind) (alg : Alg) (entry : ManifestEntry) (listed :
   short_text : length entry.digest ≤ 128
   short_text =
       let read = (lines_read (rules_in bag) kind alg listed.0 entry.digest entry.path).0 listed.2 in
-      let len : length entry.digest ≡ hex_len alg = ap length read.in_lower_case ∙ length-map read.hex to_ascii_lowercase ∙ read.hex_length in
-      omega (arith, len, at_most alg)
+      omega (arith, ap length read.in_lower_case, length-map read.hex to_ascii_lowercase, read.hex_length, at_most alg)
 
   -- so the first of them are all
   pub all_bytes : (bytes : List ℕ) → encode_lower bytes ≡ entry.digest → take 64 bytes ≡ bytes
-  all_bytes bytes is =
-      let twice : length (encode_lower bytes) ≡ 2 * length bytes = length-encode_with lower_digits bytes in
-      take_all 64 bytes (omega (arith, ap length is, twice, short_text))
+  all_bytes bytes is = take_all 64 bytes (omega (arith, ap length is, length-encode_with lower_digits bytes, short_text))

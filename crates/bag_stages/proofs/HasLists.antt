@@ -1,33 +1,22 @@
 -- Sets that a list has: of nothing, of one, of two sets, of a set for each member of another; and what can be decided.
-use Rattle.bag_stages.proofs.Common.{◌≡◌, ◌⊎◌, inl, inr, Bool, true, false, List, [], ◌∷◌, ◌++◌, refl, sym, subst, Contains, contains_cases, contains_first, contains_behind, contains_nothing, contains_front, contains_back, contains_either, HasList}
+use Rattle.bag_stages.proofs.Common.{arith, ◌≡◌, ◌⊎◌, inl, inr, Bool, true, false, List, [], ◌∷◌, ◌++◌, refl, sym, subst, Contains, Less, contains_cases, contains_first, contains_behind, contains_nothing, nothing_listed, one_listed, HasList}
+use Rattle.bag_stages.proofs.Sorted.{either_listed}
 
 abbrev pub Decided : Type 0 → Type 0
 Decided D = D ⊎ (¬ D)
 
 module _ {A : Type 0} where
   pub nothing : (P : A → Type 0) → ((x : A) → ¬ (P x)) → HasList P
-  nothing P none = ([], λ x. (λ c. absurd (contains_nothing x c), λ p. absurd (none x p)))
+  nothing P none = ([], (nothing_listed (λ x y. Less) P none).members)
 
   pub only : (P : A → Type 0) (x : A) → P x → ((y : A) → P y → y ≡ x) → HasList P
-  only P x is same = (
-    x ∷ [],
-    λ y. (
-      λ c. elim (contains_cases x [] y c) [ inl e ↦ subst P e is | inr d ↦ absurd (contains_nothing y d) ],
-      λ p. subst (Contains (x ∷ [])) (sym (same y p)) (contains_first x []),
-    ),
-  )
+  only P x is same = (x ∷ [], (one_listed (λ x y. Less) P x is same).members)
 
   pub same_set : (P Q : A → Type 0) → ((x : A) → P x → Q x) → ((x : A) → Q x → P x) → HasList P → HasList Q
   same_set P Q to from p = (p.0, λ x. (λ c. to x ((p.1 x).0 c), λ q. (p.1 x).1 (from x q)))
 
   pub either : (P Q : A → Type 0) → HasList P → HasList Q → HasList (λ x. P x ⊎ Q x)
-  either P Q p q = (
-    p.0 ++ q.0,
-    λ x. (
-      λ c. elim (contains_either p.0 q.0 x c) [ inl a ↦ inl ((p.1 x).0 a) | inr b ↦ inr ((q.1 x).0 b) ],
-      λ h. elim h [ inl a ↦ contains_front p.0 q.0 x ((p.1 x).1 a) | inr b ↦ contains_back p.0 q.0 x ((q.1 x).1 b) ],
-    ),
-  )
+  either P Q p q = (p.0 ++ q.0, either_listed P Q p.0 q.0 p.1 q.1)
 
   -- a set that has members only where this holds
   pub where_so : (D : Type 0) (P : A → Type 0) → Decided D → HasList P → HasList (λ x. D × P x)
@@ -55,7 +44,16 @@ module _ {I A : Type 0} (P : I → A → Type 0) (each : (i : I) → HasList (P 
   pub for_all : (items : List I) → ((i : I) → Contains items i) → HasList (λ x. (i : I) × P i x)
   for_all items has = same_set _ _ (λ x h. (h.0, h.2)) (λ x h. (h.0, has h.0, h.1)) (along items)
 
+-- those of a set of which this holds
+pub those : {A : Type 0} (P D : A → Type 0) → HasList P → ((x : A) → Decided (D x)) → HasList (λ x. P x × D x)
+those P D p decided =
+    same_set _ _ (λ x h. subst (λ y. P y × D y) (sym h.2.1) (h.1, h.2.0)) (λ x h. (x, h.0, (h.1, refl))) (for_each (λ i x. D i × (x ≡ i)) (λ i. one_where i (D i) (decided i)) P p)
+
 -- what can be decided
+pub false_unless : (b : Bool) → (b ≡ true → ⊥) → b ≡ false
+false_unless true not = absurd (not refl)
+false_unless false not = refl
+
 pub true_or_not : (b : Bool) → Decided (b ≡ true)
 true_or_not true = inl refl
 true_or_not false = inr (λ e. cc)
@@ -65,13 +63,10 @@ false_or_not true = inr (λ e. cc)
 false_or_not false = inl refl
 
 pub both_decided : (D E : Type 0) → Decided D → Decided E → Decided (D × E)
-both_decided D E (inl d) (inl e) = inl (d, e)
-both_decided D E (inl d) (inr not) = inr (λ h. not h.1)
-both_decided D E (inr not) e = inr (λ h. not h.0)
+both_decided D E d e = grind arith
 
 pub not_decided : (D : Type 0) → Decided D → Decided (¬ D)
-not_decided D (inl d) = inr (λ not. not d)
-not_decided D (inr not) = inl not
+not_decided D d = grind arith
 
 -- a set that a list has has a member or none
 pub some_decided : {A : Type 0} (P : A → Type 0) → HasList P → Decided ((x : A) × P x)

@@ -1,5 +1,5 @@
 -- The least name of a class, and the names of an ascending list up to a place.
-use Rattle.bag_stages.proofs.Common.{◌≡◌, ◌≢◌, ◌<◌, ◌⊎◌, inl, inr, zero, suc, ℕ, List, [], ◌∷◌, length, take, get_or, refl, ap, sym, ◌∙◌, subst, arith, Contains, nat_list_cmp_total, ordering_reverse, Ordering, Less, Equal, Greater, text_cmp, contains_cases, contains_first, contains_behind, member_has, not_both, not_less_than_itself, exact_texts, IsAscii, chars, encode_utf8_all, get_or_default, nfc_of, IsLeastAlike}
+use Rattle.bag_stages.proofs.Common.{inl, inr, ◌≡◌, ◌≢◌, ◌<◌, ℕ, List, ◌∷◌, Bool, refl, ap, sym, ◌∙◌, subst, Contains, bytes_eq, bytes_eq-Decides, filter, IsStrictlySortedBy-filter, nat_list_cmp_total, ordering_reverse, Ordering, Less, Equal, Greater, text_cmp, contains_cases, contains_first, member_has, kept, passed, not_both, not_less_than_itself, exact_texts, IsAscii, chars, encode_utf8_all, get_or_default, nfc_of, IsLeastAlike}
 use Rattle.std.specs.List.Sorted.{IsStrictlySortedBy}
 use Rattle.unicode_normalization.specs.Forms.{nfc, Nfc}
 use Rattle.unicode_normalization.proofs.FormsLemmas.{normalize-ascii}
@@ -19,19 +19,27 @@ pub same_least : (P Q : List ℕ → Type 0) (text least : List ℕ) → ((name 
     → IsLeastAlike P text least → IsLeastAlike Q text least
 same_least P Q text least to from h = record { name = to least h.name; alike = h.alike; lowest = λ other q. h.lowest other (from other q) }
 
--- a name of an ascending list that doesn't stand before a place isn't below the name there
-pub is_behind : (names : List (List ℕ)) (i : ℕ) (name other : List ℕ) → IsStrictlySortedBy text_cmp names → i < length names → name ≡ get_or names i name
-    → Contains names other → Contains (take i names) other ⊎ (text_cmp other name ≢ Less)
+-- those of some names that have a form
+abbrev pub of_form : List ℕ → List (List ℕ) → List (List ℕ)
+of_form form names = filter (λ name. bytes_eq (nfc_of name) form) names
+
+-- the first of ascending names that has the form of a text is the least of its class
+pub first_is_least : (names : List (List ℕ)) (text first : List ℕ) (rest : List (List ℕ)) → IsStrictlySortedBy text_cmp names → of_form (nfc_of text) names ≡ first ∷ rest
+    → IsLeastAlike (Contains names) text first
 unfolding IsStrictlySortedBy
-is_behind [] i name other s lt e c = absurd (omega arith)
-is_behind (x ∷ names) zero name other s lt e c = elim (contains_cases x names other c) [
-  | inl is ↦ inr (not_less_than_itself nat_list_cmp_total other name (sym is ∙ sym e))
-  | inr d ↦ inr (subst (λ p. text_cmp other p ≢ Less) (sym e) (not_both nat_list_cmp_total x other (member_has _ names other s.0 d)))
-]
-is_behind (x ∷ names) (suc i) name other s lt e c = elim (contains_cases x names other c) [
-  | inl is ↦ inl (subst (Contains (x ∷ take i names)) is (contains_first x (take i names)))
-  | inr d ↦ elim (is_behind names i name other s.1 (omega arith) e d) [ inl a ↦ inl (contains_behind x (take i names) other a) | inr b ↦ inr b ]
-]
+first_is_least names text first rest s e =
+    let has_form : List ℕ → Bool = λ name. bytes_eq (nfc_of name) (nfc_of text) in
+    let ascending : IsStrictlySortedBy text_cmp (first ∷ rest) = subst (IsStrictlySortedBy text_cmp) e (IsStrictlySortedBy-filter text_cmp has_form names s) in
+    let own = kept has_form names first (subst (λ ns. Contains ns first) (sym e) (contains_first first rest)) in
+    record {
+      name = own.1;
+      alike = sym ((bytes_eq-Decides (nfc_of first) (nfc_of text)).0 own.0);
+      lowest = λ other c alike.
+          elim (contains_cases first rest other (subst (λ ns. Contains ns other) e (passed has_form names other ((bytes_eq-Decides (nfc_of other) (nfc_of text)).1 (sym alike)) c))) [
+            | inl same ↦ not_less_than_itself nat_list_cmp_total other first (sym same)
+            | inr d ↦ not_both nat_list_cmp_total first other (member_has _ rest other ascending.0 d)
+          ];
+    }
 
 -- an ASCII text is its own NFC form
 pub ascii_itself : (text : List ℕ) → IsAscii text → nfc_of text ≡ text

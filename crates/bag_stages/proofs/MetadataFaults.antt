@@ -1,122 +1,80 @@
 -- The faults of the metadata.
-use Rattle.bag_stages.proofs.Common.{arith, ◌≡◌, ◌⊎◌, inl, inr, ◌++◌, ℕ, List, [], ◌∷◌, map, Option, None, Some, Bool, true, false, is_lt, refl, sym, ap, ◌∙◌, subst, if◌then◌else◌, IsPermutation, IsSortedBy, is_utf8, stage, IsLine, lines_of_file, IsListOf, Code, NotUtf8, InfoLine, OxumMalformed, OxumAgain, OxumDiffers, NoOxum, nothing_listed, same_members, IsElement, InfoFault, IsInfoFault, AreFaults, LineFault, Oxum, elements_of, Bag, file, Fault, fault_cmp, fault_cmp_total, fault_cmp_same, rules_in, IsReadOf, IsMetadataOf, in_file, in_line, InFile, bag_info_txt, MetadataFaultsAreOfStageThree, no_oxum, oxums, oxum_faults, oxum, lines_or_none}
+use Rattle.bag_stages.proofs.Common.{arith, ◌≡◌, ◌↔◌, ◌⊎◌, inl, inr, ◌++◌, ℕ, List, [], ◌∷◌, map, None, true, false, is_lt, refl, sym, ap, ◌∙◌, subst, if◌then◌else◌, IsPermutation, IsSortedBy, is_utf8, stage, IsListOf, Code, NotUtf8, InfoLine, OxumMalformed, OxumAgain, OxumDiffers, NoOxum, same_members, InfoFault, IsInfoFault, LineFault, elements_of, Bag, file, Fault, fault_cmp, rules_in, IsSaid, in_file, in_line, bag_info_txt, MetadataFaultsAreOfStageThree, no_oxum, oxums, oxum_faults, oxum, oxum_text, pair}
+use Rattle.bag_read.proofs.InfoFaults.{faults_of_no_text}
 use Rattle.bag_facts.specs.declared.tag_facts.Metadata.{Metadata}
+use Rattle.bag_facts.specs.declared.tag_facts.TagFacts.TheVariants as facts
 use Rattle.bag_stages.specs.MetadataStage.{MetadataHolds, IsOfMetadata}
-use Rattle.bag_stages.proofs.InFile.{listed_in_file}
-use Rattle.bag_stages.proofs.OxumFaults.{by_line, IsOfOxum, oxum_listed}
+use Rattle.bag_stages.proofs.FaultFields.{made_of}
+use Rattle.bag_stages.proofs.InFile.{IsOfLine, lines_listed, text_tells}
+use Rattle.bag_stages.proofs.OxumFaults.{IsOfOxum, oxum_listed}
 use Rattle.bag_stages.proofs.Sorted.{sorted_together}
 
 -- what is wrong with a line of a text
 line_code : (bag : Bag) (c : Code) (bytes : List ℕ) (x : LineFault) → is_utf8 bytes ≡ true → InfoFault (rules_in bag) c bytes x → c ≡ InfoLine
 line_code bag NotUtf8 bytes x text h = let clash : true ≡ false = sym text ∙ h.2 in cc
-line_code bag InfoLine bytes x text h = refl
-line_code bag c bytes x text h = absurd h
+line_code bag c bytes x text h = grind arith
 
-no_lines : (bytes line : List ℕ) (k : ℕ) → is_utf8 bytes ≡ false → IsLine (lines_of_file bytes) k line → ⊥
-no_lines bytes line k e h = let none : IsLine [] k line = rw e at h in let clash : None ≡ Some line = none.1 in cc
+pub line_tells : (bag : Bag) (bytes : List ℕ) (x : LineFault) → IsInfoFault (rules_in bag) bytes x → (stage x.code ≡ 3) ↔ (is_utf8 bytes ≡ true)
+line_tells bag bytes x h =
+    text_tells 3 (IsInfoFault (rules_in bag) bytes) x (is_utf8 bytes) (λ e. omega (arith, e)) (λ text. ap stage (line_code bag x.code bytes x text h))
+    (faults_of_no_text (rules_in bag) bytes) h
 
-no_line_fault : (bag : Bag) (c : Code) (bytes : List ℕ) (x : LineFault) → is_utf8 bytes ≡ false → c ≡ InfoLine → InfoFault (rules_in bag) c bytes x → ⊥
-no_line_fault bag InfoLine bytes x lacks e h = no_lines bytes h.0 x.line lacks h.2
-no_line_fault bag c bytes x lacks e h = no_lines bytes (subst (λ d. InfoFault (rules_in bag) d bytes x) e h).0 x.line lacks (subst (λ d. InfoFault (rules_in bag) d bytes x) e h).2
-
-module _ (bag : Bag) where
-  -- a fault of a line, beside those of elements
-  abbrev pub IsOfLine : Fault → Type 0
-  IsOfLine f = IsOfMetadata bag f × (f.code ≡ InfoLine)
-
-  in_info : (f : Fault) → IsOfLine f → InFile bag f bag_info_txt None (IsInfoFault (rules_in bag))
-  unfolding IsOfMetadata MetadataHolds
-  in_info f h = subst (MetadataHolds bag f) h.1 h.0
-
-  of_info : (f : Fault) → f.code ≡ InfoLine → InFile bag f bag_info_txt None (IsInfoFault (rules_in bag)) → IsOfLine f
-  unfolding IsOfMetadata MetadataHolds
-  of_info f e h = (subst (MetadataHolds bag f) (sym e) h, e)
-
-  -- what is wrong with the lines of the bytes that are there
-  wrong_line : (bytes : List ℕ) (f : Fault) → file bag bag_info_txt ≡ Some bytes → InFile bag f bag_info_txt None (IsInfoFault (rules_in bag)) → IsInfoFault (rules_in bag) bytes (in_line f)
-  wrong_line bytes f there i = grind arith
-
-  text_lines_listed : (bytes : List ℕ) (lines : List LineFault) → file bag bag_info_txt ≡ Some bytes → is_utf8 bytes ≡ true → AreFaults (IsInfoFault (rules_in bag) bytes) lines
-      → IsListOf fault_cmp IsOfLine (map (in_file bag_info_txt None) lines)
-  text_lines_listed bytes lines there text list =
-      same_members fault_cmp _ _ (map (in_file bag_info_txt None) lines)
-      (λ f h. of_info f (line_code bag f.code bytes (in_line f) text h.2) (h.0, h.1, (bytes, there, h.2)))
-      (λ f h. let i = in_info f h in (i.0, i.1, wrong_line bytes f there i))
-      (listed_in_file bag_info_txt None 3 (IsInfoFault (rules_in bag) bytes) lines (λ x h. ap stage (line_code bag x.code bytes x text h)) list)
-
-  no_lines_listed : (bytes : List ℕ) → file bag bag_info_txt ≡ Some bytes → is_utf8 bytes ≡ false → IsListOf fault_cmp IsOfLine []
-  no_lines_listed bytes there lacks =
-      nothing_listed fault_cmp _ (λ f h. no_line_fault bag f.code bytes (in_line f) lacks h.1 (wrong_line bytes f there (in_info f h)))
-
-  -- the faults of the lines, where the file is there
-  pub lines_listed : (bytes : List ℕ) (is_text : Bool) (lines : List LineFault) → file bag bag_info_txt ≡ Some bytes → is_text ≡ is_utf8 bytes → AreFaults (IsInfoFault (rules_in bag) bytes) lines
-      → IsListOf fault_cmp IsOfLine (if is_text then map (in_file bag_info_txt None) lines else [])
-  lines_listed bytes true lines there text list = text_lines_listed bytes lines there (sym text) list
-  lines_listed bytes false lines there text list = no_lines_listed bytes there (sym text)
-
-  -- and where it isn't
-  pub unread_lines : file bag bag_info_txt ≡ None → (f : Fault) → ¬ (IsOfLine f)
-  unread_lines none f h = let i = in_info f h in let clash : None ≡ Some i.2.0 = sym none ∙ i.2.1 in cc
+-- what the codes of the stage say
+module _ (bag : Bag) (f : Fault) where
+  holds_stage : (c : Code) → MetadataHolds bag f c → stage c ≡ 3
+  unfolding MetadataHolds
+  holds_stage InfoLine h = refl
+  holds_stage c h = grind arith
 
   -- a fault of the metadata is of an element, or of a line
-  pub either_is : (f : Fault) → IsOfOxum bag f ⊎ IsOfLine f → IsOfMetadata bag f
-  either_is f (inl h) = h.0
-  either_is f (inr h) = h.0
+  abbrev pub OfLine : Type 0
+  OfLine = IsOfLine bag bag_info_txt None 3 (IsInfoFault (rules_in bag)) f
 
-  pub is_either : (f : Fault) → IsOfMetadata bag f → IsOfOxum bag f ⊎ IsOfLine f
-  is_either f h = grind arith
-
-  -- what was read of the file tells the faults
-  read_listed : (bytes : List ℕ) (metadata : Metadata) (faults : List Fault) → file bag bag_info_txt ≡ Some bytes → IsMetadataOf (rules_in bag) bytes metadata
-      → IsPermutation (oxum_faults bag_info_txt (oxum bag) (oxums metadata.elements) ++ (if metadata.is_text then map (in_file bag_info_txt None) metadata.faults else [])) faults
-      → IsSortedBy (λ x y. is_lt (fault_cmp x y)) faults → IsListOf fault_cmp (IsOfMetadata bag) faults
-  read_listed bytes metadata faults there says perm sorted =
-      let lines = subst (λ all. IsListOf by_line (IsElement (rules_in bag) all) metadata.elements) (sym (ap lines_or_none there)) says.elements in
-      same_members fault_cmp _ _ faults either_is is_either
-      (sorted_together fault_cmp_total fault_cmp_same (IsOfOxum bag) IsOfLine _ _ faults (no_oxum bag_info_txt) (λ f a b. a.1 b.1)
-      (oxum_listed bag metadata.elements lines) (lines_listed bytes metadata.is_text metadata.faults there says.text says.faults) perm sorted)
-
-  pub read_metadata_listed : (bytes path : List ℕ) (metadata : Metadata) (found : Oxum) (of_oxums of_lines faults : List Fault) → file bag bag_info_txt ≡ Some bytes → IsMetadataOf (rules_in bag) bytes metadata
-      → path ≡ bag_info_txt → found ≡ oxum bag → of_oxums ≡ oxum_faults path found (oxums metadata.elements)
-      → of_lines ≡ (if metadata.is_text then map (in_file path None) metadata.faults else []) → IsPermutation (of_oxums ++ of_lines) faults
-      → IsSortedBy (λ x y. is_lt (fault_cmp x y)) faults → IsListOf fault_cmp (IsOfMetadata bag) faults
-  read_metadata_listed bytes path metadata found of_oxums of_lines faults there says at size oxums_are lines_are perm sorted =
-      read_listed bytes metadata faults there says
-      (subst (λ p. IsPermutation (oxum_faults p (oxum bag) (oxums metadata.elements) ++ (if metadata.is_text then map (in_file p None) metadata.faults else [])) faults) at
-      (subst (λ n. IsPermutation (oxum_faults path n (oxums metadata.elements) ++ (if metadata.is_text then map (in_file path None) metadata.faults else [])) faults) size
-      (subst (λ xs. IsPermutation (xs ++ (if metadata.is_text then map (in_file path None) metadata.faults else [])) faults) oxums_are
-      (subst (λ ys. IsPermutation (of_oxums ++ ys) faults) lines_are perm))))
-      sorted
-
-  -- a bag without the file has the one fault that no element tells the size
-  missing_listed : file bag bag_info_txt ≡ None → IsListOf fault_cmp (IsOfMetadata bag) (no_oxum bag_info_txt ∷ [])
-  missing_listed none =
-      let lines = subst (λ all. IsListOf by_line (IsElement (rules_in bag) all) []) (sym (ap lines_or_none none)) (elements_of (rules_in bag) []) in
-      same_members fault_cmp _ _ (no_oxum bag_info_txt ∷ []) (λ f h. h.0)
-      (λ f h. elim (is_either f h) [ inl a ↦ a | inr b ↦ absurd (unread_lines none f b) ])
-      (oxum_listed bag [] lines)
-
-  unread_by : (content : Option (List ℕ)) → file bag bag_info_txt ≡ content → IsReadOf (IsMetadataOf (rules_in bag)) content None → IsListOf fault_cmp (IsOfMetadata bag) (no_oxum bag_info_txt ∷ [])
-  unread_by None none read = missing_listed none
-  unread_by (Some bytes) there read = absurd read
-
-  pub unread_metadata_listed : (path : List ℕ) (faults : List Fault) → IsReadOf (IsMetadataOf (rules_in bag)) (file bag bag_info_txt) None → path ≡ bag_info_txt → faults ≡ no_oxum path ∷ []
-      → IsListOf fault_cmp (IsOfMetadata bag) faults
-  unread_metadata_listed path faults read at is = rw (is, at) (unread_by (file bag bag_info_txt) refl read)
-
-  pub bytes_read : (metadata : Metadata) → IsReadOf (IsMetadataOf (rules_in bag)) (file bag bag_info_txt) (Some metadata) → (bytes : List ℕ) × (file bag bag_info_txt ≡ Some bytes) × IsMetadataOf (rules_in bag) bytes metadata
-  bytes_read metadata read = grind (arith, file, bag_info_txt)
-
-  -- the faults are of the third stage
-  holds_stage : (f : Fault) (c : Code) → MetadataHolds bag f c → stage c ≡ 3
+  some_of_holds : (c : Code) → f.code ≡ c → MetadataHolds bag f c → IsOfOxum bag f ⊎ OfLine
   unfolding MetadataHolds
-  holds_stage f InfoLine h = refl
-  holds_stage f OxumMalformed h = refl
-  holds_stage f OxumAgain h = refl
-  holds_stage f OxumDiffers h = refl
-  holds_stage f NoOxum h = refl
-  holds_stage f other h = absurd h
+  some_of_holds InfoLine e h = inr (h, ap stage e)
+  some_of_holds OxumMalformed e (d, at, first, none) = inl (inl (d, first, inl (none, made_of f OxumMalformed bag_info_txt None d.line d.value e at)))
+  some_of_holds OxumAgain e (d, at, later) = inl (inr (inl (d, later, made_of f OxumAgain bag_info_txt None d.line d.value e at)))
+  some_of_holds OxumDiffers e (d, told, at, first, is, other) =
+      inl (inl (d, first, inr (told, is, other, made_of f OxumDiffers bag_info_txt None d.line (pair d.value (oxum_text (oxum bag))) e at)))
+  some_of_holds NoOxum e (at, none) = inl (inr (inr (none, made_of f NoOxum bag_info_txt None 0 [] e at)))
+  some_of_holds other e h = absurd h
+
+  pub of_some : IsOfMetadata bag f → IsOfOxum bag f ⊎ OfLine
+  unfolding IsOfMetadata
+  of_some h = some_of_holds f.code refl h
+
+  of_line_code : OfLine → f.code ≡ InfoLine
+  of_line_code h = line_code bag f.code h.0.2.0 (in_line f) ((line_tells bag h.0.2.0 (in_line f) h.0.2.2).0 h.1) h.0.2.2
+
+  pub some_is : IsOfOxum bag f ⊎ OfLine → IsOfMetadata bag f
+  unfolding IsOfMetadata MetadataHolds
+  some_is (inl (inl (d, first, inl (none, is)))) = rw is (d, record { path_is = refl; alg_is = refl; line_is = refl; detail_is = refl }, first, none)
+  some_is (inl (inl (d, first, inr (told, reads, other, is)))) = rw is (d, told, record { path_is = refl; alg_is = refl; line_is = refl; detail_is = refl }, first, reads, other)
+  some_is (inl (inr (inl (d, later, is)))) = rw is (d, record { path_is = refl; alg_is = refl; line_is = refl; detail_is = refl }, later)
+  some_is (inl (inr (inr (none, is)))) = rw is (record { path_is = refl; alg_is = refl; line_is = refl; detail_is = refl }, none)
+  some_is (inr h) = subst (MetadataHolds bag f) (sym (of_line_code h)) h.0
+
+  apart : IsOfOxum bag f → OfLine → ⊥
+  apart h k = let e = of_line_code k in grind arith
 
 pub metadata_of_stage_three : MetadataFaultsAreOfStageThree
 unfolding IsOfMetadata
 metadata_of_stage_three bag f h = holds_stage bag f f.code h
+
+module _ (bag : Bag) where
+  -- what was read of the file tells the faults
+  pub metadata_listed : (m : Metadata) (of_oxums of_lines all : List Fault) → IsSaid bag (facts.Info m) → of_oxums ≡ oxum_faults bag_info_txt (oxum bag) (oxums m.elements)
+      → of_lines ≡ (if m.is_text then map (in_file bag_info_txt None) m.faults else []) → IsPermutation (of_oxums ++ of_lines) all → IsSortedBy (λ x y. is_lt (fault_cmp x y)) all
+      → IsListOf fault_cmp (IsOfMetadata bag) all
+  metadata_listed m of_oxums of_lines all (bytes, there, says) oxums_are lines_are perm sorted =
+      same_members fault_cmp _ _ all (some_is bag) (of_some bag)
+      (sorted_together (IsOfOxum bag) (OfLine bag) of_oxums of_lines all (apart bag) (rw oxums_are (oxum_listed bag m.elements (rw there says.elements)))
+      (rw lines_are (lines_listed bag bag_info_txt None 3 (IsInfoFault (rules_in bag)) is_utf8 (line_tells bag) bytes m.is_text m.faults there says.text says.faults)) perm sorted)
+
+  -- a bag without the file has the one fault that no element tells the size
+  pub missing_listed : file bag bag_info_txt ≡ None → IsListOf fault_cmp (IsOfMetadata bag) (no_oxum bag_info_txt ∷ [])
+  missing_listed none =
+      same_members fault_cmp _ _ (no_oxum bag_info_txt ∷ []) (λ f h. some_is bag f (inl h))
+      (λ f h. grind (arith, of_some bag f h))
+      (oxum_listed bag [] (rw none (elements_of (rules_in bag) [])))

@@ -1,14 +1,11 @@
 -- Manifests that name the payload's files and no other.
-use Rattle.bag_stages.proofs.Common.{◌≡◌, ◌≢◌, ◌↔◌, Bool, ◌<◌, ◌≤◌, ◌+◌, inl, inr, ℕ, List, [], ◌∷◌, ◌++◌, true, false, cond, Contains, length, take, drop, get_or, Some, None, refl, sym, ap, ◌∙◌, subst, append_assoc, append-nil, take-append-drop, IsTrue, ◌==◌, arith, nat_tests, append_cancel_left, map-append, filter-append, IsStrictlySortedBy-filter, nat_list_cmp_total, text_cmp, is_payload_path, Alg, PayloadFileMissing, PayloadFileNotListed, same_lists, Payload, Tag, ManifestEntry, Bag, file, IsOrdered, FileEntry, Fault, rules_in, entry_paths, IsManifestNamed, IsReadOf, AreListed, paths_of, Manifest, file_listed, listed_file, paths_ascend, kept, passed, take_one_more, manifest_of, Names, IsMissing, IsUnlistedFile, IsWrong, GoesOn, IsExact, IsNamedExactly, payload_paths, StopsAt}
+use Rattle.bag_stages.proofs.Common.{◌≡◌, ◌≢◌, ◌↔◌, Bool, ◌<◌, ◌≤◌, ◌+◌, inl, inr, ℕ, List, [], ◌∷◌, ◌++◌, true, false, cond, length, take, drop, get_or, Some, None, sym, ap, ◌∙◌, subst, append_assoc, append-nil, take-append-drop, IsTrue, ◌==◌, arith, nat_tests, append_cancel_left, map-append, filter-append, IsStrictlySortedBy-filter, nat_list_cmp_total, text_cmp, is_payload_path, Alg, PayloadFileMissing, PayloadFileNotListed, same_lists, Payload, Tag, ManifestEntry, Bag, file, IsOrdered, FileEntry, Fault, rules_in, entry_paths, IsManifestNamed, IsReadOf, AreListed, paths_of, Manifest, file_listed, listed_file, paths_ascend, kept, passed, take_one_more, manifest_of, Names, IsMissing, IsUnlistedFile, IsWrong, GoesOn, IsExact, IsNamedExactly, payload_paths, StopsAt}
 use Rattle.std.proofs.Common.{if◌then◌else◌, take_all}
 use Rattle.bag_stages.proofs.NamesByKind.{names_by_kind}
 use Rattle.bag_stages.proofs.ReadManifest.{by_path, entry_names, is_absent, is_there, names_entry}
-use Rattle.bag_stages.proofs.MissingFaults as missing
-use Rattle.bag_stages.proofs.UnlistedFaults as unlisted
 
 of_payload : (b : Bool) → Payload ≡ (if b then Payload else Tag) → b ≡ true
-of_payload true e = refl
-of_payload false e = cc
+of_payload b e = grind arith
 
 -- the names before the rest are those of the payload files among these
 abbrev pub AreBefore : List (List ℕ) → List (List ℕ) → List (List ℕ) → Type 0
@@ -47,16 +44,11 @@ module _ (names : List (List ℕ)) (files : List FileEntry) (i : ℕ) (end : len
   pub all_before : (rest : List ManifestEntry) → AreBefore names (paths_of (take i files)) (entry_paths rest) → none_left ≡ (length rest == 0)
       → IsTrue none_left ↔ (names ≡ payload_paths (paths_of files))
   all_before [] before is = grind (arith, append-nil, take_all)
-  all_before (entry ∷ rest) before is = (
-    λ holds.
-        let more : (length (entry ∷ rest) == 0) ≡ false = grind (arith, nat_tests) in
-        let clash : true ≡ false = sym holds ∙ is ∙ more in cc,
-    λ same.
-        let front = payload_paths (paths_of files) in
-        let all : front ≡ front ++ entry_paths (entry ∷ rest) =
-        sym same ∙ before ∙ ap (λ xs. payload_paths (paths_of xs) ++ entry_paths (entry ∷ rest)) (take_all i files end) in
-        let clash : [] ≡ entry_paths (entry ∷ rest) = append_cancel_left front [] (entry_paths (entry ∷ rest)) (append-nil front ∙ all) in cc,
-  )
+  all_before (entry ∷ rest) before is =
+      let front = payload_paths (paths_of files) in
+      let more : (length (entry ∷ rest) == 0) ≡ false = grind (arith, nat_tests) in
+      let all : names ≡ front ++ entry_paths (entry ∷ rest) = before ∙ ap (λ xs. payload_paths (paths_of xs) ++ entry_paths (entry ∷ rest)) (take_all i files end) in
+      grind (arith, append_cancel_left front [] (entry_paths (entry ∷ rest)), append-nil front)
 
 module _ (bag : Bag) (alg : Alg) where
   -- the payload manifest that was read
@@ -66,10 +58,8 @@ module _ (bag : Bag) (alg : Alg) where
     read_exactly same = (
       is_there bag Payload alg m read,
       record {
-        listed = λ path named.
-            listed_file bag files path listed (kept is_payload_path (paths_of files) path (subst (λ xs. Contains xs path) same (names_entry bag Payload alg m read path named))).1;
-        named = λ path h.
-            entry_names bag Payload alg m read path (subst (λ xs. Contains xs path) (sym same) (passed is_payload_path (paths_of files) path h.1 (file_listed bag files path listed h.0)));
+        listed = λ path named. grind (arith, names_entry bag Payload alg m read path named, kept is_payload_path (paths_of files) path, listed_file bag files path listed);
+        named = λ path h. grind (arith, entry_names bag Payload alg m read path, passed is_payload_path (paths_of files) path h.1, file_listed bag files path listed h.0);
       },
     )
 
@@ -80,10 +70,8 @@ module _ (bag : Bag) (alg : Alg) where
     exactly_read ordered (there, exact) =
         same_lists text_cmp nat_list_cmp_total (entry_paths m.entries) (payload_paths (paths_of files)) (paths_ascend (λ (e : ManifestEntry). e.path) m.entries (by_path bag Payload alg m read))
         (IsStrictlySortedBy-filter text_cmp is_payload_path (paths_of files) ordered.ascending)
-        (λ path c. let named = entry_names bag Payload alg m read path c in
-        passed is_payload_path (paths_of files) path (is_payload_name path named) (file_listed bag files path listed (exact.listed path named)))
-        (λ path c. let both = kept is_payload_path (paths_of files) path c in
-        names_entry bag Payload alg m read path (exact.named path (listed_file bag files path listed both.1, both.0)))
+        (λ path c. grind (arith, entry_names bag Payload alg m read path c, passed is_payload_path (paths_of files) path, is_payload_name path, file_listed bag files path listed, exact.listed path))
+        (λ path c. grind (arith, kept is_payload_path (paths_of files) path c, names_entry bag Payload alg m read path, exact.named path, listed_file bag files path listed))
 
   -- it isn't there
   pub none_exact : IsReadOf (IsManifestNamed (rules_in bag) Payload alg) (file bag (manifest_of Payload alg)) None → ¬ (IsExact bag alg)
@@ -91,12 +79,10 @@ module _ (bag : Bag) (alg : Alg) where
 
   -- it is wrong about no file
   pub nothing_wrong : IsNamedExactly bag alg → (f : Fault) → ¬ (IsWrong bag alg f)
-  nothing_wrong exact f (inl (is, (named, lacks))) = let clash : false ≡ true = sym lacks ∙ exact.listed f.path named in cc
-  nothing_wrong exact f (inr (by, (is, (here, (supported, lacks))))) = lacks (exact.named f.path here)
+  nothing_wrong exact f h = grind (arith, exact.listed f.path, exact.named f.path)
 
   pub told : (f : Fault) → IsWrong bag alg f → f.alg ≡ Some alg
-  told f (inl h) = missing.told bag Payload alg f h
-  told f (inr h) = unlisted.told bag alg f h
+  told f h = grind arith
 
   pub apart : (f : Fault) → IsMissing bag Payload alg f → IsUnlistedFile bag alg f → ⊥
   apart f h k = let clash : PayloadFileMissing ≡ PayloadFileNotListed = sym (ap (λ (x : Fault). x.code) h.0) ∙ ap (λ (x : Fault). x.code) k.1.0 in cc

@@ -1,9 +1,12 @@
 -- The faults of one file's digests, one manifest after another.
-use Rattle.bag_stages.proofs.Common.{arith, ◌≡◌, ◌≢◌, ◌<◌, ◌≤◌, ◌+◌, ◌++◌, ℕ, Bool, true, false, cond, List, length, take, get_or, Option, None, Some, refl, sym, ap, ◌∙◌, subst, append-nil, bytes_eq, Contains, option_to_list, on, Less, get_or_default, take_all, bytes_eq-Decides, encode_lower, algs, rank_cmp, IsListOf, IsOnly, text_cmp, Alg, each_is_listed, list_ascends, nothing_listed, only_listed, same_members, IsEntry, Kind, ManifestEntry, entry_named, entry_of_path_once, named_has_entry, Bag, file, digest, fault_cmp, of_path, Fault, rules_in, entry_paths, AreEntriesOf, mapped_contains, lines_in, lines_or_none, manifest_of, Names, IsSpelledBy, differing, differing_code, sum_differs, kind_of, expected_and_found, IsEntryIn, IsFaultOfFile, Expected}
-use Rattle.bag_stages.proofs.ByItem.{OfSome, one_item_more}
+use Rattle.bag_stages.proofs.Common.{arith, ◌≡◌, ◌≢◌, ◌≤◌, ℕ, Bool, true, false, cond, List, length, take, Option, None, Some, refl, sym, ap, ◌∙◌, subst, bytes_eq, Contains, on, Less, bytes_eq-Decides, encode_lower, algs, rank_cmp, IsListOf, IsOnly, text_cmp, Alg, nothing_listed, same_members, IsEntry, Kind, ManifestEntry, entry_named, entry_of_path_once, Bag, file, digest, fault_cmp, of_path, Fault, rules_in, entry_paths, AreEntriesOf, lines_in, lines_or_none, manifest_of, Names, IsSpelledBy, differing, differing_code, sum_differs, kind_of, expected_and_found, IsEntryIn, IsFaultOfFile, Expected, ◌<◌, ◌+◌, ◌++◌, ◌∷◌, ◌⊎◌, ◌↔◌, [], map, get_or, filter_map, cons_option, option_to_list, append-nil, map-append, filter_map-append, one_listed, only_listed, take_one_more, AreNaming, IsGivenBy, faults_of_bytes}
+use Rattle.bag_facts.proofs.AlgsOf.{all_algs, no_alg_yet, one_alg_more, one_alg_other, AreThose}
+use Rattle.bag_stages.proofs.ByItem.{OfSome, all_algs_listed, next_alg_listed, no_items}
 use Rattle.bag_stages.proofs.InFile.{less_by_alg}
-use Rattle.bag_stages.proofs.NamesByKind.{names_by_kind}
+use Rattle.bag_stages.proofs.NamesByKind.{entry_kind}
+use Rattle.bag_stages.proofs.ReadManifest.{has_path}
 use Rattle.bag_stages.proofs.ValidityFaults.{entry_of_validity, fault_of_sum, validity_of_entry}
+use Rattle.bag_stages.proofs.Sorted.{either_listed}
 
 -- the fault of a file that is there, by its entry in one manifest
 abbrev pub IsOfAlg : Bag → List ℕ → Kind → Alg → Fault → Type 0
@@ -13,9 +16,7 @@ IsOfAlg bag path kind alg f =
 
 entries_by : (bag : Bag) (kind : Kind) (alg : Alg) (content : Option (List ℕ)) (entries : List ManifestEntry) → AreEntriesOf (rules_in bag) kind alg content entries
     → IsListOf (on (λ e. e.path) text_cmp) (IsEntry (rules_in bag) kind alg (lines_or_none content)) entries
-entries_by bag kind alg None entries none =
-    subst (IsListOf (on (λ e. e.path) text_cmp) (IsEntry (rules_in bag) kind alg (lines_or_none None))) (sym none)
-    (nothing_listed _ (IsEntry (rules_in bag) kind alg (lines_or_none None)) (λ e h. let clash : None ≡ Some h.0 = h.1.1 in cc))
+entries_by bag kind alg None entries none = rw none (nothing_listed _ _ (λ e h. let clash : None ≡ Some h.0 = h.1.1 in cc))
 entries_by bag kind alg (Some bytes) entries list = list
 
 -- one manifest
@@ -26,9 +27,7 @@ module _ (bag : Bag) (path : List ℕ) (kind : Kind) (alg : Alg) where
 
     -- it doesn't name a path that no entry has
     pub not_named : ¬ (Contains (entry_paths entries) path) → ¬ (Names bag kind alg path)
-    not_named lacks named =
-        let e = named_has_entry (rules_in bag) kind alg (lines_in bag (manifest_of kind alg)) path named in
-        lacks (subst (Contains (entry_paths entries)) e.2 (mapped_contains (λ e. e.path) entries e.0 ((listed.members e.0).1 e.1)))
+    not_named lacks named = lacks (has_path bag kind alg entries listed path named)
 
   -- one that doesn't name the file has no fault of it
   pub none_by_alg : ¬ (Names bag kind alg path) → IsOnly (IsOfAlg bag path kind alg) None
@@ -53,20 +52,10 @@ module _ (bag : Bag) (path content : List ℕ) (there : file bag path ≡ Some c
   same_fault = λ i. of_path (differing_code (sym right i)) (sym given.path_is i) (Some one.alg) (expected_and_found (sym given.digest_is i) found)
 
   differing_by : (same : Bool) → bytes_eq (encode_lower one.digest) found ≡ same → IsOnly (IsOfAlg bag path kind one.alg) (cond same None (Some (sum_differs path one found)))
-  differing_by true e = λ f h.
-      h.5 (ap (λ (e : ManifestEntry). e.digest) (same_entry f h) ∙ given.digest_is ∙ (bytes_eq-Decides (encode_lower one.digest) found).0 e ∙ sym (ap (digest one.alg) (same_content f h)))
-  differing_by false e = (
-    (
-      given.entry,
-      content,
-      given.listed,
-      given.path_is,
-      there,
-      (λ is. let clash : false ≡ true = sym e ∙ (bytes_eq-Decides (encode_lower one.digest) found).1 (sym given.digest_is ∙ is) in cc),
-      same_fault,
-    ),
-    λ f h. h.6 ∙ (λ i. fault_of_sum kind one.alg (same_entry f h i) (digest one.alg (same_content f h i))) ∙ sym same_fault,
-  )
+  differing_by true e = λ f h. grind (arith, same_entry f h, same_content f h, bytes_eq-Decides (encode_lower one.digest) found)
+  differing_by false e =
+      let differ : given.entry.digest ≢ found = λ is. let clash : false ≡ true = sym e ∙ (bytes_eq-Decides (encode_lower one.digest) found).1 (sym given.digest_is ∙ is) in cc in
+      ((given.entry, content, given.listed, given.path_is, there, differ, same_fault), λ f h. grind (arith, same_entry f h, same_content f h, same_fault))
 
   pub only_differing : IsOnly (IsOfAlg bag path kind one.alg) (differing path content one)
   only_differing = differing_by (bytes_eq (encode_lower one.digest) found) refl
@@ -75,38 +64,76 @@ module _ (bag : Bag) (path : List ℕ) (kind : Kind) where
   less_of_alg : (a b : Alg) (x y : Fault) → IsOfAlg bag path kind a x → IsOfAlg bag path kind b y → rank_cmp a b ≡ Less → fault_cmp x y ≡ Less
   less_of_alg a b x y h k before = grind (arith, less_by_alg)
 
-  -- the manifests of the first algorithms, and of the next
-  pub one_alg_more : (i : ℕ) (any : Alg) (faults : List Fault) (fault : Option Fault) → i < length algs → IsListOf fault_cmp (OfSome (IsOfAlg bag path kind) (take i algs)) faults
-      → IsOnly (IsOfAlg bag path kind (get_or algs i any)) fault → IsListOf fault_cmp (OfSome (IsOfAlg bag path kind) (take (i + 1) algs)) (faults ++ option_to_list fault)
-  one_alg_more i any faults fault lt list only =
-      let alg : Alg = get_or algs i any in
-      one_item_more rank_cmp (IsOfAlg bag path kind) less_of_alg algs i alg faults (option_to_list fault) list_ascends lt (sym (get_or_default algs i alg any lt)) list
-      (only_listed fault_cmp (IsOfAlg bag path kind alg) fault only)
+  to_file : (f : Fault) → (alg : Alg) × IsOfAlg bag path kind alg f → IsFaultOfFile bag path f
+  to_file f (alg, (entry, content, listed, at, there, differ, is)) = grind (arith, entry_of_validity, listed)
 
-  pub no_alg_more : (i : ℕ) (any : Alg) (faults : List Fault) → i < length algs → IsListOf fault_cmp (OfSome (IsOfAlg bag path kind) (take i algs)) faults
-      → IsOnly (IsOfAlg bag path kind (get_or algs i any)) None → IsListOf fault_cmp (OfSome (IsOfAlg bag path kind) (take (i + 1) algs)) faults
-  no_alg_more i any faults lt list only = grind (arith, append-nil faults, one_alg_more i any faults None lt list only)
-
-  to_file : (f : Fault) → OfSome (IsOfAlg bag path kind) algs f → IsFaultOfFile bag path f
-  to_file f (alg, c, (entry, content, listed, at, there, differ, is)) = grind (arith, entry_of_validity, listed)
-
-  from_file : kind ≡ kind_of path → (f : Fault) → IsFaultOfFile bag path f → OfSome (IsOfAlg bag path kind) algs f
+  from_file : kind ≡ kind_of path → (f : Fault) → IsFaultOfFile bag path f → (alg : Alg) × IsOfAlg bag path kind alg f
   from_file right f (valid, of_path) =
       let some = validity_of_entry bag f valid in
-      let alg : Alg = some.1.0 in
-      let entry : ManifestEntry = some.1.1.0 in
-      let at : entry.path ≡ path = sym (ap (λ (f : Fault). f.path) some.1.1.2.3) ∙ of_path in
-      let named : Names bag some.0 alg path = subst (Names bag some.0 alg) at (entry_named (rules_in bag) some.0 alg (lines_in bag (manifest_of some.0 alg)) entry some.1.1.1) in
-      let same : some.0 ≡ kind = names_by_kind bag some.0 alg path named ∙ sym right in (
-        alg,
-        each_is_listed alg,
-        subst (λ k. IsOfAlg bag path k alg f) same
-            (entry, some.1.1.2.0, some.1.1.1, at, sym (ap (file bag) at) ∙ some.1.1.2.1, some.1.1.2.2, some.1.1.2.3),
-      )
+      let at : some.1.1.0.path ≡ path = sym (ap (λ (f : Fault). f.path) some.1.1.2.3) ∙ of_path in
+      let same : some.0 ≡ kind = entry_kind bag some.0 some.1.0 (lines_in bag (manifest_of some.0 some.1.0)) some.1.1.0 some.1.1.1 ∙ ap kind_of at ∙ sym right in
+      (some.1.0, subst (λ k. IsOfAlg bag path k some.1.0 f) same (some.1.1.0, some.1.1.2.0, some.1.1.1, at, sym (ap (file bag) at) ∙ some.1.1.2.1, some.1.1.2.2, some.1.1.2.3))
 
-  -- those of the kind that may name the file are all
-  pub all_algs : kind ≡ kind_of path → (i : ℕ) (faults : List Fault) → length algs ≤ i → IsListOf fault_cmp (OfSome (IsOfAlg bag path kind) (take i algs)) faults
-      → IsListOf fault_cmp (IsFaultOfFile bag path) faults
-  all_algs right i faults le list =
-      same_members fault_cmp _ _ faults to_file (from_file right)
-      (subst (λ some. IsListOf fault_cmp (OfSome (IsOfAlg bag path kind) some) faults) (take_all i algs le) list)
+-- what manifests give for a file
+abbrev pub algs_of : List Expected → List Alg
+algs_of expected = map (λ one. one.alg) expected
+
+pub pushed : (h : Expected → Option Fault) (before : List Expected) (one : Expected) → filter_map h before ++ option_to_list (h one) ≡ filter_map h (before ++ one ∷ [])
+pushed h before one = grind (arith, filter_map, filter_map-append, option_to_list, cons_option)
+
+-- one more of them was looked at
+pub looked_at : (h : Expected → Option Fault) (xs : List Expected) (i : ℕ) (x : Expected) (before : List Fault) (o : Option Fault) → i < length xs → x ≡ get_or xs i x
+    → before ≡ filter_map h (take i xs) → o ≡ h x → before ++ option_to_list o ≡ filter_map h (take (i + 1) xs)
+looked_at h xs i x before o lt is e same = grind (arith, pushed, take_one_more)
+
+with_one : (before : List Expected) (one : Expected) (alg : Alg) → Contains (algs_of (before ++ one ∷ [])) alg ↔ (Contains (algs_of before) alg ⊎ (alg ≡ one.alg))
+with_one before one alg =
+    rw (map-append (λ (e : Expected). e.alg) before (one ∷ []))
+    (either_listed (Contains (algs_of before)) (λ a. a ≡ one.alg) (algs_of before) (one.alg ∷ []) (λ a. (λ c. c, λ c. c))
+    (one_listed (λ x y. Less) (λ a. a ≡ one.alg) one.alg refl (λ y e. e)).members alg)
+
+module _ (bag : Bag) (path : List ℕ) (kind : Kind) where
+  -- this is what the manifests of these algorithms give
+  pub record AreGivenBy (among : List Alg) (expected : List Expected) : Type 0 where
+    pub naming : AreThose (λ alg. Names bag kind alg path) among (algs_of expected)
+    pub faults : (content : List ℕ) → file bag path ≡ Some content → IsListOf fault_cmp (OfSome (IsOfAlg bag path kind) among) (faults_of_bytes path content expected)
+
+  pub none_yet : AreGivenBy [] []
+  none_yet = record { naming = no_alg_yet (λ alg. Names bag kind alg path); faults = λ content there. no_items (IsOfAlg bag path kind) }
+
+  -- one more gives nothing
+  pub no_more : (i : ℕ) (any : Alg) (expected : List Expected) → i < length algs → AreGivenBy (take i algs) expected
+      → IsGivenBy bag path kind (get_or algs i any) None → AreGivenBy (take (i + 1) algs) expected
+  no_more i any expected lt so_far none = record {
+    naming = one_alg_other (λ alg. Names bag kind alg path) i any (algs_of expected) lt so_far.naming none;
+    faults = λ content there.
+        rw (sym (append-nil (faults_of_bytes path content expected)))
+        (next_alg_listed (IsOfAlg bag path kind) (less_of_alg bag path kind) i any _ [] lt (so_far.faults content there)
+        (nothing_listed fault_cmp _ (none_by_alg bag path kind (get_or algs i any) none)));
+  }
+
+  -- or gives a digest
+  pub one_more : kind ≡ kind_of path → (i : ℕ) (any : Alg) (expected : List Expected) (one : Expected) → i < length algs → AreGivenBy (take i algs) expected
+      → IsGivenBy bag path kind (get_or algs i any) (Some one) → AreGivenBy (take (i + 1) algs) (expected ++ one ∷ [])
+  one_more right i any expected one lt so_far (at, given) = record {
+    naming = one_alg_more (λ alg. Names bag kind alg path) i any (algs_of expected) lt so_far.naming (algs_of (expected ++ one ∷ []))
+        (subst (λ a. Names bag kind a path) at (spelled_is_named bag path kind one given))
+        (λ alg. subst (λ a. Contains (algs_of (expected ++ one ∷ [])) alg ↔ (Contains (algs_of expected) alg ⊎ (alg ≡ a))) at (with_one expected one alg));
+    faults = λ content there.
+        subst (IsListOf fault_cmp (OfSome (IsOfAlg bag path kind) (take (i + 1) algs))) (pushed (differing path content) expected one)
+        (next_alg_listed (IsOfAlg bag path kind) (less_of_alg bag path kind) i any (faults_of_bytes path content expected)
+        (option_to_list (differing path content one)) lt (so_far.faults content there)
+        (only_listed fault_cmp _ (differing path content one)
+        (subst (λ a. IsOnly (IsOfAlg bag path kind a) (differing path content one)) at (only_differing bag path content there kind right one given))));
+  }
+
+  -- all of them
+  module _ (right : kind ≡ kind_of path) (i : ℕ) (expected : List Expected) (le : length algs ≤ i) (given : AreGivenBy (take i algs) expected) where
+    pub all_naming : AreNaming bag path (algs_of expected)
+    all_naming = subst (λ k. (alg : Alg) → Contains (algs_of expected) alg ↔ Names bag k alg path) right
+        (all_algs (λ alg. Names bag kind alg path) i (algs_of expected) le given.naming)
+
+    pub all_faults : (content : List ℕ) → file bag path ≡ Some content → IsListOf fault_cmp (IsFaultOfFile bag path) (faults_of_bytes path content expected)
+    all_faults content there =
+        same_members fault_cmp _ _ (faults_of_bytes path content expected) (to_file bag path kind) (from_file bag path kind right)
+        (all_algs_listed (IsOfAlg bag path kind) (less_of_alg bag path kind) i (faults_of_bytes path content expected) le (given.faults content there))

@@ -1,7 +1,7 @@
 -- The files whose digests are compared.
-use Rattle.bag_stages.proofs.Common.{◌≡◌, ◌≢◌, ℕ, List, [], ◌∷◌, ap, is_some, refl, subst, sym, Contains, Alg, contains_first, contains_nothing, entry_named, Bag, Fault, rules_in, lines_in, manifest_of, Names, AreNaming, kind_of, IsNamed, IsSummed, IsOfValidity}
+use Rattle.bag_stages.proofs.Common.{◌≢◌, ℕ, List, [], ◌∷◌, ap, is_some, refl, subst, Contains, Alg, contains_first, contains_nothing, entry_named, Bag, Fault, rules_in, lines_in, manifest_of, Names, AreNaming, kind_of, IsNamed, IsSummed, IsOfValidity}
 use Rattle.bag_stages.proofs.NamesByKind.{names_by_kind}
-use Rattle.bag_stages.proofs.ValidityFaults.{validity_of_entry, IsOfSomeEntry}
+use Rattle.bag_stages.proofs.ValidityFaults.{validity_of_entry}
 
 -- of the algorithms whose manifests name a path there is one exactly where a manifest, of whatever kind, names it
 module _ (bag : Bag) (path : List ℕ) where
@@ -16,10 +16,7 @@ module _ (bag : Bag) (path : List ℕ) where
 
 -- each fault of a digest is of a file that is there and that a manifest names
 module _ (bag : Bag) (f : Fault) where
-  entry_is_summed : IsOfSomeEntry bag f → IsSummed bag f.path
-  entry_is_summed (kind, (alg, (entry, listed, (content, there, differ, is)))) =
-      let at : f.path ≡ entry.path = ap (λ (x : Fault). x.path) is in
-      subst (IsSummed bag) (sym at) (ap is_some there, (kind, alg, entry_named (rules_in bag) kind alg (lines_in bag (manifest_of kind alg)) entry listed))
-
   pub faulty_is_summed : IsOfValidity bag f → IsSummed bag f.path
-  faulty_is_summed h = entry_is_summed (validity_of_entry bag f h)
+  faulty_is_summed h =
+      let (kind, (alg, (entry, listed, (content, there, differ, is)))) = validity_of_entry bag f h in
+      rw (ap (λ (x : Fault). x.path) is) (ap is_some there, (kind, alg, entry_named (rules_in bag) kind alg (lines_in bag (manifest_of kind alg)) entry listed))

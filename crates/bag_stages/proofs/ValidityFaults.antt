@@ -1,5 +1,5 @@
 -- The faults of validity.
-use Rattle.bag_stages.proofs.Common.{arith, ◌≡◌, ◌≢◌, ℕ, List, Some, refl, stage, Alg, Code, PayloadSumDiffers, TagSumDiffers, Kind, Payload, Tag, ManifestEntry, Bag, file, digest, of_path, Fault, differing_code, expected_and_found, Differs, IsEntryIn, ValidityFaultsAreOfStageSeven}
+use Rattle.bag_stages.proofs.Common.{arith, ◌≡◌, ◌≢◌, ℕ, List, Some, refl, stage, Alg, Code, PayloadSumDiffers, Kind, Payload, Tag, ManifestEntry, Bag, file, digest, of_path, Fault, differing_code, expected_and_found, Differs, IsEntryIn, ValidityFaultsAreOfStageSeven}
 use Rattle.bag_stages.specs.ValidityStage.{IsOfValidity, ValidityHolds}
 use Rattle.bag_stages.proofs.FaultFields.{made_of}
 
@@ -32,8 +32,7 @@ module _ (bag : Bag) (f : Fault) where
   holds_stage : (c : Code) → ValidityHolds bag f c → stage c ≡ 7
   unfolding ValidityHolds
   holds_stage PayloadSumDiffers h = refl
-  holds_stage TagSumDiffers h = refl
-  holds_stage other h = absurd h
+  holds_stage c h = grind arith
 
   from_fields : (kind : Kind) → f.code ≡ differing_code kind → Differs bag f kind → IsOfSomeEntry bag f
   from_fields kind e (alg, entry, content, listed, there, differ, at) = grind (arith, made_of)
@@ -41,8 +40,7 @@ module _ (bag : Bag) (f : Fault) where
   of_holds : (c : Code) → f.code ≡ c → ValidityHolds bag f c → IsOfSomeEntry bag f
   unfolding ValidityHolds
   of_holds PayloadSumDiffers e h = from_fields Payload e h
-  of_holds TagSumDiffers e h = from_fields Tag e h
-  of_holds other e h = absurd h
+  of_holds c e h = grind (arith, from_fields)
 
   pub validity_of_entry : IsOfValidity bag f → IsOfSomeEntry bag f
   unfolding IsOfValidity

@@ -1,15 +1,8 @@
 -- Every bag has a list of the faults of its validity.
-use Rattle.bag_stages.proofs.Common.{◌≡◌, ◌≢◌, inl, inr, ℕ, List, Bool, true, false, Option, None, Some, refl, sym, ap, ◌∙◌, subst, bytes_eq, is_utf8, bytes_eq-Decides, Alg, IsEntry, Kind, ManifestEntry, some_entries, Bag, file, digest, rules_in, HasList, lines_or_none, manifest_of, IsEntryIn, IsOfValidity, ValidityFaultsAreListed}
-use Rattle.bag_stages.proofs.BagLists.{over_algs, over_kinds}
-use Rattle.bag_stages.proofs.HasLists.{Decided, nothing, one_where, same_set, for_each}
+use Rattle.bag_stages.proofs.Common.{arith, ◌≡◌, ◌≢◌, ℕ, List, Option, None, Some, refl, sym, ◌∙◌, is_utf8, Alg, IsEntry, Kind, ManifestEntry, some_entries, Bag, file, digest, rules_in, HasList, lines_or_none, manifest_of, IsEntryIn, IsOfValidity, ValidityFaultsAreListed}
+use Rattle.bag_stages.proofs.BagLists.{over_algs, over_kinds, other_or_not}
+use Rattle.bag_stages.proofs.HasLists.{nothing, one_where, same_set, for_each}
 use Rattle.bag_stages.proofs.ValidityFaults.{sum_fault, IsOfEntry, IsOfKind, IsOfManifest, IsOfSomeEntry, entry_of_validity, validity_of_entry}
-
-differ_by : (a b : List ℕ) (same : Bool) → bytes_eq a b ≡ same → Decided (a ≢ b)
-differ_by a b true e = inr (λ no. no ((bytes_eq-Decides a b).0 e))
-differ_by a b false e = inl (λ is. let clash : false ≡ true = sym e ∙ (bytes_eq-Decides a b).1 is in cc)
-
-differ_or_not : (a b : List ℕ) → Decided (a ≢ b)
-differ_or_not a b = differ_by a b (bytes_eq a b) refl
 
 -- the entries of what is at the place of a manifest
 entries_or_none : (bag : Bag) (kind : Kind) (alg : Alg) (content : Option (List ℕ)) → HasList (IsEntry (rules_in bag) kind alg (lines_or_none content))
@@ -26,11 +19,8 @@ module _ (bag : Bag) where
   of_file kind alg entry (Some content) e =
       same_set _ (IsOfEntry bag kind alg entry)
       (λ f h. (content, e, h.0, h.1))
-      (λ f h. (
-      let both : Some h.0 ≡ Some content = sym h.1 ∙ e in
-      let same : h.0 ≡ content = cc in
-      (subst (λ c. entry.digest ≢ digest alg c) same h.2, h.3 ∙ ap (sum_fault kind alg entry) same)))
-      (one_where (sum_fault kind alg entry content) (entry.digest ≢ digest alg content) (differ_or_not entry.digest (digest alg content)))
+      (λ f h. grind arith)
+      (one_where (sum_fault kind alg entry content) (entry.digest ≢ digest alg content) (other_or_not entry.digest (digest alg content)))
 
   of_manifest : (kind : Kind) (alg : Alg) → HasList (IsOfManifest bag kind alg)
   of_manifest kind alg =

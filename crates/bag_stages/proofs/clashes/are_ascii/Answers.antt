@@ -1,6 +1,6 @@
 use Rattle.bag_stages.proofs.Common.{[], arith, sym, texts_of}
 use Rattle.bag_stages.proofs.ClashFaults.{one_ascii_more}
-use Rattle.bag_stages.proofs.PayloadNames.{Lent, all_texts, text_at, text_within}
+use Rattle.bag_stages.proofs.PayloadNames.{all_texts, text_at, text_within}
 use Rattle.bag_stages.proofs.clashes.are_ascii.Goals as goal
 
 pub loop-name-preserved : goal.loop-name-preserved
@@ -14,12 +14,9 @@ pub returns-then-not-is_ascii : goal.returns-then-not-is_ascii
 returns-then-not-is_ascii c = (
   λ is. cc,
   λ all.
-      let names = c.args.names.now in
-      let i = c.loop-name.name-index in
-      let none : Lent = record { ref_ptr = (0, 0); now = [] } in
-      let here = text_at names i none c.loop-name-test.true in
       let other = rw c.if-not-is_ascii.true at c.is_ascii.ensures.cases in
-      let low = all _ (i, text_within names i c.loop-name-test.true, sym here) other.0 in
+      let here = sym (text_at c.args.names.now c.loop-name.name-index (record { ref_ptr = (0, 0); now = [] }) c.loop-name-test.true) in
+      let low = all _ (c.loop-name.name-index, text_within c.args.names.now c.loop-name.name-index c.loop-name-test.true, here) other.0 in
       absurd (omega (arith, low, other.1)),
 )
 

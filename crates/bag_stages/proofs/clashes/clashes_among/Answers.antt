@@ -1,16 +1,12 @@
 use Rattle.bag_stages.proofs.Common.{[], None, Some, refl, sym, ◌∙◌, subst, append-nil, Contains, IsListOf, fault_cmp, first_of, IsClashOf, texts_of}
 use Rattle.bag_stages.proofs.ByItem.{OfSome, no_items}
-use Rattle.bag_stages.proofs.ClashFaults.{all_clashes, no_firsts, one_lent_more}
+use Rattle.bag_stages.proofs.ClashFaults.{all_clashes, one_lent_more}
 use Rattle.bag_stages.proofs.PayloadNames.{all_texts}
 use Rattle.bag_stages.proofs.clashes.clashes_among.Goals as goal
 use Rattle.bag_stages.proofs.clashes.clashes_among.Goals.{in-Some+in_ok-push, in_default}
 
 pub loop-name-init : goal.loop-name-init
-loop-name-init c = λ sorted.
-    let names = texts_of c.args.names.now in (
-      no_firsts names (first_of c.new-firsts.result) (λ form. rw c.new-firsts.ensures.empty refl),
-      rw c.new-faults.ensures.items (no_items (IsClashOf (Contains names))),
-    )
+loop-name-init c = λ sorted. ((λ form. rw c.new-firsts.ensures.empty refl), rw c.new-faults.ensures.items (no_items (IsClashOf (Contains (texts_of c.args.names.now)))))
 
 pub loop-name-preserved : goal.loop-name-preserved
 loop-name-preserved c = λ sorted.

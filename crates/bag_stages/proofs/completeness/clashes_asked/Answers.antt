@@ -1,11 +1,10 @@
-use Rattle.bag_stages.proofs.Common.{IfOk-weaker}
-use Rattle.bag_stages.proofs.CompletenessFaults.{clashes_sought, no_clashes_sought}
+use Rattle.bag_stages.proofs.Common.{◌≡◌, false, true, sym, ◌∙◌, IfOk-weaker, fault_cmp, nothing_listed, same_members}
 use Rattle.bag_stages.proofs.completeness.clashes_asked.Goals as goal
 
 pub returns-then-is_asked : goal.returns-then-is_asked
 returns-then-is_asked c = IfOk-weaker c.clash_faults.result _ _
-    (λ faults list bag facts deep. clashes_sought bag c.args.facts.now.options.clashes faults.items c.if-is_asked.true (list bag facts deep))
+    (λ faults list bag facts deep. same_members fault_cmp _ _ faults.items (λ f h. (h, c.if-is_asked.true)) (λ f h. h.0) (list bag facts deep))
     c.clash_faults.ensures
 
 pub returns-else-is_asked : goal.returns-else-is_asked
-returns-else-is_asked c = λ bag facts deep. rw c.new.ensures.items (no_clashes_sought bag c.args.facts.now.options.clashes c.if-is_asked.false)
+returns-else-is_asked c = λ bag facts deep. rw c.new.ensures.items (nothing_listed fault_cmp _ (λ f h. let clash : false ≡ true = sym c.if-is_asked.false ∙ h.1 in cc))

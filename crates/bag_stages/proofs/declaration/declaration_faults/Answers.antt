@@ -1,13 +1,17 @@
-use Rattle.bag_stages.proofs.Common.{◌∷◌, [], ap, ◌∙◌, IfOk-weaker}
-use Rattle.bag_stages.proofs.DeclarationFaults.{read_declaration_listed, missing_declaration_listed}
+use Rattle.bag_stages.proofs.Common.{IfOk-weaker, file, IsDeclarationOf, bagit_txt}
+use Rattle.bag_stages.proofs.DeclarationFaults.{declared_listed, missing_listed}
+use Rattle.bag_stages.proofs.InFile.{not_there, read_bytes}
 use Rattle.bag_stages.proofs.declaration.declaration_faults.Goals as goal
 
 pub returns-in-Some : goal.returns-in-Some
 returns-in-Some c = IfOk-weaker c.faults_in_file.result _ _
-    (λ all e bag facts. read_declaration_listed bag c.in-Some.declaration.now all.items (c.in-Some.ensures bag facts) (rw (c.as_slice.ensures, c.in_ok-path.ensures) at e))
+    (λ all e bag facts.
+    let read = read_bytes IsDeclarationOf (file bag bagit_txt) c.in-Some.declaration.now (c.in-Some.ensures bag facts) in
+    let is = rw (c.as_slice.ensures, c.in_ok-path.ensures) at e in
+    rw is (declared_listed bag read.0 c.in-Some.declaration.now.faults read.1 read.2.faults))
     c.faults_in_file.ensures
 
 pub returns : goal.returns
 returns c bag facts =
-    missing_declaration_listed bag _ (c.in-None.ensures bag facts)
-    (c.in_ok-vec-in-None.ensures.items ∙ ap (λ f. f ∷ []) (rw c.in_ok-path.ensures at c.in_ok-whole_file-in-None.ensures))
+    rw (c.in_ok-vec-in-None.ensures.items, rw c.in_ok-path.ensures at c.in_ok-whole_file-in-None.ensures)
+    (missing_listed bag (not_there IsDeclarationOf (file bag bagit_txt) (c.in-None.ensures bag facts)))

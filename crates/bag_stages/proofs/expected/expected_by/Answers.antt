@@ -6,8 +6,7 @@ use Rattle.bag_stages.proofs.expected.expected_by.Goals as goal
 pub returns-in_default : goal.returns-in_default
 returns-in_default c = λ bag facts deep.
     let are = c.entries.ensures.entries bag facts deep in
-    not_named bag c.args.path.now c.args.kind c.args.alg c.entries.result.now are
-    (c.in_default.ensures (listed bag c.args.path.now c.args.kind c.args.alg c.entries.result.now are).ascending)
+    not_named bag c.args.path.now c.args.kind c.args.alg c.entries.result.now are (c.in_default.ensures (listed bag c.args.path.now c.args.kind c.args.alg _ are).ascending)
 
 pub returns : goal.returns
 returns c = λ bag facts deep.

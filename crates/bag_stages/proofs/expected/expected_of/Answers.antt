@@ -1,5 +1,5 @@
-use Rattle.bag_stages.proofs.Common.{◌∙◌, ap, get_or, subst, algs, Md5, IsGivenBy, kind_of}
-use Rattle.bag_stages.proofs.GivenByAlg.{all_faults, all_naming, no_more, none_yet, one_more}
+use Rattle.bag_stages.proofs.Common.{◌∙◌, ap, Md5, kind_of}
+use Rattle.bag_stages.proofs.SumFaults.{all_faults, all_naming, no_more, none_yet, one_more}
 use Rattle.bag_stages.proofs.expected.expected_of.Goals as goal
 
 pub loop-alg-init : goal.loop-alg-init
@@ -7,20 +7,14 @@ loop-alg-init c = λ bag facts deep. rw c.in_ok-expected.ensures.items (none_yet
 
 pub loop-alg-preserved-in_default : goal.loop-alg-preserved-in_default
 loop-alg-preserved-in_default c = λ bag facts deep.
-    let path = c.args.path.now in
-    let kind = c.kind_of-kind.result in
-    let i = c.loop-alg.alg-index in
-    no_more bag path kind i Md5 c.loop-alg.expected.items c.loop-alg-test.true (c.loop-alg.invariant bag facts deep)
-    (subst (IsGivenBy bag path kind (get_or algs i Md5)) c.in_default.is (c.expected_by.ensures bag facts deep))
+    no_more bag c.args.path.now c.kind_of-kind.result c.loop-alg.alg-index Md5 c.loop-alg.expected.items c.loop-alg-test.true (c.loop-alg.invariant bag facts deep)
+    (rw c.in_default.is at (c.expected_by.ensures bag facts deep))
 
 pub loop-alg-preserved : goal.loop-alg-preserved
 loop-alg-preserved c = λ bag facts deep.
-    let path = c.args.path.now in
-    let kind = c.kind_of-kind.result in
-    let i = c.loop-alg.alg-index in
     rw c.in_ok-push.ensures.items
-    (one_more bag path kind (c.kind_of-kind.ensures ∙ ap kind_of c.as_str.ensures) i Md5 c.loop-alg.expected.items c.in-Some.one c.loop-alg-test.true (c.loop-alg.invariant bag facts deep)
-    (subst (IsGivenBy bag path kind (get_or algs i Md5)) c.in-Some.is (c.expected_by.ensures bag facts deep)))
+    (one_more bag c.args.path.now c.kind_of-kind.result (c.kind_of-kind.ensures ∙ ap kind_of c.as_str.ensures) c.loop-alg.alg-index Md5 c.loop-alg.expected.items c.in-Some.one
+    c.loop-alg-test.true (c.loop-alg.invariant bag facts deep) (rw c.in-Some.is at (c.expected_by.ensures bag facts deep)))
 
 pub returns-clause-algs : goal.returns-clause-algs
 returns-clause-algs c = λ bag facts deep.

@@ -1,5 +1,5 @@
 use Rattle.bag_stages.proofs.Common.{take, OfBag}
-use Rattle.bag_stages.proofs.GivenByAlg.{AreGivenBy}
+use Rattle.bag_stages.proofs.SumFaults.{AreGivenBy}
 use Rattle.bag_stages.proofs.expected.expected_of.Given as goal
 
 abbrev pub invariant-loop-alg : goal.invariant-loop-alg

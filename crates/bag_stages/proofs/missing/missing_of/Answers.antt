@@ -1,5 +1,5 @@
 use Rattle.bag_stages.proofs.Common.{IfOk-weaker}
-use Rattle.bag_stages.proofs.MissingFaults.{no_missing, read_missing}
+use Rattle.bag_stages.proofs.PathFaults.{no_missing, read_missing}
 use Rattle.bag_stages.proofs.missing.missing_of.Goals as goal
 
 pub returns-in-Some : goal.returns-in-Some

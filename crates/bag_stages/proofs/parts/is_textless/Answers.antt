@@ -1,5 +1,5 @@
-use Rattle.bag_stages.proofs.Common.{rules, sym, ◌≡◌, ◌∙◌, true, false, Some}
-use Rattle.bag_stages.proofs.PartFaults.{one_more_textless, no_textless}
+use Rattle.bag_stages.proofs.Common.{rules, take_all, sym, ◌≡◌, ◌∙◌, true, false, Some}
+use Rattle.bag_stages.proofs.PartFaults.{one_more_textless}
 use Rattle.bag_stages.proofs.parts.is_textless.Goals as goal
 use Rattle.bag_stages.proofs.parts.is_textless.Goals.{else-eq-via-then-eq+else-eq-2, else-eq-via-else-eq}
 
@@ -12,4 +12,4 @@ loop-tag-preserved c =
     ])
 
 pub returns-clause-none : goal.returns-clause-none
-returns-clause-none c = λ h. absurd (no_textless c.args.tags.now c.loop-tag.tag-index c.args.name c.loop-tag-test.false c.loop-tag.invariant h)
+returns-clause-none c = λ h. absurd ((rw (take_all c.loop-tag.tag-index c.args.tags.now c.loop-tag-test.false) at c.loop-tag.invariant) h)

@@ -1,11 +1,11 @@
-use Rattle.bag_stages.proofs.Common.{IsWrong}
-use Rattle.bag_stages.proofs.EachOnce.{both_once, nothing_once, once_listed}
+use Rattle.bag_stages.proofs.Common.{[], fault_cmp, nothing_listed}
 use Rattle.bag_stages.proofs.PayloadNamed.{apart, nothing_wrong}
+use Rattle.bag_stages.proofs.Sorted.{both_once, once_listed}
 use Rattle.bag_stages.proofs.payload_named.faults_of.Goals as goal
 
 pub returns-then-is_exact : goal.returns-then-is_exact
 returns-then-is_exact c = λ bag facts deep.
-    rw c.new.ensures.items (nothing_once (IsWrong bag c.args.alg) (nothing_wrong bag c.args.alg ((c.is_exact.ensures bag facts deep).0 c.if-is_exact.true).1))
+    rw c.new.ensures.items (once_listed _ [] (nothing_listed fault_cmp _ (nothing_wrong bag c.args.alg ((c.is_exact.ensures bag facts deep).0 c.if-is_exact.true).1)))
 
 pub returns : goal.returns
 returns c = λ bag facts deep.

@@ -1,4 +1,4 @@
-use Rattle.bag_stages.proofs.Common.{◌≡◌, true, false}
+use Rattle.bag_stages.proofs.Common.{arith}
 use Rattle.bag_stages.proofs.PayloadNamed.{exactly_read, none_exact, read_exactly}
 use Rattle.bag_stages.proofs.payload_named.is_exact.Goals as goal
 
@@ -13,7 +13,4 @@ returns-in-Some c = λ bag facts deep.
     )
 
 pub returns-in-None : goal.returns-in-None
-returns-in-None c = λ bag facts deep. (
-  λ holds. let clash : false ≡ true = holds in cc,
-  λ exact. absurd (none_exact bag c.args.alg (c.in-None.ensures bag facts deep) exact),
-)
+returns-in-None c = λ bag facts deep. grind (arith, none_exact bag c.args.alg (c.in-None.ensures bag facts deep))

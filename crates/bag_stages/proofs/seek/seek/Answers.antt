@@ -1,25 +1,22 @@
-use Rattle.bag_stages.proofs.Common.{◌≡◌, sym, ap, ◌∙◌, Less, Equal, Greater, text_cmp}
-use Rattle.bag_stages.proofs.Sought.{greater_item, lesser_item, no_item, none_past, same_item}
+use Rattle.bag_stages.proofs.Common.{sym, ◌∙◌, length-map}
+use Rattle.bag_stages.proofs.Sought.{past_first, sought_before, sought_first, sought_nowhere, whole_rest}
 use Rattle.bag_stages.proofs.seek.seek.Goals as goal
 
 pub loop-first-init : goal.loop-first-init
-loop-first-init g c = λ ascending. none_past c.args.path.now _ ascending
+loop-first-init g c = λ ascending. whole_rest _ _ ascending
 
 pub loop-first-preserved : goal.loop-first-preserved
 loop-first-preserved g c = λ ascending.
-    let less : text_cmp (g.T.HasPath.path_of c.in-Some.first.now) c.args.path.now ≡ Less = sym (ap (λ p. text_cmp p c.args.path.now) c.path.ensures) ∙ sym c.cmp.ensures ∙ c.in-Less.is in
-    lesser_item g.T.HasPath.path_of c.args.path.now c.args.items.now c.loop-first.rest.now (c.loop-first.invariant ascending) c.in-Some.first.now c.in-Some.after.now c.in-Some.ensures.cases.0 less
+    past_first _ _ _ _ (rw c.in-Some.ensures.cases.0 at c.loop-first.invariant ascending) (rw c.path.ensures at (sym c.cmp.ensures ∙ c.in-Less.is))
 
 pub returns-in-Equal : goal.returns-in-Equal
 returns-in-Equal g c = λ ascending.
-    let tied : text_cmp (g.T.HasPath.path_of c.in-Some.first.now) c.args.path.now ≡ Equal = sym (ap (λ p. text_cmp p c.args.path.now) c.path.ensures) ∙ sym c.cmp.ensures ∙ c.in-Equal.is in
-    same_item g.T.HasPath.path_of c.args.path.now c.args.items.now c.loop-first.rest.now (c.loop-first.invariant ascending) c.in-Some.first.now c.in-Some.after.now c.in-Some.ensures.cases.0 tied
+    sought_first _ _ _ _ (rw c.in-Some.ensures.cases.0 at c.loop-first.invariant ascending) (rw c.path.ensures at (sym c.cmp.ensures ∙ c.in-Equal.is))
 
 pub returns-in-Greater : goal.returns-in-Greater
 returns-in-Greater g c = λ ascending.
-    let greater : text_cmp (g.T.HasPath.path_of c.in-Some.first.now) c.args.path.now ≡ Greater = sym (ap (λ p. text_cmp p c.args.path.now) c.path.ensures) ∙ sym c.cmp.ensures ∙ c.in-Greater.is in
-    greater_item g.T.HasPath.path_of c.args.path.now c.args.items.now c.loop-first.rest.now (c.loop-first.invariant ascending) c.in-Some.first.now c.in-Some.after.now c.in-Some.ensures.cases.0 greater
+    rw c.in-Some.ensures.cases.0
+    (sought_before _ _ _ _ (rw c.in-Some.ensures.cases.0 at c.loop-first.invariant ascending) (rw c.path.ensures at (sym c.cmp.ensures ∙ c.in-Greater.is)))
 
 pub returns : goal.returns
-returns g c = λ ascending.
-    no_item g.T.HasPath.path_of c.args.path.now c.args.items.now c.loop-first.rest.now (c.loop-first.invariant ascending) c.in_default.ensures.cases
+returns g c = λ ascending. sought_nowhere _ _ _ (c.loop-first.invariant ascending) (length-map c.loop-first.rest.now g.T.HasPath.path_of ∙ c.in_default.ensures.cases)

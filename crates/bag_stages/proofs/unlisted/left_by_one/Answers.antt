@@ -1,5 +1,5 @@
 use Rattle.bag_stages.proofs.Common.{IfOk-weaker}
-use Rattle.bag_stages.proofs.UnlistedFaults.{no_unlisted, read_unlisted}
+use Rattle.bag_stages.proofs.PathFaults.{no_unlisted, read_unlisted}
 use Rattle.bag_stages.proofs.unlisted.left_by_one.Goals as goal
 
 pub returns-in-Some : goal.returns-in-Some

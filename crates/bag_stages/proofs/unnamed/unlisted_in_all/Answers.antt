@@ -1,13 +1,12 @@
-use Rattle.bag_stages.proofs.Common.{arith, rules, ◌≡◌, sym, ◌∙◌, IfOk-weaker, V097}
-use Rattle.bag_stages.proofs.UnnamedFiles.{asked_of_all, unasked_of_all}
+use Rattle.bag_stages.proofs.Common.{arith, rules, ◌≡◌, sym, ◌∙◌, IfOk-weaker, V097, fault_cmp, nothing_listed, same_members}
 use Rattle.bag_stages.proofs.unnamed.unlisted_in_all.Goals as goal
 
 pub returns-then-is_asked : goal.returns-then-is_asked
 returns-then-is_asked c = IfOk-weaker c.left_by_all.result _ _
     (λ faults list bag facts deep.
     let is : c.rules.result ≡ V097 = search rules in
-    asked_of_all bag faults.items (sym (c.rules.ensures bag facts) ∙ is) (list bag facts deep))
+    same_members fault_cmp _ _ faults.items (λ f h. (sym (c.rules.ensures bag facts) ∙ is, h)) (λ f h. h.1) (list bag facts deep))
     c.left_by_all.ensures
 
 pub returns-else-is_asked : goal.returns-else-is_asked
-returns-else-is_asked c = λ bag facts deep. grind (arith, unasked_of_all)
+returns-else-is_asked c = λ bag facts deep. rw c.new.ensures.items (nothing_listed fault_cmp _ (λ f h. grind arith))

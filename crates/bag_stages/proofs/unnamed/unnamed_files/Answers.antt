@@ -1,5 +1,5 @@
 use Rattle.bag_stages.proofs.Common.{arith}
-use Rattle.bag_stages.proofs.UnnamedFiles.{none_unnamed}
+use Rattle.bag_stages.proofs.PathFaults.{none_unnamed}
 use Rattle.bag_stages.proofs.unnamed.unnamed_files.Goals as goal
 
 pub returns-then-is_some_exact : goal.returns-then-is_some_exact
