@@ -1,12 +1,12 @@
 -- The names that this crate's proofs cite, passed on from one place. Declares nothing.
-pub use Rattle.std.proofs.Common.{All, Bool, Contains, IsTrue, IsUtf8, List, None, Option, Ordering, Some, [], add-one, add_comm, ap, append-nil, append_assoc, arith, bytes_eq, codes, cond, drop, false, fold, get_or, inl, inr, is_some, length, length-append, lit<, map, nat_lt, not, refl, reverse, slice_get, slice_index, string_bytes, subst, suc, sum_by, sym, take, true, zero, ℕ, ⊎_elim, ◌%◌, ◌&&◌, ◌*◌, ◌++◌, ◌+◌, ◌-◌, ◌/◌, ◌<◌, ◌==◌, ◌^◌, ◌||◌, ◌∙◌, ◌∷◌, ◌≡◌, ◌≢◌, ◌≤◌, ◌⊎◌}
+pub use Rattle.std.proofs.Common.{All, Bool, Contains, IsTrue, IsUtf8, List, None, Option, Some, [], ap, append-nil, append_assoc, arith, bytes_eq, codes, cond, drop, false, fold, get_or, inl, inr, is_some, length, length-append, lit<, map, nat_lt, not, refl, reverse, slice_get, slice_index, string_bytes, subst, suc, sum_by, sym, take, true, zero, ℕ, ⊎_elim, ◌%◌, ◌&&◌, ◌*◌, ◌++◌, ◌+◌, ◌-◌, ◌/◌, ◌<◌, ◌==◌, ◌^◌, ◌||◌, ◌∙◌, ◌∷◌, ◌≡◌, ◌≢◌, ◌≤◌, ◌⊎◌}
 pub use Rattle.std.proofs.Math.Dec.{T}
 pub use Rattle.std.proofs.lemmas.Bool.{agree_below_at, and_from, and_parts, both_ways, cases_lt, eq-eqb, eqb-true, false_from_ne_true, false≢true, lt-ltb, ltb-true, not-true, not_from_false, not_from_true, or_cases, or_from, or_left, or_parts, or_right}
 pub use Rattle.std.proofs.lemmas.Bool.Decides.{nat_tests}
 pub use Rattle.std.proofs.lemmas.List.{get_or-reverse, length-map, length-take, map-append, take-map, take_all}
 pub use Rattle.std.proofs.lemmas.List.Elements.{All-append, All-cons, All-contains, All-from_recursion, All-head, All-nil, All-push, All-tail}
 pub use Rattle.std.proofs.lemmas.List.Folds.{list_any-append, list_any_at}
-pub use Rattle.std.proofs.lemmas.List.Sums.{fails_before_first, fold-append, fold_more, prefix_len-le-length, prefix_len_passes, suffix_len-le-length, sum_by-cons}
+pub use Rattle.std.proofs.lemmas.List.Sums.{fails_before_first, fold-append, fold_more, prefix_len-le-length, prefix_len_passes, suffix_len-le-length}
 pub use Rattle.std.proofs.lemmas.Option.{get_or_from_slice_get, slice_get-map, slice_get_read, slice_get_within}
 pub use Rattle.std.proofs.lemmas.Result.{IfErr-weaker, IfOk-weaker, on_ok_weaker}
 pub use Rattle.std.proofs.lemmas.Slice.Eq.{bytes_eq-Decides}
@@ -17,7 +17,7 @@ pub use Rattle.std.specs.FinMap.Entries.{below_all, find-where_key, is_some-find
 pub use Rattle.std.specs.FinSet.{contains-insert, contains-remove, contains-retain, same_set}
 pub use Rattle.std.specs.List.{AllByRecursion, after_first, before_first, list_all, list_any, position_or_len, suffix_len, swap}
 pub use Rattle.std.specs.Option.{option_map}
-pub use Rattle.std.specs.Ordering.{eq_by_cmp, is_eq, is_lt}
+pub use Rattle.std.specs.Ordering.{eq_by_cmp, is_lt}
 pub use Rattle.std.specs.Prelude.{option_and_then}
 pub use Rattle.std.specs.declared.cmp.Ordering.TheVariants.{Equal, Greater, Less}
 pub use Rattle.bag_facts.proofs.Mapped.{contains_mapped, mapped_contains, take_one_more}
@@ -50,14 +50,14 @@ pub use Rattle.bag_tags.specs.Distinct.{texts_of}
 pub use Rattle.bag_tags.specs.Element.{NewElement, info_text, is_bad_element, is_bad_label, is_bad_value}
 pub use Rattle.bag_tags.specs.Entry.{CanWrite, NewEntry, begins_with_mark, is_bad_digest, is_bad_entry, is_bad_path, is_lower_hex_digit, manifest_text, may_name, paths}
 pub use Rattle.bag_tags.specs.ReadAgain.{DeclarationIsReadAgain, InfoIsReadAgain, ManifestIsReadAgain}
-pub use Rattle.bag_text.proofs.ListOf.{contains_back, contains_behind, contains_cases, contains_either, contains_first, contains_front, contains_nothing, each_from_members, member_has, nothing_listed, one_list}
+pub use Rattle.bag_text.proofs.ListOf.{contains_back, contains_behind, contains_cases, contains_either, contains_first, contains_front, contains_nothing, each_from_members, nothing_listed, one_list}
 pub use Rattle.bag_text.specs.Alg.{name, rank_cmp}
 pub use Rattle.bag_text.specs.Path.{components, first_component, is_base_name, is_path, is_payload_path, slash, under}
 pub use Rattle.bag_text.specs.Text.{IsNoText, IsText, is_blank, same_label, text_cmp, trim}
 pub use Rattle.bag_text.specs.declared.alg.Alg.{Alg}
 pub use Rattle.bag_text.specs.declared.alg.Alg.TheVariants.{Md5}
 pub use Rattle.bag_text.specs.declared.code.Code.{Code}
-pub use Rattle.bag_text.specs.declared.code.Code.TheVariants.{AlgorithmUnsupported, DeclarationLine, DeclarationLineCount, DeclarationNotUtf8, DigestLength, EncodingUnsupported, FetchEscape, FetchLine, FetchNotInManifest, FetchOutsidePayload, FetchUnsafePath, InfoLine, ManifestEscape, ManifestLine, ManifestOutsidePayload, ManifestUnsafePath, NameClash, NamedAgain, NoDeclaration, NoOxum, NoPayloadFolder, NoPayloadManifest, NotUtf8, OxumAgain, OxumDiffers, OxumMalformed, PayloadFileMissing, PayloadFileNotListed, PayloadManifestNotListed, PayloadSumDiffers, TagFileMissing, TagSumDiffers, TagmanifestNamesPayload, TagmanifestNamesTagmanifest, VersionUnsupported}
+pub use Rattle.bag_text.specs.declared.code.Code.TheVariants.{AlgorithmUnsupported, FetchNotInManifest, InfoLine, NameClash, NoDeclaration, NoOxum, NoPayloadFolder, NoPayloadManifest, NotUtf8, OxumAgain, OxumDiffers, OxumMalformed, PayloadFileMissing, PayloadFileNotListed, PayloadManifestNotListed, PayloadSumDiffers}
 pub use Rattle.bag_text.specs.declared.rules.Rules.TheVariants.{V10}
 pub use Rattle.bag_tree.proofs.ListingLaw.{listings_are_of_the_bag}
 pub use Rattle.bag_tree.proofs.Parents.{first-under, first_is_base_name, in_folder, is_slash, under_in_folder}
@@ -80,7 +80,7 @@ pub use Rattle.bag_make.specs.Made.{File, data_folder, declaration_file, entries
 pub use Rattle.bag_make.specs.Make.{CanAsk, CanTell, HasMade, HasNoFault, Leaves, MayRefuseMaking}
 pub use Rattle.bag_make.specs.Plan.{StepsMake, has_new, in_order, is_in_the_way, listed_tops, new_file, steps, steps_for, tops}
 pub use Rattle.bag_make.specs.Request.{AreTexts}
-pub use Rattle.bag_make.specs.Steps.{CanTake, CanTakeAll, HasDone, HasLeft, HasStopped, HasTaken, IsStep, after_steps, change, new_folder}
+pub use Rattle.bag_make.specs.Steps.{CanTake, CanTakeAll, HasDone, HasLeft, HasTaken, IsStep, after_steps, change, new_folder}
 pub use Rattle.bag_make.specs.Stops.{IsAtFile, MayStopMaking, StopsSumming, TellsOneFile}
 pub use Rattle.bag_make.specs.Summed.{AreSummed, AreSummedFiles, HasItsSums, IsSummedEntry, OpensFirstOf, entry_of, summed_entry}
 pub use Rattle.bag_make.specs.Texts.{info_of, manifests_of, named_of, size_of}

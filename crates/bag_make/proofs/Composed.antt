@@ -1,13 +1,15 @@
 -- What is composed of listed files and their digests is what is said of the bag.
-use Rattle.bag_make.proofs.Common.{arith, ◌≡◌, ◌+◌, ◌++◌, ◌∷◌, List, [], length, map, sum_by, Contains, refl, sym, ap, ◌∙◌, subst, swap, length-map, sum_by-cons, under, Alg, contains_first, contains_behind, tag_path, Kind, Payload, Tag, Manifest, FileEntry, oxum_label, oxum_text, NewElement, info_text, manifest_text, File, data_folder, new_payload, entries_of, manifest, named_tag_files, new_tag_files, declaration_file, info_file, AreSummed, entry_of, summed_entry, info_of, manifests_of, named_of, SummedFile}
+use Rattle.bag_make.proofs.Common.{arith, ◌≡◌, ℕ, ◌++◌, ◌∷◌, List, [], map, sum_by, Contains, refl, sym, ap, ◌∙◌, subst, swap, length-map, Alg, contains_first, contains_behind, tag_path, Kind, Payload, Tag, Manifest, FileEntry, NewElement, manifest_text, File, new_payload, entries_of, manifest, named_tag_files, new_tag_files, info_file, AreSummed, entry_of, summed_entry, info_of, manifests_of, named_of, SummedFile}
+use Rattle.std.proofs.Common.{sum}
+use Rattle.std.proofs.lemmas.List.Sums.{sum-map}
+use Rattle.std.proofs.lemmas.Simd.{map-map}
 
 module _ (algs : List Alg) where
   -- what a manifest says of files with their digests
   entries_are : (alg : Alg) → Contains algs alg → (files : List File) (summed : List SummedFile) → AreSummed algs files summed → map (summed_entry alg) summed ≡ entries_of alg files
   entries_are alg has [] [] h = refl
   entries_are alg has (e ∷ files) (one ∷ summed) ((path, sums), rest) = grind (arith, entries_are alg has files summed rest)
-  entries_are alg has [] (one ∷ summed) h = absurd h
-  entries_are alg has (e ∷ files) [] h = absurd h
+  entries_are alg has _ _ h = absurd h
 
   manifests_some : (kind : Kind) (files : List File) (summed : List SummedFile) → AreSummed algs files summed → (some : List Alg) → ((alg : Alg) → Contains some alg → Contains algs alg)
       → manifests_of kind some summed ≡ map (λ alg. (tag_path (Manifest kind alg), manifest alg files)) some
@@ -22,22 +24,15 @@ module _ (algs : List Alg) where
       → manifests_of kind algs summed ≡ map (λ alg. (tag_path (Manifest kind alg), manifest alg files)) algs
   manifests_are kind files summed are = manifests_some kind files summed are algs (λ alg has. has)
 
-octets_are : (files : List File) → sum_by (λ (entry : FileEntry). entry.size) (map entry_of files) ≡ sum_by (λ (e : File). length e.1) (new_payload files)
-octets_are [] = refl
-octets_are (e ∷ files) =
-    sum_by-cons (λ (entry : FileEntry). entry.size) (entry_of e) (map entry_of files)
-    ∙ ap (λ n. length e.1 + n) (octets_are files)
-    ∙ sym (sum_by-cons (λ (x : File). length x.1) (under data_folder e.0, e.1) (new_payload files))
+pub sum_by-map : {A B : Type 0} (f : B → ℕ) (g : A → B) (xs : List A) → sum_by f (map g xs) ≡ sum_by (λ x. f (g x)) xs
+sum_by-map f g xs = sym (sum-map f (map g xs)) ∙ ap sum (map-map f g xs) ∙ sum-map (λ x. f (g x)) xs
 
 module _ (files : List File) (listed : List FileEntry) (payload : List SummedFile) (algs : List Alg) (info : List NewElement) (same : map entry_of files ≡ listed) (are : AreSummed algs (new_payload files) payload) where
   info_is : info_of listed info ≡ info_file files algs info
-  info_is = grind (arith, info_of, tag_path, info_text, oxum_label, oxum_text, octets_are, length-map, entry_of, under, data_folder)
+  info_is = grind (arith, length-map, sum_by-map)
 
   pub named_are : named_of listed payload algs info ≡ named_tag_files files algs info
-  named_are =
-      let one = info_is in
-      let others = manifests_are algs Payload (new_payload files) payload are in
-      λ i. one i ∷ declaration_file files algs info ∷ others i
+  named_are = grind (arith, info_is, manifests_are algs Payload (new_payload files) payload are)
 
   -- in the order in which they are written
   pub tag_files_are : (named made : List File) (summed : List SummedFile) → named ≡ named_of listed payload algs info → AreSummed algs named summed

@@ -1,7 +1,8 @@
 -- Stage 1: the declaration of a made bag has no fault.
-use Rattle.bag_make.proofs.Common.{◌≡◌, true, false, List, sym, ◌∙◌, subst, Alg, Code, NoDeclaration, DeclarationNotUtf8, DeclarationLineCount, DeclarationLine, VersionUnsupported, EncodingUnsupported, IsDeclarationFault, Declaration, Bag, Fault, in_line, NewElement, made, DeclarationIsReadAgain}
+use Rattle.bag_make.proofs.Common.{◌≡◌, true, false, List, is_some, refl, ap, sym, ◌∙◌, subst, Alg, Code, NoDeclaration, IsDeclarationFault, Declaration, Bag, Fault, in_line, NewElement, made, DeclarationIsReadAgain}
 use Rattle.bag_stages.specs.DeclarationStage.{InDeclaration, DeclarationHolds, IsOfDeclaration}
-use Rattle.bag_make.proofs.Held.{has_declaration, tag_held}
+use Rattle.bag_tags.specs.Declaration.{declaration_text}
+use Rattle.bag_make.proofs.Held.{tag_held, tag_there}
 
 module _ (reads : DeclarationIsReadAgain) (bag : Bag) (algs : List Alg) (info : List NewElement) (f : Fault) where
   reads_well : InDeclaration (made bag algs info) f → ⊥
@@ -10,13 +11,8 @@ module _ (reads : DeclarationIsReadAgain) (bag : Bag) (algs : List Alg) (info : 
 
   by_code : (code : Code) → DeclarationHolds (made bag algs info) f code → ⊥
   unfolding DeclarationHolds
-  by_code NoDeclaration (at, lacks) = (let clash : true ≡ false = sym (has_declaration bag algs info) ∙ lacks in cc)
-  by_code DeclarationNotUtf8 h = reads_well h
-  by_code DeclarationLineCount h = reads_well h
-  by_code DeclarationLine h = reads_well h
-  by_code VersionUnsupported h = reads_well h
-  by_code EncodingUnsupported h = reads_well h
-  by_code _ h = h
+  by_code NoDeclaration (at, lacks) = (let clash : true ≡ false = sym (ap is_some (tag_there bag algs info Declaration declaration_text refl)) ∙ lacks in cc)
+  by_code _ h = search reads_well
 
   pub no_declaration_fault : IsOfDeclaration (made bag algs info) f → ⊥
   unfolding IsOfDeclaration

@@ -1,5 +1,5 @@
 -- What the manifests of a made bag name, with which digests.
-use Rattle.bag_make.proofs.Common.{◌≡◌, inl, inr, ℕ, suc, ◌+◌, ◌-◌, List, [], ◌∷◌, Option, Some, None, refl, sym, ap, ◌∙◌, subst, Contains, slice_get_within, get_or_from_slice_get, IsText, V10, Alg, contains_cases, contains_nothing, IsEntry, named, Kind, Payload, Tag, Manifest, Bag, file, files_of, digest, rules_in, lines_or_none, manifest_of, Names, HasSupported, IsEntryIn, NewElement, NewEntry, CanWrite, ManifestIsReadAgain, File, new_payload, entries_of, manifest, named_tag_files, made, IsNewText, contains_mapped, mapped_contains}
+use Rattle.bag_make.proofs.Common.{◌≡◌, ℕ, ◌+◌, length, slice_get_read, ◌-◌, List, Option, Some, None, refl, sym, ap, ◌∙◌, subst, Contains, slice_get_within, get_or_from_slice_get, IsText, V10, Alg, IsEntry, named, Kind, Payload, Tag, Manifest, Bag, file, files_of, digest, rules_in, lines_or_none, manifest_of, Names, HasSupported, IsEntryIn, NewElement, NewEntry, CanWrite, ManifestIsReadAgain, File, new_payload, entries_of, manifest, named_tag_files, made, IsNewText, contains_mapped, mapped_contains}
 use Rattle.std.specs.Prelude.{All}
 use Rattle.std.specs.List.{slice_get}
 use Rattle.bag_text.specs.Lines.{lines_of_file}
@@ -11,8 +11,7 @@ use Rattle.bag_make.proofs.MadeRules.{made_rules}
 
 -- the place of a member
 pub place_of : {A : Type 0} (xs : List A) (x : A) → Contains xs x → (k : ℕ) × (slice_get xs k ≡ Some x)
-place_of [] x h = absurd (contains_nothing x h)
-place_of (y ∷ xs) x h = elim (contains_cases y xs x h) [ inl e ↦ (0, ap Some e) | inr d ↦ (let p = place_of xs x d in (suc p.0, p.1)) ]
+place_of xs x (k, lt, at) = (k, slice_get_read xs (length xs) k x refl lt (sym at))
 
 pub at_place : {A : Type 0} (xs : List A) (k : ℕ) (x : A) → slice_get xs k ≡ Some x → Contains xs x
 at_place xs k x e = (k, slice_get_within xs k x e, get_or_from_slice_get xs k x x e)

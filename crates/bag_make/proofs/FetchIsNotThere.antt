@@ -1,5 +1,5 @@
 -- Stage 4: a made bag has nothing to fetch.
-use Rattle.bag_make.proofs.Common.{arith, ◌≡◌, ℕ, List, [], Some, Alg, Code, FetchLine, FetchEscape, FetchUnsafePath, FetchOutsidePayload, FetchNotInManifest, Fetch, Bag, Fault, NewElement, made}
+use Rattle.bag_make.proofs.Common.{arith, ◌≡◌, ℕ, List, [], Some, Alg, Code, FetchNotInManifest, Fetch, Bag, Fault, NewElement, made}
 use Rattle.std.specs.List.{slice_get}
 use Rattle.bag_stages.specs.FetchStage.{InFetch, FetchHolds, IsOfFetch}
 use Rattle.bag_make.proofs.Held.{no_fetch, tag_held}
@@ -13,12 +13,8 @@ module _ (bag : Bag) (algs : List Alg) (info : List NewElement) (f : Fault) wher
 
   by_code : (code : Code) → FetchHolds (made bag algs info) f code → ⊥
   unfolding FetchHolds
-  by_code FetchLine h = not_there h
-  by_code FetchEscape h = not_there h
-  by_code FetchUnsafePath h = not_there h
-  by_code FetchOutsidePayload h = not_there h
   by_code FetchNotInManifest h = grind (arith, no_fetch, no_line)
-  by_code _ h = h
+  by_code _ h = search not_there
 
   pub no_fetch_fault : IsOfFetch (made bag algs info) f → ⊥
   unfolding IsOfFetch

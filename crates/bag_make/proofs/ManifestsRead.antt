@@ -1,5 +1,5 @@
 -- Stage 5: each line of the manifests of a made bag reads, none names a path twice, and tag manifests name the payload manifests.
-use Rattle.bag_make.proofs.Common.{List, ◌∷◌, sym, subst, Contains, V10, Alg, Code, ManifestLine, DigestLength, ManifestEscape, ManifestUnsafePath, ManifestOutsidePayload, TagmanifestNamesPayload, TagmanifestNamesTagmanifest, NamedAgain, PayloadManifestNotListed, contains_behind, IsManifestFault, manifest_name, tag_path, Payload, Tag, Manifest, Bag, files_of, Fault, in_line, Names, NewElement, ManifestIsReadAgain, File, new_payload, entries_of, manifest, named_tag_files, declaration_file, info_file, payload_manifests, made, mapped_contains}
+use Rattle.bag_make.proofs.Common.{List, ◌∷◌, sym, subst, Contains, V10, Alg, Code, PayloadManifestNotListed, contains_behind, IsManifestFault, manifest_name, tag_path, Payload, Tag, Manifest, Bag, files_of, Fault, in_line, Names, NewElement, ManifestIsReadAgain, File, new_payload, entries_of, manifest, named_tag_files, declaration_file, info_file, payload_manifests, made, mapped_contains}
 use Rattle.bag_stages.specs.ManifestsStage.{InManifest, ManifestHolds, IsOfManifests}
 use Rattle.bag_make.proofs.Entries.{AreWritable, holds_manifest, listed, listed_named}
 use Rattle.bag_make.proofs.Held.{tag_held, manifest_is}
@@ -26,20 +26,12 @@ module _ (bag : Bag) (algs : List Alg) (info : List NewElement) where
 
     by_code : (code : Code) → ManifestHolds (made bag algs info) f code → ⊥
     unfolding ManifestHolds
-    by_code ManifestLine h = reads_well h
-    by_code DigestLength h = reads_well h
-    by_code ManifestEscape h = reads_well h
-    by_code ManifestUnsafePath h = reads_well h
-    by_code ManifestOutsidePayload h = reads_well h
-    by_code TagmanifestNamesPayload h = reads_well h
-    by_code TagmanifestNamesTagmanifest h = reads_well h
-    by_code NamedAgain h = reads_well h
     by_code PayloadManifestNotListed (ruled, alg, other, at, has, there, unnamed) =
         let m = manifest_is bag algs info Payload other there.1 in
         let c = manifest m.0 (new_payload (files_of bag)) in
         unnamed (subst (λ text. Names (made bag algs info) Tag alg (manifest_name Payload text)) (sym m.1)
         (listed_named bag algs info read writable Tag alg (tag_path (Manifest Payload m.0)) c has (manifest_listed m.0 m.2)))
-    by_code _ h = h
+    by_code _ h = search reads_well
 
     pub no_manifest_fault : IsOfManifests (made bag algs info) f → ⊥
     unfolding IsOfManifests

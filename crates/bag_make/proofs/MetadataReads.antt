@@ -8,7 +8,7 @@ use Rattle.bag_read.specs.Info.{IsElement, IsInfoFault}
 use Rattle.bag_read.specs.declared.info.Element.{Element}
 use Rattle.bag_stages.specs.Metadata.{bag_info_txt, HasElement}
 use Rattle.bag_stages.specs.MetadataStage.{MetadataHolds, IsOfMetadata}
-use Rattle.bag_make.proofs.Held.{tag_held, has_info, content_of}
+use Rattle.bag_make.proofs.Held.{tag_held, tag_there}
 use Rattle.bag_make.proofs.MadeRules.{made_rules}
 use Rattle.bag_make.proofs.OxumReads.{oxum_reads, oxum_is_text, oxum_is_good}
 use Rattle.bag_make.proofs.PayloadIsTheFolder.{payload_size, oxum_is}
@@ -61,9 +61,7 @@ module _ (bag : Bag) (algs : List Alg) (info : List NewElement) (can : CanMake b
 
   module _ (read : InfoIsReadAgain) where
     in_text : file (made bag algs info) bag_info_txt ≡ Some (info_text elements)
-    in_text =
-        let held = content_of (file (made bag algs info) bag_info_txt) (has_info bag algs info) in
-        held.1 ∙ ap Some (tag_held bag algs info Info held.0 held.1)
+    in_text = tag_there bag algs info Info (info_text elements) refl
 
     stands : (e : Element) → HasElement (made bag algs info) oxum_label e → (e.line ≡ length info + 1) × (e.value ≡ oxum_text sums)
     stands e (is, same) =

@@ -1,5 +1,5 @@
 -- A refusal is told of one file.
-use Rattle.bag_make.proofs.Common.{ℕ, ◌≡◌, ◌<◌, ◌+◌, ◌++◌, ◌∷◌, inl, inr, List, [], Option, Some, None, is_some, true, false, take, length, slice_get, ap, sym, ◌∙◌, arith, length-append, length-take, slice_get_within, TellsOneFile}
+use Rattle.bag_make.proofs.Common.{ℕ, ◌≡◌, ◌<◌, ◌+◌, ◌++◌, ◌∷◌, inl, inr, List, [], Some, is_some, true, false, take, length, slice_get, ap, sym, ◌∙◌, arith, length-append, length-take, slice_get_within, TellsOneFile}
 
 -- as many files were opened before
 module _ (paths old : List (List ℕ)) (k l : ℕ) (one other : List ℕ) (at : slice_get paths k ≡ Some one) (too : slice_get paths l ≡ Some other) where
@@ -18,11 +18,8 @@ module _ (paths old : List (List ℕ)) (k l : ℕ) (one other : List ℕ) (at : 
       let sizes = sym (length-append (old ++ take k paths) (one ∷ [])) ∙ ap length e ∙ length-append (old ++ take l paths) (other ∷ []) in
       same_of (omega (arith, sizes, size k (slice_get_within paths k one at), size l (slice_get_within paths l other too)))
 
-not_both : (rest : Option (List ℕ)) → rest ≡ None → is_some rest ≡ true → ⊥
-not_both rest none some = let clash : false ≡ true = sym (ap is_some none) ∙ some in cc
-
 pub tells_one_file : TellsOneFile
 tells_one_file paths old new one other (k, at, inl (closed, e)) (l, too, inl (shut, f)) = same_closed paths old.openings k l one other at too (sym e ∙ f)
-tells_one_file paths old new one other (k, at, inl (closed, e)) (l, too, inr (is, f)) = absurd (not_both new.rest closed is)
-tells_one_file paths old new one other (k, at, inr (is, e)) (l, too, inl (shut, f)) = absurd (not_both new.rest shut is)
+tells_one_file paths old new one other (k, at, inl (closed, e)) (l, too, inr (is, f)) = (let clash : false ≡ true = sym (ap is_some closed) ∙ is in cc)
+tells_one_file paths old new one other (k, at, inr (is, e)) (l, too, inl (shut, f)) = (let clash : false ≡ true = sym (ap is_some shut) ∙ is in cc)
 tells_one_file paths old new one other (k, at, inr (is, e)) (l, too, inr (opened, f)) = same_open paths old.openings k l one other at too (sym e ∙ f)

@@ -1,10 +1,11 @@
 -- The size of a payload that is written is read again.
-use Rattle.bag_make.proofs.Common.{◌≡◌, ℕ, zero, suc, ◌+◌, ◌-◌, ◌<◌, ◌^◌, Bool, true, false, not, ◌||◌, cond, List, [], ◌∷◌, ◌++◌, length, take, drop, reverse, get_or, nat_lt, Option, Some, None, refl, sym, ap, ◌∙◌, arith, codes, bytes_eq, append_assoc, list_all, list_any, suffix_len, before_first, after_first, position_or_len, and_from, lt-ltb, not_from_false, or_from, both_ways, nat_tests, get_or-reverse, take_all, list_any-append, prefix_len_passes, suffix_len-le-length, prefix_len-le-length, bytes_eq-Decides, IsAscii-append, IsUtf8-from_ascii, is_utf8-from_IsUtf8, IsText, is_blank, trim, Oxum, both_true, oxum_text, is_bad_value}
+use Rattle.bag_make.proofs.Common.{◌≡◌, ℕ, zero, suc, ◌+◌, ◌-◌, ◌<◌, ◌^◌, Bool, true, false, not, List, [], ◌∷◌, ◌++◌, length, take, drop, reverse, get_or, nat_lt, Some, refl, sym, ap, ◌∙◌, arith, codes, bytes_eq, append_assoc, list_all, list_any, suffix_len, before_first, after_first, position_or_len, and_from, lt-ltb, not_from_false, false_from_ne_true, lit<, or_from, or_parts, both_ways, nat_tests, get_or-reverse, take_all, list_any-append, prefix_len_passes, suffix_len-le-length, prefix_len-le-length, bytes_eq-Decides, IsAscii-append, IsUtf8-from_ascii, is_utf8-from_IsUtf8, IsText, is_blank, trim, Oxum, both_true, oxum_text, is_bad_value}
 use Rattle.std.specs.Char.{is_ascii_digit}
 use Rattle.std.specs.Fmt.{decimal}
 use Rattle.std.specs.Str.{all_ascii_digits}
 use Rattle.std.specs.Str.Parse.{digits_value}
 use Rattle.std.proofs.lemmas.Fmt.{digits_decimal, digits_value-decimal, decimal_nonempty, IsAscii-decimal}
+use Rattle.std.proofs.lemmas.Str.Ascii.{IsAscii-cons, IsAscii-nil}
 use Rattle.std.proofs.lemmas.Str.Parse.{numerals_by_value, tells_all_ascii_digits}
 use Rattle.bag_read.specs.Oxum.{is_dot, oxum_of}
 use Rattle.bag_read.proofs.Fronts.{front_len, take_front}
@@ -14,11 +15,7 @@ use Rattle.bag_read.proofs.Fronts.{front_len, take_front}
 none_at : (p : ℕ → Bool) (t : List ℕ) (i : ℕ) → list_any p t ≡ false → i < length t → p (get_or t i 0) ≡ false
 none_at p [] i e l = absurd (omega arith)
 none_at p (c ∷ t) zero e l = grind arith
-none_at p (c ∷ t) (suc i) e l = none_at p t i (none_behind (p c) (list_any p t) e) (omega arith)
-  where
-    none_behind : (a b : Bool) → (a || b) ≡ false → b ≡ false
-    none_behind true b e = cc
-    none_behind false b e = e
+none_at p (c ∷ t) (suc i) e l = none_at p t i (or_parts (p c) (list_any p t) e).1 (omega arith)
 
 module _ (p : ℕ → Bool) (t : List ℕ) (none : list_any p t ≡ false) where
   no_back : (n : ℕ) → suffix_len p t ≡ n → n ≡ 0
@@ -42,12 +39,7 @@ no_digit test h (c ∷ t) e =
 
 digits_no_dot : (t : List ℕ) → all_ascii_digits t ≡ true → list_all (λ c. not (is_dot c)) t ≡ true
 digits_no_dot [] e = refl
-digits_no_dot (c ∷ t) e =
-    let two = both_true (is_ascii_digit c) (all_ascii_digits t) e in
-    and_from (not (is_dot c)) _ (not_from_false (is_dot c) (digit_no_dot c two.0)) (digits_no_dot t two.1)
-  where
-    digit_no_dot : (c : ℕ) → is_ascii_digit c ≡ true → is_dot c ≡ false
-    digit_no_dot c e = grind (arith, nat_tests)
+digits_no_dot (c ∷ t) e = grind (arith, both_true (is_ascii_digit c) (all_ascii_digits t), and_from, not_from_false, nat_tests, digits_no_dot t)
 
 module _ (n : ℕ) (small : n < 2 ^ 64) where
   pub are_digits : all_ascii_digits (decimal n) ≡ true
@@ -57,11 +49,7 @@ module _ (n : ℕ) (small : n < 2 ^ 64) where
   value_is = digits_value-decimal (numerals_by_value _ tells_all_ascii_digits) n small
 
   some_digit : not (bytes_eq (decimal n) []) ≡ true
-  some_digit = not_from_false _ (some_text (decimal n) (decimal_nonempty n small))
-    where
-      some_text : (t : List ℕ) → 0 < length t → bytes_eq t [] ≡ false
-      some_text [] l = absurd (omega arith)
-      some_text (c ∷ t) l = refl
+  some_digit = grind (arith, not_from_false, false_from_ne_true, decimal_nonempty n small, bytes_eq-Decides (decimal n))
 
 module _ (sums : Oxum) (octets : sums.octets < 2 ^ 64) (streams : sums.streams < 2 ^ 64) where
   abbrev front : List ℕ
@@ -86,26 +74,18 @@ module _ (sums : Oxum) (octets : sums.octets < 2 ^ 64) (streams : sums.streams <
   after : after_first is_dot (oxum_text sums) ≡ back
   after = ap (after_first is_dot) text_is ∙ ap (λ n. drop (n + 1) (front ++ 46 ∷ back)) dot_place ∙ drop_past front
 
-  chosen : (b : Bool) (x y : Oxum) → b ≡ true → x ≡ y → cond {A = Option Oxum} b (Some x) None ≡ Some y
-  chosen true x y e same = ap Some same
-  chosen false x y e same = cc
-
   -- it is read as the same two numbers
   pub oxum_reads : oxum_of (oxum_text sums) ≡ Some sums
-  oxum_reads = grind (arith, chosen, and_from, before, after, value_is, some_digit, are_digits, nat_lt, lt-ltb)
+  oxum_reads = grind (arith, and_from, before, after, value_is, some_digit, are_digits, nat_lt, lt-ltb)
 
   pub oxum_is_text : IsText (oxum_text sums)
   oxum_is_text =
       is_utf8-from_IsUtf8 (oxum_text sums)
-      (IsUtf8-from_ascii (oxum_text sums) (IsAscii-append (front ++ codes ".") back (IsAscii-append front (codes ".") (IsAscii-decimal sums.octets octets) dot_ascii) (IsAscii-decimal sums.streams streams)))
-    where
-      dot_ascii : (i : ℕ) → get_or (codes ".") i 0 < 128
-      dot_ascii zero = omega arith
-      dot_ascii (suc i) = omega arith
-
-  none_in : (test : ℕ → Bool) → ((c : ℕ) → is_ascii_digit c ≡ true → test c ≡ false) → test 46 ≡ false → list_any test (oxum_text sums) ≡ false
-  none_in test h dot = grind (arith, list_any-append, or_from, no_digit, are_digits)
+      (IsUtf8-from_ascii (oxum_text sums)
+      (IsAscii-append (front ++ codes ".") back
+      (IsAscii-append front (codes ".") (IsAscii-decimal sums.octets octets) (IsAscii-cons 46 [] (lit< tt) IsAscii-nil))
+      (IsAscii-decimal sums.streams streams)))
 
   -- and can be written
   pub oxum_is_good : is_bad_value (oxum_text sums) ≡ false
-  oxum_is_good = grind (arith, or_from, none_in, bytes_eq-Decides, stays_whole, nat_tests)
+  oxum_is_good = grind (arith, or_from, bytes_eq-Decides, stays_whole, nat_tests, list_any-append, no_digit, are_digits)

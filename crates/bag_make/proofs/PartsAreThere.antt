@@ -1,10 +1,10 @@
 -- Stage 2: the parts of a made bag are there, and its algorithms are supported.
-use Rattle.bag_make.proofs.Common.{arith, ◌≡◌, ◌≢◌, ℕ, true, false, List, [], ◌∷◌, refl, sym, ap, ◌∙◌, subst, Contains, nat_list_cmp_total, contains-insert, eq_by_cmp, or_left, name, text_cmp, IsNoText, Alg, Code, NoPayloadFolder, NoPayloadManifest, AlgorithmUnsupported, NotUtf8, contains_first, Payload, TagName, Declaration, Info, Fetch, Manifest, name_named, name_is_text, Bag, file, has_folder, text_itself, Fault, NewElement, InfoIsReadAgain, ManifestIsReadAgain, entries_of, data_folder, CanMake, IsNewText}
+use Rattle.bag_make.proofs.Common.{arith, ◌≡◌, ◌≢◌, ℕ, true, false, List, [], ◌∷◌, is_some, refl, sym, ap, ◌∙◌, subst, Contains, nat_list_cmp_total, contains-insert, eq_by_cmp, or_left, name, text_cmp, IsNoText, Alg, Code, NoPayloadFolder, NoPayloadManifest, AlgorithmUnsupported, NotUtf8, contains_first, Payload, TagName, Declaration, Info, Fetch, Manifest, name_named, name_is_text, Bag, file, has_folder, text_itself, Fault, NewElement, InfoIsReadAgain, ManifestIsReadAgain, entries_of, data_folder, CanMake, IsNewText}
 use Rattle.bag_stages.specs.PartsStage.{PartHolds, IsOfParts}
 use Rattle.bag_read.specs.LineFault.{not_utf8}
 use Rattle.bag_make.specs.Made.{made}
 use Rattle.bag_make.proofs.Entries.{holds_manifest, listed}
-use Rattle.bag_make.proofs.Held.{tag_held, has_manifest, manifest_is}
+use Rattle.bag_make.proofs.Held.{tag_held, tag_there, manifest_is}
 use Rattle.bag_make.proofs.MetadataReads.{elements, elements_text, elements_good}
 use Rattle.bag_make.proofs.Writable.{writable}
 
@@ -35,7 +35,7 @@ module _ (bag : Bag) (algs : List Alg) (info : List NewElement) where
       by_code NoPayloadFolder (at, lacks) = (let clash : true ≡ false = sym has_data ∙ lacks in cc)
       by_code NoPayloadManifest (at, none) =
           let m = some_member algs can.some_alg in
-          none (name m.0) (name_is_text m.0, has_manifest bag algs info Payload m.0 m.1)
+          none (name m.0) (name_is_text m.0, ap is_some (tag_there bag algs info (Manifest Payload m.0) _ (m.1, refl)))
       by_code AlgorithmUnsupported (kind, alg, at, has, none) = grind (arith, manifest_is, name_named)
       by_code NotUtf8 (at, ((tag, other, same), (bytes, held, bad))) =
           is_text tag bytes other (tag_held bag algs info tag bytes (ap (file (made bag algs info)) same ∙ held)) bad

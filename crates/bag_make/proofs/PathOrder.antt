@@ -1,23 +1,10 @@
 -- What manifests name is in path order.
 use Rattle.std.proofs.Common.{arith}
-use Rattle.bag_make.proofs.Common.{◌≡◌, ℕ, true, List, [], ◌∷◌, map, Ordering, refl, ◌∙◌, is_sorted, entries_sorted, below_all, AllByRecursion, is_lt, Less, Equal, Greater, and_parts, rank_cmp, text_cmp, Alg, tag_path, Payload, Declaration, Info, Manifest, files_of, AreInPathOrder, ManifestsAscend, File, new_payload, manifest}
+use Rattle.bag_make.proofs.Common.{◌≡◌, ℕ, List, [], ◌∷◌, map, refl, ◌∙◌, entries_sorted, AllByRecursion, Less, rank_cmp, text_cmp, Alg, tag_path, Payload, Declaration, Info, Manifest, files_of, AreInPathOrder, ManifestsAscend, File, new_payload, manifest}
 use Rattle.std.specs.List.Sorted.{IsStrictlySortedBy}
-use Rattle.bag_make.proofs.Held.{true_from}
+use Rattle.bag_tree.proofs.PathEntries.{t_true}
 use Rattle.bag_make.proofs.PayloadIsTheFolder.{sorted_payload}
-
-is_less : (o : Ordering) → is_lt o ≡ true → o ≡ Less
-is_less Less e = refl
-is_less Equal e = cc
-is_less Greater e = cc
-
-all_below : (k : List ℕ) (es : List File) → below_all text_cmp k es ≡ true → AllByRecursion (λ q. text_cmp k q ≡ Less) (map (λ (e : File). e.0) es)
-all_below k [] h = tt
-all_below k (e ∷ es) h = let two = and_parts (is_lt (text_cmp k e.0)) (below_all text_cmp k es) h in (is_less _ two.0, all_below k es two.1)
-
-rising : (es : List File) → is_sorted text_cmp es ≡ true → AreInPathOrder es
-unfolding IsStrictlySortedBy
-rising [] h = tt
-rising (e ∷ es) h = let two = and_parts (below_all text_cmp e.0 es) (is_sorted text_cmp es) h in (all_below e.0 es two.0, rising es two.1)
+use Rattle.bag_make.proofs.TopsInOrder.{ascends}
 
 abbrev path_of : Alg → List ℕ
 path_of alg = tag_path (Manifest Payload alg)
@@ -44,7 +31,7 @@ unfolding IsStrictlySortedBy
 manifests_ascend bag algs info up =
     let files = files_of bag in
     let text : Alg → List ℕ = λ alg. manifest alg (new_payload files) in (
-      rising (new_payload files) (sorted_payload files ∙ true_from _ (entries_sorted bag.files)),
+      ascends (new_payload files) (sorted_payload files ∙ t_true _ (entries_sorted bag.files)),
       (
         (refl, above text (tag_path Info) algs (λ alg. refl)),
         (above text (tag_path Declaration) algs (λ alg. refl), manifests_rise text algs up),

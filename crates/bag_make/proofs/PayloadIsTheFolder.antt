@@ -1,8 +1,11 @@
 -- The payload of a made bag is the files of the folder, under data/.
-use Rattle.bag_make.proofs.Common.{◌≡◌, ℕ, ◌+◌, Bool, true, false, cond, ◌&&◌, List, [], ◌∷◌, ◌++◌, length, sum_by, Some, None, refl, sym, ap, ◌∙◌, subst, nat_list_cmp_total, find, is_sorted, entries_sorted, get-entries, below_all, find-where_key, is_sorted-where_key, same_entries, is_lt, eq_by_cmp, T, length-map, sum_by-cons, under, is_payload_path, text_cmp, Alg, Bag, IsBag, files_of, exact_texts, payload, oxum, oxum_of_files, NewElement, File, data_folder, new_payload, new_tag_files, made}
+use Rattle.bag_make.proofs.Common.{◌≡◌, ℕ, ◌+◌, Bool, true, false, arith, cond, ◌&&◌, List, [], ◌∷◌, ◌++◌, is_some, Some, None, refl, sym, ap, ◌∙◌, subst, nat_list_cmp_total, find, is_sorted, entries_sorted, get-entries, below_all, find-where_key, is_sorted-where_key, same_entries, is_lt, eq_by_cmp, T, length-map, and_from, first-under, under_in_folder, under, is_path, is_payload_path, text_cmp, Alg, Bag, IsBag, files_of, exact_texts, payload, oxum, oxum_of_files, NewElement, File, data_folder, new_payload, new_tag_files, made}
 use Rattle.bag_make.proofs.FilesAreNamed.{no_payload_tag}
-use Rattle.bag_make.proofs.Held.{none_by, all, held, found, tag_member, payload_member, has_listed}
-use Rattle.bag_make.proofs.Writable.{in_payload}
+use Rattle.bag_make.proofs.Held.{none_by, all, held, found, tag_member, payload_member, held_at}
+use Rattle.bag_make.proofs.Composed.{sum_by-map}
+
+pub in_payload : (p : List ℕ) → is_path p ≡ true → is_payload_path (under data_folder p) ≡ true
+in_payload p is = grind (arith, first-under data_folder p refl, under_in_folder data_folder p refl, and_from)
 
 below_payload : (k : List ℕ) (es : List File) → below_all text_cmp (under data_folder k) (new_payload es) ≡ below_all text_cmp k es
 below_payload k [] = refl
@@ -17,16 +20,9 @@ find_front : (q : List ℕ) (xs ys : List File) → find text_cmp q ys ≡ None 
 find_front q [] ys none = none
 find_front q (x ∷ xs) ys none = ap (cond (eq_by_cmp text_cmp q x.0) (Some x.1)) (find_front q xs ys none)
 
--- counting and summing
-same_octets : (es : List File) → sum_by (λ (e : File). length e.1) (new_payload es) ≡ sum_by (λ (e : File). length e.1) es
-same_octets [] = refl
-same_octets (e ∷ es) =
-    sum_by-cons (λ (e : File). length e.1) (under data_folder e.0, e.1) (new_payload es)
-    ∙ ap (λ n. length e.1 + n) (same_octets es) ∙ sym (sum_by-cons (λ (e : File). length e.1) e es)
-
 -- the payload has the folder's size
 pub payload_size : (es : List File) → oxum_of_files (new_payload es) ≡ oxum_of_files es
-payload_size es = λ i. record { octets = same_octets es i; streams = length-map {B = File} es (λ (e : File). (under data_folder e.0, e.1)) i }
+payload_size es = grind (arith, sum_by-map, length-map)
 
 module _ (bag : Bag) (algs : List Alg) (info : List NewElement) (is_bag : IsBag bag) where
   abbrev files : List File
@@ -40,7 +36,7 @@ module _ (bag : Bag) (algs : List Alg) (info : List NewElement) (is_bag : IsBag 
   no_payload_found : (q : List ℕ) → is_payload_path q ≡ false → find text_cmp q (new_payload files) ≡ None
   no_payload_found q isnt = none_by _ (λ c e.
       let m = payload_member bag algs info q c (found q c (new_payload files) e) in
-      let is = in_payload m.0 (is_bag.paths m.0 (has_listed bag m.0 c m.2)).0 in
+      let is = in_payload m.0 (is_bag.paths m.0 (ap is_some (held_at bag.files m.0 c m.2))).0 in
       let clash : true ≡ false = sym is ∙ ap is_payload_path (sym m.1) ∙ isnt in cc)
 
   found_by : (q : List ℕ) (b : Bool) → is_payload_path q ≡ b → cond b (find text_cmp q (all bag algs info)) None ≡ find text_cmp q (new_payload files)

@@ -1,22 +1,10 @@
 -- Where the files of a bag are while it is made.
-use Rattle.bag_make.proofs.Common.{arith, ◌≡◌, ◌≢◌, ℕ, inl, inr, Bool, true, false, ◌||◌, cond, List, [], ◌∷◌, Some, is_some, bytes_eq, drop, map, append_assoc, Contains, ap, sym, ◌∙◌, get-entries, get-empty, AllByRecursion, false≢true, or_left, or_right, bytes_eq-Decides, slash, is_base_name, first_component, under, text_cmp, contains_cases, contains_nothing, any_from, Bag, HasFile, file, files_of, first-under, Files, move_in, is_within, renamed, moved, within_cases, itself_within, under_within, not_within, goes_itself, goes_under, stays, data_folder, is_in_the_way, new_folder, after_steps, MoveIn}
+use Rattle.bag_make.proofs.Common.{arith, ◌≡◌, ◌≢◌, ℕ, inl, inr, Bool, true, false, ◌||◌, cond, List, [], ◌∷◌, Some, is_some, bytes_eq, drop, map, append_assoc, ap, sym, ◌∙◌, subst, get-empty, AllByRecursion, list_any, false≢true, bytes_eq-Decides, slash, is_base_name, first_component, under, text_cmp, any_from, Bag, HasFile, file, files_of, first-under, Files, move_in, is_within, renamed, moved, within_cases, itself_within, under_within, not_within, goes_itself, goes_under, stays, data_folder, is_in_the_way, new_folder, after_steps, MoveIn}
 use Rattle.std.specs.FinMap as fin
-use Rattle.std.specs.FinSet as set
-use Rattle.bag_make.proofs.Held.{content_of, found, has_listed, one_file}
+use Rattle.std.proofs.Math.Bool.{or-false, or_assoc}
+use Rattle.bag_make.proofs.Held.{content_of, held_at, listed}
 use Rattle.bag_make.proofs.FirstParts.{first-name, parts}
-use Rattle.bag_make.proofs.PutFiles.{from_put, is_put}
-
-abbrev as_bag : Files → Bag
-as_bag files = record { files = files; folders = set.empty }
-
--- the files of a map are those of its list
-pub listed : (files : Files) (p c : List ℕ) → fin.get files p ≡ Some c → Contains (fin.entries files) (p, c)
-listed files p c e = found p c (fin.entries files) (sym (get-entries files p) ∙ e)
-
-pub held_at : (files : Files) (p c : List ℕ) → Contains (fin.entries files) (p, c) → fin.get files p ≡ Some c
-held_at files p c h =
-    let held = content_of (fin.get files p) (has_listed (as_bag files) p c h) in
-    held.1 ∙ ap Some (one_file (as_bag files) p held.0 c (listed files p held.0 held.1) h)
+use Rattle.bag_make.proofs.PutFiles.{from_put, to_put}
 
 -- the files of the bag, each at its place, and no others
 pub record IsPlaced (bag : Bag) (place : List ℕ → List ℕ) (files : Files) : Type 0 where
@@ -39,7 +27,8 @@ moved_placed bag place next from to files placed goes apart = record {
     | inr none ↦ nothing _ q c none
   ];
   to = λ p c is.
-      is_put (renamed from to) (fin.entries files) fin.empty (next p) c (place p) (sym (goes p (ap is_some is))) (listed files (place p) c (placed.to p c is))
+      to_put (renamed from to) (fin.entries files) fin.empty (next p) c
+      (inl (place p, sym (goes p (ap is_some is)), listed files (place p) c (placed.to p c is)))
       (λ q d has same.
       let old = placed.from q d (held_at files q d has) in
       let one = apart p old.0 (ap is_some is) (ap is_some old.2) (same ∙ ap (renamed from to) old.1 ∙ goes old.0 (ap is_some old.2)) in
@@ -80,41 +69,26 @@ module _ (bag : Bag) (free : is_in_the_way bag ≡ false) where
       false≢true (sym free ∙ any_from (λ e. is_within new_folder e.0) (files_of bag) (r, c.0) (listed bag.files r c.0 c.1) within)
 
   apart : (done : List ℕ → Bool) (p r : List ℕ) → HasFile bag p → HasFile bag r → placed_by done p ≡ placed_by done r → p ≡ r
-  apart done p r has_p has_r =
-      elim (done (first_component p)) as (λ a. cond a (under new_folder p) p ≡ placed_by done r → p ≡ r) [
-        | true ↦ elim (done (first_component r)) as (λ b. under new_folder p ≡ cond b (under new_folder r) r → p ≡ r) [
-          | true ↦ λ e. ap (drop 11) e
-          | false ↦ λ e. absurd (none_within r has_r (ap (is_within new_folder) (sym e) ∙ under_within new_folder p))
-        ]
-        | false ↦ elim (done (first_component r)) as (λ b. p ≡ cond b (under new_folder r) r → p ≡ r) [
-          | true ↦ λ e. absurd (none_within p has_p (ap (is_within new_folder) e ∙ under_within new_folder r))
-          | false ↦ λ e. e
-        ]
-      ]
+  apart done p r has_p has_r = elim (done (first_component p)) as (λ a. cond a (under new_folder p) p ≡ placed_by done r → p ≡ r) [
+    | true ↦ elim (done (first_component r)) as (λ b. under new_folder p ≡ cond b (under new_folder r) r → p ≡ r) [
+      | true ↦ λ e. ap (drop 11) e
+      | false ↦ λ e. absurd (none_within r has_r (ap (is_within new_folder) (sym e) ∙ under_within new_folder p))
+    ]
+    | false ↦ elim (done (first_component r)) as (λ b. p ≡ cond b (under new_folder r) r → p ≡ r) [
+      | true ↦ λ e. absurd (none_within p has_p (ap (is_within new_folder) e ∙ under_within new_folder r))
+      | false ↦ λ e. e
+    ]
+  ]
 
   -- all of these names are moved, and what was moved before
-  pub record IsMovedOn (done : List ℕ → Bool) (tops : List (List ℕ)) (files : Files) : Type 0 where
-    pub now : List ℕ → Bool
-    pub before : (t : List ℕ) → done t ≡ true → now t ≡ true
-    pub these : (t : List ℕ) → Contains tops t → now t ≡ true
-    pub placed : IsPlaced bag (placed_by now) files
-
   pub moves_placed : (tops : List (List ℕ)) (done : List ℕ → Bool) (b : Bag) → AllByRecursion IsTop tops → IsPlaced bag (placed_by done) b.files
-      → IsMovedOn done tops (after_steps (map MoveIn tops) b).files
-  moves_placed [] done b all placed = record { now = done; before = λ t e. e; these = λ t has. absurd (contains_nothing t has); placed = placed }
+      → IsPlaced bag (placed_by (λ t. done t || list_any (bytes_eq t) tops)) (after_steps (map MoveIn tops) b).files
+  moves_placed [] done b all placed = subst (λ (now : List ℕ → Bool). IsPlaced bag (placed_by now) b.files) (λ i t. sym (or-false (done t)) i) placed
   moves_placed (top ∷ tops) done b all placed =
       let next = moved_placed bag (placed_by done) (placed_by (with_name done top)) top (under new_folder top) b.files placed
       (λ p has. goes_on done top p all.0) (apart (with_name done top)) in
-      let more = moves_placed tops (with_name done top) (move_in top new_folder b) all.1 next in
-      record {
-        now = more.now;
-        before = λ t e. more.before t (or_left (done t) (bytes_eq t top) e);
-        these = λ t has. elim (contains_cases top tops t has) [
-          | inl same ↦ more.before t (or_right (done t) (bytes_eq t top) ((bytes_eq-Decides t top).1 (sym same)))
-          | inr behind ↦ more.these t behind
-        ];
-        placed = more.placed;
-      }
+      subst (λ (now : List ℕ → Bool). IsPlaced bag (placed_by now) (after_steps (map MoveIn tops) (move_in top new_folder b)).files)
+      (λ i t. or_assoc (done t) (bytes_eq t top) (list_any (bytes_eq t) tops) i) (moves_placed tops (with_name done top) (move_in top new_folder b) all.1 next)
 
   -- where everything was moved, the files stand under data/ when the folder has that name
   pub all_under_data : (done : List ℕ → Bool) (files : Files) → IsPlaced bag (placed_by done) files → ((p : List ℕ) → HasFile bag p → done (first_component p) ≡ true)

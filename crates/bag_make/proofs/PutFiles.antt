@@ -1,5 +1,5 @@
 -- Files that are put into a map, one after the other.
-use Rattle.bag_make.proofs.Common.{◌≡◌, ℕ, ◌⊎◌, inl, inr, true, false, cond, List, [], ◌∷◌, Option, Some, None, fold, Contains, refl, ap, sym, ◌∙◌, subst, nat_list_cmp_total, get-insert, eq_by_cmp, text_cmp, contains_cases, contains_first, contains_behind, contains_nothing, exact_texts, one_text, text_itself, Files, File}
+use Rattle.bag_make.proofs.Common.{arith, ◌≡◌, ℕ, ◌⊎◌, inl, inr, List, [], ◌∷◌, Option, Some, None, fold, Contains, refl, sym, nat_list_cmp_total, get-insert, contains_cases, contains_first, contains_behind, contains_nothing, exact_texts, one_text, text_itself, Files, File}
 use Rattle.std.specs.FinMap as fin
 
 -- each file is put at the path that it has then
@@ -11,53 +11,25 @@ module _ (place : List ℕ → List ℕ) where
   abbrev pub IsPut : List File → List ℕ → List ℕ → Type 0
   IsPut es q c = (p : List ℕ) × (q ≡ place p) × Contains es (p, c)
 
-  inserted : (files : Files) (k v q c : List ℕ) → fin.get (fin.insert files k v) q ≡ Some c → ((q ≡ k) × (v ≡ c)) ⊎ (fin.get files q ≡ Some c)
-  inserted files k v q c is = elim (eq_by_cmp text_cmp q k) as (λ b. eq_by_cmp text_cmp q k ≡ b → cond b (Some v) (fin.get files q) ≡ Some c → ((q ≡ k) × (v ≡ c)) ⊎ (fin.get files q ≡ Some c)) [
-    | true ↦ λ same at. let value : v ≡ c = cc in inl (one_text q k same, value)
-    | false ↦ λ _ at. inr at
-  ] refl (sym (get-insert nat_list_cmp_total files k v q) ∙ is)
-
   -- what is there was put there, or was there
   pub from_put : (es : List File) (files : Files) (q c : List ℕ) → fin.get (put_at place files es) q ≡ Some c → IsPut es q c ⊎ (fin.get files q ≡ Some c)
   from_put [] files q c is = inr is
-  from_put (e ∷ es) files q c is = elim (from_put es (fin.insert files (place e.0) e.1) q c is) [
-    | inl put ↦ inl (put.0, put.1, contains_behind e es (put.0, c) put.2)
-    | inr old ↦ elim (inserted files (place e.0) e.1 q c old) [
-      | inl new ↦ inl (e.0, new.0, subst (λ v. Contains (e ∷ es) (e.0, v)) new.1 (contains_first e es))
-      | inr there ↦ inr there
-    ]
-  ]
+  from_put (e ∷ es) files q c is =
+      grind (arith, contains_behind, contains_first, get-insert, nat_list_cmp_total, one_text, from_put es (fin.insert files (place e.0) e.1) q c is)
 
-  inserted_new : (files : Files) (k v : List ℕ) → fin.get (fin.insert files k v) k ≡ Some v
-  inserted_new files k v = get-insert nat_list_cmp_total files k v k ∙ ap (λ b. cond b (Some v) (fin.get files k)) (text_itself k)
+  -- and what is put is there, or was there and stays, where no other bytes are put at its path
+  next : (e : File) (es : List File) (files : Files) (q c : List ℕ) → IsPut (e ∷ es) q c ⊎ (fin.get files q ≡ Some c) → (q ≡ place e.0 → e.1 ≡ c)
+      → IsPut es q c ⊎ (fin.get (fin.insert files (place e.0) e.1) q ≡ Some c)
+  next e es files q c (inl (p, at, has)) one =
+      grind (arith, contains_cases e es (p, c) has, get-insert nat_list_cmp_total files (place e.0) e.1 q, text_itself q)
+  next e es files q c (inr old) one = grind (arith, get-insert nat_list_cmp_total files (place e.0) e.1 q, one_text q (place e.0))
 
-  inserted_old : (files : Files) (k v q c : List ℕ) → fin.get files q ≡ Some c → (q ≡ k → v ≡ c) → fin.get (fin.insert files k v) q ≡ Some c
-  inserted_old files k v q c old one = get-insert nat_list_cmp_total files k v q
-      ∙ elim (eq_by_cmp text_cmp q k) as (λ b. eq_by_cmp text_cmp q k ≡ b → cond b (Some v) (fin.get files q) ≡ Some c) [
-        | true ↦ λ same. ap Some (one (one_text q k same))
-        | false ↦ λ _. old
-      ] refl
-
-  -- what was there stays, where what is put in its place is the same
-  pub stays_put : (es : List File) (files : Files) (q c : List ℕ) → fin.get files q ≡ Some c → ((p d : List ℕ) → Contains es (p, d) → q ≡ place p → d ≡ c)
-      → fin.get (put_at place files es) q ≡ Some c
-  stays_put [] files q c old one = old
-  stays_put (e ∷ es) files q c old one =
-      stays_put es (fin.insert files (place e.0) e.1) q c (inserted_old files (place e.0) e.1 q c old (one e.0 e.1 (contains_first e es)))
+  pub to_put : (es : List File) (files : Files) (q c : List ℕ) → IsPut es q c ⊎ (fin.get files q ≡ Some c)
+      → ((p d : List ℕ) → Contains es (p, d) → q ≡ place p → d ≡ c) → fin.get (put_at place files es) q ≡ Some c
+  to_put [] files q c there one = elim there [ inl put ↦ absurd (contains_nothing (put.0, c) put.2) | inr old ↦ old ]
+  to_put (e ∷ es) files q c there one =
+      to_put es (fin.insert files (place e.0) e.1) q c (next e es files q c there (one e.0 e.1 (contains_first e es)))
       (λ p d has. one p d (contains_behind e es (p, d) has))
-
-  -- what is put is there, where no other bytes are put at its path
-  pub is_put : (es : List File) (files : Files) (q c p : List ℕ) → q ≡ place p → Contains es (p, c) → ((p d : List ℕ) → Contains es (p, d) → q ≡ place p → d ≡ c)
-      → fin.get (put_at place files es) q ≡ Some c
-  is_put [] files q c p at has one = absurd (contains_nothing (p, c) has)
-  is_put (e ∷ es) files q c p at has one =
-      let later : (p d : List ℕ) → Contains es (p, d) → q ≡ place p → d ≡ c = λ p d has. one p d (contains_behind e es (p, d) has) in
-      elim (contains_cases e es (p, c) has) [
-        | inl same ↦ stays_put es (fin.insert files (place e.0) e.1) q c
-            (ap (fin.get (fin.insert files (place e.0) e.1)) (at ∙ sym (ap (λ (x : File). place x.0) same)) ∙ inserted_new files (place e.0) e.1 ∙ ap (λ (x : File). Some x.1) same)
-            later
-        | inr behind ↦ is_put es (fin.insert files (place e.0) e.1) q c p at behind later
-      ]
 
 same_option : (a b : Option (List ℕ)) → ((c : List ℕ) → a ≡ Some c → b ≡ Some c) → ((c : List ℕ) → b ≡ Some c → a ≡ Some c) → a ≡ b
 same_option None None to from = refl

@@ -29,8 +29,7 @@ summed_more : (algs : List Alg) (files : List File) (summed : List SummedFile) (
     → AreSummed algs (files ++ e ∷ []) (summed ++ one ∷ [])
 summed_more algs [] [] e one h s = (s, tt)
 summed_more algs (x ∷ files) (y ∷ summed) e one h s = (h.0, summed_more algs files summed e one h.1 s)
-summed_more algs [] (y ∷ summed) e one h s = absurd h
-summed_more algs (x ∷ files) [] e one h s = absurd h
+summed_more algs _ _ e one h s = absurd h
 
 -- the digests of the first of these files
 pub sums_more : (algs : List Alg) (files : List File) (i : ℕ) (e : File) (summed : List SummedFile) (one : SummedFile) → i < length files → e ≡ get_or files i e

@@ -5,24 +5,29 @@ use Rattle.std.specs.FinMap as fin
 use Rattle.std.specs.List.Sorted.{IsStrictlySortedBy}
 use Rattle.std.specs.declared.cmp.Ordering.{Ordering}
 use Rattle.bag_text.specs.Order.{IsListOf}
-use Rattle.bag_make.proofs.Held.{true_from}
-
-abbrev Entry : Type 0
-Entry = List ℕ × Unit {0}
+use Rattle.bag_tree.proofs.PathEntries.{t_true}
+use Rattle.std.proofs.lemmas.List.{map-id}
+use Rattle.std.proofs.lemmas.Simd.{map-map}
 
 is_less : (o : Ordering) → is_lt o ≡ true → o ≡ Less
 is_less Less e = refl
 is_less Equal e = cc
 is_less Greater e = cc
 
-all_less : (k : List ℕ) (es : List Entry) → below_all text_cmp k es ≡ true → AllByRecursion (λ y. text_cmp k y ≡ Less) (map (λ (e : Entry). e.0) es)
-all_less k [] h = tt
-all_less k (e ∷ es) h = let two = and_parts (is_lt (text_cmp k e.0)) (below_all text_cmp k es) h in (is_less (text_cmp k e.0) two.0, all_less k es two.1)
+-- the paths of an ordered list ascend
+module _ {X : Type 0} where
+  all_less : (k : List ℕ) (es : List (List ℕ × X)) → below_all text_cmp k es ≡ true
+      → AllByRecursion (λ y. text_cmp k y ≡ Less) (map (λ (e : List ℕ × X). e.0) es)
+  all_less k [] h = tt
+  all_less k (e ∷ es) h = let two = and_parts (is_lt (text_cmp k e.0)) (below_all text_cmp k es) h in (is_less (text_cmp k e.0) two.0, all_less k es two.1)
 
-ascends : (es : List Entry) → is_sorted text_cmp es ≡ true → IsStrictlySortedBy text_cmp (map (λ (e : Entry). e.0) es)
-unfolding IsStrictlySortedBy
-ascends [] h = tt
-ascends (e ∷ es) h = let two = and_parts (below_all text_cmp e.0 es) (is_sorted text_cmp es) h in (all_less e.0 es two.0, ascends es two.1)
+  pub ascends : (es : List (List ℕ × X)) → is_sorted text_cmp es ≡ true → IsStrictlySortedBy text_cmp (map (λ (e : List ℕ × X). e.0) es)
+  unfolding IsStrictlySortedBy
+  ascends [] h = tt
+  ascends (e ∷ es) h = let two = and_parts (below_all text_cmp e.0 es) (is_sorted text_cmp es) h in (all_less e.0 es two.0, ascends es two.1)
+
+abbrev Entry : Type 0
+Entry = List ℕ × Unit {0}
 
 abbrev marked : List (List ℕ) → List Entry
 marked texts = map (λ t. (t, tt)) texts
@@ -31,8 +36,7 @@ abbrev names : List (List ℕ) → fin.FinMap text_cmp (Unit {0})
 names texts = fin.from_entries (marked texts)
 
 unmarked : (texts : List (List ℕ)) → map (λ (e : Entry). e.0) (marked texts) ≡ texts
-unmarked [] = refl
-unmarked (t ∷ texts) = ap (λ others. t ∷ others) (unmarked texts)
+unmarked texts = map-map (λ (e : Entry). e.0) (λ t. (t, tt)) texts ∙ map-id texts
 
 -- the same texts are there
 pub same_any : (texts : List (List ℕ)) (t : List ℕ) → list_any (eq_by_cmp text_cmp t) (in_order texts) ≡ list_any (eq_by_cmp text_cmp t) texts
@@ -45,6 +49,6 @@ moves_over xs ys t has same = grind (arith, any_from (eq_by_cmp text_cmp t) xs t
 
 pub listed_in_order : (texts : List (List ℕ)) → IsListOf text_cmp (Contains texts) (in_order texts)
 listed_in_order texts = record {
-  ascending = ascends (fin.entries (names texts)) (true_from (is_sorted text_cmp (fin.entries (names texts))) (entries_sorted (names texts)));
+  ascending = ascends (fin.entries (names texts)) (t_true (is_sorted text_cmp (fin.entries (names texts))) (entries_sorted (names texts)));
   members = λ t. (λ has. moves_over (in_order texts) texts t has (same_any texts t), λ has. moves_over texts (in_order texts) t has (sym (same_any texts t)));
 }

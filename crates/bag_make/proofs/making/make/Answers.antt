@@ -5,10 +5,9 @@ use Rattle.bag_make.proofs.making.make.Goals as goal
 
 pub returns-clause-valid : goal.returns-clause-valid
 returns-clause-valid g c =
-    let state = g.T.Tree.state in
     on_ok_weaker c.make_in-result.result
-    (made_has_no_fault (made_is_valid declaration_again info_again manifest_again) c.args.algs c.args.info.now (state c.args.tree) (state c.make_in-result.new.tree) (g.met.T.Tree.is_bag c.args.tree))
-    c.make_in-result.ensures.made
+    (made_has_no_fault (made_is_valid declaration_again info_again manifest_again) c.args.algs c.args.info.now _ _
+    (g.met.T.Tree.is_bag c.args.tree)) c.make_in-result.ensures.made
 
 pub returns-clause-leaves : goal.returns-clause-leaves
 returns-clause-leaves g c =

@@ -1,18 +1,16 @@
-use Rattle.bag_make.proofs.Common.{◌∙◌, subst, HasStopped, HasTaken}
+use Rattle.bag_make.proofs.Common.{◌∙◌}
 use Rattle.bag_make.proofs.Made.{has_made, opens_nothing}
 use Rattle.bag_make.proofs.making.make_in.Goals as goal
 
 pub returns-in-Ok-clause-made : goal.returns-in-Ok-clause-made
 returns-in-Ok-clause-made g c =
-    let state = g.T.Tree.state in
     let read = c.in_ok-steps.ensures in
-    has_made c.args.algs c.args.info.now (state c.args.tree.now) (state c.read_and_plan.new.tree) (state c.take_steps.new.tree) c.in_ok-steps.steps.items (g.met.T.Tree.is_bag c.args.tree.now) read.keeps read.planned
-    (subst (λ xs. HasTaken xs (state c.read_and_plan.new.tree) (state c.take_steps.new.tree)) c.deref.ensures.value c.in-Ok.ensures.taken)
+    has_made c.args.algs c.args.info.now _ _ _ _ (g.met.T.Tree.is_bag c.args.tree.now) read.keeps read.planned
+    (rw c.deref.ensures.value at c.in-Ok.ensures.taken)
     c.in_ok-check_request.ensures.good c.in_ok-check_request.ensures.texts read.ascend read.plain read.calm read.opened
 
 pub returns-clause-refused : goal.returns-clause-refused
 returns-clause-refused g c =
-    let state = g.T.Tree.state in
     let read = c.in_ok-steps.ensures in
     let stopped = c.in-Err.ensures.stopped in (
       c.in_ok-check_request.ensures.good,
@@ -20,10 +18,11 @@ returns-clause-refused g c =
         free = λ honest. (read.planned honest).1;
         planned = c.in_ok-steps.steps.items;
         steps = λ honest. (read.planned honest).0;
-        read = state c.read_and_plan.new.tree;
+        read = g.T.Tree.state c.read_and_plan.new.tree;
         keeps = read.keeps;
         failures = read.calm;
-        openings = λ honest. opens_nothing stopped.step stopped.before (state c.take_steps.new.tree) stopped.left ∙ stopped.taken.openings ∙ read.opened honest;
-        stopped = subst (λ xs. HasStopped xs (state c.read_and_plan.new.tree) (state c.take_steps.new.tree) c.in-Err.refusal) c.deref.ensures.value stopped;
+        openings = λ honest. opens_nothing stopped.step stopped.before (g.T.Tree.state c.take_steps.new.tree) stopped.left ∙ stopped.taken.openings
+            ∙ read.opened honest;
+        stopped = rw c.deref.ensures.value at stopped;
       },
     )

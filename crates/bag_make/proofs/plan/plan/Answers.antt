@@ -1,4 +1,4 @@
-use Rattle.bag_make.proofs.Common.{arith, ◌≡◌, ◌∷◌, ◌++◌, [], true, All, map, append_assoc, ap, sym, ◌∙◌, subst, not-true, is_base_name, is_path, FileEntry, texts_of, File, has_new, listed_tops, new_file, steps_for, IsStep, MakeFolder, MoveIn, Rename}
+use Rattle.bag_make.proofs.Common.{arith, ◌≡◌, ◌∷◌, ◌++◌, [], All, map, append_assoc, ap, sym, ◌∙◌, subst, not-true, texts_of, has_new, listed_tops, new_file, steps_for, IsStep, MakeFolder, MoveIn, Rename}
 use Rattle.bag_make.proofs.OfTheBag.{tops_are, top_is, steps_fit}
 use Rattle.bag_make.proofs.plan.plan.Goals as goal
 
@@ -14,6 +14,4 @@ returns-clause-fit c = λ ordered free names.
     ∙ append_assoc (MakeFolder ∷ map MoveIn (texts_of c.as_slice.result.now)) (Rename ∷ []) (map new_file files)
     ∙ ap (λ names. steps_for names files) (ap texts_of c.as_slice.ensures.value ∙ c.in_ok-names.ensures) in
     subst (All IsStep) (sym planned)
-    (steps_fit (listed_tops listing) files
-    (top_is listing (λ entry has. subst (λ (x : FileEntry). is_path x.path ≡ true) has.2 (ordered.paths has.0 entry has.1)) (not-true (has_new listing) free))
-    (λ e has. subst (λ (x : File). is_base_name x.0 ≡ true) has.2 (names has.0 e has.1)))
+    (steps_fit (listed_tops listing) files (top_is listing ordered (not-true (has_new listing) free)) names)

@@ -1,8 +1,5 @@
-use Rattle.bag_make.proofs.Common.{◌≡◌, ℕ, ◌+◌, ◌-◌, ◌<◌, ◌++◌, ◌∷◌, List, [], length, take, get_or, IsTrue, slice_get, refl, ap, sym, ◌∙◌, subst, arith, slice_get_read, fold_more, Bag, TreeState, take_one_more, CanTake, CanTakeAll, HasDone, HasTaken, after_steps, change, Step}
+use Rattle.bag_make.proofs.Common.{◌≡◌, ℕ, ◌+◌, ◌-◌, ◌<◌, ◌++◌, ◌∷◌, List, [], length, take, get_or, IsTrue, refl, ap, sym, ◌∙◌, subst, arith, slice_get_read, fold_more, Bag, TreeState, take_one_more, CanTake, CanTakeAll, HasDone, HasTaken, after_steps, change, Step}
 use Rattle.bag_make.proofs.step.take_steps.Goals as goal
-
-one_back : (n : ℕ) → n + 1 - 1 ≡ n
-one_back n = omega arith
 
 one_can : (steps : List Step) (step : Step) (bag : Bag) → CanTakeAll steps bag → CanTake step (after_steps steps bag) → CanTakeAll (steps ++ step ∷ []) bag
 one_can [] step bag all can = (can, tt)
@@ -25,14 +22,13 @@ more_taken steps i step old mid new within is taken done can calm = record {
 
 pub returns-in-Err-clause-stopped : goal.returns-in-Err-clause-stopped
 returns-in-Err-clause-stopped g c =
-    let state = g.T.Tree.state in
-    let back = one_back c.loop-place.place in
+    let back : c.loop-place.place + 1 - 1 ≡ c.loop-place.place = omega arith in
     record {
       first = omega arith;
       step = c.index-steps-place.result;
-      place = ap (slice_get c.args.steps.now) back ∙ slice_get_read c.args.steps.now (length c.args.steps.now) c.loop-place.place c.index-steps-place.result refl c.loop-place-test.true c.index-steps-place.is;
-      before = state c.loop-place.tree;
-      taken = subst (λ n. HasTaken (take n c.args.steps.now) (state c.args.tree.now) (state c.loop-place.tree)) (sym back) c.loop-place.invariant;
+      place = rw back (slice_get_read c.args.steps.now (length c.args.steps.now) c.loop-place.place _ refl c.loop-place-test.true c.index-steps-place.is);
+      before = g.T.Tree.state c.loop-place.tree;
+      taken = rw back c.loop-place.invariant;
       left = c.in-Err.ensures.left;
       refused = c.in-Err.ensures.refused;
       answered = c.in-Err.ensures.answered;
@@ -40,6 +36,5 @@ returns-in-Err-clause-stopped g c =
 
 pub loop-place-preserved : goal.loop-place-preserved
 loop-place-preserved g c =
-    let state = g.T.Tree.state in
-    more_taken c.args.steps.now c.loop-place.place c.index-steps-place.result (state c.args.tree.now) (state c.loop-place.tree) (state c.take_step.new.tree)
-    c.loop-place-test.true c.index-steps-place.is c.loop-place.invariant c.in_default.ensures.done c.in_default.ensures.possible c.in_default.ensures.calm
+    more_taken c.args.steps.now c.loop-place.place c.index-steps-place.result _ _ _ c.loop-place-test.true c.index-steps-place.is c.loop-place.invariant
+    c.in_default.ensures.done c.in_default.ensures.possible c.in_default.ensures.calm

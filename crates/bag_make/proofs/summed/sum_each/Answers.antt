@@ -1,48 +1,34 @@
-use Rattle.bag_make.proofs.Common.{sym, subst, StopsSumming}
+use Rattle.bag_make.proofs.Common.{StopsSumming}
 use Rattle.bag_facts.proofs.PassedOn.{passed_on}
-use Rattle.bag_make.proofs.Summing.{SumsFirst, sums_none, sums_one_more, opens_first, stops_at, opens_all, opens_all_first, sums_all}
+use Rattle.bag_make.proofs.Summing.{sums_none, sums_one_more, opens_first, stops_at, opens_all, opens_all_first, sums_all}
 use Rattle.bag_make.proofs.summed.sum_each.Goals as goal
 
 pub loop-entry-init : goal.loop-entry-init
-loop-entry-init g c =
-    let state = g.T.Tree.state c.args.tree.now in
-    subst (SumsFirst c.args.files.now 0 c.args.algs state state) (sym c.new-summed.ensures.items) (sums_none c.args.files.now c.args.algs state)
+loop-entry-init g c = rw c.new-summed.ensures.items (sums_none c.args.files.now c.args.algs (g.T.Tree.state c.args.tree.now))
 
 pub loop-entry-preserved : goal.loop-entry-preserved
 loop-entry-preserved g c =
-    let state = g.T.Tree.state in
     let s = c.in_ok-append_summed.ensures.summed in
-    sums_one_more c.args.files.now c.loop-entry.entry-index c.entry-item.result c.args.algs (state c.args.tree.now) (state c.loop-entry.tree) (state c.append_summed.new.tree) c.loop-entry.summed.items
-    c.loop-entry-test.true c.entry-item.is c.loop-entry.invariant
+    sums_one_more _ _ _ _ _ _ (g.T.Tree.state c.append_summed.new.tree) _ c.loop-entry-test.true c.entry-item.is c.loop-entry.invariant
     c.append_summed.new.summed.items s.0 s.1 c.append_summed.ensures.keeps c.in_ok-append_summed.ensures.calm c.in_ok-append_summed.ensures.opened s.2
 
 pub returns-in_err-append_summed-clause-opens : goal.returns-in_err-append_summed-clause-opens
 returns-in_err-append_summed-clause-opens g c =
-    let state = g.T.Tree.state in
-    opens_first c.args.files.now c.loop-entry.entry-index c.entry-item.result c.args.algs (state c.args.tree.now) (state c.loop-entry.tree) (state c.append_summed.new.tree) c.loop-entry.summed.items
-    c.loop-entry-test.true c.entry-item.is c.loop-entry.invariant c.in_err-append_summed.ensures.opens
+    opens_first _ _ _ _ _ _
+    (g.T.Tree.state c.append_summed.new.tree) _ c.loop-entry-test.true c.entry-item.is c.loop-entry.invariant c.in_err-append_summed.ensures.opens
 
 pub returns-in_err-append_summed-clause-stop : goal.returns-in_err-append_summed-clause-stop
 returns-in_err-append_summed-clause-stop g c =
-    let state = g.T.Tree.state in
-    let old = state c.args.tree.now in
-    let new = state c.append_summed.new.tree in
+    let new = g.T.Tree.state c.append_summed.new.tree in
     let stop = c.in_err-append_summed.field-0.0 in
-    passed_on c.from_residual.result stop (StopsSumming c.args.files.now old new) c.from_residual.ensures.1
-    (stops_at c.args.files.now c.loop-entry.entry-index c.entry-item.result c.args.algs old (state c.loop-entry.tree) new c.loop-entry.summed.items
-    c.loop-entry-test.true c.entry-item.is c.loop-entry.invariant stop c.in_err-append_summed.ensures.stop)
+    passed_on c.from_residual.result stop (StopsSumming c.args.files.now (g.T.Tree.state c.args.tree.now) new) c.from_residual.ensures.1
+    (stops_at _ _ _ _ _ _ new _ c.loop-entry-test.true c.entry-item.is c.loop-entry.invariant stop c.in_err-append_summed.ensures.stop)
 
 pub returns-clause-opens : goal.returns-clause-opens
-returns-clause-opens g c =
-    let state = g.T.Tree.state in
-    opens_all_first c.args.files.now c.loop-entry.entry-index c.args.algs (state c.args.tree.now) (state c.loop-entry.tree) c.loop-entry.summed.items c.loop-entry-test.false c.loop-entry.invariant
+returns-clause-opens g c = opens_all_first _ _ _ _ _ _ c.loop-entry-test.false c.loop-entry.invariant
 
 pub returns-clause-opened : goal.returns-clause-opened
-returns-clause-opened g c =
-    let state = g.T.Tree.state in
-    opens_all c.args.files.now c.loop-entry.entry-index c.args.algs (state c.args.tree.now) (state c.loop-entry.tree) c.loop-entry.summed.items c.loop-entry-test.false c.loop-entry.invariant
+returns-clause-opened g c = opens_all _ _ _ _ _ _ c.loop-entry-test.false c.loop-entry.invariant
 
 pub returns-clause-summed : goal.returns-clause-summed
-returns-clause-summed g c =
-    let state = g.T.Tree.state in
-    sums_all c.args.files.now c.loop-entry.entry-index c.args.algs (state c.args.tree.now) (state c.loop-entry.tree) c.loop-entry.summed.items c.loop-entry-test.false c.loop-entry.invariant
+returns-clause-summed g c = sums_all _ _ _ _ _ _ c.loop-entry-test.false c.loop-entry.invariant
