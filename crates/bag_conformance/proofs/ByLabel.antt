@@ -1,9 +1,9 @@
 -- Elements that are sorted by their labels, and the run of one label among them.
-use Rattle.bag_conformance.proofs.Common.{◌≡◌, ◌≤◌, zero, suc, ℕ, List, [], ◌∷◌, length, take, drop, filter, get_or, Bool, true, false, not, ◌&&◌, cond, eqb, refl, sym, ap, ◌∙◌, subst, arith, nat_list_cmp_total, AllWithin, IsNonDecreasingBy, IsPartitionedBy, IsPartitionPoint, IsStableBy, ties, is_lt, ordering_index, ordering_reverse, bytes_eq, str_to_ascii_lowercase, get_or-drop, searchable_from_sorted, bytes_eq-Decides, same_label, text_cmp, Element, text_same, lent, labelled, label_cmp, folded_label, IsByLabel}
+use Rattle.bag_conformance.proofs.Common.{◌≡◌, ◌≤◌, zero, suc, ℕ, List, [], ◌∷◌, length, take, drop, filter, Bool, true, false, not, ◌&&◌, eqb, refl, sym, ap, ◌∙◌, arith, nat_list_cmp_total, AllWithin, IsNonDecreasingBy, IsPartitionedBy, IsPartitionPoint, IsStableBy, ties, is_lt, ordering_index, bytes_eq, str_to_ascii_lowercase, get_or-drop, searchable_from_sorted, same_label, text_cmp, Element, lent, labelled, label_cmp, folded_label, IsByLabel}
 use Rattle.std.proofs.Common.{Bor}
-use Rattle.std.specs.Cmp.{tied_itself}
+use Rattle.std.specs.Cmp.Lexicographic.{texts_ties}
 use Rattle.std.specs.declared.cmp.Ordering.{Ordering}
-use Rattle.std.specs.declared.cmp.Ordering.TheVariants.{Less, Equal, Greater}
+use Rattle.std.specs.declared.cmp.Ordering.TheVariants.{Less}
 use Rattle.std.proofs.lemmas.List.{length-drop}
 use Rattle.std.proofs.lemmas.List.Elements.{filter_agree}
 
@@ -12,22 +12,17 @@ module _ {X : Type 0} (p : X → Bool) where
   kept_rest : (xs : List X) (i : ℕ) → AllWithin (λ x. p x ≡ false) xs 0 i → i ≤ length xs → filter p xs ≡ filter p (drop i xs)
   kept_rest xs zero fails within = refl
   kept_rest [] (suc i) fails within = refl
-  kept_rest (x ∷ xs) (suc i) fails within =
-      let first : p x ≡ false = fails 0 x (omega arith) (omega arith) in
-      ap (λ b. cond b (x ∷ filter p xs) (filter p xs)) first ∙ kept_rest xs i (λ k d low high. fails (suc k) d (omega arith) (omega arith)) (omega arith)
+  kept_rest (x ∷ xs) (suc i) fails within = grind (arith, fails 0 x, kept_rest xs i (λ k d low high. fails (suc k) d (omega arith) (omega arith)))
 
   kept_front : (xs : List X) (n : ℕ) → AllWithin (λ x. p x ≡ true) xs 0 n → AllWithin (λ x. p x ≡ false) xs n (length xs) → n ≤ length xs → filter p xs ≡ take n xs
   kept_front [] zero passes fails within = refl
   kept_front [] (suc n) passes fails within = refl
   kept_front (x ∷ xs) zero passes fails within =
-      let first : p x ≡ false = fails 0 x (omega arith) (omega arith) in
-      ap (λ b. cond b (x ∷ filter p xs) (filter p xs)) first
-      ∙ kept_front xs zero (λ k d low high. absurd (omega arith)) (λ k d low high. fails (suc k) d (omega arith) (omega arith)) (omega arith)
+      let more = kept_front xs zero (λ k d low high. absurd (omega arith)) (λ k d low high. fails (suc k) d (omega arith) (omega arith)) (omega arith) in
+      grind (arith, fails 0 x, more)
   kept_front (x ∷ xs) (suc n) passes fails within =
-      let first : p x ≡ true = passes 0 x (omega arith) (omega arith) in
-      ap (λ b. cond b (x ∷ filter p xs) (filter p xs)) first
-      ∙ ap (λ ys. x ∷ ys)
-      (kept_front xs n (λ k d low high. passes (suc k) d (omega arith) (omega arith)) (λ k d low high. fails (suc k) d (omega arith) (omega arith)) (omega arith))
+      let more = kept_front xs n (λ k d low high. passes (suc k) d (omega arith) (omega arith)) (λ k d low high. fails (suc k) d (omega arith) (omega arith)) in
+      grind (arith, passes 0 x, more)
 
 kept_lent : (p : Element → Bool) (xs : List (Bor Element)) → filter p (lent xs) ≡ lent (filter (λ y. p y.now) xs)
 kept_lent p [] = refl
@@ -36,32 +31,14 @@ kept_lent p (x ∷ xs) = grind (arith, kept_lent p xs)
 -- what an answer tells: that a text is below another, and that both are one
 lower_ranks : (o : Ordering) → is_lt o ≡ true → ordering_index o ≡ 0
 lower_ranks Less e = refl
-lower_ranks Equal e = cc
-lower_ranks Greater e = cc
+lower_ranks _ e = cc
 
 ranks_lower : (o : Ordering) → ordering_index o ≡ 0 → is_lt o ≡ true
 ranks_lower Less e = refl
-ranks_lower Equal e = absurd (omega (arith, e))
-ranks_lower Greater e = absurd (omega (arith, e))
-
-same_by : (a b : List ℕ) (r : Bool) (o : Ordering) → bytes_eq a b ≡ r → text_cmp a b ≡ o → r ≡ eqb (ordering_index o) 1
-same_by a b true o is e =
-    let tied : o ≡ Equal = sym e ∙ sym (ap (text_cmp a) ((bytes_eq-Decides a b).0 is)) ∙ tied_itself nat_list_cmp_total a in
-    subst (λ q. true ≡ eqb (ordering_index q) 1) (sym tied) refl
-same_by a b false Less is e = refl
-same_by a b false Equal is e = let clash : false ≡ true = sym is ∙ (bytes_eq-Decides a b).1 (text_same a b e) in cc
-same_by a b false Greater is e = refl
-
-same_ranks : (a b : List ℕ) → bytes_eq a b ≡ eqb (ordering_index (text_cmp a b)) 1
-same_ranks a b = same_by a b (bytes_eq a b) (text_cmp a b) refl refl
-
-tied_by : (o : Ordering) → (not (is_lt (ordering_reverse o)) && not (is_lt o)) ≡ eqb (ordering_index o) 1
-tied_by Less = refl
-tied_by Equal = refl
-tied_by Greater = refl
+ranks_lower _ e = absurd (omega (arith, e))
 
 tied : (a b : List ℕ) → (not (is_lt (text_cmp a b)) && not (is_lt (text_cmp b a))) ≡ bytes_eq b a
-tied a b = ap (λ o. not (is_lt o) && not (is_lt (text_cmp b a))) (nat_list_cmp_total.antisymm a b) ∙ tied_by (text_cmp b a) ∙ sym (same_ranks b a)
+tied a b = grind (arith, nat_list_cmp_total, texts_ties)
 
 -- a stable sort by the labels keeps the elements of each label in their order
 abbrev pub comes_before : Bor Element → Bor Element → Bool
@@ -88,7 +65,7 @@ module _ (label : List ℕ) where
   has_label e = same_label e.now.label label
 
   label_ranks : (e : Bor Element) → has_label e ≡ eqb (rank e) 1
-  label_ranks e = same_ranks (str_to_ascii_lowercase e.now.label) (str_to_ascii_lowercase label)
+  label_ranks e = grind (arith, texts_ties)
 
   below_lacks : (e : Bor Element) → is_below e ≡ true → has_label e ≡ false
   below_lacks e below = label_ranks e ∙ ap (λ n. eqb n 1) (lower_ranks (label_cmp e.now.label label) below)
@@ -108,7 +85,4 @@ module _ (label : List ℕ) where
 
       pub run_is : (k : ℕ) → i ≤ length elements → k ≤ length (drop i elements) → IsPartitionPoint (λ e. has_label e ≡ true) (λ e. has_label e ≡ false) (drop i elements) k
           → lent (take k (drop i elements)) ≡ labelled label (lent elements)
-      run_is k within inside part =
-          let rest = kept_rest has_label elements i (λ j d low high. below_lacks (get_or elements j d) (split.0 j d low high)) within in
-          let run = kept_front has_label (drop i elements) k part.0 part.1 inside in
-          ap lent (sym (rest ∙ run)) ∙ sym (kept_lent (λ e. same_label e.label label) elements)
+      run_is k within inside part = grind (arith, kept_rest, below_lacks, kept_lent, kept_front has_label (drop i elements) k part.0 part.1 inside)

@@ -15,13 +15,13 @@ pub use Rattle.std.specs.Cmp.Lexicographic.{nat_list_cmp_total, nat_list_eq_equi
 pub use Rattle.std.specs.List.{AllWithin, dedup, enumerate_from, flat_map, list_any}
 pub use Rattle.std.specs.List.Sorted.{IsBinarySearchResult, IsNonDecreasingBy, IsPartitionPoint, IsPartitionedBy, IsPermutation, IsSearchInRange, IsSorted, IsStableBy, IsStrictlySortedBy, ties}
 pub use Rattle.std.specs.Option.{is_some, option_and_then}
-pub use Rattle.std.specs.Ordering.{eq_by_cmp, is_lt, nat_cmp, ordering_index, ordering_reverse}
+pub use Rattle.std.specs.Ordering.{eq_by_cmp, is_lt, nat_cmp, ordering_index}
 pub use Rattle.std.specs.Result.{is_ok}
 pub use Rattle.std.specs.Str.{bytes_eq, str_to_ascii_lowercase}
-pub use Rattle.bag_facts.proofs.ByPath.{found, text_same}
+pub use Rattle.bag_facts.proofs.ByPath.{found}
 pub use Rattle.bag_facts.proofs.Mapped.{contains_mapped, kept, mapped_contains, passed, take_one_more, taken_cases}
 pub use Rattle.bag_facts.specs.Facts.{IsFactsOf, rules_in}
-pub use Rattle.bag_facts.specs.FaultAt.{of_line, of_path}
+pub use Rattle.bag_facts.specs.FaultAt.{of_path}
 pub use Rattle.bag_facts.specs.TagReader.{AreListed}
 pub use Rattle.bag_facts.specs.declared.fault.Fault.{Fault}
 pub use Rattle.bag_profile.specs.Pattern.{matches}
@@ -41,7 +41,7 @@ pub use Rattle.bag_read.specs.declared.kind.Kind.{Kind}
 pub use Rattle.bag_read.specs.declared.kind.Kind.TheVariants.{Payload, Tag}
 pub use Rattle.bag_stages.proofs.ByPath.{take_whole}
 pub use Rattle.bag_stages.proofs.FaultFields.{made_of}
-pub use Rattle.bag_stages.proofs.HasLists.{Decided, both_decided, either, false_or_not, for_each, none_decided, nothing, one_where, only, same_set, true_or_not}
+pub use Rattle.bag_stages.proofs.HasLists.{Decided, both_decided, either, false_or_not, for_each, nothing, one_where, only, same_set, true_or_not}
 pub use Rattle.bag_stages.proofs.ManifestsList.{missing_or_not}
 pub use Rattle.bag_stages.proofs.OxumFaults.{by_line}
 pub use Rattle.bag_stages.specs.FaultFields.{At, of_bag}
@@ -49,7 +49,7 @@ pub use Rattle.bag_stages.specs.HasList.{HasList}
 pub use Rattle.bag_stages.specs.Metadata.{HasElement, HasLater, bag_info_txt}
 pub use Rattle.bag_stages.specs.MetadataStage.{pair}
 pub use Rattle.bag_stages.specs.TagFiles.{HasManifest, bagit_txt, lines_in, lines_or_none}
-pub use Rattle.bag_text.proofs.ListOf.{contains_back, contains_behind, contains_cases, contains_either, contains_first, contains_front, contains_nothing, member_has}
+pub use Rattle.bag_text.proofs.ListOf.{contains_behind, contains_cases, contains_first, contains_front, contains_nothing, member_has}
 pub use Rattle.bag_text.specs.Order.{IsListOf}
 pub use Rattle.bag_text.specs.Path.{is_payload_path}
 pub use Rattle.bag_text.specs.Text.{same_label, text_cmp}

@@ -1,5 +1,5 @@
 -- The faults of a bag and a profile are of the eighth stage, and a list has them.
-use Rattle.bag_conformance.proofs.Common.{◌≡◌, None, Some, refl, Code, ProfileIdentifier, LabelRequired, LabelRepeated, ValueNotAllowed, ManifestRequired, ManifestNotAllowed, TagmanifestRequired, TagmanifestNotAllowed, TagFileRequired, TagFileNotAllowed, FetchNotAllowed, VersionNotAccepted, SerializationRequired, Payload, Tag, Bag, Fault, Profile, nothing, same_set, either, IsOfElements, IsOfKind, IsOfTagFiles, IsOfWhole, ConformanceFaultsAreListed, ConformanceFaultsAreOfStageEight}
+use Rattle.bag_conformance.proofs.Common.{arith, ◌≡◌, None, Some, refl, Code, ProfileIdentifier, Payload, Tag, Bag, Fault, Profile, nothing, same_set, either, IsOfElements, IsOfKind, IsOfTagFiles, IsOfWhole, ConformanceFaultsAreListed, ConformanceFaultsAreOfStageEight}
 use Rattle.bag_text.specs.Code.{stage}
 use Rattle.bag_conformance.specs.ConformanceStage.{ConformanceHolds, IsOfProfile}
 use Rattle.bag_conformance.proofs.ConformanceLists.{elements_listed, kind_listed, tag_files_listed, whole_listed}
@@ -9,19 +9,7 @@ module _ (bag : Bag) (profile : Profile) (f : Fault) where
   holds_stage : (c : Code) → ConformanceHolds bag profile f c → stage c ≡ 8
   unfolding ConformanceHolds
   holds_stage ProfileIdentifier h = refl
-  holds_stage LabelRequired h = refl
-  holds_stage LabelRepeated h = refl
-  holds_stage ValueNotAllowed h = refl
-  holds_stage ManifestRequired h = refl
-  holds_stage ManifestNotAllowed h = refl
-  holds_stage TagmanifestRequired h = refl
-  holds_stage TagmanifestNotAllowed h = refl
-  holds_stage TagFileRequired h = refl
-  holds_stage TagFileNotAllowed h = refl
-  holds_stage FetchNotAllowed h = refl
-  holds_stage VersionNotAccepted h = refl
-  holds_stage SerializationRequired h = refl
-  holds_stage other h = absurd h
+  holds_stage _ h = grind arith
 
   of_stage_eight : IsOfProfile bag profile f → stage f.code ≡ 8
   unfolding IsOfProfile

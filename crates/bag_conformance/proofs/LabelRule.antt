@@ -1,40 +1,29 @@
 -- The faults of a rule are those of the elements of its label.
-use Rattle.bag_conformance.proofs.Common.{◌≡◌, ◌≢◌, ◌⊎◌, ◌<◌, ◌≤◌, ◌↔◌, inl, inr, ◌++◌, ℕ, List, [], ◌∷◌, map, drop, filter, None, Bool, true, false, not, cond, refl, sym, ap, ◌∙◌, subst, arith, Contains, nat_list_eq_equiv, list_any, bytes_eq, same_from_decides, bytes_eq-Decides, IsListOf, Code, LabelRequired, LabelRepeated, ValueNotAllowed, contains_cases, contains_first, contains_behind, contains_nothing, contains_front, contains_back, contains_either, member_has, Element, Bag, Fault, mapped_contains, contains_mapped, kept, passed, LabelRule, At, bag_info_txt, HasElement, HasLater, pair, made_of, by_line, in_info, later_fault, allows, required_faults, repeated_faults, has_other, value_fault, value_faults, rule_faults}
+use Rattle.bag_conformance.proofs.Common.{◌≡◌, ◌≢◌, ◌⊎◌, ◌<◌, ◌≤◌, ◌↔◌, ◌++◌, ℕ, List, [], ◌∷◌, map, drop, filter, None, Bool, true, false, not, cond, refl, arith, Contains, nat_list_eq_equiv, list_any, bytes_eq, same_from_decides, bytes_eq-Decides, IsListOf, Code, LabelRequired, LabelRepeated, ValueNotAllowed, contains_cases, contains_first, contains_behind, contains_nothing, member_has, Element, Bag, Fault, kept, passed, LabelRule, At, bag_info_txt, HasElement, HasLater, pair, made_of, by_line, AreAll, in_info, later_fault, allows, required_faults, repeated_faults, has_other, value_fault, value_faults, rule_faults}
 use Rattle.std.specs.List.Sorted.{IsStrictlySortedBy}
 use Rattle.std.specs.Bool.{Decides}
+use Rattle.std.proofs.lemmas.Bool.{both_ways, false_from_ne_true, not-true, not_from_false}
 use Rattle.std.proofs.lemmas.Map.Views.{Contains-from_any, list_any-from_Contains}
 use Rattle.bag_read.proofs.FaultOrder.{lower}
+use Rattle.bag_conformance.proofs.FaultSets.{both_all, mapped_all, none_all, one_all}
 
 -- the fields of a fault of the file
 pub fields : (code : Code) (line : ℕ) (detail : List ℕ) → At (in_info code line detail) bag_info_txt None line detail
 fields code line detail = record { path_is = refl; alg_is = refl; line_is = refl; detail_is = refl }
 
-pub the_one : {A : Type 0} (x y : A) → Contains (x ∷ []) y → x ≡ y
-the_one x y c = elim (contains_cases x [] y c) [ inl e ↦ e | inr d ↦ absurd (contains_nothing y d) ]
+-- whether a value is among these
+among : (value : List ℕ) (values : List (List ℕ)) → (list_any (bytes_eq value) values ≡ true) ↔ Contains values value
+among value values = (Contains-from_any (λ x y is. (bytes_eq-Decides x y).0 is) value values, list_any-from_Contains nat_list_eq_equiv value values)
 
 -- a value that isn't allowed
-forbidden : (values : List (List ℕ)) (value : List ℕ) → allows values value ≡ false → (values ≢ []) × (¬ (Contains values value))
-forbidden [] value e = cc
-forbidden (v ∷ values) value e = (λ none. cc, λ c. let clash : false ≡ true = sym e ∙ list_any-from_Contains nat_list_eq_equiv value (v ∷ values) c in cc)
-
-not_among : (b : Bool) (values : List (List ℕ)) (value : List ℕ) → list_any (bytes_eq value) values ≡ b → ¬ (Contains values value) → b ≡ false
-not_among true values value e none = absurd (none (Contains-from_any (λ x y is. (bytes_eq-Decides x y).0 is) value values e))
-not_among false values value e none = refl
-
-not_allowed : (values : List (List ℕ)) (value : List ℕ) → values ≢ [] → ¬ (Contains values value) → allows values value ≡ false
-not_allowed [] value some none = absurd (some refl)
-not_allowed (v ∷ values) value some none = not_among (list_any (bytes_eq value) (v ∷ values)) (v ∷ values) value refl none
+forbidden : (values : List (List ℕ)) (value : List ℕ) → (not (allows values value) ≡ true) ↔ ((values ≢ []) × (¬ (Contains values value)))
+forbidden [] value = (λ e. cc, λ h. absurd (h.0 refl))
+forbidden (v ∷ values) value = grind (arith, both_ways, not-true, not_from_false, false_from_ne_true, among value (v ∷ values))
 
 -- whether a value is found among those that are allowed
 pub found_allowed : (values : List (List ℕ)) (value : List ℕ) (r : Bool) → values ≢ [] → Decides r (Contains values value) → r ≡ allows values value
 found_allowed [] value r some found = absurd (some refl)
-found_allowed (v ∷ values) value r some found =
-    same_from_decides r (list_any (bytes_eq value) (v ∷ values)) found
-    (λ e. Contains-from_any (λ x y is. (bytes_eq-Decides x y).0 is) value (v ∷ values) e, λ c. list_any-from_Contains nat_list_eq_equiv value (v ∷ values) c)
-
-negated : (b : Bool) → not b ≡ true → b ≡ false
-negated true e = cc
-negated false e = refl
+found_allowed (v ∷ values) value r some found = same_from_decides r (list_any (bytes_eq value) (v ∷ values)) found (among value (v ∷ values))
 
 module _ (bag : Bag) where
   -- the elements of a label, in line order
@@ -53,16 +42,10 @@ module _ (bag : Bag) where
     later_is e c = ((list.members e).0 (contains_behind first later e c), (first, there, below e c))
 
     no_lower : (d : Element) → HasElement bag label d → first.line ≤ d.line
-    no_lower d h = elim (contains_cases first later d ((list.members d).1 h)) [
-      | inl same ↦ (let lines : first.line ≡ d.line = ap (λ (e : Element). e.line) same in omega (arith, lines))
-      | inr c ↦ (let low : first.line < d.line = below d c in omega (arith, low))
-    ]
+    no_lower d h = grind (arith, contains_cases first later d ((list.members d).1 h), below d)
 
     behind_first : (e : Element) → HasLater bag label e → Contains later e
-    behind_first e (h, (d, k, low)) = elim (contains_cases first later e ((list.members e).1 h)) [
-      | inl same ↦ (let high : first.line ≤ d.line = no_lower d k in let lines : first.line ≡ e.line = ap (λ (x : Element). x.line) same in absurd (omega (arith, low, high, lines)))
-      | inr c ↦ c
-    ]
+    behind_first e (h, (d, k, low)) = grind (arith, contains_cases first later e ((list.members e).1 h), no_lower d k)
 
   -- what is a fault of one rule
   module _ (rule : LabelRule) where
@@ -78,56 +61,37 @@ module _ (bag : Bag) where
         × ((e : Element) × At f bag_info_txt None e.line (pair rule.label e.value) × (rule.values ≢ []) × HasElement bag rule.label e × ¬ (Contains rule.values e.value))
 
     abbrev pub IsOfRule : Fault → Type 0
-    IsOfRule f = Lacks f ⊎ Repeats f ⊎ Differs f
+    IsOfRule f = (Lacks f ⊎ Repeats f) ⊎ Differs f
 
-    lacking_by : (b : Bool) → rule.required ≡ b → ((e : Element) → ¬ (HasElement bag rule.label e)) → (f : Fault) → Contains (cond b (in_info LabelRequired 0 rule.label ∷ []) []) f ↔ Lacks f
-    lacking_by true e none f = grind (arith, the_one, fields, made_of, contains_first)
-    lacking_by false e none f = (λ c. absurd (contains_nothing f c), λ h. let clash : false ≡ true = sym e ∙ h.2 in cc)
+    lacking : (found : List Element) → AreOf rule.label found → AreAll Lacks (required_faults rule found)
+    lacking [] list = grind (arith, contains_nothing, one_all, fields, made_of, none_all, both_ways)
+    lacking (first ∷ later) list = none_all Lacks [] refl (λ f h. h.3 first (there rule.label first later list))
 
-    lacking : (found : List Element) → AreOf rule.label found → (f : Fault) → Contains (required_faults rule found) f ↔ Lacks f
-    lacking [] list f = lacking_by rule.required refl (λ e h. contains_nothing e ((list.members e).1 h)) f
-    lacking (first ∷ later) list f = (λ c. absurd (contains_nothing f c), λ h. absurd (h.3 first (there rule.label first later list)))
+    repeated_by : (b : Bool) (found : List Element) → rule.repeatable ≡ b → AreOf rule.label found
+        → AreAll Repeats (cond b [] (map (later_fault rule.label) (drop 1 found)))
+    repeated_by true found e list = none_all Repeats [] refl (λ f h. both_ways _ h.1.2 e)
+    repeated_by false [] e list = none_all Repeats [] refl (λ f h. contains_nothing h.1.0 ((list.members h.1.0).1 h.1.3.0))
+    repeated_by false (first ∷ later) e list =
+        mapped_all Repeats (later_fault rule.label) later
+        (λ x c. (refl, (x, fields LabelRepeated x.line rule.label, e, later_is rule.label first later list x c)))
+        (λ f h. (h.1.0, behind_first rule.label first later list h.1.0 h.1.3, made_of f LabelRepeated bag_info_txt None h.1.0.line rule.label h.0 h.1.1))
 
-    repeated_by : (b : Bool) (found : List Element) → rule.repeatable ≡ b → AreOf rule.label found → (f : Fault) → Contains (cond b [] (map (later_fault rule.label) (drop 1 found))) f ↔ Repeats f
-    repeated_by true found e list f = (λ c. absurd (contains_nothing f c), λ h. let clash : true ≡ false = sym e ∙ h.1.2 in cc)
-    repeated_by false [] e list f = (λ c. absurd (contains_nothing f c), λ h. absurd (contains_nothing h.1.0 ((list.members h.1.0).1 h.1.3.0)))
-    repeated_by false (first ∷ later) e list f = (
-      λ c. let at = contains_mapped (later_fault rule.label) later f c in
-          subst Repeats at.2 (refl, (at.0, fields LabelRepeated at.0.line rule.label, e, later_is rule.label first later list at.0 at.1)),
-      λ h. subst (Contains (map (later_fault rule.label) later)) (sym (made_of f LabelRepeated bag_info_txt None h.1.0.line rule.label h.0 h.1.1))
-          (mapped_contains (later_fault rule.label) later h.1.0 (behind_first rule.label first later list h.1.0 h.1.3)),
-    )
-
-    differing : (found : List Element) → AreOf rule.label found → (f : Fault) → Contains (value_faults rule found) f ↔ Differs f
-    differing found list f = (
-      λ c. let at = contains_mapped (value_fault rule) (filter (has_other rule) found) f c in
-          let is = kept (has_other rule) found at.0 at.1 in
-          let other = forbidden rule.values at.0.value (negated (allows rule.values at.0.value) is.0) in
-          subst Differs at.2 (refl, (at.0, fields ValueNotAllowed at.0.line (pair rule.label at.0.value), other.0, (list.members at.0).0 is.1, other.1)),
-      λ h. let e : Element = h.1.0 in
-          subst (Contains (value_faults rule found)) (sym (made_of f ValueNotAllowed bag_info_txt None e.line (pair rule.label e.value) h.0 h.1.1))
-          (mapped_contains (value_fault rule) (filter (has_other rule) found) e
-          (passed (has_other rule) found e (ap not (not_allowed rule.values e.value h.1.2 h.1.4)) ((list.members e).1 h.1.3))),
-    )
+    differing : (found : List Element) → AreOf rule.label found → AreAll Differs (value_faults rule found)
+    differing found list =
+        mapped_all Differs (value_fault rule) (filter (has_other rule) found)
+        (λ x c.
+        let is = kept (has_other rule) found x c in
+        let other = (forbidden rule.values x.value).0 is.0 in
+        (refl, (x, fields ValueNotAllowed x.line (pair rule.label x.value), other.0, (list.members x).0 is.1, other.1)))
+        (λ f h.
+        let e : Element = h.1.0 in
+        let there = passed (has_other rule) found e ((forbidden rule.values e.value).1 (h.1.2, h.1.4)) ((list.members e).1 h.1.3) in
+        (e, there, made_of f ValueNotAllowed bag_info_txt None e.line (pair rule.label e.value) h.0 h.1.1))
 
     -- the faults of a rule
-    pub rule_faults_are : (found : List Element) → AreOf rule.label found → (f : Fault) → Contains (rule_faults rule found) f ↔ IsOfRule f
-    rule_faults_are found list f =
-        let lacks : List Fault = required_faults rule found in
-        let repeats : List Fault = repeated_faults rule found in
-        let differs : List Fault = value_faults rule found in (
-          λ c. elim (contains_either (lacks ++ repeats) differs f c) [
-            | inl d ↦ elim (contains_either lacks repeats f d) [
-              | inl a ↦ inl ((lacking found list f).0 a)
-              | inr b ↦ inr (inl ((repeated_by rule.repeatable found refl list f).0 b))
-            ]
-            | inr b ↦ inr (inr ((differing found list f).0 b))
-          ],
-          λ h. elim h [
-            | inl a ↦ contains_front (lacks ++ repeats) differs f (contains_front lacks repeats f ((lacking found list f).1 a))
-            | inr more ↦ elim more [
-              | inl b ↦ contains_front (lacks ++ repeats) differs f (contains_back lacks repeats f ((repeated_by rule.repeatable found refl list f).1 b))
-              | inr b ↦ contains_back (lacks ++ repeats) differs f ((differing found list f).1 b)
-            ]
-          ],
-        )
+    pub rule_faults_are : (found : List Element) → AreOf rule.label found → AreAll IsOfRule (rule_faults rule found)
+    rule_faults_are found list =
+        let of_count : List Fault = required_faults rule found ++ repeated_faults rule found in
+        both_all (λ f. Lacks f ⊎ Repeats f) Differs of_count (value_faults rule found) (rule_faults rule found) refl
+        (both_all Lacks Repeats (required_faults rule found) (repeated_faults rule found) of_count refl (lacking found list)
+        (repeated_by rule.repeatable found refl list)) (differing found list)

@@ -1,6 +1,8 @@
 -- What a profile's lists say of a name, where they are there and where they aren't.
 use Rattle.bag_conformance.proofs.Common.{arith, ◌≡◌, ◌↔◌, ℕ, List, [], length, Bool, true, false, not, Option, None, Some, Result, refl, ap, sym, ◌∙◌, Contains, IsTrue, MatchOption, Bor, is_some, is_ok, list_any, IsBinarySearchResult, IsSearchInRange, IsStrictlySortedBy, map-id, is_payload_path, text_cmp, contains_nothing, any_from, from_any, is_alg_text, manifest_name, tag_path, Kind, Payload, Tag, matches, Profile, names, ListRule, found, Lists, Excludes, MatchesNone, IsFreeTagFile}
 use Rattle.std.specs.Prelude.{◌≢◌}
+use Rattle.std.proofs.lemmas.Bool.{both_ways, false_from_ne_true}
+use Rattle.std.proofs.lemmas.Option.{none-some}
 use Rattle.bag_read.specs.declared.tag_name.TagName.{TagName}
 use Rattle.bag_read.specs.declared.tag_name.TagName.TheVariants as tag_name
 use Rattle.bag_read.proofs.TagPaths.{name_is_text}
@@ -11,36 +13,25 @@ pub name_found : (texts : List (List ℕ)) (text : List ℕ) (r : Result ℕ ℕ
 name_found texts text r b ok up within at = rw ok (rw (map-id texts) at (found (λ y. y) texts [] text r up within at))
 
 module _ (profile : Profile) (rule : ListRule) where
-  -- there is one list
-  one_list : (some other : List (List ℕ)) → Some some ≡ names profile rule → names profile rule ≡ Some other → other ≡ some
-  one_list some other e h = let same : Some some ≡ Some other = e ∙ h in cc
-
-  no_list : (other : List (List ℕ)) → None ≡ names profile rule → names profile rule ≡ Some other → ⊥
-  no_list other e h = let clash : None ≡ Some other = e ∙ h in cc
-
   pub lists_some : (some : List (List ℕ)) → Some some ≡ names profile rule → (text : List ℕ) → Contains some text ↔ Lists profile rule text
-  lists_some some e text = grind (arith, one_list)
+  lists_some some e text = grind arith
 
   pub lists_none : (some : List (List ℕ)) → some ≡ [] → None ≡ names profile rule → (text : List ℕ) → Contains some text ↔ Lists profile rule text
-  lists_none some empty e text = grind (arith, contains_nothing, no_list)
+  lists_none some empty e text = grind (arith, contains_nothing)
 
   pub excludes_some : (some : List (List ℕ)) → Some some ≡ names profile rule → (text : List ℕ) (b : Bool) → IsTrue b ↔ Contains some text → IsTrue (not b) ↔ Excludes profile rule text
-  excludes_some some e text true tells = grind (arith, one_list)
-  excludes_some some e text false tells = grind arith
+  excludes_some some e text b tells = grind arith
 
   pub excludes_none : None ≡ names profile rule → (text : List ℕ) → IsTrue false ↔ Excludes profile rule text
-  excludes_none e text = (λ no. cc, λ h. absurd (no_list h.0 e h.1))
-
-  all_fail : (some : List (List ℕ)) (text : List ℕ) → list_any (λ p. matches p text) some ≡ false → (p : List ℕ) → Contains some p → (b : Bool) → matches p text ≡ b → b ≡ false
-  all_fail some text none p c true e = sym (any_from (λ q. matches q text) some p c e) ∙ none
-  all_fail some text none p c false e = refl
+  excludes_none e text = (λ no. cc, λ h. absurd (none-some h.0 (e ∙ h.1)))
 
   pub matches_none_some : (some : List (List ℕ)) → Some some ≡ names profile rule → (text : List ℕ) (b : Bool) → b ≡ list_any (λ p. matches p text) some → IsTrue (not b) ↔ MatchesNone profile rule text
-  matches_none_some some e text true tells = grind (arith, from_any, one_list)
-  matches_none_some some e text false tells = (λ yes. (some, sym e, λ p c. all_fail some text (sym tells) p c (matches p text) refl), λ h. refl)
+  matches_none_some some e text true tells = grind (arith, from_any)
+  matches_none_some some e text false tells =
+      (λ yes. (some, sym e, λ p c. false_from_ne_true _ (λ m. both_ways _ (sym tells) (any_from (λ q. matches q text) some p c m))), λ h. refl)
 
   pub matches_none_none : None ≡ names profile rule → (text : List ℕ) → IsTrue false ↔ MatchesNone profile rule text
-  matches_none_none e text = (λ no. cc, λ h. absurd (no_list h.0 e h.1))
+  matches_none_none e text = (λ no. cc, λ h. absurd (none-some h.0 (e ∙ h.1)))
 
 -- which tag files other rules don't speak of
 module _ (path : List ℕ) where
@@ -50,17 +41,13 @@ module _ (path : List ℕ) where
   abbrev pub NoTag : Type 0
   NoTag = (tag : TagName) → tag_path tag ≢ path
 
-  no_manifest_by : NoManifest Payload → NoManifest Tag → (kind : Kind) → NoManifest kind
-  no_manifest_by p t Payload = p
-  no_manifest_by p t Tag = t
-
   pub free_from : is_payload_path path ≡ false → NoTag → NoManifest Payload → NoManifest Tag → IsFreeTagFile path
   free_from outside at p t = record {
     outside_payload = outside;
     no_declaration = λ e. at tag_name.Declaration (sym e);
     no_info = λ e. at tag_name.Info (sym e);
     no_fetch = λ e. at tag_name.Fetch (sym e);
-    no_manifest = no_manifest_by p t;
+    no_manifest = elim [ Payload ↦ p | Tag ↦ t ];
   }
 
   abbrev AtTag : Option TagName → Type 0

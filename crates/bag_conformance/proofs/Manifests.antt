@@ -3,6 +3,7 @@ use Rattle.bag_conformance.proofs.Common.{arith, ◌≡◌, ◌↔◌, ℕ, Bool
 use Rattle.std.specs.Prelude.{◌≢◌}
 use Rattle.bag_stages.proofs.PartFaults.{one_alg}
 use Rattle.bag_conformance.proofs.FaultSets.{FaultsOf, same_all, whole_at, code_at}
+use Rattle.bag_conformance.proofs.ItemFaults.{to_fault, from_fault}
 use Rattle.bag_conformance.proofs.FilesThere.{fault_of, HoldsOf, IsFaultOfAFile, files_all}
 
 -- the names of the list of a kind
@@ -25,12 +26,9 @@ module _ (bag : Bag) (profile : Profile) (kind : Kind) where
       → AreAll (FaultsOf lacking_fault IsLacking required) faults → AreAll Lacks faults
   lacking_all required faults are all =
       same_all (FaultsOf lacking_fault IsLacking required) Lacks faults
-      (λ f h.
-      let path = manifest_name kind h.0 in
-      (code_at f (required_code kind) path h.2, (h.0, whole_at f (required_code kind) path h.2, (are h.0).0 h.1, h.3)))
-      (λ f h.
-      let name = h.1.0 in
-      (name, (are name).1 h.1.2, made_of f (required_code kind) (manifest_name kind name) None 0 [] h.0 h.1.1, h.1.3))
+      (λ f h. to_fault (required_code kind) (manifest_name kind) (Lists profile (required_manifests kind)) IsLacking f (h.0, (are h.0).0 h.1, h.2, h.3))
+      (λ f h. let k = from_fault (required_code kind) (manifest_name kind) (Lists profile (required_manifests kind)) IsLacking f h in
+      (k.0, (are k.0).1 k.1, k.2, k.3))
       all
 
   abbrev pub HasOther : Fault → Type 0

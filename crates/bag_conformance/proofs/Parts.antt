@@ -1,5 +1,5 @@
 -- The faults of a profile are those of its parts.
-use Rattle.bag_conformance.proofs.Common.{◌≡◌, ◌⊎◌, inl, inr, List, ◌++◌, refl, sym, subst, Code, ProfileIdentifier, LabelRequired, LabelRepeated, ValueNotAllowed, ManifestRequired, ManifestNotAllowed, TagmanifestRequired, TagmanifestNotAllowed, TagFileRequired, TagFileNotAllowed, FetchNotAllowed, VersionNotAccepted, SerializationRequired, Payload, Tag, Bag, Fault, Profile, AreAll, IsOfElements, IsOfKind, IsOfTagFiles, IsOfWhole}
+use Rattle.bag_conformance.proofs.Common.{arith, ◌≡◌, ◌⊎◌, inl, inr, List, ◌++◌, refl, sym, subst, Code, ProfileIdentifier, LabelRequired, LabelRepeated, ValueNotAllowed, ManifestRequired, ManifestNotAllowed, TagmanifestRequired, TagmanifestNotAllowed, TagFileRequired, TagFileNotAllowed, FetchNotAllowed, VersionNotAccepted, SerializationRequired, Payload, Tag, Bag, Fault, Profile, AreAll, IsOfElements, IsOfKind, IsOfTagFiles, IsOfWhole}
 use Rattle.bag_conformance.specs.ConformanceStage.{ConformanceHolds, IsOfProfile}
 use Rattle.bag_conformance.proofs.FaultSets.{both_all, same_all}
 
@@ -16,53 +16,26 @@ module _ (bag : Bag) (profile : Profile) where
     unfolding IsOfProfile
     row c e h = subst (ConformanceHolds bag profile f) (sym e) h
 
-    of_elements : IsOfElements bag profile f → IsOfProfile bag profile f
-    unfolding ConformanceHolds
-    of_elements (inl (e, h)) = row ProfileIdentifier e h
-    of_elements (inr (inl (e, h))) = row LabelRequired e h
-    of_elements (inr (inr (inl (e, h)))) = row LabelRepeated e h
-    of_elements (inr (inr (inr (e, h)))) = row ValueNotAllowed e h
-
-    of_manifests : IsOfBothKinds f → IsOfProfile bag profile f
-    unfolding ConformanceHolds
-    of_manifests (inl (inl (e, h))) = row ManifestRequired e h
-    of_manifests (inl (inr (e, h))) = row ManifestNotAllowed e h
-    of_manifests (inr (inl (e, h))) = row TagmanifestRequired e h
-    of_manifests (inr (inr (e, h))) = row TagmanifestNotAllowed e h
-
-    of_tag_files : IsOfTagFiles bag profile f → IsOfProfile bag profile f
-    unfolding ConformanceHolds
-    of_tag_files (inl (e, h)) = row TagFileRequired e h
-    of_tag_files (inr (inl (e, h))) = row TagFileNotAllowed e h
-    of_tag_files (inr (inr (e, h))) = row FetchNotAllowed e h
-
-    of_whole : IsOfWhole bag profile f → IsOfProfile bag profile f
-    unfolding ConformanceHolds
-    of_whole (inl (e, h)) = row VersionNotAccepted e h
-    of_whole (inr (e, h)) = row SerializationRequired e h
-
     pub of_some : IsOfSome f → IsOfProfile bag profile f
-    of_some (inl (inl (inl h))) = of_elements h
-    of_some (inl (inl (inr h))) = of_manifests h
-    of_some (inl (inr h)) = of_tag_files h
-    of_some (inr h) = of_whole h
+    unfolding ConformanceHolds
+    of_some (inl (inl (inl (inl (e, h))))) = row ProfileIdentifier e h
+    of_some (inl (inl (inl (inr (inl (e, h)))))) = row LabelRequired e h
+    of_some (inl (inl (inl (inr (inr (inl (e, h))))))) = row LabelRepeated e h
+    of_some (inl (inl (inl (inr (inr (inr (e, h))))))) = row ValueNotAllowed e h
+    of_some (inl (inl (inr (inl (inl (e, h)))))) = row ManifestRequired e h
+    of_some (inl (inl (inr (inl (inr (e, h)))))) = row ManifestNotAllowed e h
+    of_some (inl (inl (inr (inr (inl (e, h)))))) = row TagmanifestRequired e h
+    of_some (inl (inl (inr (inr (inr (e, h)))))) = row TagmanifestNotAllowed e h
+    of_some (inl (inr (inl (e, h)))) = row TagFileRequired e h
+    of_some (inl (inr (inr (inl (e, h))))) = row TagFileNotAllowed e h
+    of_some (inl (inr (inr (inr (e, h))))) = row FetchNotAllowed e h
+    of_some (inr (inl (e, h))) = row VersionNotAccepted e h
+    of_some (inr (inr (e, h))) = row SerializationRequired e h
 
     some_by : (c : Code) → f.code ≡ c → ConformanceHolds bag profile f c → IsOfSome f
     unfolding ConformanceHolds
     some_by ProfileIdentifier e h = inl (inl (inl (inl (e, h))))
-    some_by LabelRequired e h = inl (inl (inl (inr (inl (e, h)))))
-    some_by LabelRepeated e h = inl (inl (inl (inr (inr (inl (e, h))))))
-    some_by ValueNotAllowed e h = inl (inl (inl (inr (inr (inr (e, h))))))
-    some_by ManifestRequired e h = inl (inl (inr (inl (inl (e, h)))))
-    some_by ManifestNotAllowed e h = inl (inl (inr (inl (inr (e, h)))))
-    some_by TagmanifestRequired e h = inl (inl (inr (inr (inl (e, h)))))
-    some_by TagmanifestNotAllowed e h = inl (inl (inr (inr (inr (e, h)))))
-    some_by TagFileRequired e h = inl (inr (inl (e, h)))
-    some_by TagFileNotAllowed e h = inl (inr (inr (inl (e, h))))
-    some_by FetchNotAllowed e h = inl (inr (inr (inr (e, h))))
-    some_by VersionNotAccepted e h = inr (inl (e, h))
-    some_by SerializationRequired e h = inr (inr (e, h))
-    some_by other e h = absurd h
+    some_by _ e h = grind arith
 
     pub is_of_some : IsOfProfile bag profile f → IsOfSome f
     unfolding IsOfProfile

@@ -1,6 +1,6 @@
 -- The faults of other tag files that are lacking, or may not be there.
-use Rattle.bag_conformance.proofs.Common.{arith, None, ◌≡◌, ◌↔◌, ◌⊎◌, inl, inr, ℕ, List, [], ◌++◌, Contains, refl, sym, ap, subst, TagFileRequired, TagFileNotAllowed, FetchNotAllowed, Bag, HasFile, FileEntry, of_path, Fault, AreListed, Profile, TagFilesRequired, made_of, AreAll, IsOfTagFiles, LacksTagFile, HasOtherTagFile, HasFetchFile, IsOtherTagFile, Lists}
-use Rattle.bag_conformance.proofs.FaultSets.{FaultsOf, same_all, both_all, whole_at, code_at}
+use Rattle.bag_conformance.proofs.Common.{arith, None, ◌≡◌, ◌↔◌, ℕ, List, [], ◌++◌, Contains, refl, sym, ap, subst, TagFileRequired, TagFileNotAllowed, FetchNotAllowed, Bag, HasFile, FileEntry, of_path, Fault, AreListed, Profile, TagFilesRequired, made_of, AreAll, IsOfTagFiles, LacksTagFile, HasOtherTagFile, HasFetchFile, IsOtherTagFile, Lists}
+use Rattle.bag_conformance.proofs.FaultSets.{FaultsOf, same_all, three_all, whole_at, code_at}
 use Rattle.bag_conformance.proofs.FilesThere.{fault_of, HoldsOf, IsFaultOfAFile, files_all}
 
 module _ (bag : Bag) (profile : Profile) where
@@ -40,10 +40,10 @@ module _ (bag : Bag) (profile : Profile) where
   abbrev pub IsOther : Fault → Type 0
   IsOther = IsFaultOfAFile TagFileNotAllowed (IsOtherTagFile profile) bag
 
-  to_other : (f : Fault) → IsOther f → HasOther f
+  pub to_other : (f : Fault) → IsOther f → HasOther f
   to_other f (path, has, is, other) = grind (arith, whole_at, code_at)
 
-  from_other : (f : Fault) → HasOther f → IsOther f
+  pub from_other : (f : Fault) → HasOther f → IsOther f
   from_other f h = (f.path, h.1.1, made_of f TagFileNotAllowed f.path None 0 [] h.0 h.1.0, (h.1.2, h.1.3))
 
   -- the files that may not be there
@@ -55,19 +55,8 @@ module _ (bag : Bag) (profile : Profile) where
   abbrev pub HasSomeFetch : Fault → Type 0
   HasSomeFetch f = (f.code ≡ FetchNotAllowed) × HasFetchFile bag profile f
 
-  assigned : (f : Fault) → (Lacks f ⊎ HasOther f) ⊎ HasSomeFetch f → IsOfTagFiles bag profile f
-  assigned f (inl (inl h)) = inl h
-  assigned f (inl (inr h)) = inr (inl h)
-  assigned f (inr h) = inr (inr h)
-
-  grouped : (f : Fault) → IsOfTagFiles bag profile f → (Lacks f ⊎ HasOther f) ⊎ HasSomeFetch f
-  grouped f (inl h) = inl (inl h)
-  grouped f (inr (inl h)) = inl (inr h)
-  grouped f (inr (inr h)) = inr h
-
   -- the three together
   pub tag_files_all : (lacking others of_fetch two three : List Fault) → two ≡ lacking ++ others → three ≡ two ++ of_fetch → AreAll Lacks lacking → AreAll HasOther others → AreAll HasSomeFetch of_fetch
       → AreAll (IsOfTagFiles bag profile) three
   tag_files_all lacking others of_fetch two three make_two make_three l o t =
-      same_all (λ f. (Lacks f ⊎ HasOther f) ⊎ HasSomeFetch f) (IsOfTagFiles bag profile) three assigned grouped
-      (both_all (λ f. Lacks f ⊎ HasOther f) HasSomeFetch two of_fetch three make_three (both_all Lacks HasOther lacking others two make_two l o) t)
+      three_all Lacks HasOther HasSomeFetch lacking others of_fetch two three make_two make_three l o t

@@ -32,23 +32,7 @@ module _ (bag : Bag) (profile : Profile) where
     accepted_all faults made accepts = none_all HasOther faults made (λ f h. accepts (subst (Excludes profile AcceptBagItVersion) (same_version f h) h.1.5))
 
     is_other : (x : Fault) → x ≡ other_version version → Excludes profile AcceptBagItVersion version → HasOther x
-    is_other x e excluded =
-        let from = declares (file bag bagit_txt) version (sym is) in (
-          ap (λ (y : Fault). y.code) e,
-          (
-            from.0,
-            version,
-            record {
-              path_is = ap (λ (y : Fault). y.path) e;
-              alg_is = ap (λ (y : Fault). y.alg) e;
-              line_is = ap (λ (y : Fault). y.line) e;
-              detail_is = ap (λ (y : Fault). y.detail) e;
-            },
-            from.1,
-            from.2,
-            excluded,
-          ),
-        )
+    is_other x e excluded = grind (arith, declares (file bag bagit_txt) version (sym is))
 
     only_other : (x f : Fault) → x ≡ other_version version → HasOther f → f ≡ x
     only_other x f e h = grind (arith, made_of, same_version)

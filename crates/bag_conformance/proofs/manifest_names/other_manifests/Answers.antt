@@ -1,5 +1,6 @@
-use Rattle.bag_conformance.proofs.Common.{None, ◌≡◌, ◌++◌, ◌∷◌, [], true, false, refl, sym, ap, ◌∙◌, AreListed, of_path, other_code, IsOtherManifest}
-use Rattle.bag_conformance.proofs.FaultSets.{all_items, one_more, one_other}
+use Rattle.bag_conformance.proofs.Common.{None, [], inl, inr, refl, ap, ◌∙◌, of_path, other_code, IsOtherManifest}
+use Rattle.std.proofs.lemmas.Bool.{both_ways}
+use Rattle.bag_conformance.proofs.FaultSets.{all_items, one_next}
 use Rattle.bag_conformance.proofs.FilesThere.{fault_of, HoldsOf}
 use Rattle.bag_conformance.proofs.Manifests.{other_all}
 use Rattle.bag_conformance.proofs.manifest_names.other_manifests.Goals as goal
@@ -7,33 +8,25 @@ use Rattle.bag_conformance.proofs.manifest_names.other_manifests.Goals.{then-is_
 
 pub loop-entry-preserved : goal.loop-entry-preserved
 loop-entry-preserved c =
-    let profile = c.args.profile.now in
-    let kind = c.args.kind in
-    let files = c.files-files.result.now in
     let entry = c.entry-item.result in
-    let i = c.loop-entry.entry-index in
-    let before = c.loop-entry.faults.items in
-    let told = fault_of (other_code kind) (IsOtherManifest profile kind) in
-    let holds = HoldsOf (other_code kind) (IsOtherManifest profile kind) in
+    let other = IsOtherManifest c.args.profile.now c.args.kind in
     let tells = rw c.as_str.ensures at c.is_other_manifest.ensures in
-    elim c.if-is_other_manifest.branch [
-      | then-is_other_manifest+in_ok-file_fault+in_ok-push w ↦ (
-          let made : c.if-is_other_manifest.faults.items ≡ before ++ w.in_ok-file_fault.field-0 ∷ [] = rw w.faults-is w.in_ok-push.ensures.items in
-          let is : w.in_ok-file_fault.field-0 ≡ told entry = w.in_ok-file_fault.ensures ∙ ap (λ code. of_path code entry.path None []) c.other_code-code.ensures in
-          one_more told holds files i entry before c.loop-entry-test.true c.entry-item.is c.loop-entry.invariant w.in_ok-file_fault.field-0 c.if-is_other_manifest.faults.items made is
-          (tells.0 w.if-is_other_manifest.true))
-      | else-is_other_manifest w ↦ (
-          let made : c.if-is_other_manifest.faults.items ≡ before = rw w.faults-is refl in
-          one_other told holds files i entry before c.loop-entry-test.true c.entry-item.is c.loop-entry.invariant c.if-is_other_manifest.faults.items made
-          (λ other. let clash : true ≡ false = sym (tells.1 other) ∙ w.if-is_other_manifest.false in cc))
-    ]
+    one_next (fault_of (other_code c.args.kind) other)
+    (HoldsOf (other_code c.args.kind) other) c.files-files.result.now c.loop-entry.entry-index entry c.loop-entry.faults.items
+    c.loop-entry-test.true c.entry-item.is c.loop-entry.invariant c.if-is_other_manifest.faults.items (elim c.if-is_other_manifest.branch [
+      | then-is_other_manifest+in_ok-file_fault+in_ok-push w ↦ inl (
+        w.in_ok-file_fault.field-0,
+        rw w.faults-is w.in_ok-push.ensures.items,
+        w.in_ok-file_fault.ensures ∙ ap (λ code. of_path code entry.path None []) c.other_code-code.ensures,
+        tells.0 w.if-is_other_manifest.true,
+      )
+      | else-is_other_manifest w ↦ inr (rw w.faults-is refl, λ is. both_ways _ w.if-is_other_manifest.false (tells.1 is))
+    ])
 
 pub returns : goal.returns
 returns c = λ bag facts.
-    let profile = c.args.profile.now in
-    let kind = c.args.kind in
     let files = c.files-files.result.now in
-    let listed : AreListed bag files = rw c.files-files.ensures facts.listing.files in
-    other_all bag profile kind files c.loop-entry.faults.items listed
-    (all_items (fault_of (other_code kind) (IsOtherManifest profile kind)) (HoldsOf (other_code kind) (IsOtherManifest profile kind)) files c.loop-entry.entry-index c.loop-entry.faults.items
-    c.loop-entry-test.false c.loop-entry.invariant)
+    let other = IsOtherManifest c.args.profile.now c.args.kind in
+    other_all bag c.args.profile.now c.args.kind files c.loop-entry.faults.items (rw c.files-files.ensures facts.listing.files)
+    (all_items (fault_of (other_code c.args.kind) other)
+    (HoldsOf (other_code c.args.kind) other) files c.loop-entry.entry-index c.loop-entry.faults.items c.loop-entry-test.false c.loop-entry.invariant)

@@ -1,5 +1,6 @@
-use Rattle.bag_conformance.proofs.Common.{◌≡◌, ◌++◌, ◌∷◌, [], true, false, refl, sym, ◌∙◌, TagFileNotAllowed, AreListed, IsOtherTagFile}
-use Rattle.bag_conformance.proofs.FaultSets.{all_items, one_more, one_other}
+use Rattle.bag_conformance.proofs.Common.{inl, inr, refl, TagFileNotAllowed, IsOtherTagFile}
+use Rattle.std.proofs.lemmas.Bool.{both_ways}
+use Rattle.bag_conformance.proofs.FaultSets.{all_items, one_next}
 use Rattle.bag_conformance.proofs.FilesThere.{fault_of, HoldsOf}
 use Rattle.bag_conformance.proofs.TagFiles.{other_all}
 use Rattle.bag_conformance.proofs.tag_files.other_tag_files.Goals as goal
@@ -7,30 +8,20 @@ use Rattle.bag_conformance.proofs.tag_files.other_tag_files.Goals.{then-is_other
 
 pub loop-entry-preserved : goal.loop-entry-preserved
 loop-entry-preserved c =
-    let profile = c.args.profile.now in
-    let files = c.files-files.result.now in
-    let entry = c.entry-item.result in
-    let i = c.loop-entry.entry-index in
-    let before = c.loop-entry.faults.items in
-    let told = fault_of TagFileNotAllowed (IsOtherTagFile profile) in
-    let holds = HoldsOf TagFileNotAllowed (IsOtherTagFile profile) in
+    let other = IsOtherTagFile c.args.profile.now in
     let tells = rw c.as_str.ensures at c.is_other_tag_file.ensures in
-    elim c.if-is_other_tag_file.branch [
-      | then-is_other_tag_file+in_ok-file_fault+in_ok-push w ↦ (
-          let made : c.if-is_other_tag_file.faults.items ≡ before ++ w.in_ok-file_fault.field-0 ∷ [] = rw w.faults-is w.in_ok-push.ensures.items in
-          one_more told holds files i entry before c.loop-entry-test.true c.entry-item.is c.loop-entry.invariant w.in_ok-file_fault.field-0 c.if-is_other_tag_file.faults.items made w.in_ok-file_fault.ensures
-          (tells.0 w.if-is_other_tag_file.true))
-      | else-is_other_tag_file w ↦ (
-          let made : c.if-is_other_tag_file.faults.items ≡ before = rw w.faults-is refl in
-          one_other told holds files i entry before c.loop-entry-test.true c.entry-item.is c.loop-entry.invariant c.if-is_other_tag_file.faults.items made
-          (λ other. let clash : true ≡ false = sym (tells.1 other) ∙ w.if-is_other_tag_file.false in cc))
-    ]
+    one_next (fault_of TagFileNotAllowed other)
+    (HoldsOf TagFileNotAllowed other) c.files-files.result.now c.loop-entry.entry-index c.entry-item.result c.loop-entry.faults.items
+    c.loop-entry-test.true c.entry-item.is c.loop-entry.invariant c.if-is_other_tag_file.faults.items (elim c.if-is_other_tag_file.branch [
+      | then-is_other_tag_file+in_ok-file_fault+in_ok-push w ↦
+          inl (w.in_ok-file_fault.field-0, rw w.faults-is w.in_ok-push.ensures.items, w.in_ok-file_fault.ensures, tells.0 w.if-is_other_tag_file.true)
+      | else-is_other_tag_file w ↦ inr (rw w.faults-is refl, λ is. both_ways _ w.if-is_other_tag_file.false (tells.1 is))
+    ])
 
 pub returns : goal.returns
 returns c = λ bag facts.
-    let profile = c.args.profile.now in
     let files = c.files-files.result.now in
-    let listed : AreListed bag files = rw c.files-files.ensures facts.listing.files in
-    other_all bag profile files c.loop-entry.faults.items listed
-    (all_items (fault_of TagFileNotAllowed (IsOtherTagFile profile)) (HoldsOf TagFileNotAllowed (IsOtherTagFile profile)) files c.loop-entry.entry-index c.loop-entry.faults.items
-    c.loop-entry-test.false c.loop-entry.invariant)
+    let other = IsOtherTagFile c.args.profile.now in
+    other_all bag c.args.profile.now files c.loop-entry.faults.items (rw c.files-files.ensures facts.listing.files)
+    (all_items (fault_of TagFileNotAllowed other)
+    (HoldsOf TagFileNotAllowed other) files c.loop-entry.entry-index c.loop-entry.faults.items c.loop-entry-test.false c.loop-entry.invariant)
