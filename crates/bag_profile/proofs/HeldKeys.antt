@@ -1,6 +1,7 @@
 -- What a profile holds at each of its keys.
 use Rattle.std.proofs.Common.{arith}
-use Rattle.bag_profile.proofs.Common.{◌≡◌, ◌⊎◌, inl, inr, ℕ, Bool, true, false, cond, List, [], Option, Some, None, Result, Ok, Err, refl, sym, ap, subst, codes, option_map, option_and_then, is_some, Data, Members, get, as_bool, as_str, as_object, ProfileFault, Key, LabelRule, ◌>>=◌, shaped, at, optional, flag, allowed_values, label_rules, name_rules, name_lists_of, of_object, serialization_named, terms_of, texts, unchecked_of}
+use Rattle.bag_profile.proofs.Common.{◌≡◌, ◌⊎◌, inl, inr, ℕ, true, List, [], Option, Some, None, Result, Ok, Err, refl, sym, ap, subst, option_map, option_and_then, Data, Members, get, as_bool, as_str, as_object, ProfileFault, Key, LabelRule, ◌>>=◌, shaped, at, optional, label_rules, name_rules, name_lists_of, of_object, serialization_named, terms_of, texts, unchecked_of}
+use Rattle.std.proofs.lemmas.Option.{same_Some}
 use Rattle.bag_profile.specs.declared.key.Key.TheVariants as key
 use Rattle.bag_profile.specs.declared.name_lists.NameRules.{NameRules}
 use Rattle.bag_profile.specs.declared.name_lists.NameLists.{NameLists}
@@ -18,9 +19,6 @@ use Rattle.bag_profile.specs.Terms.{allow_fetch_of, serialization_of}
 ok_same : {A : Type 0} (x y : A) → ◌≡◌ {A = Result A ProfileFault} (Ok x) (Ok y) → x ≡ y
 ok_same x y e = cc
 
-some_same : {A : Type 0} (x y : A) → Some x ≡ Some y → x ≡ y
-some_same x y e = cc
-
 -- two steps come to an end where each does
 bind_ok : {A B : Type 0} (r : Result A ProfileFault) (f : A → Result B ProfileFault) (y : B) → (r >>= f) ≡ Ok y → (x : A) × (r ≡ Ok x) × (f x ≡ Ok y)
 bind_ok (Ok x) f y e = (x, refl, e)
@@ -32,7 +30,7 @@ shaped_ok k (Some y) x e = ap Some (ok_same y x e)
 
 optional_is : {A : Type 0} (default : A) (reading : Data → Option A) (o : Option Data) (x : A) → optional default reading o ≡ Some x
     → ((o ≡ None) × (x ≡ default)) ⊎ ((value : Data) × (o ≡ Some value) × (reading value ≡ Some x))
-optional_is default reading None x e = inl (refl, sym (some_same default x e))
+optional_is default reading None x e = inl (refl, sym (same_Some default x e))
 optional_is default reading (Some value) x e = inr (value, refl, e)
 
 at_is : {A : Type 0} (k : Key) (default : A) (reading : Data → Option A) (d : Data) (x : A) → at k default reading d ≡ Ok x → IsAt (key_name k) default reading d x
@@ -48,10 +46,7 @@ abbrev HoldPair : Key → Key → Data → NameRules → Type 0
 HoldPair required allowed d rules = IsSetAt (key_name required) d rules.required × IsSetAt (key_name allowed) d rules.allowed
 
 pair_is : (required allowed : Key) (d : Data) (rules : NameRules) → name_rules required allowed d ≡ Ok rules → HoldPair required allowed d rules
-pair_is required allowed d rules e =
-    let one = bind_ok (texts_at required d) _ rules e in
-    let two = bind_ok (texts_at allowed d) _ rules one.2 in
-    subst (HoldPair required allowed d) (ok_same _ rules two.2) (set_is required d one.0 one.1, set_is allowed d two.0 two.1)
+pair_is required allowed d rules e = grind (arith, bind_ok, ok_same, set_is)
 
 abbrev HoldLists : Data → NameLists → Type 0
 HoldLists d lists =
@@ -81,44 +76,37 @@ HoldTerms d terms =
     × IsSetAt (key_name key.AcceptBagItVersion) d terms.versions
     × IsAt (key_name key.Serialization) Optional named_in d terms.serialization
 
-allow_fetch_is : (d : Data) (x : Bool) → allow_fetch_of d ≡ Ok x → IsAt (key_name key.AllowFetch) true as_bool d x
-unfolding allow_fetch_of
-allow_fetch_is d x e = at_is key.AllowFetch true as_bool d x e
-
-serialization_is : (d : Data) (x : Serialization) → serialization_of d ≡ Ok x → IsAt (key_name key.Serialization) Optional named_in d x
-unfolding serialization_of
-serialization_is d x e = at_is key.Serialization Optional named_in d x e
-
 terms_are : (d : Data) (terms : Terms) → terms_of d ≡ Ok terms → HoldTerms d terms
+unfolding allow_fetch_of serialization_of
 terms_are d terms e =
     let one = bind_ok (allow_fetch_of d) _ terms e in
     let two = bind_ok (texts_at key.AcceptBagItVersion d) _ terms one.2 in
     let three = bind_ok (serialization_of d) _ terms two.2 in
-    subst (HoldTerms d) (ok_same _ terms three.2) (allow_fetch_is d one.0 one.1, set_is key.AcceptBagItVersion d two.0 two.1, serialization_is d three.0 three.1)
+    subst (HoldTerms d) (ok_same _ terms three.2) (
+      at_is key.AllowFetch true as_bool d one.0 one.1,
+      set_is key.AcceptBagItVersion d two.0 two.1,
+      at_is key.Serialization Optional named_in d three.0 three.1,
+    )
 
--- ---- the identifier and the labels
+-- ---- the identifier
 
 identifier_is : (d : Data) (identifier : List ℕ) → identifier_of d ≡ Ok identifier
     → (info value : Data) × (get (key_name key.ProfileInfo) d ≡ Some info) × (get (key_name key.ProfileIdentifier) info ≡ Some value) × (as_str value ≡ Some identifier)
 unfolding identifier_of
-identifier_is d identifier e = grind (arith, bind_ok, shaped_ok, some_same)
-
-labels_are : (d : Data) (labels : List LabelRule) → labels_of d ≡ Ok labels → IsAt (key_name key.BagInfo) [] label_rules d labels
-unfolding labels_of
-labels_are d labels e = at_is key.BagInfo [] label_rules d labels e
+identifier_is d identifier e = grind (arith, bind_ok, shaped_ok, same_Some)
 
 -- ---- the whole
 
 made : (d : Data) (members : Members) (identifier : List ℕ) (labels : List LabelRule) (lists : NameLists) (terms : Terms)
     → (as_object d ≡ Some members) → identifier_of d ≡ Ok identifier → labels_of d ≡ Ok labels → name_lists_of d ≡ Ok lists → terms_of d ≡ Ok terms
     → HoldsKeys d (record { identifier = identifier; labels = labels; names = lists; terms = terms; unchecked = unchecked_of members })
-unfolding key_name
+unfolding key_name labels_of
 made d members identifier labels lists terms all i l n t =
     let six = lists_are d lists n in
     let three = terms_are d terms t in
     record {
       its_identifier = identifier_is d identifier i;
-      bag_info = labels_are d labels l;
+      bag_info = at_is key.BagInfo [] label_rules d labels l;
       manifests_required = six.0.0;
       manifests_allowed = six.0.1;
       tag_manifests_required = six.1.0;
@@ -147,28 +135,6 @@ hold_keys d profile e =
 
 -- ---- the rule of a label
 
-abbrev rule_made : List ℕ → Bool → Bool → List (List ℕ) → LabelRule
-rule_made label required repeatable values = record { label = label; required = required; repeatable = repeatable; values = values }
-
-rule_parts : (b : Bool) (label : List ℕ) (required repeatable : Option Bool) (values : Option (List (List ℕ))) (rule : LabelRule)
-    → cond b (option_and_then (λ x. option_and_then (λ y. option_map (λ z. rule_made label x y z) values) repeatable) required) None ≡ Some rule
-    → (rule.label ≡ label) × (required ≡ Some rule.required) × (repeatable ≡ Some rule.repeatable) × (values ≡ Some rule.values)
-rule_parts false label required repeatable values rule e = cc
-rule_parts true label None repeatable values rule e = cc
-rule_parts true label (Some x) None values rule e = cc
-rule_parts true label (Some x) (Some y) None rule e = cc
-rule_parts true label (Some x) (Some y) (Some z) rule e =
-    subst (λ r. (r.label ≡ label) × (Some x ≡ Some r.required) × (Some y ≡ Some r.repeatable) × (Some z ≡ Some r.values))
-    (some_same (rule_made label x y z) rule e) (refl, refl, refl, refl)
-
 pub rules_hold : RulesHoldTheirKeys
 unfolding label_rule
-rules_hold label d rule e =
-    let parts = rule_parts (is_some (as_object d)) label (flag (codes "required") false d) (flag (codes "repeatable") true d) (allowed_values d) rule e in (
-      parts.0,
-      record {
-        required = optional_is false as_bool (get (codes "required") d) rule.required parts.1;
-        repeatable = optional_is true as_bool (get (codes "repeatable") d) rule.repeatable parts.2;
-        allowed = optional_is [] texts (get (codes "values") d) rule.values parts.3;
-      },
-    )
+rules_hold label d rule e = grind (arith, optional_is, same_Some)

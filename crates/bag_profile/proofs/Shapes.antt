@@ -1,6 +1,6 @@
 -- A value is read where it has its shape, and the first fault is told.
 use Rattle.std.proofs.Common.{arith}
-use Rattle.bag_profile.proofs.Common.{◌≡◌, ℕ, Bool, true, false, cond, ◌&&◌, List, [], ◌∷◌, Option, Some, None, Result, Ok, Err, refl, sym, ap, ◌∙◌, codes, find, option_or, option_map, option_and_then, is_some, Data, Items, no_items, item, Members, no_members, member, get, as_bool, as_str, as_array, as_object, ProfileFault, Key, LabelRule, ◌>>=◌, shaped, at, present, needed, optional, flag, allowed_values, rules_of, name_rules, name_lists_of, as_record, of_object, terms_of, texts_of, text_set}
+use Rattle.bag_profile.proofs.Common.{◌≡◌, ℕ, Bool, true, false, cond, ◌&&◌, List, [], ◌∷◌, Option, Some, None, Result, Ok, Err, refl, sym, ap, ◌∙◌, codes, find, option_or, option_map, option_and_then, is_some, Data, Items, no_items, item, Members, no_members, member, get, as_bool, as_str, as_array, as_object, ProfileFault, Key, LabelRule, ◌>>=◌, shaped, at, optional, flag, allowed_values, rules_of, name_rules, name_lists_of, of_object, terms_of, texts_of, text_set}
 use Rattle.bag_profile.specs.declared.fault.ProfileFault.TheVariants.{WrongShape}
 use Rattle.bag_profile.specs.declared.key.Key.TheVariants as key
 use Rattle.bag_profile.specs.Key.{key_name}
@@ -46,33 +46,21 @@ rule_made label required repeatable values = record { label = label; required = 
 rule_parts : (b : Bool) (label : List ℕ) (required repeatable : Option Bool) (values : Option (List (List ℕ)))
     → is_some (cond b (option_and_then (λ x. option_and_then (λ y. option_map (λ z. rule_made label x y z) values) repeatable) required) None)
     ≡ (b && is_some required && is_some repeatable && is_some values)
-rule_parts false label required repeatable values = refl
-rule_parts true label None repeatable values = refl
-rule_parts true label (Some x) None values = refl
-rule_parts true label (Some x) (Some y) None = refl
 rule_parts true label (Some x) (Some y) (Some z) = refl
-
-may_be_boolean : (default : Bool) (o : Option Data) → is_some (optional default as_bool o) ≡ spec.may_be spec.is_boolean o
-may_be_boolean default o = optional_shape default as_bool spec.is_boolean (λ d. refl) o
+rule_parts _ label _ _ _ = refl
 
 rule_shape : (label : List ℕ) (d : Data) → is_some (label_rule label d) ≡ spec.is_rule d
 unfolding label_rule
 rule_shape label d =
-    let object_is = is_some (as_object d) in
-    let repeatable = flag (codes "repeatable") true d in
-    let values = allowed_values d in
-    rule_parts object_is label (flag (codes "required") false d) repeatable values
-    ∙ ap (λ b. object_is && b && is_some repeatable && is_some values) (may_be_boolean false (get (codes "required") d))
-    ∙ ap (λ b. object_is && spec.may_be spec.is_boolean (get (codes "required") d) && b && is_some values) (may_be_boolean true (get (codes "repeatable") d))
-    ∙ ap (λ b. object_is && spec.may_be spec.is_boolean (get (codes "required") d) && spec.may_be spec.is_boolean (get (codes "repeatable") d) && b)
-    (optional_shape [] texts spec.is_list_of_texts texts_shape (get (codes "values") d))
+    rule_parts (is_some (as_object d)) label (flag (codes "required") false d) (flag (codes "repeatable") true d) (allowed_values d)
+    ∙ (λ i. is_some (as_object d) && optional_shape false as_bool spec.is_boolean (λ v. refl) (get (codes "required") d) i
+    && optional_shape true as_bool spec.is_boolean (λ v. refl) (get (codes "repeatable") d) i && optional_shape [] texts spec.is_list_of_texts texts_shape
+    (get (codes "values") d) i)
 
 rules_are : (ms : Members) → is_some (rules_of ms) ≡ spec.are_rules ms
 rules_are no_members = refl
 rules_are (member label d rest) =
-    both_are (λ rule rules. rule ∷ rules) (label_rule label d) (rules_of rest)
-    ∙ ap (λ b. b && is_some (rules_of rest)) (rule_shape label d)
-    ∙ ap (λ b. spec.is_rule d && b) (rules_are rest)
+    both_are (λ rule rules. rule ∷ rules) (label_rule label d) (rules_of rest) ∙ (λ i. rule_shape label d i && rules_are rest i)
 
 labels_shape : (d : Data) → is_some (label_rules d) ≡ spec.has_shape key.BagInfo d
 unfolding label_rules
@@ -115,9 +103,7 @@ in_order (Err fault) f first later e h = ap (λ o. option_or o later) e
 
 names_fault : (required allowed : Key) (d : Data) → ((v : Data) → spec.is_list_of_texts v ≡ spec.has_shape required v) → ((v : Data) → spec.is_list_of_texts v ≡ spec.has_shape allowed v)
     → spec.fault_of (name_rules required allowed d) ≡ option_or (wrong d required) (option_or (wrong d allowed) None)
-names_fault required allowed d h i =
-    in_order (texts_at required d) _ (wrong d required) (option_or (wrong d allowed) None) (texts_fault required d h) (λ x.
-    in_order (texts_at allowed d) _ (wrong d allowed) None (texts_fault allowed d i) (λ y. refl))
+names_fault required allowed d h i = grind (arith, in_order, texts_fault required d h, texts_fault allowed d i)
 
 abbrev pair_fault : Data → Key → Key → Fault
 pair_fault d required allowed = option_or (wrong d required) (option_or (wrong d allowed) None)
@@ -148,13 +134,9 @@ terms_fault d =
 abbrev two_fault : Option Data → Fault
 two_fault o = option_or (spec.needed_fault key.ProfileInfo o) (spec.needed_fault key.ProfileIdentifier (option_and_then (get (key_name key.ProfileIdentifier)) o))
 
-identifier_at : (o : Option Data) → spec.fault_of (present key.ProfileInfo as_record o >>= needed key.ProfileIdentifier as_str) ≡ two_fault o
-identifier_at None = refl
-identifier_at (Some info) = grind (arith, shaped_fault)
-
 identifier_fault : (d : Data) → spec.fault_of (identifier_of d) ≡ two_fault (get (key_name key.ProfileInfo) d)
 unfolding identifier_of
-identifier_fault d = identifier_at (get (key_name key.ProfileInfo) d)
+identifier_fault d = grind (arith, shaped_fault)
 
 -- ---- all keys
 
@@ -170,29 +152,16 @@ first_wrong d (k ∷ ks) = grind (arith, first_wrong d ks)
 regrouped : (i j l a b c e f g h m n : Fault)
     → option_or (option_or i j) (option_or l (option_or (option_or (option_or a (option_or b None)) (option_or (option_or c (option_or e None)) (option_or (option_or f (option_or g None)) None))) (option_or (option_or h (option_or m (option_or n None))) None)))
     ≡ option_or i (option_or j (option_or l (option_or a (option_or b (option_or c (option_or e (option_or f (option_or g (option_or h (option_or m (option_or n None)))))))))))
-regrouped (Some x) j l a b c e f g h m n = refl
-regrouped None (Some x) l a b c e f g h m n = refl
-regrouped None None (Some x) a b c e f g h m n = refl
-regrouped None None None (Some x) b c e f g h m n = refl
-regrouped None None None None (Some x) c e f g h m n = refl
-regrouped None None None None None (Some x) e f g h m n = refl
-regrouped None None None None None None (Some x) f g h m n = refl
-regrouped None None None None None None None (Some x) g h m n = refl
-regrouped None None None None None None None None (Some x) h m n = refl
-regrouped None None None None None None None None None (Some x) m n = refl
-regrouped None None None None None None None None None None (Some x) n = refl
-regrouped None None None None None None None None None None None (Some x) = refl
 regrouped None None None None None None None None None None None None = refl
+regrouped _ _ _ _ _ _ _ _ _ _ _ _ = refl
 
 object_fault : (d : Data) (members : Members) → spec.fault_of (of_object d members) ≡ spec.first_fault_of_object d
 object_fault d members =
     let info = get (key_name key.ProfileInfo) d in
-    let steps : spec.fault_of (of_object d members) ≡ option_or (two_fault info) (option_or (wrong d key.BagInfo) (option_or (lists_fault d) (option_or (three_fault d) None))) =
-    in_order (identifier_of d) _ (two_fault info) (option_or (wrong d key.BagInfo) (option_or (lists_fault d) (option_or (three_fault d) None))) (identifier_fault d) (λ x.
-    in_order (labels_of d) _ (wrong d key.BagInfo) (option_or (lists_fault d) (option_or (three_fault d) None)) (labels_fault d) (λ y.
-    in_order (name_lists_of d) _ (lists_fault d) (option_or (three_fault d) None) (name_lists_fault d) (λ z.
-    in_order (terms_of d) _ (three_fault d) None (terms_fault d) (λ w. refl)))) in
-    steps
+    in_order (identifier_of d) _ _ _ (identifier_fault d) (λ x.
+    in_order (labels_of d) _ _ _ (labels_fault d) (λ y.
+    in_order (name_lists_of d) _ _ _ (name_lists_fault d) (λ z.
+    in_order (terms_of d) _ _ None (terms_fault d) (λ w. refl))))
     ∙ regrouped _ _ (wrong d key.BagInfo) (wrong d key.ManifestsRequired) (wrong d key.ManifestsAllowed) (wrong d key.TagManifestsRequired) (wrong d key.TagManifestsAllowed)
     (wrong d key.TagFilesRequired) (wrong d key.TagFilesAllowed) (wrong d key.AllowFetch) (wrong d key.AcceptBagItVersion) (wrong d key.Serialization)
     ∙ ap (λ o. option_or (spec.needed_fault key.ProfileInfo info) (option_or (spec.needed_fault key.ProfileIdentifier (option_and_then (get (key_name key.ProfileIdentifier)) info)) o))
