@@ -1,5 +1,5 @@
 -- The names that this crate's proofs cite, passed on from one place. Declares nothing.
-pub use Rattle.std.proofs.Common.{Bool, Bor, IsTrue, List, MutBor, None, Option, Some, Vec, [], ap, append-nil, append_assoc, arith, decimal, drop, get_or, inl, inr, length, map, max, min, refl, rules, string_bytes, subst, suc, sym, take, zero, ℕ, ◌++◌, ◌+◌, ◌<◌, ◌∙◌, ◌∷◌, ◌≡◌, ◌≢◌, ◌≤◌, ◌⊎◌}
+pub use Rattle.std.proofs.Common.{Bool, Bor, IsTrue, List, MutBor, None, Option, Some, Vec, [], ap, append-nil, append_assoc, arith, decimal, drop, get_or, inl, inr, length, map, max, refl, rules, string_bytes, subst, suc, sym, take, zero, ℕ, ◌++◌, ◌+◌, ◌<◌, ◌∙◌, ◌∷◌, ◌≡◌, ◌≢◌, ◌≤◌, ◌⊎◌}
 pub use Rattle.std.proofs.lemmas.Iterator.{IsCollectResult, YieldsList, YieldsList-from_map_by, YieldsList-from_slice, items_from_collect, items_from_drains}
 pub use Rattle.std.proofs.lemmas.List.{drop_all, drop_more}
 pub use Rattle.std.proofs.lemmas.Result.{err_from_is_err_and}
@@ -24,7 +24,7 @@ pub use Rattle.bag_walk.proofs.Writing.{IsCut-append, append-IsCut, cut_third, w
 pub use Rattle.bag_walk.specs.Closing.{status}
 pub use Rattle.bag_walk.specs.Write.{IsCut, Writes}
 pub use Rattle.bag_walk.specs.declared.outcome.Outcome.{Outcome}
-pub use Rattle.bag_walk.specs.declared.outcome.Outcome.TheVariants.{Clean, Faults, Rest, Stopped, Unread, Unwritten}
+pub use Rattle.bag_walk.specs.declared.outcome.Outcome.TheVariants.{Clean, Unread, Unwritten}
 pub use Rattle.bag_walk.specs.declared.outcome.Request.{Request}
 pub use base.Logic.{SProp, emp, ent, fst∗, id⊢, sep, via}
 pub use contract.Monad.{Fun}
@@ -44,20 +44,18 @@ pub use types.ByLocal.{alloc_all, free_all, get, look_at, pass_all, sets}
 pub use types.Kit.{ !, by, done, feq_i, fjoin, fjoin3, frame, fsplit, fsplit3, join, keep, move, qed, raw, split, suffices, use1, ‵, ◌$◌, ◌∵◌, ◌⊛◌}
 pub use types.Logic.{Logic}
 pub use types.Run.{and_then, enter, no_more, of_opd, returns, unit_lit}
-pub use Rattle.bag_cli.specs.Checked.{AreCalm, AreChecksOf, HasRunOut, IsCheckOf, IsCheckOfSample, IsLastCheck, IsRunOver, IsVisitToCheck, IsWholeCheck, request_of, visit_of}
+pub use Rattle.bag_cli.specs.Checked.{AreCalm, AreChecksOf, HasRunOut, IsCheckOf, IsCheckOfSample, IsLastCheck, IsVisitToCheck, IsWholeCheck, request_of, visit_of}
 pub use Rattle.bag_cli.specs.Folders.{disks_of, visits_of}
 pub use Rattle.bag_cli.specs.Honest.{HonestFoldersAreTold, IsToldMade, IsToldNotMade}
-pub use Rattle.bag_cli.specs.InTurn.{AreInTurn, GoesOn, HasVisited, Last, Whole}
-pub use Rattle.bag_cli.specs.Making.{IsMake, IsMaking, TellsMaking}
-pub use Rattle.bag_cli.specs.Makings.{AreMakingsOf, IsLastMaking, IsTold, IsWholeMaking, element_of}
-pub use Rattle.bag_cli.specs.Performed.{AreMade, IsChecked, IsCheckedFor, IsDoneBy, IsPerformed, IsSaid}
+pub use Rattle.bag_cli.specs.InTurn.{AreInTurn, HasVisited, Last, Whole}
+pub use Rattle.bag_cli.specs.Making.{IsMake, TellsMaking}
+pub use Rattle.bag_cli.specs.Makings.{AreMakingsOf, IsTold, IsWholeMaking, element_of}
+pub use Rattle.bag_cli.specs.Performed.{AreMade, IsChecked, IsDoneBy, IsPerformed, IsSaid}
 pub use Rattle.bag_cli.specs.ProfileFile.{IsRead}
-pub use Rattle.bag_cli.specs.ProfileRefusal.{refusal_status, wrong_shape_line}
-pub use Rattle.bag_cli.specs.Program.{IsProgram, IsProgramOrNone, IsStarted}
 pub use Rattle.bag_cli.specs.Sample.{sample_state}
 pub use Rattle.bag_cli.specs.Saying.{Says}
 pub use Rattle.bag_cli.specs.Status.{whole_status}
-pub use Rattle.bag_cli.specs.Told.{HonestDisksAreTold, TellsMade, TellsReport, shown_of, told_lines}
+pub use Rattle.bag_cli.specs.Told.{TellsMade, TellsReport, told_lines}
 pub use Rattle.bag_cli.specs.UncheckedKeys.{unchecked_line, unchecked_lines}
 pub use Rattle.bag_cli.specs.Visits.{Entered, Event, Left, NotGiven, Read}
 pub use Rattle.bag_cli.specs.declared.record.Record.{Record}

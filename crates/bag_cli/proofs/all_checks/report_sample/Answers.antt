@@ -1,5 +1,5 @@
-use Rattle.bag_cli.proofs.Common.{rules, ◌≡◌, inl, ◌∷◌, [], List, None, refl, subst, sym, MatchResult, codes, unwrap_or, Result, Ok, Err, OutState, Event, NotGiven, Outcome, Plan, AreCalm, AreChecksOf, HasRunOut, IsCheckOfSample, IsVisitToCheck, visit_of, sample_state, whole_status}
-use Rattle.bag_cli.proofs.Checks.{ends, goes, next_check}
+use Rattle.bag_cli.proofs.Common.{rules, ◌≡◌, inl, ◌∷◌, [], List, None, refl, MatchResult, codes, unwrap_or, Result, Ok, Err, OutState, Event, NotGiven, Outcome, Plan, AreCalm, HasRunOut, IsCheckOfSample, IsLastCheck, IsVisitToCheck, IsWholeCheck, visit_of, sample_state, whole_status}
+use Rattle.bag_cli.proofs.Checks.{next_check}
 use Rattle.bag_cli.proofs.Turns.{only_one}
 use Rattle.bag_cli.proofs.all_checks.report_sample.Goals as goal
 
@@ -13,15 +13,10 @@ as_visit plan before after (Err e) nothing = (NotGiven (codes "sample") ∷ [], 
 
 pub returns : goal.returns
 returns g c =
-    let plan = c.args.plan.now in
-    let before = g.O.Out.state c.args.out.now in
-    let after = g.O.Out.state c.check_sample-checked.new.out in
-    let checked = c.check_sample-checked.result in
-    let given : c.unwrap_or.result ≡ unwrap_or (whole_status checked) 3 = search rules in
-    let visit = as_visit plan before after checked c.check_sample-checked.ensures in
-    let next = next_check plan None sample_state (codes "sample") before after visit.0 checked visit.2 in (
+    let given : c.unwrap_or.result ≡ unwrap_or (whole_status c.check_sample-checked.result) 3 = search rules in
+    let visit = as_visit c.args.plan.now (g.O.Out.state c.args.out.now) (g.O.Out.state c.check_sample-checked.new.out) c.check_sample-checked.result c.check_sample-checked.ensures in (
       visit.0,
       visit.1,
-      subst (λ n. AreChecksOf plan None (λ _. sample_state) (codes "sample" ∷ []) before after visit.0 n) (sym given)
-          (only_one (ends plan None (λ _. sample_state)) (goes plan None (λ _. sample_state)) (codes "sample") before after visit.0 (whole_status checked) next),
+      rw given (only_one (λ name. IsLastCheck c.args.plan.now None sample_state name) (λ name. IsWholeCheck c.args.plan.now None sample_state name)
+          (codes "sample") _ _ visit.0 (whole_status c.check_sample-checked.result) (next_check c.args.plan.now None sample_state (codes "sample") _ _ visit.0 c.check_sample-checked.result visit.2)),
     )

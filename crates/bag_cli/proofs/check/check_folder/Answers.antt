@@ -1,5 +1,6 @@
-use Rattle.bag_cli.proofs.Common.{◌∷◌, [], inl, refl, err_from_is_err_and, option_copied, disks_of, visits_of, NotGiven, tree_state}
+use Rattle.bag_cli.proofs.Common.{◌∷◌, [], inl, refl, err_from_is_err_and, option_copied, Entered, Left, NotGiven}
 use Rattle.bag_cli.proofs.Checks.{visited_check}
+use Rattle.bag_cli.proofs.Turns.{added}
 use Rattle.bag_cli.proofs.check.check_folder.Goals as goal
 
 pub returns-in_err-tree : goal.returns-in_err-tree
@@ -8,8 +9,8 @@ returns-in_err-tree g c =
     (NotGiven c.args.directory.now ∷ [], c.in_err-tree.ensures.refused, rw p.1 (refl {a = g.O.Out.state c.args.out.now}, inl (refl {a = NotGiven c.args.directory.now ∷ []})))
 
 pub returns : goal.returns
-returns g c =
-    let tree = tree_state (g.D.Disks.below (disks_of c.args.folders.now) c.args.directory.now) 0 in
-    visited_check c.args.plan.now (option_copied c.args.profile) tree _ _ c.args.directory.now (g.O.Out.state c.args.out.now) (g.O.Out.state c.check_tree-tree.new.out)
-    c.check_tree-tree.result.1 (visits_of c.args.visits.now) (visits_of c.enter.new.visits) (visits_of c.leave.new.visits)
-    c.in_ok-tree.ensures.entered c.leave.ensures c.in_ok-tree.ensures.state c.check_tree-tree.ensures
+returns g c = (
+  _,
+  added _ _ _ (Entered c.args.directory.now ∷ []) (Left _ ∷ []) c.in_ok-tree.ensures.entered c.leave.ensures,
+  visited_check c.args.plan.now (option_copied c.args.profile) _ _ _ c.args.directory.now _ _ c.check_tree-tree.result.1 c.in_ok-tree.ensures.state c.check_tree-tree.ensures,
+)

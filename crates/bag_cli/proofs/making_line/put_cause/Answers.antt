@@ -1,6 +1,7 @@
-use Rattle.bag_cli.proofs.Common.{word, field}
-use Rattle.bag_cli.proofs.Lines.{word_ended}
+use Rattle.bag_cli.proofs.Common.{◌++◌, append_assoc, codes, word, field}
 use Rattle.bag_cli.proofs.making_line.put_cause.Goals as goal
 
 pub returns : goal.returns
-returns g c = let stop = c.args.stop.now in rw (c.as_str.ensures, c.word.ensures, word_ended (field stop.path) (word stop.cause)) at c.put_line.ensures
+returns g c =
+    let stop = c.args.stop.now in
+    rw (c.as_str.ensures, c.word.ensures, ← append_assoc (field stop.path) (codes " " ++ word stop.cause) (codes "\n")) at c.put_line.ensures

@@ -1,12 +1,14 @@
-use Rattle.bag_cli.proofs.Common.{subst, wrong_shape_line, Says}
-use Rattle.bag_cli.proofs.SaidLines.{says_of}
+use Rattle.bag_cli.proofs.Common.{arith, ℕ, List, Result, OutState, Refused, Writes, Says}
 use Rattle.bag_cli.proofs.profile_refusal.say_fault.Goals as goal
+
+-- what is said is written, or refused
+says_of : (before after : OutState) (text : List ℕ) (result : Result (Unit {0}) Refused) → Writes before after text result → Says before after text
+says_of before after text result writes = grind arith
 
 pub returns-in-WrongShape : goal.returns-in-WrongShape
 returns-in-WrongShape g c =
-    let old = g.E.Out.state c.args.err.now in
-    let new = g.E.Out.state c.put_wrong_shape.new.err in
-    rw c.in-WrongShape.is (subst (λ key. Says old new (wrong_shape_line key)) c.name.ensures (says_of old new _ c.put_wrong_shape.result c.put_wrong_shape.ensures))
+    rw (c.in-WrongShape.is, ← c.name.ensures)
+    (says_of (g.E.Out.state c.args.err.now) (g.E.Out.state c.put_wrong_shape.new.err) _ c.put_wrong_shape.result c.put_wrong_shape.ensures)
 
 pub returns-in-NotJson : goal.returns-in-NotJson
 returns-in-NotJson g c = rw c.in-NotJson.is c.say_reason.ensures

@@ -1,15 +1,10 @@
-use Rattle.bag_cli.proofs.Common.{◌≡◌, ◌≤◌, ◌+◌, ◌++◌, ◌∙◌, [], Option, None, Some, List, ℕ, length, take, ap, arith, IfSome, option_map}
+use Rattle.bag_cli.proofs.Common.{◌≡◌, ◌≤◌, ◌+◌, ◌++◌, [], Option, List, ℕ, length, take, arith, IfSome, option_map}
 use Rattle.std.proofs.lemmas.Grind.{common_steps}
 use Rattle.bag_cli.proofs.system_file.read_within.Goals as goal
 
--- what is shorter than the bytes that were asked for is all
-whole : (left bytes : List ℕ) (most : ℕ) → bytes ≡ take (most + 1) left → length bytes ≤ most → bytes ≡ left
-whole left bytes most is within = grind (arith, common_steps)
-
 all_left : (left : Option (List ℕ)) (start bytes : List ℕ) (limit most : ℕ) → IfSome (option_map (take limit) left) (λ taken. bytes ≡ start ++ taken) → start ≡ []
     → limit ≡ most + 1 → length bytes ≤ most → IfSome left (λ left. bytes ≡ left)
-all_left None start bytes limit most is empty next within = tt
-all_left (Some left) start bytes limit most is empty next within = whole left bytes most (is ∙ ap (λ front. front ++ take limit left) empty ∙ ap (λ n. take n left) next) within
+all_left left start bytes limit most is empty next within = grind (arith, common_steps)
 
 pub returns-then-len-most-clause-whole : goal.returns-then-len-most-clause-whole
 returns-then-len-most-clause-whole g c =

@@ -1,18 +1,8 @@
-use Rattle.bag_cli.proofs.Common.{[], refl, sym, append-nil, Ok, Err, visits_of}
+use Rattle.bag_cli.proofs.Common.{arith, [], refl, sym, append-nil, Err, visits_of}
 use Rattle.bag_cli.proofs.whole_program.program.Goals as goal
 
 pub returns-in-Ok : goal.returns-in-Ok
-returns-in-Ok g c =
-    let performed = c.perform.ensures.performed in (
-      performed.0,
-      performed.1,
-      record {
-        planned = Ok c.in-Ok.plan;
-        is_planned = c.in-Ok.ensures.planned;
-        taken = c.in-Ok.ensures.taken;
-        done = performed.2;
-      },
-    )
+returns-in-Ok g c = grind arith
 
 pub returns-in-Err : goal.returns-in-Err
 returns-in-Err g c = (

@@ -1,4 +1,4 @@
-use Rattle.bag_cli.proofs.Common.{rules, ◌≡◌, ℕ, List, map, ap, ◌∙◌, string_bytes, Bor, Vec, IfOk, Result, Ok, Err, IsCollectResult, YieldsList, YieldsList-from_map_by, YieldsList-from_slice, items_from_drains}
+use Rattle.bag_cli.proofs.Common.{arith, rules, ◌≡◌, ℕ, List, map, ap, ◌∙◌, string_bytes, Bor, Vec, IfOk, Result, IsCollectResult, YieldsList, YieldsList-from_map_by, YieldsList-from_slice, items_from_drains}
 use Rattle.std.specs.declared.option.Option.{Option}
 use Rattle.std.specs.Slice.Iter.{iter_rest}
 use Rattle.bag_cli.proofs.words.texts_of.Goals as goal
@@ -6,8 +6,7 @@ use Rattle.bag_cli.proofs.words.texts_of.Goals as goal
 -- what is collected are all values
 from_collect : {S A B Z E : Type 0} {steps : S → Option A → S → Type 0} {s : S} {all : List B} (v : A → B) (r : Result (Vec A Z) E)
     → IsCollectResult steps s r → YieldsList steps v s all → IfOk r (λ w. map v w.items ≡ all)
-from_collect v (Ok w) d e = ap (map v) d.2.0 ∙ items_from_drains d.0 d.1 e
-from_collect v (Err e) d y = tt
+from_collect v r d e = grind (arith, items_from_drains)
 
 pub returns : goal.returns
 returns c =
