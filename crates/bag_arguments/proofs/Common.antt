@@ -23,3 +23,6 @@ pub use Rattle.bag_arguments.specs.Arguments.{alg_arguments, check_arguments, fl
 pub use Rattle.bag_arguments.specs.Given.{HasLimit, IsLimit, IsLimitText, element, has_after_several, has_two_depths, is_given, listed, named_algs, or_default, out_of_place, values}
 pub use Rattle.bag_arguments.specs.Labels.{label_option}
 pub use Rattle.bag_arguments.specs.declared.label.Label.{Label}
+unfoldable pub use Rattle.bag_arguments.specs.Arguments.{command}
+unfoldable pub use Rattle.bag_arguments.specs.Words.{is_taken, matches, refusals}
+unfoldable pub use Rattle.clap.proofs.OnLiterals.{clap_on_literals}

@@ -1,17 +1,15 @@
 -- A limit that clap takes is a number of 1 or more.
-use Rattle.bag_arguments.proofs.Common.{◌≡◌, ◌∙◌, ◌==◌, ◌||◌, ◌<◌, ◌⊎◌, ℕ, Bool, true, false, not, List, [], ◌∷◌, Option, Some, None, Result, Ok, Err, refl, sym, ap, subst, arith, inl, inr, length, codes, bytes_eq, option_map, unwrap_or, slice_get, Bor, All, list_all, slice_index_or, ParsesUnsigned, All-get_or, bytes_eq-Decides, App, IsParsedFrom, Rule, Text, app_of, args_of, first_value, found_of, groups_of, matched_of, rows_of, EntryPasses, PassesArg, parser_of_value, Arg, Command, ValueParser, first_value-rows, HasLimit, IsLimit, IsLimitText}
+use Rattle.bag_arguments.proofs.Common.{◌≡◌, ◌∙◌, ◌==◌, ◌||◌, ◌<◌, ℕ, Bool, true, false, not, List, [], ◌∷◌, Option, Some, None, Result, refl, sym, ap, subst, arith, inl, inr, length, codes, bytes_eq, option_map, unwrap_or, slice_get, Bor, All, list_all, slice_index_or, ParsesUnsigned, All-get_or, bytes_eq-Decides, App, IsParsedFrom, Rule, Text, app_of, args_of, first_value, found_of, groups_of, matched_of, rows_of, EntryPasses, PassesArg, parser_of_value, Arg, Command, ValueParser, first_value-rows, HasLimit, IsLimit, IsLimitText, command, clap_on_literals}
 use Rattle.std.specs.Result.{result_ok}
 use Rattle.std.proofs.lemmas.Bool.{cases_lt, eqb-true}
-use Rattle.clap.specs.Built.{IsAuto, SameRules}
+use Rattle.clap.specs.Built.{SameRules}
 use Rattle.clap.specs.Values.{Accepts}
 use Rattle.clap.specs.declared.builder.value_parser.ValueParser.TheVariants as parser
 use Rattle.clap.specs.declared.parser.matches.ArgMatches.{ArgMatches}
 use Rattle.clap.specs.declared.parser.matches.MatchedArg.{MatchedArg}
 use Rattle.clap.proofs.CallerLemmas.{entry_by_id}
-use Rattle.clap.proofs.OnLiterals.{clap_on_literals}
 use Rattle.clap.proofs.SimpleLemmas.{plain_fields, simple_groups}
 use Rattle.clap.proofs.TakesLemmas.{each_rule}
-use Rattle.bag_arguments.specs.Arguments.{command}
 
 -- the parser takes numbers of 1 or more, and nothing else
 abbrev takes_limits : Option ValueParser → Bool
@@ -21,70 +19,26 @@ takes_limits other = false
 abbrev limits_pass : Rule → Bool
 limits_pass a = not (bytes_eq a.id (codes "max-faults")) || takes_limits a.parser
 
-each_limit : list_all limits_pass command.top.rules ≡ true
+computed : (list_all limits_pass command.top.rules ≡ true) × (list_all (λ (a : Rule). a.is_simple) command.top.rules ≡ true) × (command.top.is_plain ≡ true)
 unfolding command clap_on_literals
-each_limit = refl
-
-all_simple : list_all (λ (a : Rule). a.is_simple) command.top.rules ≡ true
-unfolding command clap_on_literals
-all_simple = refl
-
-is_plain : command.top.is_plain ≡ true
-unfolding command clap_on_literals
-is_plain = refl
-
-given : (a b : Bool) → (not a || b) ≡ true → a ≡ true → b ≡ true
-given true b e t = e
-given false b e t = cc
+computed = (refl, refl, refl)
 
 -- the argument of the limit, as it was added
 old_limit : (old : Command) → app_of old ≡ command → (k : ℕ) (d : Arg) → k < length (args_of old)
     → (slice_index_or (args_of old) k d).id.now ≡ codes "max-faults" → takes_limits (slice_index_or (args_of old) k d).value_parser ≡ true
-old_limit old is k d lt named =
-    let all = subst (λ (a : App). list_all limits_pass a.top.rules ≡ true) (sym is) each_limit in
-    given _ _ (each_rule limits_pass (args_of old) all k d lt) ((bytes_eq-Decides _ _).1 named)
+old_limit old is k d lt named = grind (arith, computed, each_rule, bytes_eq-Decides)
 
 same_limit : (a b : Arg) → SameRules a b → takes_limits a.value_parser ≡ true → takes_limits b.value_parser ≡ true
-same_limit a b s e = go a.value_parser refl e
-  where
-    go : (o : Option ValueParser) → a.value_parser ≡ o → takes_limits o ≡ true → takes_limits b.value_parser ≡ true
-    go None is taken = cc
-    go (Some q) is taken = ap takes_limits (s.parser q is) ∙ taken
-
-not_auto : (id : Text) → id ≡ codes "max-faults" → (id ≡ codes "help") ⊎ (id ≡ codes "version") → ⊥
-not_auto id named auto = elim auto [
-  | inl h ↦
-      let bad : false ≡ true = (bytes_eq-Decides (codes "max-faults") (codes "help")).1 (sym named ∙ h) in
-      cc
-  | inr h ↦
-      let bad : false ≡ true = (bytes_eq-Decides (codes "max-faults") (codes "version")).1 (sym named ∙ h) in
-      cc
-]
+same_limit a b s e = grind arith
 
 -- the argument of the limit, as it was built
 built_limit : (old : Command) (m : ArgMatches) (p : IsParsedFrom old m) → app_of old ≡ command
     → (j : ℕ) (x : Arg) → j < length (args_of p.built) → slice_index_or (args_of p.built) j x ≡ x → x.id.now ≡ codes "max-faults"
     → takes_limits x.value_parser ≡ true
-built_limit old m p is j x high at named = elim (cases_lt j (length (args_of old))) [
-  | inl under ↦
-      let s = subst (λ (w : Arg). SameRules (slice_index_or (args_of old) j x) w) at (p.from.kept j x under).1 in
-      same_limit _ x s (old_limit old is j x under (ap (λ i. i.now) (sym s.id) ∙ named))
-  | inr over ↦ absurd (not_auto _ named (subst IsAuto at (p.from.extra j x over high)))
-]
+built_limit old m p is j x high at named = grind (arith, cases_lt, same_limit, old_limit, bytes_eq-Decides)
 
 accepted : (o : Option ValueParser) (ignore_case : Bool) (text : Text) → takes_limits o ≡ true → Accepts ignore_case (parser_of_value o) text → IsLimitText text
-accepted None ignore_case text e h = cc
-accepted (Some (parser.Unsigned low high)) ignore_case text e h = let one : low ≡ 1 = eqb-true low 1 e in (h.0, h.1, omega arith)
-accepted (Some parser.String) ignore_case text e h = cc
-accepted (Some parser.Falsey) ignore_case text e h = cc
-accepted (Some parser.NonEmptyString) ignore_case text e h = cc
-accepted (Some parser.Bool) ignore_case text e h = cc
-accepted (Some parser.Boolish) ignore_case text e h = cc
-accepted (Some (parser.Signed low high)) ignore_case text e h = cc
-accepted (Some parser.Float) ignore_case text e h = cc
-accepted (Some parser.Char) ignore_case text e h = cc
-accepted (Some (parser.Names names)) ignore_case text e h = cc
-accepted (Some (parser.Values values)) ignore_case text e h = cc
+accepted o ignore_case text e h = grind (arith, eqb-true)
 
 value_accepted : (old : Command) (m : ArgMatches) (p : IsParsedFrom old m) → app_of old ≡ command
     → (text : Text) → PassesArg p.built (codes "max-faults") text → IsLimitText text
@@ -101,8 +55,8 @@ entry_value : (old : Command) (m : ArgMatches) (p : IsParsedFrom old m) → app_
     → matched_of (found_of m) (codes "max-faults") ≡ Some x
     → (text : Text) → option_map (λ s. s.now) (slice_get x.vals.items 0) ≡ Some text → PassesArg p.built (codes "max-faults") text
 entry_value old m p is x found text first =
-    let plain = plain_fields old (subst (λ (a : App). a.top.is_plain ≡ true) (sym is) is_plain) in
-    let simple = subst (λ (a : App). list_all (λ (r : Rule). r.is_simple) a.top.rules ≡ true) (sym is) all_simple in
+    let plain = plain_fields old (subst (λ (a : App). a.top.is_plain ≡ true) (sym is) computed.2) in
+    let simple = subst (λ (a : App). list_all (λ (r : Rule). r.is_simple) a.top.rules ≡ true) (sym is) computed.1 in
     let no_groups : groups_of p.built ≡ [] = (p.from.same_groups (simple_groups old simple)).1 ∙ plain.groups in
     let parsed = p.parsed (p.from.globals ∙ plain.globals) in
     let got = entry_by_id (EntryPasses p.built) (found_of m).entries.items (codes "max-faults") x parsed.values found in
@@ -132,5 +86,4 @@ limit_passes old m p is text limit = go (matched_of (found_of m) (codes "max-fau
 -- the number of the limit
 pub limit_read : {E : Type 0} (o : Option Text) (text : Text) (r : Result ℕ E) (limit : Option ℕ) → o ≡ Some text → IsLimitText text
     → ParsesUnsigned 64 10 text r → limit ≡ result_ok r → IsLimit o limit
-limit_read o text (Ok n) limit is taken h l = rw (is, l) (omega (arith, taken.2, h.1), h.1)
-limit_read o text (Err e) limit is taken h l = absurd (h (taken.0, taken.1))
+limit_read o text r limit is taken h l = grind arith

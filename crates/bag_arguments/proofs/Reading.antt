@@ -1,5 +1,6 @@
 -- What is read of the matches.
-use Rattle.bag_arguments.proofs.Common.{◌≡◌, ◌≢◌, ◌∙◌, ◌<◌, ◌+◌, ℕ, Bool, true, false, List, [], ◌∷◌, ◌++◌, ◌&&◌, ◌||◌, Option, Some, None, refl, sym, ap, bytes_eq, codes, unwrap_or, filter, fold, take, map, option_map, length, if◌then◌else◌, cons_option, filter_map, slice_index_or, ParsesBool, Bor, take_more, filter_map-append, bytes_eq-Decides, algs, Alg, ReadsOne, Text, matched_of, raw_values, rows_of, raw_values-rows, listed, or_default, values}
+use Rattle.std.proofs.lemmas.Grind.{common_steps}
+use Rattle.bag_arguments.proofs.Common.{arith, ◌≡◌, ◌≢◌, ◌∙◌, ◌<◌, ◌+◌, ℕ, Bool, true, false, List, [], ◌∷◌, ◌++◌, ◌&&◌, ◌||◌, Option, Some, None, refl, sym, ap, bytes_eq, codes, unwrap_or, filter, fold, take, map, option_map, length, if◌then◌else◌, filter_map, slice_index_or, ParsesBool, Bor, take_more, filter_map-append, bytes_eq-Decides, algs, Alg, ReadsOne, Text, matched_of, raw_values, rows_of, raw_values-rows, listed, or_default, values}
 use Rattle.bag_text.specs.AlgList.{has_member, same_alg, with_member}
 use Rattle.bag_text.specs.AlgTable.{has_each, has_member-filter, same_alg_same}
 use Rattle.clap.specs.declared.parser.matches.Found.{Found}
@@ -17,31 +18,15 @@ flag_read E (Some t) (Some true) none some = sym (ap (λ x. bytes_eq x (codes "t
 flag_read E (Some t) (Some false) none some = sym (ap (λ x. bytes_eq x (codes "true")) (some t refl))
 flag_read E (Some t) None none some = sym (is_not_true t (some t refl).1.0 _ refl)
 
-filter_map_one : {X Y : Type 0} (h : X → Option Y) (x : X) → filter_map h (x ∷ []) ≡ listed (h x)
-filter_map_one h x = go (h x)
-  where
-    go : {Y : Type 0} (o : Option Y) → cons_option o [] ≡ listed o
-    go None = refl
-    go (Some y) = refl
-
 -- one item more
 pub filter_map_more : {X Y : Type 0} (h : X → Option Y) (xs : List X) (i : ℕ) (d : X) → i < length xs
     → filter_map h (take (i + 1) xs) ≡ filter_map h (take i xs) ++ listed (h (slice_index_or xs i d))
-filter_map_more h xs i d below =
-    ap (filter_map h) (take_more xs i d below) ∙ filter_map-append h (take i xs) _ ∙ ap (λ ys. filter_map h (take i xs) ++ ys) (filter_map_one h _)
+filter_map_more h xs i d below = grind (arith, common_steps, take_more, filter_map-append)
 
 -- the values of an argument, as they are read
-pub values_of_none : (found : Found) (id : Text) (r : Option (Bor (List (Bor Text))))
-    → option_map (λ s. map (λ v. v.now) s.now) r ≡ option_map raw_values (matched_of found id) → r ≡ None
-    → values (rows_of found) id ≡ []
-values_of_none found id r read is =
-    ap (λ o. unwrap_or o []) (sym (raw_values-rows found id) ∙ sym read ∙ ap (option_map (λ (s : Bor (List (Bor Text))). map (λ (v : Bor Text). v.now) s.now)) is)
-
-pub values_of_some : (found : Found) (id : Text) (r : Option (Bor (List (Bor Text)))) (words : Bor (List (Bor Text)))
-    → option_map (λ s. map (λ v. v.now) s.now) r ≡ option_map raw_values (matched_of found id) → r ≡ Some words
-    → values (rows_of found) id ≡ map (λ v. v.now) words.now
-values_of_some found id r words read is =
-    ap (λ o. unwrap_or o []) (sym (raw_values-rows found id) ∙ sym read ∙ ap (option_map (λ (s : Bor (List (Bor Text))). map (λ (v : Bor Text). v.now) s.now)) is)
+pub values_of : (found : Found) (id : Text) (r x : Option (Bor (List (Bor Text)))) → option_map (λ s. map (λ v. v.now) s.now) r ≡ option_map raw_values (matched_of found id) → r ≡ x
+    → values (rows_of found) id ≡ unwrap_or (option_map (λ s. map (λ v. v.now) s.now) x) []
+values_of found id r x read is = grind (arith, raw_values-rows)
 
 -- one algorithm more, where a test holds of it
 abbrev pub with_if : (Alg → Bool) → List Alg → Alg → List Alg
@@ -58,14 +43,10 @@ module _ (p q : Alg → Bool) (alg : Alg) where
 
   one_more : (here : Bool) → p alg ≡ here
       → (if here then with_member (filter q algs) alg else filter q algs) ≡ filter (λ a. (same_alg a alg && p a) || q a) algs
-  one_more true is = λ i. filter (λ a. taken_at is a (same_alg a alg) refl i) algs
-  one_more false is = λ i. filter (λ a. left_at is a (same_alg a alg) refl i) algs
+  one_more here is = grind (arith, taken_at, left_at)
 
 regrouped : (same later b c : Bool) → ((later && b) || ((same && b) || c)) ≡ (((same || later) && b) || c)
-regrouped false later b c = refl
-regrouped true false b c = refl
-regrouped true true true c = refl
-regrouped true true false c = refl
+regrouped same later b c = grind arith
 
 -- a set that a test makes, with those of some algorithms of which another test holds
 with_if-each : (p q : Alg → Bool) (some : List Alg) → fold (with_if p) (filter q algs) some ≡ filter (λ a. (has_member some a && p a) || q a) algs
@@ -76,14 +57,11 @@ with_if-each p q (alg ∷ rest) =
     ∙ (λ i. filter (λ a. regrouped (same_alg a alg) (has_member rest a) (p a) (q a) i) algs)
 
 listed_passes : (listed b : Bool) → listed ≡ true → ((listed && b) || false) ≡ b
-listed_passes true true e = refl
-listed_passes true false e = refl
-listed_passes false b e = cc
+listed_passes listed b e = grind arith
 
 -- algorithms that are added one by one
 pub named_one_by_one : (p : Alg → Bool) → fold (with_if p) [] algs ≡ filter p algs
 named_one_by_one p = with_if-each p (λ a. false) algs ∙ (λ i. filter (λ a. listed_passes (has_member algs a) (p a) (has_each a) i) algs)
 
 pub or_default_kept : (set : List Alg) → set ≢ [] → set ≡ or_default set
-or_default_kept [] some = absurd (some refl)
-or_default_kept (alg ∷ rest) some = refl
+or_default_kept set some = grind arith

@@ -1,5 +1,4 @@
-use Rattle.bag_arguments.proofs.Common.{◌∙◌, ap, IfOk-weaker, App, app_of_fields, without_program_name, with_rules, main_arguments, check_arguments, alg_arguments, label_arguments}
-use Rattle.bag_arguments.specs.Arguments.{command}
+use Rattle.bag_arguments.proofs.Common.{◌∙◌, ap, IfOk-weaker, App, app_of_fields, without_program_name, with_rules, main_arguments, check_arguments, alg_arguments, label_arguments, command}
 use Rattle.bag_arguments.proofs.command.command.Goals as goal
 
 pub returns : goal.returns

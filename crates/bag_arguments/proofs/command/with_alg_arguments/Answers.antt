@@ -1,17 +1,12 @@
-use Rattle.bag_arguments.proofs.Common.{◌∙◌, ap, sym, arith, fold, take_all, fold_more, algs, name, Alg, App, app_of, with_rule, flag}
+use Rattle.bag_arguments.proofs.Common.{◌∙◌, sym, arith, take_all, fold_more, algs, name, Alg, app_of, flag}
 use Rattle.bag_arguments.proofs.Adding.{added, with_rules-map}
 use Rattle.bag_arguments.proofs.command.with_alg_arguments.Goals as goal
-
-abbrev step : App → Alg → App
-step app alg = with_rule app (flag (name alg))
 
 pub loop-alg-preserved : goal.loop-alg-preserved
 loop-alg-preserved c =
     added c.in_ok-extended.ensures c.alg_argument.ensures.global c.loop-alg.invariant c.alg_argument.ensures.rule
-    ∙ sym (fold_more step (app_of c.args.command) algs c.loop-alg.alg-index _ (omega arith))
+    ∙ sym (fold_more _ (app_of c.args.command) algs c.loop-alg.alg-index _ (omega arith))
 
 pub returns : goal.returns
 returns c =
-    c.loop-alg.invariant
-    ∙ ap (fold step (app_of c.args.command)) (take_all c.loop-alg.alg-index algs (omega arith))
-    ∙ with_rules-map (λ (alg : Alg). flag (name alg)) (app_of c.args.command) algs
+    rw (take_all c.loop-alg.alg-index algs (omega arith), with_rules-map (λ (alg : Alg). flag (name alg)) (app_of c.args.command) algs) at c.loop-alg.invariant
