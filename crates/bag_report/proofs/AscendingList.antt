@@ -1,23 +1,20 @@
 -- Each list has an ascending one with the same members, where elements that tie are one.
-use Rattle.bag_report.proofs.Common.{◌≡◌, refl, Bool, true, false, List, [], ◌∷◌, map, ap, sym, ◌∙◌, is_some, Contains, Ordering, and_parts, IsListOf}
+use Rattle.bag_report.proofs.Common.{arith, ◌≡◌, refl, Bool, true, List, [], ◌∷◌, map, ap, sym, ◌∙◌, is_some, Contains, Ordering, and_parts, IsListOf}
 use Rattle.std.specs.Cmp.{IsTotalOrder, Equal-is, eq_by_cmp_equiv}
 use Rattle.std.specs.FinMap.{FinMap, IsAntisymmetric, is_sorted, entries, entries_sorted, keys, from_entries, contains_key-keys, get-from_entries}
 use Rattle.std.specs.FinMap.Entries.{below_all, is_some-find}
 use Rattle.std.specs.List.{AllByRecursion, list_any}
 use Rattle.std.specs.List.Sorted.{IsStrictlySortedBy}
 use Rattle.std.specs.Ordering.{eq_by_cmp, is_lt}
-use Rattle.std.specs.declared.cmp.Ordering.TheVariants.{Less, Equal, Greater}
+use Rattle.std.specs.declared.cmp.Ordering.TheVariants.{Less}
 use Rattle.std.proofs.Math.Dec.{T}
 use Rattle.std.proofs.lemmas.Map.Views.{Contains-from_any, list_any-from_Contains}
 
 t_true : (b : Bool) → T b → b ≡ true
-t_true true h = refl
-t_true false h = absurd h
+t_true b h = grind arith
 
 is_less : (o : Ordering) → is_lt o ≡ true → o ≡ Less
-is_less Less e = refl
-is_less Equal e = cc
-is_less Greater e = cc
+is_less o e = grind arith
 
 module _ {A : Type 0} (cmp : A → A → Ordering) where
   above_first : (x : A) (es : List (A × Unit {0})) → below_all cmp x es ≡ true → AllByRecursion (λ y. cmp x y ≡ Less) (map (λ e. e.0) es)

@@ -1,39 +1,29 @@
 -- The faults of a stage that are asked for.
-use Rattle.bag_report.proofs.Common.{◌≡◌, ◌≢◌, ◌<◌, ℕ, List, [], true, false, refl, sym, subst, ◌∙◌, filter, arith, and_parts, stage, IsListOf, NoOxum, NameClash, nothing_listed, same_members, fault_cmp, Fault, reaches, Check, is_fast, IsStageOf, IsFoundAt}
+use Rattle.bag_report.proofs.Common.{◌≡◌, ◌≢◌, ◌<◌, ℕ, List, [], true, false, sym, subst, ◌∙◌, filter, arith, and_parts, stage, IsListOf, NameClash, nothing_listed, same_members, fault_cmp, Fault, reaches, Check, is_fast, IsStageOf, IsFoundAt}
 use Rattle.std.proofs.lemmas.Bool.Decides.{nat_tests}
 use Rattle.bag_text.specs.declared.code.Code.{Code}
 use Rattle.bag_facts.specs.declared.options.Depth.{Depth}
-use Rattle.bag_facts.specs.declared.options.Depth.TheVariants.{Declaration, Fast, Complete, Full}
+use Rattle.bag_facts.specs.declared.options.Depth.TheVariants.{Declaration, Full}
 use Rattle.bag_facts.specs.declared.options.Options.{Options}
 use Rattle.bag_report.specs.Report.{asks}
 use Rattle.bag_report.proofs.Filtered.{filtered_list}
 
 fast_reaches : (d : Depth) → is_fast d ≡ true → reaches d 3 ≡ true
-fast_reaches Fast e = refl
-fast_reaches Declaration e = cc
-fast_reaches Complete e = cc
-fast_reaches Full e = cc
+fast_reaches d e = grind arith
 
 -- what is asked for is of a stage that the depth reaches
 pub asked_is_reached : (options : Options) (c : Code) → asks options c ≡ true → reaches options.depth (stage c) ≡ true
 unfolding asks
-asked_is_reached options NoOxum e = fast_reaches options.depth e
-asked_is_reached options NameClash e = (and_parts _ _ e).1
-asked_is_reached options other e = e
+asked_is_reached options c e = grind (arith, fast_reaches, and_parts)
 
 -- at depth Full the faults of the seventh stage are
 pub asked_at_full : (options : Options) (c : Code) → options.depth ≡ Full → stage c ≡ 7 → asks options c ≡ true
 unfolding asks
-asked_at_full options NoOxum e at = absurd (omega (arith, at))
-asked_at_full options NameClash e at = absurd (omega (arith, at))
-asked_at_full options other e at = subst (λ n. reaches options.depth n ≡ true) (sym at) (subst (λ d. reaches d 7 ≡ true) (sym e) refl)
+asked_at_full options c e at = grind arith
 
 -- and no other depth reaches it
 pub seven_not_reached : (d : Depth) → d ≢ Full → reaches d 7 ≡ false
-seven_not_reached Declaration below = refl
-seven_not_reached Fast below = refl
-seven_not_reached Complete below = refl
-seven_not_reached Full below = absurd (below refl)
+seven_not_reached d below = grind arith
 
 -- a clash of names is asked for only where clashes are
 pub asked_clash : (options : Options) (c : Code) → asks options c ≡ true → c ≡ NameClash → options.clashes ≡ true
@@ -59,7 +49,4 @@ module _ (check : Check) (k : ℕ) (faults : List Fault) where
 
 -- a depth that reaches a stage above the first reads more than the declaration
 pub reads_more : (d : Depth) (k : ℕ) → reaches d k ≡ true → 1 < k → d ≢ Declaration
-reads_more Declaration k h two = absurd (grind (arith, nat_tests, h, two))
-reads_more Fast k h two = λ e. cc
-reads_more Complete k h two = λ e. cc
-reads_more Full k h two = λ e. cc
+reads_more d k h two = grind (arith, nat_tests)

@@ -23,5 +23,6 @@ pub use Rattle.bag_text.specs.Code.{stage}
 pub use Rattle.bag_text.specs.Order.{IsListOf}
 pub use Rattle.bag_text.specs.declared.code.Code.TheVariants.{NameClash, NoOxum}
 pub use Rattle.bag_tree.specs.Bag.{Bag}
-pub use Rattle.bag_report.specs.Report.{Check, EachBagHasAReport, IsReported, IsStageOf, asks, is_fast}
+pub use Rattle.bag_report.specs.Report.{Check, IsReported, IsStageOf, asks, is_fast}
 pub use Rattle.bag_report.specs.Stages.{IsFoundAt}
+unfoldable pub use Rattle.bag_report.specs.Is.{Is}
