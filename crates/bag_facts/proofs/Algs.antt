@@ -17,7 +17,7 @@ same_alg None (Some b) e = absurd (has_rank b e)
 same_alg (Some a) None e = absurd (has_rank a (sym e))
 same_alg (Some a) (Some b) e = ap Some (same_rank a b e)
 
-other_texts : (s t : List ℕ) → bytes_eq s t ≡ false → s ≢ t
+pub other_texts : (s t : List ℕ) → bytes_eq s t ≡ false → s ≢ t
 other_texts s t e same = let yes = (bytes_eq-Decides s t).1 same in cc
 
 -- no algorithm is called -

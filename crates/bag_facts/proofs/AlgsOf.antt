@@ -1,5 +1,5 @@
 -- Sets of algorithms that are made one algorithm after another.
-use Rattle.bag_facts.proofs.Common.{arith, ◌≡◌, ◌<◌, ◌≤◌, ◌↔◌, ◌⊎◌, inl, inr, ◌+◌, ◌++◌, ℕ, List, [], ◌∷◌, length, take, get_or, sym, subst, Contains, get_or_default, take_all, algs, Alg, each_is_listed, contains_first, contains_front, contains_back, contains_nothing}
+use Rattle.bag_facts.proofs.Common.{arith, ◌≡◌, ◌<◌, ◌≤◌, ◌↔◌, ◌⊎◌, inl, inr, ◌+◌, ℕ, List, [], ◌∷◌, length, take, get_or, sym, subst, Contains, get_or_default, take_all, algs, Alg, each_is_listed, contains_first, contains_front, contains_back, contains_nothing}
 use Rattle.bag_facts.proofs.Mapped.{take_one_more, taken_cases}
 
 module _ (P : Alg → Type 0) where
@@ -18,15 +18,8 @@ module _ (P : Alg → Type 0) where
     pub one_alg_more : (more : List Alg) → P (get_or algs i any) → ((alg : Alg) → Contains more alg ↔ (Contains set alg ⊎ (alg ≡ get_or algs i any))) → AreThose (take (i + 1) algs) more
     one_alg_more more holds with_it alg = (
       λ c. elim ((with_it alg).0 c) [
-        | inl old ↦ (
-          subst (λ xs. Contains xs alg) (sym (take_one_more algs i (get_or algs i any) lt is_next)) (contains_front (take i algs) (get_or algs i any ∷ []) alg ((so_far alg).0 old).0),
-          ((so_far alg).0 old).1,
-        )
-        | inr same ↦ (
-          subst (λ xs. Contains xs alg) (sym (take_one_more algs i (get_or algs i any) lt is_next))
-              (subst (λ a. Contains (take i algs ++ get_or algs i any ∷ []) a) (sym same) (contains_back (take i algs) (get_or algs i any ∷ []) (get_or algs i any) (contains_first (get_or algs i any) []))),
-          subst P (sym same) holds,
-        )
+        | inl old ↦ (rw (take_one_more algs i (get_or algs i any) lt is_next) (contains_front (take i algs) (get_or algs i any ∷ []) alg ((so_far alg).0 old).0), ((so_far alg).0 old).1)
+        | inr same ↦ rw (same, take_one_more algs i (get_or algs i any) lt is_next) (contains_back (take i algs) (get_or algs i any ∷ []) (get_or algs i any) (contains_first (get_or algs i any) []), holds)
       ],
       λ h. (with_it alg).1 (elim (taken_cases algs i (get_or algs i any) alg lt is_next h.0) [ inl old ↦ inl ((so_far alg).1 (old, h.1)) | inr same ↦ inr (sym same) ]),
     )
@@ -34,10 +27,7 @@ module _ (P : Alg → Type 0) where
     -- one of which it doesn't hold
     pub one_alg_other : ¬ (P (get_or algs i any)) → AreThose (take (i + 1) algs) set
     one_alg_other fails alg = (
-      λ c. (
-        subst (λ xs. Contains xs alg) (sym (take_one_more algs i (get_or algs i any) lt is_next)) (contains_front (take i algs) (get_or algs i any ∷ []) alg ((so_far alg).0 c).0),
-        ((so_far alg).0 c).1,
-      ),
+      λ c. (rw (take_one_more algs i (get_or algs i any) lt is_next) (contains_front (take i algs) (get_or algs i any ∷ []) alg ((so_far alg).0 c).0), ((so_far alg).0 c).1),
       λ h. elim (taken_cases algs i (get_or algs i any) alg lt is_next h.0) [ inl old ↦ (so_far alg).1 (old, h.1) | inr same ↦ absurd (fails (subst P (sym same) h.1)) ],
     )
 

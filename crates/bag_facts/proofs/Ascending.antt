@@ -1,6 +1,5 @@
 -- An ascending list is determined by its members.
-use Rattle.bag_facts.proofs.Common.{◌≡◌, zero, suc, List, [], ◌∷◌, refl, sym, subst, ◌⊎◌, inl, inr, ◌↔◌, true, arith, Contains, Ordering, Less, Equal, eq_by_cmp, IsTotalOrder, AllByRecursion, OneOfThree}
-use Rattle.std.specs.List.Sorted.{IsStrictlySortedBy}
+use Rattle.bag_facts.proofs.Common.{◌≡◌, zero, suc, List, [], ◌∷◌, refl, sym, subst, ◌⊎◌, inl, inr, ◌↔◌, true, arith, Contains, Ordering, Less, Equal, eq_by_cmp, IsTotalOrder, AllByRecursion, OneOfThree, IsStrictlySortedBy}
 
 module _ {A : Type 0} {R : A → A → Ordering} (total : IsTotalOrder R) where
   pub not_both : (x y : A) → R x y ≡ Less → R y x ≡ Less → ⊥

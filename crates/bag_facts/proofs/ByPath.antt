@@ -1,6 +1,5 @@
 -- Lists in the order of a text of each item, which no two items share.
-use Rattle.bag_facts.proofs.Common.{◌≡◌, ◌≢◌, ℕ, ◌+◌, ◌<◌, ◌↔◌, inl, inr, false, List, [], ◌∷◌, length, get_or, map, is_lt, arith, refl, sym, ap, ◌∙◌, subst, Contains, IsTrue, Result, Ok, Err, is_ok, Ordering, Less, Equal, Greater, on, ordering_reverse, is_eq, eq_by_cmp, nat_list_cmp_total, nat_cmp-IsAntisymmetric, slice_cmp-IsAntisymmetric, IsPermutation, IsSortedByKey, IsBinarySearchResult, IsSearchInRange, IsDistinct, cases_lt, on_total, get_or_default, IsPermutation-sym, Contains-permutation, searchable_from_sorted, IsListOf, each_from_members, member_has, text_cmp, tied_itself}
-use Rattle.std.specs.List.Sorted.{IsStrictlySortedBy}
+use Rattle.bag_facts.proofs.Common.{◌≡◌, ◌≢◌, ℕ, ◌+◌, ◌<◌, ◌↔◌, inl, inr, false, List, [], ◌∷◌, length, get_or, map, is_lt, arith, refl, sym, ap, ◌∙◌, subst, Contains, IsTrue, Result, Ok, Err, is_ok, Ordering, Less, Equal, Greater, on, ordering_reverse, is_eq, eq_by_cmp, nat_list_cmp_total, nat_cmp-IsAntisymmetric, slice_cmp-IsAntisymmetric, IsPermutation, IsSortedByKey, IsBinarySearchResult, IsSearchInRange, IsDistinct, cases_lt, on_total, get_or_default, IsPermutation-sym, Contains-permutation, searchable_from_sorted, IsListOf, each_from_members, member_has, text_cmp, tied_itself, IsStrictlySortedBy}
 use Rattle.std.proofs.lemmas.Map.Keys.{IsDistinct-from_apart, IsDistinct-IsPermutation, apart_from_distinct, sorted_from_all_adjacent, Less-from_sorted}
 use Rattle.bag_facts.proofs.Mapped.{contains_mapped, mapped_contains}
 
@@ -8,27 +7,23 @@ pub text_same : (a b : List ℕ) → text_cmp a b ≡ Equal → a ≡ b
 text_same = slice_cmp-IsAntisymmetric nat_cmp-IsAntisymmetric
 
 pub tie_case : (o : Ordering) → o ≢ Equal → is_eq o ≡ false
-tie_case Less other = refl
 tie_case Equal other = absurd (other refl)
-tie_case Greater other = refl
+tie_case _ other = refl
 
 not_tied : (a b : List ℕ) → a ≢ b → is_eq (text_cmp a b) ≡ false
 not_tied a b other = tie_case (text_cmp a b) (λ e. other (text_same a b e))
 
 pub reversed : (o : Ordering) → is_eq (ordering_reverse o) ≡ is_eq o
 reversed Less = refl
-reversed Equal = refl
-reversed Greater = refl
+reversed _ = refl
 
 pub less_case : (o : Ordering) → is_lt (ordering_reverse o) ≡ false → is_eq o ≡ false → o ≡ Less
 less_case Less h e = refl
-less_case Equal h e = cc
-less_case Greater h e = cc
+less_case _ h e = cc
 
 not_behind : (o : Ordering) → o ≡ Less → is_lt (ordering_reverse o) ≡ false
-not_behind Less e = refl
-not_behind Equal e = refl
 not_behind Greater e = cc
+not_behind _ e = refl
 
 item_at : {A : Type 0} (xs : List A) (i : ℕ) (d : A) → i < length xs → Contains xs (get_or xs i d)
 item_at xs i d h = (i, h, get_or_default xs i (get_or xs i d) d h)
@@ -44,11 +39,8 @@ module _ {A : Type 0} (key : A → List ℕ) where
     all_differ : (xs : List A) → IsListOf by Member xs → IsDistinct (eq_by_cmp (on key text_cmp)) xs
     all_differ xs list =
         IsDistinct-from_apart (eq_by_cmp (on key text_cmp)) xs
-        (λ i j d low high.
-        let x : A = get_or xs i d in
-        let y : A = get_or xs j d in
-        not_tied (key x) (key y)
-        (other_keys x y ((list.members x).0 (item_at xs i d (omega arith))) ((list.members y).0 (item_at xs j d high)) (Less-from_sorted by xs i j d list.ascending low high)))
+        (λ i j d low high. not_tied _ _
+        (other_keys (get_or xs i d) (get_or xs j d) ((list.members _).0 (item_at xs i d (omega arith))) ((list.members _).0 (item_at xs j d high)) (Less-from_sorted by xs i j d list.ascending low high)))
 
     -- a list sorted by its keys is that of its members in this order
     pub sorted_once : (xs ys : List A) (d : A) → IsListOf by Member xs → IsPermutation xs ys → IsSortedByKey key text_cmp ys → IsListOf (on key text_cmp) Member ys
@@ -56,10 +48,7 @@ module _ {A : Type 0} (key : A → List ℕ) where
         let distinct = IsDistinct-IsPermutation (eq_by_cmp (on key text_cmp)) flips xs ys perm (all_differ xs list) in
         record {
           ascending = sorted_from_all_adjacent (on_total key nat_list_cmp_total) ys d
-              (λ k h.
-              let x : A = get_or ys k d in
-              let y : A = get_or ys (k + 1) d in
-              less_case (text_cmp (key x) (key y)) (sym (ap is_lt (nat_list_cmp_total.antisymm (key y) (key x))) ∙ sorted k d (omega arith) h)
+              (λ k h. less_case _ (sym (ap is_lt (nat_list_cmp_total.antisymm (key (get_or ys (k + 1) d)) (key (get_or ys k d)))) ∙ sorted k d (omega arith) h)
               (apart_from_distinct (eq_by_cmp (on key text_cmp)) ys k (k + 1) d distinct (omega arith) h));
           members = λ x. (
             λ c. (list.members x).0 (Contains-permutation ys xs x (IsPermutation-sym xs ys perm) c),
@@ -97,12 +86,8 @@ module _ {A : Type 0} (key : A → List ℕ) where
         let parts = at (searchable_from_sorted nat_list_cmp_total key xs text
         (λ k e low high. ap is_lt (nat_list_cmp_total.antisymm (key (get_or xs (k + 1) e)) (key (get_or xs k e)))
         ∙ not_behind (text_cmp (key (get_or xs k e)) (key (get_or xs (k + 1) e))) (Less-from_sorted (on key text_cmp) xs k (k + 1) e up (omega arith) high))) in
-        let k = there.1.0 in
-        let x : A = get_or xs k there.0 in
-        let tied : text_cmp (key x) text ≡ Equal =
-        subst (λ t. text_cmp t text ≡ Equal) (sym (ap key there.1.2 ∙ there.2)) (tied_itself nat_list_cmp_total text) in
-        elim (cases_lt k i) [
-          | inl low ↦ (let less : text_cmp (key x) text ≡ Less = parts.0 k there.0 (omega arith) low in let clash : Less ≡ Equal = sym less ∙ tied in cc)
-          | inr high ↦ (let greater : text_cmp (key x) text ≡ Greater = parts.1 k there.0 high there.1.1 in let clash : Greater ≡ Equal = sym greater ∙ tied in cc)
+        elim (cases_lt there.1.0 i) [
+          | inl low ↦ cc (parts.0 there.1.0 there.0 (omega arith) low, there.1.2, there.2, tied_itself nat_list_cmp_total text)
+          | inr high ↦ cc (parts.1 there.1.0 there.0 high there.1.1, there.1.2, there.2, tied_itself nat_list_cmp_total text)
         ],
   )

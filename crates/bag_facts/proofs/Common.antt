@@ -14,7 +14,8 @@ pub use Rattle.std.specs.Cmp.{IsTotalOrder, nat_cmp_total, tied_itself}
 pub use Rattle.std.specs.Cmp.Lexicographic.{nat_list_cmp_total}
 pub use Rattle.std.specs.FinMap.{IsAntisymmetric, find, from_entries, get-from_entries, nat_cmp-IsAntisymmetric, slice_cmp-IsAntisymmetric}
 pub use Rattle.std.specs.List.{AllByRecursion, HoldsAt, IsDistinct, filter, join_with_byte, list_all, list_any}
-pub use Rattle.std.specs.List.Sorted.{IsBinarySearchResult, IsPermutation, IsSearchInRange, IsSortedByKey, IsStrictlySortedBy}
+pub use Rattle.std.specs.List.Sorted.{IsBinarySearchResult, IsPermutation, IsSearchInRange, IsSortedByKey}
+unfoldable pub use Rattle.std.specs.List.Sorted.{IsStrictlySortedBy}
 pub use Rattle.std.specs.Option.{ok_or, option_copied, option_map}
 pub use Rattle.std.specs.Ordering.{eq_by_cmp, is_eq, nat_cmp, on, ordering_reverse, ordering_then}
 pub use Rattle.std.specs.Prelude.{IsUtf8, MatchOption, OnErr, OnOk, is_err, option_and_then, string_bytes}
@@ -58,11 +59,12 @@ pub use Rattle.bag_tree.specs.declared.tree_fault.Stop.{Stop}
 pub use Rattle.bag_tree.specs.declared.tree_fault.TreeFault.{TreeFault}
 pub use Rattle.bag_tree.specs.declared.tree_fault.TreeFault.TheVariants.{Changed, Device, Exists, Memory, Name, NoneOpen, NotFound, Special, TooMany}
 pub use Rattle.percent_encoding.proofs.PercentLemmas.{All-percent_encode, IsByte, IsEscapeByte, round_trip}
-pub use Rattle.percent_encoding.specs.AsciiSet.{contains, should_percent_encode}
-pub use Rattle.percent_encoding.specs.Percent.{percent_decode, percent_encode}
+pub use Rattle.percent_encoding.specs.AsciiSet.{contains}
+unfoldable pub use Rattle.percent_encoding.specs.AsciiSet.{should_percent_encode}
+unfoldable pub use Rattle.percent_encoding.specs.Percent.{percent_decode, percent_encode, percent_encode_byte}
 pub use Rattle.bag_facts.specs.Facts.{AreJudged, AreParsed, AreRulesOf, IsFactsOf, rules_in}
 pub use Rattle.bag_facts.specs.FaultLine.{LinesTellFaultsApart, alg_field, encoded, field, is_encoded, line_field}
-pub use Rattle.bag_facts.specs.FaultOrder.{AscendingFaultsAreOne, EqualFaultsAreOne, FaultsAreOrdered, OneOfThree, OneOfThreeHolds, fault_cmp}
+pub use Rattle.bag_facts.specs.FaultOrder.{EqualFaultsAreOne, OneOfThree, fault_cmp}
 pub use Rattle.bag_facts.specs.Stops.{IsOutOfMemory, IsRefusalOf, MayRefuseFacts, MayStopReading}
 pub use Rattle.bag_facts.specs.TagFacts.{AreByPath, AreEntriesOf, IsDeclarationOf, IsManifestNamed, IsManifestOf, IsParsed, IsReadOf, IsTagFileNamed, Says, entry_paths, name_of, path_of}
 pub use Rattle.bag_facts.specs.TagReader.{AreBytes, AreListed, AreTexts, IsWhole, ReadsWanted, StopsReading, read_path}

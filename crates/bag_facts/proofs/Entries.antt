@@ -1,7 +1,5 @@
 -- The entries of a manifest, as it was read and as they are found.
-use Rattle.bag_facts.proofs.Common.{◌≡◌, ◌≢◌, ◌<◌, ◌≤◌, ℕ, List, [], Bool, true, false, Option, None, Some, Bor, refl, ap, sym, ◌∙◌, subst, ◌↔◌, Contains, IsTrue, Result, Err, length, get_or, arith, HoldsAt, option_copied, is_ok, nat_cmp_total, tied_itself, IsPermutation, IsSortedByKey, IsBinarySearchResult, IsSearchInRange, nat_cmp, on, is_utf8, Less, Equal, text_cmp, IsListOf, Rules, Alg, LineFault, AreFaults, IsEntry, IsManifestFault, IsManifestOf, AreByPath, entry_paths, AreEntriesOf, IsManifestNamed, IsReadOf}
-use Rattle.std.proofs.Common.{MatchOption}
-use Rattle.std.specs.Option.{is_some}
+use Rattle.bag_facts.proofs.Common.{◌≡◌, ◌≢◌, ◌<◌, ◌≤◌, ℕ, List, [], Bool, true, false, Option, None, Some, Bor, refl, ap, sym, ◌∙◌, subst, ◌↔◌, Contains, IsTrue, Result, Err, length, get_or, arith, HoldsAt, option_copied, is_ok, nat_cmp_total, tied_itself, IsPermutation, IsSortedByKey, IsBinarySearchResult, IsSearchInRange, nat_cmp, on, is_utf8, Less, Equal, text_cmp, IsListOf, Rules, Alg, LineFault, AreFaults, IsEntry, IsManifestFault, IsManifestOf, AreByPath, entry_paths, AreEntriesOf, IsManifestNamed, IsReadOf, MatchOption, is_some}
 use Rattle.bag_text.specs.Lines.{lines_of_file}
 use Rattle.bag_read.specs.declared.kind.Kind.{Kind}
 use Rattle.bag_read.specs.declared.manifest.ManifestEntry.{ManifestEntry}

@@ -1,9 +1,5 @@
 -- The escapes of a field.
-use Rattle.bag_facts.proofs.Common.{◌≡◌, ℕ, ◌||◌, ◌==◌, Bool, true, false, not, length, List, [], ◌∷◌, refl, nat_lt, arith, codes, agree_below, agree_below_at, nat_tests, contains, ESCAPED, is_encoded, encoded, field}
-use Rattle.std.specs.Str.{bytes_eq}
-use Rattle.std.specs.List.{flat_map}
-use Rattle.percent_encoding.specs.AsciiSet.{should_percent_encode}
-use Rattle.percent_encoding.specs.Percent.{percent_encode}
+use Rattle.bag_facts.proofs.Common.{◌≡◌, ℕ, ◌||◌, ◌==◌, Bool, true, false, not, length, List, [], ◌∷◌, refl, nat_lt, arith, codes, agree_below, agree_below_at, nat_tests, contains, ESCAPED, is_encoded, encoded, field, percent_encode, should_percent_encode, bytes_eq, flat_map}
 
 table : agree_below (contains ESCAPED) is_encoded 128 ≡ true
 table = refl

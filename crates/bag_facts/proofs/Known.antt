@@ -1,6 +1,5 @@
 -- What was read is what is known of a bag.
-use Rattle.bag_facts.proofs.Common.{arith, ◌≡◌, List, map, length, Some, sym, ap, ◌∙◌, subst, Contains, text_cmp, IsListOf, same_members, tag_path, Bag, IsBag, file, HasFile, IsOrdered, HasItsFolder, IsListingOf, size_at, TreeState, Keeps, FileEntry, Listing, AreJudged, IsFactsOf, Says, AreTexts, IsWhole, read_path, IsWanted, AreWanted, paths_of, Facts, Options, TagBytes}
-use Rattle.std.specs.Prelude.{IsTrue}
+use Rattle.bag_facts.proofs.Common.{arith, ◌≡◌, List, map, length, Some, sym, ap, ◌∙◌, subst, Contains, text_cmp, IsListOf, same_members, tag_path, Bag, IsBag, file, HasFile, IsOrdered, HasItsFolder, IsListingOf, size_at, TreeState, Keeps, FileEntry, Listing, AreJudged, IsFactsOf, Says, AreTexts, IsWhole, read_path, IsWanted, AreWanted, paths_of, Facts, Options, TagBytes, IsTrue}
 use Rattle.bag_facts.proofs.ListedFiles.{file_listed, listed_file}
 use Rattle.bag_facts.proofs.Parsed.{same_paths, parsed_from}
 use Rattle.bag_facts.proofs.RulesRead.{rules_known}

@@ -6,7 +6,6 @@ pub mod Bytes
 pub mod Codes
 pub mod Common
 pub mod Cut
-pub mod Earlier
 pub mod Entries
 pub mod Escapes
 pub mod FieldPieces

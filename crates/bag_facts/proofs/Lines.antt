@@ -1,7 +1,6 @@
 -- The fields of a line are read back as what they were written from.
-use Rattle.bag_facts.proofs.Common.{◌≡◌, ◌≢◌, ℕ, ◌<◌, ◌^◌, ◌==◌, Bool, true, false, cond, List, [], All, codes, sym, subst, refl, ap, ◌∙◌, arith, bytes_eq, decimal, flat_map, get_or, zero, suc, IsUtf8, nat_tests, bytes_eq-Decides, decimal_injective, first_decimal, IsByte, round_trip, Code, number, word, ESCAPED, encoded, field, alg_field, line_field, LinesTellFaultsApart}
-use Rattle.percent_encoding.specs.Percent.{percent_decode}
-use Rattle.bag_facts.proofs.Algs.{same_alg_field}
+use Rattle.bag_facts.proofs.Common.{◌≡◌, ◌≢◌, ℕ, ◌<◌, ◌^◌, ◌==◌, Bool, true, false, cond, List, [], All, codes, sym, subst, refl, ap, ◌∙◌, arith, bytes_eq, decimal, flat_map, get_or, zero, suc, IsUtf8, nat_tests, bytes_eq-Decides, decimal_injective, first_decimal, IsByte, round_trip, Code, number, word, ESCAPED, encoded, field, alg_field, line_field, LinesTellFaultsApart, percent_decode}
+use Rattle.bag_facts.proofs.Algs.{other_texts, same_alg_field}
 use Rattle.bag_facts.proofs.Bytes.{utf8_bytes}
 use Rattle.bag_facts.proofs.Codes.{small_number, same_code}
 use Rattle.bag_facts.proofs.Escapes.{same_escapes, other_field}
@@ -20,9 +19,6 @@ dash_decoded = refl
 
 pub equal_texts : (s t : List ℕ) → bytes_eq s t ≡ true → s ≡ t
 equal_texts s t e = (bytes_eq-Decides s t).0 e
-
-other_texts : (s t : List ℕ) → bytes_eq s t ≡ false → s ≢ t
-other_texts s t e same = let yes = (bytes_eq-Decides s t).1 same in cc
 
 -- the text that a field stands for
 abbrev pub unfield : List ℕ → List ℕ

@@ -1,7 +1,6 @@
 -- The files of a listing.
-use Rattle.bag_facts.proofs.Common.{arith, ◌≡◌, ◌∷◌, inl, inr, ℕ, List, [], Option, Some, Bool, true, false, cond, refl, sym, ap, ◌∙◌, subst, is_some, map, Contains, bytes_eq, option_map, tied_itself, nat_list_cmp_total, Less, Equal, bytes_eq-Decides, text_cmp, contains_cases, contains_first, contains_behind, contains_nothing, member_has, Bag, file, HasFile, entry_at, size_at, FileEntry, AreListed, paths_of}
+use Rattle.bag_facts.proofs.Common.{arith, ◌≡◌, ◌∷◌, inl, inr, ℕ, List, [], Option, Some, Bool, true, false, cond, refl, sym, ap, ◌∙◌, subst, is_some, map, Contains, bytes_eq, option_map, tied_itself, nat_list_cmp_total, Less, Equal, bytes_eq-Decides, text_cmp, contains_cases, contains_first, contains_behind, contains_nothing, member_has, Bag, file, HasFile, entry_at, size_at, FileEntry, AreListed, paths_of, IsStrictlySortedBy}
 use Rattle.std.specs.List.{find}
-use Rattle.std.specs.List.Sorted.{IsStrictlySortedBy}
 use Rattle.bag_facts.proofs.Mapped.{mapped_contains}
 
 not_itself : (p q : List ℕ) → text_cmp p q ≡ Less → p ≡ q → ⊥

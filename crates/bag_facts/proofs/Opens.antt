@@ -1,7 +1,5 @@
 -- The files that were opened.
-use Rattle.bag_facts.proofs.Common.{arith, ◌≡◌, ◌++◌, ◌∷◌, ℕ, List, [], sym, ap, ◌∙◌, subst, append-nil, AllByRecursion, All-nil, All-cons, text_cmp, each_from_members, member_has, contains_front, TreeState, FileEntry, IsWanted, AreWanted, OpensAll, OpensFirst, OpensUpTo, OpensWanted, Options}
-use Rattle.std.specs.Prelude.{All}
-use Rattle.std.specs.List.Sorted.{IsStrictlySortedBy}
+use Rattle.bag_facts.proofs.Common.{◌≡◌, ◌++◌, ◌∷◌, ℕ, List, [], sym, ap, ◌∙◌, subst, append-nil, AllByRecursion, All-nil, All-cons, text_cmp, each_from_members, member_has, contains_front, TreeState, FileEntry, IsWanted, AreWanted, OpensAll, OpensFirst, OpensWanted, Options, All, IsStrictlySortedBy}
 
 pub all_along : {A : Type 0} (P : A → Type 0) (xs : List A) → AllByRecursion P xs → All P xs
 all_along P [] h = All-nil P
@@ -42,7 +40,3 @@ pub opened_wanted : (options : Options) (files : List FileEntry) (old mid new : 
     → new.openings ≡ mid.openings ++ paths → OpensWanted options old new
 opened_wanted options files old mid new paths e are o =
     opens_wanted options files old new (opens_all_first options files old new (opens_all_later options files old mid new paths e are o))
-
-pub opens_up_to_later : (options : Options) (files : List FileEntry) (path : List ℕ) (old mid new : TreeState) → mid.openings ≡ old.openings → OpensUpTo options files path mid new
-    → OpensUpTo options files path old new
-opens_up_to_later options files path old mid new e o = grind arith

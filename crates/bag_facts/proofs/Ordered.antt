@@ -1,6 +1,6 @@
 -- The order of faults.
-use Rattle.bag_facts.proofs.Common.{◌≡◌, refl, Ordering, Less, Equal, Greater, ordering_then, IsTotalOrder, nat_cmp_total, nat_list_cmp_total, IsAntisymmetric, nat_cmp-IsAntisymmetric, slice_cmp-IsAntisymmetric, on_total, then_total, text_cmp, rank_or_zero, number, stage, fault_cmp, FaultsAreOrdered, OneOfThreeHolds, EqualFaultsAreOne, AscendingFaultsAreOne}
-use Rattle.bag_facts.proofs.Ascending.{same_lists, one_of_three, equal_is_one}
+use Rattle.bag_facts.proofs.Common.{◌≡◌, refl, Ordering, Equal, ordering_then, IsTotalOrder, nat_cmp_total, nat_list_cmp_total, IsAntisymmetric, nat_cmp-IsAntisymmetric, slice_cmp-IsAntisymmetric, on_total, then_total, rank_or_zero, number, stage, fault_cmp, EqualFaultsAreOne}
+use Rattle.bag_facts.proofs.Ascending.{equal_is_one}
 use Rattle.bag_facts.proofs.Algs.{same_alg}
 use Rattle.bag_facts.proofs.Codes.{same_code}
 
@@ -16,12 +16,8 @@ fault_cmp_total =
 
 -- both comparisons of a pair tie where the pair does
 both_tie : (a b : Ordering) → ordering_then a b ≡ Equal → (a ≡ Equal) × (b ≡ Equal)
-both_tie Less b e = cc
 both_tie Equal b e = (refl, e)
-both_tie Greater b e = cc
-
-text_cmp_same : IsAntisymmetric text_cmp
-text_cmp_same = slice_cmp-IsAntisymmetric nat_cmp-IsAntisymmetric
+both_tie _ b e = cc
 
 -- faults that tie are one fault
 pub fault_cmp_same : IsAntisymmetric fault_cmp
@@ -32,20 +28,11 @@ fault_cmp_same f g e =
     let ranks = both_tie _ _ lines.0 in
     let paths = both_tie _ _ ranks.0 in
     let code_is = same_code f.code g.code (nat_cmp-IsAntisymmetric _ _ numbers.1) in
-    let path_is = text_cmp_same f.path g.path paths.1 in
+    let path_is = slice_cmp-IsAntisymmetric nat_cmp-IsAntisymmetric f.path g.path paths.1 in
     let alg_is = same_alg f.alg g.alg (nat_cmp-IsAntisymmetric _ _ ranks.1) in
     let line_is = nat_cmp-IsAntisymmetric f.line g.line lines.1 in
-    let detail_is = text_cmp_same f.detail g.detail details.1 in
+    let detail_is = slice_cmp-IsAntisymmetric nat_cmp-IsAntisymmetric f.detail g.detail details.1 in
     λ i. record { code = code_is i; path = path_is i; alg = alg_is i; line = line_is i; detail = detail_is i }
-
-pub faults_are_ordered : FaultsAreOrdered
-faults_are_ordered = (fault_cmp_total, fault_cmp_same)
-
-pub one_of_three_holds : OneOfThreeHolds
-one_of_three_holds = one_of_three fault_cmp_total fault_cmp_same
 
 pub equal_faults_are_one : EqualFaultsAreOne
 equal_faults_are_one = equal_is_one fault_cmp_total fault_cmp_same
-
-pub ascending_faults_are_one : AscendingFaultsAreOne
-ascending_faults_are_one xs ys p q members = same_lists fault_cmp_total xs ys p q (λ f has. (members f).0 has) (λ f has. (members f).1 has)

@@ -1,6 +1,5 @@
 -- An error that is passed on.
-use Rattle.bag_facts.proofs.Common.{◌≡◌, Result, Ok, Err, sym, subst, IfErr, IsErrAnd}
-use Rattle.std.specs.Result.{OnErr}
+use Rattle.bag_facts.proofs.Common.{◌≡◌, Result, Ok, Err, sym, subst, IfErr, IsErrAnd, OnErr}
 
 pub passed_on : {T E : Type 0} (r : Result T E) (x : E) (Q : E → Type 0) → IsErrAnd r (λ e. e ≡ x) → Q x → IfErr r Q
 passed_on (Ok y) x Q h q = tt

@@ -1,11 +1,11 @@
 -- A line that was made field by field.
-use Rattle.bag_facts.proofs.Common.{◌≡◌, ℕ, List, [], ◌∷◌, ◌++◌, Result, Ok, Err, cond, length, take, ap, ◌∙◌, append_assoc, arith, length-append, OnOk, OnErr, take-take, join_with_byte}
-use Rattle.std.specs.Prelude.{is_ok}
+use Rattle.bag_facts.proofs.Common.{◌≡◌, ℕ, List, [], ◌∷◌, ◌++◌, Result, Ok, Err, cond, length, take, ap, ◌∙◌, append_assoc, arith, length-append, OnOk, OnErr, take-take, join_with_byte, is_ok}
 use Rattle.std.proofs.Math.Seq.{take-append_seam, take-length}
 use Rattle.std.specs.Io.{StartsWith}
+use Rattle.bag_facts.proofs.PassedOn.{on_error}
 
 -- one piece, and then the rest
-one_piece : (start next whole piece rest : List ℕ) → next ≡ start ++ piece → whole ≡ next ++ rest → whole ≡ start ++ (piece ++ rest)
+pub one_piece : (start next whole piece rest : List ℕ) → next ≡ start ++ piece → whole ≡ next ++ rest → whole ≡ start ++ (piece ++ rest)
 one_piece start next whole piece rest first more = more ∙ ap (λ s. s ++ rest) first ∙ append_assoc start piece rest
 
 -- six fields, each but the first behind a space
@@ -26,8 +26,7 @@ begins_with_itself part whole same = ap (take (length part)) same ∙ take-lengt
 
 -- what is left behind at a refusal still begins with what was there before
 pub left_behind : {T E : Type 0} (r : Result T E) (old part whole added : List ℕ) → part ≡ old ++ added → StartsWith whole part → OnErr r (StartsWith whole old)
-left_behind (Ok x) old part whole added more begins = tt
-left_behind (Err e) old part whole added more begins = begins_before old part whole added more begins
+left_behind r old part whole added more begins = on_error r _ (begins_before old part whole added more begins)
 
 -- one piece pushed behind another
 pub pushed_behind : {T E : Type 0} (r : Result T E) (old part whole piece rest : List ℕ) → part ≡ old ++ piece → whole ≡ cond (is_ok r) (part ++ rest) part → OnOk r (whole ≡ old ++ (piece ++ rest))
@@ -38,12 +37,3 @@ pushed_behind (Err e) old part whole piece rest first more = tt
 pub refused_behind : {T E : Type 0} (r : Result T E) (old part whole piece rest : List ℕ) → part ≡ old ++ piece → whole ≡ cond (is_ok r) (part ++ rest) part → OnErr r (StartsWith whole old)
 refused_behind (Ok x) old part whole piece rest first more = tt
 refused_behind (Err e) old part whole piece rest first more = begins_before old part whole piece first (begins_with_itself part whole more)
-
--- the same behind a piece, where the last call said as much
-pub joined_behind : {T E : Type 0} (r : Result T E) (old part whole piece rest : List ℕ) → part ≡ old ++ piece → OnOk r (whole ≡ part ++ rest) → OnOk r (whole ≡ old ++ (piece ++ rest))
-joined_behind (Ok x) old part whole piece rest first more = one_piece old part whole piece rest first more
-joined_behind (Err e) old part whole piece rest first more = tt
-
-pub kept_behind : {T E : Type 0} (r : Result T E) (old part whole piece : List ℕ) → part ≡ old ++ piece → OnErr r (StartsWith whole part) → OnErr r (StartsWith whole old)
-kept_behind (Ok x) old part whole piece first begins = tt
-kept_behind (Err e) old part whole piece first begins = begins_before old part whole piece first begins

@@ -1,7 +1,5 @@
 -- Reading listed files one after another.
-use Rattle.bag_facts.proofs.Common.{◌≡◌, ◌<◌, ◌≤◌, ◌+◌, ◌++◌, ◌∷◌, inl, inr, ℕ, List, [], length, take, drop, map, get_or, None, Some, refl, sym, ap, ◌∙◌, subst, arith, Contains, append_assoc, append-nil, IsStrictlySortedBy, map-append, take-append-drop, take_all, text_cmp, contains_either, contains_cases, contains_nothing, file, RefusesNothing, IsListingOf, TreeState, Keeps, OpensAtMost, IsEntryOf, FailsOver, MayRefuse, IsRefusedAt, Unlisted, FileEntry, Listing, Stop, TreeFault, Device, Special, Name, NotFound, TooMany, Changed, NoneOpen, Memory, Exists, memory_then, memory_unlisted, nothing_asked, nothing_then, MayRefuseFacts, MayStopReading, AreListed, AreTexts, IsWhole, ReadsWanted, StopsReading, read_path, IsWanted, AreWanted, OpensFirst, OpensUpTo, paths_of, Options, TagBytes}
-use Rattle.std.proofs.Common.{IsUtf8}
-use Rattle.std.specs.Prelude.{IsTrue}
+use Rattle.bag_facts.proofs.Common.{◌≡◌, ◌<◌, ◌≤◌, ◌+◌, ◌++◌, ◌∷◌, inl, inr, ℕ, List, [], length, take, drop, map, get_or, None, Some, refl, sym, ap, ◌∙◌, subst, arith, Contains, append_assoc, append-nil, IsStrictlySortedBy, map-append, take-append-drop, take_all, text_cmp, contains_either, contains_cases, contains_nothing, RefusesNothing, IsListingOf, TreeState, Keeps, OpensAtMost, IsEntryOf, FailsOver, MayRefuse, IsRefusedAt, Unlisted, FileEntry, Listing, Stop, TreeFault, Device, Special, Name, NotFound, TooMany, Changed, NoneOpen, Memory, Exists, memory_then, memory_unlisted, nothing_asked, nothing_then, MayRefuseFacts, MayStopReading, AreListed, AreTexts, IsWhole, ReadsWanted, StopsReading, read_path, IsWanted, AreWanted, OpensFirst, OpensUpTo, paths_of, Options, TagBytes, IsUtf8, IsTrue}
 use Rattle.bag_facts.proofs.ListedFiles.{own_size}
 use Rattle.bag_facts.proofs.Mapped.{take_one_more, taken_cases}
 use Rattle.bag_facts.proofs.Refusing.{wanted_some}
@@ -43,8 +41,19 @@ pub record ReadsSome (options : Options) (files : List FileEntry) (count : ℕ) 
 pub reads_none : (options : Options) (files : List FileEntry) (old : TreeState) → ReadsSome options files 0 old old []
 reads_none options files old = grind (arith, keeps_itself, nothing_asked, append-nil, none_wanted, contains_nothing)
 
-module _ (options : Options) (files : List FileEntry) (i : ℕ) (entry : FileEntry) (old mid new : TreeState) (read : List TagBytes)
-    (s : IsStrictlySortedBy text_cmp (paths_of files)) (lt : i < length files) (is : entry ≡ get_or files i entry) (before : ReadsSome options files i old mid read) where
+-- those among the first of the listed files were opened
+pub opens_first : (options : Options) (files : List FileEntry) (count : ℕ) (old new : TreeState) → IsStrictlySortedBy text_cmp (paths_of files)
+    → new.openings ≡ old.openings ++ wanted options (take count files) → OpensFirst options files old new
+opens_first options files count old new s e = (
+  wanted options (take count files),
+  wanted options (drop count files),
+  subst (AreWanted options files) (ap (wanted options) (sym (take-append-drop count files)) ∙ wanted_joined options (take count files) (drop count files))
+      (are_wanted options files s),
+  e,
+)
+
+module _ {options : Options} {files : List FileEntry} {i : ℕ} {entry : FileEntry} {old mid : TreeState} {read : List TagBytes} (s : IsStrictlySortedBy text_cmp (paths_of files))
+    (lt : i < length files) (is : entry ≡ get_or files i entry) (before : ReadsSome options files i old mid read) (new : TreeState) where
   listed : Contains files entry
   listed = (i, lt, sym is)
 
@@ -87,21 +96,8 @@ module _ (options : Options) (files : List FileEntry) (i : ℕ) (entry : FileEnt
       texts = texts_more text;
     }
 
--- those among the first of the listed files were opened
-pub opens_first : (options : Options) (files : List FileEntry) (count : ℕ) (old new : TreeState) → IsStrictlySortedBy text_cmp (paths_of files)
-    → new.openings ≡ old.openings ++ wanted options (take count files) → OpensFirst options files old new
-opens_first options files count old new s e = (
-  wanted options (take count files),
-  wanted options (drop count files),
-  subst (AreWanted options files) (ap (wanted options) (sym (take-append-drop count files)) ∙ wanted_joined options (take count files) (drop count files))
-      (are_wanted options files s),
-  e,
-)
-
-module _ (options : Options) (files : List FileEntry) (i : ℕ) (entry : FileEntry) (old mid new : TreeState) (read : List TagBytes)
-    (s : IsStrictlySortedBy text_cmp (paths_of files)) (lt : i < length files) (is : entry ≡ get_or files i entry) (before : ReadsSome options files i old mid read) where
   up_to_here : IsWanted options entry.path → wanted options (take (i + 1) files) ≡ map read_path read ++ entry.path ∷ []
-  up_to_here w = next_paths options files i entry old mid new read s lt is before ∙ ap (λ paths. map read_path read ++ paths) (one_wanted options entry w)
+  up_to_here w = next_paths ∙ ap (λ paths. map read_path read ++ paths) (one_wanted options entry w)
 
   -- reading stopped at a listed file
   pub opens_up_to : IsWanted options entry.path → IsRefusedAt mid.openings entry.path new → OpensUpTo options files entry.path old new

@@ -1,6 +1,5 @@
 -- The rules of what was read are those of the bag.
-use Rattle.std.proofs.Common.{arith}
-use Rattle.bag_facts.proofs.Common.{◌≡◌, inl, inr, ℕ, List, Option, None, Some, refl, sym, ap, ◌∙◌, is_some, map, Contains, Any, option_and_then, rules_of, Rules, declared_version, tag_path, Declaration, paths_differ, Bag, file, FileEntry, AreRulesOf, IsReadOf, IsDeclarationOf, AreListed, read_path, AreWanted, Options, TagBytes}
+use Rattle.bag_facts.proofs.Common.{◌≡◌, inl, inr, ℕ, List, Option, None, Some, refl, sym, ap, ◌∙◌, is_some, map, Contains, Any, option_and_then, rules_of, Rules, declared_version, tag_path, Declaration, paths_differ, Bag, file, FileEntry, AreRulesOf, IsReadOf, IsDeclarationOf, AreListed, read_path, AreWanted, Options, TagBytes, arith}
 use Rattle.bag_read.specs.declared.declaration.Declaration as declared
 use Rattle.bag_facts.specs.Facts.{rules_in}
 use Rattle.bag_facts.proofs.ListedFiles.{file_listed}

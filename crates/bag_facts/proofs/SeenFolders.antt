@@ -1,8 +1,7 @@
 -- The folders that a listing tells of.
-use Rattle.bag_facts.proofs.Common.{◌≡◌, inl, inr, ℕ, ◌<◌, arith, List, ◌∷◌, Bool, true, false, refl, sym, ◌∙◌, subst, map, codes, Contains, eq_by_cmp, nat_list_cmp_total, and_from, All-from_recursion, bytes_eq-Decides, IsUtf8-from_ascii, text_cmp, is_path, is_base_name, is_payload_path, first_component, under, contains_cases, contains_first, contains_behind, any_from, from_any, IsOrdered, HasItsFolder, FileEntry, Listing, one_text, text_itself, AreTexts, paths_of}
-use Rattle.std.proofs.Common.{filter, IsUtf8}
+use Rattle.bag_facts.proofs.Common.{◌≡◌, inl, inr, ℕ, arith, List, ◌∷◌, Bool, true, false, refl, sym, ◌∙◌, subst, map, codes, Contains, eq_by_cmp, nat_list_cmp_total, and_from, bytes_eq-Decides, text_cmp, is_path, is_base_name, is_payload_path, first_component, under, contains_cases, contains_first, contains_behind, any_from, from_any, IsOrdered, HasItsFolder, FileEntry, Listing, one_text, text_itself, AreTexts, paths_of, filter, IsUtf8}
 use Rattle.std.specs.FinSet as set
-use Rattle.std.proofs.lemmas.Str.Ascii.{IsAscii-from_all}
+use Rattle.std.specs.Char.{encode_utf8}
 use Rattle.bag_tree.proofs.Parents.{is_in_folder, under_in_folder, first-under, first_is_base_name, first_is_text}
 use Rattle.bag_facts.proofs.Mapped.{mapped_contains, contains_mapped, kept, passed}
 
@@ -79,10 +78,8 @@ abbrev IsTextName : List ℕ → Type 0
 IsTextName name = (is_base_name name ≡ true) × IsUtf8 name
 
 data_is_name : IsTextName (codes "data")
-data_is_name = (
-  refl,
-  IsUtf8-from_ascii (codes "data") (IsAscii-from_all (codes "data") (All-from_recursion (λ b. b < 128) (codes "data") (omega arith, (omega arith, (omega arith, (omega arith, tt)))))),
-)
+unfolding encode_utf8
+data_is_name = (refl, (codes "data", (refl, refl)))
 
 name_by : (b : Bool) (names : List (List ℕ)) (name : List ℕ) → (Contains names name → IsTextName name) → Contains (with_data b names) name → IsTextName name
 name_by true names name is c = elim (contains_cases (codes "data") names name c) [ inl same ↦ subst IsTextName same data_is_name | inr d ↦ is d ]

@@ -1,6 +1,5 @@
 -- What is known of one tag file, among what is known of all.
-use Rattle.bag_facts.proofs.Common.{◌≡◌, ℕ, List, Option, None, Some, refl, sym, ap, ◌∙◌, subst, is_some, Contains, Any, tag_path, TagName, paths_differ, Bag, file, rules_in, IsFactsOf, IsReadOf, IsTagFileNamed, name_of, path_of, Wants, Facts, TagFacts}
-use Rattle.std.proofs.Common.{MatchOption}
+use Rattle.bag_facts.proofs.Common.{◌≡◌, ℕ, List, Option, None, Some, refl, sym, ap, ◌∙◌, subst, is_some, Contains, Any, tag_path, TagName, paths_differ, Bag, file, rules_in, IsFactsOf, IsReadOf, IsTagFileNamed, name_of, path_of, Wants, Facts, TagFacts, MatchOption}
 use Rattle.bag_facts.proofs.Mapped.{contains_mapped}
 
 module _ (bag : Bag) (known : Facts) (of : TagName) (h : IsFactsOf bag known) where

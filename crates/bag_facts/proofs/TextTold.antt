@@ -8,10 +8,9 @@ module _ (bytes : List ℕ) (IsWrong : Code → LineFault → Type 0) (to : IsNo
   tells one = from one.1 (subst (λ code. IsWrong code one.1) one.4 ((list.members one.1).0 (one.0, one.2, one.3)))
 
   text_by : (is_text text : Bool) → is_utf8 bytes ≡ text → IsTrue is_text ↔ ¬ (Any (λ fault. fault.code ≡ NotUtf8) faults) → is_text ≡ text
-  text_by true true e is = refl
   text_by true false e is = grind arith
   text_by false true e is = is.1 (λ one. let clash : false ≡ true = sym (tells one) ∙ e in cc)
-  text_by false false e is = refl
+  text_by _ _ e is = refl
 
   -- they are UTF-8 where no fault says other
   pub text_told : (is_text : Bool) → IsTrue is_text ↔ ¬ (Any (λ fault. fault.code ≡ NotUtf8) faults) → is_text ≡ is_utf8 bytes

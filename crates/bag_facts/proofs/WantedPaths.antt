@@ -1,5 +1,5 @@
 -- The wanted tag files among listed files.
-use Rattle.bag_facts.proofs.Common.{◌≡◌, inl, inr, ◌&&◌, ℕ, List, [], ◌∷◌, ◌++◌, Bool, true, false, cond, refl, ap, arith, Contains, map, bytes_eq, filter, list_any, IsStrictlySortedBy, and_from, map-append, filter-append, bytes_eq-Decides, text_cmp, algs, each_is_listed, contains_behind, contains_front, contains_back, tag_path, TagName, Declaration, Info, Fetch, Manifest, any_from, from_any, both_true, FileEntry, Wants, IsWanted, AreWanted, paths_of, Options}
+use Rattle.bag_facts.proofs.Common.{◌≡◌, inl, inr, ◌&&◌, ℕ, List, [], ◌∷◌, ◌++◌, Bool, true, false, cond, refl, ap, arith, Contains, map, bytes_eq, filter, list_any, IsStrictlySortedBy, and_from, map-append, filter-append, bytes_eq-Decides, text_cmp, algs, each_is_listed, contains_front, contains_back, tag_path, TagName, Declaration, Info, Fetch, Manifest, any_from, from_any, both_true, FileEntry, Wants, IsWanted, AreWanted, paths_of, Options}
 use Rattle.std.proofs.lemmas.List.Kept.{IsStrictlySortedBy-filter}
 use Rattle.bag_read.specs.declared.kind.Kind.TheVariants.{Payload, Tag}
 use Rattle.bag_facts.specs.declared.options.Depth.{Depth}
@@ -9,20 +9,16 @@ use Rattle.bag_facts.proofs.Mapped.{kept, passed, mapped_contains}
 abbrev names : List TagName
 names = Declaration ∷ Info ∷ Fetch ∷ (map (Manifest Payload) algs ++ map (Manifest Tag) algs)
 
-behind_files : (name : TagName) → Contains (map (Manifest Payload) algs ++ map (Manifest Tag) algs) name → Contains names name
-behind_files name c =
-    contains_behind Declaration (Info ∷ Fetch ∷ (map (Manifest Payload) algs ++ map (Manifest Tag) algs)) name
-    (contains_behind Info (Fetch ∷ (map (Manifest Payload) algs ++ map (Manifest Tag) algs)) name
-    (contains_behind Fetch (map (Manifest Payload) algs ++ map (Manifest Tag) algs) name c))
-
 each_name : (name : TagName) → Contains names name
 each_name Declaration = (0, omega arith, refl)
 each_name Info = (1, omega arith, refl)
 each_name Fetch = (2, omega arith, refl)
 each_name (Manifest Payload alg) =
-    behind_files (Manifest Payload alg) (contains_front (map (Manifest Payload) algs) (map (Manifest Tag) algs) (Manifest Payload alg) (mapped_contains (Manifest Payload) algs alg (each_is_listed alg)))
+    contains_back (Declaration ∷ Info ∷ Fetch ∷ []) (map (Manifest Payload) algs ++ map (Manifest Tag) algs) (Manifest Payload alg)
+    (contains_front (map (Manifest Payload) algs) (map (Manifest Tag) algs) (Manifest Payload alg) (mapped_contains (Manifest Payload) algs alg (each_is_listed alg)))
 each_name (Manifest Tag alg) =
-    behind_files (Manifest Tag alg) (contains_back (map (Manifest Payload) algs) (map (Manifest Tag) algs) (Manifest Tag alg) (mapped_contains (Manifest Tag) algs alg (each_is_listed alg)))
+    contains_back (Declaration ∷ Info ∷ Fetch ∷ []) (map (Manifest Payload) algs ++ map (Manifest Tag) algs) (Manifest Tag alg)
+    (contains_back (map (Manifest Payload) algs) (map (Manifest Tag) algs) (Manifest Tag alg) (mapped_contains (Manifest Tag) algs alg (each_is_listed alg)))
 
 abbrev is_deep : Depth → Bool
 is_deep depth_of.Declaration = false

@@ -1,5 +1,4 @@
-use Rattle.bag_facts.proofs.Common.{◌∷◌, ◌++◌, ℕ, List, ap, ◌∙◌, string_bytes, number, word, field, alg_field, line_field}
-use Rattle.std.specs.Prelude.{decimal}
+use Rattle.bag_facts.proofs.Common.{◌∷◌, ◌++◌, ℕ, List, ap, ◌∙◌, string_bytes, number, word, field, alg_field, line_field, decimal}
 use Rattle.std.proofs.lemmas.Result.{on_ok_weaker, on_err_weaker}
 use Rattle.bag_facts.proofs.Pieces.{six_fields, begins_before, left_behind}
 use Rattle.bag_facts.proofs.fault.append_fields.Goals as goal

@@ -1,70 +1,45 @@
-use Rattle.bag_facts.proofs.Common.{◌≡◌, ◌≢◌, ◌++◌, ◌+◌, ◌∷◌, [], IsTrue, sym, subst, rules, nothing_then, AreListed, ReadsWanted, StopsReading, OpensFirst, OpensUpTo}
+use Rattle.bag_facts.proofs.Common.{◌≡◌, ◌++◌, ◌+◌, ◌∷◌, [], rules, nothing_then}
 use Rattle.bag_facts.proofs.PassedOn.{passed_on, on_error}
-use Rattle.bag_facts.proofs.Reading.{ReadsSome, reads_none, reads_no_more, reads_one_more, opened_more, opens_first, opens_first_here, opens_up_to, stops_at, all_wanted, all_texts}
+use Rattle.bag_facts.proofs.Reading.{reads_none, reads_no_more, reads_one_more, opened_more, opens_first, opens_first_here, opens_up_to, stops_at, all_wanted, all_texts}
 use Rattle.bag_facts.proofs.Refusing.{stop_of_memory}
 use Rattle.bag_facts.proofs.tag_reader.read_tag_files.Goals as goal
 
 pub loop-entry-init : goal.loop-entry-init
-loop-entry-init g c =
-    let state = g.T.Tree.state c.args.tree.now in
-    subst (ReadsSome c.args.options c.args.files.now 0 state state) (sym c.new-read.ensures.items) (reads_none c.args.options c.args.files.now state)
+loop-entry-init g c = rw c.new-read.ensures.items (reads_none c.args.options c.args.files.now (g.T.Tree.state c.args.tree.now))
 
 pub returns-in_err-file-clause-opened_first : goal.returns-in_err-file-clause-opened_first
 returns-in_err-file-clause-opened_first g c =
-    let old = g.T.Tree.state c.args.tree.now in
-    let mid = g.T.Tree.state c.loop-entry.tree in
-    let new = g.T.Tree.state c.read_wanted.new.tree in
-    on_error c.from_residual.result (OpensFirst c.args.options c.args.files.now old new)
-    (opens_first_here c.args.options c.args.files.now c.loop-entry.entry-index c.entry-item.result old mid new c.loop-entry.read.items c.requires.ascending c.loop-entry-test.true c.entry-item.is c.loop-entry.invariant
+    on_error c.from_residual.result _ (opens_first_here c.requires.ascending c.loop-entry-test.true c.entry-item.is c.loop-entry.invariant (g.T.Tree.state c.read_wanted.new.tree)
     c.in_err-file.ensures.opens.0 c.in_err-file.ensures.opens.1)
 
 pub returns-in_err-file-clause-refused : goal.returns-in_err-file-clause-refused
 returns-in_err-file-clause-refused g c =
-    let old = g.T.Tree.state c.args.tree.now in
-    let mid = g.T.Tree.state c.loop-entry.tree in
-    let new = g.T.Tree.state c.read_wanted.new.tree in
-    passed_on c.from_residual.result c.in_err-file.field-0.0 (λ stop. stop.path ≢ [] → OpensUpTo c.args.options c.args.files.now stop.path old new) c.from_residual.ensures.1
-    (λ named.
-    subst (λ path. OpensUpTo c.args.options c.args.files.now path old new) (sym (c.in_err-file.ensures.refused named))
-    (opens_up_to c.args.options c.args.files.now c.loop-entry.entry-index c.entry-item.result old mid new c.loop-entry.read.items c.requires.ascending c.loop-entry-test.true c.entry-item.is c.loop-entry.invariant
-    c.in_err-file.ensures.opens.0 (c.in_err-file.ensures.refused_at named)))
+    passed_on c.from_residual.result _ _ c.from_residual.ensures.1
+    (λ named. rw (c.in_err-file.ensures.refused named)
+    (opens_up_to c.requires.ascending c.loop-entry-test.true c.entry-item.is c.loop-entry.invariant (g.T.Tree.state c.read_wanted.new.tree) c.in_err-file.ensures.opens.0 (c.in_err-file.ensures.refused_at named)))
 
 pub returns-in_err-file-clause-stop : goal.returns-in_err-file-clause-stop
 returns-in_err-file-clause-stop g c =
-    let old = g.T.Tree.state c.args.tree.now in
-    let mid = g.T.Tree.state c.loop-entry.tree in
-    let new = g.T.Tree.state c.read_wanted.new.tree in
-    passed_on c.from_residual.result c.in_err-file.field-0.0 (λ stop. (IsTrue old.honest → AreListed old.bag c.args.files.now) → StopsReading c.args.options old new stop) c.from_residual.ensures.1
-    (stops_at c.args.options c.args.files.now c.loop-entry.entry-index c.entry-item.result old mid new c.loop-entry.read.items c.requires.ascending c.loop-entry-test.true c.entry-item.is c.loop-entry.invariant
-    c.in_err-file.field-0.0 c.in_err-file.ensures.stop)
+    passed_on c.from_residual.result _ _ c.from_residual.ensures.1
+    (stops_at c.requires.ascending c.loop-entry-test.true c.entry-item.is c.loop-entry.invariant (g.T.Tree.state c.read_wanted.new.tree) c.in_err-file.field-0.0 c.in_err-file.ensures.stop)
 
 pub loop-entry-preserved-in_default : goal.loop-entry-preserved-in_default
 loop-entry-preserved-in_default g c =
-    let old = g.T.Tree.state c.args.tree.now in
-    let mid = g.T.Tree.state c.loop-entry.tree in
-    let new = g.T.Tree.state c.read_wanted.new.tree in
-    reads_no_more c.args.options c.args.files.now c.loop-entry.entry-index c.entry-item.result old mid new c.loop-entry.read.items c.requires.ascending c.loop-entry-test.true c.entry-item.is c.loop-entry.invariant
-    c.in_ok-file.ensures.keeps c.in_ok-file.ensures.calm c.in_ok-file.ensures.text (subst (ReadsWanted c.args.options c.entry-item.result mid new) c.in_default.is c.in_ok-file.ensures.read)
+    reads_no_more c.requires.ascending c.loop-entry-test.true c.entry-item.is c.loop-entry.invariant (g.T.Tree.state c.read_wanted.new.tree)
+    c.in_ok-file.ensures.keeps c.in_ok-file.ensures.calm c.in_ok-file.ensures.text (rw c.in_default.is at c.in_ok-file.ensures.read)
 
 pub returns-then-is_err-clause-opened_first : goal.returns-then-is_err-clause-opened_first
 returns-then-is_err-clause-opened_first g c =
-    let old = g.T.Tree.state c.args.tree.now in
-    let mid = g.T.Tree.state c.loop-entry.tree in
     let new = g.T.Tree.state c.read_wanted.new.tree in
-    opens_first c.args.options c.args.files.now (c.loop-entry.entry-index + 1) old new c.requires.ascending
-    (opened_more c.args.options c.args.files.now c.loop-entry.entry-index c.entry-item.result old mid new c.loop-entry.read.items c.requires.ascending c.loop-entry-test.true c.entry-item.is c.loop-entry.invariant
-    c.in-Some.file c.in_ok-file.ensures.keeps c.in_ok-file.ensures.calm c.in_ok-file.ensures.text (subst (ReadsWanted c.args.options c.entry-item.result mid new) c.in-Some.is c.in_ok-file.ensures.read))
+    opens_first c.args.options c.args.files.now (c.loop-entry.entry-index + 1) (g.T.Tree.state c.args.tree.now) new c.requires.ascending
+    (opened_more c.requires.ascending c.loop-entry-test.true c.entry-item.is c.loop-entry.invariant new
+    c.in-Some.file c.in_ok-file.ensures.keeps c.in_ok-file.ensures.calm c.in_ok-file.ensures.text (rw c.in-Some.is at c.in_ok-file.ensures.read))
 
 pub loop-entry-preserved : goal.loop-entry-preserved
 loop-entry-preserved g c =
-    let old = g.T.Tree.state c.args.tree.now in
-    let mid = g.T.Tree.state c.loop-entry.tree in
-    let new = g.T.Tree.state c.read_wanted.new.tree in
-    let more =
-    reads_one_more c.args.options c.args.files.now c.loop-entry.entry-index c.entry-item.result old mid new c.loop-entry.read.items c.requires.ascending c.loop-entry-test.true c.entry-item.is c.loop-entry.invariant
-    c.in-Some.file c.in_ok-file.ensures.keeps c.in_ok-file.ensures.calm c.in_ok-file.ensures.text (subst (ReadsWanted c.args.options c.entry-item.result mid new) c.in-Some.is c.in_ok-file.ensures.read) in
     let pushed : c.push.new.self.items ≡ c.loop-entry.read.items ++ c.in-Some.file ∷ [] = search rules in
-    rw pushed more
+    rw pushed (reads_one_more c.requires.ascending c.loop-entry-test.true c.entry-item.is c.loop-entry.invariant (g.T.Tree.state c.read_wanted.new.tree)
+    c.in-Some.file c.in_ok-file.ensures.keeps c.in_ok-file.ensures.calm c.in_ok-file.ensures.text (rw c.in-Some.is at c.in_ok-file.ensures.read))
 
 pub returns-clause-wanted : goal.returns-clause-wanted
 returns-clause-wanted g c =

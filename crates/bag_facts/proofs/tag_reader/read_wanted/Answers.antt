@@ -1,4 +1,4 @@
-use Rattle.bag_facts.proofs.Common.{◌∙◌, inl, inr, subst, nothing_asked, IsRefusalOf}
+use Rattle.bag_facts.proofs.Common.{◌∙◌, inl, inr, nothing_asked}
 use Rattle.bag_facts.proofs.Refusing.{stop_of_memory, stop_of_refusal}
 use Rattle.bag_facts.proofs.tag_reader.read_wanted.Goals as goal
 
@@ -10,13 +10,12 @@ returns-in_default-copy-clause-stop g c = λ is.
 pub returns-in-Err-clause-stop : goal.returns-in-Err-clause-stop
 returns-in-Err-clause-stop g c =
     let state = g.T.Tree.state in
-    let named = subst (λ path. IsRefusalOf c.in-Err.cause path c.refusal_of.result) c.in-Ok.ensures c.refusal_of.ensures in
     stop_of_refusal c.args.options c.args.entry.now (state c.args.tree.now) (state c.read_whole.new.tree) c.in-Err.cause c.refusal_of.result
-    (c.in-Some.name, c.in-Some.ensures.0 ∙ c.as_str.ensures, c.in-Some.ensures.1) c.in-Err.ensures.refused c.in-Err.ensures.wanting named
+    (c.in-Some.name, c.in-Some.ensures.0 ∙ c.as_str.ensures, c.in-Some.ensures.1) c.in-Err.ensures.refused c.in-Err.ensures.wanting (rw c.in-Ok.ensures at c.refusal_of.ensures)
 
 pub returns-in-Err-clause-refused : goal.returns-in-Err-clause-refused
 returns-in-Err-clause-refused g c = λ some.
-    elim (subst (λ path. IsRefusalOf c.in-Err.cause path c.refusal_of.result) c.in-Ok.ensures c.refusal_of.ensures) [
+    elim (rw c.in-Ok.ensures at c.refusal_of.ensures) [
       | inl (not, same, at) ↦ at
       | inr (is, m) ↦ absurd (some m.1)
     ]

@@ -1,6 +1,6 @@
-use Rattle.bag_facts.proofs.Common.{arith, ◌≢◌, [], map, subst, nothing_given, nothing_then, MayStopReading, read_path, ForListing, OpensUpTo}
+use Rattle.bag_facts.proofs.Common.{arith, map, nothing_given, nothing_then, read_path}
 use Rattle.bag_facts.proofs.Known.{known_honest, known_seen}
-use Rattle.bag_facts.proofs.Opens.{opened_wanted, opens_none, opens_wanted, opens_all_first, opens_later, opens_all_later, opens_up_to_later}
+use Rattle.bag_facts.proofs.Opens.{opened_wanted, opens_none, opens_wanted, opens_all_first, opens_later, opens_all_later}
 use Rattle.bag_facts.proofs.PassedOn.{passed_on, on_error}
 use Rattle.bag_facts.proofs.Reading.{facts_stop, listing_stop}
 use Rattle.bag_facts.proofs.Refusing.{facts_stop_of_memory}
@@ -14,32 +14,15 @@ returns-in-Err-clause-stop g c = grind (arith, listing_stop)
 
 pub returns-in_err-read-clause-opens : goal.returns-in_err-read-clause-opens
 returns-in_err-read-clause-opens g c =
-    let old = g.T.Tree.state c.args.tree.now in
-    let mid = g.T.Tree.state c.list.new.self in
-    let new = g.T.Tree.state c.read_tag_files.new.tree in
-    opens_wanted c.args.options c.as_slice.result.now old new (opens_later c.args.options c.as_slice.result.now old mid new c.list.ensures.openings c.in_err-read.ensures.opened_first)
+    opens_wanted c.args.options c.as_slice.result.now (g.T.Tree.state c.args.tree.now) (g.T.Tree.state c.read_tag_files.new.tree) (rw c.list.ensures.openings at c.in_err-read.ensures.opened_first)
 
 pub returns-in_err-read-clause-refused : goal.returns-in_err-read-clause-refused
 returns-in_err-read-clause-refused g c =
-    let old = g.T.Tree.state c.args.tree.now in
-    let mid = g.T.Tree.state c.list.new.self in
-    let new = g.T.Tree.state c.read_tag_files.new.tree in
-    passed_on c.from_residual.result c.in_err-read.field-0.0 (λ stop. stop.path ≢ [] → ForListing old (λ files. OpensUpTo c.args.options files stop.path old new)) c.from_residual.ensures.1
-    (λ named. (
-      c.in-Ok.listing,
-      c.in-Ok.ensures.ordered,
-      c.in-Ok.ensures.honest,
-      opens_up_to_later c.args.options c.in-Ok.listing.files c.in_err-read.field-0.0.path old mid new c.list.ensures.openings
-          (subst (λ files. OpensUpTo c.args.options files c.in_err-read.field-0.0.path mid new) c.as_slice.ensures (c.in_err-read.ensures.refused named)),
-    ))
+    passed_on c.from_residual.result _ _ c.from_residual.ensures.1
+    (λ named. (c.in-Ok.listing, c.in-Ok.ensures.ordered, c.in-Ok.ensures.honest, rw (c.list.ensures.openings, c.as_slice.ensures) at (c.in_err-read.ensures.refused named)))
 
 pub returns-in_err-read-clause-stop : goal.returns-in_err-read-clause-stop
-returns-in_err-read-clause-stop g c =
-    let old = g.T.Tree.state c.args.tree.now in
-    let mid = g.T.Tree.state c.list.new.self in
-    let new = g.T.Tree.state c.read_tag_files.new.tree in
-    passed_on c.from_residual.result c.in_err-read.field-0.0 (MayStopReading c.args.options old new) c.from_residual.ensures.1
-    (facts_stop c.args.options c.in-Ok.listing c.as_slice.result.now old mid new c.in_err-read.field-0.0 c.list.ensures.keeps (nothing_given old mid c.in-Ok.ensures.calm c.in-Ok.ensures.last) c.as_slice.ensures c.in-Ok.ensures.honest c.in_err-read.ensures.stop)
+returns-in_err-read-clause-stop g c = grind (arith, passed_on, facts_stop, nothing_given)
 
 pub returns-in-Ok-of-clause-opens : goal.returns-in-Ok-of-clause-opens
 returns-in-Ok-of-clause-opens g c =

@@ -1,5 +1,4 @@
-use Rattle.bag_facts.proofs.Common.{◌∷◌, ◌++◌, ℕ, List, sym, number, word, field, alg_field, line_field}
-use Rattle.std.specs.Prelude.{decimal}
+use Rattle.bag_facts.proofs.Common.{◌∷◌, ◌++◌, ℕ, List, sym, number, word, field, alg_field, line_field, decimal}
 use Rattle.bag_facts.specs.declared.fault.Fault.{Fault}
 use Rattle.bag_facts.proofs.Parts.{parts_of, has_parts}
 use Rattle.bag_facts.proofs.Spaces.{number_clean, word_clean, field_clean, alg_clean, line_clean}
