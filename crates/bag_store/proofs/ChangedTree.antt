@@ -1,10 +1,10 @@
 -- What a step makes of a tree of the files on a disk.
-use Rattle.bag_store.proofs.Common.{◌≡◌, ℕ, ◌+◌, ◌≤◌, true, false, cond, IsTrue, List, take, Some, None, is_some, inl, inr, ◌⊎◌, refl, ap, sym, ◌∙◌, arith, false≢true, get-insert, eq_by_cmp, nat_list_cmp_total, text_cmp, is_base_name, under, Bag, HasBegun, HasChanged, IsSame, Keeps, within_cases, DiskState, Nodes, Node, node, IsDisk, OnlyLooks, entry_count, is_plain, is_plain_node, Closes, MakesFolder, MovesAll, is_within, moved, nodes_move, IsMovedIn, IsRenamed, bag_of, state_after, count_after, Begins, Makes, failures_after, Refusal, all_plain, other_not_plain}
+use Rattle.bag_store.proofs.Common.{◌≡◌, ℕ, ◌+◌, ◌≤◌, true, IsTrue, List, take, Some, None, is_some, inl, inr, ◌⊎◌, ap, sym, ◌∙◌, arith, false≢true, get-insert, nat_list_cmp_total, is_base_name, Bag, HasBegun, HasChanged, IsSame, Keeps, DiskState, Nodes, Node, node, IsDisk, OnlyLooks, entry_count, is_plain, is_plain_node, Closes, MakesFolder, moved, nodes_move, IsMovedIn, IsRenamed, bag_of, state_after, count_after, Begins, Makes, failures_after, Refusal, all_plain, other_not_plain}
 use Rattle.std.specs.FinMap as map
 use Rattle.bag_tree.specs.declared.answer.Answer.{Answer}
 use Rattle.bag_tree.specs.Steps as step
 use Rattle.bag_store.proofs.EntryCounts.{as_many_moved, more_put}
-use Rattle.bag_store.proofs.BagSteps.{bag_moved_in, bag_renamed, file_made, folder_made, free_not_taken}
+use Rattle.bag_store.proofs.BagSteps.{came_from, bag_moved_in, bag_renamed, file_made, folder_made, free_not_taken}
 
 -- what stands there stood there before, or is a file or a folder
 abbrev NothingElse : Nodes → Nodes → Type 0
@@ -14,25 +14,11 @@ stays_plain : (old new : Nodes) → NothingElse old new → is_plain old ≡ tru
 stays_plain old new from plain = grind (arith, all_plain, false≢true, other_not_plain)
 
 nothing_else_put : (nodes : Nodes) (name : List ℕ) (n : Node) → is_plain_node n ≡ true → NothingElse nodes (map.insert nodes name n)
-nothing_else_put nodes name n good path m is = elim (eq_by_cmp text_cmp path name) as (λ b. cond b (Some n) (node nodes path) ≡ Some m → (is_plain_node m ≡ true) ⊎ ((q : List ℕ) × (node nodes q ≡ Some m))) [
-  | true ↦ λ same. let one : n ≡ m = cc in inl (ap is_plain_node (sym one) ∙ good)
-  | false ↦ λ there. inr (path, there)
-] (sym (get-insert nat_list_cmp_total nodes name n path) ∙ is)
+nothing_else_put nodes name n good path m is = grind (arith, get-insert nat_list_cmp_total nodes name n path)
 
 nothing_else_moved : (nodes : Nodes) (from to : List ℕ) → IsDisk nodes → node nodes to ≡ None → NothingElse nodes (moved from to nodes)
-nothing_else_moved nodes from to disk free path n is = elim (is_within to path) as (λ b. is_within to path ≡ b → (is_plain_node n ≡ true) ⊎ ((q : List ℕ) × (node nodes q ≡ Some n))) [
-  | true ↦ λ within. elim (within_cases to path within) [
-    | inl itself ↦ inr (from, sym all.arrived ∙ ap (node (moved from to nodes)) (sym itself) ∙ is)
-    | inr below ↦ inr (under from below.0, sym (all.arrived_below below.0) ∙ ap (node (moved from to nodes)) (sym below.1) ∙ is)
-  ]
-  | false ↦ λ outside. elim (is_within from path) as (λ b. is_within from path ≡ b → (is_plain_node n ≡ true) ⊎ ((q : List ℕ) × (node nodes q ≡ Some n))) [
-    | true ↦ λ within. absurd (false≢true (ap is_some (sym (all.left path within outside) ∙ is)))
-    | false ↦ λ off. inr (path, sym (all.others path off outside) ∙ is)
-  ] refl
-] refl
-  where
-    all : MovesAll nodes (moved from to nodes) from to
-    all = nodes_move nodes from to disk free
+nothing_else_moved nodes from to disk free path n is = came_from _ nodes (moved from to nodes) nodes (moved from to nodes) from to path (nodes_move nodes from to disk free) (nodes_move nodes from to disk free)
+    (λ q one _. inr (q, sym one ∙ is)) (λ none _. absurd (false≢true (ap is_some (sym none ∙ is))))
 
 -- a step on what stands there
 record Steps (change : Bag → Bag) (more : ℕ) (old new : Nodes) : Type 0 where
@@ -45,29 +31,29 @@ module _ (old new : DiskState) (own own_then given given_then : ℕ) (last last_
       → HasChanged change more (state_after old own given last) (state_after new own_then given_then last_then)
   changed change more closes grows steps = grind arith
 
-  pub folder_changed : (name : List ℕ) → IsDisk old.nodes → IsDisk new.nodes → is_base_name name ≡ true → old.failures + own ≤ new.failures + own_then → Closes old new → (IsTrue old.honest → MakesFolder old.nodes new.nodes name)
+  pub folder_changed : (name : List ℕ) → IsDisk old.nodes → IsDisk new.nodes → is_base_name name ≡ true → new.failures ≡ old.failures → own_then ≡ own → Closes old new → (IsTrue old.honest → MakesFolder old.nodes new.nodes name)
       → HasChanged (step.make_folder name) 1 (state_after old own given last) (state_after new own_then given_then last_then)
-  folder_changed name disk disk_then is grows closes makes = grind (arith, changed, folder_made, stays_plain, nothing_else_put, more_put)
+  folder_changed name disk disk_then is calm same closes makes = grind (arith, changed, folder_made, stays_plain, nothing_else_put, more_put)
 
   pub file_changed : (name bytes : List ℕ) → IsDisk old.nodes → IsDisk new.nodes → old.failures + own ≤ new.failures + own_then → Makes old new name bytes
       → HasChanged (step.create name bytes) 1 (state_after old own given last) (state_after new own_then given_then last_then)
   file_changed name bytes disk disk_then grows makes = grind (arith, changed, file_made, stays_plain, nothing_else_put, more_put)
 
-  pub moved_changed : (top folder : List ℕ) → IsDisk old.nodes → IsDisk new.nodes → is_base_name top ≡ true → old.failures + own ≤ new.failures + own_then → Closes old new → IsMovedIn old new top folder
+  pub moved_changed : (top folder : List ℕ) → IsDisk old.nodes → IsDisk new.nodes → is_base_name top ≡ true → new.failures ≡ old.failures → own_then ≡ own → Closes old new → IsMovedIn old new top folder
       → HasChanged (step.move_in top folder) 0 (state_after old own given last) (state_after new own_then given_then last_then)
-  moved_changed top folder disk disk_then is grows closes moves = grind (arith, changed, bag_moved_in, stays_plain, nothing_else_moved, as_many_moved)
+  moved_changed top folder disk disk_then is calm same closes moves = grind (arith, changed, bag_moved_in, stays_plain, nothing_else_moved, as_many_moved)
 
-  pub renamed_changed : (from to : List ℕ) → IsDisk old.nodes → IsDisk new.nodes → is_base_name from ≡ true → is_base_name to ≡ true → old.failures + own ≤ new.failures + own_then → Closes old new → IsRenamed old new from to
+  pub renamed_changed : (from to : List ℕ) → IsDisk old.nodes → IsDisk new.nodes → is_base_name from ≡ true → is_base_name to ≡ true → new.failures ≡ old.failures → own_then ≡ own → Closes old new → IsRenamed old new from to
       → HasChanged (step.rename_folder from to) 0 (state_after old own given last) (state_after new own_then given_then last_then)
-  renamed_changed from to disk disk_then from_is to_is grows closes moves = grind (arith, changed, bag_renamed, stays_plain, nothing_else_moved, as_many_moved)
+  renamed_changed from to disk disk_then from_is to_is calm same closes moves = grind (arith, changed, bag_renamed, stays_plain, nothing_else_moved, as_many_moved)
 
   -- a call that changes nothing that stands there keeps the tree
   pub tree_keeps : new.nodes ≡ old.nodes → new.honest ≡ old.honest → old.failures + own ≤ new.failures + own_then → Keeps (state_after old own given last) (state_after new own_then given_then last_then)
-  tree_keeps nodes honest grows = record { bag = ap bag_of nodes; plain = ap is_plain nodes; honest = honest; entries = ap entry_count nodes; failures = grows }
+  tree_keeps nodes honest grows = grind arith
 
   -- a refused step left all
   pub step_same : OnlyLooks old new → old.failures + own ≤ new.failures + own_then → given_then ≡ given → IsSame (state_after old own given last) (state_after new own_then given_then last_then)
-  step_same looks grows same = record { keeps = tree_keeps looks.nodes looks.honest grows; openings = looks.openings; rest = looks.rest; given = same }
+  step_same looks grows same = grind arith
 
   -- a refused step left all, or a file of some first bytes
   pub step_begun : (name bytes : List ℕ) → IsDisk old.nodes → IsDisk new.nodes → is_base_name name ≡ true → old.failures + own ≤ new.failures + own_then → given_then ≡ given → OnlyLooks old new ⊎ Begins old new name bytes

@@ -1,38 +1,19 @@
 -- Files are written piece by piece.
-use Rattle.bag_store.proofs.Common.{◌≡◌, ℕ, ◌+◌, ◌-◌, ◌≤◌, true, false, cond, IsTrue, List, [], ◌++◌, length, length-drop, take, take-add, take_all, drop, arith, Option, Some, None, is_some, append_assoc, append-nil, refl, ap, sym, subst, ◌∙◌, false≢true, take-length, slice_range, get-insert, same_map, eq_by_cmp, nat_list_cmp_total, text_cmp, exact_texts, one_text, text_itself, DiskState, Nodes, Node, node, OnlyLooks, bytes_of, File, Folder, Other, Appends, Closes, HasFile, MakesFile, with_file, HasWritten, HasWrittenSome, Makes, Begins}
+use Rattle.bag_store.proofs.Common.{◌≡◌, ℕ, ◌+◌, ◌-◌, ◌≤◌, true, IsTrue, List, [], ◌++◌, length, length-drop, take, take-add, take_all, drop, arith, Option, Some, is_some, append_assoc, append-nil, refl, ap, sym, ◌∙◌, false≢true, take-length, slice_range, get-insert, same_map, nat_list_cmp_total, exact_texts, one_text, text_itself, DiskState, Nodes, Node, node, OnlyLooks, bytes_of, File, Appends, Closes, HasFile, MakesFile, HasWritten, HasWrittenSome, Makes, Begins, file}
 use Rattle.std.specs.FinMap as map
 
 put_again : (nodes : Nodes) (path : List ℕ) (n m : Node) → map.insert (map.insert nodes path n) path m ≡ map.insert nodes path m
-put_again nodes path n m = same_map nat_list_cmp_total exact_texts _ _ (λ q.
-    get-insert nat_list_cmp_total (map.insert nodes path n) path m q
-    ∙ elim (eq_by_cmp text_cmp q path) as (λ b. eq_by_cmp text_cmp q path ≡ b → cond b (Some m) (map.get (map.insert nodes path n) q) ≡ cond b (Some m) (map.get nodes q)) [
-      | true ↦ λ _. refl
-      | false ↦ λ other. get-insert nat_list_cmp_total nodes path n q ∙ ap (λ b. cond b (Some n) (map.get nodes q)) other
-    ] refl
-    ∙ sym (get-insert nat_list_cmp_total nodes path m q))
+put_again nodes path n m = same_map nat_list_cmp_total exact_texts _ _ (λ q. grind (arith, get-insert {X = Node} nat_list_cmp_total))
 
 put_same : (nodes : Nodes) (path : List ℕ) (n : Node) → node nodes path ≡ Some n → map.insert nodes path n ≡ nodes
-put_same nodes path n is = same_map nat_list_cmp_total exact_texts _ _ (λ q.
-    get-insert nat_list_cmp_total nodes path n q
-    ∙ elim (eq_by_cmp text_cmp q path) as (λ b. eq_by_cmp text_cmp q path ≡ b → cond b (Some n) (map.get nodes q) ≡ map.get nodes q) [
-      | true ↦ λ same. sym is ∙ ap (map.get nodes) (sym (one_text q path same))
-      | false ↦ λ _. refl
-    ] refl)
+put_same nodes path n is = same_map nat_list_cmp_total exact_texts _ _ (λ q. grind (arith, get-insert {X = Node} nat_list_cmp_total, one_text))
 
 put_there : (nodes : Nodes) (path : List ℕ) (n : Node) → node (map.insert nodes path n) path ≡ Some n
-put_there nodes path n = get-insert nat_list_cmp_total nodes path n path ∙ ap (λ b. cond b (Some n) (node nodes path)) (text_itself path)
+put_there nodes path n = grind (arith, get-insert nat_list_cmp_total nodes path n path, text_itself)
 
-abbrev FileThere : Option Node → Type 0
-FileThere o = (content : List ℕ) × (o ≡ Some (File content))
-
-file_there : (o : Option Node) → is_some (bytes_of o) ≡ true → FileThere o
-file_there None has = absurd (false≢true has)
+file_there : (o : Option Node) → is_some (bytes_of o) ≡ true → (content : List ℕ) × (o ≡ Some (File content))
 file_there (Some (File content)) has = (content, refl)
-file_there (Some Folder) has = absurd (false≢true has)
-file_there (Some Other) has = absurd (false≢true has)
-
-same_content : (a b : List ℕ) → Some (File a) ≡ Some (File b) → a ≡ b
-same_content a b same = cc
+file_there _ has = absurd (false≢true has)
 
 -- what is left of the bytes
 pub rest_is : (bytes : List ℕ) (done : ℕ) → slice_range bytes done (length bytes) ≡ drop done bytes
@@ -50,16 +31,14 @@ nothing_written old written = record {
   honest = refl;
   openings = refl;
   rest = λ closed. closed;
-  nodes = λ _ path _ has.
-      let there = file_there (node old.nodes path) has in
-      record { content = there.0; was = there.1; appended = sym (ap (λ b. with_file old.nodes path b) (append-nil there.0) ∙ put_same old.nodes path (File there.0) there.1) };
+  nodes = λ _ path _ has. let there = file_there (node old.nodes path) has in record { content = there.0; was = there.1; appended = grind (arith, append-nil there.0, put_same old.nodes path (File there.0) there.1) };
 }
 
 appended_again : (old mid new : Nodes) (path first next all : List ℕ) → first ++ next ≡ all → Appends old mid path first → Appends mid new path next → Appends old new path all
-appended_again old mid new path first next all joined one other = grind (arith, same_content, put_there, put_again, append_assoc)
+appended_again old mid new path first next all joined one other = grind (arith, put_there, put_again, append_assoc)
 
 file_after : (old new : Nodes) (path bytes : List ℕ) → Appends old new path bytes → HasFile new path
-file_after old new path bytes appends = ap (λ o. is_some (bytes_of o)) (ap (λ m. node m path) appends.appended ∙ put_there old path (File (appends.content ++ bytes)))
+file_after old new path bytes appends = grind (arith, put_there)
 
 -- some more bytes were written
 pub written_more : (old mid new : DiskState) (written now : Option (List ℕ)) (first next all : List ℕ) → first ++ next ≡ all → now ≡ written → HasWritten old mid written first
@@ -69,10 +48,7 @@ written_more old mid new written now first next all joined same before more clos
   honest = closes.honest ∙ before.honest;
   openings = closes.openings ∙ before.openings;
   rest = λ _. closes.rest;
-  nodes = λ honest path is has.
-      let one = before.nodes honest path is has in
-      appended_again old.nodes mid.nodes new.nodes path first next all joined one
-      (more (before.honest ∙ honest) path (same ∙ is) (file_after old.nodes mid.nodes path first one));
+  nodes = λ honest path is has. grind (arith, before.nodes honest path is has, appended_again old.nodes mid.nodes new.nodes path first next all joined, file_after old.nodes mid.nodes path first);
 }
 
 pub written_same : (old mid new : DiskState) (written : Option (List ℕ)) (bytes : List ℕ) → HasWritten old mid written bytes → OnlyLooks mid new → HasWritten old new written bytes
@@ -85,28 +61,13 @@ written_synced old mid synced new written bytes before same closes looks = grind
 
 -- all bytes are some first ones
 pub all_written : (old new : DiskState) (written : Option (List ℕ)) (bytes : List ℕ) → HasWritten old new written bytes → HasWrittenSome old new written bytes
-all_written old new written bytes before = record { count = length bytes; first = subst (HasWritten old new written) (sym (take-length bytes)) before }
+all_written old new written bytes before = grind (arith, take-length bytes)
 
 -- a file was made, and these bytes were written to it
 pub made_of : (old mid new : DiskState) (written : Option (List ℕ)) (name bytes : List ℕ) → (IsTrue old.honest → MakesFile old.nodes mid.nodes name) → Closes old mid → (IsTrue old.honest → written ≡ Some name)
     → HasWritten mid new written bytes → Makes old new name bytes
-made_of old mid new written name bytes makes closes named filled = record {
-  closed = record {
-    honest = filled.honest ∙ closes.honest;
-    openings = filled.openings ∙ closes.openings;
-    rest = filled.rest closes.rest;
-  };
-  file = λ honest.
-      let file = makes honest in
-      let here : node mid.nodes name ≡ Some (File []) = ap (λ m. node m name) file.made ∙ put_there old.nodes name (File []) in
-      let appends = filled.nodes (closes.honest ∙ honest) name (named honest) (ap (λ o. is_some (bytes_of o)) here) in
-      let empty : appends.content ≡ [] = same_content appends.content [] (sym appends.was ∙ here) in
-      record {
-        free = file.free;
-        made = appends.appended ∙ ap (λ c. with_file mid.nodes name (c ++ bytes)) empty ∙ ap (λ m. with_file m name bytes) file.made ∙ put_again old.nodes name (File []) (File bytes);
-      };
-}
+made_of old mid new written name bytes makes closes named filled = record { closed = grind arith; file = λ honest. grind (arith, filled.nodes (closes.honest ∙ honest) name (named honest), makes honest, put_there, put_again) }
 
 pub begun_of : (old mid new : DiskState) (written : Option (List ℕ)) (name bytes : List ℕ) → (IsTrue old.honest → MakesFile old.nodes mid.nodes name) → Closes old mid → (IsTrue old.honest → written ≡ Some name)
     → HasWrittenSome mid new written bytes → Begins old new name bytes
-begun_of old mid new written name bytes makes closes named some = record { count = some.count; first = made_of old mid new written name (take some.count bytes) makes closes named some.first }
+begun_of old mid new written name bytes makes closes named some = grind (arith, made_of old mid new written name (take some.count bytes) makes closes named some.first)

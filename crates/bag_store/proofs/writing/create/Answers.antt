@@ -5,19 +5,13 @@ use Rattle.bag_store.proofs.writing.create.Goals as goal
 
 pub returns-in-Ok-clause-made : goal.returns-in-Ok-clause-made
 returns-in-Ok-clause-made g c =
-    let old = g.D.Disk.state c.args.disk.now in
-    let reached = base_reached old.nodes c.args.name.now c.requires in
-    on_ok_weaker c.fill.result
-    (made_of old (g.D.Disk.state c.create.new.self) (g.D.Disk.state c.fill.new.disk) (g.D.WritableDisk.written c.create.new.self) c.args.name.now c.args.bytes.now
-    (λ honest. c.in-Ok.ensures.made honest reached) c.in-Ok.ensures.closed c.in-Ok.ensures.begun_there) c.fill.ensures.whole
+    on_ok_weaker c.fill.result (made_of _ _ (g.D.Disk.state c.fill.new.disk) _ c.args.name.now c.args.bytes.now (λ honest. c.in-Ok.ensures.made honest (base_reached _ _ c.requires))
+    c.in-Ok.ensures.closed c.in-Ok.ensures.begun_there) c.fill.ensures.whole
 
 pub returns-in-Ok-clause-begun : goal.returns-in-Ok-clause-begun
 returns-in-Ok-clause-begun g c =
-    let old = g.D.Disk.state c.args.disk.now in
-    let reached = base_reached old.nodes c.args.name.now c.requires in
-    on_err_weaker c.fill.result
-    (λ some. inr (begun_of old (g.D.Disk.state c.create.new.self) (g.D.Disk.state c.fill.new.disk) (g.D.WritableDisk.written c.create.new.self) c.args.name.now c.args.bytes.now
-    (λ honest. c.in-Ok.ensures.made honest reached) c.in-Ok.ensures.closed c.in-Ok.ensures.begun_there some)) c.fill.ensures.part
+    on_err_weaker c.fill.result (λ some. inr (begun_of _ _ _ _ c.args.name.now c.args.bytes.now (λ honest. c.in-Ok.ensures.made honest (base_reached _ _ c.requires))
+    c.in-Ok.ensures.closed c.in-Ok.ensures.begun_there some)) c.fill.ensures.part
 
 pub returns-in-Ok-clause-failures : goal.returns-in-Ok-clause-failures
 returns-in-Ok-clause-failures g c = grind (arith, counted_since)
