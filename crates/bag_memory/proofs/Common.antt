@@ -1,10 +1,10 @@
 -- The names that this crate's proofs cite, passed on from one place. Declares nothing.
-pub use Rattle.std.proofs.Common.{All, Bool, Contains, Err, Fits, IsTrue, IsUtf8, List, None, Ok, OnErr, OnOk, Option, Result, Some, [], ap, append_assoc, arith, codes, cond, drop, false, get_or, inl, inr, is_lt, is_some, length, length-append, lit<, map, min, nat_lt, not, refl, slice_index, subst, suc, sym, take, true, w8, zero, ℕ, ⊎_elim, ◌&&◌, ◌++◌, ◌+◌, ◌-◌, ◌<◌, ◌==◌, ◌||◌, ◌∙◌, ◌∷◌, ◌≡◌, ◌≤◌, ◌⊎◌}
+pub use Rattle.std.proofs.Common.{All, Bool, Contains, Err, Fits, IsTrue, IsUtf8, List, None, Ok, OnErr, OnOk, Option, Result, Some, [], ap, append_assoc, arith, codes, cond, drop, false, get_or, is_some, length, lit<, map, min, nat_lt, not, refl, slice_index, subst, suc, sym, take, true, w8, zero, ℕ, ◌&&◌, ◌++◌, ◌+◌, ◌<◌, ◌∙◌, ◌∷◌, ◌≡◌, ◌≤◌, ◌⊎◌}
 pub use Rattle.std.proofs.Math.Dec.{T}
-pub use Rattle.std.proofs.lemmas.Bool.{and_from, and_parts, cases_lt, eqb-true, false≢true, lt-ltb, ltb-true, or_left, or_right}
+pub use Rattle.std.proofs.lemmas.Bool.{and_from, and_parts, eqb-true, false≢true, lt-ltb, or_left, or_right}
 pub use Rattle.std.proofs.lemmas.List.Elements.{All-cons, All-contains, All-from_get_or, All-head, All-nil, All-tail}
-pub use Rattle.std.proofs.lemmas.List.Sums.{fails_before_first, passes_at_first, split_at_first}
-pub use Rattle.std.proofs.lemmas.Str.{IsCharBoundary-after_ascii, IsUtf8-append, IsUtf8-drop, IsUtf8-from_ascii, IsUtf8-from_is_utf8, is_utf8-from_IsUtf8}
+pub use Rattle.std.proofs.lemmas.List.Sums.{passes_at_first, split_at_first}
+pub use Rattle.std.proofs.lemmas.Str.{IsUtf8-append, IsUtf8-from_ascii, IsUtf8-from_is_utf8, is_utf8-from_IsUtf8}
 pub use Rattle.std.specs.BTreeMap.{is_at}
 pub use Rattle.std.specs.Cmp.{eq_by_cmp_equiv}
 pub use Rattle.std.specs.Cmp.Lexicographic.{nat_list_cmp_total}
@@ -14,8 +14,8 @@ pub use Rattle.std.specs.FinSet.{contains-empty, contains-from_list, contains-in
 pub use Rattle.std.specs.List.{AllByRecursion, after_first, list_all, list_any, position_or_len}
 pub use Rattle.std.specs.Map.{lookup}
 pub use Rattle.std.specs.Option.{option_copied, option_map}
-pub use Rattle.std.specs.Ordering.{eq_by_cmp, is_eq, ordering_reverse}
-pub use Rattle.std.specs.declared.cmp.Ordering.TheVariants.{Equal, Greater, Less}
+pub use Rattle.std.specs.Ordering.{eq_by_cmp}
+pub use Rattle.std.specs.declared.cmp.Ordering.TheVariants.{Less}
 pub use Rattle.bag_text.specs.Path.{components, first_component, is_base_name, is_component, is_path, is_payload_path, slash, under}
 pub use Rattle.bag_text.specs.Text.{text_cmp}
 pub use Rattle.bag_tree.proofs.SameText.{exact_texts, one_text, same_test, text_itself}

@@ -1,5 +1,5 @@
 -- A listing of files in memory.
-use Rattle.bag_memory.proofs.Common.{arith, ◌≡◌, ℕ, ◌&&◌, List, [], ◌∷◌, ◌++◌, length, codes, get_or, nat_lt, Contains, Bool, true, false, cond, ◌||◌, Option, Some, is_some, IsTrue, All, refl, ap, sym, ◌∙◌, subst, map, option_map, list_any, position_or_len, after_first, lookup, is_at, get, find, from_entries, get-from_entries, eq_by_cmp_equiv, nat_list_cmp_total, eq_by_cmp, and_parts, All-nil, All-cons, All-contains, passes_at_first, split_at_first, text_cmp, slash, components, first_component, is_path, is_payload_path, under, has_file, has_folder, IsOrdered, HasItsFolder, size_at, listed, bag_of, PassesAsBag, exact_texts, one_text, same_test, text_itself}
+use Rattle.bag_memory.proofs.Common.{arith, ◌≡◌, ℕ, ◌&&◌, List, [], ◌∷◌, length, codes, nat_lt, Contains, true, cond, is_some, IsTrue, All, refl, ap, sym, ◌∙◌, subst, map, option_map, list_any, after_first, lookup, is_at, get, find, from_entries, get-from_entries, eq_by_cmp_equiv, nat_list_cmp_total, eq_by_cmp, and_parts, All-nil, All-cons, All-contains, passes_at_first, split_at_first, text_cmp, components, first_component, is_path, is_payload_path, under, has_file, has_folder, IsOrdered, HasItsFolder, size_at, listed, bag_of, PassesAsBag, exact_texts, one_text, same_test, text_itself, contains-from_list, contains-insert, same_set}
 use Rattle.std.proofs.Common.{eqb-true}
 use Rattle.std.specs.List.Sorted.{IsStrictlySortedBy}
 use Rattle.std.specs.Str.{bytes_eq}
@@ -11,7 +11,7 @@ use Rattle.bag_memory.proofs.MemoryFiles.{file_at}
 
 paths_listed : (es : List (List ℕ × List ℕ)) → map (λ entry. entry.path) (listed es) ≡ map (λ e. e.0) es
 paths_listed [] = refl
-paths_listed (e ∷ es) = ap (λ paths. e.0 ∷ paths) (paths_listed es)
+paths_listed (e ∷ es) = grind (arith, paths_listed es)
 
 pub listed_ascending : (es : List (List ℕ × List ℕ)) → IsStrictlySortedBy text_cmp (map (λ e. e.0) es) → IsStrictlySortedBy text_cmp (map (λ entry. entry.path) (listed es))
 listed_ascending es ascending = subst (IsStrictlySortedBy text_cmp) (sym (paths_listed es)) ascending
@@ -19,28 +19,20 @@ listed_ascending es ascending = subst (IsStrictlySortedBy text_cmp) (sym (paths_
 -- what is true of each path with a file is true of each listed path
 listed_paths : (P : List ℕ → Type 0) (es : List (List ℕ × List ℕ)) → ((path : List ℕ) → is_some (find text_cmp path es) ≡ true → P path) → All (λ entry. P entry.path) (listed es)
 listed_paths P [] is = All-nil (λ (entry : FileEntry). P entry.path)
-listed_paths P (e ∷ es) is = All-cons (λ (entry : FileEntry). P entry.path) (record { path = e.0; size = length e.1 }) (listed es)
-    (is e.0 (ap (λ b. is_some (cond b (Some e.1) (find text_cmp e.0 es))) (text_itself e.0)))
-    (listed_paths P es (λ path has. is path (kept (eq_by_cmp text_cmp path e.0) e.1 (find text_cmp path es) has)))
-  where
-    kept : (b : Bool) (x : List ℕ) (o : Option (List ℕ)) → is_some o ≡ true → is_some (cond b (Some x) o) ≡ true
-    kept true x o has = refl
-    kept false x o has = has
+listed_paths P (e ∷ es) is = All-cons (λ (entry : FileEntry). P entry.path) (record { path = e.0; size = length e.1 }) (listed es) (grind (arith, text_itself)) (listed_paths P es (λ path has. grind arith))
 
 pub listed_is_ordered : (es : List (List ℕ × List ℕ)) (names : List (List ℕ)) → IsStrictlySortedBy text_cmp (map (λ e. e.0) es) → PassesAsBag (bag_of es names) → IsOrdered (listed es)
 listed_is_ordered es names ascending passes = record {
   ascending = listed_ascending es ascending;
-  paths = listed_paths (λ path. IsTrue (is_path path)) es (λ path has. (and_parts _ _ (passes.paths path (ap is_some (get-from_entries nat_list_cmp_total es path) ∙ has))).0);
+  paths = listed_paths (λ path. IsTrue (is_path path)) es (λ path has. grind (arith, passes.paths path, and_parts, get-from_entries nat_list_cmp_total es path));
 }
 
 -- a payload file stands in the payload folder
 payload_under : (path : List ℕ) → is_payload_path path ≡ true → path ≡ under (codes "data") (after_first is_slash path)
 payload_under path is =
     let parts = and_parts (is_path path && bytes_eq (first_component path) (codes "data")) (nat_lt 1 (length (components path))) is in
-    let first : codes "data" ≡ first_component path = one_text (codes "data") (first_component path) (sym (same_test (first_component path) (codes "data")) ∙ (and_parts (is_path path) _ parts.0).1) in
     let place = slash_within path parts.1 in
-    let mark : get_or path (position_or_len is_slash path) 0 ≡ slash = eqb-true _ _ (passes_at_first is_slash path 0 place) in
-    split_at_first is_slash path 0 place ∙ ap (λ c. first_component path ++ c ∷ after_first is_slash path) mark ∙ ap (λ top. under top (after_first is_slash path)) (sym first)
+    grind (arith, and_parts, one_text (codes "data") (first_component path), same_test (first_component path) (codes "data"), split_at_first is_slash path 0 place, eqb-true, passes_at_first is_slash path 0 place)
 
 -- where a payload file is listed its folder is there
 pub listed_has_folder : (es : List (List ℕ × List ℕ)) (names : List (List ℕ)) (listing : Listing) → PassesAsBag (bag_of es names) → listing.files ≡ listed es → listing.has_data ≡ has_folder (bag_of es names) (codes "data") → HasItsFolder listing
@@ -60,20 +52,13 @@ listed_files es q = listed_size es q ∙ ap (option_map length) (sym (file_at es
 
 any_same : (names : List (List ℕ)) (q : List ℕ) → list_any (λ name. bytes_eq name q) names ≡ list_any (eq_by_cmp text_cmp q) names
 any_same [] q = refl
-any_same (name ∷ names) q = ap (λ b. b || list_any (λ x. bytes_eq x q) names) (same_test name q) ∙ ap (λ b. is_at (text_cmp q) name || b) (any_same names q)
+any_same (name ∷ names) q = grind (arith, same_test, any_same names q)
 
 -- whether a folder is there
 pub folder_listed : (names : List (List ℕ)) (q : List ℕ) → list_any (λ name. bytes_eq name q) names ≡ set.contains (set.from_list {R = text_cmp} names) q
 folder_listed names q = any_same names q ∙ sym (set.contains-from_list nat_list_cmp_total names q)
 
-cond_or : (b c : Bool) → cond b true c ≡ (b || c)
-cond_or true c = refl
-cond_or false c = refl
-
 -- names that differ by one make sets that differ by it
 pub one_folder : (es fs : List (List ℕ)) (k : List ℕ) → ((q : List ℕ) → list_any (eq_by_cmp text_cmp q) fs ≡ cond (is_at (text_cmp k) q) true (list_any (eq_by_cmp text_cmp q) es))
     → set.from_list {R = text_cmp} fs ≡ set.insert (set.from_list es) k
-one_folder es fs k h = set.same_set nat_list_cmp_total exact_texts _ _ (λ q.
-    set.contains-from_list nat_list_cmp_total fs q ∙ h q ∙ cond_or (is_at (text_cmp k) q) (list_any (eq_by_cmp text_cmp q) es)
-    ∙ ap (λ b. b || list_any (eq_by_cmp text_cmp q) es) ((eq_by_cmp_equiv nat_list_cmp_total).symm k q)
-    ∙ sym (set.contains-insert nat_list_cmp_total (set.from_list es) k q ∙ ap (λ b. eq_by_cmp text_cmp q k || b) (set.contains-from_list nat_list_cmp_total es q)))
+one_folder es fs k h = set.same_set nat_list_cmp_total exact_texts _ _ (λ q. grind (arith, set.contains-from_list nat_list_cmp_total, h q, (eq_by_cmp_equiv nat_list_cmp_total).symm, set.contains-insert nat_list_cmp_total))

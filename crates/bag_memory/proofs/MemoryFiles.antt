@@ -1,10 +1,10 @@
 -- What files and folders in memory stand for.
-use Rattle.bag_memory.proofs.Common.{◌≡◌, ℕ, List, [], ◌∷◌, true, false, cond, Option, None, Some, is_some, length, take, drop, min, ◌+◌, ◌<◌, arith, refl, ap, sym, ◌∙◌, find, get, insert, from_entries, get-from_entries, get-insert, same_map, nat_list_cmp_total, eq_by_cmp_equiv, lookup, is_at, text_cmp, rest_of, bag_of, ReadsNext, exact_texts}
+use Rattle.bag_memory.proofs.Common.{◌≡◌, ℕ, List, [], ◌∷◌, true, false, cond, Option, None, Some, is_some, length, take, drop, min, ◌+◌, ◌<◌, arith, refl, ◌∙◌, find, get, insert, from_entries, get-from_entries, get-insert, same_map, nat_list_cmp_total, eq_by_cmp_equiv, lookup, is_at, text_cmp, rest_of, bag_of, ReadsNext, exact_texts}
 use Rattle.std.proofs.lemmas.Grind.{common_steps}
 
 find_lookup : (es : List (List ℕ × List ℕ)) (q : List ℕ) → find text_cmp q es ≡ lookup (is_at (text_cmp q)) es
 find_lookup [] q = refl
-find_lookup (e ∷ es) q = ap (cond (is_at (text_cmp q) e.0) (Some e.1)) (find_lookup es q)
+find_lookup (e ∷ es) q = grind (arith, find_lookup es q)
 
 -- the bytes at a path
 pub file_at : (es : List (List ℕ × List ℕ)) (q : List ℕ) → get (from_entries {R = text_cmp} es) q ≡ lookup (is_at (text_cmp q)) es
@@ -19,13 +19,10 @@ rest_at files folders file path content at is place = grind (arith, file_at)
 pub one_put : (es fs : List (List ℕ × List ℕ)) (k v : List ℕ)
     → ((q : List ℕ) → lookup (is_at (text_cmp q)) fs ≡ cond (is_at (text_cmp k) q) (Some v) (lookup (is_at (text_cmp q)) es))
     → from_entries {R = text_cmp} fs ≡ insert (from_entries es) k v
-one_put es fs k v h = same_map nat_list_cmp_total exact_texts _ _ (λ q.
-    file_at fs q ∙ h q ∙ ap (λ b. cond b (Some v) (lookup (is_at (text_cmp q)) es)) ((eq_by_cmp_equiv nat_list_cmp_total).symm k q)
-    ∙ sym (get-insert nat_list_cmp_total (from_entries es) k v q ∙ ap (cond (is_at (text_cmp q) k) (Some v)) (file_at es q)))
+one_put es fs k v h = same_map nat_list_cmp_total exact_texts _ _ (λ q. grind (arith, file_at, h q, (eq_by_cmp_equiv nat_list_cmp_total).symm, get-insert {X = List ℕ} nat_list_cmp_total))
 
 pub none_from : {A : Type 0} (o : Option A) → is_some o ≡ false → o ≡ None
-none_from None e = refl
-none_from (Some x) e = cc
+none_from o e = grind arith
 
 pub some_from : {A : Type 0} (o : Option A) → is_some o ≡ true → (x : A) × (o ≡ Some x)
 some_from None e = cc

@@ -1,15 +1,15 @@
 -- Files in memory, in the order of their paths.
-use Rattle.bag_memory.proofs.Common.{◌≡◌, ℕ, ◌∷◌, [], List, true, refl, ap, sym, ◌∙◌, subst, map, is_lt, is_sorted, entries, entries_sorted, get-entries, get-from_entries, below_all, same_entries, AllByRecursion, Less, nat_list_cmp_total, T, and_from, text_cmp, file_map, exact_texts}
+use Rattle.bag_memory.proofs.Common.{◌≡◌, ℕ, ◌∷◌, [], List, true, refl, sym, ◌∙◌, subst, map, is_sorted, entries, entries_sorted, get-entries, get-from_entries, below_all, same_entries, AllByRecursion, Less, nat_list_cmp_total, T, and_from, text_cmp, file_map, exact_texts, arith}
 use Rattle.std.specs.List.Sorted.{IsStrictlySortedBy}
 
 below : (path : List ℕ) (es : List (List ℕ × List ℕ)) → AllByRecursion (λ y. text_cmp path y ≡ Less) (map (λ e. e.0) es) → below_all text_cmp path es ≡ true
 below path [] h = refl
-below path (e ∷ es) h = and_from _ _ (ap is_lt h.0) (below path es h.1)
+below path (e ∷ es) h = grind (arith, and_from, below path es)
 
 ascending : (es : List (List ℕ × List ℕ)) → IsStrictlySortedBy text_cmp (map (λ e. e.0) es) → is_sorted text_cmp es ≡ true
 unfolding IsStrictlySortedBy
 ascending [] s = refl
-ascending (e ∷ es) s = and_from _ _ (below e.0 es s.0) (ascending es s.1)
+ascending (e ∷ es) s = grind (arith, and_from, below, ascending es)
 
 -- the entries of files in memory are the files, in path order
 pub files_are : (es : List (List ℕ × List ℕ)) → IsStrictlySortedBy text_cmp (map (λ e. e.0) es) → entries (file_map es) ≡ es

@@ -1,20 +1,17 @@
 -- What the tree below leaves of a call that isn't refused.
-use Rattle.bag_memory.proofs.Common.{◌≡◌, ◌⊎◌, inl, inr, ℕ, List, zero, suc, false, Result, Ok, Err, OnErr, refl, arith, TreeState, HasBegun, IsSame, after_call, failing, is_kth, next_due, refused_calls, Never, After, Past}
+use Rattle.bag_memory.proofs.Common.{◌≡◌, ◌⊎◌, ℕ, List, zero, false, Result, Ok, Err, OnErr, refl, arith, TreeState, HasBegun, IsSame, after_call, failing, is_kth, next_due, refused_calls, After}
 use Rattle.bag_tree.specs.declared.tree_fault.TreeFault.{TreeFault}
 use Rattle.bag_memory.specs.declared.calls.Calls.{Calls}
 use Rattle.bag_memory.specs.declared.calls.Due.{Due}
 
 none_more : (due : Due) → is_kth due ≡ false → refused_calls (next_due due) ≡ refused_calls due
-none_more Never e = refl
 none_more (After zero) e = cc
-none_more (After (suc left)) e = refl
-none_more Past e = refl
+none_more _ e = refl
 
 left_above : (name bytes : List ℕ) (old new : TreeState) (calls : Calls) → is_kth calls.due ≡ false
     → IsSame old new ⊎ HasBegun name bytes old new
     → IsSame (failing old calls) (failing new (after_call calls)) ⊎ HasBegun name bytes (failing old calls) (failing new (after_call calls))
-left_above name bytes old new calls passes (inl same) = grind (arith, none_more)
-left_above name bytes old new calls passes (inr begun) = grind (arith, none_more)
+left_above name bytes old new calls passes left = grind (arith, none_more)
 
 -- what a refused `create` left below
 pub begun_above : (name bytes : List ℕ) (old new : TreeState) (calls : Calls) (answer : Result (Unit {0}) TreeFault) → is_kth calls.due ≡ false
