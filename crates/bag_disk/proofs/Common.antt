@@ -1,5 +1,5 @@
 -- The names that this crate's proofs cite, passed on from one place. Declares nothing.
-pub use Rattle.std.proofs.Common.{All, Any, Bool, Contains, Err, IfErr, IfOk, IsTrue, IsUtf8, List, MatchOption, MutBor, None, Ok, OnOk, Option, Result, Some, [], add-one, ap, append_assoc, arith, codes, cond, drop, eq-eqb, eqb-true, false, filter, get_or, inl, inr, is_lt, is_some, length, length-append, map, not, refl, rules, subst, suc, sym, take, take-append-drop, true, vec_len, zero, ℕ, ⊎_elim, ◌&&◌, ◌++◌, ◌+◌, ◌-◌, ◌<◌, ◌==◌, ◌↔◌, ◌∙◌, ◌∷◌, ◌≡◌, ◌≢◌, ◌≤◌, ◌⊎◌}
+pub use Rattle.std.proofs.Common.{All, Any, Bool, Contains, Err, IfErr, IsTrue, IsUtf8, List, MatchOption, None, OnOk, Option, Result, Some, [], ap, append_assoc, arith, codes, cond, drop, eq-eqb, eqb-true, false, filter, get_or, inl, inr, is_lt, is_some, length, length-append, map, not, refl, rules, subst, sym, take, take-append-drop, true, vec_len, ℕ, ⊎_elim, ◌++◌, ◌+◌, ◌<◌, ◌==◌, ◌↔◌, ◌∙◌, ◌∷◌, ◌≡◌, ◌≢◌, ◌≤◌, ◌⊎◌}
 pub use Rattle.std.proofs.Math.Seq.{get_or-append_seam, take-append_seam}
 pub use Rattle.std.proofs.lemmas.Bool.{and_from, and_parts, cases_lt, false≢true, ltb-true}
 pub use Rattle.std.proofs.lemmas.List.{get_or-map, length-map, length-take}
@@ -13,34 +13,15 @@ pub use Rattle.std.specs.List.Sorted.{IsPermutation, IsSortedByKey, IsStrictlySo
 pub use Rattle.std.specs.Option.{option_map}
 pub use Rattle.std.specs.Ordering.{eq_by_cmp, is_eq, ordering_reverse}
 pub use Rattle.std.specs.Prelude.{nat_eq}
-pub use Rattle.std.specs.declared.cmp.Ordering.TheVariants.{Equal, Greater, Less}
+pub use Rattle.std.specs.declared.cmp.Ordering.TheVariants.{Less}
 pub use Rattle.bag_text.specs.Path.{components, is_path, slash, under}
 pub use Rattle.bag_text.specs.Text.{text_cmp}
 pub use Rattle.bag_tree.proofs.PathEntries.{none_below, t_true}
 pub use Rattle.bag_tree.proofs.SameText.{exact_texts, one_text, same_test, text_itself}
 pub use Rattle.bag_tree.specs.declared.listing.FileEntry.{FileEntry}
-pub use base.Logic.{SProp, emp, ent, fst∗, id⊢, sep, via}
-pub use contract.Monad.{Fun}
-pub use contract.Running.{tables}
-pub use denote.Steps.{closes, nothing, opens}
-pub use denote.Triple.Entry.{on_entry}
-pub use denote.Triple.Spec.{Meets, triple_of}
-pub use denote.Triple.Table.{entered}
-pub use denote.Triple.Walked.{AllGo, Goes-ref, Stays, Walks, ends_at, says, stay_ref, walk_Meets, walk_of, walked}
-pub use mir.Val.{Val, vcons, vnil, vptr, vstruct, vunit}
-pub use prog.Memory.{Memory}
-pub use prog.Routine.{Routine}
-pub use prog.Wp.{Calls, Loops, Tables, WpFn}
-pub use seplogic.Ra.Ura.{Ura}
-pub use sound.WpLaws.{WpFn-mono}
-pub use types.ByLocal.{alloc_all, free_all, get, look_at, pass_all, sets}
-pub use types.Kit.{ !, by, done, feq_i, fjoin, fjoin3, frame, fsplit, fsplit3, join, keep, move, qed, raw, split, suffices, use1, ‵, ◌$◌, ◌∵◌, ◌⊛◌}
-pub use types.Logic.{Logic}
-pub use types.Run.{and_then, enter, no_more, of_opd, returns, unit_lit}
 pub use Rattle.bag_disk.specs.BagBelow.{file_of_disk, folder_of_disk}
-pub use Rattle.bag_disk.specs.Disk.{AreNamesIn, DiskState, Has, HasSpecial, HasUnnamed, HasUnnamedPath, IsDisk, IsFileWith, IsFolder, IsName, IsReached, IsReachedTo, Node, Nodes, OnlyLooks, bytes_of, entry_count, entry_of, files_and_folders, is_folder_node, is_plain, is_plain_found, is_plain_node, node}
+pub use Rattle.bag_disk.specs.Disk.{AreNamesIn, DiskState, Has, HasSpecial, HasUnnamed, HasUnnamedPath, IsDisk, IsFolder, IsName, IsReached, IsReachedTo, Node, Nodes, OnlyLooks, bytes_of, entry_count, entry_of, files_and_folders, is_folder_node, is_plain, is_plain_found, is_plain_node, node}
 pub use Rattle.bag_disk.specs.Disk.Node.{File, Folder, Other}
 pub use Rattle.bag_disk.specs.FolderWalk.{AllArePaths, AllStand, AreFolders, AreThere, IsAtOrBelow, IsBelow, IsFileOf, IsFolderPath, Listing, Walked, files_with, folders_with, paths_of}
 pub use Rattle.bag_disk.specs.Location.{location_below, path_in}
 pub use Rattle.bag_disk.specs.declared.disk.Entry.{Entry}
-pub use Rattle.bag_disk.specs.declared.failures.Failures.{Failures}

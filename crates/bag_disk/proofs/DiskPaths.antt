@@ -1,5 +1,5 @@
 -- The folders on the way to a path of a disk.
-use Rattle.bag_disk.proofs.Common.{◌≡◌, ◌≢◌, ℕ, ◌+◌, ◌<◌, List, ◌∷◌, ◌++◌, length, get_or, take, drop, Some, None, ap, sym, ◌∙◌, subst, false, ⊎_elim, arith, append_assoc, take-append-drop, length-append, slice_range, cases_lt, false≢true, length-take, take-append_seam, get_or-append_seam, slash, under, is_path, Nodes, node, IsDisk, IsReached, IsReachedTo, Folder}
+use Rattle.bag_disk.proofs.Common.{◌≡◌, ◌≢◌, ℕ, ◌+◌, ◌<◌, List, ◌∷◌, ◌++◌, length, get_or, take, drop, Some, None, ap, ◌∙◌, false, ⊎_elim, arith, append_assoc, take-append-drop, length-append, slice_range, cases_lt, false≢true, length-take, take-append_seam, get_or-append_seam, slash, under, is_path, Nodes, node, IsDisk, IsReached, IsReachedTo, Folder}
 use Rattle.std.proofs.lemmas.Grind.{common_steps}
 
 -- a path at one of its slashes
@@ -18,8 +18,7 @@ length_under folder rest = omega (arith, length-append folder (slash ∷ rest))
 -- what leads to a folder on the way is on the way
 pub reached_on_way : (nodes : Nodes) (path folder : List ℕ) (end : ℕ) → end < length path → get_or path end 0 ≡ slash → folder ≡ take end path → IsReachedTo nodes path end → IsReached nodes folder
 reached_on_way nodes path folder end within is same reached f rest e =
-    reached f (rest ++ slash ∷ drop (end + 1) path) (at_slash path folder end within is same ∙ ap (λ t. under t (drop (end + 1) path)) e ∙ append_assoc f (slash ∷ rest) (slash ∷ drop (end + 1) path))
-    (omega (arith, length_under f rest, ap length e, ap length same, length-take end path))
+    reached f (rest ++ slash ∷ drop (end + 1) path) (grind (arith, at_slash path folder end within is same, append_assoc f (slash ∷ rest) (slash ∷ drop (end + 1) path))) (omega (arith, length_under f rest, ap length e, ap length same, length-take end path))
 
 pub more_reached : (nodes : Nodes) (path folder : List ℕ) (end : ℕ) → folder ≡ take end path → node nodes folder ≡ Some Folder → IsReachedTo nodes path end → IsReachedTo nodes path (end + 1)
 more_reached nodes path folder end same is reached f rest e below = grind (arith, take_under f rest, cases_lt (length f) end, ⊎_elim)
@@ -40,22 +39,18 @@ prefix_is t end = grind (arith, common_steps)
 
 -- the folder before a slash is reached
 pub slash_reached : (nodes : Nodes) (path items folder : List ℕ) (end : ℕ) → items ≡ path → folder ≡ slice_range path 0 end → end < length items → get_or items end 0 ≡ slash → IsReachedTo nodes path end → IsReached nodes folder
-slash_reached nodes path items folder end items_are cut within is reached =
-    reached_on_way nodes path folder end (subst (λ t. end < length t) items_are within) (ap (λ t. get_or t end 0) (sym items_are) ∙ is) (cut ∙ prefix_is path end) reached
+slash_reached nodes path items folder end items_are cut within is reached = reached_on_way nodes path folder end (rw items_are at within) (rw items_are at is) (cut ∙ prefix_is path end) reached
 
 -- a slash was passed, and its folder is one
 pub slash_passed : (nodes : Nodes) (path items folder : List ℕ) (end : ℕ) → items ≡ path → folder ≡ slice_range path 0 end → end < length items → get_or items end 0 ≡ slash
     → IsReachedTo nodes path end → (IsReached nodes folder → node nodes folder ≡ Some Folder) → IsReachedTo nodes path (end + 1)
-slash_passed nodes path items folder end items_are cut within is reached found =
-    more_reached nodes path folder end (cut ∙ prefix_is path end) (found (slash_reached nodes path items folder end items_are cut within is reached)) reached
+slash_passed nodes path items folder end items_are cut within is reached found = grind (arith, more_reached nodes path folder end, prefix_is path end, slash_reached nodes path items folder end items_are cut within is reached)
 
 pub other_passed : (nodes : Nodes) (path items : List ℕ) (end : ℕ) → items ≡ path → get_or items end 0 ≢ slash → IsReachedTo nodes path end → IsReachedTo nodes path (end + 1)
-other_passed nodes path items end items_are other reached = none_to_reach nodes path end (λ is. other (ap (λ t. get_or t end 0) items_are ∙ is)) reached
+other_passed nodes path items end items_are other reached = grind (arith, none_to_reach)
 
 -- a slash was met below what is no folder
 pub slash_refused : (nodes : Nodes) (path items folder : List ℕ) (end : ℕ) → IsDisk nodes → items ≡ path → folder ≡ slice_range path 0 end → end < length items → get_or items end 0 ≡ slash
     → (node nodes folder ≡ Some Folder → ⊥) → node nodes path ≡ None
 slash_refused nodes path items folder end disk items_are cut within is none =
-    let inside = subst (λ t. end < length t) items_are within in
-    let here = ap (λ t. get_or t end 0) (sym items_are) ∙ is in
-    none_below_no_folder nodes path folder (drop (end + 1) path) disk (at_slash path folder end inside here (cut ∙ prefix_is path end)) none
+    none_below_no_folder nodes path folder (drop (end + 1) path) disk (at_slash path folder end (rw items_are at within) (rw items_are at is) (cut ∙ prefix_is path end)) none

@@ -1,5 +1,6 @@
 -- The steps of a walk over the folders of a disk.
-use Rattle.bag_disk.proofs.Common.{arith, ◌≡◌, ◌≢◌, ℕ, ◌==◌, true, false, List, [], ◌∷◌, ◌++◌, length, Option, Some, None, is_some, map, refl, ap, sym, ◌∙◌, subst, IsTrue, MatchOption, Result, Ok, Err, OnOk, ◌⊎◌, inl, inr, eqb-true, eq-eqb, append_assoc, Contains, false≢true, option_map, All-nil, All-cons, Contains-push, Contains-push_cases, Contains-append_left, Contains-append_right, slash, under, path_in, DiskState, OnlyLooks, Nodes, Node, node, Has, IsReached, IsFolder, IsDisk, IsName, AreNamesIn, entry_of, is_plain_found, File, Folder, Other, Walked, Listing, AllStand, IsBelow, IsAtOrBelow, IsFileOf, paths_of, files_with, folders_with, Entry, FileEntry}
+use Rattle.std.proofs.lemmas.Grind.{common_steps}
+use Rattle.bag_disk.proofs.Common.{arith, ◌≡◌, ◌≢◌, ℕ, ◌==◌, true, false, List, [], ◌∷◌, ◌++◌, length, Option, Some, None, is_some, map, refl, ap, sym, ◌∙◌, subst, IsTrue, MatchOption, Result, OnOk, ◌⊎◌, inl, inr, eqb-true, eq-eqb, append_assoc, Contains, option_map, All-nil, All-cons, Contains-push, Contains-push_cases, Contains-append_left, Contains-append_right, slash, under, path_in, DiskState, OnlyLooks, Nodes, Node, node, Has, IsReached, IsFolder, IsDisk, IsName, AreNamesIn, entry_of, is_plain_found, File, Folder, Other, Walked, Listing, AllStand, IsBelow, IsAtOrBelow, IsFileOf, paths_of, files_with, folders_with, Entry, FileEntry, get_or-map, length-map, not}
 use Rattle.bag_disk.specs.declared.disk.Entry.TheVariants as entry
 
 pub contains_none : {X : Type 0} (x : X) → Contains [] x → ⊥
@@ -10,21 +11,17 @@ pub contains_cases : {X : Type 0} (x : X) (xs : List X) (y : X) → Contains (x 
 contains_cases x xs y h = grind (arith, contains_none)
 
 pub contains_first : {X : Type 0} (x : X) (xs : List X) → Contains (x ∷ xs) x
-contains_first x xs = Contains-append_left (x ∷ []) xs x (Contains-push [] x)
+contains_first x xs = grind arith
 
 pub contains_map : {X Y : Type 0} (f : X → Y) (xs : List X) (x : X) → Contains xs x → Contains (map f xs) (f x)
-contains_map f [] x h = absurd (contains_none x h)
-contains_map f (y ∷ xs) x h = elim (contains_cases y xs x h) [
-  | inl e ↦ subst (λ z. Contains (f y ∷ map f xs) (f z)) e (contains_first (f y) (map f xs))
-  | inr within ↦ Contains-append_right (f y ∷ []) (map f xs) (f x) (contains_map f xs x within)
-]
+contains_map f xs x h = (h.0, rw length-map h.1, get_or-map f xs h.0 x (f x) h.1 ∙ ap f h.2)
 
 -- a text is a name, or begins with one
 pub first_name : (t : List ℕ) → IsName t ⊎ ((name rest : List ℕ) × IsName name × (t ≡ under name rest))
 first_name [] = inl (All-nil (λ c. c ≢ slash))
 first_name (c ∷ t) = elim (c == slash) as (λ b. (c == slash) ≡ b → IsName (c ∷ t) ⊎ ((name rest : List ℕ) × IsName name × ((c ∷ t) ≡ under name rest))) [
   | true ↦ λ is. inr ([], t, All-nil (λ c. c ≢ slash), ap (λ c. c ∷ t) (eqb-true c slash is))
-  | false ↦ λ not. let other : c ≢ slash = λ e. false≢true (sym not ∙ eq-eqb c slash e) in elim (first_name t) [
+  | false ↦ λ not. let other : c ≢ slash = grind (arith, eq-eqb c slash) in elim (first_name t) [
     | inl is ↦ inl (All-cons (λ c. c ≢ slash) c t other is)
     | inr at ↦ inr (c ∷ at.0, at.1, All-cons (λ c. c ≢ slash) c at.0 other at.2, ap (λ t. c ∷ t) at.3)
   ]
@@ -34,8 +31,7 @@ pub has_folder : (nodes : Nodes) (path : List ℕ) → node nodes path ≡ Some 
 has_folder nodes path e = ap is_some e
 
 is_folder : (nodes : Nodes) (path : List ℕ) → node nodes path ≡ Some Folder → IsFolder nodes path
-is_folder nodes [] e = tt
-is_folder nodes (c ∷ path) e = e
+is_folder nodes path e = grind arith
 
 is_below : (top rest path : List ℕ) → path ≡ under top rest → IsBelow top path
 is_below [] rest path e = tt
@@ -57,16 +53,17 @@ below_a_name nodes (c ∷ folder) path names disk are has below = elim (first_na
       (under (c ∷ folder) at.0, contains_map (path_in (c ∷ folder)) names at.0 (are.all at.0 at.2 (has_folder nodes (under (c ∷ folder) at.0) (disk.folders path has (under (c ∷ folder) at.0) at.1 deeper))), inr (at.1, deeper))
 ]
 
+-- all of some, and one more
+pub all_with : {X : Type 0} (P : X → Type 0) (xs : List X) (x : X) → ((y : X) → Contains xs y → P y) → P x → (y : X) → Contains (xs ++ x ∷ []) y → P y
+all_with P xs x old new y h = grind (arith, Contains-push_cases xs x y h)
+
 -- a folder was opened for listing
 pub folder_begun : (nodes : Nodes) (files : List FileEntry) (folders listed : List (List ℕ)) (folder : List ℕ) (names : List (List ℕ)) → IsDisk nodes → AreNamesIn nodes folder names
     → Walked nodes files (folders ++ folder ∷ []) listed [] → Walked nodes files folders (listed ++ folder ∷ []) (map (path_in folder) names)
 folder_begun nodes files folders listed folder names disk are walked = record {
   are_files = walked.are_files;
   are_folders = λ f h. walked.are_folders f (Contains-append_left folders (folder ∷ []) f h);
-  were_folders = λ f h. elim (Contains-push_cases listed folder f h) [
-    | inl old ↦ walked.were_folders f old
-    | inr e ↦ subst (IsFolder nodes) e (walked.are_folders folder (Contains-push folders folder))
-  ];
+  were_folders = all_with (IsFolder nodes) listed folder walked.were_folders (walked.are_folders folder (Contains-push folders folder));
   all = λ path has. elim (walked.all path has) [
     | inl filed ↦ inl filed
     | inr (inl old) ↦ inr (inl (Contains-append_left listed (folder ∷ []) path old))
@@ -83,20 +80,31 @@ folder_begun nodes files folders listed folder names disk are walked = record {
 }
 
 pub file_there : (o : Option Node) (size : ℕ) → option_map entry_of o ≡ Some (entry.File size) → (bytes : List ℕ) × (o ≡ Some (File bytes)) × (size ≡ length bytes)
-file_there None size e = cc
 file_there (Some (File bytes)) size e = (bytes, refl, cc)
-file_there (Some Folder) size e = cc
-file_there (Some Other) size e = cc
+file_there _ size e = cc
 
 pub folder_there : (o : Option Node) → option_map entry_of o ≡ Some entry.Folder → o ≡ Some Folder
-folder_there None e = cc
-folder_there (Some (File bytes)) e = cc
 folder_there (Some Folder) e = refl
-folder_there (Some Other) e = cc
+folder_there _ e = cc
 
 paths_push : (files : List FileEntry) (file : FileEntry) → paths_of (files ++ file ∷ []) ≡ paths_of files ++ file.path ∷ []
-paths_push [] file = refl
-paths_push (f ∷ files) file = ap (λ paths. f.path ∷ paths) (paths_push files file)
+paths_push files file = grind (arith, common_steps)
+
+-- what stands there was found, or is still to be
+abbrev Seen : List FileEntry → List (List ℕ) → List (List ℕ) → List (List ℕ) → List ℕ → Type 0
+Seen files folders listed pending path = Contains (paths_of files) path ⊎ (Contains listed path ⊎ (Contains folders path ⊎ (((folder : List ℕ) × Contains folders folder × IsBelow folder path) ⊎ Pending pending path)))
+
+-- one pending path fewer
+seen_more : (files files' : List FileEntry) (folders folders' listed pending : List (List ℕ)) (path p : List ℕ) → (Contains (paths_of files) p → Contains (paths_of files') p) → ((f : List ℕ) → Contains folders f → Contains folders' f)
+    → (IsAtOrBelow path p → Seen files' folders' listed pending p) → Seen files folders listed (path ∷ pending) p → Seen files' folders' listed pending p
+seen_more files files' folders folders' listed pending path p filed kept here (inl old) = inl (filed old)
+seen_more files files' folders folders' listed pending path p filed kept here (inr (inl old)) = inr (inl old)
+seen_more files files' folders folders' listed pending path p filed kept here (inr (inr (inl old))) = inr (inr (inl (kept p old)))
+seen_more files files' folders folders' listed pending path p filed kept here (inr (inr (inr (inl below)))) = inr (inr (inr (inl (below.0, kept below.0 below.1, below.2))))
+seen_more files files' folders folders' listed pending path p filed kept here (inr (inr (inr (inr at)))) = elim (contains_cases path pending at.0 at.1) [
+  | inl e ↦ here (subst (λ top. IsAtOrBelow top p) (sym e) at.2)
+  | inr old ↦ inr (inr (inr (inr (at.0, old, at.2))))
+]
 
 -- what stands at a pending path was found
 pub path_put : (nodes : Nodes) (files : List FileEntry) (folders listed pending : List (List ℕ)) (path : List ℕ) (found : Entry) → IsDisk nodes
@@ -105,54 +113,24 @@ pub path_put : (nodes : Nodes) (files : List FileEntry) (folders listed pending 
 path_put nodes files folders listed pending path (entry.File size) disk is known walked =
     let file : FileEntry = record { path = path; size = size } in
     let there = file_there (node nodes path) size is in
-    let filed : (p : List ℕ) → Contains (paths_of files ++ path ∷ []) p → Contains (paths_of (files ++ file ∷ [])) p = λ p h. subst (λ paths. Contains paths p) (sym (paths_push files file)) h in
     record {
-      are_files = λ e h. elim (Contains-push_cases files file e h) [
-        | inl old ↦ walked.are_files e old
-        | inr same ↦ subst (IsFileOf nodes) same there
-      ];
+      are_files = all_with (IsFileOf nodes) files file walked.are_files there;
       are_folders = walked.are_folders;
       were_folders = walked.were_folders;
-      all = λ p has. elim (walked.all p has) [
-        | inl old ↦ inl (filed p (Contains-append_left (paths_of files) (path ∷ []) p old))
-        | inr (inl old) ↦ inr (inl old)
-        | inr (inr (inl old)) ↦ inr (inr (inl old))
-        | inr (inr (inr (inl old))) ↦ inr (inr (inr (inl old)))
-        | inr (inr (inr (inr at))) ↦ elim (contains_cases path pending at.0 at.1) [
-          | inr old ↦ inr (inr (inr (inr (at.0, old, at.2))))
-          | inl e ↦ elim at.2 [
-            | inl here ↦ inl (filed p (subst (Contains (paths_of files ++ path ∷ [])) (e ∙ sym here) (Contains-push (paths_of files) path)))
-            | inr below ↦ absurd (file_no_folder (node nodes path) there.0 there.1 (disk.folders p has path below.0 (below.1 ∙ ap (λ top. under top below.0) (sym e))))
-          ]
-        ]
-      ];
+      all = λ p has. seen_more files (files ++ file ∷ []) folders folders listed pending path p (λ old. rw paths_push (Contains-append_left (paths_of files) (path ∷ []) p old)) (λ f old. old) (elim [
+        | inl here ↦ inl (rw (paths_push, here) (Contains-push (paths_of files) path))
+        | inr below ↦ let both : Some (File there.0) ≡ Some Folder = sym there.1 ∙ disk.folders p has path below.0 below.1 in cc
+      ]) (walked.all p has);
     }
-  where
-    file_no_folder : (o : Option Node) (bytes : List ℕ) → o ≡ Some (File bytes) → o ≡ Some Folder → ⊥
-    file_no_folder o bytes e f = let both : Some (File bytes) ≡ Some Folder = sym e ∙ f in cc
-path_put nodes files folders listed pending path entry.Folder disk is known walked =
-    let there = folder_there (node nodes path) is in
-    record {
-      are_files = walked.are_files;
-      are_folders = λ f h. elim (Contains-push_cases folders path f h) [
-        | inl old ↦ walked.are_folders f old
-        | inr same ↦ subst (IsFolder nodes) same (is_folder nodes path there)
-      ];
-      were_folders = walked.were_folders;
-      all = λ p has. elim (walked.all p has) [
-        | inl old ↦ inl old
-        | inr (inl old) ↦ inr (inl old)
-        | inr (inr (inl old)) ↦ inr (inr (inl (Contains-append_left folders (path ∷ []) p old)))
-        | inr (inr (inr (inl below))) ↦ inr (inr (inr (inl (below.0, Contains-append_left folders (path ∷ []) below.0 below.1, below.2))))
-        | inr (inr (inr (inr at))) ↦ elim (contains_cases path pending at.0 at.1) [
-          | inr old ↦ inr (inr (inr (inr (at.0, old, at.2))))
-          | inl e ↦ elim at.2 [
-            | inl here ↦ inr (inr (inl (subst (Contains (folders ++ path ∷ [])) (e ∙ sym here) (Contains-push folders path))))
-            | inr below ↦ inr (inr (inr (inl (path, Contains-push folders path, is_below path below.0 p (below.1 ∙ ap (λ top. under top below.0) (sym e))))))
-          ]
-        ]
-      ];
-    }
+path_put nodes files folders listed pending path entry.Folder disk is known walked = record {
+  are_files = walked.are_files;
+  are_folders = all_with (IsFolder nodes) folders path walked.are_folders (is_folder nodes path (folder_there (node nodes path) is));
+  were_folders = walked.were_folders;
+  all = λ p has. seen_more files files folders (folders ++ path ∷ []) listed pending path p (λ old. old) (Contains-append_left folders (path ∷ [])) (elim [
+    | inl here ↦ inr (inr (inl (rw here (Contains-push folders path))))
+    | inr below ↦ inr (inr (inr (inl (path, Contains-push folders path, is_below path below.0 p below.1))))
+  ]) (walked.all p has);
+}
 path_put nodes files folders listed pending path entry.Other disk is known walked = absurd (known refl)
 
 -- the step, where the path's text is known in three ways
@@ -162,50 +140,33 @@ pub name_added : (nodes : Nodes) (files files_after : List FileEntry) (folders f
     → Walked nodes files folders listed (location ∷ pending) → Walked nodes files_after folders_after listed pending
 name_added nodes files files_after folders folders_after listed pending location path text found disk at same is has files_are folders_are known walked = grind (arith, path_put)
 
-pub on_ok_always : {A E P : Type 0} (r : Result A E) → P → OnOk r P
-on_ok_always (Ok x) p = p
-on_ok_always (Err e) p = tt
-
 pub on_ok3 : {A E P Q R S : Type 0} (r : Result A E) → OnOk r P → OnOk r Q → OnOk r R → (P → Q → R → S) → OnOk r S
-on_ok3 (Ok x) p q s f = f p q s
-on_ok3 (Err e) p q s f = tt
+on_ok3 r p q s f = grind (arith, f)
 
 -- a folder's listing begins
 pub listing_begun : (nodes : Nodes) (files : List FileEntry) (folders listed : List (List ℕ)) (folder text : List ℕ) (names : List (List ℕ)) → IsDisk nodes
     → text ≡ folder → (IsFolder nodes text → AreNamesIn nodes text names)
     → Walked nodes files (folders ++ folder ∷ []) listed [] → Listing nodes files folders listed folder names
 listing_begun nodes files folders listed folder text names disk same are walked =
-    let is : IsFolder nodes text = subst (IsFolder nodes) (sym same) (walked.are_folders folder (Contains-push folders folder)) in
-    let named : AreNamesIn nodes folder names = subst (λ f. AreNamesIn nodes f names) same (are is) in
+    let named : AreNamesIn nodes folder names = grind (arith, walked.are_folders folder (Contains-push folders folder)) in
     record { walked = folder_begun nodes files folders listed folder names disk named walked; there = named.there }
-
--- the next name was looked at
-pub name_listed : (nodes : Nodes) (files files_after : List FileEntry) (folders folders_after listed : List (List ℕ)) (folder text name name_text : List ℕ) (names : List (List ℕ))
-    → text ≡ folder → name_text ≡ name
-    → (Has nodes (path_in text name_text) → (listed pending : List (List ℕ)) → Walked nodes files folders listed (path_in text name_text ∷ pending) → Walked nodes files_after folders_after listed pending)
-    → Listing nodes files folders listed folder (name ∷ names) → Listing nodes files_after folders_after listed folder names
-name_listed nodes files files_after folders folders_after listed folder text name name_text names same same_name added now =
-    let path : path_in text name_text ≡ path_in folder name = rw (same, same_name) refl in
-    record {
-      walked = added (subst (Has nodes) (sym path) (now.there name (contains_first name names))) (listed ++ folder ∷ []) (map (path_in folder) names)
-          (subst (λ p. Walked nodes files folders (listed ++ folder ∷ []) (p ∷ map (path_in folder) names)) (sym path) now.walked);
-      there = λ n h. now.there n (Contains-append_right (name ∷ []) names n h);
-    }
 
 abbrev Next : DiskState → DiskState → Option (List ℕ) → Type 0
 Next at new next = MatchOption next (at.names ≡ []) (λ name. at.names ≡ name ∷ new.names)
 
 -- a turn of the walk through one folder
-pub turn : (old at new : DiskState) (next : Option (List ℕ)) (files files_after : List FileEntry) (folders folders_after listed : List (List ℕ)) (folder text name name_text : List ℕ)
-    → OnlyLooks old at → OnlyLooks at new → next ≡ Some name → (IsTrue at.honest → Next at new next) → text ≡ folder → name_text ≡ name
-    → (IsTrue new.honest → Has new.nodes (path_in text name_text) → (listed pending : List (List ℕ)) → Walked new.nodes files folders listed (path_in text name_text ∷ pending) → Walked new.nodes files_after folders_after listed pending)
+pub turn : (old at new : DiskState) (next : Option (List ℕ)) (files files_after : List FileEntry) (folders folders_after listed : List (List ℕ)) (folder name name_text : List ℕ)
+    → OnlyLooks old at → OnlyLooks at new → next ≡ Some name → (IsTrue at.honest → Next at new next) → name_text ≡ name
+    → (IsTrue new.honest → Has new.nodes (path_in folder name_text) → (listed pending : List (List ℕ)) → Walked new.nodes files folders listed (path_in folder name_text ∷ pending) → Walked new.nodes files_after folders_after listed pending)
     → IsTrue old.honest → Listing old.nodes files folders listed folder at.names → Listing old.nodes files_after folders_after listed folder new.names
-turn old at new next files files_after folders folders_after listed folder text name name_text before after is gives same same_name added honest now =
-    let names : at.names ≡ name ∷ new.names = subst (Next at new) is (gives (before.honest ∙ honest)) in
+turn old at new next files files_after folders folders_after listed folder name name_text before after is gives same added honest now =
+    let names : at.names ≡ name ∷ new.names = grind arith in
     let nodes : new.nodes ≡ old.nodes = after.nodes ∙ before.nodes in
-    name_listed old.nodes files files_after folders folders_after listed folder text name name_text new.names same same_name
-    (subst (λ nodes. Has nodes (path_in text name_text) → (listed pending : List (List ℕ)) → Walked nodes files folders listed (path_in text name_text ∷ pending) → Walked nodes files_after folders_after listed pending) nodes (added (after.honest ∙ before.honest ∙ honest)))
-    (subst (Listing old.nodes files folders listed folder) names now)
+    let was = rw names at now in
+    record {
+      walked = grind (arith, was.there name (contains_first name new.names), was.walked, rw nodes at (added (after.honest ∙ before.honest ∙ honest)));
+      there = λ n h. was.there n (Contains-append_right (name ∷ []) new.names n h);
+    }
 
 -- the next name is that of something in the folder
 pub next_there : (old at new : DiskState) (next : Option (List ℕ)) (files : List FileEntry) (folders listed : List (List ℕ)) (folder name name_text : List ℕ)
@@ -231,27 +192,15 @@ pub folder_done : (old at : DiskState) (files : List FileEntry) (folders listed 
     → (IsTrue old.honest → IsFolder old.nodes text → AreNamesIn old.nodes text at.names)
     → (IsTrue at.honest → (listed : List (List ℕ)) → Listing at.nodes files folders listed again at.names → Q at.nodes (listed ++ again ∷ []))
     → IsTrue old.honest → Walked old.nodes files (folders ++ folder ∷ []) listed [] → Q old.nodes after
-folder_done old at files folders listed folder text again after Q disk looks same same_again after_is are follows honest walked =
-    let begun : Listing old.nodes files folders listed folder at.names = listing_begun old.nodes files folders listed folder text at.names disk same (are honest) walked in
-    let here : Listing at.nodes files folders listed again at.names = subst (λ f. Listing at.nodes files folders listed f at.names) (sym same_again) (subst (λ nodes. Listing nodes files folders listed folder at.names) (sym looks.nodes) begun) in
-    let done : Q at.nodes (listed ++ again ∷ []) = follows (looks.honest ∙ honest) listed here in
-    subst (Q old.nodes) (ap (λ f. listed ++ f ∷ []) same_again ∙ sym after_is) (subst (λ nodes. Q nodes (listed ++ again ∷ [])) looks.nodes done)
+folder_done old at files folders listed folder text again after Q disk looks same same_again after_is are follows honest walked = grind (arith, listing_begun)
 
 -- what was found stands there
 pub all_stand : (nodes : Nodes) (files : List FileEntry) (folders listed pending : List (List ℕ)) → Walked nodes files folders listed pending → AllStand nodes files folders listed
-all_stand nodes files folders listed pending walked = record {
-  are_there = λ e h. let f = walked.are_files e h in ap is_plain_found f.1;
-  are_folders = walked.are_folders;
-  were_folders = walked.were_folders;
-}
+all_stand nodes files folders listed pending walked = record { are_there = λ e h. ap is_plain_found (walked.are_files e h).1; are_folders = walked.are_folders; were_folders = walked.were_folders }
 
 -- what was found without one of the folders stands there, too
 pub fewer_stand : (nodes : Nodes) (files : List FileEntry) (folders listed : List (List ℕ)) (folder : List ℕ) → AllStand nodes files folders (listed ++ folder ∷ []) → AllStand nodes files folders listed
-fewer_stand nodes files folders listed folder stand = record {
-  are_there = stand.are_there;
-  are_folders = stand.are_folders;
-  were_folders = λ f h. stand.were_folders f (Contains-append_left listed (folder ∷ []) f h);
-}
+fewer_stand nodes files folders listed folder stand = grind (arith, Contains-append_left)
 
 -- at first the base folder is to be listed
 pub walk_begun : (nodes : Nodes) → Walked nodes [] ([] ∷ []) [] []

@@ -1,5 +1,5 @@
 -- What a walk finds has paths.
-use Rattle.bag_disk.proofs.Common.{◌≡◌, ℕ, ◌<◌, List, [], ◌∷◌, ◌++◌, length, inl, inr, refl, sym, subst, arith, All, Contains, IsTrue, onto_first, and_from, All-contains, All-cons, All-nil, All-push, Contains-push, components, is_path, under, FileEntry, path_in, Entry, AllArePaths, IsFolderPath, files_with, folders_with}
+use Rattle.bag_disk.proofs.Common.{◌≡◌, ℕ, ◌<◌, List, [], ◌∷◌, ◌++◌, length, inl, inr, refl, arith, All, IsTrue, onto_first, and_from, All-contains, All-cons, All-nil, All-push, Contains-push, components, is_path, under, FileEntry, path_in, Entry, AllArePaths, IsFolderPath, files_with, folders_with}
 use Rattle.std.proofs.lemmas.List.Folds.{list_all-append}
 use Rattle.std.proofs.lemmas.List.Splits.{length-slice_split}
 use Rattle.bag_disk.specs.declared.disk.Entry.TheVariants as entry
@@ -32,4 +32,4 @@ base_folder_alone = (All-nil (λ file. IsTrue (is_path file.path)), All-cons IsF
 
 -- a folder that was taken from the folders
 pub is_folder_path : (folders rest : List (List ℕ)) (folder : List ℕ) → folders ≡ rest ++ folder ∷ [] → All IsFolderPath folders → IsFolderPath folder
-is_folder_path folders rest folder are all = All-contains IsFolderPath folders folder all (subst (λ fs. Contains fs folder) (sym are) (Contains-push rest folder))
+is_folder_path folders rest folder are all = All-contains IsFolderPath folders folder all (rw are (Contains-push rest folder))

@@ -1,24 +1,17 @@
 -- A disk on which only files and folders stand, with names in UTF-8.
-use Rattle.bag_disk.proofs.Common.{◌≡◌, ℕ, ◌+◌, ◌<◌, ◌&&◌, Bool, true, false, cond, IsUtf8, List, [], ◌∷◌, ◌++◌, length, length-append, suc, add-one, get_or, drop, Some, None, is_some, refl, ap, sym, ◌∙◌, subst, inl, inr, arith, Contains, false≢true, and_parts, and_from, get_or-append_seam, option_map, list_all, find, is_sorted, get-entries, entries_sorted, eq_by_cmp, text_cmp, slash, is_path, under, path_in, Nodes, Node, node, Has, IsFolder, IsDisk, IsReached, HasSpecial, HasUnnamed, HasUnnamedPath, entry_of, is_plain, is_plain_node, File, Other, one_text, text_itself, none_below, t_true, Walked, Entry, FileEntry}
-use Rattle.std.proofs.lemmas.Str.{IsUtf8-drop, IsCharBoundary-after_ascii}
+use Rattle.bag_disk.proofs.Common.{◌≡◌, ℕ, Bool, true, false, IsUtf8, List, [], ◌∷◌, Some, is_some, refl, ap, sym, ◌∙◌, inl, inr, arith, Contains, false≢true, and_parts, option_map, list_all, find, is_sorted, get-entries, entries_sorted, text_cmp, is_path, path_in, Nodes, Node, node, Has, IsFolder, IsDisk, IsReached, HasSpecial, HasUnnamed, HasUnnamedPath, entry_of, is_plain, is_plain_node, Other, text_itself, t_true, Walked, Entry, FileEntry}
+use Rattle.bag_tree.proofs.Parents.{text_under}
+use Rattle.bag_tree.proofs.PathEntries.{found_later}
 use Rattle.std.specs.FinMap as fin
 use Rattle.bag_disk.specs.declared.disk.Entry.TheVariants as entry
-use Rattle.bag_disk.proofs.DiskSteps.{contains_none}
-use Rattle.bag_disk.proofs.WholeWalk.{path_filed}
+use Rattle.bag_disk.proofs.WholeWalk.{found_or_listed, path_filed}
 
 abbrev plain_entry : List ℕ × Node → Bool
 plain_entry e = is_plain_node e.1
 
-and_false : (a b : Bool) → b ≡ false → (a && b) ≡ false
-and_false true b e = e
-and_false false b e = refl
-
 other_among : (es : List (List ℕ × Node)) (q : List ℕ) → find text_cmp q es ≡ Some Other → list_all plain_entry es ≡ false
 other_among [] q is = cc
-other_among (e ∷ es) q is = elim (eq_by_cmp text_cmp q e.0) as (λ b. cond b (Some e.1) (find text_cmp q es) ≡ Some Other → (is_plain_node e.1 && list_all plain_entry es) ≡ false) [
-  | true ↦ λ here. let n : e.1 ≡ Other = cc in rw n refl
-  | false ↦ λ later. and_false (is_plain_node e.1) (list_all plain_entry es) (other_among es q later)
-] is
+other_among (e ∷ es) q is = grind (arith, other_among es q)
 
 -- where something else stands the disk isn't plain
 pub other_not_plain : (nodes : Nodes) (path : List ℕ) → node nodes path ≡ Some Other → is_plain nodes ≡ false
@@ -28,12 +21,8 @@ all_among : (es : List (List ℕ × Node)) → is_sorted text_cmp es ≡ true �
 all_among [] sorted plain = refl
 all_among (e ∷ es) sorted plain =
     let parts = and_parts _ _ sorted in
-    and_from (is_plain_node e.1) (list_all plain_entry es)
-    (plain e.0 e.1 (ap (λ b. cond b (Some e.1) (find text_cmp e.0 es)) (text_itself e.0)))
-    (all_among es parts.1 (λ q n is. plain q n (elim (eq_by_cmp text_cmp q e.0) as (λ b. eq_by_cmp text_cmp q e.0 ≡ b → cond b (Some e.1) (find text_cmp q es) ≡ Some n) [
-      | true ↦ λ same. let none : find text_cmp q es ≡ None = ap (λ p. find text_cmp p es) (one_text q e.0 same) ∙ none_below e.0 es parts.0 in let both : None ≡ Some n = sym none ∙ is in cc
-      | false ↦ λ _. is
-    ] refl)))
+    let others = all_among es parts.1 (λ q n is. plain q n (found_later e es q n parts.0 is)) in
+    grind (arith, others, plain e.0 e.1, text_itself)
 
 -- where each node is a file or a folder the disk is plain
 pub all_plain : (nodes : Nodes) → ((path : List ℕ) (n : Node) → node nodes path ≡ Some n → is_plain_node n ≡ true) → is_plain nodes ≡ true
@@ -49,19 +38,6 @@ pub name_is_other : (nodes : Nodes) (location path text : List ℕ) (found : Ent
 name_is_other nodes location path text found disk utf8 at same is has other = grind (arith, other_seen)
 
 -- a name is in UTF-8 where its path is
-text_under : (folder name : List ℕ) → IsUtf8 (under folder name) → IsUtf8 name
-text_under folder name text =
-    let at : get_or (under folder name) (length folder) 0 ≡ slash = get_or-append_seam folder slash name 0 in
-    let within : length folder < length (under folder name) = omega (arith, length-append folder (slash ∷ name)) in
-    subst IsUtf8 (after folder name) (IsUtf8-drop (under folder name) (length folder + 1) text (IsCharBoundary-after_ascii (under folder name) (length folder) text within (omega (arith, at))))
-  where
-    after : (folder name : List ℕ) → drop (length folder + 1) (under folder name) ≡ name
-    after folder name = ap (λ n. drop n (folder ++ slash ∷ name)) (add-one (length folder)) ∙ past folder name
-      where
-        past : (folder name : List ℕ) → drop (suc (length folder)) (folder ++ slash ∷ name) ≡ name
-        past [] name = refl
-        past (c ∷ folder) name = past folder name
-
 text_in : (folder name : List ℕ) → IsUtf8 (path_in folder name) → IsUtf8 name
 text_in [] name text = text
 text_in (c ∷ folder) name text = text_under (c ∷ folder) name text
@@ -82,16 +58,10 @@ unnamed_not_plain nodes disk unnamed = grind (arith, other_not_plain, false≢tr
 pub walked_plain : (nodes : Nodes) (files : List FileEntry) (listed : List (List ℕ)) → IsDisk nodes → Walked nodes files [] listed [] → is_plain nodes ≡ true
 walked_plain nodes files listed disk walked = all_plain nodes (λ path n is.
     let has : Has nodes path = ap is_some is in
-    elim (walked.all path has) [
-      | inl filed ↦ let f = path_filed files path filed in let there = walked.are_files f.0 f.1 in
-          let same : Some (File there.0) ≡ Some n = sym there.1 ∙ ap (node nodes) f.2 ∙ is in
-          let file : n ≡ File there.0 = cc in rw file refl
-      | inr (inl old) ↦ folder_plain path n (disk.paths path has) is (walked.were_folders path old)
-      | inr (inr (inl found)) ↦ absurd (contains_none path found)
-      | inr (inr (inr (inl below))) ↦ absurd (contains_none below.0 below.1)
-      | inr (inr (inr (inr at))) ↦ absurd (contains_none at.0 at.1)
+    elim (found_or_listed nodes files listed path walked has) [
+      | inl filed ↦ let f = path_filed files path filed in grind (arith, f.2, (walked.are_files f.0 f.1).1)
+      | inr old ↦ folder_plain path n (disk.paths path has) is (walked.were_folders path old)
     ])
   where
     folder_plain : (path : List ℕ) (n : Node) → is_path path ≡ true → node nodes path ≡ Some n → IsFolder nodes path → is_plain_node n ≡ true
-    folder_plain [] n path is folder = absurd (false≢true path)
-    folder_plain (c ∷ path) n _ is folder = grind arith
+    folder_plain path n named is folder = grind arith

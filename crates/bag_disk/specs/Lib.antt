@@ -1,6 +1,7 @@
 pub mod BagBelow
 pub mod Disk
 pub mod DiskBag
+pub mod Failures
 pub mod FolderWalk
 pub mod Location
 pub mod Refusal

@@ -1,44 +1,38 @@
 //! How often a device has refused.
-ghost use Rattle.std.specs.Prelude.{ℕ};
-ghost use Rattle.std.specs.Borrow.{ftrue};
-
 use crate::path::is_path;
 use crate::{DiskFault, Refusal};
 use bag_text::Text;
-use std::marker::{Model, PhantomData};
+use bag_tree::Heard;
 
 /// How often a device has refused, which only clauses read: it takes no memory. A disk counts each fault by what it means in
 /// its call.
 #[derive(Drop)]
 pub struct Failures {
-    marker: PhantomData<u8>,
-    pub ghost count: { ℕ },
-}
-
-impl Model for Failures {
-    ghost also_owns = { λ _. ftrue };
+    /// A byte for each time.
+    heard: Heard,
 }
 
 impl Failures {
     ghost use Rattle.std.specs.Prelude.{◌≡◌, ◌+◌, IfErr, IfOk, IsTrue, MatchOption, ⊤};
     ghost use Rattle.bag_text.specs.Path.{is_path};
+    ghost use Rattle.bag_disk.specs.Failures.{count_of};
     ghost use Rattle.bag_disk.specs.Refusal as spec;
     ghost use Rattle.bag_disk.specs.Refusal.{IsCountedAs, failures_after};
     ghost use Rattle.bag_disk.specs.declared.disk.DiskFault.TheVariants.{Device};
 
     /// It hasn't refused yet.
     pub fn none() -> Failures
-        ensures { result.count ≡ 0 }
+        ensures { count_of result ≡ 0 }
     {
         Failures {
-            marker: PhantomData,
+            heard: Heard::new(),
         }
     }
 
     /// Counts what was answered at the path of one file, and gives it.
     pub fn of_path<T>(&mut self, answer: Result<T, DiskFault>) -> Result<T, DiskFault>
         ensures same { result ≡ answer }
-        ensures failures { IsCountedAs spec.of_path result self.old.count self.new.count }
+        ensures failures { IsCountedAs spec.of_path result (count_of self.old) (count_of self.new) }
     {
         match answer {
             Ok(given) => Ok(given),
@@ -52,7 +46,7 @@ impl Failures {
     /// Counts what was answered where something is known to be there, and gives it.
     pub fn at_known<T>(&mut self, answer: Result<T, DiskFault>) -> Result<T, DiskFault>
         ensures same { result ≡ answer }
-        ensures failures { IsCountedAs spec.at_known result self.old.count self.new.count }
+        ensures failures { IsCountedAs spec.at_known result (count_of self.old) (count_of self.new) }
     {
         match answer {
             Ok(given) => Ok(given),
@@ -66,7 +60,7 @@ impl Failures {
     /// Counts what was answered where something is to be made, and gives it.
     pub fn of_making<T>(&mut self, answer: Result<T, DiskFault>) -> Result<T, DiskFault>
         ensures same { result ≡ answer }
-        ensures failures { IsCountedAs spec.of_making result self.old.count self.new.count }
+        ensures failures { IsCountedAs spec.of_making result (count_of self.old) (count_of self.new) }
     {
         match answer {
             Ok(given) => Ok(given),
@@ -80,7 +74,7 @@ impl Failures {
     /// Counts what was answered in place of a name, and gives it.
     pub fn of_name<T>(&mut self, answer: Result<T, DiskFault>) -> Result<T, DiskFault>
         ensures same { result ≡ answer }
-        ensures failures { IsCountedAs spec.of_name result self.old.count self.new.count }
+        ensures failures { IsCountedAs spec.of_name result (count_of self.old) (count_of self.new) }
     {
         match answer {
             Ok(given) => Ok(given),
@@ -96,7 +90,7 @@ impl Failures {
         ensures given { IfOk result (λ next. next ≡ Some name) }
         ensures path { IfOk result (λ next. MatchOption next ⊤ (λ name. IsTrue (is_path name))) }
         ensures refused { IfErr result (λ fault. fault ≡ Device) }
-        ensures failures { IsCountedAs spec.of_name result self.old.count self.new.count }
+        ensures failures { IsCountedAs spec.of_name result (count_of self.old) (count_of self.new) }
     {
         if !is_path(name.as_str()) {
             self.note();
@@ -107,7 +101,7 @@ impl Failures {
 
     /// Counts a refusal, where it is one by the device.
     pub fn refuse(&mut self, refusal: Refusal)
-        ensures { self.new.count ≡ failures_after refusal self.old.count }
+        ensures { count_of self.new ≡ failures_after refusal (count_of self.old) }
     {
         match refusal {
             Refusal::Device => self.note(),
@@ -124,6 +118,8 @@ impl Failures {
 
     /// Counts one more.
     fn note(&mut self)
-        ensures { self.new.count ≡ self.old.count + 1 }
-    {}
+        ensures { count_of self.new ≡ count_of self.old + 1 }
+    {
+        self.heard.note(&[0]);
+    }
 }

@@ -3,6 +3,7 @@ ghost use Rattle.std.specs.Prelude.{◌≡◌, ◌<◌, ◌++◌, ◌∷◌, [],
 ghost use Rattle.std.specs.Fs.{dir_entry_name};
 ghost use Rattle.bag_disk.specs.SystemDisk.{base_of, system_state, written_state};
 ghost use Rattle.bag_disk.specs.Disk.{empty_disk};
+ghost use Rattle.bag_disk.specs.Failures.{count_of};
 
 use crate::base_folder::BaseFolder;
 use crate::disk::{Disk, DiskFault, Entry};
@@ -88,7 +89,7 @@ impl<R: Files> SystemDisk<R> {
 }
 
 impl<R: Files + AllocGlobal + Clone + Drop> Disk for SystemDisk<R> {
-    ghost state = { λ disk. system_state disk.openings (is_some disk.opened) disk.failures.count };
+    ghost state = { λ disk. system_state disk.openings (is_some disk.opened) (count_of disk.failures) };
 
     fn entry_at(&mut self, path: &str) -> Result<Entry, DiskFault> {
         let found = self.base.entry(&self.rt, path);

@@ -1,5 +1,5 @@
 -- A tree that refuses nothing, and want of memory.
-use Rattle.bag_tree.proofs.Common.{arith, ◌≡◌, ◌∙◌, inl, inr, ℕ, zero, suc, None, Some, refl, ap, TreeState, answer_of_read, refusal_of, Given, Refused, Unlisted}
+use Rattle.bag_tree.proofs.Common.{arith, ◌≡◌, ◌∙◌, inl, inr, ℕ, None, Some, refl, ap, TreeState, answer_of_read, refusal_of, Given, Refused, Unlisted}
 use Rattle.bag_tree.specs.Calm.{MayTellMemory, RefusesNothing}
 use Rattle.bag_tree.specs.declared.tree_fault.TreeFault.{TreeFault}
 use Rattle.bag_tree.specs.declared.tree_fault.TreeFault.TheVariants.{Memory}
@@ -13,8 +13,7 @@ nothing_then old mid new p q = grind arith
 
 -- and then want of memory was told
 pub memory_then : (old mid new : TreeState) → RefusesNothing old mid → MayTellMemory mid new → MayTellMemory old new
-memory_then old mid new p (inl told) = inl told
-memory_then old mid new p (inr q) = inr (nothing_then old mid new p q)
+memory_then old mid new p told = grind (arith, nothing_then)
 
 -- a listing was refused for want of memory
 pub memory_unlisted : (old new : TreeState) (cause : TreeFault) → new.last ≡ Unlisted cause → cause ≡ Memory → MayTellMemory old new
@@ -25,8 +24,7 @@ pub memory_refused : (old new : TreeState) (cause : TreeFault) → new.last ≡ 
 memory_refused old new cause last is = inl (ap refusal_of last ∙ ap Some is)
 
 read_is_none : (n : ℕ) → refusal_of (answer_of_read n) ≡ None
-read_is_none zero = refl
-read_is_none (suc n) = refl
+read_is_none n = grind arith
 
 -- a call was answered
 pub nothing_given : (old new : TreeState) → new.failures ≡ old.failures → new.last ≡ Given → RefusesNothing old new

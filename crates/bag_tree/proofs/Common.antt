@@ -1,7 +1,7 @@
 -- The names that this crate's proofs cite, passed on from one place. Declares nothing.
-pub use Rattle.std.proofs.Common.{Bool, Contains, Err, IsTrue, IsUtf8, List, MutBor, None, Ok, Option, Result, Some, [], add-one, add_comm, ap, append-nil, append_assoc, arith, below_more, cond, drop, false, get_or, get_or-set_other, get_or-set_same, inl, inr, is_some, length, length-append, length-take-le, map, nat_eq, nat_lt, refl, rules, set, slice_index, subst, suc, sym, take, take-append-drop, true, unwrap_or, vec_len, zero, ℕ, ⊎_elim, ◌&&◌, ◌*◌, ◌++◌, ◌+◌, ◌-◌, ◌/◌, ◌<◌, ◌==◌, ◌^◌, ◌||◌, ◌∙◌, ◌∷◌, ◌≡◌, ◌≢◌, ◌≤◌, ◌⊎◌}
+pub use Rattle.std.proofs.Common.{Bool, Contains, Err, IsTrue, IsUtf8, List, MutBor, None, Ok, Option, Result, Some, [], add-one, add_comm, ap, append-nil, append_assoc, arith, below_more, cond, drop, false, get_or, get_or-set_other, get_or-set_same, inl, inr, is_some, length, length-append, length-take-le, map, nat_eq, nat_lt, refl, rules, set, slice_index, subst, suc, sym, take, take-append-drop, true, unwrap_or, vec_len, zero, ℕ, ⊎_elim, ◌&&◌, ◌*◌, ◌++◌, ◌+◌, ◌-◌, ◌/◌, ◌<◌, ◌==◌, ◌^◌, ◌∙◌, ◌∷◌, ◌≡◌, ◌≢◌, ◌≤◌, ◌⊎◌}
 pub use Rattle.std.proofs.Math.Dec.{T}
-pub use Rattle.std.proofs.lemmas.Bool.{and_from, and_parts, cases_lt, eqb-true, false≢true, lt-ltb, ltb-true, or_left, or_right}
+pub use Rattle.std.proofs.lemmas.Bool.{and_from, and_parts, cases_lt, eqb-true, false≢true, lt-ltb, ltb-true, or_right}
 pub use Rattle.std.proofs.lemmas.Bool.Decides.{Decides-eqb, nat_tests}
 pub use Rattle.std.proofs.lemmas.Grind.{common_steps}
 pub use Rattle.std.proofs.lemmas.List.Elements.{All-append, All-cons, All-from_get_or, All-head, All-nil, All-tail, All-take}
@@ -15,7 +15,7 @@ pub use Rattle.std.specs.Option.{option_map}
 pub use Rattle.std.specs.Ordering.{eq_by_cmp, is_eq, is_lt, nat_cmp}
 pub use Rattle.std.specs.Prelude.{All}
 pub use Rattle.std.specs.Str.{bytes_eq}
-pub use Rattle.std.specs.declared.cmp.Ordering.TheVariants.{Equal, Greater, Less}
+pub use Rattle.std.specs.declared.cmp.Ordering.TheVariants.{Less}
 pub use Rattle.bag_text.proofs.AlgSets.{rank_within}
 pub use Rattle.bag_text.specs.Alg.{algs, rank}
 pub use Rattle.bag_text.specs.Path.{components, first_component, is_base_name, is_path, slash, under}
@@ -30,7 +30,7 @@ pub use denote.Steps.{closes, nothing, opens}
 pub use denote.Triple.Entry.{on_entry}
 pub use denote.Triple.Spec.{Meets, triple_of}
 pub use denote.Triple.Table.{entered}
-pub use denote.Triple.Walked.{AllGo, Goes-none_slice, Goes-ref, Stays, Walks, ends_at, says, stay_none_slice, stay_ref, walk_Meets, walk_of, walked}
+pub use denote.Triple.Walked.{Goes-none_slice, Goes-ref, Stays, ends_at, says, stay_none_slice, stay_ref, walk_Meets, walk_of, walked}
 pub use mir.Val.{Val, vcons, vnil, vptr, vstruct, vunit}
 pub use prog.Memory.{Memory}
 pub use prog.Routine.{Routine}

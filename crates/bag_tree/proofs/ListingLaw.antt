@@ -1,5 +1,5 @@
 -- An ordered listing of a bag is the list of its files.
-use Rattle.bag_tree.proofs.Common.{arith, ◌≡◌, ℕ, List, [], ◌∷◌, length, Bool, true, false, cond, ◌&&◌, Option, Some, refl, ap, sym, ◌∙◌, subst, map, option_map, AllByRecursion, find, is_sorted, entries_sorted, get-entries, below_all, same_entries, is_lt, Less, nat_list_cmp_total, T, and_from, text_cmp, files_of}
+use Rattle.bag_tree.proofs.Common.{arith, ◌≡◌, ℕ, List, [], ◌∷◌, length, Bool, true, cond, ◌&&◌, Option, Some, refl, ap, sym, ◌∙◌, subst, map, option_map, AllByRecursion, find, is_sorted, entries_sorted, get-entries, below_all, same_entries, is_lt, Less, nat_list_cmp_total, T, and_from, text_cmp, files_of}
 use Rattle.std.proofs.Common.{is_lt}
 use Rattle.std.specs.List.Sorted.{IsStrictlySortedBy}
 use Rattle.bag_tree.specs.Listing.{ListingsAreOfTheBag, size_at}
@@ -17,7 +17,7 @@ with_length e = (e.0, length e.1)
 
 below : (path : List ℕ) (files : List FileEntry) → AllByRecursion (λ y. text_cmp path y ≡ Less) (map (λ entry. entry.path) files) → below_all text_cmp path (map pair_of files) ≡ true
 below path [] h = refl
-below path (e ∷ files) h = and_from _ _ (ap is_lt h.0) (below path files h.1)
+below path (e ∷ files) h = grind (arith, and_from, below path files)
 
 pairs_sorted : (files : List FileEntry) → IsStrictlySortedBy text_cmp (map (λ entry. entry.path) files) → is_sorted text_cmp (map pair_of files) ≡ true
 unfolding IsStrictlySortedBy
@@ -30,11 +30,10 @@ below-with_length path (e ∷ es) = ap (λ b. is_lt (text_cmp path e.0) && b) (b
 
 sorted-with_length : (es : List (List ℕ × List ℕ)) → is_sorted text_cmp (map with_length es) ≡ is_sorted text_cmp es
 sorted-with_length [] = refl
-sorted-with_length (e ∷ es) = ap (λ b. b && is_sorted text_cmp (map with_length es)) (below-with_length e.0 es) ∙ ap (λ b. below_all text_cmp e.0 es && b) (sorted-with_length es)
+sorted-with_length (e ∷ es) = grind (arith, below-with_length, sorted-with_length es)
 
 map-cond : {A B : Type 0} (f : A → B) (b : Bool) (x : A) (o : Option A) → option_map f (cond b (Some x) o) ≡ cond b (Some (f x)) (option_map f o)
-map-cond f true x o = refl
-map-cond f false x o = refl
+map-cond f b x o = grind arith
 
 find-pairs : (files : List FileEntry) (q : List ℕ) → find text_cmp q (map pair_of files) ≡ size_at files q
 find-pairs [] q = refl

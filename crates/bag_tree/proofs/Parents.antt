@@ -1,9 +1,10 @@
 -- The folder that a path stands in.
-use Rattle.bag_tree.proofs.Common.{◌≡◌, ℕ, ◌+◌, ◌<◌, ◌≤◌, ◌==◌, Bool, true, false, IsUtf8, List, [], ◌∷◌, ◌++◌, length, take, nat_lt, add_comm, add-one, refl, ap, ◌∙◌, arith, ⊎_elim, position_or_len, before_first, and_parts, and_from, ltb-true, lt-ltb, cases_lt, eqb-true, All-head, All-tail, slash, components, is_path, is_base_name, first_component, under}
+use Rattle.bag_tree.proofs.Common.{◌≡◌, ℕ, ◌+◌, ◌<◌, ◌≤◌, ◌==◌, Bool, true, false, IsUtf8, List, [], ◌∷◌, ◌++◌, append_assoc, front_rest, length, length-append, drop, take, nat_lt, subst, add_comm, add-one, refl, ap, ◌∙◌, arith, ⊎_elim, position_or_len, before_first, and_parts, and_from, ltb-true, lt-ltb, cases_lt, eqb-true, All-head, All-tail, slash, components, is_path, is_base_name, first_component, under}
 use Rattle.std.proofs.Common.{All}
+use Rattle.std.proofs.Math.Seq.{get_or-append_seam}
 use Rattle.std.proofs.lemmas.List.Splits.{slice_split_none, slice_split_at, slice_split_first, length-slice_split}
 use Rattle.std.proofs.lemmas.List.Sums.{passes_at_first, fails_before_first}
-use Rattle.std.proofs.lemmas.Str.{IsUtf8-take, IsCharBoundary-before_ascii}
+use Rattle.std.proofs.lemmas.Str.{IsUtf8-drop, IsUtf8-take, IsCharBoundary-after_ascii, IsCharBoundary-before_ascii}
 use Rattle.std.proofs.lemmas.List.{get_or-take, length-take}
 
 abbrev pub is_slash : ℕ → Bool
@@ -31,8 +32,12 @@ parted : (path : List ℕ) → position_or_len is_slash path < length path → 1
 parted path place = grind (arith, slice_split_first, length-slice_split)
 
 -- a name has no slash
-name_has_none : (name : List ℕ) → is_base_name name ≡ true → All (λ c. is_slash c ≡ false) name
+pub name_has_none : (name : List ℕ) → is_base_name name ≡ true → All (λ c. is_slash c ≡ false) name
 name_has_none name is = grind (arith, eqb-true, and_parts, ⊎_elim, parted, none_until, cases_lt)
+
+-- so it is no path in a folder
+pub base_not_under : (name folder rest : List ℕ) → is_base_name name ≡ true → name ≡ under folder rest → ⊥
+base_not_under name folder rest is same = grind (arith, name_has_none name is (length folder) 0, get_or-append_seam folder slash rest 0, length-append folder (slash ∷ rest))
 
 -- what stands under a name is in the folder of that name
 pub under_in_folder : (top rest : List ℕ) → is_base_name top ≡ true → is_in_folder (under top rest) ≡ true
@@ -61,3 +66,13 @@ first_is_text path text within =
     let place = slash_within path within in
     IsUtf8-take path (position_or_len is_slash path) text
     (IsCharBoundary-before_ascii path (position_or_len is_slash path) place (omega (arith, eqb-true _ _ (passes_at_first is_slash path 0 place))))
+
+past_mark : (top rest : List ℕ) → drop (length top + 1) (under top rest) ≡ rest
+past_mark top rest = grind (arith, length-append top (slash ∷ []), front_rest (under top rest) (top ++ slash ∷ []) rest, append_assoc top (slash ∷ []) rest)
+
+-- what stands under a folder is a text where its path is one
+pub text_under : (top rest : List ℕ) → IsUtf8 (under top rest) → IsUtf8 rest
+text_under top rest text =
+    let mark = get_or-append_seam top slash rest 0 in
+    let within : length top < length (under top rest) = omega (arith, length-append top (slash ∷ rest)) in
+    subst IsUtf8 (past_mark top rest) (IsUtf8-drop _ _ text (IsCharBoundary-after_ascii _ (length top) text within (omega (arith, mark))))

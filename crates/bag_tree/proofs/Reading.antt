@@ -1,12 +1,14 @@
 -- A file is read piece by piece.
-use Rattle.bag_tree.proofs.Common.{◌≡◌, ◌<◌, ◌+◌, ◌++◌, [], Some, Option, List, ℕ, zero, suc, true, is_some, length, length-append, unwrap_or, arith, take, drop, ap, ◌∙◌, refl, Result, Ok, Err, append_assoc, append-nil, take-append-drop, option_map, ReadsNext, answer_of_read, HasRead, Given}
+use Rattle.bag_tree.proofs.Common.{◌≡◌, ◌<◌, ◌+◌, ◌++◌, Some, Option, List, ℕ, true, is_some, length, length-append, unwrap_or, arith, take, drop, refl, Result, Ok, Err, append_assoc, append-nil, take-append-drop, option_map, IsTrue, subst, sym, Keeps, TreeState, ReadsNext, answer_of_read, HasRead, Given}
 use Rattle.std.specs.Result.{IfErr, OnErr}
+
+-- a tree that is kept is as honest
+pub still : {old new : TreeState} → Keeps old new → IsTrue old.honest → IsTrue new.honest
+still keeps h = subst IsTrue (sym keeps.honest) h
 
 -- a read of nothing ends the file
 pub read_all : (content rest after : Option (List ℕ)) (bytes buffer : List ℕ) → HasRead content bytes rest → ReadsNext rest after 0 buffer → content ≡ Some bytes
-read_all content rest after bytes buffer read ends =
-    let none : read.left ≡ [] = (ends.from_open read.left read.is_open).3.0 refl in
-    read.whole ∙ ap (λ left. Some (bytes ++ left)) none ∙ ap Some (append-nil bytes)
+read_all content rest after bytes buffer read ends = grind (arith, (ends.from_open read.left read.is_open).3.0 refl, append-nil bytes)
 
 -- a read of some bytes
 pub read_more : (content rest after : Option (List ℕ)) (bytes buffer : List ℕ) (n : ℕ) → HasRead content bytes rest → ReadsNext rest after n buffer → HasRead content (bytes ++ take n buffer) after
@@ -14,8 +16,7 @@ read_more content rest after bytes buffer n read piece = grind (arith, take-appe
 
 -- a read of some bytes gives what was asked for
 pub given_some : (n : ℕ) → 0 < n → answer_of_read n ≡ Given
-given_some zero some = absurd (omega arith)
-given_some (suc n) some = refl
+given_some n some = grind arith
 
 -- the file that a read of some more bytes is of has at least as many
 pub longer_than : (content rest after : Option (List ℕ)) (bytes buffer : List ℕ) (n size : ℕ) → HasRead content bytes rest → ReadsNext rest after n buffer → size < length bytes + n

@@ -1,5 +1,5 @@
 -- Sums by their algorithms.
-use Rattle.bag_tree.proofs.Common.{arith, ◌≡◌, ◌-◌, ℕ, List, Option, Some, None, Contains, get_or, refl, ap, take, option_map, encode_lower, rank, Alg, Md5, digest, hash_len, sum_at, AreSumsOf, IsHashWhere}
+use Rattle.bag_tree.proofs.Common.{arith, ◌≡◌, ◌-◌, ℕ, List, Option, Some, None, Contains, get_or, refl, take, option_map, encode_lower, rank, Alg, Md5, digest, hash_len, sum_at, AreSumsOf, IsHashWhere}
 use Rattle.bag_tree.specs.Sums.{shown}
 
 -- a value in hex, without the zeros behind it
@@ -11,12 +11,10 @@ shown_at digests Md5 = refl
 shown_at digests _ = refl
 
 spelled_asked : (asked : List Alg) (alg : Alg) (bytes : List ℕ) (slot : Option (List ℕ)) → IsHashWhere asked alg bytes slot → Contains asked alg → spelled alg slot ≡ Some (digest alg bytes)
-spelled_asked asked alg bytes None is has = absurd (is has)
-spelled_asked asked alg bytes (Some value) is has = ap (λ xs. Some (encode_lower xs)) is.1
+spelled_asked asked alg bytes slot is has = grind arith
 
 spelled_other : (asked : List Alg) (alg : Alg) (bytes : List ℕ) (slot : Option (List ℕ)) → IsHashWhere asked alg bytes slot → ¬ (Contains asked alg) → spelled alg slot ≡ None
-spelled_other asked alg bytes None is lacks = refl
-spelled_other asked alg bytes (Some value) is lacks = absurd (lacks is.0)
+spelled_other asked alg bytes slot is lacks = grind arith
 
 -- the values of all algorithms, in hex
 pub sums_of_hashes : (asked : List Alg) (bytes : List ℕ) (digests : List (Option (List ℕ)))

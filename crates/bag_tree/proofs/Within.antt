@@ -1,5 +1,5 @@
 -- What is at a path or below it, and where it goes.
-use Rattle.bag_tree.proofs.Common.{arith, ◌≡◌, ℕ, ◌||◌, List, [], ◌∷◌, ◌++◌, append_assoc, length, drop, cond, true, false, nat_eq, ◌⊎◌, inl, inr, refl, ap, sym, ◌∙◌, or_left, or_right, Decides-eqb, front_rest, starts_is, starts_with, bytes_eq, slash, under, is_within, renamed}
+use Rattle.bag_tree.proofs.Common.{arith, ◌≡◌, ℕ, List, [], ◌∷◌, ◌++◌, append-nil, append_assoc, length, drop, cond, true, false, nat_eq, ◌⊎◌, refl, ap, sym, ◌∙◌, or_right, Decides-eqb, front_rest, starts_is, starts_with, bytes_eq, slash, under, is_within, renamed, common_steps}
 use Rattle.bag_tree.proofs.SameText.{one_text, text_itself, same_test}
 
 pub prefix_test : (p t : List ℕ) → (starts_with nat_eq t p ≡ true → t ≡ p ++ drop (length p) t) × ((rest : List ℕ) → t ≡ p ++ rest → starts_with nat_eq t p ≡ true)
@@ -10,13 +10,10 @@ abbrev pub IsWithin : List ℕ → List ℕ → Type 0
 IsWithin top k = (k ≡ top) ⊎ ((rest : List ℕ) × (k ≡ under top rest))
 
 pub within_cases : (top k : List ℕ) → is_within top k ≡ true → IsWithin top k
-within_cases top k is = elim (bytes_eq k top) as (λ b. bytes_eq k top ≡ b → (b || starts_with nat_eq k (top ++ slash ∷ [])) ≡ true → IsWithin top k) [
-  | true ↦ λ same _. inl (sym (one_text top k (sym (same_test k top) ∙ same)))
-  | false ↦ λ _ below. inr (drop (length (top ++ slash ∷ [])) k, (prefix_test (top ++ slash ∷ []) k).0 below ∙ append_assoc top (slash ∷ []) (drop (length (top ++ slash ∷ [])) k))
-] refl is
+within_cases top k is = grind (arith, one_text top k, same_test k top, prefix_test (top ++ slash ∷ []) k, append_assoc top (slash ∷ []))
 
 pub itself_within : (top : List ℕ) → is_within top top ≡ true
-itself_within top = or_left (bytes_eq top top) _ (same_test top top ∙ text_itself top)
+itself_within top = grind (arith, same_test top top, text_itself)
 
 pub under_within : (top rest : List ℕ) → is_within top (under top rest) ≡ true
 under_within top rest = or_right (bytes_eq (under top rest) top) _ ((prefix_test (top ++ slash ∷ []) (under top rest)).1 rest (sym (append_assoc top (slash ∷ []) rest)))
@@ -25,16 +22,11 @@ pub not_within : (top k : List ℕ) → (IsWithin top k → ⊥) → is_within t
 not_within top k none = grind (arith, within_cases)
 
 no_rest : (top : List ℕ) → drop (length top) top ≡ []
-no_rest [] = refl
-no_rest (c ∷ top) = no_rest top
-
-pub nil_append : (top : List ℕ) → top ++ [] ≡ top
-nil_append [] = refl
-nil_append (c ∷ top) = ap (λ t. c ∷ t) (nil_append top)
+no_rest top = grind (arith, common_steps)
 
 -- where it goes
 pub goes_itself : (from to : List ℕ) → renamed from to from ≡ to
-goes_itself from to = ap (λ b. cond b (to ++ drop (length from) from) from) (itself_within from) ∙ ap (λ t. to ++ t) (no_rest from) ∙ nil_append to
+goes_itself from to = ap (λ b. cond b (to ++ drop (length from) from) from) (itself_within from) ∙ ap (λ t. to ++ t) (no_rest from) ∙ append-nil to
 
 pub goes_under : (from to rest : List ℕ) → renamed from to (under from rest) ≡ under to rest
 goes_under from to rest = grind (arith, under_within, front_rest)
@@ -47,12 +39,11 @@ same_front top r s e = sym (front_rest (top ++ r) top r refl) ∙ ap (drop (leng
 
 -- what follows it is nothing, or begins with a slash
 pub within_after : (top k rest : List ℕ) → k ≡ top ++ rest → (rest ≡ []) ⊎ (starts_with nat_eq rest (slash ∷ []) ≡ true) → is_within top k ≡ true
-within_after top k rest parts (inl none) = ap (is_within top) (parts ∙ ap (λ r. top ++ r) none ∙ nil_append top) ∙ itself_within top
-within_after top k rest parts (inr marked) = grind (arith, prefix_test, under_within)
+within_after top k rest parts ends = grind (arith, append-nil, itself_within, prefix_test, under_within)
 
 pub not_after : (top k rest : List ℕ) → k ≡ top ++ rest → (rest ≡ [] → ⊥) → (starts_with nat_eq rest (slash ∷ []) ≡ true → ⊥) → is_within top k ≡ false
-not_after top k rest parts some unmarked = grind (arith, nil_append top, not_within, same_front, prefix_test)
+not_after top k rest parts some unmarked = grind (arith, append-nil top, not_within, same_front, prefix_test)
 
 -- nothing is within what isn't in front of it
 pub not_in_front : (top k : List ℕ) → ((rest : List ℕ) → k ≡ top ++ rest → ⊥) → is_within top k ≡ false
-not_in_front top k none = grind (arith, nil_append top, not_within)
+not_in_front top k none = grind (arith, append-nil top, not_within)

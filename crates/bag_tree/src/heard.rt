@@ -1,10 +1,11 @@
-//! What was heard of a writer.
+//! What was heard.
 ghost use Rattle.std.specs.Prelude.{◌≡◌, ◌++◌, List, ℕ};
 ghost use Rattle.std.specs.Borrow.{ftrue};
 
 use std::marker::{Model, PhantomData};
 
-/// The bytes that a writer answered that it took, after those that it held. Only clauses read them: it takes no memory.
+/// Bytes that were heard, as those that a writer answered that it took, after those that it held. Only clauses read them: it
+/// takes no memory.
 #[derive(Drop)]
 pub struct Heard {
     marker: PhantomData<u8>,
@@ -16,8 +17,8 @@ impl Model for Heard {
 }
 
 impl Heard {
-    /// Begins with the bytes that the writer holds.
-    pub(crate) fn new() -> Heard
+    /// Begins with these bytes.
+    pub fn new() -> Heard
         ghost held: { List ℕ }
         ensures { result.bytes ≡ held }
     {
@@ -26,8 +27,8 @@ impl Heard {
         }
     }
 
-    /// Notes bytes that the writer answered that it took.
-    pub(crate) fn note(&mut self, _bytes: &[u8])
+    /// Notes bytes behind those that were heard.
+    pub fn note(&mut self, _bytes: &[u8])
         ensures { self.new.bytes ≡ self.old.bytes ++ _bytes.now }
     {}
 }

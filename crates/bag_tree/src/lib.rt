@@ -38,6 +38,7 @@ mod writer_out;
 pub use answer::Answer;
 pub use digests::Digests;
 pub use file_sums::digest_file;
+pub use heard::Heard;
 pub use listing::{FileEntry, Listing};
 pub use out::{Out, Refused};
 pub use path_rest::rest_within;

@@ -3,6 +3,7 @@ use Rattle.std.specs.Prelude.{ℕ, ◌≡◌, Bool, true, false, List, [], Optio
 use Rattle.std.specs.List.{list_any}
 use Rattle.std.specs.Option.{option_map}
 use Rattle.bag_disk.specs.Disk.{DiskState, Nodes, Node, entry_of, node, bytes_of}
+use Rattle.bag_disk.specs.Failures.{count_of}
 use Rattle.bag_disk.specs.declared.disk.Entry.{Entry}
 use Rattle.bag_disk.specs.declared.disk.DiskFault.{DiskFault}
 use Rattle.bag_disk.specs.declared.disk.DiskFault.TheVariants.{NotFound, Exists, Name, Memory, Device}
@@ -38,7 +39,7 @@ state_of disk = record {
   openings = disk.openings;
   rest = option_map (drop disk.at) disk.open;
   names = drop disk.named disk.names;
-  failures = disk.failures.count;
+  failures = count_of disk.failures;
 }
 
 -- the path of the file that is being written

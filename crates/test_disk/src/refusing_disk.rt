@@ -96,9 +96,10 @@ impl<D: Disk + Drop> Disk for RefusingDisk<D> {
     ghost use Rattle.bag_text.specs.Path.{is_path};
     ghost use Rattle.test_disk.specs.DiskCalls.{ClosesFile, Enters, LooksAt, LooksAtNamed, NamesNext, Opens, Reads};
     ghost use Rattle.test_disk.specs.RefusingDisk.{below_of, call_of, fault_of, own_of, told_of};
+    ghost use Rattle.bag_disk.specs.Failures.{count_of};
     ghost use Rattle.bag_disk.specs.Refusal.{at_known, failures_after, of_name, of_path};
 
-    ghost state = { λ disk. refusing (D.state disk.disk) disk.fault disk.failures.count };
+    ghost state = { λ disk. refusing (D.state disk.disk) disk.fault (count_of disk.failures) };
 
     ghost is_disk = { λ disk. D.is_disk disk.disk };
 

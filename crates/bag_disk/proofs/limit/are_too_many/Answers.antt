@@ -1,4 +1,4 @@
-use Rattle.bag_disk.proofs.Common.{◌∙◌, sym, subst, arith, ltb-true, IsStrictlySortedBy, text_cmp, paths_of}
+use Rattle.bag_disk.proofs.Common.{◌∙◌, sym, arith, ltb-true, false, true}
 use Rattle.bag_disk.proofs.DiskCount.{found_fit}
 use Rattle.bag_disk.proofs.limit.are_too_many.Goals as goal
 use Rattle.bag_disk.proofs.limit.are_too_many.Goals.{then-len, else-len}
@@ -7,9 +7,7 @@ pub returns : goal.returns
 returns c = λ is nodes there.
     elim c.if-len.branch [
       | then-len w ↦
-          let sorted = c.sort_by_path.new.files.items in
-          let ascending : IsStrictlySortedBy text_cmp (paths_of sorted) = subst (λ files. IsStrictlySortedBy text_cmp (paths_of files)) w.as_slice.ensures.value (w.all_differ.ensures.0 (sym w.result-is ∙ is)) in
-          let fit = found_fit nodes c.args.found.items sorted c.sort_by_path.ensures.permutation ascending there in
+          let fit = found_fit nodes _ _ c.sort_by_path.ensures.permutation (rw w.as_slice.ensures.value at (w.all_differ.ensures.0 (sym w.result-is ∙ is))) there in
           omega (arith, fit, w.if-len.true, c.len.ensures)
       | else-len w ↦ let more = ltb-true 16777216 c.len.result (sym w.result-is ∙ is) in absurd (omega (arith, more, w.if-len.false))
     ]

@@ -1,18 +1,14 @@
-use Rattle.bag_disk.proofs.Common.{arith, IsTrue}
-use Rattle.bag_disk.proofs.DiskSteps.{on_ok_always}
+use Rattle.bag_disk.proofs.Common.{arith}
 use Rattle.bag_disk.proofs.Plain.{walked_plain}
 use Rattle.bag_disk.proofs.Refusals.{counted_quietly, due_in_listing, listed_for_err}
-use Rattle.bag_disk.proofs.WholeWalk.{whole_listing_ok}
+use Rattle.bag_disk.proofs.WholeWalk.{whole_listing}
 use Rattle.bag_disk.proofs.listing.list_below.Goals as goal
 
 pub returns-in-Ok-clause-honest : goal.returns-in-Ok-clause-honest
-returns-in-Ok-clause-honest g c =
-    let state = g.D.Disk.state c.args.disk.now in
-    whole_listing_ok (IsTrue state.honest) c.listing_of.result state.nodes c.in-Ok.walk.files.items c.in-Ok.walk.listed.items (g.met.D.Disk.is_disk c.args.disk.now) c.in-Ok.ensures.walked c.listing_of.ensures.files c.listing_of.ensures.has_data
+returns-in-Ok-clause-honest g c = grind (arith, whole_listing (g.D.Disk.state c.args.disk.now).nodes c.in-Ok.walk.files.items c.in-Ok.walk.listed.items, g.met.D.Disk.is_disk c.args.disk.now)
 
 pub returns-in-Ok-clause-plain : goal.returns-in-Ok-clause-plain
-returns-in-Ok-clause-plain g c = on_ok_always c.listing_of.result (λ honest.
-    walked_plain (g.D.Disk.state c.args.disk.now).nodes c.in-Ok.walk.files.items c.in-Ok.walk.listed.items (g.met.D.Disk.is_disk c.args.disk.now) (c.in-Ok.ensures.walked honest))
+returns-in-Ok-clause-plain g c = grind (arith, walked_plain (g.D.Disk.state c.args.disk.now).nodes c.in-Ok.walk.files.items c.in-Ok.walk.listed.items (g.met.D.Disk.is_disk c.args.disk.now))
 
 pub returns-in-Ok-clause-refused : goal.returns-in-Ok-clause-refused
 returns-in-Ok-clause-refused g c = grind (arith, listed_for_err)

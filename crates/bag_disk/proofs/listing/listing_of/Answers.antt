@@ -1,13 +1,11 @@
-use Rattle.bag_disk.proofs.Common.{◌∙◌, IsTrue, inl, inr, sym, false≢true, All-permutation, IsPermutation-trans, is_path}
+use Rattle.bag_disk.proofs.Common.{◌∙◌, IsTrue, inl, inr, sym, false≢true, All-permutation, IsPermutation-trans, is_path, false}
 use Rattle.bag_disk.proofs.listing.listing_of.Goals as goal
 
 pub returns-clause-ordered : goal.returns-clause-ordered
-returns-clause-ordered c =
-    let sorted = IsPermutation-trans _ _ _ c.sort_by_key.ensures c.sort_by_path.ensures.permutation in
-    rw c.from_vec.ensures (record {
-      ascending = rw c.as_slice-2.ensures.value at (c.all_differ.ensures.0 c.if-not-all_differ.false);
-      paths = All-permutation (λ file. IsTrue (is_path file.path)) c.args.walk.files.items c.sort_by_path.new.files.items sorted c.requires;
-    })
+returns-clause-ordered c = rw c.from_vec.ensures (record {
+  ascending = rw c.as_slice-2.ensures.value at (c.all_differ.ensures.0 c.if-not-all_differ.false);
+  paths = All-permutation (λ file. IsTrue (is_path file.path)) _ _ (IsPermutation-trans _ _ _ c.sort_by_key.ensures c.sort_by_path.ensures.permutation) c.requires;
+})
 
 pub returns-clause-files : goal.returns-clause-files
 returns-clause-files c = rw c.from_vec.ensures (IsPermutation-trans _ _ _ c.sort_by_key.ensures c.sort_by_path.ensures.permutation)

@@ -15,36 +15,28 @@ range-requires-clause-end_boundary g c = grind arith
 pub returns-in-Err-clause-refused : goal.returns-in-Err-clause-refused
 returns-in-Err-clause-refused g c =
     let old = g.D.Disk.state c.args.disk.now in
-    let at = g.D.Disk.state c.loop-end.disk in
-    let looks = c.loop-end.invariant.0 in
-    let items = c.as_bytes-byte-items.result.now in
     let folder = c.range.result.now in
-    let reached : IsTrue old.honest → IsReached old.nodes folder = λ honest. slash_reached old.nodes c.args.path.now items folder c.loop-end.end c.as_bytes-byte-items.ensures.value c.range.ensures.value c.loop-end-test.true c.if-byte-eq47.true (c.loop-end.invariant.2 honest) in
+    let reached : IsTrue old.honest → IsReached old.nodes folder = λ honest. slash_reached old.nodes c.args.path.now _ folder c.loop-end.end c.as_bytes-byte-items.ensures.value c.range.ensures.value c.loop-end-test.true c.if-byte-eq47.true (c.loop-end.invariant.2 honest) in
     due_for _ _ _ _ _ _ _ _ c.in-Err.refusal
-    (λ special honest. had_before old at looks (λ nodes. IsReached nodes folder → HasSpecial nodes) special honest (reached honest))
+    (λ special honest. had_before _ _ c.loop-end.invariant.0 (λ nodes. IsReached nodes folder → HasSpecial nodes) special honest (reached honest))
     (λ never. never)
-    (λ none honest. slash_refused old.nodes c.args.path.now items folder c.loop-end.end (g.met.D.Disk.is_disk c.args.disk.now) c.as_bytes-byte-items.ensures.value c.range.ensures.value c.loop-end-test.true c.if-byte-eq47.true
-    (had_before old at looks (λ nodes. IsReached nodes folder → node nodes folder ≡ Some Folder → ⊥) none honest (reached honest)))
+    (λ none honest. slash_refused old.nodes c.args.path.now _ folder c.loop-end.end (g.met.D.Disk.is_disk c.args.disk.now) c.as_bytes-byte-items.ensures.value c.range.ensures.value c.loop-end-test.true c.if-byte-eq47.true
+    (had_before _ _ c.loop-end.invariant.0 (λ nodes. IsReached nodes folder → node nodes folder ≡ Some Folder → ⊥) none honest (reached honest)))
     (λ never. never)
     c.in-Err.ensures.refused
 
 pub loop-end-preserved : goal.loop-end-preserved
-loop-end-preserved g c =
-    let old = g.D.Disk.state c.args.disk.now in
-    let at = g.D.Disk.state c.loop-end.disk in
-    let looks = c.loop-end.invariant.0 in
-    let items = c.as_bytes-byte-items.result.now in
-    elim c.if-byte-eq47.branch [
-      | then-byte-eq47+in-Ok w ↦ rw w.disk-is (
-        looks_on old at (g.D.Disk.state w.check_is_folder.new.disk) looks w.in-Ok.ensures.looks,
-        w.in-Ok.ensures.failures ∙ c.loop-end.invariant.1,
-        λ honest. slash_passed old.nodes c.args.path.now items w.range.result.now c.loop-end.end
-            c.as_bytes-byte-items.ensures.value w.range.ensures.value c.loop-end-test.true w.if-byte-eq47.true (c.loop-end.invariant.2 honest)
-            (had_before old at looks (λ nodes. IsReached nodes w.range.result.now → node nodes w.range.result.now ≡ Some Folder) w.in-Ok.ensures.folder honest),
-      )
-      | else-byte-eq47 w ↦ rw w.disk-is (
-        looks,
-        c.loop-end.invariant.1,
-        λ honest. other_passed old.nodes c.args.path.now items c.loop-end.end c.as_bytes-byte-items.ensures.value w.if-byte-eq47.false (c.loop-end.invariant.2 honest),
-      )
-    ]
+loop-end-preserved g c = elim c.if-byte-eq47.branch [
+  | then-byte-eq47+in-Ok w ↦ rw w.disk-is (
+    looks_on _ _ _ c.loop-end.invariant.0 w.in-Ok.ensures.looks,
+    w.in-Ok.ensures.failures ∙ c.loop-end.invariant.1,
+    λ honest. slash_passed _ c.args.path.now _ w.range.result.now c.loop-end.end
+        c.as_bytes-byte-items.ensures.value w.range.ensures.value c.loop-end-test.true w.if-byte-eq47.true (c.loop-end.invariant.2 honest)
+        (had_before _ _ c.loop-end.invariant.0 (λ nodes. IsReached nodes w.range.result.now → node nodes w.range.result.now ≡ Some Folder) w.in-Ok.ensures.folder honest),
+  )
+  | else-byte-eq47 w ↦ rw w.disk-is (
+    c.loop-end.invariant.0,
+    c.loop-end.invariant.1,
+    λ honest. other_passed _ c.args.path.now _ c.loop-end.end c.as_bytes-byte-items.ensures.value w.if-byte-eq47.false (c.loop-end.invariant.2 honest),
+  )
+]

@@ -1,6 +1,6 @@
-use Rattle.bag_tree.proofs.Common.{rules, inl, inr, ap, is_some, ◌∙◌, ◌++◌, take, refl, sym, subst, arith, IsTrue, common_steps}
+use Rattle.bag_tree.proofs.Common.{rules, inl, inr, ap, is_some, ◌∙◌, ◌++◌, take, refl, arith, common_steps}
 use Rattle.bag_tree.proofs.Calm.{nothing_read}
-use Rattle.bag_tree.proofs.Reading.{on_error, read_all, read_more, given_some, longer_than, ended_after}
+use Rattle.bag_tree.proofs.Reading.{still, on_error, read_all, read_more, given_some, longer_than, ended_after}
 use Rattle.bag_tree.proofs.file_sums.digest_file.Goals as goal
 
 pub loop-count-preserved : goal.loop-count-preserved
@@ -16,9 +16,7 @@ loop-count-preserved g c =
         front = before.taken.front ++ take c.in_ok-count.count c.read.new.buffer;
         size = grind (arith, common_steps);
         taken = c.update.ensures _ before.taken.front before.taken.taken;
-        honest = λ h.
-            let still : IsTrue (g.T.Tree.state c.loop-count.tree).honest = subst IsTrue (sym before.keeps.honest) h in
-            read_more _ _ _ _ _ _ (before.taken.honest h) (c.in_ok-count.ensures.honest still);
+        honest = λ h. read_more _ _ _ _ _ _ (before.taken.honest h) (c.in_ok-count.ensures.honest (still before.keeps h));
       };
     }
 
@@ -30,9 +28,7 @@ returns-then-left-eq0-clause-sums g c =
       bytes = before.taken.taken.bytes;
       size = omega (arith, before.taken.size, c.if-left-eq0.true);
       sums_of = c.finish.ensures _ before.taken.front before.taken.taken;
-      honest = λ h.
-          let still : IsTrue (g.T.Tree.state c.loop-count.tree).honest = subst IsTrue (sym before.keeps.honest) h in
-          read_all _ _ _ _ _ (before.taken.honest h) (rw c.if-count-eq0.true at (c.in_ok-count.ensures.honest still));
+      honest = λ h. read_all _ _ _ _ _ (before.taken.honest h) (rw c.if-count-eq0.true at (c.in_ok-count.ensures.honest (still before.keeps h)));
     }
 
 pub returns-in_err-count-clause-opens : goal.returns-in_err-count-clause-opens
@@ -58,8 +54,7 @@ returns-then-left-count-clause-refused g c =
         omega (arith, c.in_ok-count.ensures.given, before.given, c.if-left-count.true),
       ),
       λ h.
-          let still : IsTrue (g.T.Tree.state c.loop-count.tree).honest = subst IsTrue (sym before.keeps.honest) h in
-          longer_than _ _ _ _ _ _ _ (before.taken.honest h) (c.in_ok-count.ensures.honest still) (omega (arith, before.taken.size, c.if-left-count.true)),
+          longer_than _ _ _ _ _ _ _ (before.taken.honest h) (c.in_ok-count.ensures.honest (still before.keeps h)) (omega (arith, before.taken.size, c.if-left-count.true)),
     )
 
 pub returns-else-left-eq0-clause-refused : goal.returns-else-left-eq0-clause-refused
@@ -70,8 +65,7 @@ returns-else-left-eq0-clause-refused g c =
         omega (arith, c.in_ok-count.ensures.given, c.if-count-eq0.true, before.given, c.if-left-eq0.false),
       ),
       λ h.
-          let still : IsTrue (g.T.Tree.state c.loop-count.tree).honest = subst IsTrue (sym before.keeps.honest) h in
-          ended_after _ _ _ _ _ _ (before.taken.honest h) (rw c.if-count-eq0.true at (c.in_ok-count.ensures.honest still)) (omega (arith, before.taken.size, c.if-left-eq0.false)),
+          ended_after _ _ _ _ _ _ (before.taken.honest h) (rw c.if-count-eq0.true at (c.in_ok-count.ensures.honest (still before.keeps h))) (omega (arith, before.taken.size, c.if-left-eq0.false)),
     )
 
 pub returns-then-left-count-clause-answered : goal.returns-then-left-count-clause-answered

@@ -1,6 +1,6 @@
-use Rattle.bag_tree.proofs.Common.{rules, inl, inr, ap, is_some, ◌∙◌, arith, sym, subst, IsTrue, common_steps}
+use Rattle.bag_tree.proofs.Common.{rules, inl, inr, ap, is_some, ◌∙◌, arith, common_steps}
 use Rattle.bag_tree.proofs.Calm.{nothing_read}
-use Rattle.bag_tree.proofs.Reading.{any_error, on_error, read_all, read_more, given_some, longer_than, ended_after}
+use Rattle.bag_tree.proofs.Reading.{still, any_error, on_error, read_all, read_more, given_some, longer_than, ended_after}
 use Rattle.bag_tree.proofs.whole.read_pieces.Goals as goal
 
 pub loop-bytes-preserved : goal.loop-bytes-preserved
@@ -12,14 +12,12 @@ loop-bytes-preserved g c = record {
   given = grind (arith, common_steps);
   within = grind (arith, common_steps);
   honest = λ h.
-      let still : IsTrue (g.T.Tree.state c.loop-bytes.tree).honest = subst IsTrue (sym c.loop-bytes.invariant.keeps.honest) h in
-      rw c.in_ok-extend_from_slice.ensures.items (read_more _ _ _ _ _ _ (c.loop-bytes.invariant.honest h) (c.in_ok-count.ensures.honest still));
+      rw c.in_ok-extend_from_slice.ensures.items (read_more _ _ _ _ _ _ (c.loop-bytes.invariant.honest h) (c.in_ok-count.ensures.honest (still c.loop-bytes.invariant.keeps h)));
 }
 
 pub returns-then-len-entry-clause-whole : goal.returns-then-len-entry-clause-whole
 returns-then-len-entry-clause-whole g c h =
-    let still : IsTrue (g.T.Tree.state c.loop-bytes.tree).honest = subst IsTrue (sym c.loop-bytes.invariant.keeps.honest) h in
-    read_all _ _ _ _ _ (c.loop-bytes.invariant.honest h) (rw c.if-count-eq0.true at (c.in_ok-count.ensures.honest still))
+    read_all _ _ _ _ _ (c.loop-bytes.invariant.honest h) (rw c.if-count-eq0.true at (c.in_ok-count.ensures.honest (still c.loop-bytes.invariant.keeps h)))
 
 pub returns-in_err-count-clause-opens : goal.returns-in_err-count-clause-opens
 returns-in_err-count-clause-opens g c = inr (c.read.ensures.openings ∙ c.loop-bytes.invariant.opened)
@@ -43,16 +41,14 @@ pub returns-then-entry-len-clause-refused : goal.returns-then-entry-len-clause-r
 returns-then-entry-len-clause-refused g c = (
   inl (c.in_ok-count.ensures.last ∙ given_some _ (omega (arith, c.if-count-eq0.false)), grind (arith, common_steps)),
   λ h.
-      let still : IsTrue (g.T.Tree.state c.loop-bytes.tree).honest = subst IsTrue (sym c.loop-bytes.invariant.keeps.honest) h in
-      longer_than _ _ _ _ _ _ _ (c.loop-bytes.invariant.honest h) (c.in_ok-count.ensures.honest still) (grind (arith, common_steps)),
+      longer_than _ _ _ _ _ _ _ (c.loop-bytes.invariant.honest h) (c.in_ok-count.ensures.honest (still c.loop-bytes.invariant.keeps h)) (grind (arith, common_steps)),
 )
 
 pub returns-else-len-entry-clause-refused : goal.returns-else-len-entry-clause-refused
 returns-else-len-entry-clause-refused g c = (
   inr (rw c.if-count-eq0.true at c.in_ok-count.ensures.last, grind (arith, common_steps)),
   λ h.
-      let still : IsTrue (g.T.Tree.state c.loop-bytes.tree).honest = subst IsTrue (sym c.loop-bytes.invariant.keeps.honest) h in
-      ended_after _ _ _ _ _ _ (c.loop-bytes.invariant.honest h) (rw c.if-count-eq0.true at (c.in_ok-count.ensures.honest still)) (grind (arith, common_steps)),
+      ended_after _ _ _ _ _ _ (c.loop-bytes.invariant.honest h) (rw c.if-count-eq0.true at (c.in_ok-count.ensures.honest (still c.loop-bytes.invariant.keeps h))) (grind (arith, common_steps)),
 )
 
 pub returns-in_err-count-clause-refused_at : goal.returns-in_err-count-clause-refused_at

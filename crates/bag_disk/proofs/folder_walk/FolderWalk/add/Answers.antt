@@ -1,3 +1,4 @@
+use Rattle.bag_disk.proofs.Common.{arith}
 use Rattle.bag_disk.proofs.DiskSteps.{name_added, on_ok3}
 use Rattle.bag_disk.proofs.FoundPaths.{path_found, path_in_folder}
 use Rattle.bag_disk.proofs.Plain.{name_is_other}
@@ -5,7 +6,7 @@ use Rattle.bag_disk.proofs.Refusals.{counted_quietly, due_for_err}
 use Rattle.bag_disk.proofs.folder_walk.FolderWalk.add.Goals as goal
 
 pub named_entry-requires : goal.named_entry-requires
-named_entry-requires g c = rw (c.as_str.ensures, c.in_ok-path.ensures) (path_in_folder c.args.folder.now c.args.name.now c.requires.folder c.requires.name)
+named_entry-requires g c = grind (arith, path_in_folder)
 
 pub returns-in-Ok-clause-paths : goal.returns-in-Ok-clause-paths
 returns-in-Ok-clause-paths g c =

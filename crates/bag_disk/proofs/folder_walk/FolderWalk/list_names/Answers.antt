@@ -1,4 +1,4 @@
-use Rattle.bag_disk.proofs.Common.{◌∙◌, Err, IsTrue, ap, refl, subst, sym, arith, err_from_is_err_and, Has, HasSpecial, Listing, path_in}
+use Rattle.bag_disk.proofs.Common.{◌∙◌, Err, IsTrue, ap, refl, arith, err_from_is_err_and, Has, HasSpecial, path_in}
 use Rattle.bag_disk.proofs.DiskSteps.{turn, next_there, folder_ended, looks_at_first, looks_on, all_stand}
 use Rattle.bag_disk.proofs.Plain.{unnamed_there}
 use Rattle.bag_disk.proofs.Refusals.{due_for, due_of_name}
@@ -12,16 +12,10 @@ add-requires-clause-name g c = rw c.as_str.ensures (rw c.in-Ok-Some.field-0-is a
 
 pub loop-self-preserved : goal.loop-self-preserved
 loop-self-preserved g c =
-    let old = g.D.Disk.state c.args.disk.now in
-    let at = g.D.Disk.state c.loop-self.disk in
-    let new = g.D.Disk.state c.next_name.new.self in
-    let then = g.D.Disk.state c.add.new.disk in
     let added = c.in_ok-add-in-Ok-Some.ensures in (
-      looks_on old new then (looks_on old at new c.loop-self.invariant.0 c.in-Ok-Some.ensures.looks) added.looks,
-      λ honest listed begun. subst (Listing old.nodes c.add.new.self.files.items c.add.new.self.folders.items listed c.args.folder.now) (sym added.names)
-          (turn old at new c.in-Ok-Some.field-0 c.loop-self.self.files.items c.add.new.self.files.items c.loop-self.self.folders.items c.add.new.self.folders.items listed c.args.folder.now c.args.folder.now c.in-Ok-Some.name c.as_str.result.now
-          c.loop-self.invariant.0 c.in-Ok-Some.ensures.looks c.in-Ok-Some.field-0-is c.in-Ok-Some.ensures.honest refl c.as_str.ensures
-          added.walked honest (c.loop-self.invariant.1 honest listed begun)),
+      looks_on _ _ _ (looks_on _ _ _ c.loop-self.invariant.0 c.in-Ok-Some.ensures.looks) added.looks,
+      λ honest listed begun. rw added.names (turn _ _ _ c.in-Ok-Some.field-0 _ _ _ _ listed c.args.folder.now c.in-Ok-Some.name c.as_str.result.now
+          c.loop-self.invariant.0 c.in-Ok-Some.ensures.looks c.in-Ok-Some.field-0-is c.in-Ok-Some.ensures.honest c.as_str.ensures added.walked honest (c.loop-self.invariant.1 honest listed begun)),
       added.listed ∙ c.loop-self.invariant.2,
       omega (arith, added.left, c.loop-self.invariant.3),
       λ paths. added.paths (c.loop-self.invariant.4 paths),
@@ -30,13 +24,10 @@ loop-self-preserved g c =
 
 pub returns-in_err-add-in-Ok-Some-clause-refused : goal.returns-in_err-add-in-Ok-Some-clause-refused
 returns-in_err-add-in-Ok-Some-clause-refused g c =
-    let old = g.D.Disk.state c.args.disk.now in
-    let at = g.D.Disk.state c.loop-self.disk in
-    let new = g.D.Disk.state c.next_name.new.self in
-    let looks = looks_on old at new c.loop-self.invariant.0 c.in-Ok-Some.ensures.looks in
+    let looks = looks_on (g.D.Disk.state c.args.disk.now) _ (g.D.Disk.state c.next_name.new.self) c.loop-self.invariant.0 c.in-Ok-Some.ensures.looks in
     let p = err_from_is_err_and c.from_residual.result c.from_residual.ensures.1 in
-    rw (p.1, p.2) (due_for (IsTrue new.honest → Has new.nodes (path_in c.args.folder.now c.as_str.result.now) → HasSpecial new.nodes) ⊥ ⊥ ⊥ _ _ _ _ _
-    (λ special honest listed begun. subst HasSpecial looks.nodes (special (looks.honest ∙ honest) (next_there old at new c.in-Ok-Some.field-0 c.loop-self.self.files.items c.loop-self.self.folders.items listed c.args.folder.now c.in-Ok-Some.name c.as_str.result.now
+    rw (p.1, p.2) (due_for (IsTrue (g.D.Disk.state c.next_name.new.self).honest → Has (g.D.Disk.state c.next_name.new.self).nodes (path_in c.args.folder.now c.as_str.result.now) → HasSpecial (g.D.Disk.state c.next_name.new.self).nodes) ⊥ ⊥ ⊥ _ _ _ _ _
+    (λ special honest listed begun. rw looks.nodes at (special (looks.honest ∙ honest) (next_there _ _ _ c.in-Ok-Some.field-0 _ _ listed c.args.folder.now c.in-Ok-Some.name c.as_str.result.now
     c.loop-self.invariant.0 c.in-Ok-Some.ensures.looks c.in-Ok-Some.field-0-is c.in-Ok-Some.ensures.honest c.as_str.ensures honest (c.loop-self.invariant.1 honest listed begun))))
     (λ never. absurd never) (λ never. never) (λ never. absurd never) c.in_err-add-in-Ok-Some.ensures.refused)
 

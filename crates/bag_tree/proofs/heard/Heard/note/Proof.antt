@@ -1,5 +1,5 @@
 -- The body does nothing: the borrow is opened, and closed at the longer list.
-use Rattle.bag_tree.proofs.Common.{ℕ, List, [], ◌∷◌, ◌++◌, ◌<◌, ◌^◌, length, refl, MutBor, Ura, Val, vunit, vptr, SProp, ent, sep, emp, via, fst∗, id⊢, Memory, Routine, Calls, Loops, WpFn, Tables, Logic, Fun, tables, ‵, ◌⊛◌, ◌$◌, ◌∵◌, !, qed, by, move, keep, use1, split, join, fsplit, fsplit3, fjoin, fjoin3, feq_i, suffices, frame, done, unit_lit, of_opd, returns, enter, alloc_all, pass_all, free_all, look_at, sets, WpFn-mono, opens, closes, on_entry, Meets, triple_of, entered, says, Stays, stay_ref, walk_of, AllGo, Goes-ref, Walks, ends_at, walked, walk_Meets, Heard, stay_none_slice, Goes-none_slice}
+use Rattle.bag_tree.proofs.Common.{ℕ, List, [], ◌∷◌, ◌++◌, ◌<◌, ◌^◌, length, refl, MutBor, Ura, Val, vunit, vptr, SProp, ent, sep, emp, via, fst∗, id⊢, Memory, Routine, Calls, Loops, WpFn, Tables, Logic, Fun, tables, ‵, ◌⊛◌, ◌$◌, ◌∵◌, !, qed, by, move, keep, use1, split, join, fsplit, fsplit3, fjoin, fjoin3, feq_i, suffices, frame, done, unit_lit, of_opd, returns, enter, alloc_all, pass_all, free_all, look_at, sets, WpFn-mono, opens, closes, on_entry, Meets, triple_of, entered, says, Stays, stay_ref, walk_of, Goes-ref, ends_at, walked, walk_Meets, Heard, stay_none_slice, Goes-none_slice}
 use mir.Syntax.{named}
 use base.Fml.{GName, Lft, Share, ftrue, flft, fobs, fbor}
 use contract.Running.{tables_of}
@@ -19,16 +19,13 @@ use denote.Builtin.{u8}
 use denote.Exit.{yes}
 use denote.Slice.{ShrSlice, slice_val, shr_slice_vals, shr_slice_Tells}
 
-abbrev Arg : Type 0
-Arg = MutBor Heard × (Bor (List ℕ) × Unit {0})
-
 abbrev stayed : Stays (it.ended).signature.params (it.ended).kept
 stayed = (stay_ref (0 ∷ []) tt (plain (λ _. T.the_row)), (stay_none_slice (1 ∷ []) tt (plain (λ _. u8)) yes, tt))
 
 module _ {M : Type 1} {𝓤 : Ura M} (𝓛 : Logic 𝓤) (at_mem : Memory → SProp 𝓤) (run : Routine → Fun 𝓤) (κ κ' : Lft) (q q' : Share) (b o : ℕ) (γ : GName) (h : Heard) (s : Bor (List ℕ)) where
   open 𝓛 use {H, A}
 
-  abbrev x : Arg
+  abbrev x : MutBor Heard × (Bor (List ℕ) × Unit {0})
   x = (record { ref_ptr = (b, o); ghost_name = γ; now = h }, (s, tt))
 
   abbrev h' : Heard
@@ -62,19 +59,14 @@ module _ {M : Type 1} {𝓤 : Ura M} (𝓛 : Logic 𝓤) (at_mem : Memory → SP
         returns ! (look_at ! 0 refl) $ free_all ! refl $
         keep ! (0 ∷ 1 ∷ 2 ∷ 3 ∷ 4 ∷ []) $ by ! exits))
 
-module _ {M : Type 1} {𝓤 : Ura M} (𝓛 : Logic 𝓤) (at_mem : Memory → SProp 𝓤) (run : Routine → Fun 𝓤) where
-  open 𝓛 use {H}
-
-  walks : (C : Calls 𝓤 H) (Λ : Loops 𝓤 H) → Walks 𝓛 it.ended stayed (WpFn 𝓤 H C Λ code.function) (it.clauses 𝓛 at_mem run)
-  walks C Λ = walked 𝓛 it.ended stayed (it.clauses 𝓛 at_mem run) (WpFn 𝓤 H C Λ code.function) (λ κs. (mut_vals, (shr_slice_vals, tt))) (λ κs. (mut_Tells (named 0) κs.0 T.the_row, (shr_slice_Tells (named 1) κs.1.0 u8, tt)))
-      (λ κs qs bounds a _ are. via 𝓤 _ (fst∗ 𝓤 _ (emp 𝓤)) (walk 𝓛 at_mem run κs.0 κs.1.0 qs.0 qs.1.0 a.0.ref_ptr.0 a.0.ref_ptr.1 a.0.ghost_name a.0.now a.1.0 C Λ are.1.0.0.1.0))
-
-  goes : AllGo 𝓛 2 (it.signature).params (it.ended).kept stayed
-  goes = (Goes-ref 𝓛 2 0 tt (plain (λ _. T.the_row)), (Goes-none_slice 𝓛 2 (1 ∷ []) tt (plain (λ _. u8)) yes, tt))
-
 meets : {M : Type 1} {𝓤 : Ura M} (𝓛 : Logic 𝓤) → (at_mem : Memory → SProp 𝓤) (run : Routine → Fun 𝓤) (𝓣 : Tables 𝓤 𝓛.H)
     → Meets 𝓛 it.signature (WpFn 𝓤 𝓛.H 𝓣.C 𝓣.Λ code.function) (it.spec 𝓛 at_mem run)
-meets {𝓤 = 𝓤} 𝓛 at_mem run 𝓣 = walk_Meets 𝓛 it.ended stayed (goes 𝓛 at_mem run) (it.clauses 𝓛 at_mem run) (WpFn 𝓤 𝓛.H 𝓣.C 𝓣.Λ code.function) (WpFn-mono 𝓤 𝓛.H 𝓛.laws 𝓣 code.function) (walks 𝓛 at_mem run 𝓣.C 𝓣.Λ)
+meets {𝓤 = 𝓤} 𝓛 at_mem run 𝓣 =
+    walk_Meets 𝓛 it.ended stayed (Goes-ref 𝓛 2 0 tt (plain (λ _. T.the_row)), (Goes-none_slice 𝓛 2 (1 ∷ []) tt (plain (λ _. u8)) yes, tt))
+    (it.clauses 𝓛 at_mem run) (WpFn 𝓤 𝓛.H 𝓣.C 𝓣.Λ code.function) (WpFn-mono 𝓤 𝓛.H 𝓛.laws 𝓣 code.function)
+    (walked 𝓛 it.ended stayed (it.clauses 𝓛 at_mem run) (WpFn 𝓤 𝓛.H 𝓣.C 𝓣.Λ code.function) (λ κs. (mut_vals, (shr_slice_vals, tt)))
+    (λ κs. (mut_Tells (named 0) κs.0 T.the_row, (shr_slice_Tells (named 1) κs.1.0 u8, tt)))
+    (λ κs qs bounds a _ are. via 𝓤 _ (fst∗ 𝓤 _ (emp 𝓤)) (walk 𝓛 at_mem run κs.0 κs.1.0 qs.0 qs.1.0 a.0.ref_ptr.0 a.0.ref_ptr.1 a.0.ghost_name a.0.now a.1.0 𝓣.C 𝓣.Λ are.1.0.0.1.0)))
 
 pub note_spec : {M : Type 1} → stated.statement M
 unfolding tables_of

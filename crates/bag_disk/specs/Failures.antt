@@ -1,0 +1,7 @@
+-- How often a device has refused.
+use Rattle.std.specs.Prelude.{ℕ, length}
+use Rattle.bag_disk.specs.declared.failures.Failures.{Failures}
+
+-- a byte was heard each time
+abbrev pub count_of : Failures → ℕ
+count_of failures = length failures.heard.bytes
