@@ -1,5 +1,5 @@
 -- Texts of ASCII digits.
-use Rattle.bag_read.proofs.Common.{arith, ◌≡◌, ℕ, true, ◌&&◌, List, [], ◌∷◌, refl, ap, is_ascii_digit, list_all, all_ascii_digits, is_digits, AreDigits}
+use Rattle.bag_read.proofs.Common.{List, [], ap, arith, refl, true, ℕ, ◌&&◌, ◌∷◌, ◌≡◌, is_ascii_digit, list_all, all_ascii_digits, is_digits, AreDigits}
 use Rattle.bag_read.proofs.LineParts.{not_true, not_empty, empty_test}
 use Rattle.bag_read.proofs.PickedOut.{both_true}
 

@@ -1,5 +1,5 @@
 -- Line faults and their order.
-use Rattle.bag_read.proofs.Common.{arith, ◌≡◌, ℕ, ◌<◌, List, refl, sym, nat_cmp, nat_cmp_is, Less, Equal, eq-or-lt_of_le, cases_lt, number, Code, LineFault, line_fault, line_fault_cmp}
+use Rattle.bag_read.proofs.Common.{List, arith, refl, sym, ℕ, ◌<◌, ◌≡◌, eq-or-lt_of_le, cases_lt, nat_cmp_is, nat_cmp, Equal, Less, number, Code, line_fault, line_fault_cmp, LineFault}
 
 -- a fault is its three parts
 pub is_fault : (f : LineFault) (line : ℕ) (code : Code) (detail : List ℕ) → f.line ≡ line → f.code ≡ code → f.detail ≡ detail → f ≡ line_fault line code detail
@@ -18,7 +18,3 @@ lower m n e = grind (arith, cases_lt, eq-or-lt_of_le, same, less)
 -- a fault of an earlier line
 pub line_below : (f g : LineFault) → f.line < g.line → line_fault_cmp f g ≡ Less
 line_below f g h = rw (less f.line g.line h) refl
-
--- of two faults of one line the one of the lower code
-pub code_below : (f g : LineFault) → f.line ≡ g.line → number f.code < number g.code → line_fault_cmp f g ≡ Less
-code_below f g e h = rw (same f.line g.line e, less (number f.code) (number g.code) h) refl

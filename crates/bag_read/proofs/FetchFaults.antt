@@ -1,25 +1,21 @@
 -- The entries and the faults of fetch.txt.
-use Rattle.bag_read.proofs.Common.{arith, ◌≡◌, ℕ, true, false, List, [], ◌∷◌, refl, ap, sym, ◌∙◌, Ok, nat_cmp, on, lines_of_file, IsText, IsNoText, IsListOf, Rules, Code, NotUtf8, nothing_listed, one_listed, same_members, AreFaults, line_fault_cmp, not_utf8, entries_read, faults_read, url_of, length_of, fetch_line, entry, entry_in, IsFetch, IsFetchFault, FetchFault, LineFault, FetchEntry}
+use Rattle.bag_read.proofs.Common.{List, Ok, [], arith, false, refl, sym, true, ℕ, ◌∙◌, ◌∷◌, ◌≡◌, nat_cmp, on, nothing_listed, one_listed, same_members, lines_of_file, IsListOf, IsNoText, IsText, Code, NotUtf8, Rules, FetchFault, IsFetch, IsFetchFault, entry_in, AreFaults, entries_read, faults_read, line_fault_cmp, not_utf8, FetchEntry, LineFault, fetch_line}
 use Rattle.bag_read.proofs.FaultOrder.{is_fault}
 use Rattle.bag_read.proofs.FetchLine.{reason_code}
 use Rattle.bag_read.proofs.LinesRead.{IsRead, IsUnread, entries_listed, faults_listed}
-use Rattle.bag_read.proofs.Reason.{bind_ok, bind_err, ok_same}
+use Rattle.bag_read.proofs.Reason.{bind_err}
 use Rattle.bag_read.proofs.Utf8.{no_line}
 
 abbrev line_of : FetchEntry → ℕ
 line_of e = e.line
 
 module _ (rules : Rules) where
-  -- what a line that reads says
-  entry_parts : (n : ℕ) (line : List ℕ) (e : FetchEntry) → entry_in rules n line ≡ Ok e → (path : List ℕ) × (fetch_line rules line ≡ Ok path) × (entry n (url_of line) (length_of line) path ≡ e)
-  entry_parts n line e h = grind (arith, bind_ok, ok_same)
-
   numbered : (n : ℕ) (line : List ℕ) (e : FetchEntry) → entry_in rules n line ≡ Ok e → line_of e ≡ n
-  numbered n line e h = sym (ap line_of (entry_parts n line e h).2)
+  numbered n line e h = grind (arith, fetch_line)
 
   module _ (all : List (List ℕ)) where
     is_fetch : (e : FetchEntry) → IsRead (entry_in rules) all line_of e → IsFetch rules all e
-    is_fetch e (line, at, (some, is)) = grind (arith, entry_parts)
+    is_fetch e (line, at, (some, is)) = grind (arith, fetch_line)
 
     fetch_is : (e : FetchEntry) → IsFetch rules all e → IsRead (entry_in rules) all line_of e
     fetch_is e (line, at, (some, url, size, is)) = grind arith
@@ -48,9 +44,8 @@ module _ (rules : Rules) where
     pub entries_of_no_text : IsListOf (on (λ e. e.line) nat_cmp) (IsFetch rules (lines_of_file bytes)) []
     entries_of_no_text = nothing_listed (on (λ e. e.line) nat_cmp) (IsFetch rules (lines_of_file bytes)) (λ e h. no_line bytes other e.line h.0 h.1)
 
-    only_code : (code : Code) (f : LineFault) → f.code ≡ code → FetchFault rules code bytes f → f ≡ not_utf8
-    only_code NotUtf8 f e h = is_fault f 0 NotUtf8 [] h.0 e h.1
-    only_code code f e h = absurd (no_line bytes other f.line h.0 h.1)
+    only : (f : LineFault) → IsFetchFault rules bytes f → f ≡ not_utf8
+    only f h = grind (arith, is_fault, no_line bytes other)
 
     pub faults_of_no_text : AreFaults (IsFetchFault rules bytes) (not_utf8 ∷ [])
-    faults_of_no_text = one_listed line_fault_cmp (IsFetchFault rules bytes) not_utf8 (refl, refl, other) (λ f h. only_code f.code f refl h)
+    faults_of_no_text = one_listed line_fault_cmp (IsFetchFault rules bytes) not_utf8 (refl, refl, other) only

@@ -1,6 +1,5 @@
 -- One line of fetch.txt.
-use Rattle.bag_read.proofs.Common.{◌≡◌, ℕ, true, false, [], codes, List, subst, refl, sym, ◌∙◌, Result, Ok, Err, before_blank, after_blanks, without_prefix, unescaped, is_payload_path, is_path, Rules, Code, FetchLine, FetchEscape, FetchUnsafePath, FetchOutsidePayload, Reason, ◌>>=◌, decoded_or, url_of, length_of, written_of, lacks_part, spelling_of, fetched_path, path_spelled, entry, entry_in, FetchEntry}
-use Rattle.bag_read.specs.Fetch.{fetch_line}
+use Rattle.bag_read.proofs.Common.{Err, List, Ok, Result, [], codes, false, refl, subst, true, ℕ, ◌≡◌, is_path, is_payload_path, unescaped, after_blanks, before_blank, without_prefix, Code, FetchEscape, FetchLine, FetchOutsidePayload, FetchUnsafePath, Rules, entry, entry_in, fetched_path, lacks_part, length_of, path_spelled, spelling_of, url_of, written_of, Reason, decoded_or, ◌>>=◌, FetchEntry, fetch_line}
 use Rattle.bag_read.proofs.Reason.{IsReasonOf, then_reason, chosen, decoded_reason}
 
 module _ (rules : Rules) where
@@ -10,13 +9,10 @@ module _ (rules : Rules) where
     unfolding fetch_line
     line_lacking n e = rw (rw (first, next, last, back) at e) refl
 
-    line_with_parts : lacks_part url size written ≡ false → fetch_line rules line ≡ path_spelled rules (without_prefix (codes "./") written)
-    unfolding fetch_line
-    line_with_parts e = rw (last, back, rw (first, next, last, back) at e) refl
-
     pub line_read : (n : ℕ) (path : Result (List ℕ) Reason) → lacks_part url size written ≡ false → path ≡ path_spelled rules (without_prefix (codes "./") written)
         → ◌≡◌ {A = Result FetchEntry Reason} (path >>= λ p. Ok (entry n url size p)) (entry_in rules n line)
-    line_read n path e is = rw (first, next, back, is ∙ sym (line_with_parts e)) refl
+    unfolding fetch_line
+    line_read n path e is = rw (rw (first, next, last, back) at e, first, next, back, is, last, back) refl
 
   -- the codes of the reasons why a line doesn't read
   abbrev pub IsReasonCode : Code → Type 0

@@ -1,8 +1,7 @@
 -- What stands before the first of a character, and behind it.
-use Rattle.bag_read.proofs.Common.{◌≡◌, ◌≢◌, ℕ, suc, ◌+◌, Bool, true, false, not, ◌==◌, cond, List, [], ◌∷◌, ◌++◌, length, take, drop, refl, sym, ap, ◌∙◌, arith, append_assoc, length-append, list_all, list_any, prefix_len, before_first, after_first, nat_tests}
+use Rattle.bag_read.proofs.Common.{Bool, List, [], ap, append_assoc, arith, false, length, length-append, not, refl, sym, true, ℕ, ◌++◌, ◌==◌, ◌∙◌, ◌∷◌, ◌≡◌, ◌≢◌, nat_tests, after_first, before_first, list_all, list_any, prefix_len}
 use Rattle.bag_read.proofs.Fronts.{drop_front, take_front, front_len}
 use Rattle.bag_read.proofs.InfoLine.{has}
-use Rattle.bag_read.proofs.LineParts.{or_false}
 
 module _ (mark : ℕ) where
   abbrev is_mark : ℕ → Bool
@@ -16,13 +15,9 @@ module _ (mark : ℕ) where
   cut_at [] h = cc
   cut_at (c ∷ t) h = grind (arith, nat_tests, cut_at t)
 
-  none_on : (c : ℕ) (t : List ℕ) (b : Bool) → b ≡ false → after_first is_mark t ≡ [] → drop (cond (not b) (1 + prefix_len no_mark t) 0 + 1) (c ∷ t) ≡ []
-  none_on c t true e h = cc
-  none_on c t false e h = let back : 1 + prefix_len no_mark t + 1 ≡ suc (prefix_len no_mark t + 1) = omega arith in ap (λ n. drop n (c ∷ t)) back ∙ h
-
   none_after : (t : List ℕ) → list_any is_mark t ≡ false → after_first is_mark t ≡ []
   none_after [] e = refl
-  none_after (c ∷ t) e = let two = or_false (is_mark c) (list_any is_mark t) e in none_on c t (is_mark c) two.0 (none_after t two.1)
+  none_after (c ∷ t) e = grind (arith, nat_tests, none_after t)
 
   -- a text with something behind the first
   pub cut_before : (t : List ℕ) → after_first is_mark t ≢ [] → t ≡ before_first is_mark t ++ mark ∷ [] ++ after_first is_mark t
@@ -37,12 +32,10 @@ module _ (mark : ℕ) where
     len = grind (arith, prefix_len, at, front_len, nat_tests)
 
     pub before_is : before_first is_mark t ≡ before
-    before_is = ap (λ n. take n t) len ∙ ap (take (length before)) at ∙ take_front before (mark ∷ behind)
+    before_is = rw (len, at) (take_front before (mark ∷ behind))
 
     pub behind_is : after_first is_mark t ≡ behind
-    behind_is =
-        let long : length before + 1 ≡ length (before ++ mark ∷ []) = sym (length-append before (mark ∷ [])) in
-        ap (λ n. drop (n + 1) t) len ∙ ap (λ n. drop n t) long ∙ ap (drop (length (before ++ mark ∷ []))) e ∙ drop_front (before ++ mark ∷ []) behind
+    behind_is = rw (len, e, sym (length-append before (mark ∷ []))) (drop_front (before ++ mark ∷ []) behind)
 
     pub has_mark : list_any is_mark t ≡ true
     has_mark = has is_mark t (omega (arith, len, ap length at, length-append before (mark ∷ behind)))

@@ -1,13 +1,11 @@
 -- Whether a text has a character of a kind, by how many stand before the first.
-use Rattle.bag_read.proofs.Common.{◌≡◌, ℕ, ◌<◌, Bool, true, false, List, [], ◌∷◌, length, refl, arith, list_any, position_or_len}
+use Rattle.bag_read.proofs.Common.{Bool, List, arith, false, length, true, ℕ, ◌<◌, ◌≡◌, list_any_at, list_any_none, fails_before_first, passes_at_first, list_any, position_or_len}
 
 module _ (p : ℕ → Bool) where
   -- a text that has none
   pub lacks : (t : List ℕ) → position_or_len p t ≡ length t → list_any p t ≡ false
-  lacks [] e = refl
-  lacks (c ∷ t) e = grind (arith, lacks t)
+  lacks t e = list_any_none p t (λ k d l. fails_before_first p t k d (omega arith))
 
   -- and one that has some
   pub has : (t : List ℕ) → position_or_len p t < length t → list_any p t ≡ true
-  has [] l = absurd (omega (arith, l))
-  has (c ∷ t) l = grind (arith, has t)
+  has t l = list_any_at p t (position_or_len p t) 0 l (passes_at_first p t 0 l)

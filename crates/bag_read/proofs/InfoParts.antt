@@ -1,116 +1,86 @@
 -- The continuations of an element are the lines below it that go on with it.
-use Rattle.bag_read.proofs.Common.{◌≡◌, ℕ, zero, suc, ◌+◌, ◌-◌, ◌<◌, ◌⊎◌, inl, inr, Bool, true, false, cond, List, [], ◌∷◌, drop, map, refl, ap, sym, ◌∙◌, arith, Some, slice_get, nat_cmp, Less, IsLine, IsListOf, nothing_listed, one_listed, joined, same_members, is_continuation, begins_element, leading_continuations, continuations, GoesOn, ContinuationsAreBelow}
-use Rattle.bag_read.proofs.FaultOrder.{less}
-use Rattle.bag_read.proofs.InfoElements.{leading_more}
-use Rattle.bag_read.proofs.InfoPlaces.{clash, never_both}
+use Rattle.bag_read.proofs.Common.{Bool, List, None, Option, Some, [], add-zero, arith, cond, drop, false, get_or, length, map, not, refl, suc, sym, take, true, ℕ, ◌+◌, ◌-◌, ◌<◌, ◌∙◌, ◌∷◌, ◌≡◌, not-false, common_steps, get_or-enumerate_from, prefix_len_passes, prefix_len_stops, cond_some, get_or_from_slice_get, gets, slice_get-get_or, slice_get_within, enumerate_from, filter, prefix_len, slice_get, nat_cmp, Contains, filter_map, Less, length-numbered, IsLine, IsListOf, begins_element, continuations, is_continuation, GoesOn, IsAbove}
+use Rattle.bag_read.proofs.InfoPlaces.{never_both}
+use Rattle.bag_read.proofs.LinesRead.{number_cmp, numbers_ascend}
+use Rattle.bag_read.proofs.PickedOut.{picked, is_picked, ascending_picked}
 
--- the numbers of the leading continuations
-abbrev places : ℕ → List (List ℕ) → List ℕ
-places n [] = []
-places n (line ∷ more) = cond (begins_element line) [] (cond (is_continuation line) (n ∷ places (n + 1) more) (places (n + 1) more))
+-- the number of a numbered line that is a continuation
+abbrev pick : ℕ × List ℕ → Option ℕ
+pick x = cond (is_continuation x.1) (Some x.0) None
 
-abbrev NoneBefore : List (List ℕ) → ℕ → Type 0
-NoneBefore lines i = (h : ℕ) (text : List ℕ) → h < i → slice_get lines h ≡ Some text → begins_element text ≡ false
+rising : (x y : ℕ × List ℕ) (u v : ℕ) → pick x ≡ Some u → pick y ≡ Some v → number_cmp x y ≡ Less → nat_cmp u v ≡ Less
+rising x y u v e f h = rw (← (cond_some (is_continuation x.1) x.0 u e).1, ← (cond_some (is_continuation y.1) y.0 v f).1) h
 
-abbrev IsBelow : ℕ → List (List ℕ) → ℕ → Type 0
-IsBelow n lines k = (i : ℕ) × (text : List ℕ) × (k ≡ n + i) × (slice_get lines i ≡ Some text) × (is_continuation text ≡ true) × NoneBefore lines i
+-- a numbered line and its place
+numbered_in : (n : ℕ) (xs : List (List ℕ)) (k : ℕ) (line : List ℕ) → Contains (enumerate_from n xs) (k, line) → (i : ℕ) × (k ≡ n + i) × (slice_get xs i ≡ Some line)
+numbered_in n xs k line (i, low, at) = grind (arith, length-numbered, get_or-enumerate_from n xs i (k, line), slice_get-get_or xs i line)
 
-module _ (n : ℕ) (line : List ℕ) (more : List (List ℕ)) where
-  over : (i : ℕ) → begins_element line ≡ false → NoneBefore more i → NoneBefore (line ∷ more) (suc i)
-  over i e none zero text l at = let same : line ≡ text = cc in ap begins_element (sym same) ∙ e
-  over i e none (suc h) text l at = none h text (omega (arith, l)) at
-
-  up : (k : ℕ) → begins_element line ≡ false → IsBelow (n + 1) more k → IsBelow n (line ∷ more) k
-  up k e (i, text, place, at, continues, none) = (suc i, text, omega (arith, place), at, continues, over i e none)
-
-  first_or_below : (k : ℕ) → IsBelow n (line ∷ more) k → ((k ≡ n) × (is_continuation line ≡ true)) ⊎ ((begins_element line ≡ false) × IsBelow (n + 1) more k)
-  first_or_below k (zero, text, place, at, continues, none) = let same : line ≡ text = cc in inl (omega (arith, place), ap is_continuation same ∙ continues)
-  first_or_below k (suc i, text, place, at, continues, none) =
-      inr (none 0 line (omega arith) refl, (i, text, omega (arith, place), at, continues, λ h t l there. none (suc h) t (omega (arith, l)) there))
-
-  place_low : (a b : ℕ) → a ≡ n → IsBelow (n + 1) more b → nat_cmp a b ≡ Less
-  place_low a b e (i, text, place, at, continues, none) = less a b (omega (arith, e, place))
-
-  listed_in : (b c : Bool) → begins_element line ≡ b → is_continuation line ≡ c → IsListOf nat_cmp (IsBelow (n + 1) more) (places (n + 1) more)
-      → IsListOf nat_cmp (IsBelow n (line ∷ more)) (cond b [] (cond c (n ∷ places (n + 1) more) (places (n + 1) more)))
-  listed_in true c eb ec before =
-      nothing_listed nat_cmp (IsBelow n (line ∷ more)) (λ k below.
-      elim (first_or_below k below) [ inl x ↦ never_both line eb x.1 | inr x ↦ clash (begins_element line) eb x.0 ])
-  listed_in false false eb ec before =
-      same_members nat_cmp (IsBelow (n + 1) more) (IsBelow n (line ∷ more)) _ (λ k. up k eb) (λ k below.
-      elim (first_or_below k below) [ inl x ↦ absurd (clash (is_continuation line) x.1 ec) | inr x ↦ x.1 ]) before
-  listed_in false true eb ec before =
-      same_members nat_cmp (λ k. (k ≡ n) ⊎ IsBelow (n + 1) more k) (IsBelow n (line ∷ more)) _ to (λ k below.
-      elim (first_or_below k below) [ inl x ↦ inl x.0 | inr x ↦ inr x.1 ])
-      (joined nat_cmp (λ k. k ≡ n) (IsBelow (n + 1) more) (n ∷ []) (places (n + 1) more) (one_listed nat_cmp (λ k. k ≡ n) n refl (λ k e. e)) before place_low)
-    where
-      to : (k : ℕ) → (k ≡ n) ⊎ IsBelow (n + 1) more k → IsBelow n (line ∷ more) k
-      to k (inl e) = (0, line, omega (arith, e), refl, ec, λ h text l at. absurd (omega (arith, l)))
-      to k (inr below) = up k eb below
-
-listed : (n : ℕ) (lines : List (List ℕ)) → IsListOf nat_cmp (IsBelow n lines) (places n lines)
-listed n [] = nothing_listed nat_cmp (IsBelow n []) (λ k below. no_line below.0 below.1 below.3)
-  where
-    no_line : (i : ℕ) (text : List ℕ) → slice_get {X = List ℕ} [] i ≡ Some text → ⊥
-    no_line i text e = cc
-listed n (line ∷ more) = listed_in n line more (begins_element line) (is_continuation line) refl refl (listed (n + 1) more)
+in_numbered : (n : ℕ) (xs : List (List ℕ)) (i : ℕ) (line : List ℕ) → slice_get xs i ≡ Some line → Contains (enumerate_from n xs) (n + i, line)
+in_numbered n xs i line at =
+    (i, omega (arith, length-numbered n xs, slice_get_within xs i line at), rw (get_or-enumerate_from n xs i (n + i, line) (slice_get_within xs i line at), get_or_from_slice_get xs i line line at) refl)
 
 get_drop : (j : ℕ) (all : List (List ℕ)) (i : ℕ) → slice_get (drop j all) i ≡ slice_get all (j + i)
-get_drop zero all i = let same : i ≡ 0 + i = omega arith in ap (slice_get all) same
-get_drop (suc j) [] i = refl
-get_drop (suc j) (x ∷ xs) i = let same : suc (j + i) ≡ suc j + i = omega arith in get_drop j xs i ∙ ap (slice_get (x ∷ xs)) same
+get_drop j all i = grind (arith, gets, common_steps)
+
+in_take : (n : ℕ) (xs : List (List ℕ)) (i : ℕ) (line : List ℕ) → slice_get (take n xs) i ≡ Some line → (i < n) × (slice_get xs i ≡ Some line)
+in_take n xs i line at = grind (arith, gets, common_steps)
+
+take_in : (n : ℕ) (xs : List (List ℕ)) (i : ℕ) (line : List ℕ) → i < n → slice_get xs i ≡ Some line → slice_get (take n xs) i ≡ Some line
+take_in n xs i line low at = grind (arith, gets, common_steps)
 
 module _ (all : List (List ℕ)) where
-  values_in : (m : ℕ) (line : List ℕ) (more : List (List ℕ)) (b c : Bool) → slice_get all m ≡ Some line
-      → map (λ k. slice_get all (k - 1)) (places (m + 1 + 1) more) ≡ map Some (leading_continuations more)
-      → map (λ k. slice_get all (k - 1)) (cond b [] (cond c ((m + 1) ∷ places (m + 1 + 1) more) (places (m + 1 + 1) more))) ≡ map Some (cond b [] (cond c (line ∷ leading_continuations more) (leading_continuations more)))
-  values_in m line more true c at before = refl
-  values_in m line more false false at before = before
-  values_in m line more false true at before = grind arith
+  value_in : (n : ℕ) (line : List ℕ) (more : List (List ℕ)) → slice_get all n ≡ Some line → map (λ k. slice_get all (k - 1)) (filter_map pick (enumerate_from (n + 1 + 1) more)) ≡ map Some (filter is_continuation more)
+      → map (λ k. slice_get all (k - 1)) (filter_map pick (enumerate_from (n + 1) (line ∷ more))) ≡ map Some (filter is_continuation (line ∷ more))
+  value_in n line more at before = grind (arith, is_continuation)
 
-  values : (m : ℕ) (lines : List (List ℕ)) → ((i : ℕ) → slice_get lines i ≡ slice_get all (m + i)) → map (λ k. slice_get all (k - 1)) (places (m + 1) lines) ≡ map Some (leading_continuations lines)
-  values m [] h = refl
-  values m (line ∷ more) h =
-      let here : m ≡ m + 0 = omega arith in
-      values_in m line more (begins_element line) (is_continuation line) (ap (slice_get all) here ∙ sym (h 0)) (values (m + 1) more (next m line more h))
-      ∙ ap (map Some) (sym (leading_more line more (begins_element line) refl))
-    where
-      next : (m : ℕ) (line : List ℕ) (more : List (List ℕ)) → ((i : ℕ) → slice_get (line ∷ more) i ≡ slice_get all (m + i)) → (i : ℕ) → slice_get more i ≡ slice_get all (m + 1 + i)
-      next m line more h i = let step : m + suc i ≡ m + 1 + i = omega arith in h (suc i) ∙ ap (slice_get all) step
+  values : (n : ℕ) (xs : List (List ℕ)) → ((i : ℕ) (line : List ℕ) → slice_get xs i ≡ Some line → slice_get all (n + i) ≡ Some line) → map (λ k. slice_get all (k - 1)) (filter_map pick (enumerate_from (n + 1) xs)) ≡ map Some (filter is_continuation xs)
+  values n [] h = refl
+  values n (line ∷ more) h =
+      value_in n line more (rw add-zero at (h 0 line refl)) (values (n + 1) more (λ i l at. let step : n + 1 + i ≡ n + suc i = omega arith in rw step (h (suc i) l at)))
 
   module _ (j : ℕ) (begun : (line : List ℕ) × IsLine all j line × (begins_element line ≡ true)) where
-    goes_on : (k : ℕ) → IsBelow (j + 1) (drop j all) k → GoesOn all k j
-    goes_on k (i, text, place, at, continues, none) =
-        let back : k - 1 ≡ j + i = omega (arith, place) in (
-          (text, (omega (arith, place), ap (slice_get all) back ∙ sym (get_drop j all i) ∙ at), continues),
-          (
-            omega (arith, place),
-            begun,
-            λ h t low high there. (
-                let from : j + (h - 1 - j) ≡ h - 1 = omega (arith, low) in
-                none (h - 1 - j) t (omega (arith, low, high, place)) (get_drop j all (h - 1 - j) ∙ ap (slice_get all) from ∙ there.1)),
-          ),
-        )
+    abbrev lines : List (List ℕ)
+    lines = drop j all
 
-    below : (k : ℕ) → GoesOn all k j → IsBelow (j + 1) (drop j all) k
-    below k ((text, (some, at), continues), (low, is, none)) =
-        let from : j + (k - 1 - j) ≡ k - 1 = omega (arith, low) in (
-          k - 1 - j,
-          text,
-          omega (arith, low),
-          get_drop j all (k - 1 - j) ∙ ap (slice_get all) from ∙ at,
-          continues,
-          λ h t l there. (
-              let back : j + 1 + h - 1 ≡ j + h = omega arith in
-              none (j + 1 + h) t (omega arith) (omega (arith, l, low)) (omega arith, ap (slice_get all) back ∙ sym (get_drop j all h) ∙ there)),
-        )
+    abbrev plain : List ℕ → Bool
+    plain line = not (begins_element line)
 
-    parts : (ks : List ℕ) × IsListOf nat_cmp (λ k. GoesOn all k j) ks × (map (λ k. slice_get all (k - 1)) ks ≡ map Some (continuations all j))
+    abbrev front : List (List ℕ)
+    front = take (prefix_len plain lines) lines
+
+    at_line : (k : ℕ) (line : List ℕ) → j < k → IsLine all k line → slice_get lines (k - 1 - j) ≡ Some line
+    at_line k line low (some, at) = let back : j + (k - 1 - j) ≡ k - 1 = omega (arith, low) in rw (get_drop j all (k - 1 - j), back) at
+
+    plain_before : (i : ℕ) (line : List ℕ) → i < prefix_len plain lines → slice_get all (j + i) ≡ Some line → begins_element line ≡ false
+    plain_before i line low at = grind (arith, prefix_len_passes plain lines i line, get_or_from_slice_get lines i line line, get_drop)
+
+    goes_on : (k : ℕ) → Contains (filter_map pick (enumerate_from (j + 1) front)) k → GoesOn all k j
+    goes_on k c =
+        let (x, has, is) = picked pick (enumerate_from (j + 1) front) k c in
+        let (continues, same) = cond_some (is_continuation x.1) x.0 k is in
+        let (i, place, here) = numbered_in (j + 1) front x.0 x.1 has in
+        let (low, at) = in_take (prefix_len plain lines) lines i x.1 here in
+        let back : k - 1 ≡ j + i = omega (arith, place, same) in
+        let there : IsLine all k x.1 = (omega (arith, place, same), rw (back, ← get_drop j all i) at) in
+        ((x.1, there, continues), (omega (arith, place, same), begun, λ h t above below at. plain_before (h - 1 - j) t (omega arith) (let from : j + (h - 1 - j) ≡ h - 1 = omega arith in rw from at.1)))
+
+    stop_line : prefix_len plain lines < length lines → (line : List ℕ) × IsLine all (j + 1 + prefix_len plain lines) line × (begins_element line ≡ true)
+    stop_line low =
+        let back : j + 1 + prefix_len plain lines - 1 ≡ j + prefix_len plain lines = omega arith in
+        (get_or lines (prefix_len plain lines) [], (omega arith, rw (back, ← get_drop j all (prefix_len plain lines)) (slice_get-get_or lines (prefix_len plain lines) [] low)), not-false _ (prefix_len_stops plain lines [] low))
+
+    no_later : (k : ℕ) (text : List ℕ) → IsLine all k text → is_continuation text ≡ true → IsAbove all k j → k - 1 - j < prefix_len plain lines
+    no_later k text there continues above = grind (arith, stop_line, slice_get_within lines (k - 1 - j) text, at_line k text, never_both text)
+
+    listed : (k : ℕ) → GoesOn all k j → Contains (filter_map pick (enumerate_from (j + 1) front)) k
+    listed k ((text, there, continues), above) =
+        let place : j + 1 + (k - 1 - j) ≡ k = omega (arith, above.0) in
+        let here = take_in (prefix_len plain lines) lines (k - 1 - j) text (no_later k text there continues above) (at_line k text above.0 there) in
+        is_picked pick (enumerate_from (j + 1) front) (k, text) k (rw place at (in_numbered (j + 1) front (k - 1 - j) text here)) (rw continues refl)
+
+    pub parts : (ks : List ℕ) × IsListOf nat_cmp (λ k. GoesOn all k j) ks × (map (λ k. slice_get all (k - 1)) ks ≡ map Some (continuations all j))
     parts = (
-      places (j + 1) (drop j all),
-      same_members nat_cmp (IsBelow (j + 1) (drop j all)) (λ k. GoesOn all k j) _ goes_on below (listed (j + 1) (drop j all)),
-      values j (drop j all) (get_drop j all),
+      filter_map pick (enumerate_from (j + 1) front),
+      record { ascending = ascending_picked pick number_cmp nat_cmp rising (enumerate_from (j + 1) front) (numbers_ascend (j + 1) front); members = λ k. (goes_on k, listed k) },
+      values j front (λ i line at. sym (get_drop j all i) ∙ (in_take (prefix_len plain lines) lines i line at).1),
     )
-
-pub parts_below : ContinuationsAreBelow
-parts_below all j begun = parts all j begun

@@ -1,12 +1,9 @@
 -- Each line that isn't blank has one place.
-use Rattle.bag_read.proofs.Common.{◌≡◌, ℕ, zero, suc, ◌-◌, ◌<◌, ◌⊎◌, inl, inr, Bool, true, false, ◌||◌, List, [], ◌∷◌, take, refl, ap, sym, ◌∙◌, subst, arith, Option, Some, None, slice_get, list_any, cases_lt, is_blank_line, begins_with_blank, lines_of_file, IsLine, Code, NotUtf8, InfoLine, Rules, is_continuation, begins_element, split, continuations, value_of_parts, DoesNotSplit, IsOrphan, IsElement, InfoFault, IsAbove, GoesOn, IsFirstOf, IsPartOf, IsFaultOf, IsPassedOver, EachLineHasOnePlace, EachLineIsOfOneElement, wrong, LineFault, Element}
-
-pub clash : (b : Bool) → b ≡ true → b ≡ false → ⊥
-clash true e f = cc
-clash false e f = cc
+use Rattle.bag_read.proofs.Common.{Bool, List, None, Option, Some, ap, arith, false, get_or, inl, inr, refl, subst, suc, sym, take, true, zero, ℕ, ◌-◌, ◌<◌, ◌∙◌, ◌∷◌, ◌≡◌, ◌⊎◌, cases_Bool, cases_lt, get_or-take, length-take, list_any_at, list_any_none, get_or_from_slice_get, slice_get-get_or, slice_get_within, list_any, slice_get, IsLine, lines_of_file, begins_with_blank, is_blank_line, Rules, DoesNotSplit, IsElement, IsOrphan, begins_element, continuations, is_continuation, split, value_of_parts, EachLineHasOnePlace, GoesOn, IsAbove, IsFaultOf, IsFirstOf, IsPartOf, IsPassedOver, wrong, Element, LineFault}
+use Rattle.bag_read.proofs.Reason.{clash}
 
 same_line : (all : List (List ℕ)) (k : ℕ) (a b : List ℕ) → IsLine all k a → IsLine all k b → a ≡ b
-same_line all k a b (s, e) (t, f) = let both : Some a ≡ Some b = sym e ∙ f in cc
+same_line all k a b at there = cc
 
 -- a line that isn't blank begins an element or is a continuation
 kind : (line : List ℕ) → is_blank_line line ≡ false → (begins_element line ≡ true) ⊎ (is_continuation line ≡ true)
@@ -19,65 +16,46 @@ never_both line e f = grind (arith, is_blank_line, begins_with_blank)
 one_kind : (all : List (List ℕ)) (k : ℕ) (a b : List ℕ) → IsLine all k a → begins_element a ≡ true → IsLine all k b → is_continuation b ≡ true → ⊥
 one_kind all k a b s e t f = never_both b (ap begins_element (sym (same_line all k a b s t)) ∙ e) f
 
-or_false : (a b : Bool) → (a || b) ≡ false → (a ≡ false) × (b ≡ false)
-or_false true b e = cc
-or_false false b e = (refl, e)
-
+-- whether a line among the first passes a test
 module _ (p : List ℕ → Bool) where
   none_any : (m : ℕ) (all : List (List ℕ)) → ((i : ℕ) (line : List ℕ) → i < m → slice_get all i ≡ Some line → p line ≡ false) → list_any p (take m all) ≡ false
-  none_any zero all h = refl
-  none_any (suc m) [] h = refl
-  none_any (suc m) (x ∷ xs) h = rw (h 0 x (omega arith) refl) (none_any m xs (λ i line l at. h (suc i) line (omega (arith, l)) at))
+  none_any m all h =
+      list_any_none p (take m all) (λ i d low.
+      let short = length-take m all in
+      rw (get_or-take m all i d (omega arith)) (h i (get_or all i d) (omega arith) (slice_get-get_or all i d (omega arith))))
 
   any_none : (m : ℕ) (all : List (List ℕ)) (i : ℕ) (line : List ℕ) → list_any p (take m all) ≡ false → i < m → slice_get all i ≡ Some line → p line ≡ false
-  any_none zero all i line e l at = absurd (omega (arith, l))
-  any_none (suc m) [] i line e l at = cc
-  any_none (suc m) (x ∷ xs) zero line e l at = let same : x ≡ line = cc in ap p (sym same) ∙ (or_false (p x) (list_any p (take m xs)) e).0
-  any_none (suc m) (x ∷ xs) (suc i) line e l at = any_none m xs i line (or_false (p x) (list_any p (take m xs)) e).1 (omega (arith, l)) at
-
-abbrev begins_there : Option (List ℕ) → Bool
-begins_there None = false
-begins_there (Some line) = begins_element line
+  any_none m all i line e l at =
+      grind (arith, list_any_at p (take m all) i line, length-take, get_or-take, slice_get_within all i line at, get_or_from_slice_get all i line line at)
 
 module _ (rules : Rules) (all : List (List ℕ)) where
-  -- the last of the first m lines that begins an element, where there is one
-  abbrev Nearest : ℕ → Type 0
-  Nearest m =
-      ((j : ℕ) × (j < m) × (begins_there (slice_get all j) ≡ true) × ((i : ℕ) → j < i → i < m → begins_there (slice_get all i) ≡ false))
-      ⊎ ((i : ℕ) → i < m → begins_there (slice_get all i) ≡ false)
+  abbrev Begins : ℕ → Type 0
+  Begins n = (line : List ℕ) × IsLine all n line × (begins_element line ≡ true)
 
-  up_to : (i m : ℕ) → i < suc m → begins_there (slice_get all m) ≡ false → (i < m → begins_there (slice_get all i) ≡ false) → begins_there (slice_get all i) ≡ false
-  up_to i m l e more = grind (arith, cases_lt)
+  begins_by : (n : ℕ) (o : Option (List ℕ)) → slice_get all (n - 1) ≡ o → Begins n ⊎ ((line : List ℕ) → IsLine all n line → begins_element line ≡ false)
+  begins_by n None e = inr (λ line (some, at). cc)
+  begins_by n (Some line) e = grind (arith, cases_Bool (begins_element line), cases_lt 0 n)
 
-  nearest_step : (m : ℕ) (b : Bool) → begins_there (slice_get all m) ≡ b → Nearest m → Nearest (suc m)
-  nearest_step m true e near = inl (m, omega arith, e, λ i a l. absurd (omega (arith, a, l)))
-  nearest_step m false e (inl (j, l, is, none)) = inl (j, omega (arith, l), is, λ i a b. up_to i m b e (none i a))
-  nearest_step m false e (inr none) = inr (λ i l. up_to i m l e (none i))
+  begins_or_not : (n : ℕ) → Begins n ⊎ ((line : List ℕ) → IsLine all n line → begins_element line ≡ false)
+  begins_or_not n = begins_by n (slice_get all (n - 1)) refl
 
-  nearest : (m : ℕ) → Nearest m
-  nearest zero = inr (λ i l. absurd (omega (arith, l)))
-  nearest (suc m) = nearest_step m (begins_there (slice_get all m)) refl (nearest m)
+  -- the line above a line, or none of those before it begins an element
+  above : (k : ℕ) → ((j : ℕ) × IsAbove all k j) ⊎ ((i : ℕ) (line : List ℕ) → i < k → IsLine all i line → begins_element line ≡ false)
+  above zero = inr (λ i line l at. absurd (omega (arith, l)))
+  above (suc k) =
+      elim (begins_or_not k) [
+        | inl is ↦ inl (k, (omega arith, is, λ i line a b at. absurd (omega (arith, a, b))))
+        | inr other ↦ elim (above k) [
+          | inl (j, (low, is, none)) ↦ inl (j, (omega (arith, low), is, λ i line a b at. grind (arith, cases_lt i k)))
+          | inr none ↦ inr (λ i line b at. grind (arith, cases_lt i k))
+        ]
+      ]
 
-  begins_line : (j : ℕ) (o : Option (List ℕ)) → slice_get all j ≡ o → begins_there o ≡ true → (line : List ℕ) × (slice_get all j ≡ Some line) × (begins_element line ≡ true)
-  begins_line j None e h = cc
-  begins_line j (Some line) e h = (line, e, h)
-
-  -- the line above a line, or none that begins an element
-  pub above_or_none : (k : ℕ) → 0 < k → ((j : ℕ) × IsAbove all k j) ⊎ (list_any begins_element (take (k - 1) all) ≡ false)
-  above_or_none k some =
-      elim (nearest (k - 1)) [
-        | inl (j, l, is, none) ↦ (
-            let line = begins_line j (slice_get all j) refl is in
-            let back : suc j - 1 ≡ j = omega arith in
-            inl (
-              suc j,
-              (
-                omega (arith, l),
-                (line.0, (omega arith, ap (slice_get all) back ∙ line.1), line.2),
-                λ i text a b at. ap begins_there (sym at.1) ∙ none (i - 1) (omega (arith, a)) (omega (arith, a, b)),
-              ),
-            ))
-        | inr none ↦ inr (none_any begins_element (k - 1) all (λ i line l at. ap begins_there (sym at) ∙ none i l))
+  pub above_or_none : (k : ℕ) → ((j : ℕ) × IsAbove all k j) ⊎ (list_any begins_element (take (k - 1) all) ≡ false)
+  above_or_none k =
+      elim (above k) [
+        | inl is ↦ inl is
+        | inr none ↦ inr (none_any begins_element (k - 1) all (λ i line l at. let back : i ≡ suc i - 1 = omega arith in none (suc i) line (omega (arith, l)) (omega arith, ap (slice_get all) (sym back) ∙ at)))
       ]
 
   -- a continuation below a line is no orphan
@@ -91,14 +69,8 @@ module _ (rules : Rules) (all : List (List ℕ)) where
   same_element : (d e : Element) → IsElement rules all d → IsElement rules all e → d.line ≡ e.line → d ≡ e
   same_element d e (a, p, at, begins, splits, value) (b, q, there, starts, parts, whole) n = grind (arith, same_line)
 
-  one_element : (k : ℕ) (d e : Element) → IsFirstOf rules all k d ⊎ IsPartOf rules all k d → IsFirstOf rules all k e ⊎ IsPartOf rules all k e → d ≡ e
-  one_element k d e (inl (is, at)) (inl (other, there)) = same_element d e is other (at ∙ sym there)
-  one_element k d e (inl (is, at)) (inr (other, ((line, here, continues), above))) = grind (arith, one_kind)
-  one_element k d e (inr (is, ((line, here, continues), above))) (inl (other, there)) = grind (arith, one_kind)
-  one_element k d e (inr (is, (goes, above))) (inr (other, (continues, over))) = same_element d e is other (one_above k d.line e.line above over)
-
-pub of_one_element : EachLineIsOfOneElement
-of_one_element rules all k d e x y = one_element rules all k d e x y
+  pub one_element : (k : ℕ) (d e : Element) → IsFirstOf rules all k d ⊎ IsPartOf rules all k d → IsFirstOf rules all k e ⊎ IsPartOf rules all k e → d ≡ e
+  one_element k d e x y = grind (arith, one_kind, one_above, same_element)
 
 module _ (rules : Rules) (bytes : List ℕ) where
   abbrev lines : List (List ℕ)
@@ -108,60 +80,46 @@ module _ (rules : Rules) (bytes : List ℕ) where
   abbrev Wrong : ℕ → Type 0
   Wrong k = (line : List ℕ) × IsLine lines k line × (DoesNotSplit rules line ⊎ IsOrphan lines k line)
 
-  wrong_by : (code : Code) (f : LineFault) → InfoFault rules code bytes f → 0 < f.line → Wrong f.line
-  wrong_by NotUtf8 f h some = absurd (omega (arith, h.0, some))
-  wrong_by InfoLine f h some = (h.0, h.2, h.3)
-  wrong_by code f h some = absurd h
-
   wrong_line : (k : ℕ) (f : LineFault) → IsFaultOf rules bytes k f → 0 < k → Wrong k
-  wrong_line k f (is, at) some = subst Wrong at (wrong_by f.code f is (omega (arith, at, some)))
+  wrong_line k f is some = grind arith
 
   fault_at : (k : ℕ) → Wrong k → (f : LineFault) × IsFaultOf rules bytes k f
   fault_at k (line, at, why) = (wrong k, ((line, refl, at, why), refl))
 
   -- an element's first line is not wrong
   split_or_wrong : (k : ℕ) (e : Element) → IsElement rules lines e → e.line ≡ k → 0 < k → Wrong k → ⊥
-  split_or_wrong k e is n some (line, at, inl (begins, splits)) = grind (arith, same_line)
-  split_or_wrong k e is n some (line, at, inr (continues, lacks)) = one_kind lines k is.0 line (subst (λ m. IsLine lines m is.0) n is.2) is.3 at continues
+  split_or_wrong k e is n some wrong = grind (arith, same_line, one_kind)
 
   -- nor is a continuation below a line
   below_or_wrong : (k j : ℕ) → GoesOn lines k j → Wrong k → ⊥
-  below_or_wrong k j ((text, here, continues), above) (line, at, inl (begins, splits)) = one_kind lines k line text at begins here continues
-  below_or_wrong k j ((text, here, continues), above) (line, at, inr orphan) = never_orphan rules lines k j line above orphan
+  below_or_wrong k j ((text, here, continues), above) (line, at, why) = grind (arith, one_kind lines k line text at, never_orphan rules lines k j line above)
 
   first_or_below : (k j : ℕ) (e : Element) → IsFirstOf rules lines k e → GoesOn lines k j → ⊥
   first_or_below k j e (is, n) ((text, here, continues), above) = one_kind lines k is.0 text (subst (λ m. IsLine lines m is.0) n is.2) is.3 here continues
 
   part_or_passed : (k : ℕ) (e : Element) (f : LineFault) → IsPartOf rules lines k e → IsPassedOver rules bytes k f → ⊥
   part_or_passed k e f (is, (goes, above)) (other, (continues, over)) =
-      let same : e.line ≡ f.line = one_above rules lines k e.line f.line above over in
-      let some : 0 < f.line = omega (arith, same, is.2.0) in
-      split_or_wrong f.line e is same some (wrong_line f.line f (other, refl) some)
+      grind (arith, one_above rules lines k e.line f.line above over, split_or_wrong f.line e is, wrong_line f.line f)
 
   abbrev SomePlace : ℕ → Type 0
   SomePlace k =
       ((e : Element) × IsFirstOf rules lines k e)
       ⊎ (((e : Element) × IsPartOf rules lines k e) ⊎ (((f : LineFault) × IsFaultOf rules bytes k f) ⊎ ((f : LineFault) × IsPassedOver rules bytes k f)))
 
-  element_at : (k : ℕ) (line : List ℕ) (x : List ℕ × List ℕ) → IsLine lines k line → begins_element line ≡ true → split rules line ≡ Some x → (e : Element) × IsFirstOf rules lines k e
-  element_at k line x at begins splits =
-      (record { line = k; label = x.0; value = value_of_parts (x.1 ∷ continuations lines k) }, ((line, x.1, at, begins, splits, refl), refl))
-
-  beginning : (k : ℕ) (line : List ℕ) (s : Option (List ℕ × List ℕ)) → IsLine lines k line → begins_element line ≡ true → split rules line ≡ s → SomePlace k
-  beginning k line None at begins splits = inr (inr (inl (fault_at k (line, at, inl (begins, splits)))))
-  beginning k line (Some x) at begins splits = inl (element_at k line x at begins splits)
-
-  below : (k j : ℕ) (line : List ℕ) (s : Option (List ℕ × List ℕ)) → GoesOn lines k j → IsLine lines j line → begins_element line ≡ true → split rules line ≡ s → SomePlace k
-  unfolding fault_at element_at
-  below k j line None goes at begins splits = grind (arith, fault_at j (line, at, inl (begins, splits)))
-  below k j line (Some x) goes at begins splits = grind (arith, element_at j line x at begins splits)
+  begun_at : (k : ℕ) (line : List ℕ) (s : Option (List ℕ × List ℕ)) → IsLine lines k line → begins_element line ≡ true → split rules line ≡ s → ((e : Element) × IsFirstOf rules lines k e) ⊎ ((f : LineFault) × IsFaultOf rules bytes k f)
+  begun_at k line None at begins splits = inr (fault_at k (line, at, inl (begins, splits)))
+  begun_at k line (Some x) at begins splits =
+      inl (record { line = k; label = x.0; value = value_of_parts (x.1 ∷ continuations lines k) }, ((line, x.1, at, begins, splits, refl), refl))
 
   some_place : (k : ℕ) (line : List ℕ) → IsLine lines k line → is_blank_line line ≡ false → SomePlace k
   some_place k line at text =
       elim (kind line text) [
-        | inl begins ↦ beginning k line (split rules line) at begins refl
-        | inr continues ↦ elim (above_or_none rules lines k at.0) [
-          | inl (j, above) ↦ below k j above.1.0 (split rules above.1.0) ((line, at, continues), above) above.1.1 above.1.2 refl
+        | inl begins ↦ elim (begun_at k line (split rules line) at begins refl) [ inl is ↦ inl is | inr is ↦ inr (inr (inl is)) ]
+        | inr continues ↦ elim (above_or_none rules lines k) [
+          | inl (j, above) ↦ elim (begun_at j above.1.0 (split rules above.1.0) above.1.1 above.1.2 refl) [
+            | inl (e, (is, n)) ↦ inr (inl (e, (is, rw n ((line, at, continues), above))))
+            | inr (f, (is, n)) ↦ inr (inr (inr (f, (is, rw n ((line, at, continues), above)))))
+          ]
           | inr none ↦ inr (inr (inl (fault_at k (line, at, inr (continues, none)))))
         ]
       ]

@@ -2,13 +2,10 @@ pub mod AreDigits
 pub mod Common
 pub mod DeclarationFaults
 pub mod DeclarationLineParts
-pub mod DeclarationLines
-pub mod DeclaredLines
 pub mod FaultOrder
 pub mod FetchFaults
 pub mod FetchLine
 pub mod FetchLineParts
-pub mod FetchReasons
 pub mod FirstMark
 pub mod Fronts
 pub mod HexDigits
@@ -17,8 +14,6 @@ pub mod InfoFaults
 pub mod InfoLine
 pub mod InfoParts
 pub mod InfoPlaces
-pub mod InfoReader
-pub mod InfoSplit
 pub mod LineParts
 pub mod LinesRead
 pub mod ManifestCodes
@@ -27,9 +22,6 @@ pub mod ManifestFaults
 pub mod ManifestLine
 pub mod ManifestLineParts
 pub mod ManifestName
-pub mod ManifestReasons
-pub mod OxumNumbers
-pub mod OxumParts
 pub mod PickedOut
 pub mod Reason
 pub mod RepeatedLines

@@ -1,6 +1,5 @@
 -- The codes of a manifest's faults, their stages and their lines.
-use Rattle.std.proofs.Common.{arith}
-use Rattle.bag_read.proofs.Common.{◌≡◌, ◌≢◌, ℕ, ◌<◌, ◌⊎◌, inl, inr, List, refl, stage, Rules, Alg, Code, NotUtf8, NamedAgain, Kind, LineFault, ManifestFault, IsManifestFault}
+use Rattle.bag_read.proofs.Common.{List, arith, inl, inr, refl, ℕ, ◌<◌, ◌≡◌, ◌≢◌, ◌⊎◌, stage, Alg, Code, NamedAgain, NotUtf8, Rules, IsManifestFault, ManifestFault, Kind, LineFault}
 use Rattle.bag_read.proofs.ManifestLine.{IsReasonCode, reason_code}
 
 -- the codes of faults of a manifest's lines
@@ -25,19 +24,10 @@ module _ (rules : Rules) (kind : Kind) (alg : Alg) (bytes : List ℕ) where
   pub manifest_fault_code : (f : LineFault) → IsManifestFault rules kind alg bytes f → OfFile f.code f.line ⊎ OfLine f.code f.line
   manifest_fault_code f h = fault_code f.code f h
 
-  fault_of_line : (f : LineFault) → OfFile f.code f.line ⊎ OfLine f.code f.line → f.code ≢ NotUtf8 → OfLine f.code f.line
-  fault_of_line f (inl h) other = absurd (other h.0)
-  fault_of_line f (inr h) other = h
-
   -- a fault of another code than NotUtf8 is of stage 5
   pub manifest_fault_stage : (f : LineFault) → IsManifestFault rules kind alg bytes f → f.code ≢ NotUtf8 → stage f.code ≡ 5
-  manifest_fault_stage f h other = grind (arith, fault_of_line, manifest_fault_code)
+  manifest_fault_stage f h other = grind (arith, manifest_fault_code)
 
   -- and of a line
   pub manifest_fault_line : (f : LineFault) → IsManifestFault rules kind alg bytes f → f.code ≢ NotUtf8 → 0 < f.line
-  manifest_fault_line f h other = (fault_of_line f (manifest_fault_code f h) other).1
-
-  -- a fault of the code NotUtf8 is of the whole file, and of stage 2
-  whole_file : (code : Code) (f : LineFault) → code ≡ NotUtf8 → ManifestFault code rules kind alg bytes f → (f.line ≡ 0) × (stage code ≡ 2)
-  whole_file NotUtf8 f e h = (h.0, refl)
-  whole_file other f e h = cc
+  manifest_fault_line f h other = grind (arith, manifest_fault_code)

@@ -1,5 +1,5 @@
 -- The entries of a manifest are of the paths that its lines name, one for each path.
-use Rattle.bag_read.proofs.Common.{◌≡◌, ◌≢◌, ℕ, zero, suc, ◌+◌, ◌-◌, ◌<◌, inl, inr, Bool, true, false, cond, List, [], ◌∷◌, take, refl, ap, sym, ◌∙◌, subst, Option, Some, None, Result, Ok, Err, bytes_eq, arith, Contains, filter_map, slice_get, cons_option, cases_lt, eq-or-lt_of_le, slice_get_within, get_or_from_slice_get, bytes_eq-Decides, IsLine, is_blank_line, Rules, Alg, contains_cases, contains_first, contains_behind, contains_nothing, Kind, ManifestEntry, Reason, Reads, IsEntry, path_read, named, named_before, manifest_line}
+use Rattle.bag_read.proofs.Common.{Bool, Err, List, None, Ok, Option, Result, Some, [], ap, arith, bytes_eq, cond, false, inl, inr, refl, subst, suc, sym, take, true, ℕ, ◌+◌, ◌-◌, ◌<◌, ◌∙◌, ◌∷◌, ◌≡◌, ◌≢◌, ◌⊎◌, cases_Bool, cases_order, get_or-take, length-take, get_or_from_slice_get, slice_get-get_or, slice_get_within, bytes_eq-Decides, slice_get, Contains, filter_map, contains_cases, contains_nothing, IsLine, is_blank_line, Alg, Rules, IsEntry, Reads, named, named_before, path_read, Reason, Kind, ManifestEntry, manifest_line}
 use Rattle.bag_read.proofs.PickedOut.{picked, is_picked}
 
 module _ (rules : Rules) (kind : Kind) (alg : Alg) where
@@ -10,58 +10,39 @@ module _ (rules : Rules) (kind : Kind) (alg : Alg) where
   pub path_of_reads : (line digest path : List ℕ) → Reads rules kind alg line digest path → path_of line ≡ Some path
   path_of_reads line digest path (some, e) = rw (some, e) refl
 
-  pub reads_path : (line path : List ℕ) (b : Bool) (r : Result (List ℕ × List ℕ) Reason) → is_blank_line line ≡ b → manifest_line rules kind alg line ≡ r → cond b None (path_read r) ≡ Some path → (digest : List ℕ) × Reads rules kind alg line digest path
-  reads_path line path true r e f h = cc
-  reads_path line path false (Ok x) e f h =
-      let same : x.1 ≡ path = cc in
-      let pair : ◌≡◌ {A = List ℕ × List ℕ} x (x.0, path) = λ i. (x.0, same i) in
-      (x.0, (e, f ∙ ap Ok pair))
-  reads_path line path false (Err x) e f h = cc
+  reads_by : (line path : List ℕ) (b : Bool) (r : Result (List ℕ × List ℕ) Reason) → is_blank_line line ≡ b → manifest_line rules kind alg line ≡ r → cond b None (path_read r) ≡ Some path → (digest : List ℕ) × Reads rules kind alg line digest path
+  reads_by line path true r e f h = cc
+  reads_by line path false (Ok x) e f h = (x.0, (e, f ∙ (let same : x.1 ≡ path = cc in λ i. Ok (x.0, same i))))
+  reads_by line path false (Err x) e f h = cc
+
+  pub reads_path : (line path : List ℕ) → path_of line ≡ Some path → (digest : List ℕ) × Reads rules kind alg line digest path
+  reads_path line path e = reads_by line path (is_blank_line line) (manifest_line rules kind alg line) refl refl e
 
 take_has : (n : ℕ) (xs : List (List ℕ)) (x : List ℕ) → Contains (take n xs) x → (m : ℕ) × (m < n) × (slice_get xs m ≡ Some x)
-take_has zero xs x c = absurd (contains_nothing x c)
-take_has (suc n) [] x c = absurd (contains_nothing x c)
-take_has (suc n) (y ∷ xs) x c =
-    elim (contains_cases y (take n xs) x c) [
-      | inl e ↦ (0, omega arith, ap Some e)
-      | inr d ↦ (let more = take_has n xs x d in (suc more.0, omega (arith, more.1), more.2))
-    ]
+take_has n xs x (m, low, at) = grind (arith, length-take, get_or-take, slice_get-get_or)
 
 has_take : (n : ℕ) (xs : List (List ℕ)) (x : List ℕ) (m : ℕ) → m < n → slice_get xs m ≡ Some x → Contains (take n xs) x
-has_take zero xs x m l e = absurd (omega arith)
-has_take (suc n) [] x m l e = cc
-has_take (suc n) (y ∷ xs) x zero l e = let same : y ≡ x = cc in subst (Contains (y ∷ take n xs)) same (contains_first y (take n xs))
-has_take (suc n) (y ∷ xs) x (suc m) l e = contains_behind y (take n xs) x (has_take n xs x m (omega arith) e)
+has_take n xs x m low at = (m, omega (arith, length-take n xs, slice_get_within xs m x at), get_or-take n xs m x low ∙ get_or_from_slice_get xs m x x at)
 
 -- the first element of which a function picks out a text
 module _ {A : Type 0} (f : A → Option (List ℕ)) where
   abbrev pub IsFirstPicked : List A → List ℕ → Type 0
   IsFirstPicked xs y = (k : ℕ) × (x : A) × (slice_get xs k ≡ Some x) × (f x ≡ Some y) × ¬ (Contains (filter_map f (take k xs)) y)
 
-  abbrev gives : Option (List ℕ) → List ℕ → Bool
-  gives None y = false
-  gives (Some z) y = bytes_eq z y
+  is_or_not : (o : Option (List ℕ)) (y : List ℕ) → (o ≡ Some y) ⊎ (o ≢ Some y)
+  is_or_not None y = inr (λ e. cc)
+  is_or_not (Some z) y = grind (arith, cases_Bool (bytes_eq z y), bytes_eq-Decides z y)
 
-  not_here : (x : A) (xs : List A) (y : List ℕ) (k : ℕ) (o : Option (List ℕ)) → f x ≡ o → o ≢ Some y → ¬ (Contains (filter_map f (take k xs)) y) → ¬ (Contains (filter_map f (take (suc k) (x ∷ xs))) y)
-  not_here x xs y k None e other none = λ c. none (subst (λ o. Contains (cons_option o (filter_map f (take k xs))) y) e c)
-  not_here x xs y k (Some z) e other none = grind (arith, contains_cases)
-
-  behind : (x : A) (xs : List A) (y : List ℕ) (o : Option (List ℕ)) → f x ≡ o → o ≢ Some y → IsFirstPicked xs y → IsFirstPicked (x ∷ xs) y
-  behind x xs y o e other p = (suc p.0, p.1, p.2, p.3, not_here x xs y p.0 o e other p.4)
-
-  first_cons : (x : A) (xs : List A) (y : List ℕ) (o : Option (List ℕ)) (b : Bool) → f x ≡ o → gives o y ≡ b → Contains (cons_option o (filter_map f xs)) y → (Contains (filter_map f xs) y → IsFirstPicked xs y) → IsFirstPicked (x ∷ xs) y
-  first_cons x xs y None b e t c more = behind x xs y None e (λ h. cc) (more c)
-  first_cons x xs y (Some z) true e t c more = (0, x, refl, e ∙ ap Some ((bytes_eq-Decides z y).0 t), λ d. contains_nothing y d)
-  first_cons x xs y (Some z) false e t c more =
-      let differ : z ≢ y = λ h. (let clash : false ≡ true = sym t ∙ (bytes_eq-Decides z y).1 h in cc) in
-      elim (contains_cases z (filter_map f xs) y c) [
-        | inl same ↦ absurd (differ same)
-        | inr d ↦ behind x xs y (Some z) e (λ h. differ cc) (more d)
-      ]
+  in_rest : (x : A) (xs : List A) (y : List ℕ) → f x ≢ Some y → Contains (filter_map f (x ∷ xs)) y → Contains (filter_map f xs) y
+  in_rest x xs y other c = grind (arith, contains_cases)
 
   pub first_picked : (xs : List A) (y : List ℕ) → Contains (filter_map f xs) y → IsFirstPicked xs y
   first_picked [] y c = absurd (contains_nothing y c)
-  first_picked (x ∷ xs) y c = first_cons x xs y (f x) (gives (f x) y) refl refl c (first_picked xs y)
+  first_picked (x ∷ xs) y c =
+      elim (is_or_not (f x) y) [
+        | inl e ↦ (0, x, refl, e, contains_nothing y)
+        | inr other ↦ (let (k, z, at, is, none) = first_picked xs y (in_rest x xs y other c) in (suc k, z, at, is, λ d. none (in_rest x (take k xs) y other d)))
+      ]
 
 module _ (rules : Rules) (kind : Kind) (alg : Alg) (all : List (List ℕ)) where
   abbrev pub NamedEarlier : ℕ → List ℕ → Type 0
@@ -69,12 +50,11 @@ module _ (rules : Rules) (kind : Kind) (alg : Alg) (all : List (List ℕ)) where
 
   pub named_earlier : (n : ℕ) (path : List ℕ) → Contains (named_before rules kind alg all n) path → NamedEarlier n path
   named_earlier n path c =
-      let p = picked (path_of rules kind alg) (take (n - 1) all) path c in
-      let at = take_has (n - 1) all p.0 p.1 in
-      let r = reads_path rules kind alg p.0 path (is_blank_line p.0) (manifest_line rules kind alg p.0) refl refl p.2 in
-      let low = at.1 in
-      let step : at.0 ≡ at.0 + 1 - 1 = omega arith in
-      (at.0 + 1, p.0, r.0, omega arith, (omega arith, ap (slice_get all) (sym step) ∙ at.2), r.1)
+      let (line, has, names) = picked (path_of rules kind alg) (take (n - 1) all) path c in
+      let (m, low, at) = take_has (n - 1) all line has in
+      let (digest, reads) = reads_path rules kind alg line path names in
+      let step : m ≡ m + 1 - 1 = omega arith in
+      (m + 1, line, digest, omega arith, (omega arith, ap (slice_get all) (sym step) ∙ at), reads)
 
   pub earlier_named : (n : ℕ) (path : List ℕ) → NamedEarlier n path → Contains (named_before rules kind alg all n) path
   earlier_named n path (k, line, digest, l, (some, e), r) =
@@ -89,17 +69,11 @@ module _ (rules : Rules) (kind : Kind) (alg : Alg) (all : List (List ℕ)) where
   -- and a path that is named has an entry, of the first line that names it
   pub named_has_entry : (path : List ℕ) → Contains (named rules kind alg all) path → (e : ManifestEntry) × IsEntry rules kind alg all e × (e.path ≡ path)
   named_has_entry path c =
-      let p = first_picked (path_of rules kind alg) all path c in
-      let k = p.0 in
-      let r = reads_path rules kind alg p.1 path (is_blank_line p.1) (manifest_line rules kind alg p.1) refl refl p.3 in
+      let (k, line, at, names, none) = first_picked (path_of rules kind alg) all path c in
+      let (digest, reads) = reads_path rules kind alg line path names in
       let step : k ≡ k + 1 - 1 = omega arith in
-      let at : IsLine all (k + 1) p.1 = (omega arith, ap (slice_get all) (sym step) ∙ p.2) in
-      let first : ¬ (Contains (named_before rules kind alg all (k + 1)) path) = subst (λ n. ¬ (Contains (named rules kind alg (take n all)) path)) step p.4 in
-      (record { line = k + 1; digest = r.0; path = path }, (p.1, at, r.1, first), refl)
-
-  abbrev digest_read : Result (List ℕ × List ℕ) Reason → List ℕ
-  digest_read (Ok x) = x.0
-  digest_read (Err reason) = []
+      let first : ¬ (Contains (named_before rules kind alg all (k + 1)) path) = subst (λ n. ¬ (Contains (named rules kind alg (take n all)) path)) step none in
+      (record { line = k + 1; digest = digest; path = path }, (line, (omega arith, ap (slice_get all) (sym step) ∙ at), reads, first), refl)
 
   not_later : (e g : ManifestEntry) → IsEntry rules kind alg all e → IsEntry rules kind alg all g → e.path ≡ g.path → e.line < g.line → ⊥
   not_later e g (line, at, reads, _) (_, _, _, first) same low = grind (arith, earlier_named)
@@ -109,11 +83,4 @@ module _ (rules : Rules) (kind : Kind) (alg : Alg) (all : List (List ℕ)) where
 
   -- two entries of one path are one
   pub entry_of_path_once : (e g : ManifestEntry) → IsEntry rules kind alg all e → IsEntry rules kind alg all g → e.path ≡ g.path → e ≡ g
-  entry_of_path_once e g h k same =
-      elim (cases_lt e.line g.line) [
-        | inl low ↦ absurd (not_later e g h k same low)
-        | inr high ↦ elim (eq-or-lt_of_le high) [
-          | inl n ↦ same_line e g h k same (sym n)
-          | inr low ↦ absurd (not_later g e k h (sym same) low)
-        ]
-      ]
+  entry_of_path_once e g h k same = grind (arith, cases_order e.line g.line, not_later e g h k same, same_line e g h k same, not_later g e k h (sym same))

@@ -1,7 +1,6 @@
 -- One line of a manifest.
-use Rattle.bag_read.proofs.Common.{arith, ◌≡◌, ℕ, List, subst, refl, Ok, Err, before_blank, after_blanks, unescaped, is_payload_path, is_path, Rules, Alg, Code, ManifestLine, DigestLength, ManifestEscape, ManifestOutsidePayload, ManifestUnsafePath, TagmanifestNamesPayload, TagmanifestNamesTagmanifest, is_manifest_name, Kind, Payload, Tag, Reason, decoded_or, digest_of, spelled_path, placed, named_path, checked_digest, without_marks, line_by_spelling}
+use Rattle.bag_read.proofs.Common.{Err, List, Ok, arith, refl, subst, ℕ, ◌≡◌, is_path, is_payload_path, unescaped, after_blanks, before_blank, Alg, Code, DigestLength, ManifestEscape, ManifestLine, ManifestOutsidePayload, ManifestUnsafePath, TagmanifestNamesPayload, TagmanifestNamesTagmanifest, Rules, checked_digest, digest_of, line_by_spelling, named_path, placed, spelled_path, without_marks, is_manifest_name, Reason, decoded_or, Kind, Payload, Tag, manifest_line}
 use Rattle.bag_read.proofs.Reason.{IsReasonOf, then_reason, chosen, decoded_reason}
-use Rattle.bag_read.specs.Manifest.{manifest_line}
 
 pub line_of_bad_digest : (rules : Rules) (kind : Kind) (alg : Alg) (line : List ℕ) (reason : Reason) → checked_digest alg (before_blank line) (after_blanks line) ≡ Err reason → manifest_line rules kind alg line ≡ Err reason
 unfolding manifest_line
@@ -23,10 +22,9 @@ IsReasonCode TagmanifestNamesTagmanifest = Unit {0}
 IsReasonCode other = ⊥
 
 placed_reason : (kind : Kind) (path : List ℕ) → IsReasonOf IsReasonCode (placed kind path)
-placed_reason Payload path = chosen IsReasonCode (is_payload_path path) (Ok path) (Err (ManifestOutsidePayload, path)) tt tt
+placed_reason Payload path = chosen IsReasonCode (is_payload_path path) (Ok path) _ tt tt
 placed_reason Tag path =
-    chosen IsReasonCode (is_payload_path path) (Err (TagmanifestNamesPayload, path)) _ tt
-    (chosen IsReasonCode (is_manifest_name Tag path) (Err (TagmanifestNamesTagmanifest, path)) (Ok path) tt tt)
+    chosen IsReasonCode (is_payload_path path) (Err (TagmanifestNamesPayload, path)) _ tt (chosen IsReasonCode (is_manifest_name Tag path) (Err (TagmanifestNamesTagmanifest, path)) _ tt tt)
 
 digest_reason : (alg : Alg) (digest rest : List ℕ) → IsReasonOf IsReasonCode (checked_digest alg digest rest)
 digest_reason alg digest rest = grind (arith, chosen)

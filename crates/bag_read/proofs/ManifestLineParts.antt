@@ -1,20 +1,16 @@
 -- A line of a manifest and its parts.
-use Rattle.bag_read.proofs.Common.{◌≡◌, ◌≢◌, ℕ, ◌⊎◌, inl, inr, Bool, true, false, not, ◌==◌, cond, List, [], length, refl, sym, ap, ◌∙◌, subst, codes, Some, Result, Ok, Err, arith, IsTrue, is_ascii_hexdigit, list_all, str_to_ascii_lowercase, nat_tests, hex_len, is_path, is_payload_path, unescaped, is_blank_line, before_blank, after_blanks, without_prefix, Rules, Alg, ManifestEscape, ManifestUnsafePath, TagmanifestNamesPayload, TagmanifestNamesTagmanifest, spellings, Kind, Payload, Tag, checked_digest, digest_of, spelled_path, placed, named_path, without_marks, is_manifest_name, Reason, ◌>>=◌, decoded_or}
-use Rattle.bag_read.specs.Manifest.{manifest_line}
-use Rattle.bag_read.specs.ManifestLine.{IsSpelling, MayName, ReadsAs, LinesReadAsTheirParts, OnlyReads, HasOnlyReason, LinesReadOrHaveOneReason}
+use Rattle.bag_read.proofs.Common.{Bool, Err, List, Ok, Result, Some, [], ap, arith, codes, cond, false, inl, inr, length, refl, sym, true, ℕ, ◌∙◌, ◌≡◌, ◌≢◌, ◌⊎◌, eqb-true, nat_tests, is_ascii_hexdigit, list_all, IsTrue, str_to_ascii_lowercase, spellings, hex_len, is_path, is_payload_path, unescaped, after_blanks, before_blank, is_blank_line, without_prefix, Alg, ManifestEscape, ManifestUnsafePath, TagmanifestNamesPayload, TagmanifestNamesTagmanifest, Rules, checked_digest, digest_of, named_path, spelled_path, without_marks, is_manifest_name, Reason, decoded_or, ◌>>=◌, Kind, Payload, Tag, manifest_line}
+use Rattle.bag_read.specs.ManifestLine.{IsSpelling, MayName, ReadsAs, LinesReadAsTheirParts, OnlyReads, HasOnlyReason}
 use Rattle.bag_read.proofs.LineParts.{or_false, not_false, not_empty, empty_test, is_cut, cut_part, cut_rest, not_blank, begins_some, is_without, without_alone}
 use Rattle.bag_read.proofs.Reason.{bind_ok, decoded_ok, ok_same}
-use Rattle.bag_read.proofs.ManifestName.{named_test, named_is}
-
-pub same_number : (m n : ℕ) → (m == n) ≡ true → m ≡ n
-same_number m n e = grind (arith, nat_tests)
+use Rattle.bag_read.proofs.ManifestName.{named_test, not_named}
 
 -- a digest that passes its test
 abbrev IsGoodDigest : Alg → List ℕ → List ℕ → List ℕ → Type 0
 IsGoodDigest alg h r digest = (h ≢ []) × (list_all is_ascii_hexdigit h ≡ true) × (r ≢ []) × (length h ≡ hex_len alg) × (digest ≡ str_to_ascii_lowercase h)
 
 good_digest : (alg : Alg) (h r digest : List ℕ) → checked_digest alg h r ≡ Ok digest → IsGoodDigest alg h r digest
-good_digest alg h r digest k = grind (arith, or_false, not_empty, not_false, same_number)
+good_digest alg h r digest k = grind (arith, or_false, not_empty, not_false, eqb-true)
 
 digest_good : (alg : Alg) (h r : List ℕ) → h ≢ [] → list_all is_ascii_hexdigit h ≡ true → r ≢ [] → length h ≡ hex_len alg → checked_digest alg h r ≡ Ok (str_to_ascii_lowercase h)
 digest_good alg h r some digits follows long = grind (arith, empty_test, hex_len, nat_tests)
@@ -25,27 +21,19 @@ written_is rest = (without_prefix (codes "*") rest, is_without (codes "*") rest,
 pub written_alone : (rest spelling : List ℕ) → IsSpelling rest spelling → without_marks rest ≡ spelling
 written_alone rest spelling (unmarked, star, here) = ap (without_prefix (codes "./")) (without_alone (codes "*") rest unmarked star) ∙ without_alone (codes "./") unmarked spelling here
 
-placed_tag : (path named : List ℕ) (a b : Bool) → is_payload_path path ≡ a → is_manifest_name Tag path ≡ b
-    → cond {A = Result (List ℕ) Reason} a (Err (TagmanifestNamesPayload, path)) (cond b (Err (TagmanifestNamesTagmanifest, path)) (Ok path)) ≡ Ok named → MayName Tag path × (path ≡ named)
-placed_tag path named true b e f h = cc
-placed_tag path named false true e f h = cc
-placed_tag path named false false e f h =
-    ((e, λ alg good same. (let clash : false ≡ true = sym f ∙ named_is Tag path alg (good, same) in cc)), (let same : path ≡ named = cc in same))
+tag_ok : (path named : List ℕ) (a b c : Bool) → is_path path ≡ a → is_payload_path path ≡ b → is_manifest_name Tag path ≡ c
+    → cond {A =
+    Result (List ℕ) Reason} a (cond b (Err (TagmanifestNamesPayload, path)) (cond c (Err (TagmanifestNamesTagmanifest, path)) (Ok path))) (Err (ManifestUnsafePath, path)) ≡ Ok named → IsTrue (is_path path) × MayName Tag path × (path ≡ named)
+tag_ok path named true false false e f g h = (e, (f, not_named Tag path g), cc)
+tag_ok path named a b c e f g h = cc
 
-placed_ok : (kind : Kind) (path named : List ℕ) → placed kind path ≡ Ok named → MayName kind path × (path ≡ named)
-placed_ok Payload path named h = grind (arith, is_payload_path)
-placed_ok Tag path named h = placed_tag path named (is_payload_path path) (is_manifest_name Tag path) refl refl h
-
-may_placed : (kind : Kind) (path : List ℕ) → MayName kind path → placed kind path ≡ Ok path
-may_placed Payload path h = rw h refl
-may_placed Tag path h = rw (h.0, named_test Tag path (is_manifest_name Tag path) refl h.1) refl
-
-named_by : (kind : Kind) (path named : List ℕ) (b : Bool) → is_path path ≡ b → cond b (placed kind path) (Err (ManifestUnsafePath, path)) ≡ Ok named → IsTrue (is_path path) × MayName kind path × (path ≡ named)
-named_by kind path named true e h = let ok = placed_ok kind path named h in (e, ok.0, ok.1)
-named_by kind path named false e h = cc
+named_ok : (kind : Kind) (path named : List ℕ) → named_path kind path ≡ Ok named → IsTrue (is_path path) × MayName kind path × (path ≡ named)
+named_ok Payload path named h = grind (arith, is_path, is_payload_path)
+named_ok Tag path named h = tag_ok path named (is_path path) (is_payload_path path) (is_manifest_name Tag path) refl refl refl h
 
 safe_named : (kind : Kind) (path : List ℕ) → IsTrue (is_path path) → MayName kind path → named_path kind path ≡ Ok path
-safe_named kind path safe may = ap (λ b. cond {A = Result (List ℕ) Reason} b (placed kind path) (Err (ManifestUnsafePath, path))) safe ∙ may_placed kind path may
+safe_named Payload path safe may = rw (may, safe) refl
+safe_named Tag path safe may = rw (may.0, named_test Tag path (is_manifest_name Tag path) refl may.1, safe) refl
 
 module _ (rules : Rules) (kind : Kind) (alg : Alg) (line digest path : List ℕ) where
   abbrev IsRead : Type 0
@@ -54,15 +42,13 @@ module _ (rules : Rules) (kind : Kind) (alg : Alg) (line digest path : List ℕ)
   line_parts : IsRead → ReadsAs rules kind alg line digest path
   unfolding manifest_line
   line_parts e =
-      let first = bind_ok (digest_of alg line) _ (digest, path) e in
-      let second = bind_ok (decoded_or ManifestEscape (unescaped rules (spelled_path line)) (spelled_path line)) _ (digest, path) first.2 in
-      let third = bind_ok (named_path kind second.0) _ (digest, path) second.2 in
-      let good = good_digest alg (before_blank line) (after_blanks line) first.0 first.1 in
-      let pair = ok_same {A = List ℕ × List ℕ} (first.0, third.0) (digest, path) third.2 in
-      let digest_same : first.0 ≡ digest = ap (λ (y : List ℕ × List ℕ). y.0) pair in
-      let path_same : third.0 ≡ path = ap (λ (y : List ℕ × List ℕ). y.1) pair in
-      let named = named_by kind second.0 third.0 (is_path second.0) refl third.1 in
-      let whole : second.0 ≡ path = named.2 ∙ path_same in
+      let (d, first, more) = bind_ok (digest_of alg line) _ (digest, path) e in
+      let (p, second, rest) = bind_ok (decoded_or ManifestEscape (unescaped rules (spelled_path line)) (spelled_path line)) _ (digest, path) more in
+      let (n, third, last) = bind_ok (named_path kind p) _ (digest, path) rest in
+      let good = good_digest alg (before_blank line) (after_blanks line) d first in
+      let pair = ok_same {A = List ℕ × List ℕ} (d, n) (digest, path) last in
+      let (safe, may, same) = named_ok kind p n third in
+      let whole : p ≡ path = same ∙ ap (λ (y : List ℕ × List ℕ). y.1) pair in
       record {
         hex = before_blank line;
         rest = after_blanks line;
@@ -70,11 +56,11 @@ module _ (rules : Rules) (kind : Kind) (alg : Alg) (line digest path : List ℕ)
         parts = is_cut line good.0 good.2;
         only_digits = good.1;
         hex_length = good.3;
-        in_lower_case = sym digest_same ∙ good.4;
+        in_lower_case = sym (ap (λ (y : List ℕ × List ℕ). y.0) pair) ∙ good.4;
         written = written_is (after_blanks line);
-        spelled = (spellings rules (spelled_path line) path).1 (decoded_ok ManifestEscape (unescaped rules (spelled_path line)) (spelled_path line) second.0 second.1 ∙ ap Some whole);
-        is_safe = subst (λ p. IsTrue (is_path p)) whole named.0;
-        may_name = subst (MayName kind) whole named.1;
+        spelled = (spellings rules (spelled_path line) path).1 (decoded_ok ManifestEscape (unescaped rules (spelled_path line)) (spelled_path line) p second ∙ ap Some whole);
+        is_safe = rw whole at safe;
+        may_name = rw whole at may;
       }
 
   parts_line : ReadsAs rules kind alg line digest path → IsRead
@@ -97,20 +83,7 @@ lines_read rules kind alg line digest path = (
   λ r. (not_blank line r.hex r.rest r.parts, parts_line rules kind alg line digest path r),
 )
 
-result_by : (rules : Rules) (kind : Kind) (alg : Alg) (line : List ℕ) (r : Result (List ℕ × List ℕ) Reason) → is_blank_line line ≡ false → manifest_line rules kind alg line ≡ r → OnlyReads rules kind alg line ⊎ HasOnlyReason rules kind alg line
-result_by rules kind alg line (Ok x) some e = inl (
-  x.0,
-  x.1,
-  line_parts rules kind alg line x.0 x.1 e,
-  λ d p r. (let same : Ok x ≡ Ok (d, p) = sym e ∙ parts_line rules kind alg line d p r in let pair : ◌≡◌ {A = List ℕ × List ℕ} x (d, p) = cc in (sym (ap (λ (y : List ℕ × List ℕ). y.0) pair), sym (ap (λ (y : List ℕ × List ℕ). y.1) pair))),
-  λ reason h. (let clash : Ok x ≡ Err reason = sym e ∙ h.1 in cc),
-)
-result_by rules kind alg line (Err reason) some e = inr (
-  reason,
-  (some, e),
-  λ other h. (let same : Err reason ≡ Err other = sym e ∙ h.1 in let one : reason ≡ other = cc in sym one),
-  λ d p r. (let clash : Err reason ≡ Ok (d, p) = sym e ∙ parts_line rules kind alg line d p r in cc),
-)
-
-pub read_or_reason : LinesReadOrHaveOneReason
-read_or_reason rules kind alg line some = result_by rules kind alg line (manifest_line rules kind alg line) some refl
+pub result_by : (rules : Rules) (kind : Kind) (alg : Alg) (line : List ℕ) (r : Result (List ℕ × List ℕ) Reason) → is_blank_line line ≡ false → manifest_line rules kind alg line ≡ r → OnlyReads rules kind alg line ⊎ HasOnlyReason rules kind alg line
+result_by rules kind alg line (Ok x) some e =
+    inl (x.0, x.1, line_parts rules kind alg line x.0 x.1 e, λ d p r. let is = parts_line rules kind alg line d p r in (cc, cc), λ reason h. cc)
+result_by rules kind alg line (Err reason) some e = inr (reason, (some, e), λ other h. cc, λ d p r. let is = parts_line rules kind alg line d p r in cc)

@@ -1,5 +1,5 @@
 -- The paths of tag files.
-use Rattle.bag_read.proofs.Common.{◌≡◌, ◌≢◌, ◌++◌, ℕ, List, [], ◌∷◌, find, Option, None, Some, Bool, true, false, refl, sym, ap, ◌∙◌, arith, ◌==◌, append_assoc, get_or, MatchOption, codes, bytes_eq, nat_tests, list_all, slice_get, bytes_eq-Decides, algs, name, alg_named, Alg, Kind, Payload, Tag, manifest_name, is_alg_text, prefix}
+use Rattle.bag_read.proofs.Common.{Bool, List, MatchOption, None, Option, Some, [], ap, append_assoc, arith, bytes_eq, codes, false, find, get_or, refl, sym, true, ℕ, ◌++◌, ◌∙◌, ◌∷◌, ◌≡◌, ◌≢◌, bytes_eq-Decides, list_all, slice_get, alg_named, algs, name, Alg, is_alg_text, manifest_name, prefix, Kind, Payload, Tag}
 use Rattle.std.proofs.lemmas.List.Elements.{All-contains}
 use Rattle.std.proofs.lemmas.List.Sums.{AllPass-from_list_all}
 use Rattle.bag_text.proofs.AlgSets.{each_is_listed, name_is_read_again, names_tell_apart}
@@ -27,9 +27,6 @@ found_passes test (first ∷ rest) found e = grind (arith, find, found_passes te
 pub alg_named_is : (t : List ℕ) (a : Alg) → alg_named t ≡ Some a → t ≡ name a
 alg_named_is t a h = sym ((bytes_eq-Decides (name a) t).0 (found_passes (λ alg. bytes_eq (name alg) t) algs a h))
 
-same_name : (a b : Alg) → name a ≡ name b → a ≡ b
-same_name = names_tell_apart
-
 one_text : (kind : Kind) (a b : List ℕ) → manifest_name kind a ≡ manifest_name kind b → a ≡ b
 one_text kind a b e = same_alg kind (manifest_name kind a) (a ++ codes ".txt") a b (append_assoc (prefix kind) a (codes ".txt")) refl e
 
@@ -40,45 +37,15 @@ first t = get_or t 0 0
 abbrev fourth : List ℕ → ℕ
 fourth t = get_or t 3 0
 
-apart : (m n : ℕ) → (m == n) ≡ false → m ≡ n → ⊥
-apart m n e same = grind (arith, nat_tests)
-
 pub paths_differ : TagPathsDiffer
-paths_differ Declaration Declaration e = refl
-paths_differ Declaration Info e = absurd (apart 105 45 refl (ap fourth e))
-paths_differ Declaration Fetch e = absurd (apart 98 102 refl (ap first e))
-paths_differ Declaration (Manifest Payload a) e = absurd (apart 98 109 refl (ap first e))
-paths_differ Declaration (Manifest Tag a) e = absurd (apart 98 116 refl (ap first e))
-paths_differ Info Declaration e = absurd (apart 45 105 refl (ap fourth e))
-paths_differ Info Info e = refl
-paths_differ Info Fetch e = absurd (apart 98 102 refl (ap first e))
-paths_differ Info (Manifest Payload a) e = absurd (apart 98 109 refl (ap first e))
-paths_differ Info (Manifest Tag a) e = absurd (apart 98 116 refl (ap first e))
-paths_differ Fetch Declaration e = absurd (apart 102 98 refl (ap first e))
-paths_differ Fetch Info e = absurd (apart 102 98 refl (ap first e))
-paths_differ Fetch Fetch e = refl
-paths_differ Fetch (Manifest Payload a) e = absurd (apart 102 109 refl (ap first e))
-paths_differ Fetch (Manifest Tag a) e = absurd (apart 102 116 refl (ap first e))
-paths_differ (Manifest Payload a) Declaration e = absurd (apart 109 98 refl (ap first e))
-paths_differ (Manifest Payload a) Info e = absurd (apart 109 98 refl (ap first e))
-paths_differ (Manifest Payload a) Fetch e = absurd (apart 109 102 refl (ap first e))
-paths_differ (Manifest Payload a) (Manifest Payload b) e = ap (Manifest Payload) (same_name a b (one_text Payload (name a) (name b) e))
-paths_differ (Manifest Payload a) (Manifest Tag b) e = absurd (apart 109 116 refl (ap first e))
-paths_differ (Manifest Tag a) Declaration e = absurd (apart 116 98 refl (ap first e))
-paths_differ (Manifest Tag a) Info e = absurd (apart 116 98 refl (ap first e))
-paths_differ (Manifest Tag a) Fetch e = absurd (apart 116 102 refl (ap first e))
-paths_differ (Manifest Tag a) (Manifest Payload b) e = absurd (apart 116 109 refl (ap first e))
-paths_differ (Manifest Tag a) (Manifest Tag b) e = ap (Manifest Tag) (same_name a b (one_text Tag (name a) (name b) e))
+paths_differ a b e = grind (arith, names_tell_apart, one_text, name, first, fourth)
 
 -- no tag file's path begins with a d
 pub no_tag_begins_so : (path : List ℕ) → slice_get path 0 ≡ Some 100 → (name : TagName) → tag_path name ≢ path
-no_tag_begins_so path begins name same = grind (arith, apart)
+no_tag_begins_so path begins name same = grind arith
 
 pub in_base : TagFilesStandInTheBase
-in_base Declaration = refl
-in_base Info = refl
-in_base Fetch = refl
-in_base (Manifest kind alg) = grind (arith, each_alg)
+in_base tag_file = grind (arith, each_alg)
 
 -- the manifest of a supported algorithm, at a path that has the form of a manifest's
 pub manifest_by : (kind : Kind) (path text : List ℕ) (alg : Alg) → path ≡ manifest_name kind text → Some alg ≡ alg_named text → tag_path (Manifest kind alg) ≡ path
@@ -87,20 +54,10 @@ manifest_by kind path text alg at e = sym (at ∙ ap (manifest_name kind) (alg_n
 pub no_manifest_by : (kind : Kind) (path text : List ℕ) → path ≡ manifest_name kind text → None ≡ alg_named text → (alg : Alg) → tag_path (Manifest kind alg) ≢ path
 no_manifest_by kind path text at e alg same = grind (arith, one_text, name_named)
 
-other : (path name : List ℕ) → false ≡ bytes_eq path name → name ≢ path
-other path name e same = let clash : false ≡ true = e ∙ (bytes_eq-Decides path name).1 (sym same) in cc
-
-at_no_file : (path : List ℕ) → false ≡ bytes_eq path (codes "bagit.txt") → false ≡ bytes_eq path (codes "bag-info.txt") → false ≡ bytes_eq path (codes "fetch.txt")
-    → ((alg : Alg) → tag_path (Manifest Payload alg) ≢ path) → ((alg : Alg) → tag_path (Manifest Tag alg) ≢ path) → (name : TagName) → tag_path name ≢ path
-at_no_file path d i f payload tag Declaration = other path (codes "bagit.txt") d
-at_no_file path d i f payload tag Info = other path (codes "bag-info.txt") i
-at_no_file path d i f payload tag Fetch = other path (codes "fetch.txt") f
-at_no_file path d i f payload tag (Manifest Payload alg) = payload alg
-at_no_file path d i f payload tag (Manifest Tag alg) = tag alg
-
 -- a path that is none of the three files, nor that of a payload manifest
 pub at_no_payload : (path : List ℕ) (r : Option TagName) → false ≡ bytes_eq path (codes "bagit.txt") → false ≡ bytes_eq path (codes "bag-info.txt") → false ≡ bytes_eq path (codes "fetch.txt")
     → ((alg : Alg) → tag_path (Manifest Payload alg) ≢ path) → MatchOption r ((alg : Alg) → tag_path (Manifest Tag alg) ≢ path) (λ name. tag_path name ≡ path)
     → MatchOption r ((name : TagName) → tag_path name ≢ path) (λ name. tag_path name ≡ path)
-at_no_payload path None d i f payload tag = at_no_file path d i f payload tag
 at_no_payload path (Some name) d i f payload found = found
+at_no_payload path None d i f payload tag =
+    elim [ Manifest kind alg ↦ elim kind as (λ k. tag_path (Manifest k alg) ≢ path) [ Payload ↦ payload alg | Tag ↦ tag alg ] | _ ↦ λ e. grind (arith, bytes_eq-Decides) ]

@@ -1,6 +1,5 @@
 -- Bytes that are UTF-8, and bytes that aren't: what is read of them.
-use Rattle.std.proofs.Common.{arith}
-use Rattle.bag_read.proofs.Common.{◌≡◌, ℕ, ◌-◌, List, sym, ap, ◌∙◌, subst, Some, None, cond, Result, IfOk, is_utf8, slice_get, Ordering, IfOk-weaker, IsLine, lines, lines_of_file, lines_of_text, IsListOf, text_of, IsText, IsNoText, without_mark}
+use Rattle.bag_read.proofs.Common.{List, None, Result, Some, ap, arith, cond, subst, sym, ℕ, ◌-◌, ◌∙◌, ◌≡◌, IfOk-weaker, slice_get, IfOk, is_utf8, Ordering, IsLine, lines, lines_of_file, lines_of_text, IsListOf, IsNoText, IsText, text_of, without_mark}
 
 pub is_text : (bytes t : List ℕ) → text_of bytes ≡ Some t → IsText bytes
 is_text bytes t h = grind (arith, is_utf8)

@@ -1,20 +1,26 @@
-use Rattle.bag_read.proofs.Common.{ℕ, suc, ◌≡◌, ◌+◌, ◌∷◌, List, length, sym, ap, ◌∙◌, arith, Bor, numbered_rest, length-numbered, slice_get, enumerate_from}
+use Rattle.bag_read.proofs.Common.{List, [], arith, refl, ℕ, ◌+◌, ◌∷◌, ◌≡◌, enumerate_from, ap, length, suc, sym, ◌∙◌, Bor, length-numbered, lines, numbered_rest}
 use Rattle.std.proofs.lemmas.Iterator.Consumers.{count_from_yields_List, YieldsList-from_first}
-use Rattle.bag_text.specs.Lines as cut
-use Rattle.bag_read.proofs.DeclarationLines.{no_lines, first_line}
 use Rattle.bag_read.proofs.declaration.first_lines.Goals as goal
 
-pub returns-in_default-clause-first : goal.returns-in_default-clause-first
-returns-in_default-clause-first c = sym (ap (λ all. slice_get all 0) (no_lines 1 (cut.lines c.args.text.now) (sym c.lines-rest.ensures.rest ∙ c.in_default.ensures.steps.0)))
+-- The first lines of a text.
 
-pub returns-in_default-clause-second : goal.returns-in_default-clause-second
-returns-in_default-clause-second c = sym (ap (λ all. slice_get all 1) (no_lines 1 (cut.lines c.args.text.now) (sym c.lines-rest.ensures.rest ∙ c.in_default.ensures.steps.0)))
+no_lines : (n : ℕ) (all : List (List ℕ)) → enumerate_from n all ≡ [] → all ≡ []
+no_lines n [] e = refl
+no_lines n (line ∷ more) e = cc
 
-pub returns-in_default-next-clause-first : goal.returns-in_default-next-clause-first
-returns-in_default-next-clause-first c = grind (arith, first_line)
+-- the first of the numbered lines
+first_line : (n k : ℕ) (all : List (List ℕ)) (line : List ℕ) (rest : List (ℕ × List ℕ)) → enumerate_from n all ≡ (k, line) ∷ rest → (more : List (List ℕ)) × (all ≡ line ∷ more) × (enumerate_from (n + 1) more ≡ rest)
+first_line n k [] line rest e = cc
+first_line n k (x ∷ xs) line rest e = (xs, grind arith, grind arith)
 
-pub returns-in_default-next-clause-second : goal.returns-in_default-next-clause-second
-returns-in_default-next-clause-second c = grind (arith, first_line, no_lines)
+pub returns-in_default : goal.returns-in_default
+returns-in_default c = grind (arith, no_lines)
+
+pub returns-in_default-next : goal.returns-in_default-next
+returns-in_default-next c = grind (arith, first_line, no_lines)
+
+pub count-requires-clause-fits : goal.count-requires-clause-fits
+count-requires-clause-fits c = grind (arith, first_line, length-numbered)
 
 pub returns-clause-first : goal.returns-clause-first
 returns-clause-first c = grind (arith, first_line)
@@ -22,20 +28,11 @@ returns-clause-first c = grind (arith, first_line)
 pub returns-clause-second : goal.returns-clause-second
 returns-clause-second c = grind (arith, first_line)
 
-pub returns-in_default-clause-count : goal.returns-in_default-clause-count
-returns-in_default-clause-count c = sym (ap length (no_lines 1 (cut.lines c.args.text.now) (sym c.lines-rest.ensures.rest ∙ c.in_default.ensures.steps.0)))
-
-pub returns-in_default-next-clause-count : goal.returns-in_default-next-clause-count
-returns-in_default-next-clause-count c = grind (arith, first_line, no_lines)
-
-pub count-requires-clause-fits : goal.count-requires-clause-fits
-count-requires-clause-fits c = grind (arith, first_line, length-numbered)
-
 pub returns-clause-count : goal.returns-clause-count
 returns-clause-count c =
-    let one = first_line 1 c.in-Some.field-0-0 (cut.lines c.args.text.now) c.in-Some.first.now _ (sym c.lines-rest.ensures.rest ∙ c.in-Some.ensures.steps) in
+    let one = first_line 1 c.in-Some.field-0-0 (lines c.args.text.now) c.in-Some.first.now _ (sym c.lines-rest.ensures.rest ∙ c.in-Some.ensures.steps) in
     let two = first_line (1 + 1) c.in-Some-next.field-0-0 one.0 c.in-Some-next.second.now _ (one.2 ∙ c.in-Some-next.ensures.steps) in
-    let long : length (cut.lines c.args.text.now) ≡ suc (suc (length two.0)) = ap length (one.1 ∙ ap (λ more. c.in-Some.first.now ∷ more) two.1) in
+    let long : length (lines c.args.text.now) ≡ suc (suc (length two.0)) = ap length (one.1 ∙ ap (λ more. c.in-Some.first.now ∷ more) two.1) in
     let counted : c.count.result ≡ length (enumerate_from (1 + 1 + 1) two.0) = count_from_yields_List c.next-2.new.self c.count.result c.count.ensures.ran (YieldsList-from_first (λ (item : ℕ × Bor (List ℕ)). (item.0, item.1.now)) numbered_rest (enumerate_from (1 + 1 + 1) two.0) (sym two.2)) in
     omega (arith, counted, length-numbered (1 + 1 + 1) two.0, long)
 

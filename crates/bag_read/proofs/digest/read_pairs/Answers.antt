@@ -1,5 +1,4 @@
-use Rattle.bag_read.proofs.Common.{arith, refl}
-use Rattle.hex.specs.Hex.{encode_with}
+use Rattle.bag_read.proofs.Common.{arith, refl, encode_with}
 use Rattle.bag_read.proofs.HexDigits.{pair_read}
 use Rattle.bag_read.proofs.digest.read_pairs.Goals as goal
 

@@ -1,4 +1,4 @@
-use Rattle.bag_read.proofs.Common.{arith, ◌∙◌, sym, ap, Result, Ok, path_spelled, Reason, FetchEntry}
+use Rattle.bag_read.proofs.Common.{Ok, Result, ap, arith, sym, ◌∙◌, path_spelled, Reason, FetchEntry}
 use Rattle.bag_read.proofs.FetchLine.{line_lacking, line_read}
 use Rattle.bag_read.proofs.fetch.read_line.Goals as goal
 

@@ -1,5 +1,6 @@
-use Rattle.bag_read.proofs.FetchLineParts.{read_or_reason}
+use Rattle.bag_read.proofs.Common.{fetch_line, refl}
+use Rattle.bag_read.proofs.FetchLineParts.{result_by}
 use Rattle.bag_read.proofs.laws.fetch_lines_read_or_have_one_reason.Goals as goal
 
 pub returns : goal.returns
-returns c = read_or_reason
+returns c = λ rules line some. result_by rules line (fetch_line rules line) some refl

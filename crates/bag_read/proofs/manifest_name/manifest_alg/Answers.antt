@@ -1,4 +1,4 @@
-use Rattle.bag_read.proofs.Common.{◌≡◌, true, false, Some, sym, ap, ◌∙◌, after_prefix, is_alg_text, prefix}
+use Rattle.bag_read.proofs.Common.{Some, ap, false, sym, true, ◌∙◌, ◌≡◌, after_prefix, is_alg_text, prefix}
 use Rattle.bag_read.proofs.ManifestName.{same_alg}
 use Rattle.bag_read.proofs.Texts.{after_is}
 use Rattle.bag_read.proofs.manifest_name.manifest_alg.Goals as goal

@@ -1,17 +1,9 @@
-use Rattle.bag_read.proofs.Common.{◌≡◌, ℕ, List, Bool, true, false, not, cond, bytes_eq, refl, sym, ap, ◌∙◌, Some, arith, contains, contains_by, slice_get, nat_cmp, slice_get-get_or, text_cmp, NamesBelow}
+use Rattle.bag_read.proofs.Common.{Bool, List, Some, ap, arith, bytes_eq, cond, false, refl, sym, true, ℕ, ◌∙◌, ◌≡◌, not-false, not-true, slice_get-get_or, contains, contains_by, slice_get, nat_cmp, text_cmp, NamesBelow}
 use Rattle.std.proofs.lemmas.Map.Text.{is_eq-slice_cmp}
 use Rattle.bag_read.proofs.Reason.{clash}
 use Rattle.bag_read.proofs.RepeatedLines.{path_more, line_more, line_same, none_below, no_repeats_below, all_below}
 use Rattle.bag_read.proofs.repeats.repeated_lines.Goals as goal
 use Rattle.bag_read.proofs.repeats.repeated_lines.Goals.{then-not-branch+in_ok-insert-2, else-not-branch}
-
-had : (new was : Bool) → new ≡ not was → new ≡ false → was ≡ true
-had new true e f = refl
-had new false e f = let clash : true ≡ false = sym e ∙ f in cc
-
-lacked : (new was : Bool) → new ≡ not was → new ≡ true → was ≡ false
-lacked new true e f = let clash : false ≡ true = sym e ∙ f in cc
-lacked new false e f = refl
 
 pub loop-entry-init : goal.loop-entry-init
 loop-entry-init c = record {
@@ -33,11 +25,11 @@ loop-entry-preserved c =
       paths = path_more entries k e at before after step c.loop-entry.invariant.paths;
       lines = elim c.if-not-branch.branch [
         | then-not-branch+in_ok-insert-2 w ↦ (
-            let there : before c.as_str.result.now ≡ true = had _ (before c.as_str.result.now) c.in_ok-insert.ensures.added w.if-not-branch.true in
+            let there : before c.as_str.result.now ≡ true = not-false _ (sym c.in_ok-insert.ensures.added ∙ w.if-not-branch.true) in
             let names = (c.loop-entry.invariant.paths e.path).0 (rw c.as_str.ensures at there) in
             line_more entries k e at names (contains nat_cmp c.loop-entry.lines) (contains nat_cmp c.if-not-branch.lines) (λ n. rw w.lines-is (w.in_ok-insert-2.ensures.updates.0 n)) c.loop-entry.invariant.lines)
         | else-not-branch w ↦ (
-            let none : before c.as_str.result.now ≡ false = lacked _ (before c.as_str.result.now) c.in_ok-insert.ensures.added w.if-not-branch.false in
+            let none : before c.as_str.result.now ≡ false = not-true _ (sym c.in_ok-insert.ensures.added ∙ w.if-not-branch.false) in
             let first : ¬ (NamesBelow entries k e.path) = λ h. clash (before e.path) ((c.loop-entry.invariant.paths e.path).1 h) (rw c.as_str.ensures at none) in
             rw w.lines-is (line_same entries k e at first (contains nat_cmp c.loop-entry.lines) c.loop-entry.invariant.lines))
       ];
