@@ -1,5 +1,5 @@
 -- Paths are distinct just where they ascend once they are sorted.
-use Rattle.bag_tags.proofs.Common.{◌≡◌, ℕ, ◌+◌, ◌<◌, Bool, true, false, List, [], ◌∷◌, length, get_or, refl, ap, sym, ◌∙◌, subst, arith, bytes_eq, ◌↔◌, Bor, IsDistinct, Less, Equal, Greater, get_or-map, length-map, IsDistinct-from_apart, IsDistinct-from_sorted, IsDistinct-IsPermutation, apart_from_distinct, sorted_from_all_adjacent, text_cmp, texts_of, AreAscending}
+use Rattle.bag_tags.proofs.Common.{Bool, List, [], arith, bytes_eq, false, get_or, length, subst, sym, ℕ, ◌+◌, ◌<◌, ◌∙◌, ◌∷◌, ◌≡◌, get_or-map, length-map, IsDistinct-IsPermutation, IsDistinct-from_apart, IsDistinct-from_sorted, apart_from_distinct, sorted_from_all_adjacent, Bor, IsDistinct, ◌↔◌, Less, text_cmp, AreAscending, texts_of}
 use Rattle.std.specs.Cmp.Lexicographic.{nat_list_cmp_total, texts_ties}
 use Rattle.std.specs.List.Sorted.{IsPermutation, IsSortedBy}
 use Rattle.std.specs.declared.cmp.Ordering.{Ordering}
@@ -14,15 +14,7 @@ abbrev pub lent_lt : Lent → Lent → Bool
 lent_lt x y = is_lt (text_cmp x.now y.now)
 
 reversed_ties : (o p : Ordering) → o ≡ ordering_reverse p → is_eq o ≡ is_eq p
-reversed_ties Less Greater e = refl
-reversed_ties Equal Equal e = refl
-reversed_ties Greater Less e = refl
-reversed_ties Less Less e = cc
-reversed_ties Less Equal e = cc
-reversed_ties Equal Less e = cc
-reversed_ties Equal Greater e = cc
-reversed_ties Greater Equal e = cc
-reversed_ties Greater Greater e = cc
+reversed_ties o p e = grind arith
 
 flips : (xs ys : List ℕ) → bytes_eq xs ys ≡ bytes_eq ys xs
 flips xs ys = texts_ties xs ys ∙ reversed_ties _ _ (nat_list_cmp_total.antisymm xs ys) ∙ sym (texts_ties ys xs)
@@ -40,18 +32,14 @@ ascending_distinct (x ∷ xs) up =
     subst (λ e. IsDistinct e (texts_of lent)) ties (IsDistinct-from_sorted text_cmp (texts_of lent) rising)
 
 only_less : (o p : Ordering) → is_eq o ≡ false → is_lt p ≡ false → p ≡ ordering_reverse o → o ≡ Less
-only_less Less p e h r = refl
-only_less Equal p e h r = cc
-only_less Greater p e h r = let clash : true ≡ false = sym (ap is_lt r) ∙ h in cc
+only_less o p e h r = grind arith
 
 distinct_ascending : (lent : List Lent) → IsSortedBy lent_lt lent → IsDistinct bytes_eq (texts_of lent) → AreAscending lent
 distinct_ascending lent sorted distinct = λ k d within.
     let one = (get_or lent k d).now in
     let two = (get_or lent (k + 1) d).now in
     let room : k + 1 < length (texts_of lent) = omega (arith, length-map lent (λ (y : Lent). y.now)) in
-    let here : get_or (texts_of lent) k d.now ≡ one = get_or-map (λ (y : Lent). y.now) lent k d d.now (omega arith) in
-    let next : get_or (texts_of lent) (k + 1) d.now ≡ two = get_or-map (λ (y : Lent). y.now) lent (k + 1) d d.now within in
-    let other : bytes_eq one two ≡ false = sym (ap (λ t. bytes_eq t two) here) ∙ sym (ap (bytes_eq (get_or (texts_of lent) k d.now)) next) ∙ apart_from_distinct bytes_eq (texts_of lent) k (k + 1) d.now distinct (omega arith) room in
+    let other : bytes_eq one two ≡ false = rw (get_or-map (λ (y : Lent). y.now) lent k d d.now (omega arith), get_or-map (λ (y : Lent). y.now) lent (k + 1) d d.now within) at (apart_from_distinct bytes_eq (texts_of lent) k (k + 1) d.now distinct (omega arith) room) in
     only_less (text_cmp one two) (text_cmp two one) (sym (texts_ties one two) ∙ other) (sorted k d (omega arith) within) (nat_list_cmp_total.antisymm two one)
 
 pub distinct_by_order : (lent sorted : List Lent) → IsPermutation lent sorted → IsSortedBy lent_lt sorted → AreAscending sorted ↔ IsDistinct bytes_eq (texts_of lent)

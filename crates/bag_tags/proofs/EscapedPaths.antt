@@ -1,33 +1,18 @@
 -- Paths as they are written in manifests.
-use Rattle.bag_tags.proofs.Common.{◌≡◌, ◌≢◌, ℕ, Bool, true, false, List, [], ◌∷◌, ◌++◌, refl, ap, sym, ◌∙◌, subst, Option, Some, None, arith, codes, eqb, list_any, IsUtf8, encode_utf8_all, all_scalars, IsScalar, nat_tests, list_any-append, IsUtf8-append, IsUtf8-nil, IsUtf8-encode, IsUtf8-from_is_utf8, is_line_end, is_path, percent, unescaped_strictly, both, escape_one, escape, is_blank, unescaped_plain, read_again, BeginsUnblank, both_true, begins_with_mark}
-use Rattle.std.specs.Str.{is_utf8, chars}
+use Rattle.bag_tags.proofs.Common.{Bool, List, None, Option, Some, [], ap, arith, codes, eqb, false, refl, subst, sym, true, ℕ, ◌++◌, ◌∙◌, ◌∷◌, ◌≡◌, ◌≢◌, eqb-true, true≢false, nat_tests, list_any-append, IsUtf8-append, IsUtf8-encode, IsUtf8-nil, IsScalar, list_any, IsUtf8, all_scalars, encode_utf8_all, both_true, BeginsUnblank, read_again, unescaped_plain, is_line_end, is_path, both, escape, escape_one, percent, unescaped_strictly, is_blank, begins_with_mark, false_from_ne_true}
 use Rattle.std.specs.Char.{encode_utf8}
 use Rattle.std.proofs.lemmas.List.Concat.{flat_map-append}
 use Rattle.bag_text.proofs.Spellings.{escape-encode}
+use Rattle.bag_tags.proofs.WrittenLines.{few_utf8}
 
 pub no_end_written : (path : List ℕ) → list_any is_line_end (escape path) ≡ false
 no_end_written [] = refl
 no_end_written (c ∷ path) = grind (arith, list_any-append, no_end_written path)
 
-feed_utf8 : IsUtf8 (escape (encode_utf8 10))
-unfolding is_utf8 chars encode_utf8
-feed_utf8 = IsUtf8-from_is_utf8 (codes "%0A") refl
-
-return_utf8 : IsUtf8 (escape (encode_utf8 13))
-unfolding is_utf8 chars encode_utf8
-return_utf8 = IsUtf8-from_is_utf8 (codes "%0D") refl
-
-percent_utf8 : IsUtf8 (escape (encode_utf8 37))
-unfolding is_utf8 chars encode_utf8
-percent_utf8 = IsUtf8-from_is_utf8 (codes "%25") refl
-
-same_code : (c d : ℕ) → eqb c d ≡ true → c ≡ d
-same_code c d e = grind (arith, nat_tests)
-
 one_utf8 : (c : ℕ) (feed back mark : Bool) → eqb c 10 ≡ feed → eqb c 13 ≡ back → eqb c 37 ≡ mark → IsScalar c → IsUtf8 (escape (encode_utf8 c))
-one_utf8 c true back mark f b m s = subst (λ x. IsUtf8 (escape (encode_utf8 x))) (sym (same_code c 10 f)) feed_utf8
-one_utf8 c false true mark f b m s = subst (λ x. IsUtf8 (escape (encode_utf8 x))) (sym (same_code c 13 b)) return_utf8
-one_utf8 c false false true f b m s = subst (λ x. IsUtf8 (escape (encode_utf8 x))) (sym (same_code c 37 m)) percent_utf8
+one_utf8 c true back mark f b m s = subst (λ x. IsUtf8 (escape (encode_utf8 x))) (sym (eqb-true c 10 f)) few_utf8.3
+one_utf8 c false true mark f b m s = subst (λ x. IsUtf8 (escape (encode_utf8 x))) (sym (eqb-true c 13 b)) few_utf8.4
+one_utf8 c false false true f b m s = subst (λ x. IsUtf8 (escape (encode_utf8 x))) (sym (eqb-true c 37 m)) few_utf8.5
 one_utf8 c false false false f b m s = subst IsUtf8 (sym (escape-encode c (rw (f, b, m) refl))) (IsUtf8-encode c s)
 
 chars_utf8 : (cs : List ℕ) → all_scalars cs ≡ true → IsUtf8 (escape (encode_utf8_all cs))
@@ -49,21 +34,6 @@ plain_by h path (Some rest) e = (rest, let same : h ∷ rest ≡ path = cc in sy
 plain_first : (h : ℕ) (more path : List ℕ) → h ≢ percent → unescaped_strictly (h ∷ more) ≡ Some path → (rest : List ℕ) × (path ≡ h ∷ rest) × (unescaped_strictly more ≡ Some rest)
 plain_first h more path other e = plain_by h path (unescaped_strictly more) (sym (unescaped_plain h more other) ∙ e)
 
-star_no_percent : 42 ≢ percent
-star_no_percent same = omega (arith, same)
-
-dot_no_percent : 46 ≢ percent
-dot_no_percent same = omega (arith, same)
-
-slash_no_percent : 47 ≢ percent
-slash_no_percent same = omega (arith, same)
-
-never : true ≡ false → ⊥
-never e = cc
-
-blank_no_percent : (c : ℕ) → is_blank c ≡ true → c ≢ percent
-blank_no_percent c e same = grind (arith, nat_tests)
-
 module _ (path : List ℕ) where
   spelled : (s : List ℕ) → escape path ≡ s → unescaped_strictly s ≡ Some path
   spelled s e = sym (ap unescaped_strictly e) ∙ read_again path
@@ -71,18 +41,17 @@ module _ (path : List ℕ) where
   module _ (unmarked : begins_with_mark path ≡ false) where
     -- it begins with no *
     pub no_star : (more : List ℕ) → escape path ≢ codes "*" ++ more
-    no_star more e = let (rest, is, _) = plain_first 42 more path star_no_percent (spelled (42 ∷ more) e) in never (sym (ap begins_with_mark is) ∙ unmarked)
-
-    first_by : (c : ℕ) (more : List ℕ) (b : Bool) → is_blank c ≡ b → escape path ≡ c ∷ more → b ≡ false
-    first_by c more false e h = refl
-    first_by c more true e h =
-        let (rest, is, _) = plain_first c more path (blank_no_percent c e) (spelled (c ∷ more) h) in
-        let begins : begins_with_mark (c ∷ rest) ≡ true = rw e refl in
-        sym begins ∙ sym (ap begins_with_mark is) ∙ unmarked
+    no_star more e =
+        let (rest, is, _) = plain_first 42 more path (λ same. omega (arith, same)) (spelled (42 ∷ more) e) in
+        true≢false (sym (ap begins_with_mark is) ∙ unmarked)
 
     begins_by : (s : List ℕ) → escape path ≡ s → path ≢ [] → BeginsUnblank s
-    begins_by [] e some = let empty : Some [] ≡ Some path = spelled [] e in let same : [] ≡ path = cc in absurd (some (sym same))
-    begins_by (c ∷ more) e some = (c, more, refl, first_by c more (is_blank c) refl e)
+    begins_by [] e some = let empty : Some [] ≡ Some path = spelled [] e in absurd (some cc)
+    begins_by (c ∷ more) e some =
+        let first = λ (b : is_blank c ≡ true).
+        let (rest, is, _) = plain_first c more path (λ same. grind (arith, nat_tests)) (spelled (c ∷ more) e) in
+        true≢false (rw (is, b) at unmarked) in
+        (c, more, refl, false_from_ne_true (is_blank c) first)
 
     -- nor with a blank
     pub begins_unblank : path ≢ [] → BeginsUnblank (escape path)
@@ -91,7 +60,7 @@ module _ (path : List ℕ) where
   -- nor with ./
   pub no_dot_slash : is_path path ≡ true → (more : List ℕ) → escape path ≢ codes "./" ++ more
   no_dot_slash safe more e =
-      let (behind, is, next) = plain_first 46 (47 ∷ more) path dot_no_percent (spelled (46 ∷ 47 ∷ more) e) in
-      let (rest, then, _) = plain_first 47 more behind slash_no_percent next in
+      let (behind, is, next) = plain_first 46 (47 ∷ more) path (λ same. omega (arith, same)) (spelled (46 ∷ 47 ∷ more) e) in
+      let (rest, then, _) = plain_first 47 more behind (λ same. omega (arith, same)) next in
       let whole : path ≡ 46 ∷ 47 ∷ rest = is ∙ ap (λ t. 46 ∷ t) then in
-      never (sym safe ∙ ap is_path whole)
+      true≢false (sym safe ∙ ap is_path whole)

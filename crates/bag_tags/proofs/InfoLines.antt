@@ -1,10 +1,8 @@
 -- The line of an element that can be written, as it is read.
-use Rattle.bag_tags.proofs.Common.{◌≡◌, ◌≢◌, ℕ, ◌+◌, Bool, true, false, not, List, [], ◌∷◌, ◌++◌, length, take, drop, map, refl, ap, ◌∙◌, Some, arith, codes, append_assoc, AllByRecursion, list_any, list_all, before_first, after_first, position_or_len, IsUtf8, nat_tests, list_any-append, IsUtf8-append, IsUtf8-from_is_utf8, is_line_end, has_mark, trim, IsText, V10, is_colon, is_label, split, begins_element, leading_continuations, value_of_parts, or_false, empty_test, not_empty, NewElement, info_line, has_outer_blank, is_bad_element}
-use Rattle.std.specs.Char.{encode_utf8}
-use Rattle.std.specs.Str.{is_utf8, chars}
+use Rattle.bag_tags.proofs.Common.{Bool, List, Some, [], ap, append_assoc, arith, codes, drop, false, length, map, not, refl, true, ℕ, ◌++◌, ◌+◌, ◌∙◌, ◌∷◌, ◌≡◌, ◌≢◌, drop-append-add, nat_tests, list_any-append, IsUtf8-append, IsUtf8-from_is_utf8, AllByRecursion, after_first, before_first, list_all, list_any, position_or_len, empty_test, not_empty, or_false, begins_element, is_colon, is_label, leading_continuations, split, value_of_parts, is_line_end, IsText, has_mark, trim, V10, NewElement, has_outer_blank, info_line, is_bad_element}
 use Rattle.bag_read.proofs.Fronts.{front_len, take_front}
 use Rattle.bag_tags.proofs.TrimmedTexts.{trimmed, trim_behind, first_unblank, ends_unblank}
-use Rattle.bag_tags.proofs.WrittenLines.{IsWritten, behind}
+use Rattle.bag_tags.proofs.WrittenLines.{IsWritten, behind, few_utf8}
 
 -- what is known of an element that can be written
 abbrev pub IsGood : NewElement → Type 0
@@ -20,14 +18,6 @@ record GoodLabel (t : List ℕ) : Type 0 where
 none_passes : (p : ℕ → Bool) (t : List ℕ) → list_any p t ≡ false → list_all (λ c. not (p c)) t ≡ true
 none_passes p [] e = refl
 none_passes p (c ∷ t) e = let two = or_false (p c) (list_any p t) e in rw (two.0) (none_passes p t two.1)
-
-drop_past : (xs : List ℕ) (c : ℕ) (ys : List ℕ) → drop (length xs + 1) (xs ++ c ∷ ys) ≡ ys
-drop_past [] c ys = refl
-drop_past (x ∷ xs) c ys = grind (arith, drop_past xs c ys)
-
-separator_utf8 : IsUtf8 (codes ": ")
-unfolding is_utf8 chars encode_utf8
-separator_utf8 = IsUtf8-from_is_utf8 (codes ": ") refl
 
 module _ (label value : List ℕ) where
   abbrev element : NewElement
@@ -48,10 +38,10 @@ module _ (label value : List ℕ) where
     good_colon = grind (arith, front_len, none_passes)
 
     before : before_first is_colon (label ++ 58 ∷ behind_label) ≡ label
-    before = ap (λ n. take n (label ++ 58 ∷ behind_label)) good_colon ∙ take_front label (58 ∷ behind_label)
+    before = rw good_colon (take_front label (58 ∷ behind_label))
 
     after : after_first is_colon (label ++ 58 ∷ behind_label) ≡ behind_label
-    after = ap (λ n. drop (n + 1) (label ++ 58 ∷ behind_label)) good_colon ∙ drop_past label 58 behind_label
+    after = ap (λ n. drop (n + 1) (label ++ 58 ∷ behind_label)) good_colon ∙ drop-append-add label (58 ∷ behind_label) 1
 
     label_stands : is_label label ≡ true
     label_stands = grind (arith, empty_test, ends_unblank)
@@ -88,7 +78,7 @@ module _ (e : NewElement) (good : IsGood e) where
 
   pub written : IsWritten info_line e
   written = (
-    IsUtf8-append (e.0 ++ codes ": ") e.1 (IsUtf8-append e.0 (codes ": ") (IsUtf8-from_is_utf8 e.0 good.1) separator_utf8) (IsUtf8-from_is_utf8 e.1 good.2),
+    IsUtf8-append (e.0 ++ codes ": ") e.1 (IsUtf8-append e.0 (codes ": ") (IsUtf8-from_is_utf8 e.0 good.1) few_utf8.1) (IsUtf8-from_is_utf8 e.1 good.2),
     no_line_end e.0 e.1 label_good value_good.0,
     marked_nowhere e.0 e.1 label_good,
   )

@@ -1,5 +1,5 @@
 -- The elements that are written are read again, and no others, with no fault.
-use Rattle.bag_tags.proofs.Common.{arith, ◌≡◌, ℕ, inl, inr, Bool, true, false, not, ◌&&◌, List, [], ◌∷◌, map, ap, sym, ◌∙◌, subst, Some, None, AllByRecursion, list_any, recursion_from_All, lines_of_file, IsLine, IsText, V10, Code, NotUtf8, InfoLine, begins_element, continuations, split, value_of_parts, InfoFault, IsElement, LineFault, or_false, NewElement, info_line, info_text, is_bad_element, StandsOn, InfoIsReadAgain}
+use Rattle.bag_tags.proofs.Common.{Bool, List, None, Some, [], ap, arith, false, inl, inr, map, not, subst, sym, true, ℕ, ◌&&◌, ◌∙◌, ◌∷◌, ◌≡◌, recursion_from_All, none-some, AllByRecursion, list_any, or_false, InfoFault, IsElement, begins_element, continuations, split, value_of_parts, LineFault, IsLine, lines_of_file, IsText, Code, InfoLine, NotUtf8, V10, NewElement, info_line, info_text, is_bad_element, InfoIsReadAgain, StandsOn}
 use Rattle.bag_read.specs.declared.info.Element.{Element}
 use Rattle.bag_tags.proofs.InfoLines.{IsGood, splits, begins, part_is_value, written, no_continuation}
 use Rattle.bag_tags.proofs.WrittenLines.{IsWritten, at_place, file_lines, is_text, line_of_item, item_on_line}
@@ -13,9 +13,7 @@ written_each [] all = tt
 written_each (x ∷ xs) all = (written x all.0, written_each xs all.1)
 
 no_both : (b w : Bool) → (not b && w) ≡ true → (not b && not w) ≡ true → ⊥
-no_both true w e f = cc
-no_both false true e f = cc
-no_both false false e f = cc
+no_both b w e f = grind arith
 
 same_split : (x y : NewElement) → Some x ≡ Some y → (x.0 ≡ y.0) × (x.1 ≡ y.1)
 same_split x y e = let same : x ≡ y = cc in (ap (λ (p : NewElement). p.0) same, ap (λ (p : NewElement). p.1) same)
@@ -48,7 +46,7 @@ module _ (elements : List NewElement) (all : AllByRecursion IsGood elements) whe
   no_fault_at n line is =
       let (x, stands, same) = line_of_item info_line elements n line is in
       let good = good_at n x stands in
-      (ap begins_element same ∙ begins x good, λ none. (let clash : Some (x.0, 32 ∷ x.1) ≡ None = sym (splits x good) ∙ sym (ap (split V10) same) ∙ none in cc))
+      (ap begins_element same ∙ begins x good, λ none. none-some _ (sym none ∙ ap (split V10) same ∙ splits x good))
 
   abbrev bytes : List ℕ
   bytes = info_text elements

@@ -7,6 +7,5 @@ pub mod InfoLines
 pub mod InfoReadAgain
 pub mod ManifestLines
 pub mod ManifestReadAgain
-pub mod PartsWritten
 pub mod TrimmedTexts
 pub mod WrittenLines

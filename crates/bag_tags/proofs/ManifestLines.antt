@@ -1,22 +1,11 @@
 -- The line of an entry that can be written, as it is read.
-use Rattle.bag_tags.proofs.Common.{arith, ◌≡◌, ℕ, inr, true, false, not, ◌&&◌, List, ◌++◌, refl, sym, ◌∙◌, codes, append_assoc, nat_lt, list_any, IsUtf8, list_any-append, IsUtf8-append, IsUtf8-from_is_utf8, is_line_end, is_path, is_payload_path, escape, IsText, has_mark, V10, Alg, strict_spellings, read_again, IsCut, or_false, not_false, not_true, both_true, Reads, Kind, Payload, Tag, named_is, NewEntry, entry_line, is_bad_digest, is_bad_path, is_bad_entry, is_tag_manifest, may_name, begins_with_mark}
-use Rattle.std.specs.Char.{encode_utf8}
-use Rattle.std.specs.Str.{is_utf8, chars}
+use Rattle.bag_tags.proofs.Common.{List, append_assoc, arith, codes, false, inr, nat_lt, not, refl, true, ℕ, ◌&&◌, ◌++◌, ◌≡◌, list_any-append, IsUtf8-append, IsUtf8-from_is_utf8, list_any, not_false, not_true, or_false, both_true, IsCut, Reads, Kind, Payload, Tag, read_again, strict_spellings, is_line_end, is_path, is_payload_path, escape, IsText, has_mark, Alg, V10, NewEntry, begins_with_mark, entry_line, is_bad_digest, is_bad_entry, is_bad_path, is_tag_manifest, may_name}
 use Rattle.bag_read.specs.ManifestLine.{IsSpelling, MayName, ReadsAs}
 use Rattle.bag_read.proofs.ManifestLineParts.{lines_read}
+use Rattle.bag_read.proofs.ManifestName.{not_named}
 use Rattle.bag_tags.proofs.EscapedPaths.{no_end_written, written_utf8, no_star, begins_unblank, no_dot_slash}
 use Rattle.bag_tags.proofs.HexTexts.{all_hex, no_blank, hex_utf8, no_hex_end, low_hex, no_hex_mark, digest_length, digest_digits, digest_some}
-use Rattle.bag_tags.proofs.WrittenLines.{IsWritten}
-
-module _ (path : List ℕ) (e : may_name Tag path ≡ true) where
-  tag_parts : (is_path path && not (is_payload_path path) ≡ true) × (not (is_tag_manifest path) ≡ true)
-  tag_parts = both_true (is_path path && not (is_payload_path path)) (not (is_tag_manifest path)) e
-
-  tag_place : MayName Tag path
-  tag_place = (
-    not_true _ (both_true (is_path path) (not (is_payload_path path)) tag_parts.0).1,
-    λ alg good same. (let clash : true ≡ false = sym (named_is Tag path alg (good, same)) ∙ not_true _ tag_parts.1 in cc),
-  )
+use Rattle.bag_tags.proofs.WrittenLines.{IsWritten, few_utf8}
 
 safe : (kind : Kind) (path : List ℕ) → may_name kind path ≡ true → is_path path ≡ true
 safe Payload path e = grind (arith, both_true, nat_lt)
@@ -24,11 +13,9 @@ safe Tag path e = grind (arith, both_true)
 
 place : (kind : Kind) (path : List ℕ) → may_name kind path ≡ true → MayName kind path
 place Payload path e = e
-place Tag path e = tag_place path e
-
-spaces_utf8 : IsUtf8 (codes "  ")
-unfolding is_utf8 chars encode_utf8
-spaces_utf8 = IsUtf8-from_is_utf8 (codes "  ") refl
+place Tag path e =
+    let (outside, other) = both_true (is_path path && not (is_payload_path path)) (not (is_tag_manifest path)) e in
+    (not_true _ (both_true (is_path path) (not (is_payload_path path)) outside).1, not_named Tag path (not_true _ other))
 
 module _ (kind : Kind) (alg : Alg) (entry : NewEntry) (good : is_bad_entry kind alg entry ≡ false) where
   abbrev digest : List ℕ
@@ -71,7 +58,7 @@ module _ (kind : Kind) (alg : Alg) (entry : NewEntry) (good : is_bad_entry kind 
   pub written : IsText path → IsWritten entry_line entry
   written text = (
     IsUtf8-append (digest ++ codes "  ") (escape path)
-        (IsUtf8-append digest (codes "  ") (hex_utf8 digest (digest_digits alg digest parts.0)) spaces_utf8)
+        (IsUtf8-append digest (codes "  ") (hex_utf8 digest (digest_digits alg digest parts.0)) few_utf8.2)
         (written_utf8 path (IsUtf8-from_is_utf8 path text)),
     no_line_end,
     marked_nowhere,

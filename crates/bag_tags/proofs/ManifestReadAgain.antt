@@ -1,20 +1,13 @@
 -- The entries that are written are read again, and no others, with no fault.
-use Rattle.bag_tags.proofs.Common.{◌≡◌, ℕ, zero, suc, ◌-◌, inl, inr, true, false, List, [], ◌∷◌, map, take, refl, ap, sym, ◌∙◌, subst, Some, Result, Ok, Err, arith, bytes_eq, option_map, Contains, AllByRecursion, list_any, slice_get, recursion_from_All, IsDistinct-head, IsDistinct-tail, slice_get-map, bytes_eq-Decides, lines_of_file, IsLine, IsText, V10, Alg, Code, NotUtf8, NamedAgain, LineFault, or_false, Reads, named, named_before, manifest_line, IsEntry, ManifestFault, Kind, NewEntry, entry_line, manifest_text, is_bad_entry, paths, NamesEachOnce, StandsOn, ManifestIsReadAgain}
+use Rattle.bag_tags.proofs.Common.{List, Some, [], ap, arith, bytes_eq, false, inl, inr, map, option_map, refl, subst, suc, sym, take, true, zero, ℕ, ◌∙◌, ◌∷◌, ◌≡◌, true≢false, take-map, All-from_recursion, All-take, recursion_from_All, IsDistinct-head, IsDistinct-tail, slice_get-map, bytes_eq-Decides, AllByRecursion, list_any, slice_get, Contains, or_false, IsEntry, ManifestFault, Reads, manifest_line, named, named_before, Kind, LineFault, IsLine, lines_of_file, IsText, Alg, Code, NamedAgain, NotUtf8, V10, NamesEachOnce, NewEntry, entry_line, is_bad_entry, manifest_text, paths, ManifestIsReadAgain, StandsOn}
 use Rattle.bag_text.proofs.ListOf.{contains_cases, contains_nothing}
-use Rattle.bag_read.specs.Reason.{Reason}
+use Rattle.bag_read.proofs.Reason.{never_ok, ok_same}
 use Rattle.bag_read.specs.declared.manifest.ManifestEntry.{ManifestEntry}
 use Rattle.bag_tags.proofs.ManifestLines.{reads, written}
 use Rattle.bag_tags.proofs.WrittenLines.{IsWritten, at_place, file_lines, is_text, line_of_item, item_on_line}
 
-take_map : (k : ℕ) (entries : List NewEntry) → take k (map entry_line entries) ≡ map entry_line (take k entries)
-take_map zero entries = refl
-take_map (suc k) [] = refl
-take_map (suc k) (x ∷ xs) = ap (λ more. entry_line x ∷ more) (take_map k xs)
-
 taken : {A : Type 0} (P : A → Type 0) (k : ℕ) (xs : List A) → AllByRecursion P xs → AllByRecursion P (take k xs)
-taken P zero xs all = tt
-taken P (suc k) [] all = tt
-taken P (suc k) (x ∷ xs) all = (all.0, taken P k xs all.1)
+taken P k xs all = recursion_from_All P (take k xs) (All-take P k xs (All-from_recursion P xs all))
 
 -- a path that stands on one place stands on none before it
 apart : (entries : List NewEntry) (k : ℕ) (x : NewEntry) → NamesEachOnce entries → slice_get entries k ≡ Some x → Contains (paths (take k entries)) x.1 → ⊥
@@ -25,16 +18,9 @@ apart (y ∷ ys) (suc k) x once e c =
       | inl same ↦ (
           let there : slice_get (paths ys) k ≡ Some x.1 = slice_get-map (λ (z : NewEntry). z.1) ys k ∙ ap (option_map (λ (z : NewEntry). z.1)) e in
           let other = at_place (λ p. bytes_eq y.1 p ≡ false) (paths ys) k x.1 (IsDistinct-head bytes_eq y.1 (paths ys) once) there in
-          let clash : false ≡ true = sym other ∙ (bytes_eq-Decides y.1 x.1).1 same in
-          cc)
+          true≢false (sym ((bytes_eq-Decides y.1 x.1).1 same) ∙ other))
       | inr before ↦ apart ys k x (IsDistinct-tail bytes_eq y.1 (paths ys) once) e before
     ]
-
-same_reading : (x y : NewEntry) → ◌≡◌ {A = Result NewEntry Reason} (Ok x) (Ok y) → x ≡ y
-same_reading x y e = cc
-
-no_reason : (x : NewEntry) (reason : Reason) → ◌≡◌ {A = Result NewEntry Reason} (Ok x) (Err reason) → ⊥
-no_reason x reason e = cc
 
 module _ (kind : Kind) (alg : Alg) where
   abbrev IsGood : NewEntry → Type 0
@@ -61,12 +47,12 @@ module _ (kind : Kind) (alg : Alg) where
     reads_at n x (k, at, is) = reads kind alg x (at_place IsGood entries k x all is).0
 
     first_named : (n : ℕ) (x : NewEntry) → StandsOn entries n x → ¬ (Contains (named_before V10 kind alg here n) x.1)
-    first_named n x (k, at, is) c = grind (arith, take_map, named_each, taken, apart)
+    first_named n x (k, at, is) c = grind (arith, take-map entry_line, named_each, taken, apart)
 
     same_entry : (n : ℕ) (line digest path : List ℕ) → IsLine here n line → Reads V10 kind alg line digest path → StandsOn entries n (digest, path)
     same_entry n line digest path is read =
         let (x, stands, same) = line_of_item entry_line entries n line is in
-        let pair : ◌≡◌ {A = NewEntry} x (digest, path) = same_reading x (digest, path) (sym (reads_at n x stands).1 ∙ sym (ap (manifest_line V10 kind alg) same) ∙ read.1) in
+        let pair : ◌≡◌ {A = NewEntry} x (digest, path) = ok_same x (digest, path) (sym (reads_at n x stands).1 ∙ sym (ap (manifest_line V10 kind alg) same) ∙ read.1) in
         subst (StandsOn entries n) pair stands
 
     to : (e : ManifestEntry) → IsEntry V10 kind alg here e → StandsOn entries e.line (e.digest, e.path)
@@ -90,7 +76,7 @@ module _ (kind : Kind) (alg : Alg) where
         first_named f.line (digest, f.detail) stands (subst (λ ls. Contains (named_before V10 kind alg ls f.line) f.detail) lines_are again)
     no_fault code f w =
         let (x, stands, same) = line_of_item entry_line entries f.line w.0 (subst (λ ls. IsLine ls f.line w.0) lines_are w.1) in
-        no_reason x (code, f.detail) (sym (reads_at f.line x stands).1 ∙ sym (ap (manifest_line V10 kind alg) same) ∙ w.2.1)
+        never_ok x (code, f.detail) (sym (reads_at f.line x stands).1 ∙ sym (ap (manifest_line V10 kind alg) same) ∙ w.2.1)
 
 pub manifest_again : ManifestIsReadAgain
 manifest_again kind alg entries texts can =

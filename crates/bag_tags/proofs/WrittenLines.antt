@@ -1,12 +1,12 @@
 -- Lines that are written, each with an LF behind it, are the lines that are read.
-use Rattle.bag_tags.proofs.Common.{◌≡◌, ℕ, zero, suc, ◌-◌, false, List, [], ◌∷◌, ◌++◌, drop, map, flat_map, append_assoc, refl, ap, ◌∙◌, subst, Some, arith, AllByRecursion, list_any, slice_get, IsUtf8, nat_tests, All-from_recursion, slice_get-map, IsUtf8-append, IsUtf8-nil, IsUtf8-from_is_utf8, is_utf8-from_IsUtf8, is_line_end, line_feed, lines, lines_of_file, HasNoEnd, IsLine, IsText, has_mark, or_false, StandsOn}
+use Rattle.bag_tags.proofs.Common.{List, Some, [], ap, append_assoc, arith, codes, drop, false, flat_map, map, refl, subst, true, ℕ, ◌++◌, ◌∙◌, ◌∷◌, ◌≡◌, nat_tests, All-drop, All-from_recursion, recursion_from_All, get_or_from_slice_get, slice_get-map, slice_get_within, IsUtf8-append, IsUtf8-from_is_utf8, IsUtf8-nil, is_utf8-from_IsUtf8, AllByRecursion, list_any, slice_get, IsUtf8, or_false, is_line_end, HasNoEnd, IsLine, line_feed, lines, lines_of_file, escape, IsText, has_mark, StandsOn}
 use Rattle.std.specs.Char.{encode_utf8}
 use Rattle.std.specs.Str.{is_utf8, chars}
 use Rattle.bag_text.proofs.FirstLine.{lines_split}
 use Rattle.bag_text.proofs.LineLaws.{IsPlain}
 
 plain_one : (c : ℕ) → is_line_end c ≡ false → IsPlain c
-plain_one c e = ((λ feed. grind (arith, nat_tests)), (λ back. grind (arith, nat_tests)))
+plain_one c e = (λ feed. grind (arith, nat_tests), λ back. grind (arith, nat_tests))
 
 plain_each : (t : List ℕ) → list_any is_line_end t ≡ false → AllByRecursion IsPlain t
 plain_each [] e = tt
@@ -16,20 +16,19 @@ plain_each (c ∷ t) e = let two = or_false (is_line_end c) (list_any is_line_en
 pub no_end : (t : List ℕ) → list_any is_line_end t ≡ false → HasNoEnd t
 no_end t e = All-from_recursion IsPlain t (plain_each t e)
 
-feed_utf8 : IsUtf8 (line_feed ∷ [])
+-- what is written between texts and for characters that are escaped
+pub few_utf8 : IsUtf8 (line_feed ∷ []) × IsUtf8 (codes ": ") × IsUtf8 (codes "  ") × IsUtf8 (escape (encode_utf8 10)) × IsUtf8 (escape (encode_utf8 13)) × IsUtf8 (escape (encode_utf8 37))
 unfolding is_utf8 chars encode_utf8
-feed_utf8 = IsUtf8-from_is_utf8 (line_feed ∷ []) refl
+few_utf8 =
+    let text = λ (t : List ℕ) (e : is_utf8 t ≡ true). IsUtf8-from_is_utf8 t e in
+    (text _ refl, text _ refl, text _ refl, text (codes "%0A") refl, text (codes "%0D") refl, text (codes "%25") refl)
 
 -- what is known of each element of a list is known of those behind
 pub behind : {A : Type 0} (P : A → Type 0) (k : ℕ) (xs : List A) → AllByRecursion P xs → AllByRecursion P (drop k xs)
-behind P zero xs all = all
-behind P (suc k) [] all = tt
-behind P (suc k) (x ∷ xs) all = behind P k xs all.1
+behind P k xs all = recursion_from_All P (drop k xs) (All-drop P k xs (All-from_recursion P xs all))
 
 pub at_place : {A : Type 0} (P : A → Type 0) (xs : List A) (k : ℕ) (x : A) → AllByRecursion P xs → slice_get xs k ≡ Some x → P x
-at_place P [] k x all e = cc
-at_place P (y ∷ ys) zero x all e = let same : y ≡ x = cc in subst P same all.0
-at_place P (y ∷ ys) (suc k) x all e = at_place P ys k x all.1 e
+at_place P xs k x all e = subst P (get_or_from_slice_get xs k x x e) (All-from_recursion P xs all k x (slice_get_within xs k x e))
 
 -- two texts
 abbrev Pair : Type 0
@@ -45,7 +44,7 @@ module _ (line : Pair → List ℕ) where
 
   text_utf8 : (items : List Pair) → AllByRecursion IsWritten items → IsUtf8 (text items)
   text_utf8 [] all = IsUtf8-nil
-  text_utf8 (x ∷ xs) all = IsUtf8-append (line x ++ line_feed ∷ []) (text xs) (IsUtf8-append (line x) (line_feed ∷ []) all.0.0 feed_utf8) (text_utf8 xs all.1)
+  text_utf8 (x ∷ xs) all = IsUtf8-append (line x ++ line_feed ∷ []) (text xs) (IsUtf8-append (line x) (line_feed ∷ []) all.0.0 few_utf8.0) (text_utf8 xs all.1)
 
   pub is_text : (items : List Pair) → AllByRecursion IsWritten items → IsText (text items)
   is_text items all = is_utf8-from_IsUtf8 (text items) (text_utf8 items all)
