@@ -1,6 +1,5 @@
 -- Sets of algorithms.
-use Rattle.bag_text.proofs.Common.{◌≡◌, ◌↔◌, ◌⊎◌, inl, inr, ℕ, zero, suc, ◌-◌, ◌<◌, Bool, true, false, not, ◌||◌, List, [], ◌∷◌, filter, map, IsTrue, refl, sym, ap, subst, ◌∙◌, length, arith, get_or, set, rules, ◌+◌, ◌++◌, take, cond, append-nil, list_any, nat_tests, get_or-set_at, get_or-set_other, take_more, filter-append, algs, rank, EachIsListed, ListAscends, NameIsReadAgain, NamesTellApart, same_alg, has_member, with_member, IsTable, flag, members, same_alg_same, has_each, has_member-filter, flags_are}
-use Rattle.std.proofs.Common.{Contains}
+use Rattle.bag_text.proofs.Common.{Bool, IsTrue, List, [], ap, append-nil, arith, cond, false, filter, get_or, inl, inr, length, map, not, refl, rules, set, subst, sym, take, true, ℕ, ◌++◌, ◌+◌, ◌-◌, ◌<◌, ◌||◌, ◌↔◌, ◌∙◌, ◌∷◌, ◌≡◌, ◌⊎◌, or_cases, or_right, nat_tests, get_or-set_at, get_or-set_other, filter_more, list_any_at, list_any, Contains, EachIsListed, ListAscends, NameIsReadAgain, NamesTellApart, algs, rank, has_member, same_alg, with_member, IsTable, flag, members, flags_are, has_each, has_member-filter, same_alg_same}
 use Rattle.std.specs.Bool.{beq}
 use Rattle.std.specs.List.Sorted.{IsStrictlySortedBy}
 use Rattle.std.proofs.lemmas.Map.Views.{Contains-from_any}
@@ -15,17 +14,8 @@ same_alg_self a = grind (arith, nat_tests)
 pub Contains-from_has_member : (set : List Alg) (alg : Alg) → has_member set alg ≡ true → Contains set alg
 Contains-from_has_member set alg e = Contains-from_any {eq = same_alg} same_alg_same alg set e
 
-or_right : (b c : Bool) → c ≡ true → (b || c) ≡ true
-or_right true c e = refl
-or_right false c e = e
-
-has_member_at : (set : List Alg) (alg : Alg) (k : ℕ) → k < length set → get_or set k alg ≡ alg → has_member set alg ≡ true
-has_member_at [] alg k l e = absurd (omega arith)
-has_member_at (x ∷ set) alg zero l e = ap (λ b. b || has_member set alg) (ap (same_alg alg) e ∙ same_alg_self alg)
-has_member_at (x ∷ set) alg (suc k) l e = or_right (same_alg alg x) _ (has_member_at set alg k (omega arith) e)
-
 pub has_member-from_Contains : (set : List Alg) (alg : Alg) → Contains set alg → has_member set alg ≡ true
-has_member-from_Contains set alg (k, l, e) = has_member_at set alg k l e
+has_member-from_Contains set alg (k, l, e) = list_any_at (same_alg alg) set k alg l (ap (same_alg alg) e ∙ same_alg_self alg)
 
 -- a set that a test makes
 pub Contains-filter : (p : Alg → Bool) (alg : Alg) → Contains (filter p algs) alg ↔ IsTrue (p alg)
@@ -50,16 +40,11 @@ flag_more s alg a long = grind (arith, nat_tests, get_or-set_at, rank_within, ge
 pub members_more : (s : Inside) (alg : Alg) → IsTable s → members (record { flags = set s.flags (rank alg - 1) true }) ≡ with_member (members s) alg
 members_more s alg long = (λ i. filter (λ a. flag_more s alg a long i) algs) ∙ sym (with_member-filter (flag s) alg)
 
-either : (b c : Bool) → (b || c) ≡ true → (b ≡ true) ⊎ (c ≡ true)
-either true c e = inl refl
-either false c e = inr e
-
 -- the members of a set with one more
 pub Contains-with_member : (p : Alg → Bool) (alg a : Alg) → Contains (with_member (filter p algs) alg) a ↔ (Contains (filter p algs) a ⊎ (a ≡ alg))
 Contains-with_member p alg a =
-    let there = Contains-filter p a in
     let here = Contains-filter (λ x. same_alg x alg || has_member (filter p algs) x) a in (
-      (λ h. elim (either (same_alg a alg) (has_member (filter p algs) a) (here.0 h)) [ inl same ↦ inr (same_alg_same a alg same) | inr old ↦ inl (Contains-from_has_member _ a old) ]),
+      (λ h. elim (or_cases (same_alg a alg) (has_member (filter p algs) a) (here.0 h)) [ inl same ↦ inr (same_alg_same a alg same) | inr old ↦ inl (Contains-from_has_member _ a old) ]),
       (λ h. here.1 (elim h [ inl old ↦ or_right (same_alg a alg) _ (has_member-from_Contains _ a old) | inr same ↦ ap (λ b. b || has_member (filter p algs) a) (ap (λ x. same_alg x alg) same ∙ same_alg_self alg) ])),
     )
 
@@ -92,15 +77,10 @@ names_tell_apart a b e = cc (name_is_read_again a, name_is_read_again b)
 
 -- the members among the first algorithms, and among one more
 module _ (set : List Alg) (p : Alg → Bool) (i : ℕ) (some : List Alg) (is : filter p algs ≡ set) (lt : i < length algs) (so_far : some ≡ filter (has_member set) (take i algs)) where
-  test : has_member set (get_or algs i Md5) ≡ p (get_or algs i Md5)
-  test = ap (λ s. has_member s (get_or algs i Md5)) (sym is) ∙ has_member-filter p (get_or algs i Md5)
-
   kept : (b : Bool) → p (get_or algs i Md5) ≡ b → filter (has_member set) (take (i + 1) algs) ≡ some ++ cond b (get_or algs i Md5 ∷ []) []
   kept b e =
-      ap (filter (has_member set)) (take_more algs i Md5 lt)
-      ∙ filter-append (has_member set) (take i algs) (get_or algs i Md5 ∷ [])
-      ∙ ap (λ b. filter (has_member set) (take i algs) ++ cond b (get_or algs i Md5 ∷ []) []) (test ∙ e)
-      ∙ ap (λ xs. xs ++ cond b (get_or algs i Md5 ∷ []) []) (sym so_far)
+      let test : has_member set (get_or algs i Md5) ≡ b = ap (λ s. has_member s (get_or algs i Md5)) (sym is) ∙ has_member-filter p (get_or algs i Md5) ∙ e in
+      filter_more (has_member set) algs i Md5 lt ∙ rw (test, so_far) refl
 
   pub member_more : p (get_or algs i Md5) ≡ true → some ++ get_or algs i Md5 ∷ [] ≡ filter (has_member set) (take (i + 1) algs)
   member_more e = sym (kept true e)

@@ -1,9 +1,8 @@
 -- Codes in the table of codes are found by their numbers.
-use Rattle.std.proofs.Common.{arith}
-use Rattle.bag_text.proofs.Common.{◌≡◌, List, [], ◌∷◌, ℕ, Bool, Option, None, Some, unwrap_or, find, map, ◌==◌, refl, sym, ap, ◌∙◌, Bor, option_map}
+use Rattle.bag_text.proofs.Common.{Bool, Bor, List, None, Option, Some, [], ap, arith, find, map, refl, sym, unwrap_or, ℕ, ◌==◌, ◌∙◌, ◌∷◌, ◌≡◌, option_map}
 use Rattle.bag_text.specs.Code.{number, word, all_codes, words}
 use Rattle.bag_text.specs.declared.code.Code.{Code}
-use Rattle.bag_text.specs.declared.code.Code.TheVariants.{NoDeclaration, DeclarationNotUtf8, DeclarationLineCount, DeclarationLine, VersionUnsupported, EncodingUnsupported, NoPayloadFolder, NoPayloadManifest, AlgorithmUnsupported, NotUtf8, InfoLine, OxumMalformed, OxumAgain, OxumDiffers, NoOxum, FetchLine, FetchEscape, FetchUnsafePath, FetchOutsidePayload, FetchNotInManifest, ManifestLine, DigestLength, ManifestEscape, ManifestUnsafePath, ManifestOutsidePayload, TagmanifestNamesPayload, TagmanifestNamesTagmanifest, NamedAgain, PayloadManifestNotListed, PayloadFileMissing, TagFileMissing, PayloadFileNotListed, NameClash, PayloadSumDiffers, TagSumDiffers, ProfileIdentifier, LabelRequired, LabelRepeated, ValueNotAllowed, ManifestRequired, ManifestNotAllowed, TagmanifestRequired, TagmanifestNotAllowed, TagFileRequired, TagFileNotAllowed, FetchNotAllowed, VersionNotAccepted, SerializationRequired}
+use Rattle.bag_text.specs.declared.code.Code.TheVariants.{NoDeclaration}
 
 -- the code of this number
 abbrev pub code_numbered : ℕ → Option Code
@@ -11,53 +10,7 @@ code_numbered n = find (λ code. number code == n) all_codes
 
 pub numbered_code : (c : Code) → code_numbered (number c) ≡ Some c
 numbered_code NoDeclaration = refl
-numbered_code DeclarationNotUtf8 = refl
-numbered_code DeclarationLineCount = refl
-numbered_code DeclarationLine = refl
-numbered_code VersionUnsupported = refl
-numbered_code EncodingUnsupported = refl
-numbered_code NoPayloadFolder = refl
-numbered_code NoPayloadManifest = refl
-numbered_code AlgorithmUnsupported = refl
-numbered_code NotUtf8 = refl
-numbered_code InfoLine = refl
-numbered_code OxumMalformed = refl
-numbered_code OxumAgain = refl
-numbered_code OxumDiffers = refl
-numbered_code NoOxum = refl
-numbered_code FetchLine = refl
-numbered_code FetchEscape = refl
-numbered_code FetchUnsafePath = refl
-numbered_code FetchOutsidePayload = refl
-numbered_code FetchNotInManifest = refl
-numbered_code ManifestLine = refl
-numbered_code DigestLength = refl
-numbered_code ManifestEscape = refl
-numbered_code ManifestUnsafePath = refl
-numbered_code ManifestOutsidePayload = refl
-numbered_code TagmanifestNamesPayload = refl
-numbered_code TagmanifestNamesTagmanifest = refl
-numbered_code NamedAgain = refl
-numbered_code PayloadManifestNotListed = refl
-numbered_code PayloadFileMissing = refl
-numbered_code TagFileMissing = refl
-numbered_code PayloadFileNotListed = refl
-numbered_code NameClash = refl
-numbered_code PayloadSumDiffers = refl
-numbered_code TagSumDiffers = refl
-numbered_code ProfileIdentifier = refl
-numbered_code LabelRequired = refl
-numbered_code LabelRepeated = refl
-numbered_code ValueNotAllowed = refl
-numbered_code ManifestRequired = refl
-numbered_code ManifestNotAllowed = refl
-numbered_code TagmanifestRequired = refl
-numbered_code TagmanifestNotAllowed = refl
-numbered_code TagFileRequired = refl
-numbered_code TagFileNotAllowed = refl
-numbered_code FetchNotAllowed = refl
-numbered_code VersionNotAccepted = refl
-numbered_code SerializationRequired = refl
+numbered_code _ = refl
 
 -- what is found in a mapped list is mapped
 found_mapped : {A B : Type 0} (f : A → B) (test : B → Bool) (xs : List A) → option_map f (find (λ x. test (f x)) xs) ≡ find test (map f xs)

@@ -1,13 +1,14 @@
 -- The names that this crate's proofs cite, passed on from one place. Declares nothing.
 pub use Rattle.std.proofs.Common.{All, Bool, Bor, IsTrue, List, None, Option, Some, [], ap, append-nil, append_assoc, arith, bytes_eq, cond, drop, encode_utf8, eqb, false, filter, find, get_or, inl, inr, is_some, length, lit<, map, min, nat_eq, nat_lt, not, position, refl, replicate, reverse, rules, set, string_bytes, subst, suc, sym, take, true, unwrap_or, zero, ℕ, ◌&&◌, ◌++◌, ◌+◌, ◌-◌, ◌<◌, ◌==◌, ◌^◌, ◌||◌, ◌↔◌, ◌∙◌, ◌∷◌, ◌≡◌, ◌≢◌, ◌≤◌, ◌⊎◌}
 pub use Rattle.std.proofs.Math.Seq.{drop-cons, take-append-add, take-append_seam}
-pub use Rattle.std.proofs.lemmas.Bool.{and_parts, cases_lt}
+pub use Rattle.std.proofs.lemmas.Bool.{and_parts, both_ways, cases_Bool, cases_lt, eqb-false, eqb-true, false_from_ne_true, or_cases, or_right}
 pub use Rattle.std.proofs.lemmas.Bool.Decides.{nat_tests}
 pub use Rattle.std.proofs.lemmas.Grind.{common_steps, get_or-set_at}
 pub use Rattle.std.proofs.lemmas.List.{drop-replicate, get_or-drop, get_or-reverse, get_or-set_other, get_or-take, get_or_default, length-drop, length-reverse, length-take-le, reverse-append, reverse-reverse, take-append-drop, take-append-le, take-replicate, take_more}
-pub use Rattle.std.proofs.lemmas.List.Elements.{All-from_recursion, filter-append, recursion_from_All}
-pub use Rattle.std.proofs.lemmas.List.Folds.{list_all-append, list_all_at}
-pub use Rattle.std.proofs.lemmas.List.Sums.{AllPass-from_list_all, common_prefix_len-le, list_all-from_AllPass, prefix_len-le-length, prefix_len_passes, prefix_len_stops, suffix_len-le-length}
+pub use Rattle.std.proofs.lemmas.List.Elements.{All-contains, All-from_recursion, Contains-get_or, filter-append, filter_more, recursion_from_All}
+pub use Rattle.std.proofs.lemmas.List.Folds.{list_all-append, list_all_at, list_any_at}
+pub use Rattle.std.proofs.lemmas.List.Sums.{AllPass-from_list_all, common_prefix_len-le, list_all-from_AllPass, position_or_len_is, prefix_len-le-length, prefix_len_passes, prefix_len_stops, suffix_len-le-length}
+pub use Rattle.std.proofs.lemmas.Option.{none-some, same_Some}
 pub use Rattle.std.proofs.lemmas.Str.{IsCharBoundary-after_ascii, IsCharBoundary-before_ascii, IsCharBoundary-end, IsCharBoundary-start, IsUtf8-from_is_utf8, NoCharPasses-byte, encode_ascii, encodes-append, is_utf8-from_IsUtf8}
 pub use Rattle.std.proofs.lemmas.Str.Pattern.{split_parts}
 pub use Rattle.std.specs.Char.{to_ascii_lowercase}

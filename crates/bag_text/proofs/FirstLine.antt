@@ -1,5 +1,5 @@
 -- The first line of a text, and the lines that follow it.
-use Rattle.bag_text.proofs.Common.{◌≡◌, ℕ, zero, suc, ◌+◌, ◌<◌, ◌^◌, ◌≤◌, Bool, true, false, cond, ◌&&◌, List, [], ◌∷◌, ◌++◌, length, get_or, take, drop, refl, ap, sym, ◌∙◌, subst, lit<, arith, eqb, Some, position, append_assoc, onto_first, starts_with, common_steps, nat_tests, recursion_from_All, IsCharBoundary-before_ascii, IsCharBoundary-after_ascii, IsUtf8, IsCharBoundary, is_line_end, end_len, lines, IsEnd, HasNoEnd}
+use Rattle.bag_text.proofs.Common.{Bool, List, Some, [], ap, append_assoc, arith, cond, drop, eqb, false, get_or, length, lit<, position, refl, subst, suc, take, true, zero, ℕ, ◌&&◌, ◌++◌, ◌+◌, ◌<◌, ◌^◌, ◌∙◌, ◌∷◌, ◌≡◌, ◌≤◌, nat_tests, common_steps, recursion_from_All, IsCharBoundary-after_ascii, IsCharBoundary-before_ascii, onto_first, starts_with, IsCharBoundary, IsUtf8, end_len, is_line_end, HasNoEnd, IsEnd, lines}
 use Rattle.std.proofs.lemmas.List.Quantifiers.{position-Some}
 use Rattle.bag_text.proofs.LineLaws.{IsPlain, lines_plain, lines_end, lines_line}
 
@@ -24,8 +24,7 @@ cut_after : (t : List ℕ) (i : ℕ) (b : Bool) → IsUtf8 t → i < length t �
 cut_after t i true u l e h =
     let feed : get_or t (i + 1) 0 ≡ 10 = ends_twice _ _ h in
     let step : (i + 1) + 1 ≡ i + 2 = omega arith in
-    let small : get_or t (i + 1) 0 < 128 = rw feed (lit< tt) in
-    subst (IsCharBoundary t) step (IsCharBoundary-after_ascii t (i + 1) u (read_within t (i + 1) 10 feed (lit< tt)) small)
+    subst (IsCharBoundary t) step (IsCharBoundary-after_ascii t (i + 1) u (read_within t (i + 1) 10 feed (lit< tt)) (rw feed (lit< tt)))
 cut_after t i false u l e h = IsCharBoundary-after_ascii t i u l (end_small _ e)
 
 -- and after it
@@ -43,9 +42,7 @@ pub lines_from_end : (t : List ℕ) (i : ℕ) → i < length t → is_line_end (
 lines_from_end [] i l e n = absurd (omega arith)
 lines_from_end (c ∷ t) zero l e n = grind (arith, nat_tests)
 lines_from_end (c ∷ t) (suc i) l e n =
-    lines_plain c t (plain_at c (n 0 (omega arith)))
-    ∙ ap (onto_first c) (lines_from_end t i (omega arith) e (λ k h. n (suc k) (omega arith)))
-    ∙ ap (λ rest. (c ∷ take i t) ∷ lines rest) (sym (after_end-cons c t i))
+    rw (lines_plain c t (plain_at c (n 0 (omega arith))), lines_from_end t i (omega arith) e (λ k h. n (suc k) (omega arith)), after_end-cons c t i) refl
 
 -- a text without a line end is one line
 pub one_line : (t : List ℕ) → 0 < length t → ((k : ℕ) → k < length t → is_line_end (get_or t k 0) ≡ false) → lines t ≡ t ∷ []
@@ -59,12 +56,10 @@ pub found : (t : List ℕ) (i : ℕ) → position is_line_end t ≡ Some i → (
 found t i e = position-Some is_line_end t i 0 e
 
 length-onto_first : (c : ℕ) (all : List (List ℕ)) (n : ℕ) → length all ≤ n → 0 < n → length (onto_first c all) ≤ n
-length-onto_first c [] n h p = p
-length-onto_first c (line ∷ more) n h p = h
+length-onto_first c all n h p = grind arith
 
 length-choice : (b : Bool) (xs ys : List (List ℕ)) (n : ℕ) → length xs ≤ n → length ys ≤ n → length (cond b xs ys) ≤ n
-length-choice true xs ys n h k = h
-length-choice false xs ys n h k = k
+length-choice b xs ys n h k = grind arith
 
 -- each line takes a character at least
 pub length-lines : (t : List ℕ) → length (lines t) ≤ length t

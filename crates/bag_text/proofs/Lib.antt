@@ -2,7 +2,6 @@ pub mod AlgSets
 pub mod Blanks
 pub mod Codes
 pub mod Common
-pub mod CommonFronts
 pub mod FirstByte
 pub mod FirstLine
 pub mod LineEnds
@@ -14,5 +13,4 @@ pub mod Paths
 pub mod SortKeys
 pub mod SpellingLaws
 pub mod Spellings
-pub mod Trimmed
 pub mod Utf8

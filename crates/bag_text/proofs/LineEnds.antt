@@ -1,21 +1,19 @@
 -- Spellings in which the ends of lines alone are escaped.
-use Rattle.bag_text.proofs.Common.{◌≡◌, ◌≢◌, ◌<◌, ◌≤◌, ℕ, suc, List, [], ◌∷◌, ◌++◌, length, get_or, Option, Some, None, Bool, true, false, refl, sym, ap, subst, ◌∙◌, inl, inr, arith, unwrap_or, ◌==◌, append-nil, append_assoc, nat_lt, bytes_eq, lit<, to_ascii_lowercase, IsUtf8, IsCharBoundary, nat_tests, IsCharBoundary-after_ascii, percent, line_end, BeginsWithNone, SpellsLineEnds, with_line_ends, UnescapedIsSpelled}
+use Rattle.bag_text.proofs.Common.{Bool, List, None, Option, Some, [], ap, append-nil, append_assoc, arith, false, get_or, inl, inr, length, lit<, refl, subst, suc, sym, true, unwrap_or, ℕ, ◌++◌, ◌<◌, ◌==◌, ◌∙◌, ◌∷◌, ◌≡◌, ◌≢◌, eqb-true, nat_tests, IsCharBoundary, IsUtf8, BeginsWithNone, SpellsLineEnds, UnescapedIsSpelled, line_end, percent, with_line_ends}
 use Rattle.bag_text.proofs.SpellingLaws.{strict_spellings}
+use Rattle.bag_text.proofs.Spellings.{never_escaped, second}
 use Rattle.bag_text.specs.declared.rules.Rules.TheVariants.{V10, V097}
-
-is_percent : (c : ℕ) → (c == percent) ≡ true → c ≡ percent
-is_percent c h = grind (arith, h)
 
 -- where a % begins no escape, it is itself, as every other character is
 by_percent : (c d e : ℕ) (s : List ℕ) (mark : Bool) (o : Option ℕ) → (c == percent) ≡ mark → line_end d e ≡ o → (mark ≡ true → o ≡ None)
     → with_line_ends (c ∷ d ∷ e ∷ s) ≡ c ∷ with_line_ends (d ∷ e ∷ s)
-by_percent c d e s true None m is none = rw (m, is) (ap (λ x. x ∷ with_line_ends (d ∷ e ∷ s)) (sym (is_percent c m)))
+by_percent c d e s true None m is none = rw (m, is) (ap (λ x. x ∷ with_line_ends (d ∷ e ∷ s)) (sym (eqb-true c percent m)))
 by_percent c d e s true (Some x) m is none = let clash : Some x ≡ None = none refl in cc
 by_percent c d e s false o m is none = rw m refl
 
 plain_by : (c d e : ℕ) (s : List ℕ) → BeginsWithNone (c ∷ d ∷ e ∷ s) → (o : Option ℕ) → line_end d e ≡ o → (c == percent) ≡ true → o ≡ None
 plain_by c d e s none None is mark = refl
-plain_by c d e s none (Some x) is mark = absurd (none x s (d, e, ap (λ p. p ∷ d ∷ e ∷ s) (is_percent c mark), is))
+plain_by c d e s none (Some x) is mark = absurd (none x s (d, e, ap (λ p. p ∷ d ∷ e ∷ s) (eqb-true c percent mark), is))
 
 pub plain_in_front : (c : ℕ) (s : List ℕ) → BeginsWithNone (c ∷ s) → with_line_ends (c ∷ s) ≡ c ∷ with_line_ends s
 plain_in_front c [] none = refl
@@ -27,7 +25,7 @@ escape_in_front c d e s is = rw is refl
 
 -- what isn't a % begins no escape
 other_begins_none : (c : ℕ) (s : List ℕ) → c ≢ percent → BeginsWithNone (c ∷ s)
-other_begins_none c s other x rest (high, low, is, stands) = let same : c ≡ percent = cc in other same
+other_begins_none c s other x rest (high, low, is, stands) = other cc
 
 pub other_in_front : (c : ℕ) (s : List ℕ) → c ≢ percent → with_line_ends (c ∷ s) ≡ c ∷ with_line_ends s
 other_in_front c s other = plain_in_front c s (other_begins_none c s other)
@@ -48,7 +46,7 @@ other_digits c d e s nothing x rest (high, low, is, stands) = grind arith
 
 spells_three : (c d e : ℕ) (s : List ℕ) (mark : Bool) (o : Option ℕ) → (c == percent) ≡ mark → line_end d e ≡ o → SpellsLineEnds s (with_line_ends s)
     → SpellsLineEnds (d ∷ e ∷ s) (with_line_ends (d ∷ e ∷ s)) → SpellsLineEnds (c ∷ d ∷ e ∷ s) (with_line_ends (c ∷ d ∷ e ∷ s))
-spells_three c d e s true (Some x) m is short long = grind (arith, is_percent, escape_in_front)
+spells_three c d e s true (Some x) m is short long = grind (arith, eqb-true, escape_in_front)
 spells_three c d e s true None m is short long = plain_spells c (d ∷ e ∷ s) (other_digits c d e s is) long
 spells_three c d e s false o m is short long = grind (arith, plain_spells, other_begins_none)
 
@@ -85,15 +83,9 @@ read_all t path rest new read none now = now ∙ ap (λ x. path ++ x) (sym (read
 
 -- ---- two characters that can't be cut off
 
-never_escaped : (d e k : ℕ) → 128 ≤ e → k < 128 → (c : ℕ) → bytes_eq (to_ascii_lowercase d ∷ to_ascii_lowercase e ∷ []) (c ∷ k ∷ []) ≡ false
-never_escaped d e k h l c = grind (arith, nat_tests)
-
-second : (d e : ℕ) (s : List ℕ) → IsUtf8 (d ∷ e ∷ s) → ¬ (IsCharBoundary (d ∷ e ∷ s) 2) → (small : Bool) → nat_lt e 128 ≡ small → line_end d e ≡ None
-second d e s u h true b = absurd (h (IsCharBoundary-after_ascii (d ∷ e ∷ s) 1 u (omega arith) (grind (arith, nat_tests))))
-second d e s u h false b = grind (arith, nat_tests, never_escaped, lit<)
-
 -- where the two characters after a % can't be cut off, it is itself
 pub cut_off : (after : List ℕ) → IsUtf8 after → ¬ (IsCharBoundary after 2) → with_line_ends (percent ∷ after) ≡ percent ∷ with_line_ends after
 cut_off [] u h = refl
 cut_off (d ∷ []) u h = refl
-cut_off (d ∷ e ∷ s) u h = plain_in_front percent (d ∷ e ∷ s) (other_digits percent d e s (second d e s u h _ refl))
+cut_off (d ∷ e ∷ s) u h =
+    plain_in_front percent (d ∷ e ∷ s) (other_digits percent d e s (second line_end (λ d e high. grind (arith, nat_tests, never_escaped, lit<)) d e s u h))

@@ -1,5 +1,6 @@
 -- Ascending lists of sets: of nothing, of one, of two sets of which one lies below the other, and that there is one.
-use Rattle.bag_text.proofs.Common.{◌≡◌, zero, suc, ◌⊎◌, inl, inr, List, [], ◌∷◌, ◌++◌, refl, ap, sym, ◌∙◌, subst, arith, Option, None, Some, Contains, option_to_list, AllByRecursion}
+use Rattle.bag_text.proofs.Common.{List, None, Option, Some, [], ap, arith, get_or, inl, inr, refl, subst, suc, sym, zero, ◌++◌, ◌∙◌, ◌∷◌, ◌≡◌, ◌⊎◌, All-contains, All-from_recursion, Contains-get_or, recursion_from_All, AllByRecursion, option_to_list, Contains}
+pub use Rattle.std.proofs.lemmas.List.Elements.{Contains-append_cases as contains_either, Contains-append_left as contains_front, Contains-append_right as contains_back}
 use Rattle.std.specs.List.Sorted.{IsStrictlySortedBy}
 use Rattle.std.specs.Cmp.{IsTotalOrder}
 use Rattle.std.specs.declared.cmp.Ordering.{Ordering}
@@ -21,34 +22,12 @@ contains_behind x xs y (k, h, e) = (suc k, omega arith, e)
 pub contains_nothing : {A : Type 0} (y : A) → Contains {X = A} [] y → ⊥
 contains_nothing y (k, h, e) = absurd (omega arith)
 
-pub contains_front : {A : Type 0} (xs ys : List A) (x : A) → Contains xs x → Contains (xs ++ ys) x
-contains_front [] ys x c = absurd (contains_nothing x c)
-contains_front (y ∷ xs) ys x c =
-    elim (contains_cases y xs x c) [
-      | inl e ↦ subst (Contains (y ∷ (xs ++ ys))) e (contains_first y (xs ++ ys))
-      | inr d ↦ contains_behind y (xs ++ ys) x (contains_front xs ys x d)
-    ]
-
-pub contains_back : {A : Type 0} (xs ys : List A) (x : A) → Contains ys x → Contains (xs ++ ys) x
-contains_back [] ys x c = c
-contains_back (y ∷ xs) ys x c = contains_behind y (xs ++ ys) x (contains_back xs ys x c)
-
-pub contains_either : {A : Type 0} (xs ys : List A) (x : A) → Contains (xs ++ ys) x → Contains xs x ⊎ Contains ys x
-contains_either [] ys x c = inr c
-contains_either (y ∷ xs) ys x c =
-    elim (contains_cases y (xs ++ ys) x c) [
-      | inl e ↦ inl (subst (Contains (y ∷ xs)) e (contains_first y xs))
-      | inr d ↦ elim (contains_either xs ys x d) [ inl a ↦ inl (contains_behind y xs x a) | inr b ↦ inr b ]
-    ]
-
 -- what holds of each member holds along the list, and the other way round
 pub each_from_members : {A : Type 0} (P : A → Type 0) (xs : List A) → ((x : A) → Contains xs x → P x) → AllByRecursion P xs
-each_from_members P [] h = tt
-each_from_members P (x ∷ xs) h = (h x (contains_first x xs), each_from_members P xs (λ y c. h y (contains_behind x xs y c)))
+each_from_members P xs h = recursion_from_All P xs (λ k d l. h (get_or xs k d) (Contains-get_or xs k d l))
 
 pub member_has : {A : Type 0} (P : A → Type 0) (xs : List A) (x : A) → AllByRecursion P xs → Contains xs x → P x
-member_has P [] x a c = absurd (contains_nothing x c)
-member_has P (y ∷ xs) x a c = elim (contains_cases y xs x c) [ inl e ↦ subst P e a.0 | inr d ↦ member_has P xs x a.1 d ]
+member_has P xs x a c = All-contains P xs x (All-from_recursion P xs a) c
 
 -- a set whose members are the values of an option
 pub only_from_some : {A : Type 0} (Member : A → Type 0) (o : Option A) → ((x : A) → o ≡ Some x → Member x) → ((x : A) → Member x → o ≡ Some x) → IsOnly Member o
@@ -84,10 +63,7 @@ module _ {A : Type 0} (cmp : A → A → Ordering) where
   pub joined : (P Q : A → Type 0) (xs ys : List A) → IsListOf cmp P xs → IsListOf cmp Q ys → ((x y : A) → P x → Q y → cmp x y ≡ Less) → IsListOf cmp (λ x. P x ⊎ Q x) (xs ++ ys)
   joined P Q xs ys p q less = record {
     ascending = ascending_joined xs ys p.ascending q.ascending (λ x y c d. less x y ((p.members x).0 c) ((q.members y).0 d));
-    members = λ x. (
-      λ c. elim (contains_either xs ys x c) [ inl a ↦ inl ((p.members x).0 a) | inr b ↦ inr ((q.members x).0 b) ],
-      λ m. elim m [ inl a ↦ contains_front xs ys x ((p.members x).1 a) | inr b ↦ contains_back xs ys x ((q.members x).1 b) ],
-    );
+    members = λ x. (λ c. grind (arith, contains_either xs ys x c, p.members x, q.members x), λ m. grind (arith, contains_front xs ys x, contains_back xs ys x, p.members x, q.members x));
   }
 
   -- one more member, if there is one, above all others
@@ -107,11 +83,7 @@ module _ {A : Type 0} (cmp : A → A → Ordering) where
 
     same_first : (x y : A) (xs ys : List A) → IsStrictlySortedBy cmp (x ∷ xs) → IsStrictlySortedBy cmp (y ∷ ys) → Contains (y ∷ ys) x → Contains (x ∷ xs) y → x ≡ y
     unfolding IsStrictlySortedBy
-    same_first x y xs ys p q c d =
-        elim (contains_cases y ys x c) [
-          | inl e ↦ sym e
-          | inr u ↦ elim (contains_cases x xs y d) [ inl e ↦ e | inr v ↦ absurd (never_both x y (member_has _ xs y p.0 v) (member_has _ ys x q.0 u)) ]
-        ]
+    same_first x y xs ys p q c d = grind (arith, contains_cases y ys x c, contains_cases x xs y d, never_both x y, member_has _ xs y p.0, member_has _ ys x q.0)
 
     -- a member behind the first of one list stands behind the same first of the other
     behind_too : (x y : A) (xs ys : List A) → x ≡ y → AllByRecursion (λ z. cmp x z ≡ Less) xs → ((z : A) → Contains (x ∷ xs) z → Contains (y ∷ ys) z) → (z : A) → Contains xs z → Contains ys z

@@ -1,6 +1,5 @@
 -- Lines with their numbers.
-use Rattle.bag_text.proofs.Common.{◌≡◌, ℕ, ◌+◌, ◌-◌, ◌<◌, List, length, get_or, ◌∙◌, arith, enumerate_from, IsLine}
-use Rattle.std.specs.List.{Contains}
+use Rattle.bag_text.proofs.Common.{List, arith, get_or, length, refl, ℕ, ◌+◌, ◌-◌, ◌<◌, ◌≡◌, enumerate_from, Contains, IsLine}
 use Rattle.std.proofs.lemmas.Option.{slice_get_within, slice_get-get_or, get_or_from_slice_get}
 use Rattle.std.proofs.lemmas.List.FromFn.{length-enumerate_from, get_or-enumerate_from}
 
@@ -25,5 +24,4 @@ pub line_is_numbered : (all : List (List ℕ)) (k : ℕ) (line : List ℕ) → I
 line_is_numbered all k line (some, e) =
     let l : k - 1 < length all = slice_get_within all (k - 1) line e in
     let step : (k - 1) + 1 ≡ k = omega arith in
-    let same : ◌≡◌ {A = ℕ × List ℕ} (k - 1 + 1, get_or all (k - 1) line) (k, line) = λ i. (step i, get_or_from_slice_get all (k - 1) line line e i) in
-    (k - 1, omega (arith, length-numbered 1 all), numbered_at all (k - 1) (k, line) l ∙ same)
+    (k - 1, omega (arith, length-numbered 1 all), rw (numbered_at all (k - 1) (k, line) l, step, get_or_from_slice_get all (k - 1) line line e) refl)

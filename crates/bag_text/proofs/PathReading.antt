@@ -1,24 +1,18 @@
 -- Paths that are read byte by byte.
-use Rattle.bag_text.proofs.Common.{◌≡◌, ℕ, suc, ◌+◌, ◌<◌, Bool, true, false, not, cond, ◌&&◌, ◌||◌, IsTrue, List, [], ◌∷◌, ◌++◌, length, get_or, drop, refl, ap, ◌∙◌, eqb, arith, append_assoc, append-nil, list_all, drop-cons, slash, components, is_component, is_path, Part, Empty, Name}
+use Rattle.bag_text.proofs.Common.{Bool, IsTrue, List, [], ap, append-nil, append_assoc, arith, cond, drop, eqb, false, get_or, length, not, refl, suc, true, ℕ, ◌&&◌, ◌++◌, ◌+◌, ◌<◌, ◌||◌, ◌∙◌, ◌∷◌, ◌≡◌, drop-cons, list_all, components, is_component, is_path, slash, Part, Empty, Name}
 use Rattle.bag_text.specs.PathPart.{part_of, with_byte, is_name}
 use Rattle.bag_text.proofs.Paths.{is_slash, some_component}
 
 part_more : (p : List ℕ) (c : ℕ) → part_of (p ++ c ∷ []) ≡ with_byte (part_of p) c
-part_more [] c = refl
-part_more (x ∷ []) c = grind arith
-part_more (x ∷ y ∷ []) c = grind arith
 part_more (x ∷ y ∷ z ∷ rest) c = refl
+part_more p c = grind arith
 
 more_bytes : (b d : Bool) → (not (b && false) && not (b && (d && false))) ≡ true
-more_bytes true true = refl
-more_bytes true false = refl
-more_bytes false d = refl
+more_bytes b d = grind arith
 
 name_test : (p : List ℕ) → is_component p ≡ is_name (part_of p)
-name_test [] = refl
-name_test (x ∷ []) = grind arith
-name_test (x ∷ y ∷ []) = grind arith
 name_test (x ∷ y ∷ z ∷ rest) = more_bytes (eqb x 46) (eqb y 46)
+name_test p = grind arith
 
 -- the components of a text behind the front of its first one
 abbrev behind : List ℕ → List (List ℕ) → List (List ℕ)
@@ -33,10 +27,6 @@ good_start t = grind (arith, some_component)
 
 good_byte : (p : List ℕ) (c : ℕ) (t : List ℕ) → is_slash c ≡ false → are_good p (c ∷ t) ≡ are_good (p ++ c ∷ []) t
 good_byte p c t e = grind (arith, append_assoc)
-
-and_true : (b : Bool) → (b && true) ≡ b
-and_true true = refl
-and_true false = refl
 
 -- the components before place k are good, and the one that begins there is this so far
 abbrev pub IsReadTo : Part → List ℕ → ℕ → Type 0
@@ -57,9 +47,8 @@ read_slash part t k h slash name read = grind (arith, at, append-nil, name_test,
 -- of components that don't begin with a dot, what is read where one begins or behind its first byte
 plain_byte : (begins is_end is_dot : Bool) (t : List ℕ) (k : ℕ) → k < length t → is_slash (get_or t k 0) ≡ is_end → eqb (get_or t k 0) 46 ≡ is_dot
     → IsReadTo (cond begins Empty Name) t k → IsTrue (not (begins && (is_end || is_dot))) → IsReadTo (cond is_end Empty Name) t (k + 1)
-plain_byte true true is_dot t k h slash dot read w = cc
-plain_byte true false true t k h slash dot read w = cc
 plain_byte true false false t k h slash dot read w = grind (arith, read_byte Empty t k h slash read)
+plain_byte true is_end is_dot t k h slash dot read w = cc
 plain_byte false true is_dot t k h slash dot read w = read_slash Name t k h slash refl read
 plain_byte false false is_dot t k h slash dot read w = read_byte Name t k h slash read
 

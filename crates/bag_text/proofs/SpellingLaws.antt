@@ -1,11 +1,5 @@
 -- Spellings of paths.
-use Rattle.bag_text.proofs.Common.{◌≡◌, ◌≢◌, ◌↔◌, ℕ, List, [], ◌∷◌, Option, Some, None, Bool, true, false, refl, sym, ap, subst, ◌∙◌, inl, inr, arith, unwrap_or, is_some, ◌==◌, nat_tests, percent, escaped, SpellsStrictly, both, itself, unescaped_strictly, escape, EscapedIsReadAgain}
-
-some_is_not_none : {A : Type 0} (x : A) → Some x ≡ None → ⊥
-some_is_not_none x e = let h : true ≡ false = ap is_some e in cc
-
-same_some : {A : Type 0} (x y : A) → Some x ≡ Some y → x ≡ y
-same_some x y e = ap (λ o. unwrap_or o x) e
+use Rattle.bag_text.proofs.Common.{Bool, List, None, Option, Some, [], ap, arith, false, inl, inr, refl, subst, sym, true, ℕ, ◌==◌, ◌↔◌, ◌∙◌, ◌∷◌, ◌≡◌, ◌≢◌, eqb-false, eqb-true, nat_tests, none-some, same_Some, EscapedIsReadAgain, SpellsStrictly, both, escape, escaped, itself, percent, unescaped_strictly}
 
 -- a character that isn't % is itself
 itself_plain : (c : ℕ) → c ≢ percent → itself c ≡ Some c
@@ -25,15 +19,8 @@ spelled_is_unescaped (c ∷ path) s (front, rest, parts, inr (high, low, escape,
 -- where both are there, so is each
 both_there : (o : Option ℕ) (os : Option (List ℕ)) (path : List ℕ) → both o os ≡ Some path
     → (c : ℕ) × (rest : List ℕ) × (o ≡ Some c) × (os ≡ Some rest) × (path ≡ c ∷ rest)
-both_there None os path e = absurd (some_is_not_none path (sym e))
-both_there (Some c) None path e = absurd (some_is_not_none path (sym e))
-both_there (Some c) (Some rest) path e = (c, rest, refl, refl, sym (same_some _ _ e))
-
-is_percent : (c : ℕ) → (c == percent) ≡ true → c ≡ percent
-is_percent c h = grind (arith, h)
-
-is_other : (c : ℕ) → (c == percent) ≡ false → c ≢ percent
-is_other c h e = grind (arith, h, e)
+both_there (Some c) (Some rest) path e = (c, rest, refl, refl, cc)
+both_there o os path e = cc
 
 abbrev Backs : List ℕ → Type 0
 Backs s = (path : List ℕ) → unescaped_strictly s ≡ Some path → SpellsStrictly s path
@@ -42,7 +29,7 @@ Backs s = (path : List ℕ) → unescaped_strictly s ≡ Some path → SpellsStr
 backs_plain : (c : ℕ) (s : List ℕ) → c ≢ percent → Backs s → Backs (c ∷ s)
 backs_plain c s other backs path e =
     let (d, rest, is, more, cut) = both_there (Some c) (unescaped_strictly s) path (sym (unescaped_plain c s other) ∙ e) in
-    subst (SpellsStrictly (c ∷ s)) (sym (cut ∙ ap (λ x. x ∷ rest) (sym (same_some _ _ is)))) (c ∷ [], s, refl, inl (other, refl), backs rest more)
+    subst (SpellsStrictly (c ∷ s)) (sym (cut ∙ ap (λ x. x ∷ rest) (sym (same_Some _ _ is)))) (c ∷ [], s, refl, inl (other, refl), backs rest more)
 
 -- an escape in front
 backs_escape : (c d e : ℕ) (s : List ℕ) → c ≡ percent → Backs s → both (escaped d e) (unescaped_strictly s) ≡ unescaped_strictly (c ∷ d ∷ e ∷ s) → Backs (c ∷ d ∷ e ∷ s)
@@ -54,17 +41,17 @@ alone_is_none : (c : ℕ) (os : Option (List ℕ)) → c ≡ percent → both (i
 alone_is_none c os same = rw same refl
 
 backs_three : (c d e : ℕ) (s : List ℕ) (b : Bool) → (c == percent) ≡ b → Backs s → Backs (d ∷ e ∷ s) → Backs (c ∷ d ∷ e ∷ s)
-backs_three c d e s true h short long = backs_escape c d e s (is_percent c h) short (rw h refl)
-backs_three c d e s false h short long = backs_plain c (d ∷ e ∷ s) (is_other c h) long
+backs_three c d e s true h short long = backs_escape c d e s (eqb-true c percent h) short (rw h refl)
+backs_three c d e s false h short long = backs_plain c (d ∷ e ∷ s) (eqb-false c percent h) long
 
 -- a % with fewer than two characters behind it is read as nothing
 backs_one : (c : ℕ) (s : List ℕ) (b : Bool) → (c == percent) ≡ b → (c ≡ percent → unescaped_strictly (c ∷ s) ≡ None) → Backs s → Backs (c ∷ s)
-backs_one c s true h bad backs path e = absurd (some_is_not_none path (sym e ∙ bad (is_percent c h)))
-backs_one c s false h bad backs path e = backs_plain c s (is_other c h) backs path e
+backs_one c s true h bad backs path e = absurd (none-some path (sym (bad (eqb-true c percent h)) ∙ e))
+backs_one c s false h bad backs path e = backs_plain c s (eqb-false c percent h) backs path e
 
 unescaped_is_spelled : (s : List ℕ) → Backs s
-unescaped_is_spelled [] = λ path e. subst (SpellsStrictly []) (same_some _ _ e) refl
-unescaped_is_spelled (c ∷ []) = backs_one c [] _ refl (alone_is_none c _) (λ path e. subst (SpellsStrictly []) (same_some _ _ e) refl)
+unescaped_is_spelled [] = λ path e. subst (SpellsStrictly []) (same_Some _ _ e) refl
+unescaped_is_spelled (c ∷ []) = backs_one c [] _ refl (alone_is_none c _) (λ path e. subst (SpellsStrictly []) (same_Some _ _ e) refl)
 unescaped_is_spelled (c ∷ d ∷ []) = backs_one c (d ∷ []) _ refl (alone_is_none c _) (unescaped_is_spelled (d ∷ []))
 unescaped_is_spelled (c ∷ d ∷ e ∷ s) = backs_three c d e s _ refl (unescaped_is_spelled s) (unescaped_is_spelled (d ∷ e ∷ s))
 
@@ -75,4 +62,4 @@ strict_spellings s path = (spelled_is_unescaped path s, unescaped_is_spelled s p
 -- a path that is written is read again
 pub read_again : EscapedIsReadAgain
 read_again [] = refl
-read_again (c ∷ path) = grind (arith, nat_tests, unescaped_plain, is_other, read_again path)
+read_again (c ∷ path) = grind (arith, nat_tests, unescaped_plain, eqb-false, read_again path)

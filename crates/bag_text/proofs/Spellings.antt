@@ -1,6 +1,5 @@
 -- Reading and writing spellings piece by piece.
-use Rattle.bag_text.proofs.Common.{◌≡◌, ◌≢◌, ◌↔◌, IsTrue, ℕ, suc, ◌<◌, ◌≤◌, List, [], ◌∷◌, ◌++◌, length, get_or, Option, Some, None, Bool, true, false, not, ◌||◌, refl, sym, ap, ◌∙◌, arith, eqb, append_assoc, append-nil, encode_utf8, nat_lt, lit<, to_ascii_lowercase, list_all, option_map, IsUtf8, IsCharBoundary, NoCharPasses, encode_utf8_all, nat_tests, list_all_at, NoCharPasses-byte, encodes-append, IsCharBoundary-after_ascii, percent, escaped, both, unescaped_strictly, escape_one, escape}
-use Rattle.std.specs.Str.{bytes_eq}
+use Rattle.bag_text.proofs.Common.{Bool, IsTrue, List, None, Option, Some, [], ap, append-nil, append_assoc, arith, bytes_eq, encode_utf8, eqb, false, get_or, inl, inr, length, lit<, not, refl, suc, sym, true, ℕ, ◌++◌, ◌<◌, ◌||◌, ◌↔◌, ◌∙◌, ◌∷◌, ◌≡◌, ◌≢◌, ◌≤◌, cases_lt, nat_tests, list_all_at, IsCharBoundary-after_ascii, NoCharPasses-byte, encodes-append, to_ascii_lowercase, list_all, option_map, IsCharBoundary, IsUtf8, NoCharPasses, encode_utf8_all, both, escape, escape_one, escaped, percent, unescaped_strictly}
 use Rattle.std.proofs.lemmas.List.Concat.{flat_map-append}
 use Rattle.bag_text.proofs.SpellingLaws.{unescaped_plain}
 
@@ -30,21 +29,11 @@ pub escape_behind : (cs : List ℕ) (c : ℕ) (text new written : List ℕ) → 
     → new ≡ escape (encode_utf8_all (cs ++ c ∷ []))
 escape_behind cs c text new written now so_far one = grind (arith, encodes-append, append-nil, encode_utf8, flat_map-append)
 
-both_front : (c : ℕ) (front : List ℕ) (o : Option (List ℕ)) → both (Some c) (option_map (λ more. front ++ more) o) ≡ option_map (λ more. c ∷ front ++ more) o
-both_front c front None = refl
-both_front c front (Some more) = refl
-
-map_nothing : (o : Option (List ℕ)) → o ≡ option_map (λ more. [] ++ more) o
-map_nothing None = refl
-map_nothing (Some more) = refl
-
 -- what stands before the first % is read as itself
 pub unescaped_front : (front rest : List ℕ) → ((i : ℕ) → i < length front → get_or front i 0 ≢ percent) → unescaped_strictly (front ++ rest) ≡ option_map (λ more. front ++ more) (unescaped_strictly rest)
-unescaped_front [] rest h = map_nothing (unescaped_strictly rest)
+unescaped_front [] rest h = grind (arith, unescaped_strictly)
 unescaped_front (c ∷ front) rest h =
-    unescaped_plain c (front ++ rest) (h 0 (omega arith))
-    ∙ ap (both (Some c)) (unescaped_front front rest (λ i l. h (suc i) (omega arith)))
-    ∙ both_front c front (unescaped_strictly rest)
+    rw (unescaped_plain c (front ++ rest) (h 0 (omega arith)), unescaped_front front rest (λ i l. h (suc i) (omega arith))) (grind (arith, unescaped_strictly))
 
 pub unescaped_whole : (t : List ℕ) → ((i : ℕ) → i < length t → get_or t i 0 ≢ percent) → unescaped_strictly t ≡ Some t
 unescaped_whole t h = ap unescaped_strictly (sym (append-nil t)) ∙ unescaped_front t [] h ∙ ap {B = Option (List ℕ)} Some (append-nil t)
@@ -55,21 +44,21 @@ unescaped_without t none = grind (arith, unescaped_whole, list_all_at)
 
 -- the path as far as it is read, one more piece and one more character
 pub read_more : (path plain : List ℕ) (c : ℕ) (o : Option (List ℕ)) → option_map (λ more. path ++ more) (option_map (λ more. plain ++ more) (both (Some c) o)) ≡ option_map (λ more. ((path ++ plain) ++ c ∷ []) ++ more) o
-read_more path plain c None = refl
-read_more path plain c (Some more) = grind (arith, append_assoc)
+read_more path plain c o = grind (arith, append_assoc)
 
-never_escaped : (d e k : ℕ) → 128 ≤ e → k < 128 → (c : ℕ) → bytes_eq (to_ascii_lowercase d ∷ to_ascii_lowercase e ∷ []) (c ∷ k ∷ []) ≡ false
+pub never_escaped : (d e k : ℕ) → 128 ≤ e → k < 128 → (c : ℕ) → bytes_eq (to_ascii_lowercase d ∷ to_ascii_lowercase e ∷ []) (c ∷ k ∷ []) ≡ false
 never_escaped d e k h l c = grind (arith, nat_tests)
 
-second : (d e : ℕ) (s : List ℕ) → IsUtf8 (d ∷ e ∷ s) → ¬ (IsCharBoundary (d ∷ e ∷ s) 2) → (small : Bool) → nat_lt e 128 ≡ small → escaped d e ≡ None
-second d e s u h true b = absurd (h (IsCharBoundary-after_ascii (d ∷ e ∷ s) 1 u (omega arith) (grind (arith, nat_tests))))
-second d e s u h false b = grind (arith, nat_tests, never_escaped, lit<)
+-- what is read of two characters is nothing where the second is none of ASCII, and they can't be cut off
+pub second : (reads : ℕ → ℕ → Option ℕ) → ((d e : ℕ) → 128 ≤ e → reads d e ≡ None) → (d e : ℕ) (s : List ℕ) → IsUtf8 (d ∷ e ∷ s) → ¬ (IsCharBoundary (d ∷ e ∷ s) 2) → reads d e ≡ None
+second reads none d e s u h =
+    elim (cases_lt e 128) [ inl small ↦ absurd (h (IsCharBoundary-after_ascii (d ∷ e ∷ s) 1 u (omega arith) small)) | inr high ↦ none d e high ]
 
 -- where the two characters after a % can't be cut off, they are no escape
 pub cut_escape : (after : List ℕ) → IsUtf8 after → ¬ (IsCharBoundary after 2) → unescaped_strictly (percent ∷ after) ≡ None
 cut_escape [] u h = refl
 cut_escape (d ∷ []) u h = refl
-cut_escape (d ∷ e ∷ s) u h = ap (λ o. both o (unescaped_strictly s)) (second d e s u h _ refl)
+cut_escape (d ∷ e ∷ s) u h = ap (λ o. both o (unescaped_strictly s)) (second escaped (λ d e high. grind (arith, nat_tests, never_escaped, lit<)) d e s u h)
 
 -- a bad escape behind what is read
 pub read_none : (t path rest plain after : List ℕ) → unescaped_strictly t ≡ option_map (λ more. path ++ more) (unescaped_strictly rest) → rest ≡ plain ++ percent ∷ after
@@ -78,8 +67,7 @@ read_none t path rest plain after read is none bad = grind (arith, unescaped_fro
 
 -- text in front, or one character, makes no difference to whether there is a bad escape
 nothing_put : (front : List ℕ) (o : Option (List ℕ)) → (option_map (λ more. front ++ more) o ≡ None) ↔ (o ≡ None)
-nothing_put front None = (λ _. refl, λ _. refl)
-nothing_put front (Some more) = (λ e. cc, λ e. cc)
+nothing_put front o = grind arith
 
 -- a bad escape behind what has none
 pub none_before : (rest plain after : List ℕ) → rest ≡ plain ++ percent ∷ after → ((i : ℕ) → i < length plain → get_or plain i 0 ≢ percent)

@@ -1,11 +1,7 @@
 -- The test for UTF-8.
-use Rattle.bag_text.proofs.Common.{◌≡◌, ℕ, Bool, true, false, List, refl, IsUtf8, is_utf8, IsUtf8-from_is_utf8, is_utf8-from_IsUtf8}
-
-from_test : (bytes : List ℕ) (b : Bool) → is_utf8 bytes ≡ b → ¬ (IsUtf8 bytes) → is_utf8 bytes ≡ false
-from_test bytes true e h = absurd (h (IsUtf8-from_is_utf8 bytes e))
-from_test bytes false e h = e
+use Rattle.bag_text.proofs.Common.{List, false, ℕ, ◌≡◌, false_from_ne_true, IsUtf8-from_is_utf8, is_utf8-from_IsUtf8, IsUtf8, is_utf8}
 
 pub is_utf8_fails : (bytes : List ℕ) → ¬ (IsUtf8 bytes) → is_utf8 bytes ≡ false
-is_utf8_fails bytes h = from_test bytes _ refl h
+is_utf8_fails bytes h = false_from_ne_true (is_utf8 bytes) (λ e. h (IsUtf8-from_is_utf8 bytes e))
 
 pub ruleset utf8_texts = (is_utf8_fails, is_utf8-from_IsUtf8)

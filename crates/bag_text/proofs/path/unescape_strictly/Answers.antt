@@ -7,11 +7,7 @@ returns-in_err-from_str-clause-bad_escape c =
     let itself : unescaped_strictly c.args.text.now ≡ Some c.args.text.now = unescaped_without c.args.text.now (rw c.as_bytes.ensures.value at (sym c.has_no_percent.ensures ∙ c.if-has_no_percent.true)) in
     search rules
 
-pub returns-then-has_no_percent-clause-ok : goal.returns-then-has_no_percent-clause-ok
-returns-then-has_no_percent-clause-ok c =
-    unescaped_without c.args.text.now (rw c.as_bytes.ensures.value at (sym c.has_no_percent.ensures ∙ c.if-has_no_percent.true)) ∙ ap {B = Option (List ℕ)} Some (sym c.in_ok-from_str.ensures.ok)
-
-pub returns-then-has_no_percent-clause-bad_escape : goal.returns-then-has_no_percent-clause-bad_escape
-returns-then-has_no_percent-clause-bad_escape c =
+pub returns-then-has_no_percent : goal.returns-then-has_no_percent
+returns-then-has_no_percent c =
     let itself : unescaped_strictly c.args.text.now ≡ Some c.args.text.now = unescaped_without c.args.text.now (rw c.as_bytes.ensures.value at (sym c.has_no_percent.ensures ∙ c.if-has_no_percent.true)) in
-    (λ e. cc, λ e. cc)
+    record { ok = itself ∙ ap {B = Option (List ℕ)} Some (sym c.in_ok-from_str.ensures.ok); bad_escape = (λ e. cc, λ e. cc) }
