@@ -1,6 +1,5 @@
 -- What a lookup finds is what stands there.
-use Rattle.std.proofs.Common.{◌≡◌, ℕ, ◌==◌, List, [], ◌∷◌, length, Option, None, Some, cond, MatchOption, Bor, refl, ap, sym, ◌∙◌, Bool, true, false}
-use Rattle.std.proofs.lemmas.Bool.{false≢true}
+use Rattle.std.proofs.Common.{◌≡◌, ℕ, List, [], ◌∷◌, Option, None, Some, cond, MatchOption, Bor, refl, ap, sym, ◌∙◌, Bool, true, false}
 use Rattle.std.specs.FinMap.{find, get-from_entries}
 use Rattle.std.specs.Cmp.Lexicographic.{nat_list_cmp_total}
 use Rattle.std.specs.Map.{lookup}
@@ -27,8 +26,3 @@ found_at held q = get-from_entries nat_list_cmp_total (entries_of held) q ∙ fi
 pub match_copied : (r : Option (Bor Node)) (o : Option Node) (p : Option disk.Node) → option_copied r ≡ o → p ≡ option_map node_of o → MatchOption r (p ≡ None) (λ found. p ≡ Some (node_of found.now))
 match_copied None o p e is = is ∙ ap (option_map node_of) (sym e)
 match_copied (Some x) o p e is = is ∙ ap (option_map node_of) (sym e)
-
--- where a path isn't that of the base folder and no folder stands at it, there is none
-pub no_folder : (nodes : disk.Nodes) (folder : List ℕ) → (length folder == 0) ≡ false → disk.is_folder_node (disk.node nodes folder) ≡ false → disk.IsFolder nodes folder → ⊥
-no_folder nodes [] some none is = false≢true (sym some)
-no_folder nodes (c ∷ folder) some none is = false≢true (sym none ∙ ap disk.is_folder_node is)
