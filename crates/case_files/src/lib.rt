@@ -12,8 +12,10 @@
 
 mod answers;
 mod bytes;
+mod entries;
 mod lines;
 mod mistake;
+mod parts;
 mod plans;
 mod profiles;
 mod reader;
@@ -28,8 +30,10 @@ mod written;
 
 pub use answers::Answer;
 pub use bytes::Bytes;
+pub use entries::{name_text, path_and_bytes, read_row};
 pub use lines::{Entry, Line, Part, Word, below, lines_of};
 pub use mistake::Mistake;
+pub use parts::{is_wanted, see_part};
 pub use reader::Reader;
 pub use report::{Report, Sight};
 pub use shown::Shown;

@@ -13,24 +13,19 @@ pub(crate) fn make_folder(rt: &HostRuntime, name: &str) -> io::Result<()> {
     fs::create_dir(rt, name)
 }
 
-/// Puts something at a path, and makes the folders that it needs.
+/// Puts something at a path, and makes the folders that it needs. A link leads to the path that bytes say.
 pub(crate) fn put(rt: &HostRuntime, word: Word, path: &str, bytes: &[u8]) -> io::Result<()> {
     if let Some((parent, _)) = path.rsplit_once('/') {
         fs::create_dir_all(rt, parent)?;
     }
     match word {
         Word::Folder => fs::create_dir_all(rt, path),
-        Word::Link => link(rt, path, bytes),
+        Word::Link => match str::from_utf8(bytes) {
+            Ok(target) => symlink(rt, target, path),
+            Err(_) => Err(io::Error::from(ErrorKind::InvalidData)),
+        },
         Word::Opened => Ok(()),
         _ => fs::write(rt, path, bytes),
-    }
-}
-
-/// Makes a link to the path that bytes say.
-fn link(rt: &HostRuntime, path: &str, bytes: &[u8]) -> io::Result<()> {
-    match str::from_utf8(bytes) {
-        Ok(target) => symlink(rt, target, path),
-        Err(_) => Err(io::Error::from(ErrorKind::InvalidData)),
     }
 }
 

@@ -2,7 +2,8 @@
 use crate::running::run;
 use crate::world::World;
 use case_files::{
-    Answer, Bytes, Entry, Line, Mistake, Reader, Report, Sight, Texts, Word, below, words_of,
+    Answer, Bytes, Entry, Line, Mistake, Reader, Report, Sight, Texts, Word, below, name_text,
+    path_and_bytes, read_row, words_of,
 };
 use std::alloc::Global;
 
@@ -67,7 +68,7 @@ impl Session {
             Word::Beside => put(rt, &self.texts, &[], entry, &mut self.world, report),
             Word::Text => name_text(&mut self.texts, entry, report),
             _ if !entry.below.is_empty() => report.text.fail(Mistake::Unasked),
-            Word::Row => self.read_row(file, entry, report),
+            Word::Row => read_row(self.reader, &sight_of(file, &self.texts, entry), report),
             _ => self.begin(rt, lines, entry.line, report),
         }
     }
@@ -92,17 +93,12 @@ impl Session {
             }
             Word::Read => {
                 let words = words_of(rt.alloc(), line.rest, &mut report.text);
-                self.read_by(&words, report);
+                self.reader = Reader::of(&words);
+                if self.reader.is_none() {
+                    report.text.fail(Mistake::Command);
+                }
             }
             _ => report.text.fail(Mistake::Entry),
-        }
-    }
-
-    /// `read READER`: what reads the rows below.
-    fn read_by(&mut self, words: &[&str], report: &mut Report) {
-        self.reader = Reader::of(words);
-        if self.reader.is_none() {
-            report.text.fail(Mistake::Command);
         }
     }
 
@@ -148,7 +144,7 @@ impl Session {
     /// Puts something into the last folder; of a bag it is only seen whether it can be read.
     fn put(&mut self, rt: &HostRuntime, entry: Entry<'_>, report: &mut Report) {
         if self.is_bag {
-            let _ = spelled(&self.texts, &[], entry, report);
+            let _ = path_and_bytes(&self.texts, &[], entry, report);
         } else if self.folder.held.is_empty() {
             report.text.fail(Mistake::Place);
         } else {
@@ -156,69 +152,6 @@ impl Session {
             put(rt, &self.texts, folder, entry, &mut self.world, report);
         }
     }
-
-    /// Reads a row, as `LEFT => RIGHT`, and compares what is read.
-    fn read_row(&self, file: &str, entry: Entry<'_>, report: &mut Report) {
-        match (self.reader, entry.line.rest.split_once("=>")) {
-            (Some(reader), Some((left, right))) => {
-                let sight = sight_of(file, &self.texts, entry);
-                read(
-                    reader,
-                    left.trim_matches(' '),
-                    right.trim_matches(' '),
-                    &sight,
-                    report,
-                );
-            }
-            _ => report.text.fail(Mistake::Row),
-        }
-    }
-}
-
-/// Compares what is read of what one text spells with what another one does.
-fn read(reader: Reader, left: &str, right: &str, sight: &Sight<'_>, report: &mut Report) {
-    let texts = sight.texts;
-    let bytes = texts.bytes(left);
-    report.note(&bytes);
-    let mut found = Bytes::new(texts.alloc);
-    reader.read(texts.alloc, &bytes.held, &mut found);
-    let found = Answer::of(texts.alloc, found, 0);
-    let wanted = Answer::of(texts.alloc, texts.bytes(right), 0);
-    report.compare(sight, "read", &wanted, &found);
-}
-
-/// The name in an entry and its value, as in `NAME = VALUE`.
-fn name_and_value(rest: &str) -> (&str, Option<&str>) {
-    match (rest.split_once(" = "), rest.strip_suffix(" =")) {
-        (Some((name, value)), _) => (name, Some(value)),
-        (None, Some(name)) => (name, Some("")),
-        (None, None) => (rest, None),
-    }
-}
-
-/// The bytes of an entry: those of its value, where it has one, or else of the lines below it.
-fn value_of(texts: &Texts, value: Option<&str>, below: &[Line<'_>]) -> Bytes {
-    match value {
-        Some(value) if below.is_empty() => texts.bytes(value),
-        Some(_) => {
-            let mut bytes = Bytes::new(texts.alloc);
-            bytes.fail(Mistake::Unasked);
-            bytes
-        }
-        None => texts.lines(below),
-    }
-}
-
-/// The path at which an entry puts something, below a folder, and what that holds.
-fn spelled(texts: &Texts, folder: &[u8], entry: Entry<'_>, report: &mut Report) -> (Bytes, Bytes) {
-    let (name, value) = name_and_value(entry.line.rest);
-    let mut path = Bytes::new(texts.alloc);
-    path.put_bytes(folder);
-    texts.add_text(name, &mut path);
-    report.note(&path);
-    let bytes = value_of(texts, value, entry.below);
-    report.note(&bytes);
-    (path, bytes)
 }
 
 /// Puts something below a folder, in memory and on the disk.
@@ -230,7 +163,7 @@ fn put(
     world: &mut World,
     report: &mut Report,
 ) {
-    let (path, bytes) = spelled(texts, folder, entry, report);
+    let (path, bytes) = path_and_bytes(texts, folder, entry, report);
     if report.text.mistake.is_none() {
         world.put(rt, entry.line.word, &path.held, bytes.held, report);
     }
@@ -265,15 +198,5 @@ fn put_bag<'a>(
     }
     if !is_there {
         report.text.fail(Mistake::Name);
-    }
-}
-
-/// `text NAME = VALUE`: gives a text a name.
-fn name_text(texts: &mut Texts, entry: Entry<'_>, report: &mut Report) {
-    let (name, value) = name_and_value(entry.line.rest);
-    let bytes = value_of(texts, value, entry.below);
-    report.note(&bytes);
-    if !texts.name(name, bytes.held) {
-        report.text.fail(Mistake::Memory);
     }
 }

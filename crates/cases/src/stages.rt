@@ -27,13 +27,11 @@ pub(crate) fn see_stage(sight: &Sight<'_>, words: &[&str], world: &World, report
         [number, depths, name] => {
             see_folder(sight, *name, None, (*number, *depths), world, report);
         }
-        [number, depths, name, file] => match world.file(*file) {
-            Some(bytes) => {
-                let asked = (*number, *depths);
-                see_folder(sight, *name, Some(bytes), asked, world, report);
-            }
-            None => report.text.fail(Mistake::Name),
-        },
+        [number, depths, name, file] => {
+            // no profile is empty
+            let profile = Some(world.file(*file).unwrap_or(&[]));
+            see_folder(sight, *name, profile, (*number, *depths), world, report);
+        }
         _ => report.text.fail(Mistake::Command),
     }
 }

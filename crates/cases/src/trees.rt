@@ -58,20 +58,7 @@ fn checked<T: Tree + Drop>(alloc: Global, tree: T, request: Request) -> (T, Vec<
     (tree, out.into_inner(), status(&outcome))
 }
 
-/// The tree after a folder was made a bag, as a plan says, what was written, and the exit status.
-fn made<T: WriteTree + Drop>(
-    alloc: Global,
-    tree: T,
-    name: &str,
-    plan: &Plan,
-    elements: &[(Text, Text)],
-) -> (T, Vec<u8>, u8) {
-    let mut out = WriterOut::new(Vec::<u8>::new(alloc));
-    let (tree, told) = make_and_tell(alloc, tree, name, plan.algs, elements, plan.quiet, &mut out);
-    (tree, out.into_inner(), told.unwrap_or(3))
-}
-
-/// Does with a tree what a plan says.
+/// Does with a tree what a plan says. Gives the tree after that, what was written, and the exit status.
 fn done<T: WriteTree + Drop>(
     alloc: Global,
     plan: &Plan,
@@ -81,7 +68,11 @@ fn done<T: WriteTree + Drop>(
     match plan.action {
         Action::Make => {
             let elements = elements_of(alloc, plan)?;
-            Ok(made(alloc, tree, name, plan, &elements))
+            let mut out = WriterOut::new(Vec::<u8>::new(alloc));
+            let (tree, told) = make_and_tell(
+                alloc, tree, name, plan.algs, &elements, plan.quiet, &mut out,
+            );
+            Ok((tree, out.into_inner(), told.unwrap_or(3)))
         }
         _ => Ok(checked(alloc, tree, request_of(alloc, plan, name)?)),
     }

@@ -5,9 +5,8 @@ use crate::trees::{are_trees, do_over_tree};
 use crate::world::World;
 use bag_cli::{Action, Plan, plan_of};
 use bag_disk::DiskFault;
-use case_files::{Answer, Bytes, Entry, Mistake, Part, Report, Sight};
+use case_files::{Answer, Bytes, Mistake, Part, Report, Sight, is_wanted, see_part};
 use std::alloc::Global;
-use std::str;
 
 /// A number of calls that no command makes.
 const MANY: u64 = 2000;
@@ -63,43 +62,21 @@ pub(crate) fn see_in_turn(
     report: &mut Report,
 ) {
     match plan_of(sight.texts.alloc, words) {
-        Ok(plan) => see_plan(sight, fault, words, &plan, world, report),
+        Ok(plan) => {
+            if fault.is_none() && !are_trees(&plan, world) {
+                report.text.fail(Mistake::Command);
+                return;
+            }
+            let turns = Turns {
+                alloc: sight.texts.alloc,
+                fault,
+                words: &*words,
+                plan: &plan,
+                world,
+            };
+            see_turns(sight, &turns, report);
+        }
         Err(_) => report.text.fail(Mistake::Command),
-    }
-}
-
-fn see_plan(
-    sight: &Sight<'_>,
-    fault: Option<DiskFault>,
-    words: &[&str],
-    plan: &Plan,
-    world: &World,
-    report: &mut Report,
-) {
-    if fault.is_none() && !are_trees(plan, world) {
-        report.text.fail(Mistake::Command);
-        return;
-    }
-    let turns = Turns {
-        alloc: sight.texts.alloc,
-        fault,
-        words: &*words,
-        plan,
-        world,
-    };
-    see_turns(sight, &turns, report);
-}
-
-/// What a part of the lines below an entry wants: all but the last have the status 3, where it isn't given, and the last has 0.
-fn wanted_of(sight: &Sight<'_>, part: Part<'_>) -> Answer {
-    let status = if part.rest.is_some() { 3 } else { 0 };
-    sight.texts.wanted(part.lines, status)
-}
-
-fn is_wanted(sight: &Sight<'_>, part: Option<Part<'_>>, found: &Answer) -> bool {
-    match part {
-        Some(part) => wanted_of(sight, part).is_same(found),
-        None => false,
     }
 }
 
@@ -121,18 +98,4 @@ fn see_turns(sight: &Sight<'_>, turns: &Turns<'_>, report: &mut Report) {
         }
     }
     see_part(sight, next, MANY, &turns.answer_at(MANY), report);
-}
-
-/// Compares an answer with the one that a part wants.
-fn see_part(sight: &Sight<'_>, part: Part<'_>, call: u64, found: &Answer, report: &mut Report) {
-    let mut side = Bytes::new(sight.texts.alloc);
-    side.put("where call ");
-    side.show(&call, " is refused");
-    let line = sight.entry.line;
-    let below = part.lines;
-    let entry = Entry { line, below };
-    let (file, texts) = (sight.file, sight.texts);
-    let part_sight = Sight { file, texts, entry };
-    let side = str::from_utf8(&side.held).unwrap_or("");
-    report.compare(&part_sight, side, &wanted_of(sight, part), found);
 }
