@@ -1,6 +1,6 @@
 -- The steps of a walk over the folders of a disk.
 use Rattle.std.proofs.lemmas.Grind.{common_steps}
-use Rattle.bag_disk.proofs.Common.{arith, ◌≡◌, ◌≢◌, ℕ, ◌==◌, true, false, List, [], ◌∷◌, ◌++◌, length, Option, Some, None, is_some, map, refl, ap, sym, ◌∙◌, subst, IsTrue, MatchOption, Result, OnOk, ◌⊎◌, inl, inr, eqb-true, eq-eqb, append_assoc, Contains, option_map, All-nil, All-cons, Contains-push, Contains-push_cases, Contains-append_left, Contains-append_right, slash, under, path_in, DiskState, OnlyLooks, Nodes, Node, node, Has, IsReached, IsFolder, IsDisk, IsName, AreNamesIn, entry_of, is_plain_found, File, Folder, Other, Walked, Listing, AllStand, IsBelow, IsAtOrBelow, IsFileOf, paths_of, files_with, folders_with, Entry, FileEntry, get_or-map, length-map, not}
+use Rattle.bag_disk.proofs.Common.{arith, ◌≡◌, ◌≢◌, ℕ, ◌==◌, true, false, List, [], ◌∷◌, ◌++◌, length, Option, Some, None, is_some, map, refl, ap, sym, ◌∙◌, subst, IsTrue, MatchOption, Result, OnOk, ◌⊎◌, inl, inr, eqb-true, eq-eqb, append_assoc, Contains, option_map, All-nil, All-cons, Contains-push, Contains-push_cases, Contains-append_left, Contains-append_right, slash, under, path_in, DiskState, OnlyLooks, Nodes, Node, node, Has, IsReached, IsFolder, IsDisk, IsName, AreNamesIn, entry_of, is_plain_found, File, Folder, Walked, Listing, AllStand, IsBelow, IsAtOrBelow, IsFileOf, paths_of, files_with, folders_with, Entry, FileEntry, get_or-map, length-map}
 use Rattle.bag_disk.specs.declared.disk.Entry.TheVariants as entry
 
 pub contains_none : {X : Type 0} (x : X) → Contains [] x → ⊥

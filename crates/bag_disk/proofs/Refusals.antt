@@ -5,7 +5,6 @@ use Rattle.bag_disk.specs.Refusal.{IsCounted, IsDue, IsDueInListing, IsDueInMove
 use Rattle.bag_disk.specs.declared.disk.DiskFault.{DiskFault}
 use Rattle.bag_disk.specs.declared.disk.DiskFault.TheVariants as disk
 use Rattle.bag_disk.specs.declared.refusal.Refusal.{Refusal}
-use Rattle.bag_disk.specs.declared.refusal.Refusal.TheVariants.{Name, NotFound}
 
 -- a refusal is due for what follows, too
 pub due_for : (special unnamed absent many special' unnamed' absent' many' : Type 0) (r : Refusal) → (special → special') → (unnamed → unnamed') → (absent → absent') → (many → many') → IsDue special unnamed absent many r → IsDue special' unnamed' absent' many' r

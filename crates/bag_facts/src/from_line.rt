@@ -9,7 +9,7 @@ ghost use Rattle.bag_facts.specs.LineFields.{AreFields};
 ghost use Rattle.bag_facts.specs.declared.fault.Fault.{Fault};
 
 use crate::Fault;
-use bag_text::{Alg, Code, Text};
+use bag_text::{Alg, Code, Text, said};
 use percent_encoding::{DecodeError, percent_decode};
 use std::alloc::{AllocError, Global};
 use thiserror::Error;
@@ -21,7 +21,7 @@ pub enum CursorFault {
     #[error("not a fault line")]
     NotALine,
     /// Memory ran out before this was known.
-    #[error("out of memory")]
+    #[error("{why}", why = said::OUT_OF_MEMORY)]
     Memory,
 }
 

@@ -1,5 +1,5 @@
 -- The payload of a made bag is the files of the folder, under data/.
-use Rattle.bag_make.proofs.Common.{◌≡◌, ℕ, ◌+◌, Bool, true, false, arith, cond, ◌&&◌, List, [], ◌∷◌, ◌++◌, is_some, Some, None, refl, sym, ap, ◌∙◌, subst, nat_list_cmp_total, find, is_sorted, entries_sorted, get-entries, below_all, find-where_key, is_sorted-where_key, same_entries, is_lt, eq_by_cmp, T, length-map, and_from, first-under, under_in_folder, under, is_path, is_payload_path, text_cmp, Alg, Bag, IsBag, files_of, exact_texts, payload, oxum, oxum_of_files, NewElement, File, data_folder, new_payload, new_tag_files, made}
+use Rattle.bag_make.proofs.Common.{◌≡◌, ℕ, Bool, true, false, arith, cond, ◌&&◌, List, [], ◌∷◌, ◌++◌, is_some, Some, None, refl, sym, ap, ◌∙◌, subst, nat_list_cmp_total, find, is_sorted, entries_sorted, get-entries, below_all, find-where_key, is_sorted-where_key, same_entries, is_lt, eq_by_cmp, T, length-map, and_from, first-under, under_in_folder, under, is_path, is_payload_path, text_cmp, Alg, Bag, IsBag, files_of, exact_texts, payload, oxum, oxum_of_files, NewElement, File, data_folder, new_payload, new_tag_files, made}
 use Rattle.bag_make.proofs.FilesAreNamed.{no_payload_tag}
 use Rattle.bag_make.proofs.Held.{none_by, all, held, found, tag_member, payload_member, held_at}
 use Rattle.bag_make.proofs.Composed.{sum_by-map}

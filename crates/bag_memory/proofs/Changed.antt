@@ -1,5 +1,5 @@
 -- How many files and folders a bag has after a change.
-use Rattle.bag_memory.proofs.Common.{◌≡◌, ℕ, ◌+◌, ◌≤◌, Bool, true, false, not, nat_lt, List, [], ◌∷◌, Option, None, length, arith, nat_list_cmp_total, text_cmp, and_parts, or_right, eqb-true, false≢true, is_base_name, Bag, has_folder, bag_of, file_map, folder_set, folders_for, state_after, HasChanged, Files, make_folder, move_in, rename_folder, create, is_taken, lacks_folder, lacks_source, moved, renamed, with_renamed, insert, map, empty, entries}
+use Rattle.bag_memory.proofs.Common.{◌≡◌, ℕ, ◌+◌, ◌≤◌, Bool, true, false, not, nat_lt, List, [], ◌∷◌, Option, None, length, arith, nat_list_cmp_total, text_cmp, and_parts, or_right, eqb-true, false≢true, is_base_name, Bag, has_folder, bag_of, file_map, folder_set, folders_for, state_after, HasChanged, Files, make_folder, move_in, rename_folder, create, is_taken, lacks_folder, lacks_source, moved, renamed, with_renamed, insert, empty, entries}
 use Rattle.std.specs.FinMap as map
 use Rattle.std.specs.FinSet as set
 use Rattle.bag_tree.specs.declared.answer.Answer.{Answer}

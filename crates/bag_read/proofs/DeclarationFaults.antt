@@ -1,5 +1,5 @@
 -- The faults of a declaration: first of the whole file, then of each line.
-use Rattle.bag_read.proofs.Common.{Bool, List, None, Option, Some, [], arith, codes, cond, false, inl, inr, length, lit<, refl, sym, true, ℕ, ◌-◌, ◌<◌, ◌==◌, ◌∙◌, ◌∷◌, ◌≡◌, ◌⊎◌, both_ways, nat_tests, option_and_then_some, slice_get-get_or, slice_get_past, slice_get, decimal, option_and_then, Less, one_listed, one_more, only_from_some, only_listed, same_members, lines_of_file, IsOnly, IsNoText, IsText, has_mark, same_label, Code, DeclarationLine, DeclarationLineCount, DeclarationNotUtf8, EncodingUnsupported, VersionUnsupported, DeclarationFault, IsDeclarationFault, IsUnread, encoding_of, is_supported_version, version_of, AreFaults, line_fault, line_fault_cmp, LineFault}
+use Rattle.bag_read.proofs.Common.{Bool, List, None, Option, Some, [], arith, codes, cond, false, inl, length, lit<, refl, true, ℕ, ◌-◌, ◌<◌, ◌==◌, ◌∷◌, ◌≡◌, ◌⊎◌, both_ways, nat_tests, option_and_then_some, slice_get-get_or, slice_get_past, slice_get, decimal, option_and_then, Less, one_listed, one_more, only_from_some, only_listed, same_members, lines_of_file, IsOnly, IsNoText, IsText, has_mark, same_label, Code, DeclarationLine, DeclarationLineCount, DeclarationNotUtf8, EncodingUnsupported, VersionUnsupported, DeclarationFault, IsDeclarationFault, IsUnread, encoding_of, is_supported_version, version_of, AreFaults, line_fault, line_fault_cmp, LineFault}
 use Rattle.bag_read.proofs.FaultOrder.{is_fault, line_below}
 use Rattle.bag_read.specs.DeclarationFaults.{utf8_fault, mark_fault, count_fault, version_fault, encoding_fault, on_line, text_faults}
 

@@ -1,5 +1,5 @@
 -- Line faults and their order.
-use Rattle.bag_read.proofs.Common.{List, arith, refl, sym, ℕ, ◌<◌, ◌≡◌, eq-or-lt_of_le, cases_lt, nat_cmp_is, nat_cmp, Equal, Less, number, Code, line_fault, line_fault_cmp, LineFault}
+use Rattle.bag_read.proofs.Common.{List, arith, refl, sym, ℕ, ◌<◌, ◌≡◌, eq-or-lt_of_le, cases_lt, nat_cmp_is, nat_cmp, Equal, Less, Code, line_fault, line_fault_cmp, LineFault}
 
 -- a fault is its three parts
 pub is_fault : (f : LineFault) (line : ℕ) (code : Code) (detail : List ℕ) → f.line ≡ line → f.code ≡ code → f.detail ≡ detail → f ≡ line_fault line code detail

@@ -1,5 +1,5 @@
 -- The elements of numbered lines are those of the file, and no others.
-use Rattle.bag_read.proofs.Common.{List, Some, [], ap, append-nil, append_assoc, arith, cond, drop, inl, inr, map, not, refl, suc, sym, true, zero, ℕ, ◌++◌, ◌+◌, ◌-◌, ◌∙◌, ◌∷◌, ◌≡◌, ◌⊎◌, take_while-cons, none-some, enumerate_from, join_with_byte, slice_get, nat_cmp, on, Ordering, joined, nothing_listed, only_from_some, only_listed, same_members, line_feed, IsListOf, begins_with_blank, is_blank_line, trim, Rules, IsElement, begins_element, is_continuation, leading_continuations, split, value_of_parts, element_at, elements, value_on, with_part, Element}
+use Rattle.bag_read.proofs.Common.{List, Some, [], ap, append-nil, append_assoc, arith, cond, drop, inl, inr, map, not, refl, suc, sym, true, ℕ, ◌++◌, ◌+◌, ◌-◌, ◌∙◌, ◌∷◌, ◌≡◌, ◌⊎◌, take_while-cons, none-some, enumerate_from, join_with_byte, slice_get, nat_cmp, on, Ordering, joined, nothing_listed, only_from_some, only_listed, same_members, line_feed, IsListOf, begins_with_blank, is_blank_line, trim, Rules, IsElement, begins_element, is_continuation, leading_continuations, split, value_of_parts, element_at, elements, value_on, with_part, Element}
 use Rattle.bag_read.proofs.FaultOrder.{less}
 
 -- the parts behind the first

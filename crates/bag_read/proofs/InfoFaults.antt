@@ -1,5 +1,5 @@
 -- The faults of numbered lines are those of the file, and no others.
-use Rattle.bag_read.proofs.Common.{Bool, List, Some, [], add-zero, arith, false, inl, inr, refl, suc, take, true, zero, ℕ, ◌+◌, ◌-◌, ◌||◌, ◌∷◌, ◌≡◌, ◌⊎◌, or-false, or_assoc, none-some, enumerate_from, list_any, slice_get, nat_cmp, on, joined, nothing_listed, one_listed, only_from_some, only_listed, same_members, lines_of_file, IsListOf, IsNoText, IsText, begins_with_blank, is_blank_line, Rules, DoesNotSplit, IsElement, IsInfoFault, begins_element, is_continuation, split, fault_at, faults, wrong, AreFaults, line_fault_cmp, not_utf8, LineFault}
+use Rattle.bag_read.proofs.Common.{Bool, List, Some, [], add-zero, arith, false, inl, inr, refl, suc, take, true, ℕ, ◌+◌, ◌-◌, ◌||◌, ◌∷◌, ◌≡◌, ◌⊎◌, or-false, or_assoc, none-some, enumerate_from, list_any, slice_get, nat_cmp, on, joined, nothing_listed, one_listed, only_from_some, only_listed, same_members, lines_of_file, IsListOf, IsNoText, IsText, begins_with_blank, is_blank_line, Rules, DoesNotSplit, IsElement, IsInfoFault, begins_element, is_continuation, split, fault_at, faults, wrong, AreFaults, line_fault_cmp, not_utf8, LineFault}
 use Rattle.bag_read.proofs.FaultOrder.{is_fault, line_below}
 use Rattle.bag_read.proofs.Utf8.{no_line}
 

@@ -1,5 +1,5 @@
 -- The parts of a line: what stands before its blanks, and what follows them.
-use Rattle.bag_read.proofs.Common.{Bool, List, [], append_assoc, arith, bytes_eq, drop, false, inl, inr, length, nat_eq, not, refl, suc, sym, take, true, ℕ, ◌++◌, ◌+◌, ◌∙◌, ◌∷◌, ◌≡◌, ◌≢◌, ◌⊎◌, nat_tests, take-append-drop, length-prefix_len, bytes_eq-Decides, list_all, prefix_len, after_blanks, before_blank, is_blank, is_blank_line, without_prefix, BeginsUnblank, IsCut, IsFronted, IsWithout}
+use Rattle.bag_read.proofs.Common.{Bool, List, [], append_assoc, arith, bytes_eq, drop, false, length, nat_eq, not, refl, sym, take, true, ℕ, ◌++◌, ◌∙◌, ◌∷◌, ◌≡◌, ◌≢◌, ◌⊎◌, nat_tests, take-append-drop, length-prefix_len, bytes_eq-Decides, list_all, prefix_len, after_blanks, before_blank, is_blank, is_blank_line, without_prefix, BeginsUnblank, IsCut, IsFronted, IsWithout}
 use Rattle.bag_read.proofs.Fronts.{drop_front, take_front, stops, front_passes, rest_stops, front_len}
 use Rattle.bag_read.proofs.PickedOut.{both_true}
 use Rattle.bag_read.proofs.Texts.{prefix_test}

@@ -1,5 +1,5 @@
 -- Steps that end with a reason why a line doesn't read.
-use Rattle.bag_read.proofs.Common.{Bool, Err, List, None, Ok, Option, Result, Some, ap, cond, false, inl, inr, refl, subst, sym, true, ℕ, ◌∙◌, ◌∷◌, ◌≡◌, both_ways, IfOk, ◌↔◌, spellings, is_path, Spells, unescaped, Code, Rules, IsFirst, Reason, decoded_or, ◌>>=◌, arith}
+use Rattle.bag_read.proofs.Common.{Bool, Err, List, None, Ok, Option, Result, Some, cond, false, inl, inr, refl, subst, sym, true, ℕ, ◌∙◌, ◌∷◌, ◌≡◌, both_ways, IfOk, ◌↔◌, spellings, is_path, Spells, unescaped, Code, Rules, IsFirst, Reason, decoded_or, ◌>>=◌, arith}
 
 pub ok_same : {A : Type 0} (x y : A) → ◌≡◌ {A = Result A Reason} (Ok x) (Ok y) → x ≡ y
 ok_same x y e = cc

@@ -1,5 +1,5 @@
 -- Whether entries of a manifest name each path once, and which lines name a path again.
-use Rattle.bag_read.proofs.Common.{Bool, List, Some, ap, arith, bytes_eq, cond, false, get_or, inl, inr, length, map, nat_eq, nat_lt, refl, rules, sym, true, ℕ, ◌+◌, ◌<◌, ◌∙◌, ◌≡◌, ◌≤◌, ◌⊎◌, eq-or-lt_of_le, cases_lt, eqb-false, eqb-true, nat_tests, get_or-map, length-map, get_or_from_slice_get, slice_get-get_or, slice_get_within, bytes_eq-Decides, IsTotalOrder, IsDistinct, slice_get, is_eq, is_lt, nat_cmp, on, Contains, IsTrue, ◌↔◌, Less, IsLine, IsListOf, text_cmp, Alg, Rules, entries_read, Reads, named_before, AreAscending, AreDifferent, IsRepeatedLine, NamesBelow, RepeatsBelow, TellsRepeats, fingerprint, mark_of, Kind, ManifestEntry}
+use Rattle.bag_read.proofs.Common.{Bool, List, Some, ap, arith, bytes_eq, cond, false, get_or, length, map, nat_eq, nat_lt, refl, rules, sym, true, ℕ, ◌+◌, ◌<◌, ◌∙◌, ◌≡◌, ◌≤◌, ◌⊎◌, eq-or-lt_of_le, cases_lt, eqb-false, eqb-true, nat_tests, get_or-map, length-map, get_or_from_slice_get, slice_get-get_or, slice_get_within, bytes_eq-Decides, IsTotalOrder, IsDistinct, slice_get, is_eq, is_lt, nat_cmp, on, Contains, IsTrue, ◌↔◌, Less, IsLine, IsListOf, text_cmp, Alg, Rules, entries_read, Reads, named_before, AreAscending, AreDifferent, IsRepeatedLine, NamesBelow, RepeatsBelow, TellsRepeats, fingerprint, mark_of, Kind, ManifestEntry}
 use Rattle.std.specs.List.Sorted.{IsPermutation, IsSortedBy, IsStrictlyIncreasing}
 use Rattle.std.specs.Cmp.Rules.{comparing}
 use Rattle.std.proofs.lemmas.List.Sorted.{IsPermutation-sym, sorted_far, ranks_by}

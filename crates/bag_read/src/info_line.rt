@@ -6,7 +6,7 @@ ghost use Rattle.bag_read.specs.InfoSplit.{HasKind};
 use bag_text::{Rules, begins_with_blank, ends_with_blank, is_blank_line};
 
 /// What a line is, taken by itself.
-#[derive(Clone, Copy, Debug)]
+#[derive(Clone, Copy)]
 pub(crate) enum LineKind<'a> {
     /// Empty, or only spaces and tabs.
     Blank,

@@ -13,7 +13,7 @@ use std::mem;
 const LINE_FEED: char = '\n';
 
 /// What a continuation would belong to.
-#[derive(Debug, Drop)]
+#[derive(Drop)]
 pub(crate) enum Above {
     /// No line yet.
     Nothing,
@@ -24,7 +24,7 @@ pub(crate) enum Above {
 }
 
 /// What was read of the lines up to here.
-#[derive(Debug, Drop)]
+#[derive(Drop)]
 pub(crate) struct Reader {
     items: Items<Element>,
     faults: Items<LineFault>,

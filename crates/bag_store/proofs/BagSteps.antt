@@ -1,5 +1,5 @@
 -- What the changes of a disk make of the bag below its base folder.
-use Rattle.bag_store.proofs.Common.{arith, ◌≡◌, ℕ, Bool, true, false, cond, List, [], ◌∷◌, Any, IsTrue, length, Option, Some, None, is_some, refl, ap, sym, ◌∙◌, false≢true, or_left, or_right, find, get-entries, get-insert, list_any, eq_by_cmp, nat_list_cmp_total, text_cmp, is_base_name, under, exact_texts, one_text, text_itself, Bag, file, files_of, has_folder, has_within, is_taken, lacks_folder, lacks_source, make_folder, create, MovesAll, is_within, moved, within_cases, itself_within, not_within, Nodes, Node, node, DiskState, HasSpecial, IsDisk, IsReached, MeetsSpecial, bytes_of, is_folder_node, path_in, File, Folder, HasFile, Moves, with_file, with_folder, nodes_move, bag_of_disk, file_of_disk, folder_of_disk, bag_of, IsStanding}
+use Rattle.bag_store.proofs.Common.{arith, ◌≡◌, ℕ, Bool, true, false, cond, List, [], ◌∷◌, Any, IsTrue, length, Option, Some, None, is_some, refl, ap, sym, ◌∙◌, false≢true, or_left, or_right, find, get-entries, get-insert, list_any, eq_by_cmp, nat_list_cmp_total, text_cmp, is_base_name, under, exact_texts, one_text, text_itself, Bag, file, files_of, has_folder, has_within, is_taken, lacks_folder, lacks_source, make_folder, create, MovesAll, is_within, moved, within_cases, itself_within, not_within, Nodes, Node, node, DiskState, HasSpecial, IsDisk, IsReached, MeetsSpecial, bytes_of, is_folder_node, path_in, Folder, HasFile, Moves, with_file, with_folder, nodes_move, bag_of_disk, file_of_disk, folder_of_disk, bag_of, IsStanding}
 use Rattle.std.proofs.Common.{map as list_map}
 use Rattle.std.proofs.lemmas.List.Folds.{list_any-from_Any}
 use Rattle.std.specs.FinMap as map

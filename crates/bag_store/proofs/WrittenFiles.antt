@@ -1,5 +1,5 @@
 -- Files are written piece by piece.
-use Rattle.bag_store.proofs.Common.{◌≡◌, ℕ, ◌+◌, ◌-◌, ◌≤◌, true, IsTrue, List, [], ◌++◌, length, length-drop, take, take-add, take_all, drop, arith, Option, Some, is_some, append_assoc, append-nil, refl, ap, sym, ◌∙◌, false≢true, take-length, slice_range, get-insert, same_map, nat_list_cmp_total, exact_texts, one_text, text_itself, DiskState, Nodes, Node, node, OnlyLooks, bytes_of, File, Appends, Closes, HasFile, MakesFile, HasWritten, HasWrittenSome, Makes, Begins, file}
+use Rattle.bag_store.proofs.Common.{◌≡◌, ℕ, ◌+◌, ◌-◌, ◌≤◌, true, IsTrue, List, [], ◌++◌, length, length-drop, take, take-add, take_all, drop, arith, Option, Some, is_some, append_assoc, append-nil, refl, ap, sym, ◌∙◌, false≢true, take-length, slice_range, get-insert, same_map, nat_list_cmp_total, exact_texts, one_text, text_itself, DiskState, Nodes, Node, node, OnlyLooks, bytes_of, File, Appends, Closes, HasFile, MakesFile, HasWritten, HasWrittenSome, Makes, Begins}
 use Rattle.std.specs.FinMap as map
 
 put_again : (nodes : Nodes) (path : List ℕ) (n m : Node) → map.insert (map.insert nodes path n) path m ≡ map.insert nodes path m

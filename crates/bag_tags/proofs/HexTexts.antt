@@ -1,5 +1,5 @@
 -- Texts of hex digits in lower case.
-use Rattle.bag_tags.proofs.Common.{Bool, List, [], arith, false, get_or, length, lit<, not, refl, suc, true, zero, ℕ, ◌++◌, ◌<◌, ◌∷◌, ◌≡◌, ◌≢◌, nat_tests, IsUtf8-from_ascii, is_ascii_hexdigit, list_all, list_any, IsUtf8, str_to_ascii_lowercase, not_false, or_false, both_true, is_line_end, has_mark, is_blank, Alg, is_bad_digest, is_lower_hex_digit, ◌-◌}
+use Rattle.bag_tags.proofs.Common.{Bool, List, [], arith, false, get_or, length, lit<, not, refl, true, ℕ, ◌++◌, ◌<◌, ◌∷◌, ◌≡◌, ◌≢◌, nat_tests, IsUtf8-from_ascii, is_ascii_hexdigit, list_all, list_any, IsUtf8, str_to_ascii_lowercase, not_false, or_false, both_true, is_line_end, has_mark, is_blank, Alg, is_bad_digest, is_lower_hex_digit, ◌-◌}
 use Rattle.bag_text.specs.Alg.{hex_len}
 
 each_passes : (p q : ℕ → Bool) → ((c : ℕ) → p c ≡ true → q c ≡ true) → (t : List ℕ) → list_all p t ≡ true → list_all q t ≡ true

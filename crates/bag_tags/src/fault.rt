@@ -1,4 +1,5 @@
 //! Why a tag file isn't written.
+use bag_text::said;
 use std::alloc::AllocError;
 use thiserror::Error;
 
@@ -6,10 +7,10 @@ use thiserror::Error;
 #[derive(Clone, Copy, Debug, PartialEq, Eq, Error)]
 pub enum WriteFault {
     /// Memory ran out.
-    #[error("out of memory")]
+    #[error("{why}", why = said::OUT_OF_MEMORY)]
     Memory,
     /// A value that would not be read again as it is given.
-    #[error("a value that can't be written")]
+    #[error("{why}", why = said::BAD_VALUE)]
     BadValue,
 }
 

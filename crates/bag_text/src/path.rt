@@ -5,7 +5,7 @@ ghost use Rattle.bag_text.specs.PathPart.{with_byte, is_name};
 ghost use Rattle.bag_text.specs.Path as spec;
 ghost use Rattle.bag_text.specs.Spelling as spelled;
 
-use crate::Rules;
+use crate::{Rules, said};
 use std::alloc::{AllocError, Global};
 use thiserror::Error;
 
@@ -106,7 +106,7 @@ pub enum PathFault {
     #[error("a % that begins no escape")]
     BadEscape,
     /// Memory ran out.
-    #[error("out of memory")]
+    #[error("{why}", why = said::OUT_OF_MEMORY)]
     Memory,
 }
 

@@ -6,7 +6,7 @@ ghost use Rattle.bag_tree.specs.Sums.{shown};
 ghost use Rattle.bag_tree.specs.declared.sums.HexFault.TheVariants.{NotAsked};
 
 use crate::hasher::MOST_BYTES;
-use bag_text::Alg;
+use bag_text::{Alg, said};
 use std::alloc::{AllocError, Global};
 use std::marker::Model;
 use thiserror::Error;
@@ -18,7 +18,7 @@ pub enum HexFault {
     #[error("the algorithm wasn't asked for")]
     NotAsked,
     /// A growth was refused.
-    #[error("out of memory")]
+    #[error("{why}", why = said::OUT_OF_MEMORY)]
     Memory,
 }
 

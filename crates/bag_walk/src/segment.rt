@@ -28,7 +28,7 @@ use std::alloc::{AllocError, Global};
 use std::mem;
 
 /// How a segment of a report ended.
-#[derive(Debug, Drop)]
+#[derive(Drop)]
 pub(crate) enum SegmentEnd {
     /// With as many faults as its limit.
     Full,
@@ -41,7 +41,7 @@ pub(crate) enum SegmentEnd {
 }
 
 /// A segment of a report: how many lines were written, and how it ended.
-#[derive(Debug, Drop)]
+#[derive(Drop)]
 pub(crate) struct Segment {
     pub(crate) written: u64,
     pub(crate) end: SegmentEnd,
@@ -136,7 +136,7 @@ pub(crate) fn out_of_memory(alloc: Global) -> Stop
 }
 
 /// The line that was written last, none at first, and a buffer for the next. Each ends in LF.
-#[derive(Debug, Drop)]
+#[derive(Drop)]
 pub(crate) struct Lines {
     pub(crate) last: String,
     pub(crate) next: String,

@@ -1,4 +1,5 @@
 //! What can be wrong with a case file.
+use bag_text::said;
 use std::io;
 
 /// What is wrong with an entry of a case file, or keeps it from being followed.
@@ -34,7 +35,7 @@ impl Mistake {
     /// What is told of it.
     pub fn text(self) -> &'static str {
         match self {
-            Mistake::Memory => "out of memory",
+            Mistake::Memory => said::OUT_OF_MEMORY,
             Mistake::System => "the system refuses a file or a folder",
             Mistake::Entry => "no entry begins with this word",
             Mistake::Unasked => "lines that are wanted of nothing",

@@ -1,31 +1,20 @@
 //! What words of the command line ask for.
 use crate::bytes::Bytes;
 use crate::shown::Shown;
-use bag_arguments::{Action, Plan, Usage};
+use crate::words::words_of;
+use bag_arguments::{Action, Plan, Usage, plan_of};
 use bag_facts::Depth;
 use bag_text::Alg;
+use std::alloc::Global;
 
-fn action_word(action: &Action) -> &'static str {
-    match action {
-        Action::Sample => "sample",
-        Action::Help(_) => "help",
-        Action::Check => "check",
-        Action::Make => "make",
-    }
-}
-
-fn depth_word(depth: Depth) -> &'static str {
-    match depth {
+/// How bags are checked, with what is given alone.
+fn put_check(plan: &Plan, out: &mut Bytes) {
+    out.put(match plan.options.depth {
         Depth::Declaration => "|declaration",
         Depth::Fast => "|fast",
         Depth::Complete => "|complete",
         Depth::Full => "|full",
-    }
-}
-
-/// How bags are checked, with what is given alone.
-fn put_check(plan: &Plan, out: &mut Bytes) {
-    out.put(depth_word(plan.options.depth));
+    });
     if plan.options.clashes {
         out.put("|clashes");
     }
@@ -60,24 +49,32 @@ fn put_making(plan: &Plan, out: &mut Bytes) {
 }
 
 /// What words ask for.
-impl Shown for Plan {
-    fn put_in(&self, out: &mut Bytes) {
-        out.put(action_word(&self.action));
-        for directory in self.directories.as_slice() {
-            out.put(" ");
-            out.put(directory.as_str());
-        }
-        put_check(self, out);
-        put_making(self, out);
+fn put_plan(plan: &Plan, out: &mut Bytes) {
+    out.put(match &plan.action {
+        Action::Sample => "sample",
+        Action::Help(_) => "help",
+        Action::Check => "check",
+        Action::Make => "make",
+    });
+    for directory in plan.directories.as_slice() {
+        out.put(" ");
+        out.put(directory.as_str());
+    }
+    put_check(plan, out);
+    put_making(plan, out);
+}
+
+/// What words ask for, or why they are refused: `refused` where the program takes no such words.
+fn put_answer(answer: &Result<Plan, Usage>, out: &mut Bytes) {
+    match answer {
+        Ok(plan) => put_plan(plan, out),
+        Err(Usage::Refused(_)) => out.put("refused"),
+        Err(usage) => out.show(usage, ""),
     }
 }
 
-/// Why words are refused: `refused` where the program takes no such words.
-impl Shown for Usage {
-    fn put_in(&self, out: &mut Bytes) {
-        match self {
-            Usage::Refused(_) => out.put("refused"),
-            _ => out.show(self, ""),
-        }
-    }
+/// Adds what the words of a text ask for.
+pub(crate) fn plan(alloc: Global, text: &str, out: &mut Bytes) {
+    let words = words_of(alloc, text, out);
+    put_answer(&plan_of(alloc, &words), out);
 }

@@ -44,30 +44,22 @@ fn put_lists(profile: &Profile, out: &mut Bytes) {
     }
 }
 
-fn fetch_word(profile: &Profile) -> &'static str {
-    if profile.allow_fetch() {
-        "fetch|"
-    } else {
-        "no fetch|"
-    }
-}
-
-fn serialization_word(serialization: Serialization) -> &'static str {
-    match serialization {
-        Serialization::Forbidden => "forbidden|",
-        Serialization::Required => "required|",
-        Serialization::Optional => "optional|",
-    }
-}
-
 /// What a profile says: its labels and lists, what it says of whole bags, and its keys that aren't checked.
 impl Shown for Profile {
     fn put_in(&self, out: &mut Bytes) {
         out.show(&self.identifier(), "|");
         put_rules(self.labels(), out);
         put_lists(self, out);
-        out.put(fetch_word(self));
-        out.put(serialization_word(self.serialization()));
+        out.put(if self.allow_fetch() {
+            "fetch|"
+        } else {
+            "no fetch|"
+        });
+        out.put(match self.serialization() {
+            Serialization::Forbidden => "forbidden|",
+            Serialization::Required => "required|",
+            Serialization::Optional => "optional|",
+        });
         put_values("?", self.unchecked(), "|", out);
     }
 }

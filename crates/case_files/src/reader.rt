@@ -1,11 +1,10 @@
 //! What a row is read by.
 use crate::bytes::Bytes;
 use crate::mistake::Mistake;
+use crate::plans::plan;
 use crate::spelled;
 use crate::tag_files::manifest_name;
-use crate::words::words_of;
 use crate::written::pairs_of;
-use bag_arguments::plan_of;
 use bag_facts::Fault;
 use bag_profile::Profile;
 use bag_read::{Kind, read_declaration, read_fetch, read_info, read_manifest};
@@ -186,10 +185,7 @@ impl Reader {
                 let entries = pairs_of(alloc, text, out);
                 out.take(write_manifest(alloc, kind, alg, &entries));
             }
-            Reader::Plan => {
-                let words = words_of(alloc, text, out);
-                out.take(plan_of(alloc, &words));
-            }
+            Reader::Plan => plan(alloc, text, out),
             Reader::Line => out.take(Fault::from_line(alloc, text)),
             Reader::Escape => out.take(escape_path(alloc, text)),
             Reader::Unescape(rules) => out.take(unescape_path(alloc, rules, text)),

@@ -1,12 +1,8 @@
 //! What the readers and writers answer, as rows want it.
 use crate::bytes::Bytes;
-use crate::mistake::Mistake;
-use bag_facts::{CursorFault, Fault};
-use bag_profile::ProfileFault;
-use bag_tags::WriteFault;
-use bag_text::{PathFault, Text};
-use bag_tree::HexFault;
-use std::alloc::AllocError;
+use bag_facts::Fault;
+use bag_text::Text;
+use std::fmt::Display;
 
 /// What is put into bytes as a row wants it.
 pub trait Shown {
@@ -14,11 +10,11 @@ pub trait Shown {
 }
 
 impl Bytes {
-    /// Adds what was answered.
-    pub fn take<T: Shown + Drop, E: Shown + Drop>(&mut self, answer: Result<T, E>) {
+    /// Adds what was answered, or why it was refused.
+    pub fn take<T: Shown + Drop, E: Display + Drop>(&mut self, answer: Result<T, E>) {
         match &answer {
             Ok(value) => value.put_in(self),
-            Err(refusal) => refusal.put_in(self),
+            Err(refusal) => self.show(refusal, ""),
         }
     }
 }
@@ -54,45 +50,6 @@ impl Shown for Vec<Fault> {
         for fault in self {
             fault.put_in(out);
             out.put("\n");
-        }
-    }
-}
-
-impl Shown for AllocError {
-    fn put_in(&self, out: &mut Bytes) {
-        out.fail(Mistake::Memory);
-    }
-}
-
-impl Shown for HexFault {
-    fn put_in(&self, out: &mut Bytes) {
-        out.show(self, "");
-    }
-}
-
-impl Shown for PathFault {
-    fn put_in(&self, out: &mut Bytes) {
-        out.show(self, "");
-    }
-}
-
-impl Shown for CursorFault {
-    fn put_in(&self, out: &mut Bytes) {
-        out.show(self, "");
-    }
-}
-
-impl Shown for ProfileFault {
-    fn put_in(&self, out: &mut Bytes) {
-        out.show(self, "");
-    }
-}
-
-impl Shown for WriteFault {
-    fn put_in(&self, out: &mut Bytes) {
-        match self {
-            WriteFault::BadValue => out.put("bad value"),
-            WriteFault::Memory => out.fail(Mistake::Memory),
         }
     }
 }

@@ -57,16 +57,12 @@ pub(crate) fn algorithm(name: &str, out: &mut Bytes) {
 /// The word of the fault code with a number.
 pub(crate) fn code(text: &str, out: &mut Bytes) {
     match text.parse::<u16>() {
-        Ok(number) => out.put(code_word(number)),
+        Ok(number) => out.put(match Code::from_number(number) {
+            Some(code) if code.number() == number => code.word(),
+            Some(_) => "another number",
+            None => "none",
+        }),
         Err(_) => out.fail(Mistake::Number),
-    }
-}
-
-fn code_word(number: u16) -> &'static str {
-    match Code::from_number(number) {
-        Some(code) if code.number() == number => code.word(),
-        Some(_) => "another number",
-        None => "none",
     }
 }
 
@@ -90,33 +86,20 @@ pub(crate) fn trimmed(text: &str) -> &str {
     }
 }
 
-/// The two halves of a text, and nothing where it has none.
-fn halves<'a>(text: &'a str, mark: char, out: &mut Bytes) -> (&'a str, &'a str) {
-    match text.split_once(mark) {
-        Some(halves) => halves,
-        None => {
-            out.fail(Mistake::Row);
-            ("", "")
-        }
-    }
-}
-
 /// Whether two labels are the same.
 pub(crate) fn labels(text: &str, out: &mut Bytes) {
-    let (a, b) = halves(text, '|', out);
-    out.put(if same_label(a, b) {
-        "same"
-    } else {
-        "not the same"
-    });
+    match text.split_once('|') {
+        Some((a, b)) if same_label(a, b) => out.put("same"),
+        Some(_) => out.put("not the same"),
+        None => out.fail(Mistake::Row),
+    }
 }
 
 /// Whether a pattern matches the name behind it.
 pub(crate) fn matched(text: &str, out: &mut Bytes) {
-    let (pattern, name) = halves(text, ' ', out);
-    out.put(if matches(pattern, name) {
-        "matches"
-    } else {
-        "doesn't match"
-    });
+    match text.split_once(' ') {
+        Some((pattern, name)) if matches(pattern, name) => out.put("matches"),
+        Some(_) => out.put("doesn't match"),
+        None => out.fail(Mistake::Row),
+    }
 }

@@ -7,6 +7,7 @@ use bag_facts::{Depth, Facts, Options};
 use bag_profile::Profile;
 use bag_report::stage_faults;
 use bag_tree::Tree;
+use std::alloc::Global;
 
 /// The depths by their names.
 const DEPTHS: &[(&str, Depth)] = &[
@@ -46,6 +47,22 @@ fn put_stage<T: Tree>(
     }
 }
 
+/// The faults of a stage at a depth.
+fn stage_at<T: Tree>(
+    alloc: Global,
+    tree: &mut T,
+    profile: Option<&Profile>,
+    number: &str,
+    depth: &str,
+) -> Answer {
+    let mut found = Bytes::new(alloc);
+    match (options_of(depth), number.parse::<u8>()) {
+        (Some(options), Ok(stage)) => put_stage(tree, options, profile, stage, &mut found),
+        _ => found.fail(Mistake::Command),
+    }
+    Answer::of(alloc, found, 0)
+}
+
 /// Compares the faults of a stage at each depth.
 fn see_depths<T: Tree>(
     sight: &Sight<'_>,
@@ -54,14 +71,8 @@ fn see_depths<T: Tree>(
     (number, depths): (&str, &str),
     report: &mut Report,
 ) {
-    let alloc = sight.texts.alloc;
     for depth in depths.split(',') {
-        let mut found = Bytes::new(alloc);
-        match (options_of(depth), number.parse::<u8>()) {
-            (Some(options), Ok(stage)) => put_stage(tree, options, profile, stage, &mut found),
-            _ => found.fail(Mistake::Command),
-        }
-        let found = Answer::of(alloc, found, 0);
+        let found = stage_at(sight.texts.alloc, tree, profile, number, depth);
         report.see(sight, depth, &found);
     }
 }

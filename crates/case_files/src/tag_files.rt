@@ -72,30 +72,26 @@ impl Shown for Parsed<ManifestEntry> {
 
 /// What a tag file is by its name; `?` where its algorithm isn't supported.
 pub(crate) fn manifest_name(name: &str, out: &mut Bytes) {
+    let known = TagName::at(name);
+    let mark = if known.is_none() { "? " } else { "" };
     match (
         manifest_alg(Kind::Payload, name),
         manifest_alg(Kind::Tag, name),
     ) {
-        (Some(alg), _) => put_alg("payload ", alg, name, out),
-        (None, Some(alg)) => put_alg("tag ", alg, name, out),
-        (None, None) => out.put(other_name(name)),
+        (Some(alg), _) => put_alg("payload ", mark, alg, out),
+        (None, Some(alg)) => put_alg("tag ", mark, alg, out),
+        (None, None) => out.put(match known {
+            Some(TagName::Declaration) => "declaration",
+            Some(TagName::Info) => "metadata",
+            Some(TagName::Fetch) => "files to fetch",
+            Some(TagName::Manifest(_, _)) => "a manifest without an algorithm",
+            None => "none",
+        }),
     }
 }
 
-fn put_alg(kind: &str, alg: &str, name: &str, out: &mut Bytes) {
+fn put_alg(kind: &str, mark: &str, alg: &str, out: &mut Bytes) {
     out.put(kind);
-    if TagName::at(name).is_none() {
-        out.put("? ");
-    }
+    out.put(mark);
     out.put(alg);
-}
-
-fn other_name(name: &str) -> &'static str {
-    match TagName::at(name) {
-        Some(TagName::Declaration) => "declaration",
-        Some(TagName::Info) => "metadata",
-        Some(TagName::Fetch) => "files to fetch",
-        Some(TagName::Manifest(_, _)) => "a manifest without an algorithm",
-        None => "none",
-    }
 }

@@ -1,6 +1,6 @@
 //! What commands answer over the disk, and over disks in memory.
 use bag_cli::{Disks, Folders, WriterOut, program};
-use bag_store::{FileEntry, FileTree, Tree};
+use bag_store::{FileTree, Tree};
 use case_files::{Answer, Bytes, Mistake};
 use std::alloc::Global;
 use std::io::{self, ErrorKind, Write};
@@ -80,16 +80,14 @@ pub(crate) fn held<D: Disks>(alloc: Global, disks: &D, words: &[&str]) -> Bytes 
 /// Adds the paths of the files of a tree, each in a line and behind its size, where that is asked for.
 pub(crate) fn put_listing<T: Tree>(tree: &mut T, has_sizes: bool, out: &mut Bytes) {
     match tree.list() {
-        Ok(listing) => put_files(listing.files.as_slice(), has_sizes, out),
-        Err(_) => out.fail(Mistake::System),
-    }
-}
-
-fn put_files(files: &[FileEntry], has_sizes: bool, out: &mut Bytes) {
-    for file in files {
-        if has_sizes {
-            out.show(&file.size, " ");
+        Ok(listing) => {
+            for file in listing.files.as_slice() {
+                if has_sizes {
+                    out.show(&file.size, " ");
+                }
+                out.show(&file.path, "\n");
+            }
         }
-        out.show(&file.path, "\n");
+        Err(_) => out.fail(Mistake::System),
     }
 }

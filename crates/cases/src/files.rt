@@ -1,6 +1,6 @@
 //! Files of cases, which are followed one after another.
 use crate::session::Session;
-use case_files::{Answer, Bytes, Entry, Line, Mistake, Report, Word, below, lines_of};
+use case_files::{Answer, Bytes, Entry, Line, Mistake, Report, Sight, Word, below, lines_of};
 use std::fs;
 
 /// How far a file was followed. The line is 0 where none of it was.
@@ -68,26 +68,27 @@ fn follow_lines<'a, O: Others>(
     let mut session = Session::new(rt.alloc());
     for (place, line) in lines.iter().enumerate() {
         // the first line of a file is an entry, whatever it says
-        if place == 0 || !line.word.is_wanted() {
+        let is_entry = place == 0 || !line.word.is_wanted();
+        if is_entry && report.text.mistake.is_none() {
             *number = line.number;
             let below = below(lines, place);
             let entry = Entry { line: *line, below };
             match other_of(entry) {
                 Some(other) => {
-                    let found = others.found(rt, other);
-                    session.compare(file, entry, "this program", &found, report);
+                    let texts = &session.texts;
+                    let sight = Sight { file, texts, entry };
+                    report.see(&sight, "this program", &others.found(rt, other));
                 }
                 None => {
                     let before = lines.get(..place).unwrap_or(&[]);
                     session.follow(rt, file, before, entry, report);
                 }
             }
-            if report.text.mistake.is_some() {
-                return;
-            }
         }
     }
-    session.end(rt, report);
+    if report.text.mistake.is_none() {
+        session.end(rt, report);
+    }
 }
 
 /// The file that an entry runs, where it runs one.

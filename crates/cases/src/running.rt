@@ -1,6 +1,7 @@
 //! Commands, and what each side answers to them.
 use crate::answers::{answer_to, held, listed};
 use crate::commands::{Verb, verb_of};
+use crate::shelf::Refusing;
 use crate::world::World;
 use crate::{stages, trees, turns};
 use bag_cli::Disks;
@@ -45,7 +46,8 @@ fn run_verb(
         }
         Verb::Stage => stages::see_stage(sight, words, world, report),
         Verb::List | Verb::Write => {
-            see_files(sight, world, verb, words, "in memory", report);
+            let disks = Refusing::none(world);
+            see_files(sight, &disks, verb, words, "in memory", report);
             see_files(sight, rt, verb, words, "on the disk", report);
         }
     }
@@ -76,7 +78,7 @@ fn see_on_disks(
     report: &mut Report,
 ) {
     see_on_disk(rt, sight, words, room, world, report);
-    let found = answer_to(sight.texts.alloc, world, words, room);
+    let found = answer_to(sight.texts.alloc, &Refusing::none(world), words, room);
     report.see(sight, "on a disk in memory", &found);
 }
 

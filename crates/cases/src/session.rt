@@ -2,7 +2,7 @@
 use crate::running::run;
 use crate::world::World;
 use case_files::{
-    Answer, Bytes, Entry, Line, Mistake, Reader, Report, Sight, Texts, Word, below, name_text,
+    Bytes, Entry, Line, Mistake, Reader, Report, Sight, Texts, Word, below, name_text,
     path_and_bytes, read_row, words_of,
 };
 use std::alloc::Global;
@@ -10,7 +10,7 @@ use std::alloc::Global;
 /// What a file has said up to an entry.
 #[derive(Drop)]
 pub(crate) struct Session {
-    texts: Texts,
+    pub(crate) texts: Texts,
     /// What stands in the folders of the case, and beside them.
     world: World,
     /// The last of these folders, with a `/` behind its name.
@@ -19,11 +19,6 @@ pub(crate) struct Session {
     is_bag: bool,
     /// What reads the rows of the case.
     reader: Option<Reader>,
-}
-
-/// What an entry wants, as texts spell it.
-fn sight_of<'a>(file: &'a str, texts: &'a Texts, entry: Entry<'a>) -> Sight<'a> {
-    Sight { file, texts, entry }
 }
 
 impl Session {
@@ -37,19 +32,6 @@ impl Session {
         }
     }
 
-    /// Compares an answer with the one that an entry wants.
-    pub(crate) fn compare(
-        &self,
-        file: &str,
-        entry: Entry<'_>,
-        side: &str,
-        found: &Answer,
-        report: &mut Report,
-    ) {
-        let sight = sight_of(file, &self.texts, entry);
-        report.see(&sight, side, found);
-    }
-
     /// Follows an entry, before which these lines stand.
     pub(crate) fn follow<'a>(
         &mut self,
@@ -61,14 +43,17 @@ impl Session {
     ) {
         match entry.line.word {
             Word::Run => {
-                let sight = sight_of(file, &self.texts, entry);
-                run(rt, &sight, &mut self.world, report);
+                let texts = &self.texts;
+                run(rt, &Sight { file, texts, entry }, &mut self.world, report);
             }
             Word::File | Word::Folder | Word::Link | Word::Opened => self.put(rt, entry, report),
             Word::Beside => put(rt, &self.texts, &[], entry, &mut self.world, report),
             Word::Text => name_text(&mut self.texts, entry, report),
             _ if !entry.below.is_empty() => report.text.fail(Mistake::Unasked),
-            Word::Row => read_row(self.reader, &sight_of(file, &self.texts, entry), report),
+            Word::Row => {
+                let texts = &self.texts;
+                read_row(self.reader, &Sight { file, texts, entry }, report);
+            }
             _ => self.begin(rt, lines, entry.line, report),
         }
     }

@@ -83,6 +83,17 @@ pub(crate) struct Refusing<'a, D> {
     pub(crate) fault: DiskFault,
 }
 
+impl<'a, D> Refusing<'a, D> {
+    /// Disks of which no call is refused.
+    pub(crate) fn none(disks: &'a D) -> Refusing<'a, D> {
+        Refusing {
+            disks,
+            call: u64::MAX,
+            fault: DiskFault::Device,
+        }
+    }
+}
+
 impl<'a, D: Disks> Disks for Refusing<'a, D> {
     type Disk = RefusingDisk<D::Disk>;
 

@@ -61,17 +61,15 @@ pub(crate) fn see_in_turn(
     world: &World,
     report: &mut Report,
 ) {
-    match plan_of(sight.texts.alloc, words) {
+    let alloc = sight.texts.alloc;
+    match plan_of(alloc, words) {
         Ok(plan) => {
-            if fault.is_none() && !are_trees(&plan, world) {
-                report.text.fail(Mistake::Command);
-                return;
-            }
+            let plan = &plan;
             let turns = Turns {
-                alloc: sight.texts.alloc,
+                alloc,
                 fault,
-                words: &*words,
-                plan: &plan,
+                words,
+                plan,
                 world,
             };
             see_turns(sight, &turns, report);
@@ -80,7 +78,12 @@ pub(crate) fn see_in_turn(
     }
 }
 
+/// Compares the answers one after another; those over trees only where the folders can be trees.
 fn see_turns(sight: &Sight<'_>, turns: &Turns<'_>, report: &mut Report) {
+    if turns.fault.is_none() && !are_trees(turns.plan, turns.world) {
+        report.text.fail(Mistake::Command);
+        return;
+    }
     let mut next = Part::of(sight.entry.below);
     let mut last = None;
     for call in 1..MANY {

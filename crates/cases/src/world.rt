@@ -80,7 +80,9 @@ impl World {
                 self.hold(path, Node::File(bytes), report);
             }
             Word::Folder => {
-                self.has_trees &= stands_in_trees(path);
+                // no other folder can stand in a tree unless a file stands in it
+                let in_folder = path.split_once('/');
+                self.has_trees &= matches!(in_folder, Some((_, "data" | ".bagit-new")));
                 self.hold(path, Node::Folder, report);
             }
             Word::Opened => self.open_as(path, bytes, report),
@@ -222,14 +224,6 @@ fn put_disk(
         let _ = disks.insert(name, disk)?;
     }
     Ok(())
-}
-
-/// Whether a folder can stand in a tree though no file stands in it.
-fn stands_in_trees(path: &str) -> bool {
-    match path.split_once('/') {
-        Some((_, name)) => name == "data" || name == ".bagit-new",
-        None => false,
-    }
 }
 
 /// Has something stand at a path.

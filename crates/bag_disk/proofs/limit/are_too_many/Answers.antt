@@ -1,4 +1,4 @@
-use Rattle.bag_disk.proofs.Common.{◌∙◌, sym, arith, ltb-true, false, true}
+use Rattle.bag_disk.proofs.Common.{◌∙◌, sym, arith, ltb-true}
 use Rattle.bag_disk.proofs.DiskCount.{found_fit}
 use Rattle.bag_disk.proofs.limit.are_too_many.Goals as goal
 use Rattle.bag_disk.proofs.limit.are_too_many.Goals.{then-len, else-len}

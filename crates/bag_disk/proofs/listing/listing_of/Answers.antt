@@ -1,4 +1,4 @@
-use Rattle.bag_disk.proofs.Common.{◌∙◌, IsTrue, inl, inr, sym, false≢true, All-permutation, IsPermutation-trans, is_path, false}
+use Rattle.bag_disk.proofs.Common.{◌∙◌, IsTrue, inl, inr, sym, false≢true, All-permutation, IsPermutation-trans, is_path}
 use Rattle.bag_disk.proofs.listing.listing_of.Goals as goal
 
 pub returns-clause-ordered : goal.returns-clause-ordered

@@ -1,4 +1,4 @@
-use Rattle.bag_stages.proofs.Common.{arith, true, refl, entry_paths}
+use Rattle.bag_stages.proofs.Common.{arith, refl, entry_paths}
 use Rattle.bag_stages.proofs.PayloadNamed.{all_before, before_next, others_there}
 use Rattle.bag_stages.proofs.payload_named.are_named.Goals as goal
 
