@@ -45,8 +45,8 @@ where
     }
 }
 
-/// The labels and values of elements, which are copied.
-fn elements(alloc: Global, info: &[InfoItem]) -> Result<Vec<(Text, Text)>, AllocError>
+/// The labels and values of a plan's elements, in their order, which are copied. It fails for want of memory alone.
+pub fn elements(alloc: Global, info: &[InfoItem]) -> Result<Vec<(Text, Text)>, AllocError>
     ensures elements { IfOk result (λ elements. elements.items ≡ map element_of info.now) }
     ensures some { OnErr result (info.now ≢ []) }
 {

@@ -75,8 +75,8 @@ fn check_tree<T: Tree, O: Out>(
     }
 }
 
-/// What a plan's check of a bag of this name asks for.
-fn request_for(alloc: Global, plan: &Plan, name: &str) -> Result<Request, AllocError>
+/// What a plan's check of a bag of this name asks for. It fails for want of memory alone.
+pub fn request_for(alloc: Global, plan: &Plan, name: &str) -> Result<Request, AllocError>
     ensures { IfOk result (λ request. request ≡ request_of plan.now name.now) }
 {
     Ok(Request {

@@ -39,8 +39,10 @@ mod whole_program;
 mod words;
 mod words_refusal;
 
+pub use all_makings::elements;
 pub use bag_arguments::{Action, Plan, Usage, plan_of};
 pub use bag_tree::WriterOut;
+pub use check::request_for;
 pub use disks::Disks;
 pub use folders::Folders;
 pub use making::make_and_tell;

@@ -1,5 +1,6 @@
 //! What can be wrong with a case file.
 use bag_text::said;
+use std::alloc::AllocError;
 use std::io;
 
 /// What is wrong with an entry of a case file, or keeps it from being followed.
@@ -57,5 +58,11 @@ impl Mistake {
             io::ErrorKind::InvalidData => Mistake::Text,
             _ => Mistake::System,
         }
+    }
+}
+
+impl From<AllocError> for Mistake {
+    fn from(_refused: AllocError) -> Mistake {
+        Mistake::Memory
     }
 }

@@ -113,17 +113,15 @@ impl Reader {
     /// The reader that words ask for, as `manifest md5`; with `0.97` behind them by the rules of that version.
     pub fn of(words: &[&str]) -> Option<Reader> {
         match words {
-            [word] => named(ONE_WORD, *word),
-            [word, "0.97"] => named(ONE_WORD, *word)?.older(),
-            [word, alg] => Reader::of_alg(*word, *alg),
-            [word, alg, "0.97"] => Reader::of_alg(*word, *alg)?.older(),
-            _ => None,
+            [words @ .., "0.97"] => Reader::of_name(words)?.older(),
+            _ => Reader::of_name(words),
         }
     }
 
-    fn of_alg(word: &str, alg: &str) -> Option<Reader> {
-        match (named(BY_ALGORITHM, word), Alg::from_name(alg)) {
-            (Some(reader), Some(alg)) => Some(reader.by(alg)),
+    fn of_name(words: &[&str]) -> Option<Reader> {
+        match words {
+            [word] => named(ONE_WORD, *word),
+            [word, alg] => Some(named(BY_ALGORITHM, *word)?.by(Alg::from_name(*alg)?)),
             _ => None,
         }
     }

@@ -120,14 +120,19 @@ fn front(a: &[u8], b: &[u8]) -> usize {
 
 /// How many bytes of whole lines two texts end with alike, behind the line ends that they begin with.
 fn back(a: &[u8], b: &[u8]) -> usize {
-    let mut end = 0;
-    for (place, (x, y)) in a.iter().rev().zip(b.iter().rev()).enumerate() {
+    let (mut fronts, mut end) = ((a, b), 0);
+    for count in 0..a.len() {
+        let (Some((x, front)), Some((y, other))) = (fronts.0.split_last(), fronts.1.split_last())
+        else {
+            break;
+        };
         if *x != *y {
             break;
         }
         if *x == b'\n' {
-            end = place;
+            end = count;
         }
+        fronts = (front, other);
     }
     end
 }

@@ -7,7 +7,6 @@ use bag_facts::{Depth, Facts, Options};
 use bag_profile::Profile;
 use bag_report::stage_faults;
 use bag_tree::Tree;
-use std::alloc::Global;
 
 /// The depths by their names.
 const DEPTHS: &[(&str, Depth)] = &[
@@ -32,48 +31,33 @@ fn options_of(word: &str) -> Option<Options> {
     None
 }
 
-/// Adds the lines of the faults of a stage of a tree, beside a profile where there is one.
+/// Adds the lines of the faults of a stage, beside a profile where one is given.
+fn put_faults(facts: &Facts, profile: Option<&[u8]>, stage: u8, out: &mut Bytes) {
+    let alloc = out.alloc;
+    match profile {
+        Some(bytes) => match Profile::read(alloc, bytes) {
+            Ok(profile) => out.take(stage_faults(alloc, facts, Some(&profile), stage)),
+            Err(_) => out.fail(Mistake::Name),
+        },
+        None => out.take(stage_faults(alloc, facts, None, stage)),
+    }
+}
+
+/// Adds the lines of the faults of a stage of a tree at a depth.
 fn put_stage<T: Tree>(
     tree: &mut T,
-    options: Options,
-    profile: Option<&Profile>,
-    stage: u8,
-    out: &mut Bytes,
-) {
-    let alloc = out.alloc;
-    match Facts::read(alloc, tree, options) {
-        Ok(facts) => out.take(stage_faults(alloc, &facts, profile, stage)),
-        Err(_) => out.fail(Mistake::Memory),
-    }
-}
-
-/// The faults of a stage at a depth.
-fn stage_at<T: Tree>(
-    alloc: Global,
-    tree: &mut T,
-    profile: Option<&Profile>,
+    profile: Option<&[u8]>,
     number: &str,
     depth: &str,
-) -> Answer {
-    let mut found = Bytes::new(alloc);
-    match (options_of(depth), number.parse::<u8>()) {
-        (Some(options), Ok(stage)) => put_stage(tree, options, profile, stage, &mut found),
-        _ => found.fail(Mistake::Command),
-    }
-    Answer::of(alloc, found, 0)
-}
-
-/// Compares the faults of a stage at each depth.
-fn see_depths<T: Tree>(
-    sight: &Sight<'_>,
-    tree: &mut T,
-    profile: Option<&Profile>,
-    (number, depths): (&str, &str),
-    report: &mut Report,
+    out: &mut Bytes,
 ) {
-    for depth in depths.split(',') {
-        let found = stage_at(sight.texts.alloc, tree, profile, number, depth);
-        report.see(sight, depth, &found);
+    let (Some(options), Ok(stage)) = (options_of(depth), number.parse::<u8>()) else {
+        out.fail(Mistake::Command);
+        return;
+    };
+    match Facts::read(out.alloc, tree, options) {
+        Ok(facts) => put_faults(&facts, profile, stage, out),
+        Err(_) => out.fail(Mistake::Memory),
     }
 }
 
@@ -82,14 +66,13 @@ pub fn see_stage<T: Tree>(
     sight: &Sight<'_>,
     tree: &mut T,
     profile: Option<&[u8]>,
-    asked: (&str, &str),
+    (number, depths): (&str, &str),
     report: &mut Report,
 ) {
-    match profile {
-        Some(bytes) => match Profile::read(sight.texts.alloc, bytes) {
-            Ok(profile) => see_depths(sight, tree, Some(&profile), asked, report),
-            Err(_) => report.text.fail(Mistake::Name),
-        },
-        None => see_depths(sight, tree, None, asked, report),
+    let alloc = sight.texts.alloc;
+    for depth in depths.split(',') {
+        let mut found = Bytes::new(alloc);
+        put_stage(tree, profile, number, depth, &mut found);
+        report.see(sight, depth, &Answer::of(alloc, found, 0));
     }
 }

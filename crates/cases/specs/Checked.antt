@@ -17,8 +17,3 @@ pub record IsChecked (old new : TreeState) (profile : Option Profile) (request :
   pub none : before.taken ≡ Some []
   pub all : after.taken ≡ Some output
   pub ends : status ≡ spec.status outcome
-
--- the same, whatever the tree is after it
-pub record MayBeChecked (old : TreeState) (profile : Option Profile) (request : Request) (output : List ℕ) (status : ℕ) : Type 0 where
-  pub new : TreeState
-  pub checked : IsChecked old new profile request output status

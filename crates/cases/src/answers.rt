@@ -1,4 +1,5 @@
 //! What commands answer over the disk, and over disks in memory.
+use crate::commands::Verb;
 use bag_cli::{Disks, Folders, WriterOut, program};
 use bag_store::{FileTree, Tree};
 use case_files::{Answer, Bytes, Mistake};
@@ -28,8 +29,21 @@ impl Write for Room {
     }
 }
 
-/// What the program answers to words, over these disks and with this room for its output.
-pub(crate) fn answer_to<D: Disks>(alloc: Global, disks: &D, words: &[&str], room: usize) -> Answer {
+/// What a command answers over disks.
+pub(crate) fn answer_to<D: Disks>(alloc: Global, disks: &D, verb: Verb, words: &[&str]) -> Answer {
+    match verb {
+        Verb::List | Verb::Write => {
+            let mut out = Bytes::new(alloc);
+            put_files(disks, verb, words, &mut out);
+            Answer::of(alloc, out, 0)
+        }
+        Verb::RunWithRoom(room) => run(alloc, disks, words, room),
+        _ => run(alloc, disks, words, usize::MAX),
+    }
+}
+
+/// What the program answers to words, with this room for its output.
+fn run<D: Disks>(alloc: Global, disks: &D, words: &[&str], room: usize) -> Answer {
     let (folders, mut visits) = Folders::of(disks);
     let taken = Vec::new(alloc);
     let mut out = WriterOut::new(Room { taken, room });
@@ -43,38 +57,30 @@ pub(crate) fn answer_to<D: Disks>(alloc: Global, disks: &D, words: &[&str], room
     }
 }
 
-/// The one word of a command.
-fn only<'a>(words: &[&'a str], mistakes: &mut Bytes) -> &'a str {
-    match words {
-        [word] => *word,
-        _ => {
-            mistakes.fail(Mistake::Command);
-            ""
-        }
+/// Adds the paths of the files in a folder, each in a line, or what a file holds.
+fn put_files<D: Disks>(disks: &D, verb: Verb, words: &[&str], out: &mut Bytes) {
+    match (verb, words) {
+        (Verb::List, [folder]) => put_paths(disks, *folder, out),
+        (Verb::Write, [file]) => put_file(disks, *file, out),
+        _ => out.fail(Mistake::Command),
     }
 }
 
-/// The paths of the files in a folder, each in a line.
-pub(crate) fn listed<D: Disks>(alloc: Global, disks: &D, words: &[&str]) -> Bytes {
-    let mut out = Bytes::new(alloc);
-    match disks.disk(alloc, only(words, &mut out)) {
+fn put_paths<D: Disks>(disks: &D, folder: &str, out: &mut Bytes) {
+    match disks.disk(out.alloc, folder) {
         Ok(disk) => {
-            let mut tree = FileTree::over(alloc, disk);
-            put_listing(&mut tree, false, &mut out);
+            let mut tree = FileTree::over(out.alloc, disk);
+            put_listing(&mut tree, false, out);
         }
         Err(_) => out.fail(Mistake::Memory),
     }
-    out
 }
 
-/// The bytes of a file.
-pub(crate) fn held<D: Disks>(alloc: Global, disks: &D, words: &[&str]) -> Bytes {
-    let mut out = Bytes::new(alloc);
-    match disks.read_file(alloc, only(words, &mut out), u32::MAX) {
+fn put_file<D: Disks>(disks: &D, file: &str, out: &mut Bytes) {
+    match disks.read_file(out.alloc, file, u32::MAX) {
         Ok(bytes) => out.put_bytes(&bytes),
         Err(_) => out.fail(Mistake::Name),
     }
-    out
 }
 
 /// Adds the paths of the files of a tree, each in a line and behind its size, where that is asked for.

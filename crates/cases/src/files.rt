@@ -1,13 +1,14 @@
 //! Files of cases, which are followed one after another.
 use crate::session::Session;
 use case_files::{Answer, Bytes, Entry, Line, Mistake, Report, Sight, Word, below, lines_of};
+use std::alloc::Global;
 use std::fs;
 
 /// How far a file was followed. The line is 0 where none of it was.
 #[derive(Clone, Copy)]
-pub(crate) struct Place<'a> {
-    pub(crate) file: &'a str,
-    pub(crate) line: usize,
+struct Place<'a> {
+    file: &'a str,
+    line: usize,
 }
 
 /// What is found where a file of cases runs another one.
@@ -21,22 +22,41 @@ struct Followed;
 /// No other file is run.
 struct Refused;
 
-/// Follows files one after another, up to what can't be followed, and adds the counts at the end.
-pub(crate) fn run_files<'a>(
-    rt: &HostRuntime,
-    files: &'a [String],
-    report: &mut Report,
-) -> Place<'a> {
-    let mut line = 0;
+/// Follows files one after another, up to what can't be followed. Gives what differs with the counts at the end, or why a file can't be
+/// followed, and the exit status.
+pub(crate) fn run_files(rt: &HostRuntime, files: &[String]) -> Answer {
+    let mut report = Report::new(rt.alloc());
+    let mut at = Place { file: "", line: 0 };
     for file in files {
-        let file = file.as_str();
-        follow_file(rt, &Followed, file, &mut line, report);
-        if report.text.mistake.is_some() {
-            return Place { file, line };
+        if report.text.mistake.is_none() {
+            at.file = file.as_str();
+            follow_file(rt, &Followed, at.file, &mut at.line, &mut report);
         }
     }
-    report.close();
-    Place { file: "", line: 0 }
+    answer_of(rt.alloc(), report, at)
+}
+
+/// What a report comes to, where files were followed so far.
+fn answer_of(alloc: Global, mut report: Report, at: Place<'_>) -> Answer {
+    let mut told = Bytes::new(alloc);
+    let status = match report.text.mistake {
+        None => {
+            report.close();
+            u8::from(report.differ != 0)
+        }
+        Some(mistake) => {
+            told.show(&at.file, ":");
+            told.show(&at.line, ": ");
+            told.show(&mistake.text(), "\n");
+            2
+        }
+    };
+    let written = Bytes::of(alloc, report.text.held);
+    Answer {
+        written,
+        told,
+        status,
+    }
 }
 
 /// Follows the entries of a file. Notes the line of each.
@@ -73,21 +93,30 @@ fn follow_lines<'a, O: Others>(
             *number = line.number;
             let below = below(lines, place);
             let entry = Entry { line: *line, below };
-            match other_of(entry) {
-                Some(other) => {
-                    let texts = &session.texts;
-                    let sight = Sight { file, texts, entry };
-                    report.see(&sight, "this program", &others.found(rt, other));
-                }
-                None => {
-                    let before = lines.get(..place).unwrap_or(&[]);
-                    session.follow(rt, file, before, entry, report);
-                }
-            }
+            let before = lines.get(..place).unwrap_or(&[]);
+            follow_entry(rt, others, file, before, entry, &mut session, report);
         }
     }
-    if report.text.mistake.is_none() {
-        session.end(rt, report);
+    session.end(rt, report);
+}
+
+/// Follows an entry, before which these lines stand.
+fn follow_entry<'a, O: Others>(
+    rt: &HostRuntime,
+    others: &O,
+    file: &str,
+    lines: &'a [Line<'a>],
+    entry: Entry<'a>,
+    session: &mut Session,
+    report: &mut Report,
+) {
+    match other_of(entry) {
+        Some(other) => {
+            let texts = &session.texts;
+            let sight = Sight { file, texts, entry };
+            report.see(&sight, "this program", &others.found(rt, other));
+        }
+        None => session.follow(rt, file, lines, entry, report),
     }
 }
 
@@ -103,27 +132,9 @@ impl Others for Followed {
     /// What this program prints for a file alone, and its status.
     fn found(&self, rt: &HostRuntime, file: &str) -> Answer {
         let mut report = Report::new(rt.alloc());
-        let mut line = 0;
-        follow_file(rt, &Refused, file, &mut line, &mut report);
-        let mut told = Bytes::new(rt.alloc());
-        let status = match report.text.mistake {
-            None => {
-                report.close();
-                u8::from(report.differ != 0)
-            }
-            Some(mistake) => {
-                told.show(&file, ":");
-                told.show(&line, ": ");
-                told.show(&mistake.text(), "\n");
-                2
-            }
-        };
-        let written = Bytes::of(rt.alloc(), report.text.held);
-        Answer {
-            written,
-            told,
-            status,
-        }
+        let mut at = Place { file, line: 0 };
+        follow_file(rt, &Refused, file, &mut at.line, &mut report);
+        answer_of(rt.alloc(), report, at)
     }
 }
 

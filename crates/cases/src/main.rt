@@ -14,31 +14,24 @@ mod trees;
 mod turns;
 mod world;
 
-use crate::files::{Place, run_files};
-use case_files::Report;
+use crate::files::run_files;
+use case_files::Answer;
 use std::env;
 use std::io::{self, Write};
 use std::process::ExitCode;
 
 /// Prints what differs, also on the error output, of which the gate shows the end; or why a file can't be followed.
-fn close(rt: &HostRuntime, report: &Report, at: Place<'_>) -> io::Result<ExitCode> {
-    rt.stdout().write_all(&report.text.held)?;
-    match report.text.mistake {
-        None if report.differ == 0 => Ok(ExitCode::SUCCESS),
-        None => {
-            rt.stderr().write_all(&report.text.held)?;
-            Ok(ExitCode::FAILURE)
-        }
-        Some(mistake) => {
-            eprintln!(rt; "{}:{}: {}", at.file, at.line, mistake.text())?;
-            Ok(ExitCode::from(2))
-        }
+fn print(rt: &HostRuntime, answer: &Answer) -> io::Result<()> {
+    rt.stdout().write_all(&answer.written.held)?;
+    if answer.status == 1 {
+        rt.stderr().write_all(&answer.written.held)?;
     }
+    rt.stderr().write_all(&answer.told.held)
 }
 
 fn main(rt: HostRuntime) -> io::Result<ExitCode> {
     let files: Vec<String> = env::args(&rt)?.skip(1).collect(rt.alloc())?;
-    let mut report = Report::new(rt.alloc());
-    let at = run_files(&rt, &files, &mut report);
-    close(&rt, &report, at)
+    let answer = run_files(&rt, &files);
+    print(&rt, &answer)?;
+    Ok(ExitCode::from(answer.status))
 }

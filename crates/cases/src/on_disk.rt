@@ -29,10 +29,11 @@ pub(crate) fn put(rt: &HostRuntime, word: Word, path: &str, bytes: &[u8]) -> io:
     }
 }
 
-/// Removes what stands at a path.
-pub(crate) fn remove(rt: &HostRuntime, path: &str, node: &Node) -> io::Result<()> {
+/// Removes a folder or a file.
+pub(crate) fn remove(rt: &HostRuntime, name: &[u8], node: &Node) -> io::Result<()> {
+    let name = str::from_utf8(name).unwrap_or("");
     match node {
-        Node::Folder => fs::remove_dir_all(rt, path),
-        Node::File(_) | Node::Other => fs::remove_file(rt, path),
+        Node::Folder => fs::remove_dir_all(rt, name),
+        Node::File(_) | Node::Other => fs::remove_file(rt, name),
     }
 }

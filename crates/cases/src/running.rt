@@ -1,11 +1,12 @@
 //! Commands, and what each side answers to them.
-use crate::answers::{answer_to, held, listed};
+use crate::answers::answer_to;
 use crate::commands::{Verb, verb_of};
-use crate::shelf::Refusing;
+use crate::shelf::answer_in_memory;
+use crate::turns::Turns;
 use crate::world::World;
 use crate::{stages, trees, turns};
-use bag_cli::Disks;
-use case_files::{Answer, Mistake, Report, Sight, words_of};
+use bag_cli::{Plan, Usage, plan_of};
+use case_files::{Mistake, Report, Sight, words_of};
 use std::str;
 
 /// Runs a command, and compares its answers.
@@ -34,67 +35,78 @@ fn run_verb(
         report.text.fail(Mistake::Memory);
     }
     match verb {
-        Verb::Run => {
-            see_on_disks(rt, sight, words, usize::MAX, world, report);
-            trees::see_in_trees(sight, words, world, report);
-        }
-        Verb::RunOnDisk => see_on_disk(rt, sight, words, usize::MAX, world, report),
-        Verb::RunWithRoom(room) => see_on_disks(rt, sight, words, room, world, report),
-        Verb::RefuseTree => turns::see_in_turn(sight, None, words, world, report),
-        Verb::RefuseDisk(fault) => {
-            turns::see_in_turn(sight, Some(fault), words, world, report);
-        }
+        Verb::RefuseTree | Verb::RefuseDisk(_) => see_planned(sight, verb, words, world, report),
         Verb::Stage => stages::see_stage(sight, words, world, report),
-        Verb::List | Verb::Write => {
-            let disks = Refusing::none(world);
-            see_files(sight, &disks, verb, words, "in memory", report);
-            see_files(sight, rt, verb, words, "on the disk", report);
+        Verb::RunOnDisk => see_on_disk(rt, sight, verb, words, world, report),
+        Verb::Run | Verb::RunWithRoom(_) | Verb::List | Verb::Write => {
+            see_on_disk(rt, sight, verb, words, world, report);
+            let found = answer_in_memory(sight.texts.alloc, world, None, verb, words);
+            report.see(sight, "on a disk in memory", &found);
+            if matches!(verb, Verb::Run) {
+                see_planned(sight, verb, words, world, report);
+            }
         }
     }
 }
 
-/// Runs the program over the folders on the disk, where no file holds something else than is listed.
+/// Compares what is answered over the folders on the disk, where no file holds something else than is listed.
 fn see_on_disk(
     rt: &HostRuntime,
     sight: &Sight<'_>,
+    verb: Verb,
     words: &[&str],
-    room: usize,
     world: &World,
     report: &mut Report,
 ) {
     if world.opened.is_none() {
-        let found = answer_to(sight.texts.alloc, rt, words, room);
+        let found = answer_to(sight.texts.alloc, rt, verb, words);
         report.see(sight, "on the disk", &found);
     }
 }
 
-/// The same, and over disks in memory.
-fn see_on_disks(
-    rt: &HostRuntime,
+/// Does in memory what words plan: over trees once, or with each call refused in turn. Words that are refused have no plan.
+fn see_planned(
     sight: &Sight<'_>,
-    words: &[&str],
-    room: usize,
-    world: &World,
-    report: &mut Report,
-) {
-    see_on_disk(rt, sight, words, room, world, report);
-    let found = answer_to(sight.texts.alloc, &Refusing::none(world), words, room);
-    report.see(sight, "on a disk in memory", &found);
-}
-
-/// Compares the paths of the files in a folder, or what a file holds.
-fn see_files<D: Disks>(
-    sight: &Sight<'_>,
-    disks: &D,
     verb: Verb,
     words: &[&str],
-    side: &str,
+    world: &mut World,
+    report: &mut Report,
+) {
+    match plan_of(sight.texts.alloc, words) {
+        Ok(plan) => see_plan(sight, verb, words, &plan, world, report),
+        Err(usage) => see_refused(verb, &usage, report),
+    }
+}
+
+/// Notes why words have no plan, unless they are run, which shows it.
+fn see_refused(verb: Verb, usage: &Usage, report: &mut Report) {
+    match (verb, usage) {
+        (_, Usage::Memory) => report.text.fail(Mistake::Memory),
+        (Verb::Run, _) => {}
+        _ => report.text.fail(Mistake::Command),
+    }
+}
+
+fn see_plan(
+    sight: &Sight<'_>,
+    verb: Verb,
+    words: &[&str],
+    plan: &Plan,
+    world: &mut World,
     report: &mut Report,
 ) {
     let alloc = sight.texts.alloc;
-    let found = match verb {
-        Verb::List => listed(alloc, disks, words),
-        _ => held(alloc, disks, words),
+    let fault = match verb {
+        Verb::Run => return trees::see_in_trees(sight, plan, world, report),
+        Verb::RefuseDisk(fault) => Some(fault),
+        _ => None,
     };
-    report.see(sight, side, &Answer::of(alloc, found, 0));
+    let turns = Turns {
+        alloc,
+        fault,
+        words,
+        plan,
+        world,
+    };
+    turns::see_in_turn(sight, &turns, report);
 }

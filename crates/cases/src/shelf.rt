@@ -1,28 +1,21 @@
 //! Disks in memory for the program.
-ghost use Rattle.std.specs.Prelude.{◌≡◌, [], ⊤, IfOk};
-ghost use Rattle.test_disk.specs.Held.{nodes_of};
-ghost use Rattle.test_disk.specs.MemoryDisk.{fresh, state_of};
+ghost use Rattle.std.specs.Prelude.{◌≡◌, ⊤, IfOk};
+ghost use Rattle.test_disk.specs.MemoryDisk.{state_of};
 ghost use Rattle.test_disk.specs.Refusing.{refusing};
 ghost use Rattle.cases.specs.Shelf.{disk_at, unclaimed};
 
-use crate::world::{World, below};
+use crate::answers::answer_to;
+use crate::commands::Verb;
+use crate::world::World;
 use bag_cli::{Disks, ReadFault};
 use bag_disk::DiskFault;
 use bag_text::Text;
+use case_files::Answer;
 use std::alloc::{AllocError, Global};
 use std::collections::BTreeMap;
 use test_disk::{Call, MemoryDisk, RefusingDisk};
 
-/// A disk whose base folder can't be entered.
-fn no_disk(alloc: Global) -> Result<MemoryDisk, AllocError>
-    ensures { IfOk result (λ disk. state_of disk ≡ fresh (nodes_of [])) }
-{
-    let mut disk = MemoryDisk::empty(alloc);
-    disk.bar(Text::empty(alloc))?;
-    Ok(disk)
-}
-
-/// A copy of the disk of a folder; one that can't be entered where there is none.
+/// A copy of the disk of a folder; an empty one where there is none.
 fn copy_of(
     alloc: Global,
     disks: &BTreeMap<String, MemoryDisk>,
@@ -32,18 +25,18 @@ fn copy_of(
 {
     match disks.get(folder) {
         Some(disk) => disk.fresh_copy(alloc),
-        None => no_disk(alloc),
+        None => Ok(MemoryDisk::empty(alloc)),
     }
 }
 
 /// The path and the bytes of the file below a folder that holds something else when it is opened; no file has the empty path.
 fn opened_below<'a>(world: &'a World, folder: &str) -> (&'a str, &'a [u8]) {
-    match &world.opened {
-        Some((path, bytes)) => match below(path.as_str(), folder) {
-            Some(path) => (path, bytes.as_slice()),
-            None => ("", &[]),
-        },
-        None => ("", &[]),
+    let Some((path, bytes)) = &world.opened else {
+        return ("", &[]);
+    };
+    match path.as_str().split_once('/') {
+        Some((name, path)) if name == folder => (path, bytes.as_slice()),
+        _ => ("", &[]),
     }
 }
 
@@ -61,6 +54,10 @@ impl Disks for World {
         let bytes = bytes.to_vec(alloc)?;
         let mut disk = copy_of(alloc, &self.disks, base)?;
         disk.swap(path, bytes);
+        if !self.disks.contains_key(base) {
+            // a folder that isn't there can't be looked into
+            disk.bar(Text::empty(alloc))?;
+        }
         Ok(disk)
     }
 
@@ -75,23 +72,12 @@ impl Disks for World {
     }
 }
 
-/// Disks of each of which the call of a number is refused, from 0.
+/// Disks of each of which the call of a number is refused, from 0, or none.
 #[derive(Drop)]
-pub(crate) struct Refusing<'a, D> {
-    pub(crate) disks: &'a D,
-    pub(crate) call: u64,
-    pub(crate) fault: DiskFault,
-}
-
-impl<'a, D> Refusing<'a, D> {
-    /// Disks of which no call is refused.
-    pub(crate) fn none(disks: &'a D) -> Refusing<'a, D> {
-        Refusing {
-            disks,
-            call: u64::MAX,
-            fault: DiskFault::Device,
-        }
-    }
+struct Refusing<'a, D> {
+    disks: &'a D,
+    call: Option<u64>,
+    fault: DiskFault,
 }
 
 impl<'a, D: Disks> Disks for Refusing<'a, D> {
@@ -103,10 +89,29 @@ impl<'a, D: Disks> Disks for Refusing<'a, D> {
 
     fn disk(&self, alloc: Global, base: &str) -> Result<RefusingDisk<D::Disk>, AllocError> {
         let disk = self.disks.disk(alloc, base)?;
-        Ok(RefusingDisk::over(disk, Call::Numbered(self.call), self.fault))
+        let call = match self.call {
+            Some(number) => Call::Numbered(number),
+            None => Call::Past,
+        };
+        Ok(RefusingDisk::over(disk, call, self.fault))
     }
 
     fn read_file(&self, alloc: Global, path: &str, most: u32) -> Result<Vec<u8>, ReadFault> {
         self.disks.read_file(alloc, path, most)
     }
+}
+
+/// What a command answers over disks in memory, of each of which the call of a number is refused by a fault, from 0, or none.
+pub(crate) fn answer_in_memory(
+    alloc: Global,
+    disks: &World,
+    refused: Option<(u64, DiskFault)>,
+    verb: Verb,
+    words: &[&str],
+) -> Answer {
+    let (call, fault) = match refused {
+        Some((call, fault)) => (Some(call), fault),
+        None => (None, DiskFault::Device),
+    };
+    answer_to(alloc, &Refusing { disks, call, fault }, verb, words)
 }

@@ -5,26 +5,27 @@ use case_files::{Mistake, Report, Sight};
 /// `stage NUMBER DEPTH,.. FOLDER [PROFILE]`: compares the lines of the faults of one stage of a folder that can be a tree, the same at
 /// each depth, beside a profile where one is given.
 pub(crate) fn see_stage(sight: &Sight<'_>, words: &[&str], world: &World, report: &mut Report) {
-    let (number, depths, name, profile) = match words {
-        [number, depths, name] => (*number, *depths, *name, None),
-        // no profile is empty
+    match words {
+        [number, depths, name] => see(sight, world, *name, None, (*number, *depths), report),
         [number, depths, name, file] => {
-            let profile = world.file(*file).unwrap_or(&[]);
-            (*number, *depths, *name, Some(profile))
+            // no profile is empty
+            let profile = Some(world.file(*file).unwrap_or(&[]));
+            see(sight, world, *name, profile, (*number, *depths), report);
         }
-        _ => {
-            report.text.fail(Mistake::Command);
-            return;
-        }
-    };
-    if !world.has_tree(name) {
-        report.text.fail(Mistake::Name);
-        return;
+        _ => report.text.fail(Mistake::Command),
     }
-    match world.tree(name) {
-        Ok(mut tree) => {
-            case_files::see_stage(sight, &mut tree, profile, (number, depths), report);
-        }
-        Err(_) => report.text.fail(Mistake::Memory),
+}
+
+fn see(
+    sight: &Sight<'_>,
+    world: &World,
+    name: &str,
+    profile: Option<&[u8]>,
+    asked: (&str, &str),
+    report: &mut Report,
+) {
+    match world.tree(name, 0) {
+        Ok(mut tree) => case_files::see_stage(sight, &mut tree, profile, asked, report),
+        Err(mistake) => report.text.fail(mistake),
     }
 }

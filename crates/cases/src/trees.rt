@@ -4,8 +4,8 @@ ghost use Rattle.bag_store.specs.Tree.{Keeps};
 ghost use Rattle.cases.specs.Checked.{IsChecked};
 
 use crate::world::World;
-use bag_cli::{Action, Plan, Usage, make_and_tell, plan_of};
-use bag_store::{FailTree, MemoryTree, Tree, WriteTree, WriterOut};
+use bag_cli::{Action, Plan, elements, make_and_tell, request_for};
+use bag_store::{MemoryTree, Tree, WriteTree, WriterOut};
 use bag_text::Text;
 use bag_walk::{Request, run, status};
 use case_files::{Answer, Bytes, Mistake, Report, Sight};
@@ -21,31 +21,6 @@ pub(crate) fn are_trees(plan: &Plan, world: &World) -> bool {
     plan.profile.is_none() && matches!(plan.action, Action::Check | Action::Make)
 }
 
-/// What a plan asks of a check of a folder.
-fn request_of(alloc: Global, plan: &Plan, name: &str) -> Result<Request, AllocError> {
-    let name = Text::from_str(alloc, name)?;
-    let after = match &plan.after {
-        Some(fault) => Some(fault.copy(alloc)?),
-        None => None,
-    };
-    Ok(Request {
-        options: plan.options,
-        after,
-        limit: plan.limit,
-        quiet: plan.quiet,
-        name,
-    })
-}
-
-/// The elements that a plan gives a bag.
-fn elements_of(alloc: Global, plan: &Plan) -> Result<Vec<(Text, Text)>, AllocError> {
-    let mut elements = Vec::new(alloc);
-    for item in plan.info.as_slice() {
-        elements.push((item.label.copy(alloc)?, item.value.copy(alloc)?))?;
-    }
-    Ok(elements)
-}
-
 /// The tree after a check, what the check wrote, and its exit status.
 ///
 /// The clause says that a text which compares equal with what was written is one that a run may write.
@@ -58,6 +33,19 @@ fn checked<T: Tree + Drop>(alloc: Global, tree: T, request: Request) -> (T, Vec<
     (tree, out.into_inner(), status(&outcome))
 }
 
+/// The tree after a making, what was told of the making, and the exit status.
+fn made<T: WriteTree + Drop>(
+    alloc: Global,
+    tree: T,
+    plan: &Plan,
+    name: &str,
+    info: &[(Text, Text)],
+) -> (T, Vec<u8>, u8) {
+    let mut out = WriterOut::new(Vec::<u8>::new(alloc));
+    let (tree, told) = make_and_tell(alloc, tree, name, plan.algs, info, plan.quiet, &mut out);
+    (tree, out.into_inner(), told.unwrap_or(3))
+}
+
 /// Does with a tree what a plan says. Gives the tree after that, what was written, and the exit status.
 fn done<T: WriteTree + Drop>(
     alloc: Global,
@@ -67,14 +55,10 @@ fn done<T: WriteTree + Drop>(
 ) -> Result<(T, Vec<u8>, u8), AllocError> {
     match plan.action {
         Action::Make => {
-            let elements = elements_of(alloc, plan)?;
-            let mut out = WriterOut::new(Vec::<u8>::new(alloc));
-            let (tree, told) = make_and_tell(
-                alloc, tree, name, plan.algs, &elements, plan.quiet, &mut out,
-            );
-            Ok((tree, out.into_inner(), told.unwrap_or(3)))
+            let info = elements(alloc, plan.info.as_slice())?;
+            Ok(made(alloc, tree, plan, name, &info))
         }
-        _ => Ok(checked(alloc, tree, request_of(alloc, plan, name)?)),
+        _ => Ok(checked(alloc, tree, request_for(alloc, plan, name)?)),
     }
 }
 
@@ -87,30 +71,15 @@ pub(crate) fn do_over_tree(
     name: &str,
     call: u64,
     answer: &mut Answer,
-) -> Result<MemoryTree, AllocError> {
-    let tree = FailTree::new(world.tree(name)?, call);
-    let (tree, written, status) = done(alloc, plan, name, tree)?;
+) -> Result<MemoryTree, Mistake> {
+    let (tree, written, status) = done(alloc, plan, name, world.tree(name, call)?)?;
     answer.written.put_bytes(&written);
     answer.status = answer.status.max(status);
     Ok(tree.into_inner())
 }
 
-/// Does with each folder what the words say, as a tree in memory, where they can be one, and keeps what a making leaves.
-pub(crate) fn see_in_trees(
-    sight: &Sight<'_>,
-    words: &[&str],
-    world: &mut World,
-    report: &mut Report,
-) {
-    match plan_of(sight.texts.alloc, words) {
-        Ok(plan) => see_plan(sight, &plan, world, report),
-        Err(Usage::Memory) => report.text.fail(Mistake::Memory),
-        Err(_) => {}
-    }
-}
-
-/// Does what a plan says, where that can be done over trees.
-fn see_plan(sight: &Sight<'_>, plan: &Plan, world: &mut World, report: &mut Report) {
+/// Does with each folder what a plan says, as a tree in memory, where they can be trees, and keeps what a making leaves.
+pub(crate) fn see_in_trees(sight: &Sight<'_>, plan: &Plan, world: &mut World, report: &mut Report) {
     if !are_trees(plan, world) {
         return;
     }
@@ -120,7 +89,7 @@ fn see_plan(sight: &Sight<'_>, plan: &Plan, world: &mut World, report: &mut Repo
         let name = directory.as_str();
         match do_over_tree(alloc, plan, world, name, 0, &mut found) {
             Ok(mut tree) => world.keep(name, &mut tree, report),
-            Err(_) => report.text.fail(Mistake::Memory),
+            Err(mistake) => report.text.fail(mistake),
         }
     }
     report.see(sight, "in a tree in memory", &found);

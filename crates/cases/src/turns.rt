@@ -1,9 +1,10 @@
 //! Calls that are refused in turn: the first, the second, and so on, up to the first run of which none is.
-use crate::answers::{answer_to, put_listing};
-use crate::shelf::Refusing;
+use crate::answers::put_listing;
+use crate::commands::Verb;
+use crate::shelf::answer_in_memory;
 use crate::trees::{are_trees, do_over_tree};
 use crate::world::World;
-use bag_cli::{Action, Plan, plan_of};
+use bag_cli::{Action, Plan};
 use bag_disk::DiskFault;
 use case_files::{Answer, Bytes, Mistake, Part, Report, Sight, is_wanted, see_part};
 use std::alloc::Global;
@@ -13,12 +14,12 @@ const MANY: u64 = 2000;
 
 /// A command of which each call is refused in turn: those of a disk by a fault, or else those of a tree.
 #[derive(Clone, Copy)]
-struct Turns<'a> {
-    alloc: Global,
-    fault: Option<DiskFault>,
-    words: &'a [&'a str],
-    plan: &'a Plan,
-    world: &'a World,
+pub(crate) struct Turns<'a> {
+    pub(crate) alloc: Global,
+    pub(crate) fault: Option<DiskFault>,
+    pub(crate) words: &'a [&'a str],
+    pub(crate) plan: &'a Plan,
+    pub(crate) world: &'a World,
 }
 
 impl Turns<'_> {
@@ -27,9 +28,8 @@ impl Turns<'_> {
         match self.fault {
             None => self.over_tree(call),
             Some(fault) => {
-                let (disks, call) = (self.world, call.saturating_sub(1));
-                let refusing = Refusing { disks, call, fault };
-                answer_to(self.alloc, &refusing, self.words, usize::MAX)
+                let refused = Some((call.saturating_sub(1), fault));
+                answer_in_memory(self.alloc, self.world, refused, Verb::Run, self.words)
             }
         }
     }
@@ -45,7 +45,7 @@ impl Turns<'_> {
                         put_listing(&mut tree, true, &mut answer.written);
                     }
                 }
-                Err(_) => answer.written.fail(Mistake::Memory),
+                Err(mistake) => answer.written.fail(mistake),
             }
         }
         answer
@@ -53,33 +53,8 @@ impl Turns<'_> {
 }
 
 /// Compares the answers that come with those that are wanted: each of them has to come, one after another, each for one call or
-/// more, and the last where no call is refused.
-pub(crate) fn see_in_turn(
-    sight: &Sight<'_>,
-    fault: Option<DiskFault>,
-    words: &[&str],
-    world: &World,
-    report: &mut Report,
-) {
-    let alloc = sight.texts.alloc;
-    match plan_of(alloc, words) {
-        Ok(plan) => {
-            let plan = &plan;
-            let turns = Turns {
-                alloc,
-                fault,
-                words,
-                plan,
-                world,
-            };
-            see_turns(sight, &turns, report);
-        }
-        Err(_) => report.text.fail(Mistake::Command),
-    }
-}
-
-/// Compares the answers one after another; those over trees only where the folders can be trees.
-fn see_turns(sight: &Sight<'_>, turns: &Turns<'_>, report: &mut Report) {
+/// more, and the last where no call is refused. Those over trees come only where the folders can be trees.
+pub(crate) fn see_in_turn(sight: &Sight<'_>, turns: &Turns<'_>, report: &mut Report) {
     if turns.fault.is_none() && !are_trees(turns.plan, turns.world) {
         report.text.fail(Mistake::Command);
         return;

@@ -1,7 +1,6 @@
 //! What stands in the folder in which a case runs, in memory and on the disk.
 use crate::on_disk;
-use bag_disk::path_in;
-use bag_store::{Listing, MemoryTree, Tree, read_whole};
+use bag_store::{FailTree, Listing, MemoryTree, Tree, read_whole};
 use bag_text::check_path;
 use case_files::{Mistake, Report, Word};
 use std::alloc::{AllocError, Global};
@@ -9,25 +8,20 @@ use std::collections::BTreeMap;
 use std::{io, str};
 use test_disk::{MemoryDisk, Node};
 
-/// What stands in the folder in which a case runs, by its paths.
+/// What stands in the folder in which a case runs.
 #[derive(Drop)]
 pub(crate) struct World {
     alloc: Global,
-    pub(crate) nodes: BTreeMap<String, Node>,
+    /// The folders, and the files beside them, by their names.
+    top: BTreeMap<Vec<u8>, Node>,
+    /// What stands in each of the folders, by its paths.
+    folders: BTreeMap<String, BTreeMap<Vec<u8>, Node>>,
     /// The path of a file, and what it holds when it is opened, in place of what is listed.
     pub(crate) opened: Option<(String, Vec<u8>)>,
     /// Whether each of the folders can be a tree: it has no link, no path that isn't one in a bag, and an empty folder only right in it.
     has_trees: bool,
     /// Disks in memory of the folders, as they were when the last command began.
     pub(crate) disks: BTreeMap<String, MemoryDisk>,
-}
-
-/// What a path is below a folder, where it stands there.
-pub(crate) fn below<'a>(path: &'a str, folder: &str) -> Option<&'a str> {
-    match path.strip_prefix(folder) {
-        Some(rest) => rest.strip_prefix('/'),
-        None => None,
-    }
 }
 
 /// Notes the mistake of an answer of the system, where it is one.
@@ -42,7 +36,8 @@ impl World {
     pub(crate) fn new(alloc: Global) -> World {
         World {
             alloc,
-            nodes: BTreeMap::new(alloc),
+            top: BTreeMap::new(alloc),
+            folders: BTreeMap::new(alloc),
             opened: None,
             has_trees: true,
             disks: BTreeMap::new(alloc),
@@ -52,7 +47,8 @@ impl World {
     /// Makes a folder anew.
     pub(crate) fn make_folder(&mut self, rt: &HostRuntime, name: &str, report: &mut Report) {
         note(&on_disk::make_folder(rt, name), report);
-        self.hold(name, Node::Folder, report);
+        self.hold_beside(name, Node::Folder, report);
+        self.empty(name, report);
     }
 
     /// Puts something at a path, in memory and on the disk, with the folders that the path leads through.
@@ -74,22 +70,13 @@ impl World {
     }
 
     fn put_in_memory(&mut self, word: Word, path: &str, bytes: Vec<u8>, report: &mut Report) {
-        match word {
-            Word::File | Word::Beside => {
-                self.has_trees &= check_path(path).is_ok();
-                self.hold(path, Node::File(bytes), report);
+        match path.split_once('/') {
+            Some(_) if word == Word::Opened => self.open_as(path, bytes, report),
+            Some((folder, path)) => {
+                self.has_trees &= is_of_tree(word, path);
+                self.hold(folder, path, node_of(word, bytes), report);
             }
-            Word::Folder => {
-                // no other folder can stand in a tree unless a file stands in it
-                let in_folder = path.split_once('/');
-                self.has_trees &= matches!(in_folder, Some((_, "data" | ".bagit-new")));
-                self.hold(path, Node::Folder, report);
-            }
-            Word::Opened => self.open_as(path, bytes, report),
-            _ => {
-                self.has_trees = false;
-                self.hold(path, Node::Other, report);
-            }
+            None => self.hold_beside(path, node_of(word, bytes), report),
         }
     }
 
@@ -102,30 +89,52 @@ impl World {
         }
     }
 
-    /// Has something stand at a path, and folders on its way.
-    fn hold(&mut self, path: &str, node: Node, report: &mut Report) {
-        let alloc = self.alloc;
-        if hold_parents(alloc, &mut self.nodes, path).is_err()
-            || hold_node(alloc, &mut self.nodes, path, node).is_err()
-        {
+    /// Has a folder or a file stand beside the others.
+    fn hold_beside(&mut self, name: &str, node: Node, report: &mut Report) {
+        if hold_node(self.alloc, &mut self.top, name.as_bytes(), node).is_err() {
             report.text.fail(Mistake::Memory);
         }
     }
 
-    /// Makes the disks of the folders.
+    /// Has something stand at a path in a folder, and folders on its way.
+    fn hold(&mut self, folder: &str, path: &str, node: Node, report: &mut Report) {
+        match self.folders.get_mut(folder) {
+            Some(nodes) => {
+                if hold_with_parents(self.alloc, nodes, path.as_bytes(), node).is_err() {
+                    report.text.fail(Mistake::Memory);
+                }
+            }
+            None => report.text.fail(Mistake::Place),
+        }
+    }
+
+    /// Has nothing stand in a folder.
+    fn empty(&mut self, name: &str, report: &mut Report) {
+        let is_empty = match String::from_str(self.alloc, name) {
+            Ok(name) => self.folders.insert(name, BTreeMap::new(self.alloc)).is_ok(),
+            Err(_) => false,
+        };
+        if !is_empty {
+            report.text.fail(Mistake::Memory);
+        }
+    }
+
+    /// Makes the disks of those folders that can be one.
     pub(crate) fn make_disks(&mut self) -> Result<(), AllocError> {
         self.disks.clear();
-        for (path, node) in self.nodes.iter() {
-            if matches!(node, Node::Folder) && !path.contains('/') {
-                put_disk(self.alloc, &self.nodes, path.as_str(), &mut self.disks)?;
-            }
+        for (name, nodes) in self.folders.iter() {
+            put_disk(self.alloc, name.as_str(), nodes, &mut self.disks)?;
         }
         Ok(())
     }
 
     /// The bytes of the file at a path.
     pub(crate) fn file(&self, path: &str) -> Option<&[u8]> {
-        match self.nodes.get(path) {
+        let node = match path.split_once('/') {
+            Some((folder, path)) => self.folders.get(folder)?.get(path.as_bytes()),
+            None => self.top.get(path.as_bytes()),
+        };
+        match node {
             Some(Node::File(bytes)) => Some(bytes.as_slice()),
             _ => None,
         }
@@ -133,24 +142,22 @@ impl World {
 
     /// Whether a folder can be a tree.
     pub(crate) fn has_tree(&self, name: &str) -> bool {
-        self.has_trees && self.opened.is_none() && self.nodes.contains_key(name)
+        self.has_trees && self.opened.is_none() && self.folders.contains_key(name)
     }
 
-    /// The tree that holds what a folder does.
-    pub(crate) fn tree(&self, name: &str) -> Result<MemoryTree, AllocError> {
+    /// The tree that holds what a folder does, where it can be one; the call of a number is refused, from 1, or none for 0.
+    pub(crate) fn tree(&self, name: &str, call: u64) -> Result<FailTree<MemoryTree>, Mistake> {
         let mut tree = MemoryTree::new(self.alloc);
-        for (path, node) in self.nodes.iter() {
-            if let Some(path) = below(path.as_str(), name) {
-                put_in_tree(&mut tree, path, node)?;
-            }
+        match self.folders.get(name) {
+            Some(nodes) if self.has_tree(name) => fill(&mut tree, nodes)?,
+            Some(_) | None => return Err(Mistake::Name),
         }
-        Ok(tree)
+        Ok(FailTree::new(tree, call))
     }
 
     /// Has a folder hold what a tree does.
     pub(crate) fn keep(&mut self, name: &str, tree: &mut MemoryTree, report: &mut Report) {
-        self.nodes
-            .retain(|path, _| below(path.as_str(), name).is_none());
+        self.empty(name, report);
         match tree.list() {
             Ok(listing) => self.hold_files(name, tree, &listing, report),
             Err(_) => report.text.fail(Mistake::Memory),
@@ -165,96 +172,98 @@ impl World {
         report: &mut Report,
     ) {
         if listing.has_data {
-            self.hold_below(name, "data", Node::Folder, report);
+            self.hold(name, "data", Node::Folder, report);
         }
         for entry in listing.files.as_slice() {
             match read_whole(self.alloc, tree, entry) {
-                Ok(bytes) => {
-                    self.hold_below(name, entry.path.as_str(), Node::File(bytes), report);
-                }
+                Ok(bytes) => self.hold(name, entry.path.as_str(), Node::File(bytes), report),
                 Err(_) => report.text.fail(Mistake::Memory),
             }
         }
     }
 
-    fn hold_below(&mut self, name: &str, path: &str, node: Node, report: &mut Report) {
-        match path_in(self.alloc, name, path) {
-            Ok(path) => self.hold(path.as_str(), node, report),
-            Err(_) => report.text.fail(Mistake::Memory),
-        }
-    }
-
     /// Removes all that stands there.
     pub(crate) fn remove(&mut self, rt: &HostRuntime, report: &mut Report) {
-        for (path, node) in self.nodes.iter() {
-            if !path.contains('/') {
-                note(&on_disk::remove(rt, path.as_str(), node), report);
-            }
+        for (name, node) in self.top.iter() {
+            note(&on_disk::remove(rt, name, node), report);
         }
-        self.nodes.clear();
+        self.top.clear();
+        self.folders.clear();
         self.opened = None;
         self.has_trees = true;
     }
 }
 
-/// What stands below a folder.
-fn nodes_below(
-    alloc: Global,
-    nodes: &BTreeMap<String, Node>,
-    folder: &str,
-) -> Result<BTreeMap<Vec<u8>, Node>, AllocError> {
-    let mut held = BTreeMap::new(alloc);
-    for (path, node) in nodes.iter() {
-        if let Some(path) = below(path.as_str(), folder) {
-            let _ = held.insert(path.as_bytes().to_vec(alloc)?, node.clone()?)?;
-        }
+/// Whether what a line puts at a path in a folder can stand in a tree: a folder can where no file has to stand in it.
+fn is_of_tree(word: Word, path: &str) -> bool {
+    match word {
+        Word::File => check_path(path).is_ok(),
+        Word::Folder => matches!(path, "data" | ".bagit-new"),
+        _ => false,
     }
-    Ok(held)
 }
 
-/// Puts the disk of a folder among disks, where what the folder holds can stand on one.
-fn put_disk(
-    alloc: Global,
-    nodes: &BTreeMap<String, Node>,
-    folder: &str,
-    disks: &mut BTreeMap<String, MemoryDisk>,
-) -> Result<(), AllocError> {
-    let name = String::from_str(alloc, folder)?;
-    if let Some(disk) = MemoryDisk::holding(alloc, nodes_below(alloc, nodes, folder)?) {
-        let _ = disks.insert(name, disk)?;
+/// What a line puts somewhere.
+fn node_of(word: Word, bytes: Vec<u8>) -> Node {
+    match word {
+        Word::File | Word::Beside => Node::File(bytes),
+        Word::Folder => Node::Folder,
+        _ => Node::Other,
     }
-    Ok(())
 }
 
 /// Has something stand at a path.
 fn hold_node(
     alloc: Global,
-    nodes: &mut BTreeMap<String, Node>,
-    path: &str,
+    nodes: &mut BTreeMap<Vec<u8>, Node>,
+    path: &[u8],
     node: Node,
 ) -> Result<(), AllocError> {
-    let _ = nodes.insert(String::from_str(alloc, path)?, node)?;
+    let _ = nodes.insert(path.to_vec(alloc)?, node)?;
     Ok(())
 }
 
-/// Has folders stand on the way of a path.
-fn hold_parents(
+/// Has something stand at a path, and folders on its way.
+fn hold_with_parents(
     alloc: Global,
-    nodes: &mut BTreeMap<String, Node>,
-    path: &str,
+    nodes: &mut BTreeMap<Vec<u8>, Node>,
+    path: &[u8],
+    node: Node,
 ) -> Result<(), AllocError> {
-    for (at, byte) in path.as_bytes().iter().enumerate() {
+    for (at, byte) in path.iter().enumerate() {
         if *byte == b'/' {
-            hold_node(alloc, nodes, path.get(..at).unwrap_or(""), Node::Folder)?;
+            hold_node(alloc, nodes, path.get(..at).unwrap_or(&[]), Node::Folder)?;
         }
+    }
+    hold_node(alloc, nodes, path, node)
+}
+
+/// Puts the disk of a folder that holds this among disks, where it can be one.
+fn put_disk(
+    alloc: Global,
+    name: &str,
+    nodes: &BTreeMap<Vec<u8>, Node>,
+    disks: &mut BTreeMap<String, MemoryDisk>,
+) -> Result<(), AllocError> {
+    let name = String::from_str(alloc, name)?;
+    if let Some(disk) = MemoryDisk::holding(alloc, nodes.clone()?) {
+        let _ = disks.insert(name, disk)?;
+    }
+    Ok(())
+}
+
+/// Puts what stands in a folder into a tree.
+fn fill(tree: &mut MemoryTree, nodes: &BTreeMap<Vec<u8>, Node>) -> Result<(), AllocError> {
+    for (path, node) in nodes.iter() {
+        put_in_tree(tree, path, node)?;
     }
     Ok(())
 }
 
 /// Puts what stands at a path into a tree.
-fn put_in_tree(tree: &mut MemoryTree, path: &str, node: &Node) -> Result<(), AllocError> {
-    match (node, path) {
-        (Node::File(bytes), _) if check_path(path).is_ok() => tree.put_file(path, bytes),
+fn put_in_tree(tree: &mut MemoryTree, path: &[u8], node: &Node) -> Result<(), AllocError> {
+    match (node, str::from_utf8(path).unwrap_or("")) {
+        (Node::File(bytes), path) if check_path(path).is_ok() => tree.put_file(path, bytes),
         (Node::Folder, "data") => tree.put_folder("data"),
         (Node::Folder, ".bagit-new") => tree.put_folder(".bagit-new"),
         _ => Ok(()),
