@@ -8,4 +8,3 @@ pub mod Refusals
 pub mod SkewTree
 pub mod Skewed
 pub mod TreeCalls
-pub mod TreeChanges

@@ -47,8 +47,9 @@ impl<T: Tree + Drop> FailTree<T> {
 
 impl<T: Tree + Drop> Tree for FailTree<T> {
     ghost use Rattle.std.specs.Prelude.{◌<◌, IsErrOf, length, true, false};
-    ghost use Rattle.bag_tree.specs.declared.tree_fault.TreeFault.TheVariants.{Device, NoneOpen};
-    ghost use Rattle.bag_memory.specs.Refusals.{after_listing, after_opening, after_read, is_kth};
+    ghost use Rattle.bag_tree.specs.declared.tree_fault.TreeFault.TheVariants.{NoneOpen};
+    ghost use Rattle.bag_memory.specs.FailTree.{IfNotKth, RefusesKth};
+    ghost use Rattle.bag_memory.specs.Refusals.{after_listing, after_opening, after_read};
     ghost use Rattle.bag_memory.specs.TreeCalls.{ListCall, OpenCall, ReadCall};
 
     ghost state = { λ tree. failing (T.state tree.tree) tree.calls };
@@ -57,8 +58,9 @@ impl<T: Tree + Drop> Tree for FailTree<T> {
 
     fn list(&mut self) -> Result<Listing, TreeFault>
         ensures counted { calls_of self.new ≡ after_listing (calls_of self.old) }
-        ensures kth { is_kth (calls_of self.old).due ≡ true → IsErrOf result Device × (below_of self.new ≡ below_of self.old) }
-        ensures others { is_kth (calls_of self.old).due ≡ false → ListCall (T.state (below_of self.old)) (T.state (below_of self.new)) result }
+        ensures kth { RefusesKth self.old self.new result }
+        ensures others { IfNotKth self.old (ListCall
+            (T.state (below_of self.old)) (T.state (below_of self.new)) result) }
     {
         if self.calls.is_due() {
             self.calls.own = Some(Answer::Unlisted(TreeFault::Device));
@@ -69,8 +71,9 @@ impl<T: Tree + Drop> Tree for FailTree<T> {
 
     fn open_file(&mut self, path: &str) -> Result<(), TreeFault>
         ensures counted { calls_of self.new ≡ after_opening (calls_of self.old) }
-        ensures kth { is_kth (calls_of self.old).due ≡ true → IsErrOf result Device × (below_of self.new ≡ below_of self.old) }
-        ensures others { is_kth (calls_of self.old).due ≡ false → OpenCall (T.state (below_of self.old)) (T.state (below_of self.new)) path.now result }
+        ensures kth { RefusesKth self.old self.new result }
+        ensures others { IfNotKth self.old (OpenCall
+            (T.state (below_of self.old)) (T.state (below_of self.new)) path.now result) }
     {
         let due = self.calls.is_due();
         self.calls.shut = due;
@@ -83,10 +86,12 @@ impl<T: Tree + Drop> Tree for FailTree<T> {
     fn read(&mut self, buffer: &mut [u8]) -> Result<usize, TreeFault>
         requires { 0 < length buffer.old }
         ensures counted { calls_of self.new ≡ after_read (calls_of self.old) }
-        ensures kth { is_kth (calls_of self.old).due ≡ true → IsErrOf result Device × (below_of self.new ≡ below_of self.old) }
-        ensures shut { is_kth (calls_of self.old).due ≡ false → (calls_of self.old).shut ≡ true → IsErrOf result NoneOpen × (below_of self.new ≡ below_of self.old) }
-        ensures others { is_kth (calls_of self.old).due ≡ false → (calls_of self.old).shut ≡ false
-            → ReadCall (T.state (below_of self.old)) (T.state (below_of self.new)) (length buffer.old) buffer.new result }
+        ensures kth { RefusesKth self.old self.new result }
+        ensures shut { IfNotKth self.old ((calls_of self.old).shut ≡ true
+            → IsErrOf result NoneOpen × (below_of self.new ≡ below_of self.old)) }
+        ensures others { IfNotKth self.old ((calls_of self.old).shut ≡ false
+            → ReadCall (T.state (below_of self.old)) (T.state (below_of self.new))
+            (length buffer.old) buffer.new result) }
     {
         if self.calls.is_due() {
             return Err(TreeFault::Device);
@@ -100,18 +105,18 @@ impl<T: Tree + Drop> Tree for FailTree<T> {
 }
 
 impl<T: WriteTree + Drop> WriteTree for FailTree<T> {
-    ghost use Rattle.std.specs.Prelude.{◌≢◌, ◌⊎◌, OnErr, IsErrOf, IsTrue, true, false};
+    ghost use Rattle.std.specs.Prelude.{◌≢◌, OnErr, IsTrue};
     ghost use Rattle.bag_text.specs.Path.{is_base_name};
-    ghost use Rattle.bag_tree.specs.declared.tree_fault.TreeFault.TheVariants.{Device};
-    ghost use Rattle.bag_memory.specs.Refusals.{after_call, is_kth};
-    ghost use Rattle.bag_tree.specs.Changes.{HasBegun, IsSame};
-    ghost use Rattle.bag_memory.specs.TreeChanges.{MakesFolder, MovesIn, RenamesFolder, Creates};
+    ghost use Rattle.bag_memory.specs.FailTree.{IfNotKth, RefusesKth};
+    ghost use Rattle.bag_memory.specs.Refusals.{after_call};
+    ghost use Rattle.bag_tree.specs.Changes.{Creates, LeavesSameOrBegun, MakesFolder, MovesIn, RenamesFolder};
 
     fn make_folder(&mut self, name: &str) -> Result<(), TreeFault>
         requires { IsTrue (is_base_name name.now) }
         ensures counted { calls_of self.new ≡ after_call (calls_of self.old) }
-        ensures kth { is_kth (calls_of self.old).due ≡ true → IsErrOf result Device × (below_of self.new ≡ below_of self.old) }
-        ensures others { is_kth (calls_of self.old).due ≡ false → MakesFolder name.now (T.state (below_of self.old)) (T.state (below_of self.new)) result }
+        ensures kth { RefusesKth self.old self.new result }
+        ensures others { IfNotKth self.old (MakesFolder name.now
+            (T.state (below_of self.old)) (T.state (below_of self.new)) result) }
     {
         if self.calls.is_due() {
             return Err(TreeFault::Device);
@@ -124,8 +129,9 @@ impl<T: WriteTree + Drop> WriteTree for FailTree<T> {
         requires folder { IsTrue (is_base_name folder.now) }
         requires two { top.now ≢ folder.now }
         ensures counted { calls_of self.new ≡ after_call (calls_of self.old) }
-        ensures kth { is_kth (calls_of self.old).due ≡ true → IsErrOf result Device × (below_of self.new ≡ below_of self.old) }
-        ensures others { is_kth (calls_of self.old).due ≡ false → MovesIn top.now folder.now (T.state (below_of self.old)) (T.state (below_of self.new)) result }
+        ensures kth { RefusesKth self.old self.new result }
+        ensures others { IfNotKth self.old (MovesIn top.now folder.now
+            (T.state (below_of self.old)) (T.state (below_of self.new)) result) }
     {
         if self.calls.is_due() {
             return Err(TreeFault::Device);
@@ -137,8 +143,9 @@ impl<T: WriteTree + Drop> WriteTree for FailTree<T> {
         requires from { IsTrue (is_base_name from.now) }
         requires to { IsTrue (is_base_name to.now) }
         ensures counted { calls_of self.new ≡ after_call (calls_of self.old) }
-        ensures kth { is_kth (calls_of self.old).due ≡ true → IsErrOf result Device × (below_of self.new ≡ below_of self.old) }
-        ensures others { is_kth (calls_of self.old).due ≡ false → RenamesFolder from.now to.now (T.state (below_of self.old)) (T.state (below_of self.new)) result }
+        ensures kth { RefusesKth self.old self.new result }
+        ensures others { IfNotKth self.old (RenamesFolder from.now to.now
+            (T.state (below_of self.old)) (T.state (below_of self.new)) result) }
     {
         if self.calls.is_due() {
             return Err(TreeFault::Device);
@@ -149,10 +156,12 @@ impl<T: WriteTree + Drop> WriteTree for FailTree<T> {
     fn create(&mut self, name: &str, bytes: &[u8]) -> Result<(), TreeFault>
         requires { IsTrue (is_base_name name.now) }
         ensures counted { calls_of self.new ≡ after_call (calls_of self.old) }
-        ensures kth { is_kth (calls_of self.old).due ≡ true → IsErrOf result Device × (below_of self.new ≡ below_of self.old) }
-        ensures others { is_kth (calls_of self.old).due ≡ false → Creates name.now bytes.now (T.state (below_of self.old)) (T.state (below_of self.new)) result }
-        ensures begun { OnErr result (IsSame (failing (T.state (below_of self.old)) (calls_of self.old)) (failing (T.state (below_of self.new)) (calls_of self.new))
-            ⊎ HasBegun name.now bytes.now (failing (T.state (below_of self.old)) (calls_of self.old)) (failing (T.state (below_of self.new)) (calls_of self.new))) }
+        ensures kth { RefusesKth self.old self.new result }
+        ensures others { IfNotKth self.old (Creates name.now bytes.now
+            (T.state (below_of self.old)) (T.state (below_of self.new)) result) }
+        ensures begun { OnErr result (LeavesSameOrBegun name.now bytes.now
+            (failing (T.state (below_of self.old)) (calls_of self.old))
+            (failing (T.state (below_of self.new)) (calls_of self.new))) }
     {
         if self.calls.is_due() {
             return Err(TreeFault::Device);

@@ -13,7 +13,6 @@ pub use Rattle.bag_memory.specs.Refusals
 pub use Rattle.bag_memory.specs.SkewTree
 pub use Rattle.bag_memory.specs.Skewed
 pub use Rattle.bag_memory.specs.TreeCalls
-pub use Rattle.bag_memory.specs.TreeChanges
 pub use Rattle.bag_tree.specs.Bag
 pub use Rattle.bag_tree.specs.Cause
 pub use Rattle.bag_tree.specs.Changes

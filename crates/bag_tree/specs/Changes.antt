@@ -1,10 +1,12 @@
 -- What a change of a tree leaves, and how it is refused.
-use Rattle.std.specs.Prelude.{◌≡◌, ◌≤◌, ◌+◌, false, ℕ, IsTrue, List, None, take}
+use Rattle.std.specs.Prelude.{◌≡◌, ◌≤◌, ◌+◌, ◌⊎◌, true, false, ℕ, IsTrue, List, None, take, Result, OnOk, OnErr, IfErr, MatchResult}
+use Rattle.bag_text.specs.Path.{under}
 use Rattle.bag_tree.specs.Bag.{Bag}
 use Rattle.bag_tree.specs.Tree.{TreeState, Keeps, MayRefuse}
+use Rattle.bag_tree.specs.declared.answer.Answer.TheVariants.{Given, Refused}
 use Rattle.bag_tree.specs.declared.tree_fault.TreeFault.{TreeFault}
 use Rattle.bag_tree.specs.declared.tree_fault.TreeFault.TheVariants.{Exists}
-use Rattle.bag_tree.specs.Steps.{is_taken, create}
+use Rattle.bag_tree.specs.Steps.{is_taken, has_within, lacks_folder, lacks_source, make_folder, move_in, rename_folder, create}
 
 -- A change was made, by at most n files and folders more, and no file is open. The bag of an honest tree is the
 -- change's, and what else it has isn't of another kind.
@@ -30,6 +32,10 @@ pub record HasBegun (name bytes : List ℕ) (old new : TreeState) : Type 0 where
   pub begun : HasChanged (create name (take count bytes)) 1 old new
   pub free : IsTrue old.honest → is_taken old.bag name ≡ false
 
+-- nothing was changed, or a file of some first bytes was made
+abbrev pub LeavesSameOrBegun : List ℕ → List ℕ → TreeState → TreeState → Type 0
+LeavesSameOrBegun name bytes old new = IsSame old new ⊎ HasBegun name bytes old new
+
 -- of an honest tree neither the source is absent nor the target there
 abbrev pub IsPossible : Type 0 → Type 0 → TreeState → Type 0
 IsPossible absent taken old = IsTrue old.honest → ¬ absent × ¬ taken
@@ -38,3 +44,39 @@ IsPossible absent taken old = IsTrue old.honest → ¬ absent × ¬ taken
 abbrev pub MayRefuseChange : Type 0 → Type 0 → TreeState → TreeState → TreeFault → Type 0
 MayRefuseChange absent taken old new Exists = IsTrue old.honest → taken
 MayRefuseChange absent taken old new fault = MayRefuse absent ⊥ old new fault
+
+-- A call that changes a tree is answered so. Ok: the step was made, by at most `more` files and folders more. A refusal: `left`
+-- says what it left. An honest tree answers NotFound only where what is to be moved is `absent`, and Exists only where the
+-- target is `taken`.
+pub record Changes (step : Bag → Bag) (more : ℕ) (absent taken left : Type 0) (old new : TreeState)
+    (result : Result (Unit {0}) TreeFault) : Type 0 where
+  pub changed : OnOk result (HasChanged step more old new)
+  pub calm : OnOk result (new.failures ≡ old.failures)
+  pub possible : OnOk result (IsPossible absent taken old)
+  pub last : MatchResult result (λ _. new.last ≡ Given) (λ fault. new.last ≡ Refused fault)
+  pub leaves : OnErr result left
+  pub refused : IfErr result (MayRefuseChange absent taken old new)
+
+-- a call of `make_folder`
+abbrev pub MakesFolder : List ℕ → TreeState → TreeState → Result (Unit {0}) TreeFault → Type 0
+MakesFolder name old new =
+    Changes (make_folder name) 1 ⊥ (is_taken old.bag name ≡ true) (IsSame old new) old new
+
+-- a call of `move_in`
+abbrev pub MovesIn : List ℕ → List ℕ → TreeState → TreeState → Result (Unit {0}) TreeFault → Type 0
+MovesIn top folder old new =
+    let absent = lacks_source old.bag top folder ≡ true in
+    let taken = has_within old.bag (under folder top) ≡ true in
+    Changes (move_in top folder) 0 absent taken (IsSame old new) old new
+
+-- a call of `rename_folder`
+abbrev pub RenamesFolder : List ℕ → List ℕ → TreeState → TreeState → Result (Unit {0}) TreeFault → Type 0
+RenamesFolder from to old new =
+    let absent = lacks_folder old.bag from ≡ true in
+    Changes (rename_folder from to) 0 absent (is_taken old.bag to ≡ true) (IsSame old new) old new
+
+-- a call of `create`
+abbrev pub Creates : List ℕ → List ℕ → TreeState → TreeState → Result (Unit {0}) TreeFault → Type 0
+Creates name bytes old new =
+    let left = LeavesSameOrBegun name bytes old new in
+    Changes (create name bytes) 1 ⊥ (is_taken old.bag name ≡ true) left old new

@@ -117,3 +117,11 @@ outcome_at n end_of.Unwritten = Unwritten n
 pub record GoesOn (report : List Fault) (n limit : ℕ) (before after : OutState) (line : List ℕ) (segment : Segment) : Type 0 where
   pub writes : IsSegment (drop n report) limit before after segment
   pub last : IsLastLine (cursor_behind (n + segment.written) report) line
+
+-- so it is for the report of an honest tree's bag, and the number n of its faults up to the last line's
+abbrev pub ForReportFrom : TreeState → Option Profile → Options → List ℕ
+    → (List Fault → ℕ → Type 0) → Type 0
+ForReportFrom old profile options line Holds =
+    IsTrue old.honest → (report : List Fault)
+    → IsReport (record { bag = old.bag; profile = profile; options = options }) report
+    → (n : ℕ) → n ≤ length report → IsLastLine (cursor_behind n report) line → Holds report n

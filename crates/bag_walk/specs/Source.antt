@@ -24,6 +24,17 @@ rest_of (x ∷ xs) = xs
 abbrev pub Sees : TreeState → List (List ℕ) → Bag → Type 0
 Sees state todo bag = (IsTrue state.honest × (state.bag ≡ bag)) ⊎ (todo ≡ [])
 
+-- by what a source is of and the files that it may still open
+module _ {S : Type 0} (is_of : Bag → S → Type 0) where
+  -- so it is for each bag that the source is of and that this tree shows
+  abbrev pub ForEachSeen : (S → List (List ℕ)) → TreeState → S → (Bag → Type 0) → Type 0
+  ForEachSeen todo state source Holds =
+      (bag : Bag) → is_of bag source → Sees state (todo source) bag → Holds bag
+
+  -- if the tree is honest, the source is of its bag
+  abbrev pub IsOfHonest : TreeState → S → Type 0
+  IsOfHonest state source = IsTrue state.honest → is_of state.bag source
+
 -- each of the first faults is less than each of the second
 abbrev pub AllBelow : List Fault → List Fault → Type 0
 AllBelow faults others = (f g : Fault) → Contains faults f → Contains others g → fault_cmp f g ≡ Less

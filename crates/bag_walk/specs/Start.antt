@@ -1,5 +1,5 @@
 -- A walk that was started.
-use Rattle.std.specs.Prelude.{ℕ, ◌≡◌, ◌<◌, false, true, List, Option, IsTrue, filter}
+use Rattle.std.specs.Prelude.{ℕ, ◌≡◌, ◌≢◌, ◌⊎◌, ◌<◌, false, true, List, [], Option, Result, Ok, Err, IsTrue, filter}
 use Rattle.bag_text.specs.Code.{stage}
 use Rattle.bag_text.specs.Order.{IsListOf}
 use Rattle.bag_text.specs.Path.{is_payload_path}
@@ -8,7 +8,12 @@ use Rattle.bag_text.specs.declared.alg.Alg.{Alg}
 use Rattle.bag_read.specs.declared.kind.Kind.TheVariants.{Payload}
 use Rattle.bag_tree.specs.Bag.{Bag, HasFile, IsBag}
 use Rattle.bag_tree.specs.Tree.{TreeState}
+use Rattle.bag_tree.specs.declared.tree.Tree as Tree
+use Rattle.bag_tree.specs.declared.tree_fault.Stop.{Stop}
+use Rattle.bag_facts.specs.Facts.{IsFactsOf}
 use Rattle.bag_facts.specs.FaultOrder.{fault_cmp}
+use Rattle.bag_facts.specs.Wanted.{ForListing, OpensAll, OpensFirst, OpensUpTo}
+use Rattle.bag_facts.specs.declared.facts.Facts.{Facts}
 use Rattle.bag_facts.specs.declared.fault.Fault.{Fault}
 use Rattle.bag_facts.specs.declared.options.Depth.TheVariants.{Full}
 use Rattle.bag_facts.specs.declared.options.Options.{Options}
@@ -16,7 +21,9 @@ use Rattle.bag_profile.specs.Profile.{Profile}
 use Rattle.bag_report.specs.Report.{Check}
 use Rattle.bag_stages.specs.TagFiles.{Names}
 use Rattle.bag_stages.specs.SummedFiles.{IsSummed}
-use Rattle.bag_walk.specs.Steps.{IsAhead, StandsAt}
+use Rattle.bag_walk.specs.declared.source.Source as Source
+use Rattle.bag_walk.specs.declared.steps.Steps.{Steps}
+use Rattle.bag_walk.specs.Steps.{left, to_open, IsAhead, StandsAt}
 use Rattle.bag_walk.specs.Validity.{is_passed}
 
 -- the part of a report that is of the stages before this one and above a cursor
@@ -44,3 +51,48 @@ pub record IsStarted (old : TreeState) (profile : Option Profile) (options : Opt
   pub stands : StandsAt (record { bag = seen; profile = profile; options = options }) after (left seen)
   pub files : IsListOf text_cmp (IsToOpen (record { bag = seen; profile = profile; options = options }) after) todo
   pub payload : IsListOf text_cmp (IsListedToOpen (record { bag = seen; profile = profile; options = options }) after) (filter is_payload_path todo)
+
+-- a bag, checked against a profile with the options with which its facts were read
+abbrev pub check_of : Bag → Option Profile → Facts → Check
+check_of bag profile facts = record { bag = bag; profile = profile; options = facts.options }
+
+-- so it is for each bag of which these are the facts
+abbrev pub ForBagOf : Facts → (Bag → Type 0) → Type 0
+ForBagOf facts Holds = (bag : Bag) → IsFactsOf bag facts → Holds bag
+
+-- these are the files still to be opened, in path order
+abbrev pub AreToOpen : Check → Option Fault → List (List ℕ) → Type 0
+AreToOpen check after files = IsListOf text_cmp (IsToOpen check after) files
+
+-- all the tag files that are to be read were opened
+abbrev pub OpensAllListed : Options → TreeState → TreeState → Type 0
+OpensAllListed options old new = ForListing old (λ files. OpensAll options files old new)
+
+-- no file was opened, or the first of them were
+abbrev pub OpensNoneOrFirst : Options → TreeState → TreeState → Type 0
+OpensNoneOrFirst options old new =
+    (new.openings ≡ old.openings) ⊎ ForListing old (λ files. OpensFirst options files old new)
+
+-- where a file was refused, they were opened up to that one
+abbrev pub OpensUpToRefused : Options → Stop → TreeState → TreeState → Type 0
+OpensUpToRefused options stop old new =
+    stop.path ≢ [] → ForListing old (λ files. OpensUpTo options files stop.path old new)
+
+-- what a tree means when a walk over it was started, or when it came back
+abbrev pub state_after : {T S : Type 0} → Tree.Ghosts T → Result (Steps T S) (T × Stop) → TreeState
+state_after tree (Ok walk) = tree.state walk.tree
+state_after tree (Err refused) = tree.state refused.0
+
+module _ {T S : Type 0} (source : Source.Ghosts S T)
+    (old : TreeState) (profile : Option Profile) (options : Options) (after : Option Fault) where
+  -- the sources of the faults of a tree's bag above a cursor
+  abbrev pub SourcesStartAt : S → Type 0
+  SourcesStartAt s =
+      IsStarted old profile options after
+      (λ bag. source.is_of bag s) (λ bag. source.remaining bag s) (source.todo s)
+
+  -- a walk over them that has given nothing yet
+  abbrev pub StartsAt : Steps T S → Type 0
+  StartsAt walk =
+      IsStarted old profile options after
+      (λ bag. source.is_of bag walk.source) (λ bag. left source bag walk) (to_open source walk)

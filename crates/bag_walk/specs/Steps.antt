@@ -7,12 +7,16 @@ use Rattle.bag_text.specs.Order.{IsListOf}
 use Rattle.bag_tree.specs.Bag.{Bag}
 use Rattle.bag_tree.specs.Calm.{RefusesNothing}
 use Rattle.bag_tree.specs.Tree.{TreeState, Keeps}
+use Rattle.bag_tree.specs.declared.tree.Tree as Tree
 use Rattle.bag_tree.specs.declared.tree_fault.Stop.{Stop}
 use Rattle.bag_facts.specs.FaultOrder.{fault_cmp}
 use Rattle.bag_facts.specs.declared.fault.Fault.{Fault}
 use Rattle.bag_report.specs.Report.{Check, IsReported, is_above}
-use Rattle.bag_walk.specs.Openings.{Opens, OpensAgain, StillWait}
-use Rattle.bag_walk.specs.Source.{rest_of, MayStopAnyway, MayStopFilling, Sees}
+use Rattle.bag_facts.specs.Stops.{IsOutOfMemory}
+use Rattle.bag_walk.specs.Openings.{IsReached, NoneWaits, Opens, OpensAgain}
+use Rattle.bag_walk.specs.Openings.{OpensNoneBehind, StillWait}
+use Rattle.bag_walk.specs.Source.{first_of, rest_of, MayStopAnyway, MayStopFilling, Sees}
+use Rattle.bag_walk.specs.declared.source.Source as Source
 use Rattle.bag_walk.specs.declared.steps.Steps.{Steps}
 
 -- the fault at which a walk stands: the one that its source has found, where it was given
@@ -61,36 +65,113 @@ pub record MayStopStep (todo : List (List ℕ)) (old : TreeState) (IsOf : Type 0
   pub anyway : MayStopAnyway left old new stop
   pub refused : IsOf → MayStopFilling left old new stop
 
--- by what a tree and a source mean
-module _ {T S : Type 0} (state : T → TreeState) (is_of : Bag → S → Type 0) (remaining : Bag → S → List Fault) (todo : S → List (List ℕ)) (found : S → Option Fault) where
-  -- the fault at which a walk stands
+-- of a walk over a source
+module _ {T S : Type 0} (source : Source.Ghosts S T) where
+  -- the fault at which it stands
   abbrev pub shown : Steps T S → Option Fault
-  shown walk = shown_by walk.is_shown (found walk.source)
+  shown walk = shown_by walk.is_shown (source.found walk.source)
 
-  -- what it has still to give of a bag
+  -- the faults that it has still to give of a bag
   abbrev pub left : Bag → Steps T S → List Fault
-  left bag walk = to_give (shown walk) (remaining bag walk.source)
+  left bag walk = to_give (shown walk) (source.remaining bag walk.source)
+
+  -- the files that it may still open, the next one first
+  abbrev pub to_open : Steps T S → List (List ℕ)
+  to_open walk = source.todo walk.source
+
+  -- where it gives no fault any more, it has no file to open
+  abbrev pub IsDone : Steps T S → Type 0
+  IsDone walk = shown walk ≡ None → to_open walk ≡ []
+
+-- of a walk over a tree and a source
+module _ {T S : Type 0} (tree : Tree.Ghosts T) (source : Source.Ghosts S T) where
+  -- what its tree means
+  abbrev pub state : Steps T S → TreeState
+  state walk = tree.state walk.tree
 
   -- its source is of this bag, and its tree shows it
   abbrev pub IsOver : Bag → Steps T S → Type 0
-  IsOver bag walk = is_of bag walk.source × Sees (state walk.tree) (todo walk.source) bag
+  IsOver bag walk = source.is_of bag walk.source × Sees (state walk) (to_open source walk) bag
+
+  -- so it is for each bag that the walk is over
+  abbrev pub ForEachBag : Steps T S → (Bag → Type 0) → Type 0
+  ForEachBag walk Holds =
+      (bag : Bag) → source.is_of bag walk.source → Sees (state walk) (to_open source walk) bag → Holds bag
+
+  -- if its tree is honest, its source is of that tree's bag
+  abbrev pub IsOfHonest : Steps T S → Type 0
+  IsOfHonest walk = IsTrue (state walk).honest → source.is_of (state walk).bag walk.source
+
+  -- it opened the first of its files, each once and in their order, and no other
+  abbrev pub OpensNext : Steps T S → Steps T S → Type 0
+  OpensNext old new = Opens (to_open source old) (to_open source new) (state old) (state new)
+
+  -- the same, but that it may open the last of them again
+  abbrev pub MayReopenLast : Steps T S → Steps T S → Type 0
+  MayReopenLast old new =
+      OpensAgain (to_open source old) (to_open source new) (state old) (state new)
+
+  -- it stopped for want of memory, or at a file of its own when those before it had been opened
+  abbrev pub IsStoppedInTurn : Steps T S → Steps T S → Stop → Type 0
+  IsStoppedInTurn old new stop =
+      IsOutOfMemory stop ⊎ IsReached (to_open source old) (state old) (state new) stop.path
+
+  -- no fault that it has to give stands before the file at which it stopped
+  abbrev pub StopsBehindNone : Steps T S → Stop → Type 0
+  StopsBehindNone old stop = ForEachBag old (λ bag. NoneWaits (left source bag old) stop.path)
+
+  -- no fault that it has to give stands before a file that it opened
+  abbrev pub OpensBehindNone : Steps T S → Steps T S → Type 0
+  OpensBehindNone old new =
+      ForEachBag old (λ bag. OpensNoneBehind (left source bag old) (state old) (state new))
+
+  -- The first fault that it had to give is the one at which it stands, and no more to be given; after a refusal
+  -- it stands at none, and has the same faults to give as before.
+  abbrev pub GivesFirst : Steps T S → Steps T S → Result (Unit {0}) Stop → Type 0
+  GivesFirst old new result = ForEachBag old (λ bag.
+      let before = left source bag old in
+      let after = left source bag new in
+      source.is_of bag new.source × MatchResult result
+      (λ _. (shown source new ≡ first_of before) × (after ≡ rest_of before))
+      (λ _. (shown source new ≡ None) × (after ≡ before)))
+
+  -- a step from here may stop so: over an honest tree of its bag, and over any
+  abbrev pub MayStopHere : Steps T S → Steps T S → Stop → Type 0
+  MayStopHere old new stop =
+      IsOfHonest old → MayStopFilling (to_open source new) (state old) (state new) stop
+
+  abbrev pub MayStopOverAny : Steps T S → Steps T S → Stop → Type 0
+  MayStopOverAny old new stop = MayStopAnyway (to_open source new) (state old) (state new) stop
 
   -- One step of a walk. It goes to the least fault of the report above its position, which becomes the position; after a
   -- refusal the position is the same. It opens the first of the files that were to be opened, each once, of which after a
   -- refusal the last may be left too. A file before which a fault stands that was to be given waits on.
   pub record GoesOn (old new : Steps T S) (answer : Result (Unit {0}) Stop) : Type 0 where
-    pub keeps : Keeps (state old.tree) (state new.tree)
-    pub calm : OnOk answer (RefusesNothing (state old.tree) (state new.tree))
-    pub over : (bag : Bag) → IsOver bag old → is_of bag new.source
-    pub position : (check : Check) (position : Option Fault) → IsOver check.bag old → StandsAt check position (left check.bag old)
-        → MatchResult answer (λ _. Gives check position (shown new) (left check.bag new)) (λ _. StandsAt check position (left check.bag new))
-    pub opens : OnOk answer (Opens (todo old.source) (todo new.source) (state old.tree) (state new.tree))
-    pub again : OnErr answer (OpensAgain (todo old.source) (todo new.source) (state old.tree) (state new.tree))
-    pub ended : OnOk answer (shown new ≡ None → todo new.source ≡ [])
-    pub waits : (bag : Bag) (files : List (List ℕ)) → IsOver bag old → StillWait files (left bag old) (todo old.source) → StillWait files (left bag old) (todo new.source)
-    pub stop : IfErr answer (λ stop. (IsTrue (state old.tree).honest → is_of (state old.tree).bag old.source) → MayStopFilling (todo new.source) (state old.tree) (state new.tree) stop)
-    pub anyway : IfErr answer (MayStopAnyway (todo new.source) (state old.tree) (state new.tree))
+    pub keeps : Keeps (state old) (state new)
+    pub calm : OnOk answer (RefusesNothing (state old) (state new))
+    pub over : (bag : Bag) → IsOver bag old → source.is_of bag new.source
+    pub position : (check : Check) (position : Option Fault)
+        → IsOver check.bag old → StandsAt check position (left source check.bag old)
+        → MatchResult answer
+        (λ _. Gives check position (shown source new) (left source check.bag new))
+        (λ _. StandsAt check position (left source check.bag new))
+    pub opens : OnOk answer (OpensNext old new)
+    pub again : OnErr answer (MayReopenLast old new)
+    pub ended : OnOk answer (IsDone source new)
+    pub waits : (bag : Bag) (files : List (List ℕ)) → IsOver bag old
+        → StillWait files (left source bag old) (to_open source old)
+        → StillWait files (left source bag old) (to_open source new)
+    pub stop : IfErr answer (MayStopHere old new)
+    pub anyway : IfErr answer (MayStopOverAny old new)
 
   -- the fault at which the walk stands after a step is lent
   abbrev pub LendsNext : Steps T S → Steps T S → Result (Option (Bor Fault)) Stop → Type 0
-  LendsNext old new answer = GoesOn old new (went answer) × IfOk answer (λ given. option_copied given ≡ shown new)
+  LendsNext old new answer =
+      GoesOn old new (went answer) × IfOk answer (λ given. option_copied given ≡ shown source new)
+
+  -- the least fault above the position, where it was given
+  abbrev pub LendsLeast : Steps T S → Result (Option (Bor Fault)) Stop → Type 0
+  LendsLeast old answer = (check : Check) (position : Option Fault)
+      → source.is_of check.bag old.source → Sees (state old) (to_open source old) check.bag
+      → StandsAt check position (left source check.bag old)
+      → IfOk answer (λ given. IsNextOf check position (option_copied given))

@@ -1,13 +1,13 @@
 //! Two sources at once.
-ghost use Rattle.std.specs.Prelude.{◌≡◌, ◌++◌, [], None, false, IsTrue, IfErr, OnOk, OnErr, if◌then◌else◌};
+ghost use Rattle.std.specs.Prelude.{◌≡◌, ◌++◌, [], None, false, IfErr, OnOk, OnErr, if◌then◌else◌};
 ghost use Rattle.std.specs.Option.{option_copied};
-ghost use Rattle.bag_tree.specs.Bag.{Bag};
 ghost use Rattle.bag_tree.specs.Calm.{RefusesNothing};
 ghost use Rattle.bag_tree.specs.Tree.{Keeps};
 ghost use Rattle.bag_walk.specs.Filled.{awaits_second, is_both};
 ghost use Rattle.bag_walk.specs.declared.merge.Filled.TheVariants.{Neither};
 ghost use Rattle.bag_walk.specs.Merge.{fronts, least_of, union};
-ghost use Rattle.bag_walk.specs.Source.{first_of, MayStopAnyway, MayStopFilling, Sees, Where};
+ghost use Rattle.bag_walk.specs.Source.{first_of, ForEachSeen, IsOfHonest, Where};
+ghost use Rattle.bag_walk.specs.Source.{MayStopAnyway, MayStopFilling};
 ghost use Rattle.bag_walk.specs.Union.{first_of_merged, union_ascends};
 
 use crate::{InOrder, Quiet, Source};
@@ -61,21 +61,27 @@ impl<A, B> Merge<A, B> {
 
 impl<T: Tree, A: Source<T>, B: Source<T>> Source<T> for Merge<A, B> {
     ghost is_of = { λ bag s. A.is_of bag s.first × B.is_of bag s.second
-        × Where (is_both s.filled) ((A.found s.first ≡ first_of (A.remaining bag s.first)) × (B.found s.second ≡ first_of (B.remaining bag s.second)))
+        × Where (is_both s.filled) ((A.found s.first ≡ first_of (A.remaining bag s.first))
+        × (B.found s.second ≡ first_of (B.remaining bag s.second)))
         × Where (awaits_second s.filled) (A.found s.first ≡ first_of (A.remaining bag s.first)) };
 
     ghost remaining = { λ bag s. union (A.remaining bag s.first) (B.remaining bag s.second) };
 
-    ghost todo = { λ s. if awaits_second s.filled then B.todo s.second ++ A.todo s.first else A.todo s.first ++ B.todo s.second };
+    ghost todo = { λ s. if awaits_second s.filled
+        then B.todo s.second ++ A.todo s.first else A.todo s.first ++ B.todo s.second };
 
-    ghost found = { λ s. if is_both s.filled then least_of (A.found s.first) (B.found s.second) else None };
+    ghost found = { λ s.
+        if is_both s.filled then least_of (A.found s.first) (B.found s.second) else None };
 
-    ghost in_order = { A.in_order × B.in_order × ((a : A) → A.todo a ≡ []) × ((b : B) → B.todo b ≡ []) };
+    ghost in_order = { A.in_order × B.in_order
+        × ((a : A) → A.todo a ≡ []) × ((b : B) → B.todo b ≡ []) };
 
-    ghost is_first = { λ bag s f h e. first_of_merged (is_both s.filled) (A.found s.first) (B.found s.second) (A.remaining bag s.first) (B.remaining bag s.second) f
+    ghost is_first = { λ bag s f h e. first_of_merged (is_both s.filled)
+        (A.found s.first) (B.found s.second) (A.remaining bag s.first) (B.remaining bag s.second) f
         (A.ascends bag s.first h.0) (B.ascends bag s.second h.1) h.2 e };
 
-    ghost ascends = { λ bag s h. union_ascends (A.remaining bag s.first) (B.remaining bag s.second) };
+    ghost ascends = { λ bag s h.
+        union_ascends (A.remaining bag s.first) (B.remaining bag s.second) };
 
     fn fill(&mut self, tree: &mut T) -> Result<(), Stop> {
         match fill_unless(self.filled.awaits_second(), &mut self.first, tree) {
@@ -125,14 +131,17 @@ fn fill_unless<T: Tree, S: Source<T>>(
 ) -> Result<(), Stop>
     ensures keeps { Keeps (T.state tree.old) (T.state tree.new) }
     ensures calm { OnOk result (RefusesNothing (T.state tree.old) (T.state tree.new)) }
-    ensures quiet { S.in_order → S.todo source.old ≡ [] → ((T.state tree.new).openings ≡ (T.state tree.old).openings) }
-    ensures same { (bag : Bag) → S.is_of bag source.old → Sees (T.state tree.old) (S.todo source.old) bag
-        → S.is_of bag source.new × (S.remaining bag source.new ≡ S.remaining bag source.old) }
-    ensures first { OnOk result ((bag : Bag) → S.is_of bag source.old → Sees (T.state tree.old) (S.todo source.old) bag
-        → Where is_filled (S.found source.old ≡ first_of (S.remaining bag source.old)) → S.found source.new ≡ first_of (S.remaining bag source.new)) }
-    ensures stop { IfErr result (λ stop. (IsTrue (T.state tree.old).honest → S.is_of (T.state tree.old).bag source.old)
-        → MayStopFilling (S.todo source.new) (T.state tree.old) (T.state tree.new) stop) }
-    ensures anyway { IfErr result (MayStopAnyway (S.todo source.new) (T.state tree.old) (T.state tree.new)) }
+    ensures quiet { S.in_order → S.todo source.old ≡ [] →
+        ((T.state tree.new).openings ≡ (T.state tree.old).openings) }
+    ensures same { ForEachSeen S.is_of S.todo (T.state tree.old) source.old (λ bag.
+        S.is_of bag source.new × (S.remaining bag source.new ≡ S.remaining bag source.old)) }
+    ensures first { OnOk result (ForEachSeen S.is_of S.todo (T.state tree.old) source.old (λ bag.
+        Where is_filled (S.found source.old ≡ first_of (S.remaining bag source.old))
+        → S.found source.new ≡ first_of (S.remaining bag source.new))) }
+    ensures stop { IfErr result (λ stop. IsOfHonest S.is_of (T.state tree.old) source.old →
+        MayStopFilling (S.todo source.new) (T.state tree.old) (T.state tree.new) stop) }
+    ensures anyway { IfErr result (
+        MayStopAnyway (S.todo source.new) (T.state tree.old) (T.state tree.new)) }
 {
     if is_filled {
         return Ok(());
@@ -159,5 +168,6 @@ impl<T: Tree, A: Quiet<T>, B: Quiet<T>> InOrder<T> for Merge<A, B> {
 impl<T: Tree, A: Quiet<T>, B: Quiet<T>> Quiet<T> for Merge<A, B> {
     ghost use Rattle.bag_walk.specs.Merge.{nothing_to_open};
 
-    ghost is_quiet = { λ s. nothing_to_open (awaits_second s.filled) (A.todo s.first) (B.todo s.second) (A.is_quiet s.first) (B.is_quiet s.second) };
+    ghost is_quiet = { λ s. nothing_to_open (awaits_second s.filled)
+        (A.todo s.first) (B.todo s.second) (A.is_quiet s.first) (B.is_quiet s.second) };
 }

@@ -1,15 +1,14 @@
 //! A whole run.
-ghost use Rattle.std.specs.Prelude.{◌≡◌, ℕ, List, Some, IsTrue, drop};
+ghost use Rattle.std.specs.Prelude.{◌≡◌, ℕ, List, Some, drop};
 ghost use Rattle.std.specs.Option.{option_copied};
-ghost use Rattle.bag_tree.specs.Bag.{Bag};
 ghost use Rattle.bag_tree.specs.Tree.{Keeps};
 ghost use Rattle.bag_facts.specs.declared.fault.Fault.{Fault as Spoken};
 ghost use Rattle.bag_walk.specs.Closing.{count_of};
 ghost use Rattle.bag_walk.specs.Ending.{limit_of};
 ghost use Rattle.bag_walk.specs.Openings.{NoneWaits, OpensAgain, OpensNoneBehind};
-ghost use Rattle.bag_walk.specs.Source.{Sees};
-ghost use Rattle.bag_walk.specs.Steps.{shown_by, to_give};
-ghost use Rattle.bag_walk.specs.RunOpenings.{LooksNoFurther, OpensInRun, OpensInTurn, OpensListed, OpensNonePassed, StopsInTurn, written_before};
+ghost use Rattle.bag_walk.specs.Steps.{left, to_open, ForEachBag, IsOfHonest};
+ghost use Rattle.bag_walk.specs.RunOpenings.{LooksNoFurther, OpensInRun, OpensInTurn, OpensListed};
+ghost use Rattle.bag_walk.specs.RunOpenings.{OpensNonePassed, StopsInTurn, written_before};
 ghost use Rattle.bag_walk.specs.Run.{IsRun, IsRunByReport};
 ghost use Rattle.bag_walk.specs.Segment.{MayStopRun, WritesCalmly};
 ghost use Rattle.bag_walk.specs.Stops.{IfStopped};
@@ -39,12 +38,17 @@ pub fn run<T: Tree, W: Out>(
     ensures opens { OpensInRun request.options (T.state tree) (T.state result.0) }
     ensures payload { OpensListed request.options (T.state tree) (T.state result.0) }
     ensures none_passed { OpensNonePassed request.after (T.state tree) (T.state result.0) }
-    ensures in_turn { OpensInTurn (T.state tree) (T.state result.0) (option_copied profile.entry) request result.1 }
-    ensures stopped { StopsInTurn (T.state tree) (T.state result.0) (option_copied profile.entry) request result.1 }
-    ensures unlooked { LooksNoFurther (T.state tree) (T.state result.0) (option_copied profile.entry) request }
+    ensures in_turn { OpensInTurn (T.state tree) (T.state result.0)
+        (option_copied profile.entry) request result.1 }
+    ensures stopped { StopsInTurn (T.state tree) (T.state result.0)
+        (option_copied profile.entry) request result.1 }
+    ensures unlooked { LooksNoFurther (T.state tree) (T.state result.0)
+        (option_copied profile.entry) request }
     ensures untouched { request.limit ≡ Some 0 → result.0 ≡ tree }
-    ensures run { IsRun (T.state tree) (T.state result.0) (option_copied profile.entry) request (W.state out.old) (W.state out.new) result.1 }
-    ensures by_report { IsRunByReport (T.state tree) (T.state result.0) (option_copied profile.entry) request (W.state out.old) (W.state out.new) result.1 }
+    ensures run { IsRun (T.state tree) (T.state result.0)
+        (option_copied profile.entry) request (W.state out.old) (W.state out.new) result.1 }
+    ensures by_report { IsRunByReport (T.state tree) (T.state result.0)
+        (option_copied profile.entry) request (W.state out.old) (W.state out.new) result.1 }
 {
     run_over(alloc, tree, profile, &request, out)
 }
@@ -60,11 +64,15 @@ fn run_over<T: Tree, W: Out>(
     ensures keeps { Keeps (T.state tree) (T.state result.0) }
     ensures opens { OpensInRun request.now.options (T.state tree) (T.state result.0) }
     ensures none_passed { OpensNonePassed request.now.after (T.state tree) (T.state result.0) }
-    ensures in_turn { OpensInTurn (T.state tree) (T.state result.0) (option_copied profile.entry) request.now result.1 }
-    ensures stopped { StopsInTurn (T.state tree) (T.state result.0) (option_copied profile.entry) request.now result.1 }
-    ensures unlooked { LooksNoFurther (T.state tree) (T.state result.0) (option_copied profile.entry) request.now }
+    ensures in_turn { OpensInTurn (T.state tree) (T.state result.0)
+        (option_copied profile.entry) request.now result.1 }
+    ensures stopped { StopsInTurn (T.state tree) (T.state result.0)
+        (option_copied profile.entry) request.now result.1 }
+    ensures unlooked { LooksNoFurther (T.state tree) (T.state result.0)
+        (option_copied profile.entry) request.now }
     ensures untouched { request.now.limit ≡ Some 0 → result.0 ≡ tree }
-    ensures run { IsRun (T.state tree) (T.state result.0) (option_copied profile.entry) request.now (W.state out.old) (W.state out.new) result.1 }
+    ensures run { IsRun (T.state tree) (T.state result.0)
+        (option_copied profile.entry) request.now (W.state out.old) (W.state out.new) result.1 }
 {
     if limit_of(request) == 0 {
         return (tree, close(request, Outcome::Stopped(0), out));
@@ -89,19 +97,24 @@ fn run_of_walk<T: Tree, S: InOrder<T> + Drop, W: Out>(
     out: &mut W,
 ) -> (T, Outcome)
     ensures keeps { Keeps (T.state walk.tree) (T.state result.0) }
-    ensures opens { (left : List (List ℕ)) × OpensAgain (S.todo walk.source) left (T.state walk.tree) (T.state result.0) }
-    ensures behind { (bag : Bag) → S.is_of bag walk.source → Sees (T.state walk.tree) (S.todo walk.source) bag
-        → OpensNoneBehind (drop (written_before request.now result.1) (to_give (shown_by walk.is_shown (S.found walk.source)) (S.remaining bag walk.source))) (T.state walk.tree) (T.state result.0) }
-    ensures seen { (bag : Bag) → S.is_of bag walk.source → Sees (T.state walk.tree) (S.todo walk.source) bag
-        → WritesCalmly request.now (to_give (shown_by walk.is_shown (S.found walk.source)) (S.remaining bag walk.source))
-        (MayStopRun (IsTrue (T.state walk.tree).honest → S.is_of (T.state walk.tree).bag walk.source) (S.todo walk.source) (T.state walk.tree) (T.state result.0))
-        (T.state walk.tree) (T.state result.0) (W.state out.old) (W.state out.new) result.1 }
+    ensures opens { (files : List (List ℕ)) ×
+        OpensAgain (to_open S.Source walk) files (T.state walk.tree) (T.state result.0) }
+    ensures behind { ForEachBag T.Tree S.Source walk (λ bag.
+        OpensNoneBehind (drop (written_before request.now result.1) (left S.Source bag walk))
+        (T.state walk.tree) (T.state result.0)) }
+    ensures seen { ForEachBag T.Tree S.Source walk (λ bag.
+        WritesCalmly request.now (left S.Source bag walk)
+        (MayStopRun (IsOfHonest T.Tree S.Source walk) (to_open S.Source walk)
+        (T.state walk.tree) (T.state result.0))
+        (T.state walk.tree) (T.state result.0) (W.state out.old) (W.state out.new) result.1) }
     ensures unseen { (faults : List Spoken) × WritesCalmly request.now faults
-        (MayStopRun (IsTrue (T.state walk.tree).honest → S.is_of (T.state walk.tree).bag walk.source) (S.todo walk.source) (T.state walk.tree) (T.state result.0))
+        (MayStopRun (IsOfHonest T.Tree S.Source walk) (to_open S.Source walk)
+        (T.state walk.tree) (T.state result.0))
         (T.state walk.tree) (T.state result.0) (W.state out.old) (W.state out.new) result.1 }
-    ensures waits { IfStopped result.1 (λ stop. (bag : Bag) → S.is_of bag walk.source → Sees (T.state walk.tree) (S.todo walk.source) bag
-        → NoneWaits (drop (count_of result.1) (to_give (shown_by walk.is_shown (S.found walk.source)) (S.remaining bag walk.source))) stop.path) }
-    ensures stop { IfStopped result.1 (MayStopRun (IsTrue (T.state walk.tree).honest → S.is_of (T.state walk.tree).bag walk.source) (S.todo walk.source) (T.state walk.tree) (T.state result.0)) }
+    ensures waits { IfStopped result.1 (λ stop. ForEachBag T.Tree S.Source walk (λ bag.
+        NoneWaits (drop (count_of result.1) (left S.Source bag walk)) stop.path)) }
+    ensures stop { IfStopped result.1 (MayStopRun (IsOfHonest T.Tree S.Source walk)
+        (to_open S.Source walk) (T.state walk.tree) (T.state result.0)) }
 {
     let mut walk = walk;
     let mut lines = Lines::new(alloc);

@@ -1,7 +1,6 @@
 //! The lines of a report's faults, each written when its fault is found.
 ghost use Rattle.std.specs.Prelude.{◌≡◌, List, IsTrue, drop, string_bytes, [], IfOk, OnOk, Option, ℕ};
 ghost use Rattle.std.specs.Option.{option_copied};
-ghost use Rattle.bag_tree.specs.Bag.{Bag};
 ghost use Rattle.bag_tree.specs.Calm.{RefusesNothing};
 ghost use Rattle.bag_tree.specs.Out.{OutState};
 ghost use Rattle.bag_tree.specs.Tree.{Keeps};
@@ -9,11 +8,11 @@ ghost use Rattle.bag_facts.specs.declared.fault.Fault.{Fault as Spoken};
 ghost use Rattle.bag_facts.specs.Stops.{IsOutOfMemory};
 ghost use Rattle.bag_walk.specs.Closing.{count_of};
 ghost use Rattle.bag_walk.specs.Ending.{limit_of, written_line, ended};
-ghost use Rattle.bag_walk.specs.Openings.{NoneWaits, OpensAgain, OpensNoneBehind};
-ghost use Rattle.bag_walk.specs.Source.{Sees};
-ghost use Rattle.bag_walk.specs.Steps.{shown_by, to_give};
+ghost use Rattle.bag_walk.specs.Openings.{NoneWaits, OpensNoneBehind};
+ghost use Rattle.bag_walk.specs.Steps.{left, to_open, ForEachBag, IsOfHonest, MayReopenLast};
 ghost use Rattle.bag_walk.specs.Lines.{IsLastOf, IsLastLine};
-ghost use Rattle.bag_walk.specs.Segment.{ClosesSegment, IfUnread, IsRead, IsSegment, MayStopWalk, StopsAt, still_to_come};
+ghost use Rattle.bag_walk.specs.Segment.{ClosesSegment, IfUnread, IsRead, IsSegment};
+ghost use Rattle.bag_walk.specs.Segment.{MayStopWalk, StopsAt, still_to_come};
 ghost use Rattle.bag_walk.specs.Stops.{IfStopped};
 ghost use Rattle.bag_facts.specs.FaultOrder.{IsFault};
 ghost use Rattle.bag_walk.specs.Writer.{Closes};
@@ -61,19 +60,24 @@ pub(crate) fn write_faults<T: Tree, S: InOrder<T>, W: Out>(
     out: &mut W,
 ) -> Segment
     ensures keeps { Keeps (T.state walk.old.tree) (T.state walk.new.tree) }
-    ensures calm { IsRead result.end → RefusesNothing (T.state walk.old.tree) (T.state walk.new.tree) }
-    ensures opens { OpensAgain (S.todo walk.old.source) (S.todo walk.new.source) (T.state walk.old.tree) (T.state walk.new.tree) }
-    ensures behind { (bag : Bag) → S.is_of bag walk.old.source → Sees (T.state walk.old.tree) (S.todo walk.old.source) bag
-        → OpensNoneBehind (still_to_come result (to_give (shown_by walk.old.is_shown (S.found walk.old.source)) (S.remaining bag walk.old.source))) (T.state walk.old.tree) (T.state walk.new.tree) }
-    ensures waits { IfUnread result.end (λ stop. (bag : Bag) → S.is_of bag walk.old.source → Sees (T.state walk.old.tree) (S.todo walk.old.source) bag
-        → NoneWaits (drop result.written (to_give (shown_by walk.old.is_shown (S.found walk.old.source)) (S.remaining bag walk.old.source))) stop.path) }
-    ensures seen { (bag : Bag) → S.is_of bag walk.old.source → Sees (T.state walk.old.tree) (S.todo walk.old.source) bag
-        → IsSegment (to_give (shown_by walk.old.is_shown (S.found walk.old.source)) (S.remaining bag walk.old.source)) limit (W.state out.old) (W.state out.new) result }
-    ensures last { (bag : Bag) → S.is_of bag walk.old.source → Sees (T.state walk.old.tree) (S.todo walk.old.source) bag
-        → IsLastOf (to_give (shown_by walk.old.is_shown (S.found walk.old.source)) (S.remaining bag walk.old.source)) result.written (string_bytes lines.old.last) (string_bytes lines.new.last) }
-    ensures unseen { (faults : List Spoken) × IsSegment faults limit (W.state out.old) (W.state out.new) result }
-    ensures stop { IfUnread result.end (MayStopWalk (IsTrue (T.state walk.old.tree).honest → S.is_of (T.state walk.old.tree).bag walk.old.source)
-        (S.todo walk.old.source) (S.todo walk.new.source) (T.state walk.old.tree) (T.state walk.new.tree)) }
+    ensures calm { IsRead result.end →
+        RefusesNothing (T.state walk.old.tree) (T.state walk.new.tree) }
+    ensures opens { MayReopenLast T.Tree S.Source walk.old walk.new }
+    ensures behind { ForEachBag T.Tree S.Source walk.old (λ bag.
+        OpensNoneBehind (still_to_come result (left S.Source bag walk.old))
+        (T.state walk.old.tree) (T.state walk.new.tree)) }
+    ensures waits { IfUnread result.end (λ stop. ForEachBag T.Tree S.Source walk.old (λ bag.
+        NoneWaits (drop result.written (left S.Source bag walk.old)) stop.path)) }
+    ensures seen { ForEachBag T.Tree S.Source walk.old (λ bag.
+        IsSegment (left S.Source bag walk.old) limit (W.state out.old) (W.state out.new) result) }
+    ensures last { ForEachBag T.Tree S.Source walk.old (λ bag.
+        IsLastOf (left S.Source bag walk.old) result.written
+        (string_bytes lines.old.last) (string_bytes lines.new.last)) }
+    ensures unseen { (faults : List Spoken) ×
+        IsSegment faults limit (W.state out.old) (W.state out.new) result }
+    ensures stop { IfUnread result.end (MayStopWalk (IsOfHonest T.Tree S.Source walk.old)
+        (to_open S.Source walk.old) (to_open S.Source walk.new)
+        (T.state walk.old.tree) (T.state walk.new.tree)) }
 {
     let mut written = 0;
     'given: while written < limit {
@@ -172,7 +176,8 @@ impl Lines {
 
     /// The fault whose line was written last, if one was. Fails only where memory runs out.
     pub(crate) fn last_fault(&self, alloc: Global) -> Result<Option<Fault>, AllocError>
-        ensures { (last : Option Spoken) → IsLastLine last (string_bytes self.now.last) → IfOk result (λ fault. fault ≡ last) }
+        ensures { (last : Option Spoken) → IsLastLine last (string_bytes self.now.last)
+            → IfOk result (λ fault. fault ≡ last) }
     {
         let Some(line) = self.last.as_str().strip_suffix("\n") else {
             return Ok(None);

@@ -1,18 +1,16 @@
 //! A report in segments, each with a limit of its own.
-ghost use Rattle.std.specs.Prelude.{◌≡◌, ◌<◌, ◌≤◌, ◌+◌, ◌-◌, ◌^◌, ℕ, List, length, sum, take, IsTrue, string_bytes};
+ghost use Rattle.std.specs.Prelude.{◌≡◌, ◌<◌, ◌≤◌, ◌+◌, ◌-◌, ◌^◌, ℕ, List};
+ghost use Rattle.std.specs.Prelude.{length, sum, take, string_bytes};
 ghost use Rattle.std.specs.Option.{option_copied};
-ghost use Rattle.bag_tree.specs.Bag.{Bag};
 ghost use Rattle.bag_tree.specs.Tree.{Keeps};
-ghost use Rattle.bag_facts.specs.declared.fault.Fault.{Fault as Spoken};
-ghost use Rattle.bag_report.specs.Report.{IsReport};
 ghost use Rattle.bag_walk.specs.Openings.{OpensAgain, OpensNoneBehind};
-ghost use Rattle.bag_walk.specs.Source.{Sees};
-ghost use Rattle.bag_walk.specs.Steps.{shown_by, to_give};
-ghost use Rattle.bag_walk.specs.Lines.{IsLastLine, IsLastOf};
+ghost use Rattle.bag_walk.specs.Steps.{left, to_open, ForEachBag, IsOfHonest};
+ghost use Rattle.bag_walk.specs.Lines.{IsLastOf};
 ghost use Rattle.bag_walk.specs.Segment.{IfUnread, IsSegment, MayStopRun, still_to_come};
 ghost use Rattle.bag_walk.specs.SegmentOpenings.{AreListed, OpensInSegment};
 ghost use Rattle.bag_walk.specs.Stops.{MayStop};
 ghost use Rattle.bag_walk.specs.Segments as spec;
+ghost use Rattle.bag_walk.specs.Segments.{ForReportFrom};
 
 use crate::segment::{Lines, Segment, SegmentEnd, end_of_report, out_of_memory, write_faults};
 use crate::{InOrder, Outcome, Steps, Walk};
@@ -65,8 +63,11 @@ pub fn run_segments<T: Tree, W: Out>(
     requires { sum limits.now < 2 ^ 64 }
     ensures keeps { Keeps (T.state tree) (T.state result.0) }
     ensures untouched { sum limits.now ≡ 0 → result.0 ≡ tree }
-    ensures stop { spec.IsStopped options (take (length limits.now - 1) limits.now) (T.state tree) (T.state result.0) result.1 }
-    ensures segments { spec.RunsInSegments (T.state tree) (T.state result.0) (option_copied profile.entry) options limits.now (W.state out.old) (W.state out.new) result.1 }
+    ensures stop { spec.IsStopped options (take (length limits.now - 1) limits.now)
+        (T.state tree) (T.state result.0) result.1 }
+    ensures segments { spec.RunsInSegments (T.state tree) (T.state result.0)
+        (option_copied profile.entry) options limits.now
+        (W.state out.old) (W.state out.new) result.1 }
 {
     let mut tree = tree;
     let mut lines = Lines::new(alloc);
@@ -99,15 +100,15 @@ fn write_segment<T: Tree, W: Out>(
     ensures bounded { result.1.written ≤ limit }
     ensures untouched { limit ≡ 0 → result.0 ≡ tree }
     ensures stop { IfUnread result.1.end (MayStop options (T.state tree) (T.state result.0)) }
-    ensures segment { IsTrue (T.state tree).honest → (report : List Spoken)
-        → IsReport (record { bag = (T.state tree).bag; profile = option_copied profile.entry; options = options }) report
-        → (n : ℕ) → n ≤ length report → IsLastLine (spec.cursor_behind n report) (string_bytes lines.old.last)
-        → spec.GoesOn report n limit (W.state out.old) (W.state out.new) (string_bytes lines.new.last) result.1 }
-    ensures opens { IsTrue (T.state tree).honest → (report : List Spoken)
-        → IsReport (record { bag = (T.state tree).bag; profile = option_copied profile.entry; options = options }) report
-        → (n : ℕ) → n ≤ length report → IsLastLine (spec.cursor_behind n report) (string_bytes lines.old.last)
-        → (listed : List (List ℕ)) → AreListed options (T.state tree).bag listed
-        → OpensInSegment listed (spec.cursor_behind n report) (spec.cursor_behind (n + result.1.written) report) (T.state tree) (T.state result.0) result.1.end }
+    ensures segment { ForReportFrom (T.state tree) (option_copied profile.entry) options
+        (string_bytes lines.old.last) (λ report n. spec.GoesOn report n limit
+        (W.state out.old) (W.state out.new) (string_bytes lines.new.last) result.1) }
+    ensures opens { ForReportFrom (T.state tree) (option_copied profile.entry) options
+        (string_bytes lines.old.last) (λ report n.
+        (listed : List (List ℕ)) → AreListed options (T.state tree).bag listed
+        → OpensInSegment listed (spec.cursor_behind n report)
+        (spec.cursor_behind (n + result.1.written) report)
+        (T.state tree) (T.state result.0) result.1.end) }
 {
     if limit == 0 {
         return (
@@ -141,14 +142,18 @@ fn segment_of_walk<T: Tree, S: InOrder<T> + Drop, W: Out>(
 ) -> (T, Segment)
     ensures keeps { Keeps (T.state walk.tree) (T.state result.0) }
     ensures bounded { result.1.written ≤ limit }
-    ensures opens { (left : List (List ℕ)) × OpensAgain (S.todo walk.source) left (T.state walk.tree) (T.state result.0) }
-    ensures behind { (bag : Bag) → S.is_of bag walk.source → Sees (T.state walk.tree) (S.todo walk.source) bag
-        → OpensNoneBehind (still_to_come result.1 (to_give (shown_by walk.is_shown (S.found walk.source)) (S.remaining bag walk.source))) (T.state walk.tree) (T.state result.0) }
-    ensures stop { IfUnread result.1.end (MayStopRun (IsTrue (T.state walk.tree).honest → S.is_of (T.state walk.tree).bag walk.source) (S.todo walk.source) (T.state walk.tree) (T.state result.0)) }
-    ensures seen { (bag : Bag) → S.is_of bag walk.source → Sees (T.state walk.tree) (S.todo walk.source) bag
-        → IsSegment (to_give (shown_by walk.is_shown (S.found walk.source)) (S.remaining bag walk.source)) limit (W.state out.old) (W.state out.new) result.1 }
-    ensures last { (bag : Bag) → S.is_of bag walk.source → Sees (T.state walk.tree) (S.todo walk.source) bag
-        → IsLastOf (to_give (shown_by walk.is_shown (S.found walk.source)) (S.remaining bag walk.source)) result.1.written (string_bytes lines.old.last) (string_bytes lines.new.last) }
+    ensures opens { (files : List (List ℕ)) ×
+        OpensAgain (to_open S.Source walk) files (T.state walk.tree) (T.state result.0) }
+    ensures behind { ForEachBag T.Tree S.Source walk (λ bag.
+        OpensNoneBehind (still_to_come result.1 (left S.Source bag walk))
+        (T.state walk.tree) (T.state result.0)) }
+    ensures stop { IfUnread result.1.end (MayStopRun (IsOfHonest T.Tree S.Source walk)
+        (to_open S.Source walk) (T.state walk.tree) (T.state result.0)) }
+    ensures seen { ForEachBag T.Tree S.Source walk (λ bag.
+        IsSegment (left S.Source bag walk) limit (W.state out.old) (W.state out.new) result.1) }
+    ensures last { ForEachBag T.Tree S.Source walk (λ bag.
+        IsLastOf (left S.Source bag walk) result.1.written
+        (string_bytes lines.old.last) (string_bytes lines.new.last)) }
 {
     let mut walk = walk;
     let segment = write_faults(alloc, &mut walk, lines, limit, out);

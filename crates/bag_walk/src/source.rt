@@ -1,15 +1,15 @@
 //! What a source of faults is.
-ghost use Rattle.std.specs.Prelude.{ℕ, ◌≡◌, ◌⊎◌, [], List, Option, Some, None, IsTrue, IsSome, IfErr, OnOk, OnErr};
+ghost use Rattle.std.specs.Prelude.{ℕ, ◌≡◌, [], List, Option, Some, None, IsSome, IfErr, OnOk, OnErr};
 ghost use Rattle.std.specs.List.Sorted.{IsStrictlySortedBy};
 ghost use Rattle.std.specs.Option.{option_copied};
 ghost use Rattle.bag_tree.specs.Bag.{Bag};
 ghost use Rattle.bag_tree.specs.Calm.{RefusesNothing};
 ghost use Rattle.bag_tree.specs.Tree.{Keeps};
 ghost use Rattle.bag_facts.specs.FaultOrder.{fault_cmp};
-ghost use Rattle.bag_facts.specs.Stops.{IsOutOfMemory};
 ghost use Rattle.bag_facts.specs.declared.fault.Fault.{Fault};
-ghost use Rattle.bag_walk.specs.Openings.{IsReached, NoneWaits, Opens, OpensAgain, OpensNoneBehind};
-ghost use Rattle.bag_walk.specs.Source.{first_of, rest_of, Sees, MayStopAnyway, MayStopFilling};
+ghost use Rattle.bag_walk.specs.Openings.{NoneWaits, Opens, OpensAgain, OpensNoneBehind, StopsAtNext};
+ghost use Rattle.bag_walk.specs.Source.{first_of, rest_of, ForEachSeen, IsOfHonest};
+ghost use Rattle.bag_walk.specs.Source.{MayStopAnyway, MayStopFilling};
 
 use bag_facts::Fault;
 use bag_tree::{Stop, Tree};
@@ -41,21 +41,25 @@ pub trait Source<T: Tree> {
     fn fill(&mut self, tree: &mut T) -> Result<(), Stop>
         ensures keeps { Keeps (T.state tree.old) (T.state tree.new) }
         ensures calm { OnOk result (RefusesNothing (T.state tree.old) (T.state tree.new)) }
-        ensures opens { OnOk result (in_order → Opens (todo self.old) (todo self.new) (T.state tree.old) (T.state tree.new)) }
-        ensures again { OnErr result (in_order → OpensAgain (todo self.old) (todo self.new) (T.state tree.old) (T.state tree.new)) }
-        ensures reached { IfErr result (λ stop. in_order → IsOutOfMemory stop ⊎ IsReached (todo self.old) (T.state tree.old) (T.state tree.new) stop.path) }
-        ensures waits { IfErr result (λ stop. in_order → (bag : Bag) → is_of bag self.old → Sees (T.state tree.old) (todo self.old) bag
-            → NoneWaits (remaining bag self.old) stop.path) }
+        ensures opens { OnOk result (in_order →
+            Opens (todo self.old) (todo self.new) (T.state tree.old) (T.state tree.new)) }
+        ensures again { OnErr result (in_order →
+            OpensAgain (todo self.old) (todo self.new) (T.state tree.old) (T.state tree.new)) }
+        ensures reached { IfErr result (λ stop. in_order →
+            StopsAtNext (todo self.old) (T.state tree.old) (T.state tree.new) stop) }
+        ensures waits { IfErr result (λ stop. in_order → ForEachSeen is_of todo
+            (T.state tree.old) self.old (λ bag. NoneWaits (remaining bag self.old) stop.path)) }
         ensures ended { OnOk result (in_order → found self.new ≡ None → todo self.new ≡ []) }
-        ensures same { (bag : Bag) → is_of bag self.old → Sees (T.state tree.old) (todo self.old) bag
-            → is_of bag self.new × (remaining bag self.new ≡ remaining bag self.old) }
-        ensures first { OnOk result ((bag : Bag) → is_of bag self.old → Sees (T.state tree.old) (todo self.old) bag
-            → found self.new ≡ first_of (remaining bag self.new)) }
-        ensures behind { in_order → (bag : Bag) → is_of bag self.old → Sees (T.state tree.old) (todo self.old) bag
-            → OpensNoneBehind (remaining bag self.old) (T.state tree.old) (T.state tree.new) }
-        ensures stop { IfErr result (λ stop. (IsTrue (T.state tree.old).honest → is_of (T.state tree.old).bag self.old)
-            → MayStopFilling (todo self.new) (T.state tree.old) (T.state tree.new) stop) }
-        ensures anyway { IfErr result (MayStopAnyway (todo self.new) (T.state tree.old) (T.state tree.new)) };
+        ensures same { ForEachSeen is_of todo (T.state tree.old) self.old (λ bag.
+            is_of bag self.new × (remaining bag self.new ≡ remaining bag self.old)) }
+        ensures first { OnOk result (ForEachSeen is_of todo (T.state tree.old) self.old (λ bag.
+            found self.new ≡ first_of (remaining bag self.new))) }
+        ensures behind { in_order → ForEachSeen is_of todo (T.state tree.old) self.old (λ bag.
+            OpensNoneBehind (remaining bag self.old) (T.state tree.old) (T.state tree.new)) }
+        ensures stop { IfErr result (λ stop. IsOfHonest is_of (T.state tree.old) self.old →
+            MayStopFilling (todo self.new) (T.state tree.old) (T.state tree.new) stop) }
+        ensures anyway { IfErr result (
+            MayStopAnyway (todo self.new) (T.state tree.old) (T.state tree.new)) };
 
     /// The first fault that is left, where it was found. After `fill` there is none only where none is left.
     fn peek(&self) -> Option<&Fault>
@@ -64,15 +68,17 @@ pub trait Source<T: Tree> {
     /// Takes the fault that was found away.
     fn advance(&mut self)
         requires { IsSome (found self.old) }
-        ensures rest { (bag : Bag) → is_of bag self.old → is_of bag self.new × (remaining bag self.new ≡ rest_of (remaining bag self.old)) }
+        ensures rest { (bag : Bag) → is_of bag self.old →
+            is_of bag self.new × (remaining bag self.new ≡ rest_of (remaining bag self.old)) }
         ensures todo { todo self.new ≡ todo self.old };
 
     /// A fault that is shown is the first that is left.
-    ghost is_first: { (bag : Bag) (source : Self) (fault : Fault) → is_of bag source → found source ≡ Some fault
-        → first_of (remaining bag source) ≡ Some fault };
+    ghost is_first: { (bag : Bag) (source : Self) (fault : Fault) → is_of bag source
+        → found source ≡ Some fault → first_of (remaining bag source) ≡ Some fault };
 
     /// The faults that are left ascend.
-    ghost ascends: { (bag : Bag) (source : Self) → is_of bag source → IsStrictlySortedBy fault_cmp (remaining bag source) };
+    ghost ascends: { (bag : Bag) (source : Self) → is_of bag source
+        → IsStrictlySortedBy fault_cmp (remaining bag source) };
 }
 
 /// A source that opens its files in their order, and none behind the first fault that is left.

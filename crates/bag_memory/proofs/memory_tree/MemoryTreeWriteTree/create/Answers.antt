@@ -1,4 +1,4 @@
-use Rattle.bag_memory.proofs.Common.{and_parts, refl}
+use Rattle.bag_memory.proofs.Common.{and_parts, refl, arith}
 use Rattle.bag_memory.proofs.Changed.{memory_changed, count_created, no_folder_for_name}
 use Rattle.bag_memory.proofs.InMemory.{file_put_passes, bytes_below, text_path_of}
 use Rattle.bag_memory.proofs.memory_tree.MemoryTreeWriteTree.create.Goals as goal
@@ -9,5 +9,12 @@ invariant_of-self c = record {
       (text_path_of c.args.name.now (and_parts _ _ c.requires).0 c.utf8.name) (bytes_below c.args.bytes.now c.type_inv.bytes) c.args.self.now.passes;
 }
 
-pub returns-in-Ok-clause-changed : goal.returns-in-Ok-clause-changed
-returns-in-Ok-clause-changed c = memory_changed _ _ _ _ _ _ _ _ _ c.in-Ok.ensures.added refl (count_created c.args.name.now c.args.bytes.now _)
+pub returns-in-Ok-clause-creates : goal.returns-in-Ok-clause-creates
+returns-in-Ok-clause-creates c = record {
+  changed = memory_changed _ _ _ _ _ _ _ _ _ c.in-Ok.ensures.added refl (count_created c.args.name.now c.args.bytes.now _);
+  calm = refl;
+  possible = grind arith;
+  last = refl;
+  leaves = tt;
+  refused = tt;
+}

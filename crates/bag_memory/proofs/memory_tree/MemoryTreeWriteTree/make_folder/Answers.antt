@@ -6,5 +6,12 @@ use Rattle.bag_memory.proofs.memory_tree.MemoryTreeWriteTree.make_folder.Goals a
 pub invariant_of-self : goal.invariant_of-self
 invariant_of-self c = grind (arith, folder_put_passes, text_name_of)
 
-pub returns-in-Ok-clause-changed : goal.returns-in-Ok-clause-changed
-returns-in-Ok-clause-changed c = memory_changed _ _ _ _ _ _ _ _ _ refl c.in-Ok.ensures.added (count_made c.args.name.now _)
+pub returns-in-Ok : goal.returns-in-Ok
+returns-in-Ok c = record {
+  changed = memory_changed _ _ _ _ _ _ _ _ _ refl c.in-Ok.ensures.added (count_made c.args.name.now _);
+  calm = refl;
+  possible = grind arith;
+  last = refl;
+  leaves = tt;
+  refused = tt;
+}

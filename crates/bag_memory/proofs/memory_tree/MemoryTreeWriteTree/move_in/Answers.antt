@@ -1,4 +1,4 @@
-use Rattle.bag_memory.proofs.Common.{sym}
+use Rattle.bag_memory.proofs.Common.{sym, arith, refl}
 use Rattle.bag_memory.proofs.Changed.{memory_changed, count_moved, folder_there}
 use Rattle.bag_memory.proofs.InMemory.{bag_passes, text_name_of}
 use Rattle.bag_memory.proofs.MovedBag.{move_passes}
@@ -10,5 +10,12 @@ invariant_of-self c = record {
       (λ e. c.requires.two (sym e)) (folder_there _ c.args.top.now c.args.folder.now c.in-Ok.ensures.there) c.args.self.now.passes);
 }
 
-pub returns-in-Ok-clause-changed : goal.returns-in-Ok-clause-changed
-returns-in-Ok-clause-changed c = memory_changed _ _ _ _ _ _ _ _ _ c.in-Ok.ensures.files c.in-Ok.ensures.folders (count_moved c.args.top.now c.args.folder.now _)
+pub returns-in-Ok : goal.returns-in-Ok
+returns-in-Ok c = record {
+  changed = memory_changed _ _ _ _ _ _ _ _ _ c.in-Ok.ensures.files c.in-Ok.ensures.folders (count_moved c.args.top.now c.args.folder.now _);
+  calm = refl;
+  possible = grind arith;
+  last = refl;
+  leaves = tt;
+  refused = tt;
+}

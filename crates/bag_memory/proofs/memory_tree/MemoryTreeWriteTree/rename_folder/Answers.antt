@@ -1,3 +1,4 @@
+use Rattle.bag_memory.proofs.Common.{arith, refl}
 use Rattle.bag_memory.proofs.Changed.{memory_changed, count_renamed, not_lacking, free_differs}
 use Rattle.bag_memory.proofs.InMemory.{bag_passes, text_name_of}
 use Rattle.bag_memory.proofs.MovedBag.{rename_passes}
@@ -9,6 +10,12 @@ invariant_of-self c = record {
       (free_differs _ c.args.from.now c.args.to.now c.in-Ok.ensures.there c.in-Ok.ensures.free) c.args.self.now.passes);
 }
 
-pub returns-in-Ok-clause-changed : goal.returns-in-Ok-clause-changed
-returns-in-Ok-clause-changed c =
-    memory_changed _ _ _ _ _ _ _ _ _ c.in-Ok.ensures.files c.in-Ok.ensures.folders (count_renamed c.args.from.now c.args.to.now _ (not_lacking _ c.in-Ok.ensures.there))
+pub returns-in-Ok : goal.returns-in-Ok
+returns-in-Ok c = record {
+  changed = memory_changed _ _ _ _ _ _ _ _ _ c.in-Ok.ensures.files c.in-Ok.ensures.folders (count_renamed c.args.from.now c.args.to.now _ (not_lacking _ c.in-Ok.ensures.there));
+  calm = refl;
+  possible = grind arith;
+  last = refl;
+  leaves = tt;
+  refused = tt;
+}

@@ -1,26 +1,34 @@
-use Rattle.bag_store.proofs.Common.{due_in_move}
+use Rattle.bag_store.proofs.Common.{arith, due_in_move}
 use Rattle.bag_store.proofs.BagSteps.{not_taken}
 use Rattle.bag_store.proofs.ChangedTree.{count_grows, file_changed, kept_count, step_begun}
 use Rattle.bag_store.proofs.RefusedCalls.{move_answered_so, tells_move}
 use Rattle.bag_store.proofs.file_tree.FileTreeWriteTree.create.Goals as goal
 
-pub returns-in-Ok-clause-changed : goal.returns-in-Ok-clause-changed
-returns-in-Ok-clause-changed g c =
-    file_changed _ _ _ _ _ _ _ _ c.args.name.now c.args.bytes.now (g.met.D.Disk.is_disk c.args.self.now.disk) (g.met.D.Disk.is_disk c.create.new.disk)
-    (kept_count _ _ _ _ c.in-Ok.ensures.failures c.give.ensures.failures) c.in-Ok.ensures.made
+pub returns-in-Ok-clause-creates : goal.returns-in-Ok-clause-creates
+returns-in-Ok-clause-creates g c = record {
+  changed =
+      file_changed _ _ _ _ _ _ _ _ c.args.name.now c.args.bytes.now (g.met.D.Disk.is_disk c.args.self.now.disk) (g.met.D.Disk.is_disk c.create.new.disk)
+      (kept_count _ _ _ _ c.in-Ok.ensures.failures c.give.ensures.failures) c.in-Ok.ensures.made;
+  calm = grind arith;
+  possible = λ honest. (λ never. never, not_taken _ c.args.name.now c.requires (c.in-Ok.ensures.made.file honest).free);
+  last = grind arith;
+  leaves = tt;
+  refused = tt;
+}
 
-pub returns-in-Ok-clause-possible : goal.returns-in-Ok-clause-possible
-returns-in-Ok-clause-possible g c = λ honest. (λ never. never, not_taken _ c.args.name.now c.requires (c.in-Ok.ensures.made.file honest).free)
-
-pub returns-in-Err-clause-begun : goal.returns-in-Err-clause-begun
-returns-in-Err-clause-begun g c =
-    step_begun _ _ _ _ _ _ _ _ c.args.name.now c.args.bytes.now (g.met.D.Disk.is_disk c.args.self.now.disk) (g.met.D.Disk.is_disk c.create.new.disk) c.requires
-    (count_grows c.in-Err.refusal _ _ _ _ c.in-Err.ensures.failures c.refuse.ensures.failures) c.refuse.ensures.given c.in-Err.ensures.begun
-
-pub returns-in-Err-clause-refused : goal.returns-in-Err-clause-refused
-returns-in-Err-clause-refused g c =
-    move_answered_so (g.D.Disk.state c.args.self.now.disk) (g.D.Disk.state c.create.new.disk) _ _ c.in-Err.refusal _ _ _ ⊥ ⊥
-    c.in-Err.ensures.failures c.refuse.ensures.failures c.refuse.ensures.fault (λ never. absurd never) (due_in_move _ _ _ _ c.in-Err.refusal c.in-Err.ensures.refused)
+pub returns-in-Err-clause-creates : goal.returns-in-Err-clause-creates
+returns-in-Err-clause-creates g c = record {
+  changed = tt;
+  calm = tt;
+  possible = tt;
+  last = grind arith;
+  leaves =
+      step_begun _ _ _ _ _ _ _ _ c.args.name.now c.args.bytes.now (g.met.D.Disk.is_disk c.args.self.now.disk) (g.met.D.Disk.is_disk c.create.new.disk) c.requires
+      (count_grows c.in-Err.refusal _ _ _ _ c.in-Err.ensures.failures c.refuse.ensures.failures) c.refuse.ensures.given c.in-Err.ensures.begun;
+  refused =
+      move_answered_so (g.D.Disk.state c.args.self.now.disk) (g.D.Disk.state c.create.new.disk) _ _ c.in-Err.refusal _ _ _ ⊥ ⊥
+      c.in-Err.ensures.failures c.refuse.ensures.failures c.refuse.ensures.fault (λ never. absurd never) (due_in_move _ _ _ _ c.in-Err.refusal c.in-Err.ensures.refused);
+}
 
 pub returns-in-Err-clause-cause : goal.returns-in-Err-clause-cause
 returns-in-Err-clause-cause g c =

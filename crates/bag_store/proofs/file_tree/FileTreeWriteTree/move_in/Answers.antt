@@ -1,25 +1,35 @@
+use Rattle.bag_store.proofs.Common.{arith}
 use Rattle.bag_store.proofs.BagSteps.{free_not_within, has_both}
 use Rattle.bag_store.proofs.ChangedTree.{count_grows, moved_changed, step_same}
 use Rattle.bag_store.proofs.RefusedCalls.{move_answered_so, tells_move}
 use Rattle.bag_store.proofs.file_tree.FileTreeWriteTree.move_in.Goals as goal
 
-pub returns-in-Ok-clause-changed : goal.returns-in-Ok-clause-changed
-returns-in-Ok-clause-changed g c =
-    moved_changed _ _ _ _ _ _ _ _ c.args.top.now c.args.folder.now (g.met.D.Disk.is_disk c.args.self.now.disk) (g.met.D.Disk.is_disk c.move_in.new.disk) c.requires.top
-    c.in-Ok.ensures.failures c.give.ensures.failures c.in-Ok.ensures.closed c.in-Ok.ensures.moved
+pub returns-in-Ok-clause-moves : goal.returns-in-Ok-clause-moves
+returns-in-Ok-clause-moves g c = record {
+  changed =
+      moved_changed _ _ _ _ _ _ _ _ c.args.top.now c.args.folder.now (g.met.D.Disk.is_disk c.args.self.now.disk) (g.met.D.Disk.is_disk c.move_in.new.disk) c.requires.top
+      c.in-Ok.ensures.failures c.give.ensures.failures c.in-Ok.ensures.closed c.in-Ok.ensures.moved;
+  calm = grind arith;
+  possible = λ honest.
+      let moves = c.in-Ok.ensures.moved honest in
+      (has_both _ c.args.top.now c.args.folder.now c.requires.folder moves.folder_is moves.source, free_not_within _ _ (g.met.D.Disk.is_disk c.args.self.now.disk) moves.free);
+  last = grind arith;
+  leaves = tt;
+  refused = tt;
+}
 
-pub returns-in-Ok-clause-possible : goal.returns-in-Ok-clause-possible
-returns-in-Ok-clause-possible g c = λ honest.
-    let moves = c.in-Ok.ensures.moved honest in
-    (has_both _ c.args.top.now c.args.folder.now c.requires.folder moves.folder_is moves.source, free_not_within _ _ (g.met.D.Disk.is_disk c.args.self.now.disk) moves.free)
-
-pub returns-in-Err-clause-same : goal.returns-in-Err-clause-same
-returns-in-Err-clause-same g c = step_same _ _ _ _ _ _ _ _ c.in-Err.ensures.same (count_grows c.in-Err.refusal _ _ _ _ c.in-Err.ensures.failures c.refuse.ensures.failures) c.refuse.ensures.given
-
-pub returns-in-Err-clause-refused : goal.returns-in-Err-clause-refused
-returns-in-Err-clause-refused g c =
-    move_answered_so (g.D.Disk.state c.args.self.now.disk) (g.D.Disk.state c.move_in.new.disk) _ _ c.in-Err.refusal _ _ _ _ _
-    c.in-Err.ensures.failures c.refuse.ensures.failures c.refuse.ensures.fault (λ none. none) c.in-Err.ensures.refused
+pub returns-in-Err-clause-moves : goal.returns-in-Err-clause-moves
+returns-in-Err-clause-moves g c = record {
+  changed = tt;
+  calm = tt;
+  possible = tt;
+  last = grind arith;
+  leaves =
+      step_same _ _ _ _ _ _ _ _ c.in-Err.ensures.same (count_grows c.in-Err.refusal _ _ _ _ c.in-Err.ensures.failures c.refuse.ensures.failures) c.refuse.ensures.given;
+  refused =
+      move_answered_so (g.D.Disk.state c.args.self.now.disk) (g.D.Disk.state c.move_in.new.disk) _ _ c.in-Err.refusal _ _ _ _ _
+      c.in-Err.ensures.failures c.refuse.ensures.failures c.refuse.ensures.fault (λ none. none) c.in-Err.ensures.refused;
+}
 
 pub returns-in-Err-clause-cause : goal.returns-in-Err-clause-cause
 returns-in-Err-clause-cause g c =

@@ -1,26 +1,35 @@
-use Rattle.bag_store.proofs.Common.{due_in_move}
+use Rattle.bag_store.proofs.Common.{arith, due_in_move}
 use Rattle.bag_store.proofs.BagSteps.{has_it, not_taken}
 use Rattle.bag_store.proofs.ChangedTree.{count_grows, renamed_changed, step_same}
 use Rattle.bag_store.proofs.RefusedCalls.{move_answered_so, tells_move}
 use Rattle.bag_store.proofs.file_tree.FileTreeWriteTree.rename_folder.Goals as goal
 
-pub returns-in-Ok-clause-changed : goal.returns-in-Ok-clause-changed
-returns-in-Ok-clause-changed g c =
-    renamed_changed _ _ _ _ _ _ _ _ c.args.from.now c.args.to.now (g.met.D.Disk.is_disk c.args.self.now.disk) (g.met.D.Disk.is_disk c.rename_folder.new.disk) c.requires.from c.requires.to
-    c.in-Ok.ensures.failures c.give.ensures.failures c.in-Ok.ensures.closed c.in-Ok.ensures.renamed
+pub returns-in-Ok-clause-renames : goal.returns-in-Ok-clause-renames
+returns-in-Ok-clause-renames g c = record {
+  changed =
+      renamed_changed _ _ _ _ _ _ _ _ c.args.from.now c.args.to.now (g.met.D.Disk.is_disk c.args.self.now.disk) (g.met.D.Disk.is_disk c.rename_folder.new.disk) c.requires.from c.requires.to
+      c.in-Ok.ensures.failures c.give.ensures.failures c.in-Ok.ensures.closed c.in-Ok.ensures.renamed;
+  calm = grind arith;
+  possible = λ honest.
+      let renames = c.in-Ok.ensures.renamed honest in
+      (has_it _ c.args.from.now c.requires.from renames.folder_is, not_taken _ c.args.to.now c.requires.to renames.free);
+  last = grind arith;
+  leaves = tt;
+  refused = tt;
+}
 
-pub returns-in-Ok-clause-possible : goal.returns-in-Ok-clause-possible
-returns-in-Ok-clause-possible g c = λ honest.
-    let renames = c.in-Ok.ensures.renamed honest in
-    (has_it _ c.args.from.now c.requires.from renames.folder_is, not_taken _ c.args.to.now c.requires.to renames.free)
-
-pub returns-in-Err-clause-same : goal.returns-in-Err-clause-same
-returns-in-Err-clause-same g c = step_same _ _ _ _ _ _ _ _ c.in-Err.ensures.same (count_grows c.in-Err.refusal _ _ _ _ c.in-Err.ensures.failures c.refuse.ensures.failures) c.refuse.ensures.given
-
-pub returns-in-Err-clause-refused : goal.returns-in-Err-clause-refused
-returns-in-Err-clause-refused g c =
-    move_answered_so (g.D.Disk.state c.args.self.now.disk) (g.D.Disk.state c.rename_folder.new.disk) _ _ c.in-Err.refusal _ _ _ _ ⊥
-    c.in-Err.ensures.failures c.refuse.ensures.failures c.refuse.ensures.fault (λ none. none) (due_in_move _ _ _ _ c.in-Err.refusal c.in-Err.ensures.refused)
+pub returns-in-Err-clause-renames : goal.returns-in-Err-clause-renames
+returns-in-Err-clause-renames g c = record {
+  changed = tt;
+  calm = tt;
+  possible = tt;
+  last = grind arith;
+  leaves =
+      step_same _ _ _ _ _ _ _ _ c.in-Err.ensures.same (count_grows c.in-Err.refusal _ _ _ _ c.in-Err.ensures.failures c.refuse.ensures.failures) c.refuse.ensures.given;
+  refused =
+      move_answered_so (g.D.Disk.state c.args.self.now.disk) (g.D.Disk.state c.rename_folder.new.disk) _ _ c.in-Err.refusal _ _ _ _ ⊥
+      c.in-Err.ensures.failures c.refuse.ensures.failures c.refuse.ensures.fault (λ none. none) (due_in_move _ _ _ _ c.in-Err.refusal c.in-Err.ensures.refused);
+}
 
 pub returns-in-Err-clause-cause : goal.returns-in-Err-clause-cause
 returns-in-Err-clause-cause g c =

@@ -155,7 +155,7 @@ next_spec 𝓤 𝓛 𝓜 𝓡 wired T S LT LS t t-d o o-d s s-d bt bo bs =
     (and_then ! (get ! refl) (no_more !)) (λ v.
     let Gone = type_at (go.signature T S).result z.0.0 in
     use1 𝓛 (later (some (λ (u : Gone.Denot). ((‵ (flft κ₁ q₁) ⊛ others) ⊛ ‵ (Gone.own_val u (v ∷ []))) ⊛
-    some (λ (ws : R'.Denot × Unit {0}). ‵ (lasts (go.ended T S t t-d o o-d s s-d) z.0.0 z.0.3 ws) ⊛ raw (fact 𝓤 (GoesOn t.state s.is_of s.remaining s.todo s.found r.now ws.0 u)))))) (id⊢ 𝓤 _) $
+    some (λ (ws : R'.Denot × Unit {0}). ‵ (lasts (go.ended T S t t-d o o-d s s-d) z.0.0 z.0.3 ws) ⊛ raw (fact 𝓤 (GoesOn t s r.now ws.0 u)))))) (id⊢ 𝓤 _) $
     await ! tt $ pick ! (λ u. split ! $ split ! $ split ! $
     -- [the token of κ₁; the other tokens; the answer; the last value of the loan; what is kept; the way back]
     move ! (0 ∷ 5 ∷ []) $ use2 𝓛 (‵ (flft (α ∷ []) full_share) ⊛ ‵ (flft κ (Share.right q))) (apply∗ 𝓤 (A.lft κ₁ q₁) (sep 𝓤 (A.lft (α ∷ []) full_share) (A.lft κ (Share.right q)))) $ split ! $
@@ -193,11 +193,11 @@ next_spec 𝓤 𝓛 𝓜 𝓡 wired T S LT LS t t-d o o-d s s-d bt bo bs =
     -- [the answer; nothing; the tokens; the last value of self]
     peeks ! Out _ (shows 𝓛 Out) x (v₂ ∷ []) (λ is₂. lands_as ! refl refl (((out_laws κ).lawful 𝓛).typed x (v₂ ∷ []) is₂).0 $
     returns ! (look_at ! 0 refl) $ free_all ! refl $ keep ! (3 ∷ 0 ∷ 2 ∷ []) $
-    let goes = subst (GoesOn t.state s.is_of s.remaining s.todo s.found r.now w) (sym same) kept in
-    let Now = LendsNext t.state s.is_of s.remaining s.todo s.found r.now in
+    let goes = subst (GoesOn t s r.now w) (sym same) kept in
+    let Now = LendsNext t s r.now in
     use1 𝓛 (‵ (follows_so R' R' γ none (λ _ _. ⊤) (λ new. Now new x))) (told 𝓛 R' γ (λ new. Now new x) w (goes, lent)) $
     suffices ! _ (ends_at 𝓛 E St c y v₂ x (tt, tt) (tt, tt)) $
     move ! (1 ∷ []) $ nothing ! $ nothing ! $ fjoin ! $ join ! $ move ! (2 ∷ 0 ∷ []) $ join ! $ frame ! $ frame ! $
     says ! (stops_there x (t.state r.now.tree) (t.state w.tree) (s.todo r.now.source) (s.todo w.source) _ goes.keeps goes.again goes.stop goes.anyway) $
     nothing ! $ by ! (fact_i 𝓤 _ (emp 𝓤) (λ check position of sees stands.
-    lends_next check position x (shown t.state s.is_of s.remaining s.todo s.found w) (left t.state s.is_of s.remaining s.todo s.found check.bag w) _ (goes.position check position (of, sees) stands) lent)))))))))))))))))))
+    lends_next check position x (shown s w) (left s check.bag w) _ (goes.position check position (of, sees) stands) lent)))))))))))))))))))
