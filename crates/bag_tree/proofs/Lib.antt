@@ -1,11 +1,13 @@
 pub mod Calm
 pub mod Common
+pub mod Events
 pub mod HashValues
 pub mod ListingLaw
 pub mod Moving
 pub mod Parents
 pub mod PathEntries
 pub mod Reading
+pub mod Runs
 pub mod SameText
 pub mod Spelled
 pub mod SumsOf

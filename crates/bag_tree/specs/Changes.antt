@@ -1,8 +1,9 @@
 -- What a change of a tree leaves, and how it is refused.
 use Rattle.std.specs.Prelude.{◌≡◌, ◌≤◌, ◌+◌, ◌⊎◌, true, false, ℕ, IsTrue, List, None, take, Result, OnOk, OnErr, IfErr, MatchResult}
 use Rattle.bag_text.specs.Path.{under}
+use Rattle.bag_tree.specs.Asked.{Adds, Asking, AsksFile, AsksFolder, AsksMove, AsksRename, AsksSyncs, MayBegin}
 use Rattle.bag_tree.specs.Bag.{Bag}
-use Rattle.bag_tree.specs.Tree.{TreeState, Keeps, MayRefuse}
+use Rattle.bag_tree.specs.Tree.{TreeState, Holds, MayRefuse}
 use Rattle.bag_tree.specs.declared.answer.Answer.TheVariants.{Given, Refused}
 use Rattle.bag_tree.specs.declared.tree_fault.TreeFault.{TreeFault}
 use Rattle.bag_tree.specs.declared.tree_fault.TreeFault.TheVariants.{Exists}
@@ -18,10 +19,11 @@ pub record HasChanged (step : Bag → Bag) (more : ℕ) (old new : TreeState) : 
   pub failures : old.failures ≤ new.failures
   pub openings : new.openings ≡ old.openings
   pub rest : new.rest ≡ None
+  pub noted : new.noted ≡ old.noted
 
--- nothing was changed, but that the device may have failed
+-- nothing was changed, but that the device may have failed, and may have synced
 pub record IsSame (old new : TreeState) : Type 0 where
-  pub keeps : Keeps old new
+  pub keeps : Holds old new
   pub openings : new.openings ≡ old.openings
   pub rest : new.rest ≡ old.rest
   pub given : new.given ≡ old.given
@@ -45,38 +47,45 @@ abbrev pub MayRefuseChange : Type 0 → Type 0 → TreeState → TreeState → T
 MayRefuseChange absent taken old new Exists = IsTrue old.honest → taken
 MayRefuseChange absent taken old new fault = MayRefuse absent ⊥ old new fault
 
--- A call that changes a tree is answered so. Ok: the step was made, by at most `more` files and folders more. A refusal: `left`
--- says what it left. An honest tree answers NotFound only where what is to be moved is `absent`, and Exists only where the
--- target is `taken`.
-pub record Changes (step : Bag → Bag) (more : ℕ) (absent taken left : Type 0) (old new : TreeState)
-    (result : Result (Unit {0}) TreeFault) : Type 0 where
+-- A call that changes a tree is answered so. Ok: the step was made, by at most `more` files and
+-- folders more. A refusal: `left` says what it left. An honest tree answers NotFound only where what is
+-- to be moved is `absent`, and Exists only where the target is `taken`. Of a device that notes what it
+-- does, an answered call asked what `asks` says, and a refused one what `refused_asks` says.
+pub record Changes (step : Bag → Bag) (more : ℕ) (absent taken left : Type 0) (asks refused_asks : Asking)
+    (old new : TreeState) (result : Result (Unit {0}) TreeFault) : Type 0 where
   pub changed : OnOk result (HasChanged step more old new)
   pub calm : OnOk result (new.failures ≡ old.failures)
   pub possible : OnOk result (IsPossible absent taken old)
   pub last : MatchResult result (λ _. new.last ≡ Given) (λ fault. new.last ≡ Refused fault)
   pub leaves : OnErr result left
   pub refused : IfErr result (MayRefuseChange absent taken old new)
+  pub asked : IsTrue old.noted → MatchResult result
+      (λ _. Adds asks old.trail new.trail)
+      (λ _. Adds refused_asks old.trail new.trail)
 
 -- a call of `make_folder`
 abbrev pub MakesFolder : List ℕ → TreeState → TreeState → Result (Unit {0}) TreeFault → Type 0
 MakesFolder name old new =
-    Changes (make_folder name) 1 ⊥ (is_taken old.bag name ≡ true) (IsSame old new) old new
+    let taken = is_taken old.bag name ≡ true in
+    Changes (make_folder name) 1 ⊥ taken (IsSame old new) (AsksFolder name) AsksSyncs old new
 
 -- a call of `move_in`
 abbrev pub MovesIn : List ℕ → List ℕ → TreeState → TreeState → Result (Unit {0}) TreeFault → Type 0
 MovesIn top folder old new =
     let absent = lacks_source old.bag top folder ≡ true in
     let taken = has_within old.bag (under folder top) ≡ true in
-    Changes (move_in top folder) 0 absent taken (IsSame old new) old new
+    Changes (move_in top folder) 0 absent taken (IsSame old new) (AsksMove top folder) AsksSyncs old new
 
 -- a call of `rename_folder`
 abbrev pub RenamesFolder : List ℕ → List ℕ → TreeState → TreeState → Result (Unit {0}) TreeFault → Type 0
 RenamesFolder from to old new =
     let absent = lacks_folder old.bag from ≡ true in
-    Changes (rename_folder from to) 0 absent (is_taken old.bag to ≡ true) (IsSame old new) old new
+    let taken = is_taken old.bag to ≡ true in
+    Changes (rename_folder from to) 0 absent taken (IsSame old new) (AsksRename from to) AsksSyncs old new
 
 -- a call of `create`
 abbrev pub Creates : List ℕ → List ℕ → TreeState → TreeState → Result (Unit {0}) TreeFault → Type 0
 Creates name bytes old new =
+    let taken = is_taken old.bag name ≡ true in
     let left = LeavesSameOrBegun name bytes old new in
-    Changes (create name bytes) 1 ⊥ (is_taken old.bag name ≡ true) left old new
+    Changes (create name bytes) 1 ⊥ taken left (AsksFile name bytes) (MayBegin name) old new

@@ -1,7 +1,9 @@
+pub mod Asked
 pub mod Bag
 pub mod Calm
 pub mod Cause
 pub mod Changes
+pub mod Cut
 pub mod Digest
 pub mod FileSums
 pub mod Digests

@@ -5,6 +5,7 @@ use Rattle.bag_tree.specs.Bag.{Bag, file}
 use Rattle.bag_tree.specs.declared.listing.FileEntry.{FileEntry}
 use Rattle.bag_tree.specs.declared.tree_fault.TreeFault.{TreeFault}
 use Rattle.bag_tree.specs.declared.tree_fault.TreeFault.TheVariants.{Device, Special, Name, NotFound, TooMany, Changed, NoneOpen, Memory, Exists}
+use Rattle.bag_tree.specs.declared.event.DeviceEvent.{DeviceEvent}
 use Rattle.bag_tree.specs.declared.answer.Answer.{Answer}
 use Rattle.bag_tree.specs.declared.answer.Answer.TheVariants.{Given, AtEnd, Unlisted, Refused}
 
@@ -27,14 +28,29 @@ pub record TreeState : Type 0 where
   pub given : ℕ
   -- what the last call answered
   pub last : Answer
+  -- what the device did, in order, where it notes that
+  pub trail : List DeviceEvent
+  -- the device notes what it does, and what it synced is durable
+  pub noted : Bool
 
 -- a call leaves the bag, what else stands there, and its honesty, and forgets no failure
+pub record Holds (old new : TreeState) : Type 0 where
+  pub bag : new.bag ≡ old.bag
+  pub plain : new.plain ≡ old.plain
+  pub honest : new.honest ≡ old.honest
+  pub entries : new.entries ≡ old.entries
+  pub failures : old.failures ≤ new.failures
+  pub noted : new.noted ≡ old.noted
+
+-- it leaves all that, and the device does nothing that it notes
 pub record Keeps (old new : TreeState) : Type 0 where
   pub bag : new.bag ≡ old.bag
   pub plain : new.plain ≡ old.plain
   pub honest : new.honest ≡ old.honest
   pub entries : new.entries ≡ old.entries
   pub failures : old.failures ≤ new.failures
+  pub noted : new.noted ≡ old.noted
+  pub trail : new.trail ≡ old.trail
 
 -- how many files and folders a tree may have
 abbrev pub most_entries : ℕ

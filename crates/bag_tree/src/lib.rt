@@ -21,6 +21,7 @@
 
 mod answer;
 mod digests;
+mod event;
 mod file_sums;
 mod hasher;
 mod heard;
@@ -37,6 +38,7 @@ mod writer_out;
 
 pub use answer::Answer;
 pub use digests::Digests;
+pub use event::DeviceEvent;
 pub use file_sums::digest_file;
 pub use heard::Heard;
 pub use listing::{FileEntry, Listing};

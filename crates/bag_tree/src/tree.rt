@@ -16,7 +16,7 @@ use crate::{Listing, TreeFault};
 pub trait Tree {
     /// What the tree means: its bag, whether anything else stands there, whether it is honest, how many files and folders
     /// it has, how often its device has failed, which files were opened, the rest of the open file and how much of it was
-    /// read, and what the last call answered.
+    /// read, what the last call answered, and what its device did, where it notes that.
     ghost state: { Self → TreeState };
 
     /// Lists all files with their sizes.

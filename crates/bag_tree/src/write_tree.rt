@@ -11,6 +11,10 @@ use crate::{Tree, TreeFault};
 /// refused changes nothing, but that a refused `create` may leave a file that has some first bytes. An honest tree stays
 /// honest. It answers `Exists` only where the target is there, `NotFound` only where what is to be moved or the folder for it
 /// isn't, and Ok in neither case.
+///
+/// Where its device notes what it does, each call says what it asked of that, in order, so that it is known what a power cut
+/// may leave at any moment. A folder's name is durable before anything is moved into it, what was moved before the folder is
+/// renamed, and a file that was made when its call is answered. A refused call may have synced.
 pub trait WriteTree: Tree {
     /// Makes a folder in the base folder.
     fn make_folder(&mut self, name: &str) -> Result<(), TreeFault>

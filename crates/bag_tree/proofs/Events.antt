@@ -1,0 +1,152 @@
+-- What single events do, and what makes them durable.
+use Rattle.bag_tree.proofs.Common.{arith, ◌≡◌, ◌++◌, ◌∷◌, ℕ, inl, inr, true, false, cond, List, [], Some, bytes_eq, bytes_eq-Decides, refl, ap, ◌∙◌, and_from, and_parts, or_right, false≢true, get-insert, nat_list_cmp_total, is_base_name, under, file}
+use Rattle.std.proofs.Common.{◌≢◌, ◌&&◌, not}
+use Rattle.std.proofs.lemmas.Bool.{or_cases, or_left, false_from_ne_true}
+use Rattle.std.specs.FinMap as fin
+use Rattle.std.specs.FinSet as set
+use Rattle.bag_tree.proofs.Parents.{base_not_under, first-under}
+use Rattle.bag_tree.proofs.SameText.{exact_texts, one_text, text_itself}
+use Rattle.bag_tree.specs.Asked.{AreSyncs, IsSync, has_durable_folders, is_named}
+use Rattle.bag_tree.specs.Bag.{Bag, has_file, has_folder}
+use Rattle.bag_tree.specs.Cut.{done, folder_of, hold, is_durable, is_file_synced, is_synced, is_there, rename}
+use Rattle.bag_tree.specs.Steps.{create, make_folder, move_in, rename_folder}
+use Rattle.bag_tree.specs.declared.event.DeviceEvent.{DeviceEvent}
+use Rattle.bag_tree.specs.declared.event.DeviceEvent.TheVariants.{MakeFolder, Rename, Create, Write, Sync, SyncFolder}
+
+pub not_base : (folder rest : List ℕ) → is_base_name (under folder rest) ≡ false
+not_base folder rest = false_from_ne_true _ (λ is. base_not_under (under folder rest) folder rest is refl)
+
+pub in_base : (name : List ℕ) → is_base_name name ≡ true → folder_of name ≡ []
+unfolding folder_of
+in_base name is = rw is refl
+
+pub in_folder_of : (folder rest : List ℕ) → is_base_name folder ≡ true → folder_of (under folder rest) ≡ folder
+unfolding folder_of
+in_folder_of folder rest is = rw (not_base folder rest) (first-under folder rest is)
+
+pub other_name : (name folder : List ℕ) → name ≢ folder → bytes_eq name folder ≡ false
+other_name name folder apart = grind (arith, bytes_eq-Decides)
+
+pub same_name : (name : List ℕ) → bytes_eq name name ≡ true
+same_name name = grind (arith, bytes_eq-Decides)
+
+-- what each change does
+pub done_make : (name : List ℕ) (d : Bag) → done (MakeFolder name) d ≡ make_folder name d
+unfolding done
+done_make name d = refl
+
+pub done_move : (top folder : List ℕ) (d : Bag) → is_base_name folder ≡ true → has_folder d folder ≡ true → done (Rename top (under folder top)) d ≡ move_in top folder d
+unfolding done rename
+done_move top folder d is there =
+    let at : is_there d (folder_of (under folder top)) ≡ true = ap (is_there d) (in_folder_of folder top is) ∙ or_right (bytes_eq folder []) _ there in
+    rw at (ap (λ b. record { files = (move_in top folder d).files; folders = set.remove (cond (b && has_folder d top) (set.insert d.folders (under folder top)) d.folders) top }) (not_base folder top))
+
+pub done_rename : (from to : List ℕ) (d : Bag) → is_base_name to ≡ true → has_folder d from ≡ true → done (Rename from to) d ≡ rename_folder from to d
+unfolding done rename
+done_rename from to d is there =
+    let at : is_there d (folder_of to) ≡ true = ap (is_there d) (in_base to is) in
+    rw at (ap (λ b. record { files = (rename_folder from to d).files; folders = set.remove (cond b (set.insert d.folders to) d.folders) from }) (and_from _ _ is there))
+
+pub done_create : (name : List ℕ) (d : Bag) → done (Create name) d ≡ create name [] d
+unfolding done
+done_create name d = refl
+
+-- a sync does nothing, and is durable
+pub done_sync : (e : DeviceEvent) (d : Bag) → IsSync e → done e d ≡ d
+unfolding done
+done_sync (Sync name) d is = refl
+done_sync (SyncFolder name) d is = refl
+done_sync (MakeFolder name) d is = absurd is
+done_sync (Rename from to) d is = absurd is
+done_sync (Create name) d is = absurd is
+done_sync (Write name bytes) d is = absurd is
+
+pub sync_durable : (e : DeviceEvent) (later : List DeviceEvent) → IsSync e → is_durable e later ≡ false → ⊥
+sync_durable (Sync name) later is missing = cc
+sync_durable (SyncFolder name) later is missing = cc
+sync_durable (MakeFolder name) later is missing = is
+sync_durable (Rename from to) later is missing = is
+sync_durable (Create name) later is missing = is
+sync_durable (Write name bytes) later is missing = is
+
+-- a folder that was synced is so whatever follows
+pub synced_front : (folder : List ℕ) (es later : List DeviceEvent) → is_synced folder es ≡ true → is_synced folder (es ++ later) ≡ true
+synced_front folder [] later is = absurd (false≢true is)
+synced_front folder (SyncFolder f ∷ es) later is = elim (or_cases (bytes_eq f folder) (is_synced folder es) is) [ inl a ↦ or_left _ _ a | inr b ↦ or_right (bytes_eq f folder) _ (synced_front folder es later b) ]
+synced_front folder (Rename from to ∷ es) later is = let two = and_parts _ _ is in and_from _ _ two.0 (synced_front folder es later two.1)
+synced_front folder (MakeFolder name ∷ es) later is = synced_front folder es later is
+synced_front folder (Create name ∷ es) later is = synced_front folder es later is
+synced_front folder (Write name bytes ∷ es) later is = synced_front folder es later is
+synced_front folder (Sync name ∷ es) later is = synced_front folder es later is
+
+file_synced_front : (name : List ℕ) (es later : List DeviceEvent) → is_file_synced name es ≡ true → is_file_synced name (es ++ later) ≡ true
+file_synced_front name [] later is = absurd (false≢true is)
+file_synced_front name (Sync n ∷ es) later is = elim (or_cases (bytes_eq n name) (is_file_synced name es) is) [ inl a ↦ or_left _ _ a | inr b ↦ or_right (bytes_eq n name) _ (file_synced_front name es later b) ]
+file_synced_front name (Rename from to ∷ es) later is = let two = and_parts _ _ is in and_from _ _ two.0 (file_synced_front name es later two.1)
+file_synced_front name (SyncFolder f ∷ es) later is = file_synced_front name es later is
+file_synced_front name (MakeFolder n ∷ es) later is = file_synced_front name es later is
+file_synced_front name (Create n ∷ es) later is = file_synced_front name es later is
+file_synced_front name (Write n bytes ∷ es) later is = file_synced_front name es later is
+
+-- what is durable stays so
+pub durable_front : (e : DeviceEvent) (es later : List DeviceEvent) → is_durable e es ≡ true → is_durable e (es ++ later) ≡ true
+durable_front (MakeFolder name) es later is = synced_front [] es later is
+durable_front (Rename from to) es later is = let two = and_parts _ _ is in and_from _ _ (synced_front (folder_of from) es later two.0) (synced_front (folder_of to) es later two.1)
+durable_front (Create name) es later is = synced_front [] es later is
+durable_front (Write name bytes) es later is = file_synced_front name es later is
+durable_front (Sync name) es later is = refl
+durable_front (SyncFolder folder) es later is = refl
+
+-- and a folder that is synced later is synced, where before that there are syncs alone
+pub synced_after : (folder : List ℕ) (es later : List DeviceEvent) → AreSyncs es → is_synced folder later ≡ true → is_synced folder (es ++ later) ≡ true
+synced_after folder [] later are is = is
+synced_after folder (SyncFolder f ∷ es) later are is = or_right (bytes_eq f folder) _ (synced_after folder es later are.1 is)
+synced_after folder (Sync name ∷ es) later are is = synced_after folder es later are.1 is
+synced_after folder (Rename from to ∷ es) later are is = absurd are.0
+synced_after folder (MakeFolder name ∷ es) later are is = absurd are.0
+synced_after folder (Create name ∷ es) later are is = absurd are.0
+synced_after folder (Write name bytes ∷ es) later are is = absurd are.0
+
+-- a folder that was made is durable by what follows
+pub made_durable : (name : List ℕ) (before ys : List DeviceEvent) → has_durable_folders (before ++ MakeFolder name ∷ ys) ≡ true → is_synced [] ys ≡ true
+made_durable name [] ys is = (and_parts _ _ is).0
+made_durable name (e ∷ before) ys is = made_durable name before ys (and_parts _ _ is).1
+
+-- a sync of the base folder makes all names durable that were given there
+base_at_end : (es : List DeviceEvent) → is_synced [] (es ++ SyncFolder [] ∷ []) ≡ true
+base_at_end [] = refl
+base_at_end (SyncFolder f ∷ es) = or_right (bytes_eq f []) _ (base_at_end es)
+base_at_end (Rename from to ∷ es) = base_at_end es
+base_at_end (MakeFolder name ∷ es) = base_at_end es
+base_at_end (Create name ∷ es) = base_at_end es
+base_at_end (Write name bytes ∷ es) = base_at_end es
+base_at_end (Sync name ∷ es) = base_at_end es
+
+pub durable_at_end : (es : List DeviceEvent) → has_durable_folders (es ++ SyncFolder [] ∷ []) ≡ true
+durable_at_end [] = refl
+durable_at_end (e ∷ es) = and_from _ _ (or_right (not (is_named e)) _ (base_at_end es)) (durable_at_end es)
+
+-- what stands under a folder stays when a file of the base folder is written
+pub stays_under : (name bytes folder rest : List ℕ) (d : Bag) → is_base_name name ≡ true → file (create name bytes d) (under folder rest) ≡ file d (under folder rest)
+stays_under name bytes folder rest d is = grind (arith, get-insert nat_list_cmp_total d.files name bytes (under folder rest), one_text (under folder rest) name, base_not_under name folder rest)
+
+pub held_under : (name bytes folder rest : List ℕ) (d : Bag) → is_base_name name ≡ true → file (hold name bytes d) (under folder rest) ≡ file d (under folder rest)
+held_under name bytes folder rest d is = elim (has_file d name) as (λ b. file (cond b (create name bytes d) d) (under folder rest) ≡ file d (under folder rest)) [ true ↦ stays_under name bytes folder rest d is | false ↦ refl ]
+
+-- writing after what was written
+file_created : (name bytes : List ℕ) (d : Bag) → file (create name bytes d) name ≡ Some bytes
+file_created name bytes d = get-insert nat_list_cmp_total d.files name bytes name ∙ ap (λ b. cond b (Some bytes) (file d name)) (text_itself name)
+
+created_again : (name bytes more : List ℕ) (d : Bag) → create name more (create name bytes d) ≡ create name more d
+created_again name bytes more d =
+    let files = fin.same_map nat_list_cmp_total exact_texts (fin.insert (fin.insert d.files name bytes) name more) (fin.insert d.files name more)
+    (λ q. grind (arith, get-insert nat_list_cmp_total (fin.insert d.files name bytes) name more q, get-insert nat_list_cmp_total d.files name bytes q, get-insert nat_list_cmp_total d.files name more q)) in
+    (λ i. record { files = files i; folders = d.folders })
+
+pub done_write : (name bytes piece : List ℕ) (d : Bag) → done (Write name piece) (create name bytes d) ≡ create name (bytes ++ piece) d
+unfolding done
+done_write name bytes piece d = rw (file_created name bytes d) (created_again name bytes (bytes ++ piece) d)
+
+pub done_write_is : (name piece : List ℕ) (d : Bag) → (text : List ℕ) × (done (Write name piece) d ≡ hold name text d)
+unfolding done
+done_write_is name piece d = (_, refl)

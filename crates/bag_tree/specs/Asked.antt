@@ -1,0 +1,91 @@
+-- What each change of a tree asks of its device.
+use Rattle.std.specs.Prelude.{ℕ, ◌≡◌, ◌++◌, ◌&&◌, ◌||◌, ◌⊎◌, not, Bool, true, false, List, [], ◌∷◌}
+use Rattle.std.specs.Prelude.{map}
+use Rattle.std.specs.List.{AllByRecursion}
+use Rattle.bag_text.specs.Path.{is_base_name, under}
+use Rattle.bag_tree.specs.Cut.{is_synced}
+use Rattle.bag_tree.specs.declared.event.DeviceEvent.{DeviceEvent}
+use Rattle.bag_tree.specs.declared.event.DeviceEvent.TheVariants.{MakeFolder, Rename, Create}
+use Rattle.bag_tree.specs.declared.event.DeviceEvent.TheVariants.{Write, Sync, SyncFolder}
+
+-- the event is a sync, which changes nothing
+abbrev pub IsSync : DeviceEvent → Type 0
+IsSync (Sync name) = Unit {0}
+IsSync (SyncFolder folder) = Unit {0}
+IsSync event = ⊥
+
+abbrev pub AreSyncs : List DeviceEvent → Type 0
+AreSyncs events = AllByRecursion IsSync events
+
+-- the event gives a folder of the base folder its name
+abbrev pub is_named : DeviceEvent → Bool
+is_named (MakeFolder name) = true
+is_named (Rename from to) = is_base_name to
+is_named event = false
+
+-- each name that these events gave a folder of the base folder is durable
+abbrev pub has_durable_folders : List DeviceEvent → Bool
+has_durable_folders [] = true
+has_durable_folders (event ∷ later) =
+    (not (is_named event) || is_synced [] later) && has_durable_folders later
+
+-- pieces of bytes, one after the other
+abbrev pub joined : List (List ℕ) → List ℕ
+joined [] = []
+joined (piece ∷ pieces) = piece ++ joined pieces
+
+-- What a change asks, as the events that it adds `now` to those `before`. Each may sync first.
+abbrev pub Asking : Type 1
+Asking = List DeviceEvent → List DeviceEvent → Type 0
+
+-- a folder of this name is made
+pub record AsksFolder (name : List ℕ) (before now : List DeviceEvent) : Type 0 where
+  pub syncs : List DeviceEvent
+  pub are_syncs : AreSyncs syncs
+  pub asked : now ≡ syncs ++ MakeFolder name ∷ []
+
+-- what has a name in the base folder is moved into a folder whose own name is durable by then
+pub record AsksMove (top folder : List ℕ) (before now : List DeviceEvent) : Type 0 where
+  pub syncs : List DeviceEvent
+  pub are_syncs : AreSyncs syncs
+  pub durable : has_durable_folders (before ++ syncs) ≡ true
+  pub asked : now ≡ syncs ++ Rename top (under folder top) ∷ []
+
+-- a folder is renamed after it and the base folder were synced, so that moves into it are durable
+pub record AsksRename (from to : List ℕ) (before now : List DeviceEvent) : Type 0 where
+  pub syncs : List DeviceEvent
+  pub are_syncs : AreSyncs syncs
+  pub durable : is_synced from syncs ≡ true
+  pub base_durable : is_synced [] syncs ≡ true
+  pub asked : now ≡ syncs ++ Rename from to ∷ []
+
+-- a file is made and its bytes are written, and then its bytes are synced and its name
+pub record AsksFile (name bytes : List ℕ) (before now : List DeviceEvent) : Type 0 where
+  pub syncs : List DeviceEvent
+  pub are_syncs : AreSyncs syncs
+  pub pieces : List (List ℕ)
+  pub whole : joined pieces ≡ bytes
+  pub asked : now ≡ syncs ++ Create name ∷ map (Write name) pieces ++ Sync name ∷ SyncFolder [] ∷ []
+
+-- a file is made, and some bytes are written
+pub record AsksPart (name : List ℕ) (before now : List DeviceEvent) : Type 0 where
+  pub syncs : List DeviceEvent
+  pub are_syncs : AreSyncs syncs
+  pub pieces : List (List ℕ)
+  pub after : List DeviceEvent
+  pub are_after : AreSyncs after
+  pub asked : now ≡ syncs ++ Create name ∷ map (Write name) pieces ++ after
+
+-- a change that is refused may have synced
+abbrev pub AsksSyncs : Asking
+AsksSyncs before now = AreSyncs now
+
+-- a file whose making is refused may be there in part
+abbrev pub MayBegin : List ℕ → Asking
+MayBegin name before now = AreSyncs now ⊎ AsksPart name before now
+
+-- what was added to a trail
+pub record Adds (P : Asking) (old new : List DeviceEvent) : Type 0 where
+  pub now : List DeviceEvent
+  pub trail : new ≡ old ++ now
+  pub is : P old now

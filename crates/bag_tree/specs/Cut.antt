@@ -1,0 +1,118 @@
+-- What a power cut may leave of a base folder, by what its device did.
+use Rattle.std.specs.Prelude.{ℕ, ◌≡◌, ◌++◌, ◌&&◌, ◌||◌, ◌⊎◌, not, Bool, true, false, List, [], ◌∷◌}
+use Rattle.std.specs.Prelude.{Option, Some, None, bytes_eq, if◌then◌else◌}
+use Rattle.std.specs.FinMap as fin
+use Rattle.std.specs.FinSet as set
+use Rattle.bag_text.specs.Path.{is_base_name, first_component}
+use Rattle.bag_text.specs.Text.{text_cmp}
+use Rattle.bag_tree.specs.Bag.{Bag, file, has_file, has_folder}
+use Rattle.bag_tree.specs.Moved.{is_within, moved}
+use Rattle.bag_tree.specs.Steps.{make_folder, create}
+use Rattle.bag_tree.specs.declared.event.DeviceEvent.{DeviceEvent}
+use Rattle.bag_tree.specs.declared.event.DeviceEvent.TheVariants.{MakeFolder, Rename, Create}
+use Rattle.bag_tree.specs.declared.event.DeviceEvent.TheVariants.{Write, Sync, SyncFolder}
+
+-- the folder that holds a path's name: the base folder, whose path is empty, or a folder of it
+unfoldable pub folder_of : List ℕ → List ℕ
+folder_of path = if is_base_name path then [] else first_component path
+
+-- it is the base folder, or one that stands in it
+abbrev pub is_there : Bag → List ℕ → Bool
+is_there bag folder = bytes_eq folder [] || has_folder bag folder
+
+-- the folders of the base folder, with the new path of one that stays in it
+abbrev pub with_renamed_folder : List ℕ → List ℕ → Bag → set.FinSet text_cmp
+with_renamed_folder from to bag =
+    if is_base_name to && has_folder bag from then set.insert bag.folders to else bag.folders
+
+-- the bag when what stood at one path, with all that is below it, stands at another
+unfoldable pub rename : List ℕ → List ℕ → Bag → Bag
+rename from to bag = record {
+  files = moved from to bag.files;
+  folders = set.remove (with_renamed_folder from to bag) from;
+}
+
+-- the bag without what stood at a path and below it
+unfoldable pub lose : List ℕ → Bag → Bag
+lose from bag = record {
+  files = fin.retain_keys bag.files (λ path. not (is_within from path));
+  folders = set.remove bag.folders from;
+}
+
+-- the bag with these bytes in a file, where that is there
+abbrev pub hold : List ℕ → List ℕ → Bag → Bag
+hold name bytes bag = if has_file bag name then create name bytes bag else bag
+
+-- the bytes of a file after more were written at its end
+abbrev pub appended : Option (List ℕ) → List ℕ → List ℕ
+appended None bytes = bytes
+appended (Some content) bytes = content ++ bytes
+
+-- What an event makes of a bag. What is moved into a folder that isn't there is lost, and no bytes
+-- are written to a file that isn't.
+unfoldable pub done : DeviceEvent → Bag → Bag
+done (MakeFolder name) bag = make_folder name bag
+done (Rename from to) bag = if is_there bag (folder_of to) then rename from to bag else lose from bag
+done (Create name) bag = create name [] bag
+done (Write name bytes) bag = hold name (appended (file bag name) bytes) bag
+done (Sync name) bag = bag
+done (SyncFolder folder) bag = bag
+
+-- These events sync the folder, which makes the names in it durable. After a folder was renamed its
+-- old path means another one; the base folder isn't renamed.
+abbrev pub is_synced : List ℕ → List DeviceEvent → Bool
+is_synced folder [] = false
+is_synced folder (SyncFolder synced ∷ later) = bytes_eq synced folder || is_synced folder later
+is_synced folder (Rename from to ∷ later) =
+    (bytes_eq folder [] || not (bytes_eq from folder)) && is_synced folder later
+is_synced folder (event ∷ later) = is_synced folder later
+
+-- These events sync the file, which makes its bytes durable, and not its name. After it was renamed
+-- its old path means another one.
+abbrev pub is_file_synced : List ℕ → List DeviceEvent → Bool
+is_file_synced name [] = false
+is_file_synced name (Sync synced ∷ later) = bytes_eq synced name || is_file_synced name later
+is_file_synced name (Rename from to ∷ later) =
+    not (is_within from name) && is_file_synced name later
+is_file_synced name (event ∷ later) = is_file_synced name later
+
+-- The later events make an event durable: a new name where its folder is synced, one that moved where
+-- the folder it left is synced too, bytes where their file is. A sync itself changes nothing.
+abbrev pub is_durable : DeviceEvent → List DeviceEvent → Bool
+is_durable (MakeFolder name) later = is_synced [] later
+is_durable (Rename from to) later = is_synced (folder_of from) later && is_synced (folder_of to) later
+is_durable (Create name) later = is_synced [] later
+is_durable (Write name bytes) later = is_file_synced name later
+is_durable (Sync name) later = true
+is_durable (SyncFolder folder) later = true
+
+-- What there may be of an event that isn't durable: nothing, but of a write any bytes in its file. So
+-- a rename is made whole or not at all.
+abbrev pub IsPart : DeviceEvent → Bag → Bag → Type 0
+IsPart (Write name bytes) bag part = (found : List ℕ) × (part ≡ hold name found bag)
+IsPart event bag part = part ≡ bag
+
+-- What a power cut may leave of a bag after these events: each is done, or, where the later ones don't
+-- make it durable, there may be a part of it. So without a sync they are in no order.
+abbrev pub MayLeave : List DeviceEvent → Bag → Bag → Type 0
+MayLeave [] bag left = left ≡ bag
+MayLeave (event ∷ later) bag left =
+    MayLeave later (done event bag) left
+    ⊎ ((is_durable event later ≡ false)
+    × ((part : Bag) × IsPart event bag part × MayLeave later part left))
+
+-- On a device that first held `first`, a power cut after these events leaves this bag, nothing else.
+abbrev pub IsDurableAs : List DeviceEvent → Bag → Bag → Type 0
+IsDurableAs trail first bag = (left : Bag) → MayLeave trail first left → left ≡ bag
+
+-- At each moment of the events that were added to a trail, whatever a power cut leaves has P, if the
+-- bag was durable when they began. A cut during an event leaves what one before or after it may leave.
+pub record EachCut (old new : List DeviceEvent) (bag : Bag) (P : Bag → Type 0) : Type 0 where
+  pub since : List DeviceEvent
+  pub trail : new ≡ old ++ since
+  pub each : (first : Bag) → IsDurableAs old first bag → (before after : List DeviceEvent)
+      → since ≡ before ++ after → (left : Bag) → MayLeave (old ++ before) first left → P left
+
+-- After the events that were added to a trail this bag is durable, if that one was when they began.
+abbrev pub LeavesOnly : List DeviceEvent → List DeviceEvent → Bag → Bag → Type 0
+LeavesOnly old new bag now = (first : Bag) → IsDurableAs old first bag → IsDurableAs new first now
