@@ -1,5 +1,5 @@
 -- The bag of a tree in memory.
-use Rattle.std.specs.Prelude.{ℕ, ◌≡◌, ◌+◌, ◌&&◌, Bool, true, List, length, map, Option, Some, None, drop, nat_lt, if◌then◌else◌}
+use Rattle.std.specs.Prelude.{ℕ, ◌≡◌, ◌+◌, ◌&&◌, Bool, true, false, List, [], length, map, Option, Some, None, drop, nat_lt, if◌then◌else◌}
 use Rattle.std.specs.List.{list_all}
 use Rattle.std.specs.Option.{option_map}
 use Rattle.std.specs.Str.{is_utf8}
@@ -36,7 +36,7 @@ abbrev pub with_folder : Bag → List ℕ → Bag
 with_folder bag name = record { files = bag.files; folders = set.insert bag.folders name }
 
 -- A tree in memory is honest and never fails, and has the files and the folders of its bag and nothing else. Its reads of
--- the open file have given `given` bytes, and its last call answered `last`.
+-- the open file have given `given` bytes, and its last call answered `last`. It has no device.
 abbrev pub state_after : Bag → List (List ℕ) → Option (List ℕ) → ℕ → Answer → TreeState
 state_after bag openings rest given last = record {
   bag = bag;
@@ -48,6 +48,8 @@ state_after bag openings rest given last = record {
   rest = rest;
   given = given;
   last = last;
+  trail = [];
+  noted = false;
 }
 
 -- a tree in memory where nothing was read of the open file, and the last call gave what was asked for

@@ -79,4 +79,6 @@ failing below calls = record {
   rest = if calls.shut then None else below.rest;
   given = below.given;
   last = last_answer calls.own below.last;
+  trail = below.trail;
+  noted = below.noted;
 }

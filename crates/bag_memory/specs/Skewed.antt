@@ -20,4 +20,6 @@ skewed below own = record {
   rest = below.rest;
   given = below.given;
   last = last_answer own below.last;
+  trail = below.trail;
+  noted = below.noted;
 }

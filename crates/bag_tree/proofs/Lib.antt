@@ -1,3 +1,4 @@
+pub mod Added
 pub mod Calm
 pub mod Common
 pub mod Events

@@ -1,4 +1,4 @@
-use Rattle.bag_memory.proofs.Common.{and_parts, refl, arith}
+use Rattle.bag_memory.proofs.Common.{and_parts, refl, arith, false≢true}
 use Rattle.bag_memory.proofs.Changed.{memory_changed, count_created, no_folder_for_name}
 use Rattle.bag_memory.proofs.InMemory.{file_put_passes, bytes_below, text_path_of}
 use Rattle.bag_memory.proofs.memory_tree.MemoryTreeWriteTree.create.Goals as goal
@@ -17,4 +17,5 @@ returns-in-Ok-clause-creates c = record {
   last = refl;
   leaves = tt;
   refused = tt;
+  asked = λ noted. absurd (false≢true noted);
 }

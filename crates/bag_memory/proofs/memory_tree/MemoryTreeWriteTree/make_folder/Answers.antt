@@ -1,4 +1,4 @@
-use Rattle.bag_memory.proofs.Common.{arith, refl}
+use Rattle.bag_memory.proofs.Common.{arith, refl, false≢true}
 use Rattle.bag_memory.proofs.Changed.{memory_changed, count_made}
 use Rattle.bag_memory.proofs.InMemory.{folder_put_passes, text_name_of}
 use Rattle.bag_memory.proofs.memory_tree.MemoryTreeWriteTree.make_folder.Goals as goal
@@ -14,4 +14,5 @@ returns-in-Ok c = record {
   last = refl;
   leaves = tt;
   refused = tt;
+  asked = λ noted. absurd (false≢true noted);
 }

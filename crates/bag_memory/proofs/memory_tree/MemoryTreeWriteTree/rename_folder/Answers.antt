@@ -1,4 +1,4 @@
-use Rattle.bag_memory.proofs.Common.{arith, refl}
+use Rattle.bag_memory.proofs.Common.{arith, refl, false≢true}
 use Rattle.bag_memory.proofs.Changed.{memory_changed, count_renamed, not_lacking, free_differs}
 use Rattle.bag_memory.proofs.InMemory.{bag_passes, text_name_of}
 use Rattle.bag_memory.proofs.MovedBag.{rename_passes}
@@ -18,4 +18,5 @@ returns-in-Ok c = record {
   last = refl;
   leaves = tt;
   refused = tt;
+  asked = λ noted. absurd (false≢true noted);
 }

@@ -1,0 +1,29 @@
+-- What is added to a trail.
+use Rattle.std.proofs.Common.{◌≡◌, ◌++◌, ◌∷◌, List, [], sym, ap, ◌∙◌, append-nil, append_assoc}
+use Rattle.bag_tree.specs.Asked.{Adds, AreSyncs, Asking, AsksSyncs, IsSync}
+use Rattle.bag_tree.specs.declared.event.DeviceEvent.{DeviceEvent}
+
+-- nothing
+pub nothing_added : (P : Asking) (before after : List DeviceEvent) → after ≡ before → P before [] → Adds P before after
+nothing_added P before after same none = record { now = []; trail = same ∙ sym (append-nil before); is = none }
+
+-- syncs
+pub no_syncs : (trail : List DeviceEvent) → Adds AsksSyncs trail trail
+no_syncs trail = record { now = []; trail = sym (append-nil trail); is = tt }
+
+pub one_sync : (e : DeviceEvent) → IsSync e → (before after : List DeviceEvent) → after ≡ before ++ e ∷ [] → Adds AsksSyncs before after
+one_sync e is before after added = record { now = e ∷ []; trail = added; is = (is, tt) }
+
+both_syncs : (xs ys : List DeviceEvent) → AreSyncs xs → AreSyncs ys → AreSyncs (xs ++ ys)
+both_syncs [] ys one two = two
+both_syncs (x ∷ xs) ys one two = (one.0, both_syncs xs ys one.1 two)
+
+pub more_syncs : (a b c : List DeviceEvent) → Adds AsksSyncs a b → Adds AsksSyncs b c → Adds AsksSyncs a c
+more_syncs a b c one two = record {
+  now = one.now ++ two.now;
+  trail = two.trail ∙ ap (λ (xs : List DeviceEvent). xs ++ two.now) one.trail ∙ append_assoc a one.now two.now;
+  is = both_syncs one.now two.now one.is two.is;
+}
+
+pub same_syncs : (a b c : List DeviceEvent) → Adds AsksSyncs a b → c ≡ b → Adds AsksSyncs a c
+same_syncs a b c so_far same = record { now = so_far.now; trail = same ∙ so_far.trail; is = so_far.is }
