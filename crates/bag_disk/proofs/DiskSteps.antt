@@ -181,7 +181,7 @@ pub folder_ended : (old at new : DiskState) (next : Option (List ℕ)) (files : 
 folder_ended old at new next files folders listed folder before is gives honest now = grind arith
 
 pub looks_at_first : (state : DiskState) → OnlyLooks state state
-looks_at_first state = record { nodes = refl; honest = refl; openings = refl; rest = refl }
+looks_at_first state = record { nodes = refl; honest = refl; openings = refl; rest = refl; noted = refl; trail = refl }
 
 pub looks_on : (old at new : DiskState) → OnlyLooks old at → OnlyLooks at new → OnlyLooks old new
 looks_on old at new before after = grind arith

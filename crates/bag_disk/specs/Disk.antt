@@ -6,6 +6,7 @@ use Rattle.std.specs.FinMap as map
 use Rattle.std.specs.List.{list_all}
 use Rattle.bag_text.specs.Text.{text_cmp}
 use Rattle.bag_text.specs.Path.{slash, is_path, under}
+use Rattle.bag_tree.specs.declared.event.DeviceEvent.{DeviceEvent}
 use Rattle.bag_disk.specs.Location.{path_in}
 use Rattle.bag_disk.specs.declared.disk.Entry.{Entry}
 use Rattle.bag_disk.specs.declared.disk.Entry.TheVariants as entry
@@ -57,11 +58,17 @@ pub record DiskState : Type 0 where
   pub names : List (List ℕ)
   -- how often the device has refused
   pub failures : ℕ
+  -- what the device did, in order, where it notes that
+  pub trail : List DeviceEvent
+  -- the device notes what it does, and what it synced is durable
+  pub noted : Bool
 
--- a call leaves what stands there, and its honesty
+-- a call leaves what stands there, its honesty, and what its device did
 pub record SameDisk (old new : DiskState) : Type 0 where
   pub nodes : new.nodes ≡ old.nodes
   pub honest : new.honest ≡ old.honest
+  pub noted : new.noted ≡ old.noted
+  pub trail : new.trail ≡ old.trail
 
 -- a call that looks into a folder leaves all else
 pub record OnlyLooks (old new : DiskState) : Type 0 where
@@ -69,6 +76,16 @@ pub record OnlyLooks (old new : DiskState) : Type 0 where
   pub honest : new.honest ≡ old.honest
   pub openings : new.openings ≡ old.openings
   pub rest : new.rest ≡ old.rest
+  pub noted : new.noted ≡ old.noted
+  pub trail : new.trail ≡ old.trail
+
+-- and so does one that syncs, but that its device did something
+pub record OnlySyncs (old new : DiskState) : Type 0 where
+  pub nodes : new.nodes ≡ old.nodes
+  pub honest : new.honest ≡ old.honest
+  pub openings : new.openings ≡ old.openings
+  pub rest : new.rest ≡ old.rest
+  pub noted : new.noted ≡ old.noted
 
 abbrev pub node : Nodes → List ℕ → Option Node
 node nodes path = map.get nodes path

@@ -9,7 +9,7 @@ abbrev pub base_of : {R F D : Type 0} → SystemDisk R F D → List ℕ
 base_of disk = disk.base.path
 
 -- Nothing is promised of what the system's disk holds: it isn't honest. What was opened, whether a file is open and how often
--- the device has refused is known.
+-- the device has refused is known. It notes nothing of what its device does.
 abbrev pub system_state : List (List ℕ) → Bool → ℕ → DiskState
 system_state openings opened failures = record {
   nodes = map.empty;
@@ -18,6 +18,8 @@ system_state openings opened failures = record {
   rest = if opened then Some [] else None;
   names = [];
   failures = failures;
+  trail = [];
+  noted = false;
 }
 
 -- whether a file is being written is known, and not which

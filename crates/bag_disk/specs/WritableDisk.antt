@@ -1,6 +1,7 @@
 -- What the calls that change a disk make of what stands there.
-use Rattle.std.specs.Prelude.{ℕ, ◌≡◌, List, [], ◌++◌, None, is_some, true}
+use Rattle.std.specs.Prelude.{ℕ, ◌≡◌, List, [], ◌∷◌, ◌++◌, None, is_some, true}
 use Rattle.std.specs.FinMap as map
+use Rattle.bag_tree.specs.declared.event.DeviceEvent.{DeviceEvent}
 use Rattle.bag_tree.specs.Moved.{MovesAll, moved}
 use Rattle.bag_disk.specs.Disk.{DiskState, Nodes, node, Has, IsDisk, IsFileWith, bytes_of}
 use Rattle.bag_disk.specs.Disk.Node.{File, Folder}
@@ -47,3 +48,8 @@ pub record Closes (old new : DiskState) : Type 0 where
   pub honest : new.honest ≡ old.honest
   pub openings : new.openings ≡ old.openings
   pub rest : new.rest ≡ None
+  pub noted : new.noted ≡ old.noted
+
+-- the device did this, and noted it
+abbrev pub Notes : DeviceEvent → DiskState → DiskState → Type 0
+Notes event old new = new.trail ≡ old.trail ++ event ∷ []

@@ -92,7 +92,7 @@ impl BaseFolder {
         )
     }
 
-    /// Has the device keep the names in a folder.
+    /// Syncs a folder, so that the names in it are durable.
     pub(crate) fn sync<R: Files>(&self, rt: &R, folder: &str) -> Result<(), DiskFault> {
         let folder = self.open(rt, folder)?;
         answer_of(folder.sync_all())

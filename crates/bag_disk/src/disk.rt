@@ -41,7 +41,8 @@ pub enum DiskFault {
 /// faults are counted, one each, and nothing else is.
 pub trait Disk {
     /// What the disk means: what stands at each path, whether it is honest, which files were opened, the rest of the open
-    /// file, the names that are left of the folder that was entered, and how often the device has refused.
+    /// file, the names that are left of the folder that was entered, how often the device has refused, and what it did, where
+    /// it notes that.
     ghost state: { Self → DiskState };
 
     /// What stands at a path. A link at its end isn't followed. That nothing stands there isn't counted.

@@ -25,8 +25,6 @@ pub struct SystemDisk<R: Files> {
     openings: Items<Text>,
     opened: Option<R::File>,
     written: Option<R::File>,
-    /// Whether the device was asked to keep the names in the base folder as they are.
-    is_kept: bool,
     entered: Option<ReadDir<R, Global>>,
     /// What was named last.
     named: Option<DirEntry<R, Global>>,
@@ -70,7 +68,6 @@ impl<R: Files> SystemDisk<R> {
         ensures openings { self.new.openings ≡ self.old.openings }
         ensures opened { self.new.opened ≡ None }
         ensures written { self.new.written ≡ None }
-        ensures names { self.new.is_kept ≡ self.old.is_kept }
         ensures failures { self.new.failures ≡ self.old.failures }
     {
         self.opened = None;
@@ -156,12 +153,9 @@ impl<R: Files + AllocGlobal + Clone + Drop> Disk for SystemDisk<R> {
 impl<R: Files + AllocGlobal + Clone + Drop> WritableDisk for SystemDisk<R> {
     ghost written = { λ disk. written_state (is_some disk.written) };
 
-    ghost is_kept = { λ disk. disk.is_kept };
-
     fn make_folder(&mut self, path: &str) -> Result<(), DiskFault> {
         let made = self.base.make_folder(&self.rt, path);
         self.failures.of_making(made)?;
-        self.is_kept = false;
         self.close_all();
         Ok(())
     }
@@ -169,7 +163,6 @@ impl<R: Files + AllocGlobal + Clone + Drop> WritableDisk for SystemDisk<R> {
     fn rename(&mut self, from: &str, to: &str) -> Result<(), DiskFault> {
         let renamed = self.base.rename(&self.rt, from, to);
         self.failures.at_known(renamed)?;
-        self.is_kept = false;
         self.close_all();
         Ok(())
     }
@@ -177,7 +170,6 @@ impl<R: Files + AllocGlobal + Clone + Drop> WritableDisk for SystemDisk<R> {
     fn create(&mut self, path: &str) -> Result<(), DiskFault> {
         let file = self.base.create(&self.rt, path);
         let file = self.failures.of_making(file)?;
-        self.is_kept = false;
         self.opened = None;
         self.written = Some(file);
         Ok(())
@@ -205,9 +197,7 @@ impl<R: Files + AllocGlobal + Clone + Drop> WritableDisk for SystemDisk<R> {
 
     fn sync_folder(&mut self, folder: &str) -> Result<(), DiskFault> {
         let synced = self.base.sync(&self.rt, folder);
-        self.failures.at_known(synced)?;
-        self.is_kept = folder.is_empty() || self.is_kept;
-        Ok(())
+        self.failures.at_known(synced)
     }
 }
 
@@ -224,7 +214,6 @@ impl<R: Files + AllocGlobal + Clone + Drop> SystemDisk<R> {
             openings: Items::new(alloc),
             opened: None,
             written: None,
-            is_kept: false,
             entered: None,
             named: None,
             failures: Failures::none(),

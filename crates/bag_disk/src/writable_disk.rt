@@ -1,10 +1,11 @@
 //! The calls of a disk that change what stands on it.
-ghost use Rattle.std.specs.Prelude.{◌≡◌, ◌<◌, ◌≤◌, ◌==◌, ◌||◌, List, ℕ, Bool, false, IfOk, OnOk, OnErr, MatchResult, IsErrOf, IsTrue, Option, None, Some, is_some, length, take};
+ghost use Rattle.std.specs.Prelude.{◌≡◌, ◌<◌, ◌≤◌, List, ℕ, IfOk, OnOk, OnErr, IsErrOf, IsTrue, Option, None, Some, is_some, length, take};
 ghost use Rattle.bag_text.specs.Path.{is_path};
-ghost use Rattle.bag_disk.specs.Disk.{Has, IsFolder, IsReached, OnlyLooks, node};
+ghost use Rattle.bag_disk.specs.Disk.{Has, IsFolder, IsReached, OnlyLooks, OnlySyncs, node};
 ghost use Rattle.bag_disk.specs.Refusal.{IsCountedAs, at_known, of_making};
-ghost use Rattle.bag_disk.specs.WritableDisk.{Appends, Closes, HasFile, MakesFile, MakesFolder, Moves};
+ghost use Rattle.bag_disk.specs.WritableDisk.{Appends, Closes, HasFile, MakesFile, MakesFolder, Moves, Notes};
 ghost use Rattle.bag_tree.specs.Moved.{KeepsOthers};
+ghost use Rattle.bag_tree.specs.declared.event.DeviceEvent.TheVariants.{MakeFolder, Rename, Create, Write, Sync, SyncFolder};
 ghost use Rattle.bag_disk.specs.declared.disk.DiskFault.TheVariants.{Exists, Name, NotFound};
 
 use crate::disk::{Disk, DiskFault};
@@ -13,14 +14,12 @@ use crate::disk::{Disk, DiskFault};
 ///
 /// An honest disk stays honest: what stands there is then what its own calls made of it. A call that is answered closes the
 /// file that is open for reading; one that is refused changes nothing. Of a path that leads through a link nothing is said.
-/// What a call made may be lost where the system stops; `sync` and `sync_folder` alone ask for more. All faults are counted but
-/// `Memory`, and `Exists` where something is to be made.
+/// What a call made may be lost in a power cut, until `sync` and `sync_folder` have made it durable. A device that notes what it
+/// does notes each change, and each sync, as one event. All faults are counted but `Memory`, and `Exists` where something is to
+/// be made.
 pub trait WritableDisk: Disk {
     /// The path of the file that is being written.
     ghost written: { Self → Option (List ℕ) };
-
-    /// Whether the device was asked to keep the names in the base folder as they are.
-    ghost is_kept: { Self → Bool };
 
     /// Makes an empty folder where nothing stands. Then no file is being written.
     fn make_folder(&mut self, path: &str) -> Result<(), DiskFault>
@@ -33,8 +32,9 @@ pub trait WritableDisk: Disk {
             → Has (Self.state self.old).nodes path.now }
         ensures absent { IsErrOf result NotFound → IsTrue (Self.state self.old).honest → IsReached (Self.state self.old).nodes path.now → ⊥ }
         ensures same { OnErr result (OnlyLooks (Self.state self.old) (Self.state self.new)) }
-        ensures unkept { MatchResult result (λ _. is_kept self.new ≡ false) (λ _. is_kept self.new ≡ is_kept self.old) }
         ensures same_file { OnErr result (written self.new ≡ written self.old) }
+        ensures noted { IsTrue (Self.state self.old).noted
+            → OnOk result (Notes (MakeFolder path.now) (Self.state self.old) (Self.state self.new)) }
         ensures failures { IsCountedAs of_making result (Self.state self.old).failures (Self.state self.new).failures };
 
     /// Moves what stands at one path, with all that is below it, to another, without a copy. Then no file is being written.
@@ -57,8 +57,9 @@ pub trait WritableDisk: Disk {
             → IsReached (Self.state self.old).nodes from.now → IsReached (Self.state self.old).nodes to.now
             → node (Self.state self.old).nodes from.now ≡ None }
         ensures same { OnErr result (OnlyLooks (Self.state self.old) (Self.state self.new)) }
-        ensures unkept { MatchResult result (λ _. is_kept self.new ≡ false) (λ _. is_kept self.new ≡ is_kept self.old) }
         ensures same_file { OnErr result (written self.new ≡ written self.old) }
+        ensures noted { IsTrue (Self.state self.old).noted
+            → OnOk result (Notes (Rename from.now to.now) (Self.state self.old) (Self.state self.new)) }
         ensures failures { IsCountedAs at_known result (Self.state self.old).failures (Self.state self.new).failures };
 
     /// Makes an empty file where nothing stands, which is then being written in place of any other.
@@ -73,8 +74,10 @@ pub trait WritableDisk: Disk {
             → Has (Self.state self.old).nodes path.now }
         ensures absent { IsErrOf result NotFound → IsTrue (Self.state self.old).honest → IsReached (Self.state self.old).nodes path.now → ⊥ }
         ensures same { OnErr result (OnlyLooks (Self.state self.old) (Self.state self.new)) }
-        ensures unkept { MatchResult result (λ _. is_kept self.new ≡ false) (λ _. is_kept self.new ≡ is_kept self.old) }
         ensures same_file { OnErr result (written self.new ≡ written self.old) }
+        ensures noted { IsTrue (Self.state self.old).noted
+            → OnOk result (Notes (Create path.now) (Self.state self.old) (Self.state self.new)) }
+        ensures named { IsTrue (Self.state self.old).noted → OnOk result (written self.new ≡ Some path.now) }
         ensures failures { IsCountedAs of_making result (Self.state self.old).failures (Self.state self.new).failures };
 
     /// Puts some first bytes, as many as it answers, behind those of the file that is being written; one at least, where there
@@ -90,15 +93,16 @@ pub trait WritableDisk: Disk {
         ensures unnamed { IsErrOf result Name → IsTrue (Self.state self.old).honest → ⊥ }
         ensures same { OnErr result (OnlyLooks (Self.state self.old) (Self.state self.new)) }
         ensures same_file { written self.new ≡ written self.old }
-        ensures same_names { is_kept self.new ≡ is_kept self.old }
+        ensures noted { IsTrue (Self.state self.old).noted → IfOk result (λ n. (path : List ℕ) → written self.old ≡ Some path
+            → Notes (Write path (take n bytes.now)) (Self.state self.old) (Self.state self.new)) }
         ensures some { IfOk result (λ n. 0 < length bytes.now → 0 < n) }
         ensures failures { IsCountedAs at_known result (Self.state self.old).failures (Self.state self.new).failures };
 
-    /// Has the device keep the file that was written, and ends its writing. What is kept is the system's word: no contract
-    /// says what outlasts a stop of the system. An honest disk refuses it by `Memory` or `Device` alone.
+    /// Syncs the file that was written, so that its bytes are durable, and ends its writing. Its name isn't durable by that. An
+    /// honest disk refuses it by `Memory` or `Device` alone.
     fn sync(&mut self) -> Result<(), DiskFault>
         requires { IsTrue (is_some (written self.old)) }
-        ensures kept { OnOk result ((Self.state self.new).nodes ≡ (Self.state self.old).nodes) }
+        ensures held { OnOk result ((Self.state self.new).nodes ≡ (Self.state self.old).nodes) }
         ensures closed { OnOk result (Closes (Self.state self.old) (Self.state self.new)) }
         ensures ended { OnOk result (written self.new ≡ None) }
         ensures taken { IsErrOf result Exists → IsTrue (Self.state self.old).honest → ⊥ }
@@ -106,16 +110,19 @@ pub trait WritableDisk: Disk {
         ensures unnamed { IsErrOf result Name → IsTrue (Self.state self.old).honest → ⊥ }
         ensures same { OnErr result (OnlyLooks (Self.state self.old) (Self.state self.new)) }
         ensures same_file { OnErr result (written self.new ≡ written self.old) }
-        ensures same_names { is_kept self.new ≡ is_kept self.old }
+        ensures noted { IsTrue (Self.state self.old).noted → OnOk result ((path : List ℕ) → written self.old ≡ Some path
+            → Notes (Sync path) (Self.state self.old) (Self.state self.new)) }
         ensures failures { IsCountedAs at_known result (Self.state self.old).failures (Self.state self.new).failures };
 
-    /// Has the device keep the names of what stands in a folder: without that what was made in it, moved into it or moved
-    /// away may be lost, or be where it was. The empty path is the base folder. What is kept is the system's word here too. An
-    /// honest disk refuses it, where the folder is there, by `Memory` or `Device` alone.
+    /// Syncs a folder, so that the names in it are durable: without that what was made in it or moved into it may be lost, and
+    /// what was moved away may be where it was. The empty path is the base folder. An honest disk refuses it, where the folder is
+    /// there, by `Memory` or `Device` alone.
     fn sync_folder(&mut self, folder: &str) -> Result<(), DiskFault>
-        ensures looks { OnlyLooks (Self.state self.old) (Self.state self.new) }
+        ensures syncs { OnlySyncs (Self.state self.old) (Self.state self.new) }
+        ensures same { OnErr result (OnlyLooks (Self.state self.old) (Self.state self.new)) }
         ensures same_file { written self.new ≡ written self.old }
-        ensures kept { MatchResult result (λ _. is_kept self.new ≡ (length folder.now == 0 || is_kept self.old)) (λ _. is_kept self.new ≡ is_kept self.old) }
+        ensures noted { IsTrue (Self.state self.old).noted
+            → OnOk result (Notes (SyncFolder folder.now) (Self.state self.old) (Self.state self.new)) }
         ensures taken { IsErrOf result Exists → IsTrue (Self.state self.old).honest → ⊥ }
         ensures absent { IsErrOf result NotFound → IsTrue (Self.state self.old).honest → IsFolder (Self.state self.old).nodes folder.now → ⊥ }
         ensures unnamed { IsErrOf result Name → IsTrue (Self.state self.old).honest → ⊥ }
