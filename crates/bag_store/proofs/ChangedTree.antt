@@ -3,6 +3,8 @@ use Rattle.bag_store.proofs.Common.{◌≡◌, ℕ, ◌+◌, ◌≤◌, true, Is
 use Rattle.std.specs.FinMap as map
 use Rattle.bag_tree.specs.declared.answer.Answer.{Answer}
 use Rattle.bag_tree.specs.Steps as step
+use Rattle.bag_disk.specs.Disk.{OnlySyncs, SameDisk}
+use Rattle.bag_store.proofs.AskedOf.{looked}
 use Rattle.bag_store.proofs.EntryCounts.{as_many_moved, more_put}
 use Rattle.bag_store.proofs.BagSteps.{came_from, bag_moved_in, bag_renamed, file_made, folder_made, free_not_taken}
 
@@ -48,19 +50,45 @@ module _ (old new : DiskState) (own own_then given given_then : ℕ) (last last_
   renamed_changed from to disk disk_then from_is to_is calm same closes moves = grind (arith, changed, bag_renamed, stays_plain, nothing_else_moved, as_many_moved)
 
   -- a call that changes nothing that stands there keeps the tree
-  pub tree_keeps : new.nodes ≡ old.nodes → new.honest ≡ old.honest → old.failures + own ≤ new.failures + own_then → Keeps (state_after old own given last) (state_after new own_then given_then last_then)
-  tree_keeps nodes honest grows = grind arith
+  pub tree_keeps : SameDisk old new → old.failures + own ≤ new.failures + own_then → Keeps (state_after old own given last) (state_after new own_then given_then last_then)
+  tree_keeps same grows = record {
+    bag = ap bag_of same.nodes;
+    plain = ap is_plain same.nodes;
+    honest = same.honest;
+    entries = ap entry_count same.nodes;
+    failures = grows;
+    noted = same.noted;
+    trail = same.trail;
+  }
 
   -- a refused step left all
-  pub step_same : OnlyLooks old new → old.failures + own ≤ new.failures + own_then → given_then ≡ given → IsSame (state_after old own given last) (state_after new own_then given_then last_then)
-  step_same looks grows same = grind arith
+  pub step_same : OnlySyncs old new → old.failures + own ≤ new.failures + own_then → given_then ≡ given → IsSame (state_after old own given last) (state_after new own_then given_then last_then)
+  step_same syncs grows same = record {
+    keeps = record {
+      bag = ap bag_of syncs.nodes;
+      plain = ap is_plain syncs.nodes;
+      honest = syncs.honest;
+      entries = ap entry_count syncs.nodes;
+      failures = grows;
+      noted = syncs.noted;
+    };
+    openings = syncs.openings;
+    rest = syncs.rest;
+    given = same;
+  }
 
   -- a refused step left all, or a file of some first bytes
   pub step_begun : (name bytes : List ℕ) → IsDisk old.nodes → IsDisk new.nodes → is_base_name name ≡ true → old.failures + own ≤ new.failures + own_then → given_then ≡ given → OnlyLooks old new ⊎ Begins old new name bytes
       → IsSame (state_after old own given last) (state_after new own_then given_then last_then)
       ⊎ HasBegun name bytes (state_after old own given last) (state_after new own_then given_then last_then)
-  step_begun name bytes disk disk_then is grows same (inl looks) = inl (step_same looks grows same)
+  step_begun name bytes disk disk_then is grows same (inl looks) = inl (step_same (looked old new looks) grows same)
   step_begun name bytes disk disk_then is grows same (inr begins) = grind (arith, file_changed name (take begins.count bytes) disk disk_then grows begins.first, free_not_taken)
+
+pub looked_same : (old new : DiskState) → OnlyLooks old new → SameDisk old new
+looked_same old new looks = record { nodes = looks.nodes; honest = looks.honest; noted = looks.noted; trail = looks.trail }
+
+pub same_on : (old mid new : DiskState) → SameDisk old mid → SameDisk mid new → SameDisk old new
+same_on old mid new one two = record { nodes = two.nodes ∙ one.nodes; honest = two.honest ∙ one.honest; noted = two.noted ∙ one.noted; trail = two.trail ∙ one.trail }
 
 pub kept_count : (before after own own_then : ℕ) → after ≡ before → own_then ≡ own → before + own ≤ after + own_then
 kept_count before after own own_then same own_same = omega (arith, same, own_same)

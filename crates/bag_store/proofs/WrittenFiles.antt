@@ -31,6 +31,7 @@ nothing_written old written = record {
   honest = refl;
   openings = refl;
   rest = λ closed. closed;
+  noted = refl;
   nodes = λ _ path _ has. let there = file_there (node old.nodes path) has in record { content = there.0; was = there.1; appended = grind (arith, append-nil there.0, put_same old.nodes path (File there.0) there.1) };
 }
 
@@ -48,6 +49,7 @@ written_more old mid new written now first next all joined same before more clos
   honest = closes.honest ∙ before.honest;
   openings = closes.openings ∙ before.openings;
   rest = λ _. closes.rest;
+  noted = closes.noted ∙ before.noted;
   nodes = λ honest path is has. grind (arith, before.nodes honest path is has, appended_again old.nodes mid.nodes new.nodes path first next all joined, file_after old.nodes mid.nodes path first);
 }
 

@@ -8,10 +8,11 @@ use Rattle.bag_tree.specs.declared.tree_fault.TreeFault.TheVariants.{Device, Spe
 use Rattle.bag_store.specs.declared.file_tree.FileTree.{FileTree}
 use Rattle.bag_disk.specs.Disk.{DiskState, entry_count, is_plain}
 use Rattle.bag_disk.specs.DiskBag.{bag_of}
+use Rattle.bag_disk.specs.declared.disk.Disk as Disk
 use Rattle.bag_disk.specs.Refusal.{MeetsSpecial, MeetsUnnamed}
 
 -- the disk of a tree
-abbrev pub disk_of : {D : Type 0} → FileTree D → D
+abbrev pub disk_of : {D : Type 0} {disk : Disk.Ghosts D} → FileTree D disk → D
 disk_of tree = tree.disk
 
 -- what a tree of the files on a disk means, with this number of failures beside those of the device, which the disk counts, where
@@ -27,6 +28,8 @@ state_after disk own given last = record {
   rest = disk.rest;
   given = given;
   last = last;
+  trail = disk.trail;
+  noted = disk.noted;
 }
 
 -- what a tree of the files on a disk means at which it hasn't looked yet, with this number of failures beside those of the device
@@ -34,7 +37,7 @@ abbrev pub tree_state : DiskState → ℕ → TreeState
 tree_state disk own = state_after disk own 0 Given
 
 -- what a tree means whose disk means this
-abbrev pub state_of : {D : Type 0} → (D → DiskState) → FileTree D → TreeState
+abbrev pub state_of : {D : Type 0} {disk : Disk.Ghosts D} → (D → DiskState) → FileTree D disk → TreeState
 state_of state tree = state_after (state tree.disk) tree.answered.failures tree.answered.given tree.answered.last
 
 -- the device of a disk refused

@@ -13,9 +13,11 @@ pub use Rattle.bag_memory.specs.Refusals
 pub use Rattle.bag_memory.specs.SkewTree
 pub use Rattle.bag_memory.specs.Skewed
 pub use Rattle.bag_memory.specs.TreeCalls
+pub use Rattle.bag_tree.specs.Asked
 pub use Rattle.bag_tree.specs.Bag
 pub use Rattle.bag_tree.specs.Cause
 pub use Rattle.bag_tree.specs.Changes
+pub use Rattle.bag_tree.specs.Cut
 pub use Rattle.bag_tree.specs.Digest
 pub use Rattle.bag_tree.specs.FileSums
 pub use Rattle.bag_tree.specs.Digests
@@ -29,6 +31,7 @@ pub use Rattle.bag_tree.specs.Sums
 pub use Rattle.bag_tree.specs.Tree
 pub use Rattle.bag_tree.specs.Whole
 pub mod Answered
+pub mod Asking
 pub mod Changing
 pub mod FileTree
 pub mod Standing

@@ -8,6 +8,7 @@ pub record HasWritten (old new : DiskState) (written : Option (List ℕ)) (bytes
   pub honest : new.honest ≡ old.honest
   pub openings : new.openings ≡ old.openings
   pub rest : old.rest ≡ None → new.rest ≡ None
+  pub noted : new.noted ≡ old.noted
   pub nodes : IsTrue old.honest → (path : List ℕ) → written ≡ Some path → HasFile old.nodes path
       → Appends old.nodes new.nodes path bytes
 

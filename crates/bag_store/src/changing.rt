@@ -1,31 +1,35 @@
 //! The steps that change what stands below a base folder.
-ghost use Rattle.std.specs.Prelude.{◌≡◌, ◌≢◌, IfErr, IsTrue, None, OnErr, OnOk, ℕ};
+ghost use Rattle.std.specs.Prelude.{◌≡◌, ◌≢◌, IfErr, IsTrue, None, OnErr, OnOk, true, ℕ};
 ghost use Rattle.bag_text.specs.Path.{is_base_name, under};
+ghost use Rattle.bag_tree.specs.Asked.{AsksFolder, AsksMove, AsksRename, AsksSyncs};
 ghost use Rattle.bag_tree.specs.Steps.{lacks_folder, lacks_source};
-ghost use Rattle.bag_disk.specs.Disk.{Has, OnlyLooks};
-ghost use Rattle.bag_disk.specs.WritableDisk.{Closes, MakesFolder, Moves};
+ghost use Rattle.bag_tree.specs.declared.event.DeviceEvent.TheVariants.{Rename};
+ghost use Rattle.bag_disk.specs.Disk.{Has, OnlyLooks, OnlySyncs};
+ghost use Rattle.bag_disk.specs.WritableDisk.{Closes, MakesFolder, Moves, Notes};
+ghost use Rattle.bag_store.specs.Asking.{HasAsked, HasDurableFolders};
 ghost use Rattle.bag_store.specs.Changing.{HasFolderInTheWay, HasTarget, IsRenamed, IsMovedIn, IsNameTaken, LacksFolder, LacksSource};
 ghost use Rattle.bag_disk.specs.Refusal.{IsCounted, IsDueInMove, IsDueInStep, MeetsSpecial, failures_after, of_making};
 ghost use Rattle.bag_disk.specs.declared.disk.DiskFault.TheVariants.{Exists};
 
-use crate::keeping::{BASE, keep_names, keep_with_base};
 use crate::standing::{Standing, check_free, check_taken, standing_at};
+use crate::syncing::{BASE, sync_folder_names, sync_names, sync_with_base};
 use crate::target::folder_in_the_way;
 use bag_disk::{Disk, DiskFault, Refusal, WritableDisk, check_is_folder, path_in};
 use std::alloc::Global;
 
-/// Makes a folder in the base folder, where nothing has its name. First the device is asked to keep the names there, so that
-/// one that can't is known before anything is changed.
+/// Makes a folder in the base folder, where nothing has its name. First the base folder is synced, so that a device that can't is
+/// known before anything is changed.
 pub(crate) fn make_folder<D: WritableDisk>(disk: &mut D, name: &str) -> Result<(), Refusal>
     requires { IsTrue (is_base_name name.now) }
     ensures made { OnOk result (IsTrue (D.state disk.old).honest
         → MakesFolder (D.state disk.old).nodes (D.state disk.new).nodes name.now) }
     ensures closed { OnOk result (Closes (D.state disk.old) (D.state disk.new)) }
-    ensures same { OnErr result (OnlyLooks (D.state disk.old) (D.state disk.new)) }
+    ensures same { OnErr result (OnlySyncs (D.state disk.old) (D.state disk.new)) }
+    ensures asked { HasAsked (AsksFolder name.now) AsksSyncs (D.state disk.old) (D.state disk.new) result }
     ensures refused { IfErr result (IsDueInStep (MeetsSpecial (D.state disk.old)) ⊥ (IsNameTaken (D.state disk.old) name.now)) }
     ensures failures { IsCounted result (D.state disk.old) (D.state disk.new) }
 {
-    match keep_names(disk, BASE) {
+    match sync_names(disk, BASE) {
         Ok(()) => {}
         Err(refusal) => return Err(refusal),
     }
@@ -54,8 +58,34 @@ pub(crate) fn not_made<D: Disk>(disk: &mut D, name: &str, fault: DiskFault) -> R
     }
 }
 
-/// Moves what has a name in the base folder into a folder of it, where nothing has this name.
+/// Moves what has a name in the base folder into a folder of it, where nothing has this name. Before that the base folder is
+/// synced, but where the names of its folders are known to be durable: in a folder whose own name is lost, what was moved is lost.
 pub(crate) fn move_in<D: WritableDisk>(
+    disk: &mut D,
+    alloc: Global,
+    is_synced: bool,
+    top: &str,
+    folder: &str,
+) -> Result<(), Refusal>
+    requires synced { is_synced ≡ true → HasDurableFolders (D.state disk.old) }
+    requires top { IsTrue (is_base_name top.now) }
+    requires folder { IsTrue (is_base_name folder.now) }
+    ensures moved { OnOk result (IsMovedIn (D.state disk.old) (D.state disk.new) top.now folder.now) }
+    ensures closed { OnOk result (Closes (D.state disk.old) (D.state disk.new)) }
+    ensures same { OnErr result (OnlySyncs (D.state disk.old) (D.state disk.new)) }
+    ensures asked { HasAsked (AsksMove top.now folder.now) AsksSyncs (D.state disk.old) (D.state disk.new) result }
+    ensures refused { IfErr result (IsDueInMove (MeetsSpecial (D.state disk.old)) (LacksSource (D.state disk.old) top.now folder.now)
+        (HasTarget (D.state disk.old) top.now folder.now) (HasFolderInTheWay (D.state disk.old) top.now folder.now)) }
+    ensures failures { IsCounted result (D.state disk.old) (D.state disk.new) }
+{
+    match sync_folder_names(disk, is_synced) {
+        Ok(()) => move_below(disk, alloc, top, folder),
+        Err(refusal) => Err(refusal),
+    }
+}
+
+/// Moves what has a name in the base folder into a folder of it, by a rename after its looks.
+fn move_below<D: WritableDisk>(
     disk: &mut D,
     alloc: Global,
     top: &str,
@@ -66,6 +96,8 @@ pub(crate) fn move_in<D: WritableDisk>(
     ensures moved { OnOk result (IsMovedIn (D.state disk.old) (D.state disk.new) top.now folder.now) }
     ensures closed { OnOk result (Closes (D.state disk.old) (D.state disk.new)) }
     ensures same { OnErr result (OnlyLooks (D.state disk.old) (D.state disk.new)) }
+    ensures noted { IsTrue (D.state disk.old).noted
+        → OnOk result (Notes (Rename top.now (under folder.now top.now)) (D.state disk.old) (D.state disk.new)) }
     ensures refused { IfErr result (IsDueInMove (MeetsSpecial (D.state disk.old)) (LacksSource (D.state disk.old) top.now folder.now)
         (HasTarget (D.state disk.old) top.now folder.now) (HasFolderInTheWay (D.state disk.old) top.now folder.now)) }
     ensures failures { IsCounted result (D.state disk.old) (D.state disk.new) }
@@ -91,8 +123,8 @@ pub(crate) fn move_in<D: WritableDisk>(
     }
 }
 
-/// Gives a folder of the base folder another name, where nothing has it. Before that the device is asked to keep the names in
-/// both folders, which may take a while: only then it is looked whether the name is free.
+/// Gives a folder of the base folder another name, where nothing has it. Before that both folders are synced, which may take a
+/// while: only then it is looked whether the name is free.
 pub(crate) fn rename_folder<D: WritableDisk>(
     disk: &mut D,
     from: &str,
@@ -102,7 +134,8 @@ pub(crate) fn rename_folder<D: WritableDisk>(
     requires to { IsTrue (is_base_name to.now) }
     ensures renamed { OnOk result (IsRenamed (D.state disk.old) (D.state disk.new) from.now to.now) }
     ensures closed { OnOk result (Closes (D.state disk.old) (D.state disk.new)) }
-    ensures same { OnErr result (OnlyLooks (D.state disk.old) (D.state disk.new)) }
+    ensures same { OnErr result (OnlySyncs (D.state disk.old) (D.state disk.new)) }
+    ensures asked { HasAsked (AsksRename from.now to.now) AsksSyncs (D.state disk.old) (D.state disk.new) result }
     ensures refused { IfErr result (IsDueInStep (MeetsSpecial (D.state disk.old))
         (LacksFolder (D.state disk.old) from.now) (IsNameTaken (D.state disk.old) to.now)) }
     ensures failures { IsCounted result (D.state disk.old) (D.state disk.new) }
@@ -111,7 +144,7 @@ pub(crate) fn rename_folder<D: WritableDisk>(
         Ok(()) => {}
         Err(refusal) => return Err(refusal),
     }
-    match keep_with_base(disk, from) {
+    match sync_with_base(disk, from) {
         Ok(()) => {}
         Err(refusal) => return Err(refusal),
     }

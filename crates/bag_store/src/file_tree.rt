@@ -1,8 +1,6 @@
 //! A tree of the files on a disk.
-ghost use Rattle.std.specs.Prelude.{◌≡◌, [], IfOk, false};
-ghost use Rattle.bag_disk.specs.SystemDisk.{base_of, system_state};
-ghost use Rattle.bag_store.specs.FileTree.{disk_of, tree_state};
-ghost use Rattle.bag_disk.specs.BagBelow.{bag_of_disk};
+ghost use Rattle.std.specs.Prelude.{◌≡◌, true};
+ghost use Rattle.bag_store.specs.Asking.{HasDurableFolders};
 
 use crate::answered::Answered;
 use crate::{changing, writing};
@@ -21,18 +19,24 @@ use std::rt::Files;
 /// bytes of the open file might not be counted in 64 bits is `Memory`.
 ///
 /// A step that changes it is one call of the disk: a folder is made, or something is renamed, never copied. It looks
-/// first, and replaces nothing that stood there then. Before `make_folder` and `rename_folder` make their change they have
-/// the device keep the names that are there, the latter also those in the folder that it renames: where the device refuses that,
-/// they are refused, and nothing is changed. What a disk calls a wrong name, as one that is too long, is `Device` too. A refused
-/// `create` may leave a file of some first bytes, which stays open until the next step or until the tree is dropped.
+/// first, and replaces nothing that stood there then. Before `make_folder` and `rename_folder` make their change they sync the
+/// base folder, the latter also the folder that it renames, and so does the first `move_in` after one of them: where the device
+/// refuses that, they are refused, and nothing is changed. What a disk calls a wrong name, as one that is too long, is `Device`
+/// too. A refused `create` may leave a file of some first bytes, which stays open until the next step or until the tree is
+/// dropped.
 #[derive(Drop)]
-pub struct FileTree<D> {
+pub struct FileTree<D: Disk> {
     alloc: Global,
     disk: D,
     answered: Answered,
+    /// The names that folders were given in the base folder are durable.
+    is_synced: bool,
+    ghost durable: { is_synced ≡ true → HasDurableFolders (D.state disk) },
 }
 
 impl<D: Disk + Drop> FileTree<D> {
+    ghost use Rattle.bag_store.specs.FileTree.{disk_of, tree_state};
+
     /// The tree over a disk, at which it doesn't look yet.
     pub fn over(alloc: Global, disk: D) -> FileTree<D>
         ensures disk { disk_of result ≡ disk }
@@ -42,15 +46,24 @@ impl<D: Disk + Drop> FileTree<D> {
             alloc,
             disk,
             answered: Answered::nothing(),
+            is_synced: false,
         }
+    }
+
+    /// The disk that the tree stands over.
+    pub fn disk(&self) -> &D
+        ensures { result.now ≡ disk_of self.now }
+    {
+        &self.disk
     }
 }
 
 impl<D: Disk + Drop> Tree for FileTree<D> {
     ghost use Rattle.std.specs.Prelude.{◌<◌, IfErr, length};
+    ghost use Rattle.bag_disk.specs.BagBelow.{bag_of_disk};
     ghost use Rattle.bag_disk.specs.FolderWalk.{Contradiction};
     ghost use Rattle.bag_memory.specs.TreeCalls.{ListCall, OpenCall, ReadCall};
-    ghost use Rattle.bag_store.specs.FileTree.{TellsOfDisk, state_of};
+    ghost use Rattle.bag_store.specs.FileTree.{TellsOfDisk, disk_of, state_of};
 
     ghost state = { state_of D.state };
 
@@ -106,11 +119,11 @@ impl<D: Disk + Drop> Tree for FileTree<D> {
 }
 
 impl<D: WritableDisk + Drop> WriteTree for FileTree<D> {
-    ghost use Rattle.std.specs.Prelude.{◌≢◌, IsTrue, IfErr, None, OnOk};
+    ghost use Rattle.std.specs.Prelude.{◌≢◌, IsTrue, IfErr};
     ghost use Rattle.bag_text.specs.Path.{is_base_name};
     ghost use Rattle.bag_tree.specs.Changes.{Creates, MakesFolder, MovesIn, RenamesFolder};
     ghost use Rattle.bag_store.specs.Changing.{HasFolderInTheWay};
-    ghost use Rattle.bag_store.specs.FileTree.{TellsOfDisk, state_of};
+    ghost use Rattle.bag_store.specs.FileTree.{TellsOfDisk, disk_of, state_of};
 
     fn make_folder(&mut self, name: &str) -> Result<(), TreeFault>
         requires { IsTrue (is_base_name name.now) }
@@ -118,6 +131,7 @@ impl<D: WritableDisk + Drop> WriteTree for FileTree<D> {
         ensures cause { IfErr result (
             TellsOfDisk ⊥ (D.state (disk_of self.old)) (D.state (disk_of self.new))) }
     {
+        self.is_synced = false;
         match changing::make_folder(&mut self.disk, name) {
             Ok(()) => {
                 self.answered.give();
@@ -137,8 +151,9 @@ impl<D: WritableDisk + Drop> WriteTree for FileTree<D> {
             (HasFolderInTheWay (D.state (disk_of self.old)) top.now folder.now)
             (D.state (disk_of self.old)) (D.state (disk_of self.new))) }
     {
-        match changing::move_in(&mut self.disk, self.alloc, top, folder) {
+        match changing::move_in(&mut self.disk, self.alloc, self.is_synced, top, folder) {
             Ok(()) => {
+                self.is_synced = true;
                 self.answered.give();
                 Ok(())
             }
@@ -154,6 +169,7 @@ impl<D: WritableDisk + Drop> WriteTree for FileTree<D> {
         ensures cause { IfErr result (
             TellsOfDisk ⊥ (D.state (disk_of self.old)) (D.state (disk_of self.new))) }
     {
+        self.is_synced = false;
         match changing::rename_folder(&mut self.disk, from, to) {
             Ok(()) => {
                 self.answered.give();
@@ -163,16 +179,13 @@ impl<D: WritableDisk + Drop> WriteTree for FileTree<D> {
         }
     }
 
-    /// Makes a file in the base folder. After Ok no file is being written: the device was asked to keep all of it, and all
-    /// names in the base folder.
+    /// Makes a file in the base folder. It was synced when this answers Ok, and so was the base folder.
     fn create(&mut self, name: &str, bytes: &[u8]) -> Result<(), TreeFault>
         requires { IsTrue (is_base_name name.now) }
         ensures creates { Creates name.now bytes.now
             (state_of D.state self.old) (state_of D.state self.new) result }
         ensures cause { IfErr result (
             TellsOfDisk ⊥ (D.state (disk_of self.old)) (D.state (disk_of self.new))) }
-        ensures kept { OnOk result (D.written (disk_of self.new) ≡ None) }
-        ensures names_kept { OnOk result (IsTrue (D.is_kept (disk_of self.new))) }
     {
         match writing::create(&mut self.disk, name, bytes) {
             Ok(()) => {
@@ -185,6 +198,10 @@ impl<D: WritableDisk + Drop> WriteTree for FileTree<D> {
 }
 
 impl<R: Files + AllocGlobal + Clone + Drop> FileTree<SystemDisk<R>> {
+    ghost use Rattle.std.specs.Prelude.{[], IfOk, false};
+    ghost use Rattle.bag_disk.specs.SystemDisk.{base_of, system_state};
+    ghost use Rattle.bag_store.specs.FileTree.{disk_of, tree_state};
+
     /// The tree below a base folder of the system's disk, at which it doesn't look yet.
     pub fn at(rt: R, alloc: Global, base: &str) -> Result<FileTree<SystemDisk<R>>, AllocError>
         ensures base { IfOk result (λ tree. base_of (disk_of tree) ≡ base.now) }

@@ -20,16 +20,16 @@
 mod answered;
 mod changing;
 mod file_tree;
-mod keeping;
 pub mod laws;
 mod standing;
+mod syncing;
 mod target;
 mod writing;
 
 pub use bag_disk::{Disk, DiskFault, Entry, SystemDisk, WritableDisk};
 pub use bag_memory::{FailTree, MemoryTree, SkewTree};
 pub use bag_tree::{
-    Answer, Digests, FileEntry, HexFault, Listing, Out, Refused, Stop, Sums, Tree, TreeFault,
-    WriteTree, WriterOut, digest_file, read_whole,
+    Answer, DeviceEvent, Digests, FileEntry, HexFault, Listing, Out, Refused, Stop, Sums, Tree,
+    TreeFault, WriteTree, WriterOut, digest_file, read_whole,
 };
 pub use file_tree::FileTree;

@@ -1,23 +1,24 @@
 //! Files that are made in the base folder.
-ghost use Rattle.std.specs.Prelude.{◌≡◌, ◌⊎◌, IfErr, IsTrue, None, OnErr, OnOk, is_some};
+ghost use Rattle.std.specs.Prelude.{◌≡◌, ◌⊎◌, IfErr, IsTrue, OnErr, OnOk, is_some};
 ghost use Rattle.bag_text.specs.Path.{is_base_name};
+ghost use Rattle.bag_tree.specs.Asked.{AsksFile, MayBegin};
+ghost use Rattle.bag_store.specs.Asking.{FillsFile, FillsPart, HasAsked, HasFilled, WritesPieces};
 ghost use Rattle.bag_disk.specs.Disk.{OnlyLooks};
 ghost use Rattle.bag_store.specs.Changing.{IsNameTaken};
 ghost use Rattle.bag_disk.specs.Refusal.{IsCounted, IsDueInStep, MeetsSpecial};
 ghost use Rattle.bag_store.specs.Writing.{Begins, HasWritten, HasWrittenSome, Makes};
 
 use crate::changing::not_made;
-use crate::keeping::{BASE, keep_names};
+use crate::syncing::{BASE, sync_names};
 use bag_disk::{Disk, Refusal, WritableDisk};
 
-/// Makes a file in the base folder, where nothing has its name, and has the device keep it and all names in the base folder.
+/// Makes a file in the base folder, where nothing has its name, and syncs it and the base folder.
 pub(crate) fn create<D: WritableDisk>(disk: &mut D, name: &str, bytes: &[u8]) -> Result<(), Refusal>
     requires { IsTrue (is_base_name name.now) }
     ensures made { OnOk result (Makes (D.state disk.old) (D.state disk.new) name.now bytes.now) }
-    ensures kept { OnOk result (D.written disk.new ≡ None) }
-    ensures names_kept { OnOk result (IsTrue (D.is_kept disk.new)) }
     ensures begun { OnErr result (OnlyLooks (D.state disk.old) (D.state disk.new)
         ⊎ Begins (D.state disk.old) (D.state disk.new) name.now bytes.now) }
+    ensures asked { HasAsked (AsksFile name.now bytes.now) (MayBegin name.now) (D.state disk.old) (D.state disk.new) result }
     ensures refused { IfErr result (IsDueInStep (MeetsSpecial (D.state disk.old)) ⊥ (IsNameTaken (D.state disk.old) name.now)) }
     ensures failures { IsCounted result (D.state disk.old) (D.state disk.new) }
 {
@@ -27,13 +28,13 @@ pub(crate) fn create<D: WritableDisk>(disk: &mut D, name: &str, bytes: &[u8]) ->
     }
 }
 
-/// Writes the bytes of the file that is being written, and has the device keep it and all names in the base folder.
+/// Writes the bytes of the file that is being written, and syncs it and the base folder.
 fn fill<D: WritableDisk>(disk: &mut D, bytes: &[u8]) -> Result<(), Refusal>
     requires { IsTrue (is_some (D.written disk.old)) }
     ensures whole { OnOk result (HasWritten (D.state disk.old) (D.state disk.new) (D.written disk.old) bytes.now) }
-    ensures kept { OnOk result (D.written disk.new ≡ None) }
-    ensures names_kept { OnOk result (IsTrue (D.is_kept disk.new)) }
     ensures part { OnErr result (HasWrittenSome (D.state disk.old) (D.state disk.new) (D.written disk.old) bytes.now) }
+    ensures asked { HasFilled (λ path. FillsFile path bytes.now) FillsPart
+        (D.written disk.old) (D.state disk.old) (D.state disk.new) result }
     ensures refused { IfErr result (IsDueInStep ⊥ ⊥ ⊥) }
     ensures failures { IsCounted result (D.state disk.old) (D.state disk.new) }
 {
@@ -42,7 +43,7 @@ fn fill<D: WritableDisk>(disk: &mut D, bytes: &[u8]) -> Result<(), Refusal>
         Err(refusal) => return Err(refusal),
     }
     match disk.sync() {
-        Ok(()) => keep_names(disk, BASE),
+        Ok(()) => sync_names(disk, BASE),
         Err(fault) => Err(Refusal::at_known(fault)),
     }
 }
@@ -53,6 +54,8 @@ fn write_all<D: WritableDisk>(disk: &mut D, bytes: &[u8]) -> Result<(), Refusal>
     ensures whole { OnOk result (HasWritten (D.state disk.old) (D.state disk.new) (D.written disk.old) bytes.now) }
     ensures same_file { D.written disk.new ≡ D.written disk.old }
     ensures part { OnErr result (HasWrittenSome (D.state disk.old) (D.state disk.new) (D.written disk.old) bytes.now) }
+    ensures asked { HasFilled (λ path. WritesPieces path bytes.now) FillsPart
+        (D.written disk.old) (D.state disk.old) (D.state disk.new) result }
     ensures refused { IfErr result (IsDueInStep ⊥ ⊥ ⊥) }
     ensures failures { IsCounted result (D.state disk.old) (D.state disk.new) }
 {

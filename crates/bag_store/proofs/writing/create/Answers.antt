@@ -1,5 +1,6 @@
 use Rattle.bag_store.proofs.Common.{arith, inl, inr, on_err_weaker, on_ok_weaker, looks_on, had_before, counted_since, step_due_for}
 use Rattle.bag_store.proofs.BaseNames.{base_reached}
+use Rattle.bag_store.proofs.FilledFiles.{file_asked, not_begun}
 use Rattle.bag_store.proofs.WrittenFiles.{begun_of, made_of}
 use Rattle.bag_store.proofs.writing.create.Goals as goal
 
@@ -27,3 +28,12 @@ returns-in-Err-clause-refused g c = grind (arith, step_due_for, had_before)
 
 pub returns-in-Err-clause-failures : goal.returns-in-Err-clause-failures
 returns-in-Err-clause-failures g c = c.not_made.ensures.failures (g.D.Disk.state c.args.disk.now).failures c.in-Err.ensures.failures
+
+pub returns-in-Ok-clause-asked : goal.returns-in-Ok-clause-asked
+returns-in-Ok-clause-asked g c =
+    file_asked c.args.name.now c.args.bytes.now (g.D.Disk.state c.args.disk.now) (g.D.Disk.state c.create.new.self) (g.D.Disk.state c.fill.new.disk) c.fill.result
+    c.in-Ok.ensures.closed.noted c.in-Ok.ensures.noted (λ noted. c.fill.ensures.asked c.args.name.now (c.in-Ok.ensures.named noted))
+
+pub returns-in-Err-clause-asked : goal.returns-in-Err-clause-asked
+returns-in-Err-clause-asked g c =
+    not_begun c.args.name.now (g.D.Disk.state c.args.disk.now) (g.D.Disk.state c.create.new.self) (g.D.Disk.state c.not_made.new.disk) c.in-Err.ensures.same c.not_made.ensures.looks

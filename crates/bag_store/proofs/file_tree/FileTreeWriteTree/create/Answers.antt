@@ -1,6 +1,7 @@
 use Rattle.bag_store.proofs.Common.{arith, due_in_move}
 use Rattle.bag_store.proofs.BagSteps.{not_taken}
 use Rattle.bag_store.proofs.ChangedTree.{count_grows, file_changed, kept_count, step_begun}
+use Rattle.bag_store.proofs.Durable.{file_durable, left_noted, part_durable}
 use Rattle.bag_store.proofs.RefusedCalls.{move_answered_so, tells_move}
 use Rattle.bag_store.proofs.file_tree.FileTreeWriteTree.create.Goals as goal
 
@@ -14,6 +15,7 @@ returns-in-Ok-clause-creates g c = record {
   last = grind arith;
   leaves = tt;
   refused = tt;
+  asked = c.in-Ok.ensures.asked;
 }
 
 pub returns-in-Err-clause-creates : goal.returns-in-Err-clause-creates
@@ -28,9 +30,22 @@ returns-in-Err-clause-creates g c = record {
   refused =
       move_answered_so (g.D.Disk.state c.args.self.now.disk) (g.D.Disk.state c.create.new.disk) _ _ c.in-Err.refusal _ _ _ ⊥ ⊥
       c.in-Err.ensures.failures c.refuse.ensures.failures c.refuse.ensures.fault (λ never. absurd never) (due_in_move _ _ _ _ c.in-Err.refusal c.in-Err.ensures.refused);
+  asked = c.in-Err.ensures.asked;
 }
 
 pub returns-in-Err-clause-cause : goal.returns-in-Err-clause-cause
 returns-in-Err-clause-cause g c =
     tells_move (g.D.Disk.state c.args.self.now.disk) (g.D.Disk.state c.create.new.disk) c.args.self.now.answered.failures c.in-Err.refusal _ _ _ ⊥
     c.refuse.ensures.fault c.in-Err.ensures.failures (due_in_move _ _ _ _ c.in-Err.refusal c.in-Err.ensures.refused)
+
+pub invariant_of-self : goal.invariant_of-self
+invariant_of-self g c = record {
+  durable = λ is. file_durable (g.D.Disk.state c.args.self.now.disk) (g.D.Disk.state c.create.new.disk) c.in-Ok.ensures.made.closed.noted c.args.name.now c.args.bytes.now
+      (c.args.self.now.durable is) c.in-Ok.ensures.asked;
+}
+
+pub invariant_of-self-in-Err : goal.invariant_of-self-in-Err
+invariant_of-self-in-Err g c =
+    let old = g.D.Disk.state c.args.self.now.disk in
+    let new = g.D.Disk.state c.create.new.disk in
+    record { durable = λ is. part_durable old new (left_noted old new c.args.name.now c.args.bytes.now c.in-Err.ensures.begun) c.args.name.now (c.args.self.now.durable is) c.in-Err.ensures.asked }

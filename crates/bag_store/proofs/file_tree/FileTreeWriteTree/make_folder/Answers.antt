@@ -14,6 +14,7 @@ returns-in-Ok-clause-makes g c = record {
   last = grind arith;
   leaves = tt;
   refused = tt;
+  asked = c.in-Ok.ensures.asked;
 }
 
 pub returns-in-Err-clause-makes : goal.returns-in-Err-clause-makes
@@ -27,6 +28,7 @@ returns-in-Err-clause-makes g c = record {
   refused =
       move_answered_so (g.D.Disk.state c.args.self.now.disk) (g.D.Disk.state c.make_folder.new.disk) _ _ c.in-Err.refusal _ _ _ ⊥ ⊥
       c.in-Err.ensures.failures c.refuse.ensures.failures c.refuse.ensures.fault (λ never. absurd never) (due_in_move _ _ _ _ c.in-Err.refusal c.in-Err.ensures.refused);
+  asked = c.in-Err.ensures.asked;
 }
 
 pub returns-in-Err-clause-cause : goal.returns-in-Err-clause-cause

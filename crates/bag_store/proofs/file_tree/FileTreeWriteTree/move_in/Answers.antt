@@ -1,6 +1,7 @@
 use Rattle.bag_store.proofs.Common.{arith}
 use Rattle.bag_store.proofs.BagSteps.{free_not_within, has_both}
 use Rattle.bag_store.proofs.ChangedTree.{count_grows, moved_changed, step_same}
+use Rattle.bag_store.proofs.Durable.{moved_durable, synced_durable}
 use Rattle.bag_store.proofs.RefusedCalls.{move_answered_so, tells_move}
 use Rattle.bag_store.proofs.file_tree.FileTreeWriteTree.move_in.Goals as goal
 
@@ -16,6 +17,7 @@ returns-in-Ok-clause-moves g c = record {
   last = grind arith;
   leaves = tt;
   refused = tt;
+  asked = c.in-Ok.ensures.asked;
 }
 
 pub returns-in-Err-clause-moves : goal.returns-in-Err-clause-moves
@@ -29,9 +31,20 @@ returns-in-Err-clause-moves g c = record {
   refused =
       move_answered_so (g.D.Disk.state c.args.self.now.disk) (g.D.Disk.state c.move_in.new.disk) _ _ c.in-Err.refusal _ _ _ _ _
       c.in-Err.ensures.failures c.refuse.ensures.failures c.refuse.ensures.fault (λ none. none) c.in-Err.ensures.refused;
+  asked = c.in-Err.ensures.asked;
 }
 
 pub returns-in-Err-clause-cause : goal.returns-in-Err-clause-cause
 returns-in-Err-clause-cause g c =
     tells_move (g.D.Disk.state c.args.self.now.disk) (g.D.Disk.state c.move_in.new.disk) c.args.self.now.answered.failures c.in-Err.refusal _ _ _ _
     c.refuse.ensures.fault c.in-Err.ensures.failures c.in-Err.ensures.refused
+
+pub invariant_of-self : goal.invariant_of-self
+invariant_of-self g c = record {
+  durable = λ _. moved_durable (g.D.Disk.state c.args.self.now.disk) (g.D.Disk.state c.move_in.new.disk) c.in-Ok.ensures.closed.noted c.args.top.now c.args.folder.now c.in-Ok.ensures.asked;
+}
+
+pub invariant_of-self-in-Err : goal.invariant_of-self-in-Err
+invariant_of-self-in-Err g c = record {
+  durable = λ is. synced_durable (g.D.Disk.state c.args.self.now.disk) (g.D.Disk.state c.move_in.new.disk) c.in-Err.ensures.same.noted (c.args.self.now.durable is) c.in-Err.ensures.asked;
+}

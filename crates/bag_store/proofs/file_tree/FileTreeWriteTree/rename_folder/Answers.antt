@@ -16,6 +16,7 @@ returns-in-Ok-clause-renames g c = record {
   last = grind arith;
   leaves = tt;
   refused = tt;
+  asked = c.in-Ok.ensures.asked;
 }
 
 pub returns-in-Err-clause-renames : goal.returns-in-Err-clause-renames
@@ -29,6 +30,7 @@ returns-in-Err-clause-renames g c = record {
   refused =
       move_answered_so (g.D.Disk.state c.args.self.now.disk) (g.D.Disk.state c.rename_folder.new.disk) _ _ c.in-Err.refusal _ _ _ _ ⊥
       c.in-Err.ensures.failures c.refuse.ensures.failures c.refuse.ensures.fault (λ none. none) (due_in_move _ _ _ _ c.in-Err.refusal c.in-Err.ensures.refused);
+  asked = c.in-Err.ensures.asked;
 }
 
 pub returns-in-Err-clause-cause : goal.returns-in-Err-clause-cause

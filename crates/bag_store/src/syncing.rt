@@ -1,0 +1,60 @@
+//! Folders that are synced.
+ghost use Rattle.std.specs.Prelude.{◌≡◌, IfErr, IsTrue, OnErr, OnOk, true};
+ghost use Rattle.bag_tree.specs.Asked.{AsksSyncs};
+ghost use Rattle.bag_tree.specs.declared.event.DeviceEvent.TheVariants.{SyncFolder};
+ghost use Rattle.bag_disk.specs.Disk.{OnlyLooks, OnlySyncs};
+ghost use Rattle.bag_disk.specs.Refusal.{IsCounted, IsDueInStep};
+ghost use Rattle.bag_disk.specs.WritableDisk.{Notes};
+ghost use Rattle.bag_store.specs.Asking.{HasAsked, HasDurableFolders, SyncsBoth};
+
+use bag_disk::{Refusal, WritableDisk};
+
+/// The path of the base folder.
+pub(crate) const BASE: &str = "";
+
+/// Syncs a folder, so that the names in it are durable.
+pub(crate) fn sync_names<D: WritableDisk>(disk: &mut D, folder: &str) -> Result<(), Refusal>
+    ensures syncs { OnlySyncs (D.state disk.old) (D.state disk.new) }
+    ensures same { OnErr result (OnlyLooks (D.state disk.old) (D.state disk.new)) }
+    ensures same_file { D.written disk.new ≡ D.written disk.old }
+    ensures noted { IsTrue (D.state disk.old).noted
+        → OnOk result (Notes (SyncFolder folder.now) (D.state disk.old) (D.state disk.new)) }
+    ensures refused { IfErr result (IsDueInStep ⊥ ⊥ ⊥) }
+    ensures failures { IsCounted result (D.state disk.old) (D.state disk.new) }
+{
+    match disk.sync_folder(folder) {
+        Ok(()) => Ok(()),
+        Err(fault) => Err(Refusal::at_known(fault)),
+    }
+}
+
+/// Syncs a folder, and then the base folder.
+pub(crate) fn sync_with_base<D: WritableDisk>(disk: &mut D, folder: &str) -> Result<(), Refusal>
+    ensures syncs { OnlySyncs (D.state disk.old) (D.state disk.new) }
+    ensures asked { HasAsked (SyncsBoth folder.now) AsksSyncs (D.state disk.old) (D.state disk.new) result }
+    ensures refused { IfErr result (IsDueInStep ⊥ ⊥ ⊥) }
+    ensures failures { IsCounted result (D.state disk.old) (D.state disk.new) }
+{
+    match sync_names(disk, folder) {
+        Ok(()) => sync_names(disk, BASE),
+        Err(refusal) => Err(refusal),
+    }
+}
+
+/// Syncs the base folder, but where it is known that the names which folders were given in it are durable.
+pub(crate) fn sync_folder_names<D: WritableDisk>(
+    disk: &mut D,
+    is_synced: bool,
+) -> Result<(), Refusal>
+    requires { is_synced ≡ true → HasDurableFolders (D.state disk.old) }
+    ensures syncs { OnlySyncs (D.state disk.old) (D.state disk.new) }
+    ensures asked { HasAsked AsksSyncs AsksSyncs (D.state disk.old) (D.state disk.new) result }
+    ensures durable { OnOk result (HasDurableFolders (D.state disk.new)) }
+    ensures refused { IfErr result (IsDueInStep ⊥ ⊥ ⊥) }
+    ensures failures { IsCounted result (D.state disk.old) (D.state disk.new) }
+{
+    if is_synced {
+        return Ok(());
+    }
+    sync_names(disk, BASE)
+}
