@@ -9,7 +9,7 @@ pub keeps_on : (old mid new : TreeState) → Keeps old mid → Keeps mid new →
 keeps_on old mid new k l = grind arith
 
 pub keeps_itself : (old : TreeState) → Keeps old old
-keeps_itself old = record { bag = refl; plain = refl; honest = refl; entries = refl; failures = omega arith }
+keeps_itself old = record { bag = refl; plain = refl; honest = refl; entries = refl; failures = omega arith; noted = refl; trail = refl }
 
 later_failure : (old mid new : TreeState) → Keeps old mid → FailsOver mid new → FailsOver old new
 later_failure old mid new k (failed, other) = (omega arith, λ honest. sym k.plain ∙ other (k.honest ∙ honest))
