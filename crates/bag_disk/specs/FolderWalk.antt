@@ -1,8 +1,8 @@
 -- What a walk over the folders of a disk has found.
-use Rattle.std.specs.Prelude.{ℕ, ◌≡◌, ◌⊎◌, true, List, [], ◌∷◌, ◌++◌, map, Some, length, All, Any, Contains, IsTrue, codes}
+use Rattle.std.specs.Prelude.{ℕ, ◌≡◌, ◌⊎◌, true, List, [], ◌∷◌, ◌++◌, map, Some, length, All, Contains, IsTrue}
 use Rattle.std.specs.List.Sorted.{IsPermutation, IsSortedByKey, IsStrictlySortedBy}
 use Rattle.bag_text.specs.Text.{text_cmp}
-use Rattle.bag_text.specs.Path.{is_path, is_payload_path, under}
+use Rattle.bag_text.specs.Path.{is_path, under}
 use Rattle.bag_disk.specs.Location.{path_in}
 use Rattle.bag_disk.specs.Disk.{DiskState, Nodes, node, Has, IsFolder, is_plain_found}
 use Rattle.bag_disk.specs.Disk.Node.{File}
@@ -79,18 +79,16 @@ ArePaths files = All (λ file. IsTrue (is_path file.path)) files
 abbrev pub AllArePaths : List FileEntry → List (List ℕ) → Type 0
 AllArePaths files folders = ArePaths files × All IsFolderPath folders
 
--- No listing is to be had of what was found: two files have one path, or a file is in the payload folder and that wasn't
--- listed.
-pub record IsUnlistable (files : List FileEntry) (listed : List (List ℕ)) : Type 0 where
+-- no listing is to be had of what was found: two files have one path
+pub record IsUnlistable (files : List FileEntry) : Type 0 where
   pub sorted : List FileEntry
   pub same : IsPermutation files sorted
   pub in_order : IsSortedByKey (λ file. file.path) text_cmp sorted
-  pub odd : (¬ (IsStrictlySortedBy text_cmp (paths_of sorted)))
-      ⊎ ((Any (λ file. IsTrue (is_payload_path file.path)) sorted) × (¬ (Any (λ folder. folder ≡ codes "data") listed)))
+  pub twice : ¬ (IsStrictlySortedBy text_cmp (paths_of sorted))
 
 -- the disk's answers contradict one another: a whole walk found what can't be listed
 pub record Contradiction (disk : DiskState) : Type 0 where
   pub files : List FileEntry
   pub listed : List (List ℕ)
   pub walked : IsTrue disk.honest → Walked disk.nodes files [] listed []
-  pub unlistable : IsUnlistable files listed
+  pub unlistable : IsUnlistable files

@@ -1,8 +1,7 @@
 //! The files below the base folder of a disk.
 ghost use Rattle.std.specs.Prelude.{◌≡◌, ◌<◌, [], IfOk, IfErr, OnOk, Any, ◌↔◌, codes, IsTrue};
 ghost use Rattle.std.specs.List.Sorted.{IsPermutation};
-ghost use Rattle.bag_text.specs.Path.{is_payload_path};
-ghost use Rattle.bag_tree.specs.Listing.{IsOrdered, HasItsFolder, IsListingOf};
+ghost use Rattle.bag_tree.specs.Listing.{IsOrdered, IsListingOf};
 ghost use Rattle.bag_tree.specs.Tree.{most_entries};
 ghost use Rattle.bag_disk.specs.Disk.{OnlyLooks, entry_count, is_plain};
 ghost use Rattle.bag_disk.specs.DiskBag.{bag_of};
@@ -14,15 +13,14 @@ use crate::folder_walk::FolderWalk;
 use crate::limit::no_room;
 use crate::path_order::{all_differ, sort_by_key, sort_by_path};
 use crate::refusal::Refusal;
-use bag_text::{Items, Text, is_payload};
-use bag_tree::{FileEntry, Listing};
+use bag_text::{Items, Text};
+use bag_tree::Listing;
 use std::alloc::Global;
 
 /// Lists the files below the base folder. It follows no link in it, and opens no file.
 pub fn list_below<D: Disk>(disk: &mut D, alloc: Global) -> Result<Listing, Refusal>
     ensures looks { OnlyLooks (D.state disk.old) (D.state disk.new) }
     ensures ordered { IfOk result (λ listing. IsOrdered listing.files) }
-    ensures data { IfOk result HasItsFolder }
     ensures plain { OnOk result (IsTrue (D.state disk.old).honest → IsTrue (is_plain (D.state disk.old).nodes)) }
     ensures honest { IfOk result (λ listing. IsTrue (D.state disk.old).honest → IsListingOf (bag_of (D.state disk.old).nodes) listing) }
     ensures refused { IfErr result (IsDueInListing (MeetsSpecial (D.state disk.old)) (MeetsUnnamed (D.state disk.old))
@@ -56,14 +54,12 @@ fn walk<D: Disk>(disk: &mut D, alloc: Global) -> Result<FolderWalk, Refusal>
     Ok(walk)
 }
 
-/// The listing of what was found: its files sorted, where no two have the same path, and the payload folder was found where
-/// files in it were.
+/// The listing of what was found: its files sorted, where no two have the same path.
 fn listing_of(walk: FolderWalk) -> Result<Listing, Refusal>
     requires { ArePaths walk.files.items }
     ensures ordered { IfOk result (λ listing. IsOrdered listing.files) }
     ensures files { IfOk result (λ listing. IsPermutation walk.files.items listing.files) }
-    ensures data { IfOk result HasItsFolder }
-    ensures refused { IfErr result (IsDueInListing ⊥ ⊥ ⊥ (IsUnlistable walk.files.items walk.listed.items)) }
+    ensures refused { IfErr result (IsDueInListing ⊥ ⊥ ⊥ (IsUnlistable walk.files.items)) }
     ensures quiet { IsNoFailure result }
     ensures has_data { IfOk result (λ listing. IsTrue listing.has_data ↔ Any (λ folder. folder ≡ codes "data") walk.listed.items) }
 {
@@ -73,9 +69,6 @@ fn listing_of(walk: FolderWalk) -> Result<Listing, Refusal>
     sort_by_key(&mut files)?;
     sort_by_path(&mut files);
     if !all_differ(files.as_slice()) {
-        return Err(Refusal::Contradicts);
-    }
-    if !has_data && has_payload(files.as_slice()) {
         return Err(Refusal::Contradicts);
     }
     Ok(Listing {
@@ -89,11 +82,4 @@ fn has_data(folders: &[Text]) -> bool
     ensures { IsTrue result ↔ Any (λ folder. folder ≡ codes "data") folders.now }
 {
     folders.iter().any(|folder| folder.as_str() == "data")
-}
-
-/// Whether one of the files is in the payload folder.
-fn has_payload(files: &[FileEntry]) -> bool
-    ensures { IsTrue result ↔ Any (λ file. IsTrue (is_payload_path file.path)) files.now }
-{
-    files.iter().any(|file| is_payload(file.path.as_str()))
 }

@@ -23,7 +23,7 @@ pub enum Refusal {
     Memory,
     /// What was to be made is there.
     Exists,
-    /// The disk's answers contradict one another: what it named twice, or in a folder that it didn't name, can't be listed.
+    /// The disk's answers contradict one another: what it named twice can't be listed.
     Contradicts,
     /// A folder in which no file was found stands where something is to be moved.
     InTheWay,

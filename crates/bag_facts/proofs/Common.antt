@@ -49,7 +49,7 @@ pub use Rattle.bag_tree.proofs.Calm.{memory_refused, memory_then, memory_unliste
 pub use Rattle.bag_tree.proofs.SameText.{one_text, same_test, text_itself}
 pub use Rattle.bag_tree.specs.Bag.{Bag, HasFile, IsBag, file}
 pub use Rattle.bag_tree.specs.Calm.{MayTellMemory, RefusesNothing}
-pub use Rattle.bag_tree.specs.Listing.{HasItsFolder, IsListingOf, IsOrdered, entry_at, size_at}
+pub use Rattle.bag_tree.specs.Listing.{IsListingOf, IsOrdered, entry_at, size_at}
 pub use Rattle.bag_tree.specs.Tree.{CameFromFile, FailsOver, IsEntryOf, Keeps, MayRefuse, OpensAtMost, TreeState}
 pub use Rattle.bag_tree.specs.Whole.{IsRefusedAt, MayRefuseWhole}
 pub use Rattle.bag_tree.specs.declared.answer.Answer.TheVariants.{Refused, Unlisted}
@@ -62,7 +62,7 @@ pub use Rattle.percent_encoding.proofs.PercentLemmas.{All-percent_encode, IsByte
 pub use Rattle.percent_encoding.specs.AsciiSet.{contains}
 unfoldable pub use Rattle.percent_encoding.specs.AsciiSet.{should_percent_encode}
 unfoldable pub use Rattle.percent_encoding.specs.Percent.{percent_decode, percent_encode, percent_encode_byte}
-pub use Rattle.bag_facts.specs.Facts.{AreJudged, AreParsed, AreRulesOf, IsFactsOf, rules_in}
+pub use Rattle.bag_facts.specs.Facts.{AreJudged, AreParsed, AreRulesOf, HasItsFolder, IsFactsOf, rules_in}
 pub use Rattle.bag_facts.specs.FaultLine.{LinesTellFaultsApart, alg_field, encoded, field, is_encoded, line_field}
 pub use Rattle.bag_facts.specs.FaultOrder.{EqualFaultsAreOne, OneOfThree, fault_cmp}
 pub use Rattle.bag_facts.specs.Stops.{IsOutOfMemory, IsRefusalOf, MayRefuseFacts, MayStopReading}

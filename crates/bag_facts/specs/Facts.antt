@@ -1,7 +1,8 @@
 -- What is read of a bag.
-use Rattle.std.specs.Prelude.{◌≡◌, ◌≢◌, ◌⊎◌, ℕ, List, [], ◌∷◌, Some, Any, Contains, map, option_and_then}
+use Rattle.std.specs.Prelude.{◌≡◌, ◌≢◌, ◌⊎◌, ℕ, List, [], ◌∷◌, true, Some, Any, Contains, map, option_and_then}
 use Rattle.bag_text.specs.Text.{text_cmp}
 use Rattle.bag_text.specs.Order.{IsListOf}
+use Rattle.bag_text.specs.Path.{is_payload_path}
 use Rattle.bag_text.specs.Rules.{rules_of}
 use Rattle.bag_text.specs.declared.rules.Rules.{Rules}
 use Rattle.bag_text.specs.declared.rules.Rules.TheVariants.{V10, V097}
@@ -10,6 +11,8 @@ use Rattle.bag_read.specs.TagName.{tag_path}
 use Rattle.bag_read.specs.declared.tag_name.TagName.TheVariants.{Declaration}
 use Rattle.bag_tree.specs.Bag.{Bag, file, HasFile}
 use Rattle.bag_tree.specs.Listing.{IsOrdered, IsListingOf}
+use Rattle.bag_tree.specs.declared.listing.FileEntry.{FileEntry}
+use Rattle.bag_tree.specs.declared.listing.Listing.{Listing}
 use Rattle.bag_facts.specs.TagFacts.{path_of, Says, IsParsed}
 use Rattle.bag_facts.specs.Wanted.{IsWanted}
 use Rattle.bag_facts.specs.declared.facts.Facts.{Facts}
@@ -32,6 +35,11 @@ IsByV097 bag = rules_in bag ≡ V097
 -- what is known of a tag file is what its bytes in the bag say, by the bag's rules
 abbrev pub IsSaid : Bag → TagFacts → Type 0
 IsSaid bag tag = (bytes : List ℕ) × (file bag (path_of tag) ≡ Some bytes) × Says (rules_in bag) bytes tag
+
+-- a payload file is listed only where the payload folder is
+abbrev pub HasItsFolder : Listing → Type 0
+HasItsFolder listing =
+    (entry : FileEntry) → Contains listing.files entry → is_payload_path entry.path ≡ true → listing.has_data ≡ true
 
 -- The facts are those of the bag: the listing is its files, and the tags are exactly the wanted tag files that are there,
 -- in path order, each with what its bytes say.

@@ -2,13 +2,14 @@
 ghost use Rattle.std.specs.Prelude.{◌≡◌, ◌≢◌, ◌⊎◌, ◌↔◌, [], IsTrue, IfOk, IfErr, OnOk, OnErr, MatchOption, Any, Contains, codes};
 ghost use Rattle.std.specs.Option.{option_copied};
 ghost use Rattle.bag_text.specs.declared.alg.Alg.{Alg as Named};
+ghost use Rattle.bag_text.specs.Path.{is_payload_path};
 ghost use Rattle.bag_text.specs.Rules.{rules_of};
 ghost use Rattle.bag_read.specs.TagName.{tag_path};
 ghost use Rattle.bag_read.specs.declared.tag_name.TagName.TheVariants as file_of;
 ghost use Rattle.bag_tree.specs.Bag.{Bag, IsBag, HasFile, file};
 ghost use Rattle.bag_tree.specs.Calm.{RefusesNothing};
 ghost use Rattle.bag_tree.specs.Tree.{Keeps};
-ghost use Rattle.bag_facts.specs.Facts.{rules_in, AreJudged, AreParsed, AreRulesOf};
+ghost use Rattle.bag_facts.specs.Facts.{rules_in, AreJudged, AreParsed, AreRulesOf, HasItsFolder};
 ghost use Rattle.bag_facts.specs.TagFacts.{name_of, AreEntriesOf, IsReadOf, IsDeclarationOf, IsMetadataOf, IsFetchListOf, IsManifestNamed, IsTagFileNamed};
 ghost use Rattle.bag_facts.specs.Wanted.{ForListing, OpensAll, OpensFirst, OpensUpTo, OpensWanted, Wants};
 ghost use Rattle.bag_facts.specs.declared.options.Depth.TheVariants as depth_of;
@@ -18,7 +19,7 @@ use crate::listed_manifest::has_manifest;
 use crate::tag_reader::{TagBytes, read_tag_files};
 use crate::{Depth, FetchList, Manifest, Metadata, Options, TagFacts};
 use bag_read::{Declaration, Kind, ManifestEntry, TagName, declared_rules};
-use bag_text::{Alg, AlgSet, Items, Rules};
+use bag_text::{Alg, AlgSet, Items, Rules, is_payload};
 use bag_tree::{FileEntry, Listing, Stop, Tree, TreeFault};
 use std::alloc::{AllocError, Global};
 
@@ -42,7 +43,7 @@ impl Facts {
     /// The stop of a refusal names the file that was refused; it names none for the listing and for want of memory. Its
     /// cause is the tree's own answer, but for want of memory, which is told only where the tree told it or refused
     /// nothing. The facts are those of an honest tree's bag. Of any other tree they are those of some bag that has the
-    /// listed files.
+    /// listed files, and the payload folder where the listing has it or names a payload file.
     pub fn read<T: Tree>(alloc: Global, tree: &mut T, options: Options) -> Result<Facts, Stop>
         ensures keeps { Keeps (T.state tree.old) (T.state tree.new) }
         ensures calm { OnOk result (RefusesNothing (T.state tree.old) (T.state tree.new)) }
@@ -58,10 +59,11 @@ impl Facts {
         ensures plain { OnOk result (IsTrue (T.state tree.old).honest → IsTrue (T.state tree.old).plain) }
         ensures stop { IfErr result (MayStopReading options (T.state tree.old) (T.state tree.new)) }
     {
-        let listing = match tree.list() {
+        let listed = match tree.list() {
             Ok(listing) => listing,
             Err(cause) => return Err(Stop::without_path(alloc, cause)),
         };
+        let listing = with_its_folder(listed);
         let read = read_tag_files(alloc, tree, listing.files.as_slice(), options)?;
         match Facts::of(alloc, options, listing, read) {
             Ok(facts) => Ok(facts),
@@ -190,6 +192,26 @@ impl Facts {
     {
         find_tag(self.tags.as_slice(), name)
     }
+}
+
+/// A listing with the payload folder where it names a payload file, as every bag has it: an honest tree's is as it was.
+fn with_its_folder(listing: Listing) -> Listing
+    ensures files { result.files ≡ listing.files }
+    ensures folder { HasItsFolder result }
+    ensures same { HasItsFolder listing → result ≡ listing }
+{
+    let has_data = listing.has_data || names_payload(listing.files.as_slice());
+    Listing {
+        files: listing.files,
+        has_data,
+    }
+}
+
+/// Whether one of the files is in the payload folder.
+fn names_payload(files: &[FileEntry]) -> bool
+    ensures { IsTrue result ↔ Any (λ file. IsTrue (is_payload_path file.path)) files.now }
+{
+    files.iter().any(|file| is_payload(file.path.as_str()))
 }
 
 /// What is known of a tag file among these.

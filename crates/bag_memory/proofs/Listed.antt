@@ -1,12 +1,9 @@
 -- A listing of files in memory.
-use Rattle.bag_memory.proofs.Common.{arith, ◌≡◌, ℕ, ◌&&◌, List, [], ◌∷◌, length, codes, nat_lt, Contains, true, cond, is_some, IsTrue, All, refl, ap, sym, ◌∙◌, subst, map, option_map, list_any, after_first, lookup, is_at, get, find, from_entries, get-from_entries, eq_by_cmp_equiv, nat_list_cmp_total, eq_by_cmp, and_parts, All-nil, All-cons, All-contains, passes_at_first, split_at_first, text_cmp, components, first_component, is_path, is_payload_path, under, has_file, has_folder, IsOrdered, HasItsFolder, size_at, listed, bag_of, PassesAsBag, exact_texts, one_text, same_test, text_itself, contains-from_list, contains-insert, same_set}
-use Rattle.std.proofs.Common.{eqb-true}
+use Rattle.bag_memory.proofs.Common.{arith, ◌≡◌, ℕ, List, [], ◌∷◌, length, true, cond, is_some, IsTrue, All, refl, ap, sym, ◌∙◌, subst, map, option_map, list_any, lookup, is_at, get, find, from_entries, get-from_entries, eq_by_cmp_equiv, nat_list_cmp_total, eq_by_cmp, and_parts, All-nil, All-cons, text_cmp, is_path, IsOrdered, size_at, listed, bag_of, PassesAsBag, exact_texts, same_test, text_itself}
 use Rattle.std.specs.List.Sorted.{IsStrictlySortedBy}
 use Rattle.std.specs.Str.{bytes_eq}
 use Rattle.bag_tree.specs.declared.listing.FileEntry.{FileEntry}
 use Rattle.std.specs.FinSet as set
-use Rattle.bag_tree.specs.declared.listing.Listing.{Listing}
-use Rattle.bag_memory.proofs.Parents.{is_slash, slash_within}
 use Rattle.bag_memory.proofs.MemoryFiles.{file_at}
 
 paths_listed : (es : List (List ℕ × List ℕ)) → map (λ entry. entry.path) (listed es) ≡ map (λ e. e.0) es
@@ -26,22 +23,6 @@ listed_is_ordered es names ascending passes = record {
   ascending = listed_ascending es ascending;
   paths = listed_paths (λ path. IsTrue (is_path path)) es (λ path has. grind (arith, passes.paths path, and_parts, get-from_entries nat_list_cmp_total es path));
 }
-
--- a payload file stands in the payload folder
-payload_under : (path : List ℕ) → is_payload_path path ≡ true → path ≡ under (codes "data") (after_first is_slash path)
-payload_under path is =
-    let parts = and_parts (is_path path && bytes_eq (first_component path) (codes "data")) (nat_lt 1 (length (components path))) is in
-    let place = slash_within path parts.1 in
-    grind (arith, and_parts, one_text (codes "data") (first_component path), same_test (first_component path) (codes "data"), split_at_first is_slash path 0 place, eqb-true, passes_at_first is_slash path 0 place)
-
--- where a payload file is listed its folder is there
-pub listed_has_folder : (es : List (List ℕ × List ℕ)) (names : List (List ℕ)) (listing : Listing) → PassesAsBag (bag_of es names) → listing.files ≡ listed es → listing.has_data ≡ has_folder (bag_of es names) (codes "data") → HasItsFolder listing
-listed_has_folder es names listing passes files has_data entry within is =
-    let P : List ℕ → Type 0 = λ path. is_payload_path path ≡ true → has_folder (bag_of es names) (codes "data") ≡ true in
-    has_data ∙ All-contains (λ (e : FileEntry). P e.path) (listed es) entry
-    (listed_paths P es (λ path has payload. passes.parents (codes "data") (after_first is_slash path) refl
-    (subst (λ p. has_file (bag_of es names) p ≡ true) (payload_under path payload) (ap is_some (get-from_entries nat_list_cmp_total es path) ∙ has))))
-    (subst (λ files. Contains files entry) files within) is
 
 listed_size : (es : List (List ℕ × List ℕ)) (q : List ℕ) → size_at (listed es) q ≡ option_map length (lookup (is_at (text_cmp q)) es)
 listed_size [] q = refl

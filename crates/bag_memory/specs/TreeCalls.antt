@@ -2,7 +2,7 @@
 use Rattle.std.specs.Prelude.{◌≡◌, ℕ, ◌≤◌, ◌+◌, None, IsTrue, List, [], ◌∷◌, ◌++◌, Result, OnOk, OnErr, IfOk, IfErr, MatchResult}
 use Rattle.bag_text.specs.Path.{is_path}
 use Rattle.bag_tree.specs.Bag.{file}
-use Rattle.bag_tree.specs.Listing.{IsOrdered, HasItsFolder, IsListingOf}
+use Rattle.bag_tree.specs.Listing.{IsOrdered, IsListingOf}
 use Rattle.bag_tree.specs.Tree.{TreeState, Keeps, MayRefuse, HasOpen, IsOpen, ReadsNext, answer_of_read}
 use Rattle.bag_tree.specs.declared.answer.Answer.TheVariants.{Given, Refused, Unlisted}
 use Rattle.bag_tree.specs.declared.tree_fault.TreeFault.{TreeFault}
@@ -15,7 +15,6 @@ pub record ListCall (old new : TreeState) (answer : Result Listing TreeFault) : 
   pub openings : new.openings ≡ old.openings
   pub rest : new.rest ≡ old.rest
   pub ordered : IfOk answer (λ listing. IsOrdered listing.files)
-  pub folder : IfOk answer HasItsFolder
   pub plain : OnOk answer (IsTrue old.honest → IsTrue old.plain)
   pub last : MatchResult answer (λ _. new.last ≡ Given) (λ fault. new.last ≡ Unlisted fault)
   pub honest : IfOk answer (λ listing. IsTrue old.honest → IsListingOf old.bag listing)

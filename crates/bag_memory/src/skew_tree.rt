@@ -2,7 +2,7 @@
 ghost use Rattle.std.specs.Prelude.{◌≡◌};
 ghost use Rattle.std.specs.Option.{ForSome};
 ghost use Rattle.std.proofs.Props.{props};
-ghost use Rattle.bag_tree.specs.Listing.{IsOrdered, HasItsFolder};
+ghost use Rattle.bag_tree.specs.Listing.{IsOrdered};
 ghost use Rattle.bag_memory.specs.MemoryView.{state_of};
 ghost use Rattle.bag_memory.specs.Skewed.{skewed};
 
@@ -15,7 +15,7 @@ pub struct SkewTree {
     tree: MemoryTree,
     listing: Option<Listing>,
     own: Option<Answer>,
-    ghost listed: { ForSome listing (λ listing. IsOrdered listing.files × HasItsFolder listing) } by { Prim.hlevel props },
+    ghost listed: { ForSome listing (λ listing. IsOrdered listing.files) } by { Prim.hlevel props },
 }
 
 impl SkewTree {
@@ -25,7 +25,7 @@ impl SkewTree {
     /// The tree in memory, of which the first `list` answers this listing, or `TooMany` where there is none; each later one is
     /// `TooMany`.
     pub fn new(tree: MemoryTree, listing: Option<Listing>) -> SkewTree
-        requires { ForSome listing (λ listing. IsOrdered listing.files × HasItsFolder listing) }
+        requires { ForSome listing (λ listing. IsOrdered listing.files) }
         ensures state { ⟦<SkewTree as Tree>⟧.state result ≡ skewed (state_of tree) None }
         ensures memory { memory_of result ≡ state_of tree }
         ensures listing { listing_of result ≡ listing }
@@ -57,7 +57,6 @@ impl Tree for SkewTree {
         ensures once { listing_of self.new ≡ None }
         ensures memory { memory_of self.new ≡ memory_of self.old }
         ensures ordered { IfOk result (λ listing. IsOrdered listing.files) }
-        ensures data { IfOk result HasItsFolder }
         ensures own { MatchResult result (λ _. own_of self.new ≡ Some Given) (λ fault. own_of self.new ≡ Some (Unlisted fault)) }
     {
         match self.listing.take() {

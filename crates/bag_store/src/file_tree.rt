@@ -14,9 +14,9 @@ use std::rt::Files;
 /// Its bag is what stands there, and it is honest where the disk is. A symbolic link, a socket, a pipe or a device below
 /// the base folder is `Special`; none is followed or opened. The base folder itself may be a symbolic link to a folder.
 /// `Device` is what the disk counted as its device's refusal in this call, but for two causes: where the disk's answers
-/// contradict one another, since it named a path twice or payload files and no payload folder, a listing is `Device`; and so
-/// is `move_in` to a path where a folder stands in which it found no file, since it might be replaced. A read after which the
-/// bytes of the open file might not be counted in 64 bits is `Memory`.
+/// contradict one another, since it named a path twice, a listing is `Device`; and so is `move_in` to a path where a folder
+/// stands in which it found no file, since it might be replaced. A read after which the bytes of the open file might not be
+/// counted in 64 bits is `Memory`.
 ///
 /// A step that changes it is one call of the disk: a folder is made, or something is renamed, never copied. It looks
 /// first, and replaces nothing that stood there then. Before `make_folder` and `rename_folder` make their change they sync the

@@ -1,11 +1,11 @@
 -- What a listing of a bag says.
-use Rattle.std.specs.Prelude.{ℕ, ◌≡◌, true, List, length, map, Option, codes, IsTrue, All, Contains}
+use Rattle.std.specs.Prelude.{ℕ, ◌≡◌, List, length, map, Option, codes, IsTrue, All}
 use Rattle.std.specs.Option.{option_map}
 use Rattle.std.specs.List.{find}
 use Rattle.std.specs.List.Sorted.{IsStrictlySortedBy}
 use Rattle.std.specs.Str.{bytes_eq}
 use Rattle.bag_text.specs.Text.{text_cmp}
-use Rattle.bag_text.specs.Path.{is_path, is_payload_path}
+use Rattle.bag_text.specs.Path.{is_path}
 use Rattle.bag_tree.specs.Bag.{Bag, file, files_of, has_folder}
 use Rattle.bag_tree.specs.declared.listing.FileEntry.{FileEntry}
 use Rattle.bag_tree.specs.declared.listing.Listing.{Listing}
@@ -22,10 +22,6 @@ size_at files path = option_map (λ entry. entry.size) (entry_at files path)
 pub record IsOrdered (files : List FileEntry) : Type 0 where
   pub ascending : IsStrictlySortedBy text_cmp (map (λ entry. entry.path) files)
   pub paths : All (λ entry. IsTrue (is_path entry.path)) files
-
--- a payload file is listed only where the payload folder is there, whatever the tree
-abbrev pub HasItsFolder : Listing → Type 0
-HasItsFolder listing = (entry : FileEntry) → Contains listing.files entry → is_payload_path entry.path ≡ true → listing.has_data ≡ true
 
 -- what listing an honest tree gives: the files of the bag with their lengths, and no others
 pub record IsListingOf (bag : Bag) (listing : Listing) : Type 0 where

@@ -2,7 +2,7 @@
 ghost use Rattle.std.specs.Prelude.{◌≡◌, ◌<◌, ◌≤◌, ◌∷◌, ◌++◌, [], None, IsTrue, IfOk, IfErr, OnOk, OnErr, MatchResult, length, ◌+◌};
 ghost use Rattle.bag_text.specs.Path.{is_path};
 ghost use Rattle.bag_tree.specs.Bag.{IsBag, file};
-ghost use Rattle.bag_tree.specs.Listing.{IsOrdered, HasItsFolder, IsListingOf};
+ghost use Rattle.bag_tree.specs.Listing.{IsOrdered, IsListingOf};
 ghost use Rattle.bag_tree.specs.Tree.{TreeState, Keeps, MayRefuse, HasOpen, IsOpen, ReadsNext, answer_of_read};
 ghost use Rattle.bag_tree.specs.declared.answer.Answer.TheVariants.{Given, Refused, Unlisted};
 
@@ -30,7 +30,6 @@ pub trait Tree {
         ensures openings { (state self.new).openings ≡ (state self.old).openings }
         ensures rest { (state self.new).rest ≡ (state self.old).rest }
         ensures ordered { IfOk result (λ listing. IsOrdered listing.files) }
-        ensures data { IfOk result HasItsFolder }
         ensures plain { OnOk result (IsTrue (state self.old).honest → IsTrue (state self.old).plain) }
         ensures last { MatchResult result (λ _. (state self.new).last ≡ Given) (λ fault. (state self.new).last ≡ Unlisted fault) }
         ensures honest { IfOk result (λ listing. IsTrue (state self.old).honest → IsListingOf (state self.old).bag listing) }

@@ -1,4 +1,4 @@
-use Rattle.bag_disk.proofs.Common.{◌∙◌, IsTrue, inl, inr, sym, false≢true, All-permutation, IsPermutation-trans, is_path}
+use Rattle.bag_disk.proofs.Common.{◌∙◌, IsTrue, sym, false≢true, All-permutation, IsPermutation-trans, is_path}
 use Rattle.bag_disk.proofs.listing.listing_of.Goals as goal
 
 pub returns-clause-ordered : goal.returns-clause-ordered
@@ -15,16 +15,5 @@ returns-then-not-all_differ-clause-refused c = record {
   sorted = c.sort_by_path.new.files.items;
   same = IsPermutation-trans _ _ _ c.sort_by_key.ensures c.sort_by_path.ensures.permutation;
   in_order = c.sort_by_path.ensures.sorted;
-  odd = inl (λ strict. false≢true (sym c.if-not-all_differ.true ∙ c.all_differ.ensures.1 (rw c.as_slice-2.ensures.value strict)));
-}
-
-pub returns-then-has_payload-clause-refused : goal.returns-then-has_payload-clause-refused
-returns-then-has_payload-clause-refused c = record {
-  sorted = c.sort_by_path.new.files.items;
-  same = IsPermutation-trans _ _ _ c.sort_by_key.ensures c.sort_by_path.ensures.permutation;
-  in_order = c.sort_by_path.ensures.sorted;
-  odd = inr (
-    rw c.as_slice-then-not-has_data.ensures.value at (c.has_payload.ensures.0 c.if-has_payload.true),
-    λ named. false≢true (sym c.if-not-has_data.true ∙ c.has_data-has_data.ensures.1 (rw c.as_slice.ensures.value named)),
-  );
+  twice = λ strict. false≢true (sym c.if-not-all_differ.true ∙ c.all_differ.ensures.1 (rw c.as_slice-2.ensures.value strict));
 }
