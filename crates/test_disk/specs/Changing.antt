@@ -1,6 +1,6 @@
 -- When a disk in memory refuses a change.
 use Rattle.std.specs.Prelude.{ℕ, ◌≡◌, ◌⊎◌, List, Option, None, Some}
-use Rattle.bag_disk.specs.Disk.{Nodes, Has, IsDisk, IsReached, node, bytes_of}
+use Rattle.bag_disk.specs.Disk.{Nodes, Has, IsDisk, IsFolder, IsReached, node, bytes_of}
 use Rattle.bag_tree.specs.Moved.{moved}
 use Rattle.bag_disk.specs.declared.disk.DiskFault.{DiskFault}
 use Rattle.bag_disk.specs.declared.disk.DiskFault.TheVariants.{NotFound, Exists, Name, Memory, Device}
@@ -29,3 +29,19 @@ MayRefuseWriting nodes written Exists = ⊥
 MayRefuseWriting nodes written Name = ⊥
 MayRefuseWriting nodes written Memory = Unit {0}
 MayRefuseWriting nodes written Device = (path : List ℕ) → written ≡ Some path → bytes_of (node nodes path) ≡ None
+
+-- Nothing is synced where no file is being written, or out of memory.
+abbrev pub MayRefuseSync : Option (List ℕ) → DiskFault → Type 0
+MayRefuseSync written NotFound = ⊥
+MayRefuseSync written Exists = ⊥
+MayRefuseSync written Name = ⊥
+MayRefuseSync written Memory = Unit {0}
+MayRefuseSync written Device = written ≡ None
+
+-- No folder is synced that isn't there, or out of memory.
+abbrev pub MayRefuseSyncFolder : Nodes → List ℕ → DiskFault → Type 0
+MayRefuseSyncFolder nodes folder NotFound = ¬ (IsFolder nodes folder)
+MayRefuseSyncFolder nodes folder Exists = ⊥
+MayRefuseSyncFolder nodes folder Name = ⊥
+MayRefuseSyncFolder nodes folder Memory = Unit {0}
+MayRefuseSyncFolder nodes folder Device = ⊥

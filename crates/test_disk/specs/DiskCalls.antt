@@ -1,12 +1,13 @@
 -- What a call of a disk makes of what the disk means, and what it answers: of each call the clauses of `Disk` and `WritableDisk`.
-use Rattle.std.specs.Prelude.{◌≡◌, ◌<◌, ◌≤◌, ◌==◌, ◌||◌, ◌∷◌, ◌++◌, [], Bool, false, ℕ, List, Option, None, Some, is_some, IfOk, IsErrOf, IsTrue, MatchOption, MatchResult, OnErr, OnOk, Result, length, take, ⊤}
+use Rattle.std.specs.Prelude.{◌≡◌, ◌<◌, ◌≤◌, ◌∷◌, ◌++◌, [], ℕ, List, Option, None, Some, is_some, IfOk, IsErrOf, IsTrue, MatchOption, OnErr, OnOk, Result, length, take, ⊤}
 use Rattle.std.specs.Option.{option_map}
 use Rattle.bag_tree.specs.Moved.{KeepsOthers}
 use Rattle.bag_tree.specs.Tree.{ReadsNext}
-use Rattle.bag_disk.specs.Disk.{AreNamesIn, DiskState, Has, HasUnnamed, IsFileWith, IsFolder, IsReached, OnlyLooks, SameDisk, entry_of, node}
+use Rattle.bag_disk.specs.Disk.{AreNamesIn, DiskState, Has, HasUnnamed, IsFileWith, IsFolder, IsReached, OnlyLooks, OnlySyncs, SameDisk, entry_of, node}
 use Rattle.bag_text.specs.Path.{is_path}
 use Rattle.bag_disk.specs.Refusal.{IsCountedAs, at_known, of_making, of_name, of_path}
-use Rattle.bag_disk.specs.WritableDisk.{Appends, Closes, HasFile, MakesFile, MakesFolder, Moves}
+use Rattle.bag_disk.specs.WritableDisk.{Appends, Closes, HasFile, MakesFile, MakesFolder, Moves, Notes}
+use Rattle.bag_tree.specs.declared.event.DeviceEvent.TheVariants.{MakeFolder, Rename, Create, Write, Sync, SyncFolder}
 use Rattle.bag_disk.specs.declared.disk.Entry.{Entry}
 use Rattle.bag_disk.specs.declared.disk.DiskFault.{DiskFault}
 use Rattle.bag_disk.specs.declared.disk.DiskFault.TheVariants.{Exists, Name, NotFound}
@@ -69,19 +70,19 @@ pub record Reads (old new : DiskState) (room : ℕ) (buffer : List ℕ) (answer 
   pub failures : IsCountedAs at_known answer old.failures new.failures
 
 -- what making a folder does
-pub record MakesFolderAt (old new : DiskState) (written written_then : Option (List ℕ)) (kept_before kept_then : Bool) (path : List ℕ) (answer : Result (Unit {0}) DiskFault) : Type 0 where
+pub record MakesFolderAt (old new : DiskState) (written written_then : Option (List ℕ)) (path : List ℕ) (answer : Result (Unit {0}) DiskFault) : Type 0 where
   pub made : OnOk answer (IsTrue old.honest → IsReached old.nodes path → MakesFolder old.nodes new.nodes path)
   pub closed : OnOk answer (Closes old new)
   pub ended : OnOk answer (written_then ≡ None)
   pub taken : IsErrOf answer Exists → IsTrue old.honest → IsReached old.nodes path → Has old.nodes path
   pub absent : IsErrOf answer NotFound → IsTrue old.honest → IsReached old.nodes path → ⊥
   pub same : OnErr answer (OnlyLooks old new)
-  pub unkept : MatchResult answer (λ _. kept_then ≡ false) (λ _. kept_then ≡ kept_before)
   pub same_file : OnErr answer (written_then ≡ written)
+  pub noted : IsTrue old.noted → OnOk answer (Notes (MakeFolder path) old new)
   pub failures : IsCountedAs of_making answer old.failures new.failures
 
 -- what a move does
-pub record Renames (old new : DiskState) (written written_then : Option (List ℕ)) (kept_before kept_then : Bool) (from to : List ℕ) (answer : Result (Unit {0}) DiskFault) : Type 0 where
+pub record Renames (old new : DiskState) (written written_then : Option (List ℕ)) (from to : List ℕ) (answer : Result (Unit {0}) DiskFault) : Type 0 where
   pub moved : OnOk answer (IsTrue old.honest → IsReached old.nodes from → IsReached old.nodes to → node old.nodes to ≡ None → Moves old.nodes new.nodes from to)
   pub others : OnOk answer (IsTrue old.honest → IsReached old.nodes from → IsReached old.nodes to → KeepsOthers old.nodes new.nodes from to)
   pub closed : OnOk answer (Closes old new)
@@ -89,12 +90,12 @@ pub record Renames (old new : DiskState) (written written_then : Option (List �
   pub taken : IsErrOf answer Exists → IsTrue old.honest → IsReached old.nodes to → Has old.nodes to
   pub absent : IsErrOf answer NotFound → IsTrue old.honest → IsReached old.nodes from → IsReached old.nodes to → node old.nodes from ≡ None
   pub same : OnErr answer (OnlyLooks old new)
-  pub unkept : MatchResult answer (λ _. kept_then ≡ false) (λ _. kept_then ≡ kept_before)
   pub same_file : OnErr answer (written_then ≡ written)
+  pub noted : IsTrue old.noted → OnOk answer (Notes (Rename from to) old new)
   pub failures : IsCountedAs at_known answer old.failures new.failures
 
 -- what making a file does
-pub record Creates (old new : DiskState) (written written_then : Option (List ℕ)) (kept_before kept_then : Bool) (path : List ℕ) (answer : Result (Unit {0}) DiskFault) : Type 0 where
+pub record Creates (old new : DiskState) (written written_then : Option (List ℕ)) (path : List ℕ) (answer : Result (Unit {0}) DiskFault) : Type 0 where
   pub made : OnOk answer (IsTrue old.honest → IsReached old.nodes path → MakesFile old.nodes new.nodes path)
   pub closed : OnOk answer (Closes old new)
   pub begun : OnOk answer (IsTrue (is_some (written_then)))
@@ -102,12 +103,13 @@ pub record Creates (old new : DiskState) (written written_then : Option (List �
   pub taken : IsErrOf answer Exists → IsTrue old.honest → IsReached old.nodes path → Has old.nodes path
   pub absent : IsErrOf answer NotFound → IsTrue old.honest → IsReached old.nodes path → ⊥
   pub same : OnErr answer (OnlyLooks old new)
-  pub unkept : MatchResult answer (λ _. kept_then ≡ false) (λ _. kept_then ≡ kept_before)
   pub same_file : OnErr answer (written_then ≡ written)
+  pub noted : IsTrue old.noted → OnOk answer (Notes (Create path) old new)
+  pub named : IsTrue old.noted → OnOk answer (written_then ≡ Some path)
   pub failures : IsCountedAs of_making answer old.failures new.failures
 
 -- what writing bytes does
-pub record Writes (old new : DiskState) (written written_then : Option (List ℕ)) (kept_before kept_then : Bool) (bytes : List ℕ) (answer : Result ℕ DiskFault) : Type 0 where
+pub record Writes (old new : DiskState) (written written_then : Option (List ℕ)) (bytes : List ℕ) (answer : Result ℕ DiskFault) : Type 0 where
   pub within : IfOk answer (λ n. n ≤ length bytes)
   pub appended : IfOk answer (λ n. IsTrue old.honest → (path : List ℕ) → written ≡ Some path → HasFile old.nodes path → Appends old.nodes new.nodes path (take n bytes))
   pub closed : OnOk answer (Closes old new)
@@ -116,13 +118,13 @@ pub record Writes (old new : DiskState) (written written_then : Option (List ℕ
   pub unnamed : IsErrOf answer Name → IsTrue old.honest → ⊥
   pub same : OnErr answer (OnlyLooks old new)
   pub same_file : written_then ≡ written
-  pub same_names : kept_then ≡ kept_before
   pub some : IfOk answer (λ n. 0 < length bytes → 0 < n)
+  pub noted : IsTrue old.noted → IfOk answer (λ n. (path : List ℕ) → written ≡ Some path → Notes (Write path (take n bytes)) old new)
   pub failures : IsCountedAs at_known answer old.failures new.failures
 
--- what having the file kept does
-pub record Syncs (old new : DiskState) (written written_then : Option (List ℕ)) (kept_before kept_then : Bool) (answer : Result (Unit {0}) DiskFault) : Type 0 where
-  pub kept : OnOk answer (new.nodes ≡ old.nodes)
+-- what the sync of a file does
+pub record Syncs (old new : DiskState) (written written_then : Option (List ℕ)) (answer : Result (Unit {0}) DiskFault) : Type 0 where
+  pub held : OnOk answer (new.nodes ≡ old.nodes)
   pub closed : OnOk answer (Closes old new)
   pub ended : OnOk answer (written_then ≡ None)
   pub taken : IsErrOf answer Exists → IsTrue old.honest → ⊥
@@ -130,15 +132,16 @@ pub record Syncs (old new : DiskState) (written written_then : Option (List ℕ)
   pub unnamed : IsErrOf answer Name → IsTrue old.honest → ⊥
   pub same : OnErr answer (OnlyLooks old new)
   pub same_file : OnErr answer (written_then ≡ written)
-  pub same_names : kept_then ≡ kept_before
+  pub noted : IsTrue old.noted → OnOk answer ((path : List ℕ) → written ≡ Some path → Notes (Sync path) old new)
   pub failures : IsCountedAs at_known answer old.failures new.failures
 
--- what having the names in a folder kept does
-pub record SyncsFolder (old new : DiskState) (written written_then : Option (List ℕ)) (kept_before kept_then : Bool) (folder : List ℕ) (answer : Result (Unit {0}) DiskFault) : Type 0 where
-  pub looks : OnlyLooks old new
+-- what the sync of a folder does
+pub record SyncsFolder (old new : DiskState) (written written_then : Option (List ℕ)) (folder : List ℕ) (answer : Result (Unit {0}) DiskFault) : Type 0 where
+  pub syncs : OnlySyncs old new
+  pub same : OnErr answer (OnlyLooks old new)
   pub same_file : written_then ≡ written
-  pub kept : MatchResult answer (λ _. kept_then ≡ (length folder == 0 || kept_before)) (λ _. kept_then ≡ kept_before)
   pub taken : IsErrOf answer Exists → IsTrue old.honest → ⊥
   pub absent : IsErrOf answer NotFound → IsTrue old.honest → IsFolder old.nodes folder → ⊥
   pub unnamed : IsErrOf answer Name → IsTrue old.honest → ⊥
+  pub noted : IsTrue old.noted → OnOk answer (Notes (SyncFolder folder) old new)
   pub failures : IsCountedAs at_known answer old.failures new.failures

@@ -9,11 +9,20 @@ use Rattle.bag_disk.specs.declared.disk.DiskFault.{DiskFault}
 use Rattle.bag_disk.specs.declared.disk.DiskFault.TheVariants.{NotFound, Exists, Name, Memory, Device}
 use Rattle.test_disk.specs.Held.{nodes_of}
 use Rattle.test_disk.specs.declared.memory_disk.MemoryDisk.{MemoryDisk}
-use Rattle.test_disk.specs.declared.memory_disk.Swap.{Swap}
+use Rattle.test_disk.specs.declared.swap.Swap.{Swap}
 
--- an honest disk with nothing opened or entered
+-- an honest disk with nothing opened or entered, whose device did nothing yet
 abbrev pub fresh : Nodes → DiskState
-fresh nodes = record { nodes = nodes; honest = true; openings = []; rest = None; names = []; failures = 0 }
+fresh nodes = record {
+  nodes = nodes;
+  honest = true;
+  openings = [];
+  rest = None;
+  names = [];
+  failures = 0;
+  trail = [];
+  noted = true;
+}
 
 -- the same, and no more honest
 abbrev pub not_honest : DiskState → DiskState
@@ -24,6 +33,8 @@ not_honest state = record {
   rest = state.rest;
   names = state.names;
   failures = state.failures;
+  trail = state.trail;
+  noted = state.noted;
 }
 
 -- nothing is swapped
@@ -40,15 +51,13 @@ state_of disk = record {
   rest = option_map (drop disk.at) disk.open;
   names = drop disk.named disk.names;
   failures = count_of disk.failures;
+  trail = disk.trail;
+  noted = true;
 }
 
 -- the path of the file that is being written
 abbrev pub written_of : MemoryDisk → Option (List ℕ)
 written_of disk = disk.written
-
--- the device was asked to keep the names in the base folder as they are
-abbrev pub is_kept_of : MemoryDisk → Bool
-is_kept_of disk = disk.is_kept
 
 -- the folders that may not be read
 abbrev pub barred_of : MemoryDisk → List (List ℕ)

@@ -23,6 +23,8 @@ refusing state fault own = record {
   rest = state.rest;
   names = state.names;
   failures = state.failures + own;
+  trail = state.trail;
+  noted = state.noted;
 }
 
 -- the next numbered call is the refused one

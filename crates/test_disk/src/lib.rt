@@ -6,7 +6,7 @@
 //! let disk = MemoryDisk::holding(alloc, nodes);
 //! ```
 //!
-//! A `MemoryDisk` is honest unless it is told otherwise. A `RefusingDisk` is any disk of which one call is refused.
+//! A `MemoryDisk` is honest unless it is told otherwise, and notes what its device did. A `RefusingDisk` is any disk of which one call is refused.
 //!
 //! There is a disk of all that can stand on one, and of nothing else. It is honest until a file is swapped, and calls that
 //! change it are exact.
@@ -18,7 +18,10 @@ mod memory_disk;
 mod placing;
 mod reading;
 mod refusing_disk;
+mod swap;
+mod trail;
 
+pub use bag_tree::DeviceEvent;
 pub use held::Node;
 pub use memory_disk::MemoryDisk;
 pub use refusing_disk::{Call, RefusingDisk};

@@ -6,36 +6,16 @@ use crate::changing::{add_node, append, moved_to};
 use crate::held::{Node, is_folder, names_in, node_at};
 use crate::placing::are_placed;
 use crate::reading::read_at;
+use crate::swap::Swap;
+use crate::trail::{Trail, renamed, written};
 use bag_disk::{Disk, DiskFault, Entry, Failures, Refusal, WritableDisk};
 use bag_text::{Items, Text};
+use bag_tree::DeviceEvent;
 use std::alloc::{AllocError, Global};
 use std::collections::BTreeMap;
 use std::str;
 
-/// What a file holds when it is opened, in place of what is listed.
-#[derive(Drop)]
-pub(crate) struct Swap {
-    path: Text,
-    bytes: Vec<u8>,
-}
-
-impl Swap {
-    ghost use Rattle.std.specs.Prelude.{◌≡◌, Some};
-    ghost use Rattle.test_disk.specs.MemoryDisk.{bytes_with};
-
-    /// What is read in place of a file's bytes.
-    fn in_place_of<'a>(&'a self, path: &str, bytes: &'a [u8]) -> &'a [u8]
-        ensures { result.now ≡ bytes_with (Some self.now) path.now bytes.now }
-    {
-        if self.path.as_str() == path {
-            self.bytes.as_slice()
-        } else {
-            bytes
-        }
-    }
-}
-
-/// A disk in memory, below its base folder. It is honest until a file is swapped.
+/// A disk in memory, below its base folder. It is honest until a file is swapped. It notes what its device did.
 #[derive(Drop)]
 pub struct MemoryDisk {
     alloc: Global,
@@ -48,8 +28,8 @@ pub struct MemoryDisk {
     names: Items<Items<u8>>,
     named: usize,
     written: Option<Text>,
-    /// Whether the device was asked to keep the names in the base folder as they are.
-    is_kept: bool,
+    /// What its device did.
+    trail: Trail,
     failures: Failures,
     ghost passes: { PassesAsDisk (nodes_of nodes.entries) },
 }
@@ -95,12 +75,13 @@ impl MemoryDisk {
             names: Items::new(alloc),
             named: 0,
             written: None,
-            is_kept: false,
+            trail: Trail::new(alloc),
             failures: Failures::none(),
         }
     }
 
-    /// A disk that holds the same. None of its folders is barred, no file of it is swapped, and nothing is open.
+    /// A disk that holds the same. None of its folders is barred, no file of it is swapped, nothing is open, and its device did
+    /// nothing.
     pub fn fresh_copy(&self, alloc: Global) -> Result<MemoryDisk, AllocError>
         ensures disk { IfOk result (λ disk. state_of disk ≡ fresh (state_of self.now).nodes) }
         ensures open { IfOk result (λ disk. barred_of disk ≡ []) }
@@ -131,6 +112,13 @@ impl MemoryDisk {
         ensures { result.now ≡ (state_of self.now).openings }
     {
         self.openings.as_slice()
+    }
+
+    /// What its device did, in the order of the calls that were answered.
+    pub fn trail(&self) -> &[DeviceEvent]
+        ensures { result.now ≡ (state_of self.now).trail }
+    {
+        self.trail.as_slice()
     }
 }
 
@@ -310,19 +298,18 @@ impl Disk for MemoryDisk {
 }
 
 impl WritableDisk for MemoryDisk {
-    ghost use Rattle.std.specs.Prelude.{◌≡◌, ◌<◌, ◌≤◌, ◌==◌, ◌||◌, IfErr, IfOk, IsErrOf, IsOk, IsTrue, List, MatchResult, None, OnErr, OnOk, Some, false, is_some, length, take, ℕ};
+    ghost use Rattle.std.specs.Prelude.{◌≡◌, ◌<◌, ◌≤◌, IfErr, IfOk, IsErrOf, IsTrue, List, None, OnErr, OnOk, Some, is_some, length, take, ℕ};
     ghost use Rattle.bag_text.specs.Path.{is_path};
-    ghost use Rattle.bag_disk.specs.Disk.{Has, IsFolder, IsReached, OnlyLooks, node};
-    ghost use Rattle.bag_disk.specs.WritableDisk.{Appends, Closes, HasFile, MakesFile, MakesFolder, Moves};
+    ghost use Rattle.bag_disk.specs.Disk.{Has, IsFolder, IsReached, OnlyLooks, OnlySyncs, node};
+    ghost use Rattle.bag_disk.specs.WritableDisk.{Appends, Closes, HasFile, MakesFile, MakesFolder, Moves, Notes};
     ghost use Rattle.bag_tree.specs.Moved.{KeepsOthers};
+    ghost use Rattle.bag_tree.specs.declared.event.DeviceEvent.TheVariants.{MakeFolder, Rename, Create, Write, Sync, SyncFolder};
     ghost use Rattle.bag_disk.specs.Refusal.{IsCountedAs, at_known, of_making};
     ghost use Rattle.bag_disk.specs.declared.disk.DiskFault.TheVariants.{Exists, Name, NotFound};
-    ghost use Rattle.test_disk.specs.Changing.{MayRefuseAdding, MayRefuseMoving, MayRefuseWriting};
-    ghost use Rattle.test_disk.specs.MemoryDisk.{barred_of, is_kept_of, state_of, written_of};
+    ghost use Rattle.test_disk.specs.Changing.{MayRefuseAdding, MayRefuseMoving, MayRefuseSync, MayRefuseSyncFolder, MayRefuseWriting};
+    ghost use Rattle.test_disk.specs.MemoryDisk.{barred_of, state_of, written_of};
 
     ghost written = { written_of };
-
-    ghost is_kept = { is_kept_of };
 
     fn make_folder(&mut self, path: &str) -> Result<(), DiskFault>
         requires { IsTrue (is_path path.now) }
@@ -335,19 +322,21 @@ impl WritableDisk for MemoryDisk {
         ensures absent { IsErrOf result NotFound → IsTrue (state_of self.old).honest → IsReached (state_of self.old).nodes path.now → ⊥ }
         ensures same { OnErr result (OnlyLooks (state_of self.old) (state_of self.new)) }
         ensures same_file { OnErr result (written_of self.new ≡ written_of self.old) }
-        ensures unkept { MatchResult result (λ _. is_kept_of self.new ≡ false) (λ _. is_kept_of self.new ≡ is_kept_of self.old) }
+        ensures noted { OnOk result (Notes (MakeFolder path.now) (state_of self.old) (state_of self.new)) }
         ensures failures { IsCountedAs of_making result (state_of self.old).failures (state_of self.new).failures }
         ensures barred { barred_of self.new ≡ barred_of self.old }
         ensures refused { IfErr result (MayRefuseAdding (state_of self.old).nodes path.now) }
     {
+        let made = Text::from_str(self.alloc, path)?;
+        self.trail.note(DeviceEvent::MakeFolder(made))?;
         match add_node(self.alloc, &mut self.nodes, path.as_bytes(), Node::Folder) {
             Ok(()) => {}
             Err(fault) => {
+                self.trail.take_back();
                 self.failures.refuse(Refusal::of_making(fault));
                 return Err(fault);
             }
         }
-        self.is_kept = false;
         self.open = None;
         self.written = None;
         Ok(())
@@ -369,19 +358,20 @@ impl WritableDisk for MemoryDisk {
             → node (state_of self.old).nodes from.now ≡ None }
         ensures same { OnErr result (OnlyLooks (state_of self.old) (state_of self.new)) }
         ensures same_file { OnErr result (written_of self.new ≡ written_of self.old) }
-        ensures unkept { MatchResult result (λ _. is_kept_of self.new ≡ false) (λ _. is_kept_of self.new ≡ is_kept_of self.old) }
+        ensures noted { OnOk result (Notes (Rename from.now to.now) (state_of self.old) (state_of self.new)) }
         ensures failures { IsCountedAs at_known result (state_of self.old).failures (state_of self.new).failures }
         ensures barred { barred_of self.new ≡ barred_of self.old }
         ensures refused { IfErr result (MayRefuseMoving (state_of self.old).nodes from.now to.now) }
     {
-        match moved_to(self.alloc, &self.nodes, from.as_bytes(), to.as_bytes()) {
-            Ok(moved) => self.nodes = moved,
+        let moved = match moved_to(self.alloc, &self.nodes, from.as_bytes(), to.as_bytes()) {
+            Ok(moved) => moved,
             Err(fault) => {
                 self.failures.refuse(Refusal::at_known(fault));
                 return Err(fault);
             }
-        }
-        self.is_kept = false;
+        };
+        self.trail.note(renamed(self.alloc, from, to)?)?;
+        self.nodes = moved;
         self.open = None;
         self.written = None;
         Ok(())
@@ -399,21 +389,24 @@ impl WritableDisk for MemoryDisk {
         ensures absent { IsErrOf result NotFound → IsTrue (state_of self.old).honest → IsReached (state_of self.old).nodes path.now → ⊥ }
         ensures same { OnErr result (OnlyLooks (state_of self.old) (state_of self.new)) }
         ensures same_file { OnErr result (written_of self.new ≡ written_of self.old) }
-        ensures unkept { MatchResult result (λ _. is_kept_of self.new ≡ false) (λ _. is_kept_of self.new ≡ is_kept_of self.old) }
+        ensures noted { OnOk result (Notes (Create path.now) (state_of self.old) (state_of self.new)) }
+        ensures named { OnOk result (written_of self.new ≡ Some path.now) }
         ensures failures { IsCountedAs of_making result (state_of self.old).failures (state_of self.new).failures }
         ensures barred { barred_of self.new ≡ barred_of self.old }
         ensures refused { IfErr result (MayRefuseAdding (state_of self.old).nodes path.now) }
     {
         let written = Text::from_str(self.alloc, path)?;
+        let made = Text::from_str(self.alloc, path)?;
+        self.trail.note(DeviceEvent::Create(made))?;
         let file = Node::File(Vec::new(self.alloc));
         match add_node(self.alloc, &mut self.nodes, path.as_bytes(), file) {
             Ok(()) => {}
             Err(fault) => {
+                self.trail.take_back();
                 self.failures.refuse(Refusal::of_making(fault));
                 return Err(fault);
             }
         }
-        self.is_kept = false;
         self.open = None;
         self.written = Some(written);
         Ok(())
@@ -429,8 +422,9 @@ impl WritableDisk for MemoryDisk {
         ensures unnamed { IsErrOf result Name → IsTrue (state_of self.old).honest → ⊥ }
         ensures same { OnErr result (OnlyLooks (state_of self.old) (state_of self.new)) }
         ensures same_file { written_of self.new ≡ written_of self.old }
-        ensures same_names { is_kept_of self.new ≡ is_kept_of self.old }
         ensures some { IfOk result (λ n. 0 < length bytes.now → 0 < n) }
+        ensures noted { IfOk result (λ n. (path : List ℕ) → written_of self.old ≡ Some path
+            → Notes (Write path (take n bytes.now)) (state_of self.old) (state_of self.new)) }
         ensures failures { IsCountedAs at_known result (state_of self.old).failures (state_of self.new).failures }
         ensures barred { barred_of self.new ≡ barred_of self.old }
         ensures all { IfOk result (λ n. n ≡ length bytes.now) }
@@ -440,9 +434,11 @@ impl WritableDisk for MemoryDisk {
             self.failures.refuse(Refusal::Device);
             return Err(DiskFault::Device);
         };
+        self.trail.note(written(self.alloc, path.as_str(), bytes)?)?;
         match append(self.alloc, &mut self.nodes, path.as_str().as_bytes(), bytes) {
             Ok(()) => {}
             Err(fault) => {
+                self.trail.take_back();
                 self.failures.refuse(Refusal::at_known(fault));
                 return Err(fault);
             }
@@ -452,7 +448,7 @@ impl WritableDisk for MemoryDisk {
     }
 
     fn sync(&mut self) -> Result<(), DiskFault>
-        ensures kept { OnOk result ((state_of self.new).nodes ≡ (state_of self.old).nodes) }
+        ensures held { OnOk result ((state_of self.new).nodes ≡ (state_of self.old).nodes) }
         ensures closed { OnOk result (Closes (state_of self.old) (state_of self.new)) }
         ensures ended { OnOk result (written_of self.new ≡ None) }
         ensures taken { IsErrOf result Exists → IsTrue (state_of self.old).honest → ⊥ }
@@ -460,32 +456,41 @@ impl WritableDisk for MemoryDisk {
         ensures unnamed { IsErrOf result Name → IsTrue (state_of self.old).honest → ⊥ }
         ensures same { OnErr result (OnlyLooks (state_of self.old) (state_of self.new)) }
         ensures same_file { OnErr result (written_of self.new ≡ written_of self.old) }
-        ensures same_names { is_kept_of self.new ≡ is_kept_of self.old }
+        ensures noted { OnOk result ((path : List ℕ) → written_of self.old ≡ Some path
+            → Notes (Sync path) (state_of self.old) (state_of self.new)) }
         ensures failures { IsCountedAs at_known result (state_of self.old).failures (state_of self.new).failures }
         ensures barred { barred_of self.new ≡ barred_of self.old }
-        ensures synced { IsOk result }
+        ensures refused { IfErr result (MayRefuseSync (written_of self.old)) }
     {
+        let Some(path) = &self.written else {
+            self.failures.refuse(Refusal::Device);
+            return Err(DiskFault::Device);
+        };
+        let synced = Text::from_str(self.alloc, path.as_str())?;
+        self.trail.note(DeviceEvent::Sync(synced))?;
         self.open = None;
         self.written = None;
         Ok(())
     }
 
     fn sync_folder(&mut self, folder: &str) -> Result<(), DiskFault>
-        ensures looks { OnlyLooks (state_of self.old) (state_of self.new) }
+        ensures syncs { OnlySyncs (state_of self.old) (state_of self.new) }
+        ensures same { OnErr result (OnlyLooks (state_of self.old) (state_of self.new)) }
         ensures same_file { written_of self.new ≡ written_of self.old }
-        ensures kept { MatchResult result (λ _. is_kept_of self.new ≡ (length folder.now == 0 || is_kept_of self.old)) (λ _. is_kept_of self.new ≡ is_kept_of self.old) }
+        ensures noted { OnOk result (Notes (SyncFolder folder.now) (state_of self.old) (state_of self.new)) }
         ensures taken { IsErrOf result Exists → IsTrue (state_of self.old).honest → ⊥ }
         ensures absent { IsErrOf result NotFound → IsTrue (state_of self.old).honest → IsFolder (state_of self.old).nodes folder.now → ⊥ }
         ensures unnamed { IsErrOf result Name → IsTrue (state_of self.old).honest → ⊥ }
         ensures failures { IsCountedAs at_known result (state_of self.old).failures (state_of self.new).failures }
         ensures barred { barred_of self.new ≡ barred_of self.old }
-        ensures refused { IfErr result (λ fault. (fault ≡ NotFound) × (IsFolder (state_of self.old).nodes folder.now → ⊥)) }
+        ensures refused { IfErr result (MayRefuseSyncFolder (state_of self.old).nodes folder.now) }
     {
         if !folder.is_empty() && !is_folder(&self.nodes, folder.as_bytes()) {
             self.failures.refuse(Refusal::Device);
             return Err(DiskFault::NotFound);
         }
-        self.is_kept = folder.is_empty() || self.is_kept;
+        let synced = Text::from_str(self.alloc, folder)?;
+        self.trail.note(DeviceEvent::SyncFolder(synced))?;
         Ok(())
     }
 }

@@ -229,8 +229,6 @@ impl<D: WritableDisk + Drop> WritableDisk for RefusingDisk<D> {
 
     ghost written = { λ disk. D.written disk.disk };
 
-    ghost is_kept = { λ disk. D.is_kept disk.disk };
-
     fn make_folder(&mut self, path: &str) -> Result<(), DiskFault>
         requires { IsTrue (is_path path.now) }
         ensures counted { call_of self.new ≡ one_less (call_of self.old) }
@@ -239,7 +237,7 @@ impl<D: WritableDisk + Drop> WritableDisk for RefusingDisk<D> {
             × (own_of self.new ≡ failures_after (of_making (fault_of self.old)) (own_of self.old)) }
         ensures passed { is_due (call_of self.old) ≡ false
             → MakesFolderAt (D.state (below_of self.old)) (D.state (below_of self.new)) (D.written (below_of self.old)) (D.written (below_of self.new))
-            (D.is_kept (below_of self.old)) (D.is_kept (below_of self.new)) path.now result × (own_of self.new ≡ own_of self.old) }
+            path.now result × (own_of self.new ≡ own_of self.old) }
         ensures told { told_of self.new ≡ (if is_due (call_of self.old) then told_of self.old else result_err result) }
     {
         if self.call.is_due() {
@@ -258,7 +256,7 @@ impl<D: WritableDisk + Drop> WritableDisk for RefusingDisk<D> {
             × (own_of self.new ≡ failures_after (at_known (fault_of self.old)) (own_of self.old)) }
         ensures passed { is_due (call_of self.old) ≡ false
             → Renames (D.state (below_of self.old)) (D.state (below_of self.new)) (D.written (below_of self.old)) (D.written (below_of self.new))
-            (D.is_kept (below_of self.old)) (D.is_kept (below_of self.new)) from.now to.now result × (own_of self.new ≡ own_of self.old) }
+            from.now to.now result × (own_of self.new ≡ own_of self.old) }
         ensures told { told_of self.new ≡ (if is_due (call_of self.old) then told_of self.old else result_err result) }
     {
         if self.call.is_due() {
@@ -276,7 +274,7 @@ impl<D: WritableDisk + Drop> WritableDisk for RefusingDisk<D> {
             × (own_of self.new ≡ failures_after (of_making (fault_of self.old)) (own_of self.old)) }
         ensures passed { is_due (call_of self.old) ≡ false
             → Creates (D.state (below_of self.old)) (D.state (below_of self.new)) (D.written (below_of self.old)) (D.written (below_of self.new))
-            (D.is_kept (below_of self.old)) (D.is_kept (below_of self.new)) path.now result × (own_of self.new ≡ own_of self.old) }
+            path.now result × (own_of self.new ≡ own_of self.old) }
         ensures told { told_of self.new ≡ (if is_due (call_of self.old) then told_of self.old else result_err result) }
     {
         if self.call.is_due() {
@@ -294,7 +292,7 @@ impl<D: WritableDisk + Drop> WritableDisk for RefusingDisk<D> {
             × (own_of self.new ≡ failures_after (at_known (fault_of self.old)) (own_of self.old)) }
         ensures passed { is_due (call_of self.old) ≡ false
             → Writes (D.state (below_of self.old)) (D.state (below_of self.new)) (D.written (below_of self.old)) (D.written (below_of self.new))
-            (D.is_kept (below_of self.old)) (D.is_kept (below_of self.new)) bytes.now result × (own_of self.new ≡ own_of self.old) }
+            bytes.now result × (own_of self.new ≡ own_of self.old) }
         ensures told { told_of self.new ≡ (if is_due (call_of self.old) then told_of self.old else result_err result) }
     {
         if self.call.is_due() {
@@ -312,7 +310,7 @@ impl<D: WritableDisk + Drop> WritableDisk for RefusingDisk<D> {
             × (own_of self.new ≡ failures_after (at_known (fault_of self.old)) (own_of self.old)) }
         ensures passed { is_due (call_of self.old) ≡ false
             → Syncs (D.state (below_of self.old)) (D.state (below_of self.new)) (D.written (below_of self.old)) (D.written (below_of self.new))
-            (D.is_kept (below_of self.old)) (D.is_kept (below_of self.new)) result × (own_of self.new ≡ own_of self.old) }
+            result × (own_of self.new ≡ own_of self.old) }
         ensures told { told_of self.new ≡ (if is_due (call_of self.old) then told_of self.old else result_err result) }
     {
         if self.call.is_due() {
@@ -329,7 +327,7 @@ impl<D: WritableDisk + Drop> WritableDisk for RefusingDisk<D> {
             × (own_of self.new ≡ failures_after (at_known (fault_of self.old)) (own_of self.old)) }
         ensures passed { is_due (call_of self.old) ≡ false
             → SyncsFolder (D.state (below_of self.old)) (D.state (below_of self.new)) (D.written (below_of self.old)) (D.written (below_of self.new))
-            (D.is_kept (below_of self.old)) (D.is_kept (below_of self.new)) folder.now result × (own_of self.new ≡ own_of self.old) }
+            folder.now result × (own_of self.new ≡ own_of self.old) }
         ensures told { told_of self.new ≡ (if is_due (call_of self.old) then told_of self.old else result_err result) }
     {
         if self.call.is_due() {
