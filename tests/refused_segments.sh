@@ -2,22 +2,21 @@
 # Builds a program of a few lines, in a folder of its own, that calls `run` and `run_segments` over a real folder, and runs it again
 # and again, each time with another growth refused: the first, the second, and so on, until none is left to refuse. What is written
 # must be the report's first lines, as many as the outcome says, and the outcome one that the limits can have where one of them is
-# lost; with a limit more than the report needs all of it is written, whichever growth was refused. It needs a C compiler.
+# lost; where it can be another than without a refusal, at least one refusal must give another. With a limit more than the report needs
+# all of it is written, whichever growth was refused. It needs a C compiler.
 #
-# usage: bench/refused_segments.sh    after `rt run` in crates/bagit, which proves the libraries
+# usage: tests/refused_segments.sh [PROGRAM]
+#
+# The program is proved and built over the libraries that `rt ci` or `rt run` left in crates/*/out; or PROGRAM is one that stands already.
 set -euo pipefail
+source "$(dirname "$0")/common.sh"
 source "$(dirname "$0")/growths.sh"
-
-root=$(realpath "$(dirname "$0")/..")
-work=$(mktemp -d /tmp/bagit-segments.XXXXXX)
-trap 'rm -rf "$work"' EXIT
-cd "$work"
+needs cc
+enter segments
 build_refuser
 
-mkdir -p room/crates/segments/src
-cp -a "$root"/crates/bag_* room/crates/
-{ grep '^bag_' "$root/crates.txt"; echo 'segments: bag_text bag_store bag_report bag_walk'; } >room/crates.txt
-cat >room/crates/segments/src/main.rt <<'END'
+write_program() {
+    cat <<'END'
 //! Checks the folder `d`, in segments where a word says with which limits, and says on the error output how that ended.
 #![tactic(auto)]
 
@@ -82,19 +81,58 @@ fn main(rt: HostRuntime) -> io::Result<ExitCode> {
     }
 }
 END
-(cd room/crates/segments && rt run >"$work/built" 2>&1) || { cat built; exit 1; }
-program=$work/room/crates/segments/out/segments
+}
 
-growths=0 own=0 wrong=0
+# Whether a crate's library stands in its `out`, and is no older than what it is built of.
+is_built() { [[ -d $1/out/rlib && -z $(find "$1"/{src,specs} -newer "$1/out/rlib/${1##*/}.rlib/format") ]]; }
+
+# Proves and builds the program over the libraries that `rt ci` leaves, by the commands that `rt` calls. (`rt run` wouldn't take them,
+# since of their proofs they have only the statements.)
+build_over_ci() {
+    local kit=$(realpath "$(dirname "$(realpath "$(command -v rt)")")/..") crate words=()
+    for crate in "$root"/crates/bag_*; do
+        is_built "$crate" || return
+        words+=(-L "dependency=$crate/out/rlib")
+    done
+    for crate in bag_{text,store,report,walk}; do words+=(--extern "$crate=$root/crates/$crate/out/rlib/$crate.rlib"); done
+    "$kit/bin/rattle" build --crate-name segments src/main.rt --extern "std=$kit/rlibs/std.rlib" -L "dependency=$kit/rlibs" \
+        "${words[@]}" --antt-project "$kit/rattle/logic/antt-project.json" --logic-built "$kit/logic_built" --jobs 1 \
+        --toolchain "$kit/toolchain" -o segments.o &&
+        "$kit/bin/rattle-link" --target x86_64-unknown-linux-gnu --toolchain "$kit/toolchain" -o segments segments.o \
+            "$kit"/c/lib{os,libc}_c.a
+}
+
+# The same by `rt run`, which proves the libraries where none are kept that it takes.
+build_by_rt() {
+    mkdir -p room/crates/segments
+    cp -a "$root"/crates/bag_* room/crates/
+    cp -r src room/crates/segments/
+    { grep '^bag_' "$root/crates.txt"; echo 'segments: bag_text bag_store bag_report bag_walk'; } >room/crates.txt
+    (cd room/crates/segments && rt run) && mv room/crates/segments/out/segments .
+}
+
+if [[ -z ${1:-} ]]; then
+    mkdir src
+    write_program >src/main.rt
+    build_over_ci >built 2>&1 || build_by_rt >>built 2>&1 || give_up "the program isn't built: $(<built)"
+fi
+take_program segments "${1:-$work/segments}"
+
+all_own=0 own=0
 
 # Whether an answer has the report's first lines, as many as its outcome says, and an outcome that is wanted. A run's closing line
-# stands behind them.
+# stands after them. (The program ends with 9 where there was no memory for what it does around the calls.)
 is_right() {
     local outcome=$(<errors) lines
-    [[ $status == 0 && -n $outcome && " $2 " == *" ${outcome/ /:} "* ]] || return
+    if [[ $status == 9 && ! -s output ]]; then
+        own=$((own + 1))
+        return
+    fi
+    [[ $status == 0 && -n $outcome && " $wanted " == *" ${outcome/ /:} "* ]] || return
+    [[ ${outcome/ /:} == "${wanted%% *}" ]] || others=$((others + 1))
     lines=${outcome#* }
     head -n "$lines" report >front
-    [[ $1 != run ]] || case $outcome in
+    [[ $limits != run ]] || case $outcome in
         memory*) echo "d unread - memory, faults: $lines" >>front ;;
         *) echo "d has faults: $lines" >>front ;;
     esac
@@ -104,37 +142,14 @@ is_right() {
 # Refuses each growth of a check of the bag with the faults of the file `report`. Its arguments are the limits, or `run`, how it ends
 # where no growth is refused, and how else it may end where one is.
 in_turn() {
-    local limits=$1 wanted=$2 number=1
-    shift 2
-    if refusing 0 "$program" "$limits" || ! is_right "$limits" "$wanted"; then
-        echo "$limits: $(cat output errors)"
-        exit 1
-    fi
-    while refusing "$number" "$program" "$limits"; do
-        if [[ $status == 9 && ! -s output ]]; then
-            own=$((own + 1))
-        elif ! is_right "$limits" "$wanted $*"; then
-            echo "$limits: growth $number is refused, and the status is $status: $(cat output errors)"
-            wrong=$((wrong + 1))
-        fi
-        number=$((number + 1))
-    done
-    growths=$((growths + number - 1))
+    limits=$1 wanted=$2 others=0
+    refusing_none "$program" "$limits"
+    is_right && ((own == 0)) || give_up "$limits: $(cat output errors)"
+    wanted=${*:2}
+    refusing_each : is_right "$program" "$limits"
+    (($# == 2 || others > 0)) || give_up "$limits: no refusal gives another outcome"
+    all_own=$((all_own + own)) own=0
 }
-
-sum() { printf '%s' "$1" | "$2sum" | cut -d' ' -f1; }
-m0=$(sum '' md5) ma=$(sum a md5) mb=$(sum b md5) mabc=$(sum abc md5)
-s0=$(sum '' sha1) sa=$(sum a sha1) sabc=$(sum abc sha1)
-
-# A new bag d: its declaration and an empty folder data.
-bag() {
-    rm -rf d
-    mkdir -p d/data
-    printf 'BagIt-Version: 1.0\nTag-File-Character-Encoding: UTF-8\n' >d/bagit.txt
-}
-
-# Puts a text, with printf's escapes, into a file of the bag.
-put() { printf "$2" >"d/$1"; }
 
 # A file that one of three manifests names.
 bag; put data/a a; put manifest-md5.txt "$ma  data/a\n"; put manifest-sha1.txt ''; put manifest-sha256.txt ''
@@ -177,6 +192,5 @@ for file in a b c; do
 done >report
 in_turn 3,3,3,3 faults:6
 
-echo "$own were of the program around the calls"
-echo "$growths growths refused, $wrong wrong"
-[[ $wrong == 0 ]]
+echo "$all_own were of the program around the calls"
+conclude

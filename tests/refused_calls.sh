@@ -11,17 +11,14 @@
 #
 # It also counts which folders are synced by a making, and how often: at most ten times, the base folder last. It needs strace.
 #
-# usage: bench/refused_calls.sh [PROGRAM]
+# usage: tests/refused_calls.sh [PROGRAM]
 #
-# PROGRAM is crates/bagit/out/bagit by default, which `rt run` leaves there.
+# PROGRAM is crates/bagit/out/bagit by default, which `rt run` and `rt ci` leave there.
 set -euo pipefail
-
-program=$(realpath "${1:-$(dirname "$0")/../crates/bagit/out/bagit}")
-command -v strace >/dev/null || { echo "strace is needed: apt-get install strace"; exit 1; }
-
-work=$(mktemp -d /tmp/bagit-calls.XXXXXX)
-trap 'rm -rf "$work"' EXIT
-cd "$work"
+source "$(dirname "$0")/common.sh"
+needs strace
+take_program bagit "${1:-}"
+enter calls
 
 seconds=60
 refused=0 killed=0 wrong=0
@@ -33,6 +30,7 @@ run() {
     status=0
     # (Where it was killed, the shell would say so.)
     { timeout "$seconds" strace -f -o calls ${injection:+-e inject="$injection"} "$program" "$@" >output 2>failures || status=$?; } 2>&-
+    [[ -z $injection || $(<calls) == *@(INJECTED|'killed by SIGKILL')* ]] || is_wrong 'no call was refused'
 }
 
 # The calls of the program, each as NAME NUMBER, counted for each name from 1, behind those of the loader. The call that ends the program
@@ -170,7 +168,7 @@ in_turn() {
     done <numbered
 }
 
-printf 'BagIt-Version: 1.0\nTag-File-Character-Encoding: UTF-8\n' >declaration
+declare_bag >declaration
 
 # A folder to be made a bag, which has a `data` of its own, with files in folders, and no two files of the same bytes.
 mkdir -p pristine/data/inner pristine/letters
@@ -207,9 +205,21 @@ cat >profile.json <<'END'
 {"BagIt-Profile-Info":{"BagIt-Profile-Identifier":"urn:p"},"Bag-Info":{"Source-Organization":{"required":true}}}
 END
 folder
-"$program" --validate --profile profile.json d >faults || true
-in_turn checked 1 --validate --profile profile.json d <faults
-in_turn checked 1 --validate --completeness-only d < <("$program" --validate --completeness-only d || true)
+sums() { echo "$(grep " data/w\$" "d/manifest-$1.txt" | cut -d' ' -f1):$("$1sum" pristine/data/w | cut -d' ' -f1)"; }
+complete='304 oxum-differs bag-info.txt - 1 200011.4:200008.4
+603 payload-file-not-listed data/extra md5 - -
+603 payload-file-not-listed data/extra sha256 - -
+601 payload-file-missing data/letters/z md5 - -
+601 payload-file-missing data/letters/z sha256 - -'
+in_turn checked 1 --validate --profile profile.json d <<END
+$complete
+701 payload-sum-differs data/w md5 - $(sums md5)
+701 payload-sum-differs data/w sha256 - $(sums sha256)
+801 profile-identifier bag-info.txt - - urn:p
+802 label-required bag-info.txt - - Source-Organization
+d has faults: 9
+END
+in_turn checked 1 --validate --completeness-only d <<<"$complete"$'\nd has faults: 5'
 
 echo "killed $killed times"
 echo "$refused calls refused, $wrong wrong"

@@ -2,28 +2,28 @@
 # Checks small bags again and again, at each depth, above a cursor, up to a limit and by a profile, and each time refuses another of
 # the program's growths: the first, the second, and so on, until none is left to refuse. What is written must be the whole report; or
 # its first lines, and a closing line that counts them and says that memory ran out; or that alone, where there was no memory for the
-# words, for the profile or to begin a check. Then the least number is sought for which no growth is refused while a bag is checked
-# whose payload file has one byte, and one whose payload file has 1,000,000: it must be the same. It needs a C compiler.
+# words, for the profile or to begin a check. Of each check at least one growth must be reported as refused, and the bag must be as it
+# was.
 #
-# usage: bench/refused_checks.sh [PROGRAM]
+# Then the least number is sought for which no growth is refused while a bag is checked whose payload file has one byte, and one whose
+# payload file has 1,000,000: it must be the same, and so must be the most bytes that a growth asks for. It needs a C compiler.
 #
-# PROGRAM is crates/bagit/out/bagit by default, which `rt run` leaves there.
+# usage: tests/refused_checks.sh [PROGRAM]
+#
+# PROGRAM is crates/bagit/out/bagit by default, which `rt run` and `rt ci` leave there.
 set -euo pipefail
+source "$(dirname "$0")/common.sh"
 source "$(dirname "$0")/growths.sh"
-
-program=$(realpath "${1:-$(dirname "$0")/../crates/bagit/out/bagit}")
-
-work=$(mktemp -d /tmp/bagit-checks.XXXXXX)
-trap 'rm -rf "$work"' EXIT
-cd "$work"
+needs cc
+take_program bagit "${1:-}"
+enter checks
 build_refuser
 
-growths=0 wrong=0
-
 # Whether an answer is one that a refused growth may have: the whole report, with its status; its first lines and the closing line;
-# or want of memory, behind the keys that aren't checked, where they were written.
+# or that memory ran out, after the keys that aren't checked, where they were written.
 is_right() {
-    if [[ $status == "$1" && ! -s errors ]] && cmp -s whole output; then return; fi
+    if [[ $status == "$wanted" && ! -s errors ]] && cmp -s whole output; then return; fi
+    reported=$((reported + 1))
     if [[ -s errors ]]; then
         cp output front
         is_out_of_memory && begins lines && ! grep -qv '^unchecked ' front
@@ -37,38 +37,18 @@ is_right() {
 # Refuses each growth of a check. Its arguments are the status and the words; standard input is what is written where no growth is
 # refused.
 in_turn() {
-    local wanted=$1 number=1
+    wanted=$1 reported=0
     shift
     cat >whole
     head -n -1 whole >lines
-    if refusing 0 "$program" "$@" || [[ $status != "$wanted" || -s errors ]] || ! diff whole output; then
-        echo "$*: something else is written, with the status $status"
-        exit 1
-    fi
-    while refusing "$number" "$program" "$@"; do
-        if ! is_right "$wanted"; then
-            echo "$*: growth $number is refused, and the status is $status: $(cat output errors)"
-            wrong=$((wrong + 1))
-        fi
-        number=$((number + 1))
-    done
-    growths=$((growths + number - 1))
-    least=$number
+    rm -rf kept
+    [[ ! -e d ]] || cp -r d kept
+    refusing_none "$program" "$@"
+    [[ $status == "$wanted" && ! -s errors ]] && diff whole output || give_up "$*: something else is written, with the status $status"
+    refusing_each : is_right "$program" "$@"
+    ((reported > 0)) || give_up "$*: no refusal is reported"
+    [[ ! -e d ]] || diff -r kept d
 }
-
-sum() { printf '%s' "$1" | "$2sum" | cut -d' ' -f1; }
-m0=$(sum '' md5) ma=$(sum a md5) mb=$(sum b md5) mabc=$(sum abc md5)
-s0=$(sum '' sha1) sa=$(sum a sha1) sabc=$(sum abc sha1)
-
-# A new bag d: its declaration and an empty folder data.
-bag() {
-    rm -rf d
-    mkdir -p d/data
-    printf 'BagIt-Version: 1.0\nTag-File-Character-Encoding: UTF-8\n' >d/bagit.txt
-}
-
-# Puts a text, with printf's escapes, into a file of the bag.
-put() { printf "$2" >"d/$1"; }
 
 name=sample
 in_turn 0 <<<'sample has a good declaration'
@@ -151,8 +131,8 @@ sized() {
     (cd d && sha256sum data/a >manifest-sha256.txt)
     in_turn 0 --validate d <<<'d is valid'
 }
-sized 1; small=$least
-sized 1000000; large=$least
-echo "the least number for which no growth is refused: $small for a payload file of 1 byte, $large for one of 1,000,000 bytes"
-echo "$growths growths refused, $wrong wrong"
-[[ $small == "$large" && $wrong == 0 ]]
+sized 1
+small=$last most=$largest
+sized 1000000
+compare_sizes "$small" "$most"
+conclude

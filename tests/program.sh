@@ -1,48 +1,36 @@
 #!/usr/bin/env bash
 # Runs the program over real folders, by its words, and compares what it writes and its status with worked examples.
 #
-# usage: bench/program.sh [PROGRAM]
+# usage: tests/program.sh [PROGRAM]
 #
-# PROGRAM is crates/bagit/out/bagit by default, which `rt run` leaves there. The last line says how many examples there were.
+# PROGRAM is crates/bagit/out/bagit by default, which `rt run` and `rt ci` leave there. The last line says how many examples there were.
 set -euo pipefail
+source "$(dirname "$0")/common.sh"
+take_program bagit "${1:-}"
+enter program
 
-program=$(realpath "${1:-$(dirname "$0")/../crates/bagit/out/bagit}")
-
-work=$(mktemp -d /tmp/bagit-program.XXXXXX)
-trap 'rm -rf "$work"' EXIT
-cd "$work"
-
-sum() { printf '%s' "$1" | "$2sum" | cut -d' ' -f1; }
-m0=$(sum '' md5) ma=$(sum a md5) mb=$(sum b md5) mabc=$(sum abc md5)
-sa=$(sum a sha1) sabc=$(sum abc sha1)
 examples=0
 
-# A new bag d: its declaration and an empty folder data.
-bag() {
-    rm -rf d
-    mkdir -p d/data
-    printf 'BagIt-Version: 1.0\nTag-File-Character-Encoding: UTF-8\n' >d/bagit.txt
-}
-
-# Puts a text, with printf's escapes, into a file of the bag.
-put() { printf "$2" >"d/$1"; }
-
-# Runs the program with the words behind the status and compares its output with standard input.
-wanted() {
+# Runs the program with the words after the status, and compares its status, and its output with standard input.
+run() {
     local status=0 expected=$1
     shift
     "$program" "$@" >output 2>errors || status=$?
-    diff - output || { echo "$* wrote something else"; exit 1; }
-    [[ $status == "$expected" ]] || { echo "$* ended with $status, and not $expected"; cat errors; exit 1; }
+    diff - output || give_up "$* wrote something else"
+    [[ $status == "$expected" ]] || give_up "$* ended with $status, and not $expected: $(<errors)"
     examples=$((examples + 1))
 }
 
-# The same, and compares what stands on standard error with a text.
+# The same, with nothing on standard error.
+wanted() {
+    run "$@"
+    [[ ! -s errors ]] || give_up "${*:2} complains: $(<errors)"
+}
+
+# The same, with nothing on the output, and with a text on standard error.
 refused() {
-    local text=$1
-    shift
-    wanted "$@" </dev/null
-    diff <(printf '%s\n' "$text") errors
+    run "${@:2}" </dev/null
+    diff <(printf '%s\n' "$1") errors || give_up "${*:3} complains of something else"
 }
 
 wanted 0 <<<'sample has a good declaration'
@@ -198,6 +186,23 @@ not%20there unread - device, faults: 0
 d has a good declaration
 END
 
+# Two folders and a limit: one bag is complete, and of the other, which is damaged, the first faults are written.
+rm -rf letters damaged
+mkdir letters
+printf 'Dear Ann,\n' >letters/first.txt
+printf 'Dear Bob,\n' >letters/second.txt
+wanted 0 --sha256 --contact-name Ann letters <<<'letters made'
+cp -r letters damaged
+echo x >>damaged/data/first.txt
+mv damaged/data/second.txt damaged/data/third.txt
+echo more >damaged/data/third.txt
+wanted 1 --validate --completeness-only --max-faults 2 letters damaged <<'END'
+letters is complete
+304 oxum-differs bag-info.txt - 2 20.2:17.2
+601 payload-file-missing data/second.txt sha256 - -
+damaged stopped, faults: 2
+END
+
 # Words that are refused.
 refused 'bagit: --fast needs --validate' 2 --fast d
 refused 'bagit: --max-faults needs --validate' 2 --max-faults 1 d
@@ -206,8 +211,8 @@ refused 'bagit: more than one of --declaration-only, --fast, --completeness-only
 refused 'bagit: --after takes one directory' 2 --validate --after 701 a b
 refused 'bagit: --after is not a fault line' 2 --validate --after 701 d
 for words in '--validate --max-faults 0 d' '--validate' '--md5 --md5 d' '--unknown d' '--val d'; do
-    wanted 2 $words </dev/null
-    [[ -s errors ]]
+    run 2 $words </dev/null
+    [[ -s errors ]] || give_up "$words is refused without a word"
 done
 "$program" --help >output
 grep -q -- '--completeness-only' output

@@ -1,0 +1,52 @@
+# Functions of the scripts of this folder: the program that they run, a folder of their own, and small bags.
+export LC_ALL=C
+tests=$(realpath "$(dirname "${BASH_SOURCE[0]}")")
+root=${tests%/*}
+
+# Ends the script where a tool isn't there, by the status of a test that is skipped (the one that automake takes for it).
+needs() {
+    local tool
+    for tool; do
+        if ! command -v "$tool" >/dev/null; then
+            echo "skipped: there is no $tool"
+            exit 77
+        fi
+    done
+}
+
+# Ends the script, since what it is to show isn't so.
+give_up() {
+    echo "$*"
+    exit 1
+}
+
+# Takes the program to run: the one of this path, or where none is given what stands in a crate's `out`.
+take_program() {
+    program=$(realpath "${2:-$root/crates/$1/out/$1}")
+    [[ -x $program ]] || give_up "there is no program $program"
+}
+
+# Goes into a new folder, `work`, which is removed at the end.
+enter() {
+    work=$(mktemp -d "/tmp/bagit-$1.XXXXXX")
+    trap 'rm -rf "$work"' EXIT
+    cd "$work"
+}
+
+# Digests of no byte, `a`, `b` and `abc`.
+sum() { printf '%s' "$1" | "$2sum" | cut -d' ' -f1; }
+m0=$(sum '' md5) ma=$(sum a md5) mb=$(sum b md5) mabc=$(sum abc md5)
+s0=$(sum '' sha1) sa=$(sum a sha1) sabc=$(sum abc sha1)
+
+# A declaration that is right (RFC 8493, 2.1.1).
+declare_bag() { printf 'BagIt-Version: 1.0\nTag-File-Character-Encoding: UTF-8\n'; }
+
+# A new bag d: its declaration and an empty folder data.
+bag() {
+    rm -rf d
+    mkdir -p d/data
+    declare_bag >d/bagit.txt
+}
+
+# Puts a text, with printf's escapes, into a file of the bag.
+put() { printf "$2" >"d/$1"; }
