@@ -3,15 +3,15 @@ export LC_ALL=C
 tests=$(realpath "$(dirname "${BASH_SOURCE[0]}")")
 root=${tests%/*}
 
-# Ends the script where a tool isn't there, by the status of a test that is skipped (the one that automake takes for it).
+# Ends the script where a tool isn't there, by the status of a test that is skipped (the one that automake takes for it). A machine may
+# have strace, and not allow it.
 needs() {
-    local tool
-    for tool; do
-        if ! command -v "$tool" >/dev/null; then
-            echo "skipped: there is no $tool"
-            exit 77
-        fi
-    done
+    case $1 in
+        strace) strace -o /dev/null true ;;
+        *) command -v "$1" ;;
+    esac >/dev/null 2>&1 && return
+    echo "skipped: there is no $1 here"
+    exit 77
 }
 
 # Ends the script, since what it is to show isn't so.
