@@ -8,19 +8,18 @@
 #
 # usage: bench/completeness.sh [PROGRAM] [RUNS]
 #
-# PROGRAM is crates/bagit/out/bagit by default, which `rt run` leaves there.
+# PROGRAM is crates/bagit/out/bagit by default, which `rt run` and `rt ci` leave there.
 set -euo pipefail
-source "$(dirname "$0")/time.sh"
+source "$(dirname "$0")/common.sh"
 
-program=$(realpath "${1:-$(dirname "$0")/../crates/bagit/out/bagit}")
+take_program bagit "${1:-}"
 runs=${2:-5}
 folders=1000
 files_in_each=100
 empty_sha256=e3b0c44298fc1c149afbf4c8996fb92427ae41e4649b934ca495991b7852b855
 empty_sha512=cf83e1357eefb8bdf1542850d66d8007d620e4050b5715dc83f4a921d36ce9ce47d0d13c5d85f2b0ff8318d2877eec2f63b931bd47417a81a538327af927da3e
 
-work=$(mktemp -d /tmp/bagit-completeness.XXXXXX)
-trap 'rm -rf "$work"' EXIT
+make_room completeness
 
 # A bag with so many folders of files, whose names begin so. Beside it stands the list of their paths, in the order in which
 # the system gives them.
@@ -44,26 +43,18 @@ find_and_sort() {
     LC_ALL=C sort "$work/$1.paths"
 }
 
-# The most memory that a check takes, in KiB.
 # Says whether a bag is complete, and without clashes of names.
 complete() { "$program" --validate --completeness-only "$work/$1"; }
 clashes() { "$program" --validate --completeness-only --clashes "$work/$1"; }
 
-peak() {
-    /usr/bin/time -f %M -o "$work/peak" "$program" --validate --completeness-only "${@:2}" "$work/$1" >"$work/output"
-    cat "$work/peak"
-}
-
-# How much longer a check takes where clashes are looked for. Its arguments are what the names are, and the bag.
+# How much longer a check takes where clashes are looked for. Its arguments are what the names are, the bag, and the most that it may be.
 compare_clashes() {
-    local kind=$1 bag=$2 complete= clashes= run
+    local kind=$1 bag=$2 bar=$3 complete= clashes= run
     for ((run = 0; run < runs; run++)); do
         complete=$(least "$complete" "$(milliseconds complete "$bag")")
         clashes=$(least "$clashes" "$(milliseconds clashes "$bag")")
     done
-    awk -v kind="$kind" -v complete="$complete" -v clashes="$clashes" 'BEGIN {
-        printf "%s names: complete: %d ms, clashes too: %d ms, more by %.2f\n", kind, complete, clashes, (clashes - complete) / complete
-    }'
+    at_most "$kind names: complete: $complete ms, clashes too: $clashes ms, more by" "$((clashes - complete))/$complete" "$bar"
 }
 
 make_bag empty 0 folder image
@@ -81,19 +72,16 @@ for ((run = 0; run < runs; run++)); do
     complete=$(least "$complete" "$(milliseconds complete once)")
     complete_twice=$(least "$complete_twice" "$(milliseconds complete twice)")
 done
-awk -v peer="$peer" -v complete="$complete" -v twice="$complete_twice" 'BEGIN {
-    printf "complete: %d ms, find and sort: %d ms, ratio: %.2f; twice the files: %d ms, ratio: %.2f\n",
-        complete, peer, complete / peer, twice, twice / complete
-}'
+ratio "complete, beside find and sort" "$complete" "$peer" 2.00
+ratio "twice the files, beside them once" "$complete_twice" "$complete" 2.30
 
-compare_clashes ASCII once
-compare_clashes other marked
+compare_clashes ASCII once 0.50
+compare_clashes other marked 2.00
 
 files=$(wc -l <"$work/once.paths")
 path_bytes=$(($(wc -c <"$work/once.paths") - files))
 for option in '' --clashes; do
-    memory=$((($(peak once $option) - $(peak empty $option)) * 1024))
-    awk -v mode="complete${option:+, clashes too}" -v files="$files" -v bytes="$path_bytes" -v memory="$memory" 'BEGIN {
-        printf "%s, memory for each file: %.0f bytes; bytes of a path: %.1f\n", mode, memory / files, bytes / files
-    }'
+    more=$(($(peak "$program" --validate --completeness-only $option "$work/once") -
+        $(peak "$program" --validate --completeness-only $option "$work/empty")))
+    at_most "complete${option:+, clashes too}, memory for each file" "$((more * 1024))/$files" $((1000 + 6 * path_bytes / files)) bytes
 done

@@ -6,16 +6,15 @@
 #
 # usage: bench/hashes.sh [PROGRAM] [RUNS] [MEBIBYTES]
 #
-# PROGRAM is crates/bagit/out/bagit by default, which `rt run` leaves there.
+# PROGRAM is crates/bagit/out/bagit by default, which `rt run` and `rt ci` leave there.
 set -euo pipefail
-source "$(dirname "$0")/time.sh"
+source "$(dirname "$0")/common.sh"
 
-program=$(realpath "${1:-$(dirname "$0")/../crates/bagit/out/bagit}")
+take_program bagit "${1:-}"
 runs=${2:-5}
 mebibytes=${3:-500}
 
-work=$(mktemp -d /tmp/bagit-hashes.XXXXXX)
-trap 'rm -rf "$work"' EXIT
+make_room hashes
 
 mkdir -p "$work/alone/crates/hashes/src"
 echo 'hashes: sha2' >"$work/alone/crates.txt"

@@ -6,17 +6,16 @@
 #
 # usage: bench/lines.sh [PROGRAM] [RUNS]
 #
-# PROGRAM is crates/cases/out/cases by default, which `rt run` leaves there.
+# PROGRAM is crates/cases/out/cases by default, which `rt run` and `rt ci` leave there.
 set -euo pipefail
-source "$(dirname "$0")/time.sh"
+source "$(dirname "$0")/common.sh"
 
-program=$(realpath "${1:-$(dirname "$0")/../crates/cases/out/cases}")
+take_program cases "${1:-}"
 runs=${2:-5}
 lines=500000
 size=60
 
-work=$(mktemp -d /tmp/bagit-lines.XXXXXX)
-trap 'rm -rf "$work"' EXIT
+make_room lines
 
 # Writes so many lines with names of so many bytes, an escape in every sixth.
 fault_lines() {
@@ -43,20 +42,22 @@ rows() {
 }
 
 measure() {
-    local kind=$1 counted= once= more= longer= run
+    local kind=$1 counted= once= more= longer= file run
     rows "${kind}_lines" "$lines" "$size" >"$work/once"
     rows "${kind}_lines" $((2 * lines)) "$size" >"$work/more"
     rows "${kind}_lines" "$lines" $((2 * size)) >"$work/longer"
+    for file in once more longer; do
+        "$program" "$work/$file" >"$work/output" || give_up "the program of cases doesn't follow $kind lines: $(head -c 300 "$work/output")"
+    done
     for ((run = 0; run < runs; run++)); do
         counted=$(least "$counted" "$(milliseconds wc -l "$work/once")")
         once=$(least "$once" "$(milliseconds "$program" "$work/once")")
         more=$(least "$more" "$(milliseconds "$program" "$work/more")")
         longer=$(least "$longer" "$(milliseconds "$program" "$work/longer")")
     done
-    awk -v kind="$kind" -v counted="$counted" -v once="$once" -v more="$more" -v longer="$longer" 'BEGIN {
-        printf "%s lines: %d ms, wc -l: %d ms; twice as many: %d ms, ratio: %.2f; twice as long: %d ms, ratio: %.2f\n",
-            kind, once, counted, more, more / once, longer, longer / once
-    }'
+    echo "$kind lines: $once ms, wc -l: $counted ms"
+    ratio "twice as many $kind lines" "$more" "$once" 2.30
+    ratio "$kind lines that are twice as long" "$longer" "$once" 2.30
 }
 
 measure fault

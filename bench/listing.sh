@@ -4,16 +4,16 @@
 #
 # usage: bench/listing.sh [PROGRAM] [RUNS]
 #
-# PROGRAM is crates/bagit/out/bagit by default, which `rt run` leaves there.
+# PROGRAM is crates/bagit/out/bagit by default, which `rt run` and `rt ci` leave there.
 set -euo pipefail
+source "$(dirname "$0")/common.sh"
 
-program=$(realpath "${1:-$(dirname "$0")/../crates/bagit/out/bagit}")
+take_program bagit "${1:-}"
 runs=${2:-10}
 folders=200
 files_in_each=500
 
-work=$(mktemp -d /tmp/bagit-listing.XXXXXX)
-trap 'rm -rf "$work"' EXIT
+make_room listing
 bag=$work/bag
 empty=$work/empty
 
@@ -38,40 +38,19 @@ find_and_sort() {
     find "$bag" -printf '%y %s %p\n' | LC_ALL=C sort
 }
 
-# The nanoseconds that a command takes.
-nanoseconds() {
-    local start end
-    start=$(date +%s%N)
-    "$@" >"$work/output"
-    end=$(date +%s%N)
-    echo $((end - start))
-}
-
-# The most memory that a check takes, in KiB.
-peak() {
-    /usr/bin/time -f %M -o "$work/peak" "$program" --validate --declaration-only "$1" >"$work/output"
-    cat "$work/peak"
-}
-
 make_bag "$bag"
 make_bag "$empty"
 fill_bag
 
-best_check=
-best_find=
+diff <(check "$bag") <(echo "$bag has a good declaration")
+checked= found=
 for ((run = 0; run < runs; run++)); do
-    time_check=$(nanoseconds check "$bag")
-    time_find=$(nanoseconds find_and_sort)
-    if [[ -z $best_check || $time_check -lt $best_check ]]; then best_check=$time_check; fi
-    if [[ -z $best_find || $time_find -lt $best_find ]]; then best_find=$time_find; fi
+    checked=$(least "$checked" "$(elapsed check "$bag")")
+    found=$(least "$found" "$(elapsed find_and_sort)")
 done
+ratio "declaration of 100,000 files, beside find and sort, by the clock" "$checked" "$found" 1.50
 
 entries=$(find "$bag" -mindepth 1 | wc -l)
 path_bytes=$(find "$bag" -mindepth 1 -printf '%P' | wc -c)
-more_memory=$((($(peak "$bag") - $(peak "$empty")) * 1024))
-
-awk -v check="$best_check" -v find="$best_find" -v entries="$entries" -v bytes="$path_bytes" -v memory="$more_memory" 'BEGIN {
-    printf "entries: %d, bytes of a path: %.1f\n", entries, bytes / entries
-    printf "check: %.1f ms, find and sort: %.1f ms, ratio: %.2f\n", check / 1e6, find / 1e6, check / find
-    printf "memory for each entry: %.1f bytes\n", memory / entries
-}'
+more=$(($(peak "$program" --validate --declaration-only "$bag") - $(peak "$program" --validate --declaration-only "$empty")))
+at_most "memory for each entry" "$((more * 1024))/$entries" $((250 + 2 * path_bytes / entries)) bytes

@@ -7,17 +7,16 @@
 #
 # usage: bench/making.sh [PROGRAM] [RUNS]
 #
-# PROGRAM is crates/bagit/out/bagit by default, which `rt run` leaves there.
+# PROGRAM is crates/bagit/out/bagit by default, which `rt run` and `rt ci` leave there.
 set -euo pipefail
-source "$(dirname "$0")/time.sh"
+source "$(dirname "$0")/common.sh"
 
-program=$(realpath "${1:-$(dirname "$0")/../crates/bagit/out/bagit}")
+take_program bagit "${1:-}"
 runs=${2:-3}
 folders=200
 files_in_each=500
 
-work=$(mktemp -d /tmp/bagit-making.XXXXXX)
-trap 'rm -rf "$work"' EXIT
+make_room making
 
 mkdir "$work/folder"
 for ((folder = 0; folder < folders; folder++)); do
@@ -37,10 +36,7 @@ for ((run = 0; run < runs; run++)); do
     checked=$(least "$checked" "$(milliseconds "$program" --validate "$work/bag")")
     diff <(echo "$work/bag is valid") "$work/output"
 done
-awk -v made="$made" -v checked="$checked" 'BEGIN {
-    over = made / checked > 1.1 ? sprintf(", over the bar by %.2f", made / checked - 1.1) : ""
-    printf "made: %d ms, checked: %d ms, ratio: %.2f (at most 1.10%s)\n", made, checked, made / checked, over
-}'
+ratio "making a bag, beside a check of it" "$made" "$checked" 1.10
 
 cd "$work/bag"
 sha256sum --check --quiet manifest-sha256.txt tagmanifest-sha256.txt
@@ -66,5 +62,5 @@ if command -v strace >"$work/output"; then
     cp -r "$work/folder" "$work/bag"
     strace -f -c -e trace=rename,renameat,renameat2 -o "$work/calls" "$program" --sha256 --sha512 "$work/bag" >"$work/output"
     renames=$(awk '$NF ~ /^rename/ { sum += $4 } END { print sum + 0 }' "$work/calls")
-    echo "renames: $renames for $folders entries"
+    at_most "renames for $folders entries" "$renames" $((folders + 1))
 fi

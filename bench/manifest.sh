@@ -6,16 +6,15 @@
 #
 # usage: bench/manifest.sh [PROGRAM] [RUNS]
 #
-# PROGRAM is crates/bagit/out/bagit by default, which `rt run` leaves there.
+# PROGRAM is crates/bagit/out/bagit by default, which `rt run` and `rt ci` leave there.
 set -euo pipefail
-source "$(dirname "$0")/time.sh"
+source "$(dirname "$0")/common.sh"
 
-program=$(realpath "${1:-$(dirname "$0")/../crates/bagit/out/bagit}")
+take_program bagit "${1:-}"
 runs=${2:-5}
 lines=1000000
 
-work=$(mktemp -d /tmp/bagit-manifest.XXXXXX)
-trap 'rm -rf "$work"' EXIT
+make_room manifest
 
 # Writes a manifest of so many lines with random paths.
 random_manifest() {
@@ -45,7 +44,6 @@ scattered_manifest() {
         }'
 }
 
-# Prints both ratios for a kind of manifest.
 # Bags that agree with their oxum, so that a check reads their manifest and looks for nothing in it.
 for bag in once twice; do
     mkdir -p "$work/$bag/data"
@@ -53,20 +51,20 @@ for bag in once twice; do
     echo 'Payload-Oxum: 0.0' >"$work/$bag/bag-info.txt"
 done
 
+# Prints both ratios for a kind of manifest.
 measure() {
     local kind=$1 sorted= read= read_twice= run
     "${kind}_manifest" "$lines" >"$work/once/manifest-sha256.txt"
     "${kind}_manifest" $((2 * lines)) >"$work/twice/manifest-sha256.txt"
     cut -c 67- "$work/once/manifest-sha256.txt" >"$work/paths"
+    diff <("$program" --validate --fast "$work/twice") <(echo "$work/twice agrees with its oxum")
     for ((run = 0; run < runs; run++)); do
         sorted=$(least "$sorted" "$(milliseconds env LC_ALL=C sort -u "$work/paths")")
         read=$(least "$read" "$(milliseconds "$program" --validate --fast "$work/once")")
         read_twice=$(least "$read_twice" "$(milliseconds "$program" --validate --fast "$work/twice")")
     done
-    awk -v kind="$kind" -v sorted="$sorted" -v once="$read" -v twice="$read_twice" 'BEGIN {
-        printf "%s paths: read: %d ms, sort -u: %d ms, ratio: %.2f; twice the lines: %d ms, ratio: %.2f\n",
-            kind, once, sorted, once / sorted, twice, twice / once
-    }'
+    ratio "$kind paths, beside sort -u" "$read" "$sorted" 4.00
+    ratio "twice the lines of $kind paths" "$read_twice" "$read" 2.30
 }
 
 measure random

@@ -4,15 +4,14 @@
 #
 # usage: bench/many_bags.sh [PROGRAM] [RUNS]
 #
-# PROGRAM is crates/bagit/out/bagit by default, which `rt run` leaves there.
+# PROGRAM is crates/bagit/out/bagit by default, which `rt run` and `rt ci` leave there.
 set -euo pipefail
-source "$(dirname "$0")/time.sh"
+source "$(dirname "$0")/common.sh"
 
-program=$(realpath "${1:-$(dirname "$0")/../crates/bagit/out/bagit}")
+take_program bagit "${1:-}"
 runs=${2:-3}
 
-work=$(mktemp -d /tmp/bagit-many.XXXXXX)
-trap 'rm -rf "$work"' EXIT
+make_room many
 cd "$work"
 mkdir bags reports
 
@@ -27,12 +26,6 @@ done
 check_all() {
     find bags -mindepth 1 -maxdepth 1 -type d -print0 |
         xargs -0 -P "$1" -I{} sh -c "'$program'"' --validate "$1" >"reports/${1##*/}.txt"; echo "$? $1"' sh {} >statuses
-}
-
-elapsed() {
-    local TIMEFORMAT='%3R'
-    { time "$@"; } 2>"$work/time"
-    awk '{ printf "%d\n", $1 * 1000 }' "$work/time"
 }
 
 one=

@@ -7,11 +7,11 @@
 #
 # usage: bench/profile.sh [PROGRAM] [RUNS]
 #
-# PROGRAM is crates/bagit/out/bagit by default, which `rt run` leaves there.
+# PROGRAM is crates/bagit/out/bagit by default, which `rt run` and `rt ci` leave there.
 set -euo pipefail
-source "$(dirname "$0")/time.sh"
+source "$(dirname "$0")/common.sh"
 
-program=$(realpath "${1:-$(dirname "$0")/../crates/bagit/out/bagit}")
+take_program bagit "${1:-}"
 runs=${2:-5}
 elements=50000
 labels=1000
@@ -19,8 +19,7 @@ values=100
 patterns=1000
 files=100
 
-work=$(mktemp -d /tmp/bagit-profile.XXXXXX)
-trap 'rm -rf "$work"' EXIT
+make_room profile
 
 # A profile: none of its labels may be lacking, and all may stand again.
 profile() {
@@ -83,11 +82,7 @@ measure() {
     diff <(check --profile "$work/twice.json" "$work/twice" | grep -c ^804) <(echo $((2 * faults)))
     once=$(judged once)
     twice=$(judged twice)
-    awk -v kind="$kind" -v once="$once" -v none="$none" -v twice="$twice" 'BEGIN {
-        over = twice / once > 2.3 ? sprintf(", over the bar by %.2f", twice / once - 2.3) : ""
-        printf "%s values: %d ms, without elements: %d ms; twice the elements: %d ms, ratio: %.2f (at most 2.30%s)\n",
-            kind, once, none, twice, twice / once, over
-    }'
+    ratio "$kind values ($none ms without elements), twice the elements" "$twice" "$once" 2.30
 }
 
 measure allowed value 0

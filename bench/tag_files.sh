@@ -9,15 +9,14 @@
 #
 # usage: bench/tag_files.sh [PROGRAM] [RUNS]
 #
-# PROGRAM is crates/bagit/out/bagit by default, which `rt run` leaves there.
+# PROGRAM is crates/bagit/out/bagit by default, which `rt run` and `rt ci` leave there.
 set -euo pipefail
-source "$(dirname "$0")/time.sh"
+source "$(dirname "$0")/common.sh"
 
-program=$(realpath "${1:-$(dirname "$0")/../crates/bagit/out/bagit}")
+take_program bagit "${1:-}"
 runs=${2:-9}
 
-work=$(mktemp -d /tmp/bagit-tag-files.XXXXXX)
-trap 'rm -rf "$work"' EXIT
+make_room tag-files
 
 # Metadata of so many lines, of which each second is a continuation.
 elements() {
@@ -123,10 +122,8 @@ measure() {
     peer=$(least_of peer "$file" "$work/once/$file")
     once=$(least_of read_bag once)
     twice=$(least_of read_bag twice)
-    awk -v kind="$kind" -v lines="$lines" -v peer="$peer" -v once="$once" -v twice="$twice" 'BEGIN {
-        printf "%s, %d lines: %d ms, Python: %d ms, ratio: %.2f; twice the lines: %d ms, ratio: %.2f\n",
-            kind, lines, once, peer, once / peer, twice, twice / once
-    }'
+    echo "$kind, $lines lines: $once ms, Python: $peer ms"
+    ratio "$kind, twice the lines" "$twice" "$once" 2.30
 }
 
 # Prints the ratio for a bag.

@@ -8,17 +8,16 @@
 #
 # usage: bench/validate.sh [PROGRAM] [RUNS] [MEBIBYTES]
 #
-# PROGRAM is crates/bagit/out/bagit by default, which `rt run` leaves there.
+# PROGRAM is crates/bagit/out/bagit by default, which `rt run` and `rt ci` leave there.
 set -euo pipefail
-source "$(dirname "$0")/time.sh"
+source "$(dirname "$0")/common.sh"
 source "$(dirname "$0")/small_files.sh"
 
-program=$(realpath "${1:-$(dirname "$0")/../crates/bagit/out/bagit}")
+take_program bagit "${1:-}"
 runs=${2:-5}
 mebibytes=${3:-500}
 
-work=$(mktemp -d /tmp/bagit-validate.XXXXXX)
-trap 'rm -rf "$work"' EXIT
+make_room validate
 
 # Makes a bag with an empty payload folder and no manifest.
 make_bag() {
@@ -27,13 +26,6 @@ make_bag() {
 }
 
 validate() { "$program" --validate "$work/$1"; }
-
-# The milliseconds by the clock that a command takes.
-elapsed() {
-    local TIMEFORMAT='%3R'
-    { time "$@" >"$work/output"; } 2>"$work/time"
-    awk '{ printf "%d\n", $1 * 1000 }' "$work/time"
-}
 
 make_bag large
 head -c "${mebibytes}M" /dev/urandom >"$work/large/data/file"
@@ -62,7 +54,7 @@ starts() {
 }
 started=
 for ((run = 0; run < runs; run++)); do started=$(least "$started" "$(elapsed starts)"); done
-awk -v started="$started" 'BEGIN { printf "start over an empty bag: %.1f ms (at most 10)\n", started / 100 }'
+at_most "start over an empty bag" "$started/100" 10 ms
 
 # A bag whose manifest names so many files that aren't there.
 make_faulty() {
@@ -75,12 +67,6 @@ through_pipe() { "$@" | cat; }
 # A check that finds faults ends with 1.
 faults_of() { validate "$1" || [[ $? == 1 ]]; }
 
-# The most memory that a check takes, in KiB.
-peak() {
-    /usr/bin/time -q -f %M -o "$work/peak" "$program" --validate "$work/$1" >"$work/output" || [[ $? == 1 ]]
-    cat "$work/peak"
-}
-
 make_faulty half 500000
 make_faulty whole 1000000
 faults_of whole >"$work/report"
@@ -90,11 +76,9 @@ for ((run = 0; run < runs; run++)); do
     written=$(least "$written" "$(elapsed through_pipe faults_of whole)")
     copied=$(least "$copied" "$(elapsed through_pipe cat "$work/report")")
 done
-awk -v written="$written" -v copied="$copied" 'BEGIN {
-    printf "1,000,000 faults: %d ms, cat of the report: %d ms, more by %.2f µs a fault (at most 10)\n", written, copied, (written - copied) / 1000
-}'
-half=$(($(peak half) - $(peak empty)))
-whole=$(($(peak whole) - $(peak empty)))
-awk -v half="$half" -v whole="$whole" 'BEGIN {
-    printf "memory: %.0f bytes a fault; of twice as many faults %.2f times as much (at most 2.20)\n", whole * 1024 / 1000000, whole / half
-}'
+at_most "1,000,000 faults: $written ms, cat of the report: $copied ms, more for a fault by" "$((written - copied))/1000" 10 µs
+empty=$(peak "$program" --validate "$work/empty")
+half=$(($(peak "$program" --validate "$work/half") - empty))
+whole=$(($(peak "$program" --validate "$work/whole") - empty))
+echo "memory: $((whole * 1024 / 1000000)) bytes a fault"
+at_most "memory of 1,000,000 faults, beside 500,000" "$whole/$half" 2.20

@@ -8,26 +8,19 @@
 #
 # usage: bench/walk.sh OTHER [PROGRAM] [RUNS]
 #
-# PROGRAM is crates/bagit/out/bagit by default, which `rt run` leaves there.
+# PROGRAM is crates/bagit/out/bagit by default, which `rt run` and `rt ci` leave there.
 set -euo pipefail
-source "$(dirname "$0")/time.sh"
+source "$(dirname "$0")/common.sh"
 source "$(dirname "$0")/small_files.sh"
 
 other=$(realpath "$1")
-program=$(realpath "${2:-$(dirname "$0")/../crates/bagit/out/bagit}")
+take_program bagit "${2:-}"
 runs=${3:-5}
 
-work=$(mktemp -d /tmp/bagit-walk.XXXXXX)
-trap 'rm -rf "$work"' EXIT
+make_room walk
 
 # A check by a program that may find faults.
 check() { "$@" || [[ $? == 1 ]]; }
-
-# The most memory that a check takes, in KiB.
-peak() {
-    /usr/bin/time -q -f %M -o "$work/peak" "$@" >"$work/output" || [[ $? == 1 ]]
-    cat "$work/peak"
-}
 
 # Both programs with the same words, in turn. Its arguments are what is measured, the most that the ratio may be, and the words.
 beside_other() {

@@ -30,7 +30,7 @@ run() {
     status=0
     # (Where it was killed, the shell would say so.)
     { timeout "$seconds" strace -f -o calls ${injection:+-e inject="$injection"} "$program" "$@" >output 2>failures || status=$?; } 2>&-
-    [[ -z $injection || $(<calls) == *@(INJECTED|'killed by SIGKILL')* ]] || is_wrong 'no call was refused'
+    [[ -z $injection ]] || grep -qE '\(INJECTED\)|killed by SIGKILL' calls || is_wrong 'no call was refused'
 }
 
 # The calls of the program, each as NAME NUMBER, counted for each name from 1, behind those of the loader. The call that ends the program

@@ -1,0 +1,72 @@
+# Functions of the other scripts: the program, a folder of their own, the time that a command takes, and bars.
+export LC_ALL=C
+root=$(realpath "$(dirname "${BASH_SOURCE[0]}")/..")
+
+# Takes the program to measure: the one of this path, or where none is given what stands in a crate's `out`.
+take_program() {
+    program=$(realpath "${2:-$root/crates/$1/out/$1}")
+    [[ -x $program ]] || give_up "there is no program $program"
+}
+
+# Makes a new folder, `work`, which is removed at the end. The status is 1 then where a bar was missed.
+make_room() {
+    work=$(mktemp -d "/tmp/bagit-$1.XXXXXX")
+    trap 'rm -rf "$work"; [[ $missed == 0 ]] || give_up "bars missed: $missed"' EXIT
+}
+
+# Ends the script, since it can't measure.
+give_up() {
+    echo "$*"
+    exit 1
+}
+
+# The milliseconds of processor time that a command takes, its own and the system's.
+milliseconds() {
+    local TIMEFORMAT='%3U %3S'
+    { time "$@" >"$work/output"; } 2>"$work/time"
+    awk '{ printf "%d\n", ($1 + $2) * 1000 }' "$work/time"
+}
+
+# The milliseconds by the clock that a command takes.
+elapsed() {
+    local TIMEFORMAT='%3R'
+    { time "$@" >"$work/output"; } 2>"$work/time"
+    awk '{ printf "%d\n", $1 * 1000 }' "$work/time"
+}
+
+# The smaller of two numbers, of which the first may be missing.
+least() {
+    if [[ -z $1 || $2 -lt $1 ]]; then echo "$2"; else echo "$1"; fi
+}
+
+# The least time of a command, over several runs.
+least_of() {
+    local best= run
+    for ((run = 0; run < runs; run++)); do
+        best=$(least "$best" "$(milliseconds "$@")")
+    done
+    echo "$best"
+}
+
+# The most memory that a command takes, in KiB. A check that finds faults ends with 1.
+peak() {
+    /usr/bin/time -q -f %M -o "$work/peak" "$@" >"$work/output" || [[ $? == 1 ]]
+    cat "$work/peak"
+}
+
+# How many bars were missed.
+missed=0
+
+# Says how a figure, which is a number or one divided by another, stands beside its bar, the most that it may be. Its arguments are what
+# was measured, the figure, the bar and the unit, which may be missing.
+at_most() {
+    awk -v what="$1" -v figure="$2" -v bar="$3" -v unit="${4:+ $4}" 'BEGIN {
+        if (split(figure, part, "/") == 2) figure = part[1] / part[2]
+        over = figure > bar ? sprintf(", over the bar by %.2f", figure - bar) : ""
+        printf "%s: %.2f%s (at most %.2f%s)\n", what, figure, unit, bar, over
+        exit over != ""
+    }' || missed=$((missed + 1))
+}
+
+# Says how our time stands beside a peer's. Its arguments are what took it, both times, and the most that their ratio may be.
+ratio() { at_most "$1: $2 ms, peer: $3 ms, ratio" "$2/$3" "$4"; }
