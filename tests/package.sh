@@ -1,0 +1,83 @@
+#!/usr/bin/env bash
+# Builds the Debian package twice, which has to give the same bytes; unpacks it, runs the program that is in it, renders its manual
+# pages where `man` is there, and completes words by bash. The options are the same set in --help, in bagit(1) and for each shell.
+#
+# usage: tests/package.sh [PROGRAM]
+#
+# PROGRAM is crates/bagit/out/bagit by default. It needs dpkg-deb and strip.
+set -euo pipefail
+
+top=$(realpath "$(dirname "$0")/..")
+program=$(realpath "${1:-$top/crates/bagit/out/bagit}")
+work=$(mktemp -d /tmp/bagit-package-test.XXXXXX)
+trap 'rm -rf "$work"' EXIT
+cd "$work"
+
+fail() { echo "$1"; exit 1; }
+
+package=$("$top/packaging/build" --program "$program" first)
+"$top/packaging/build" --program "$program" second >printed
+cmp "$package" "second/${package##*/}" || fail 'built twice, the package differs'
+[[ ${package##*/} == "bagit_$(<"$top/VERSION")_amd64.deb" ]] || fail "it is called ${package##*/}"
+dpkg-deb --extract "$package" tree
+dpkg-deb --info "$package" control | grep -qx "Version: $(<"$top/VERSION")" || fail 'it has another version'
+dpkg-deb --control "$package" control
+(cd tree && md5sum --check --quiet ../control/md5sums)
+
+# The program, and the one that checks large bags by it.
+export PATH=$work/tree/usr/bin:$PATH
+[[ $(bagit) == 'sample has a good declaration' ]] || fail 'the program does not check its sample'
+mkdir deposit
+echo a >deposit/a
+bagit deposit >printed
+bagit-check-large deposit report >printed
+diff report - <<<'deposit is valid'
+bagit-check-large --help >printed
+
+# The manual pages have no warnings, and show no line of markup.
+share=$work/tree/usr/share
+pages=0
+for page in man1/bagit man1/bagit-check-large man7/bagit-faults; do
+    gzip -dc "$share/man/$page".?.gz >page
+    grep -q "bagit $(<"$top/VERSION")" page || fail "$page has another version"
+    if type -P man >/dev/null; then
+        LC_ALL=C.UTF-8 MANWIDTH=100 man --warnings -l page >rendered 2>warnings
+        [[ ! -s warnings && $(wc -l <rendered) -gt 30 ]] || { cat warnings; fail "$page is not rendered"; }
+        ! grep -nE '^ *\.[A-Z]|\\f|`|\*\*' rendered || fail "$page shows markup"
+        pages=$((pages + 1))
+    fi
+done
+sed -n 's/^| \([1-8][0-9][0-9]\) | `\([a-z0-9-]*\)`.*/\1 \2/p' "$top/docs/FAULTS.md" | sort >written
+gzip -dc "$share/man/man7/bagit-faults.7.gz" | sed 's/\\-/-/g' | sed -n 's/^\.B \([1-8][0-9][0-9] [a-z0-9-]*\)$/\1/p' | sort | diff written - ||
+    fail 'bagit-faults(7) has other codes than docs/FAULTS.md'
+[[ $(wc -l <written) -gt 40 ]] || fail 'docs/FAULTS.md has no codes'
+
+# The options of each.
+options() { grep -oE -- '(^|[^a-z0-9-])(--[a-z][a-z0-9-]*|-h)\b' | grep -oE -- '--?[a-z0-9-]+' | LC_ALL=C sort -u; }
+bagit --help | sed -n '/^Options:/,/^Exit statuses/p' | grep -E '^ +(-h, )?--' | sed -E 's/  +[A-Z].*//' | options >in_help
+[[ $(wc -l <in_help) -gt 30 ]] || fail '--help has no options'
+gzip -dc "$share/man/man1/bagit.1.gz" | sed 's/\\-/-/g' | sed -n '/^.SH OPTIONS/,/^.SH OUTPUT/p' | options | diff in_help - ||
+    fail 'bagit(1) has other options than --help'
+options <"$share/bash-completion/completions/bagit" | diff in_help - || fail 'bash completes other options'
+sed -n "s/^ *'\(-[a-z0-9-]*\)\[.*/\1/p" "$share/zsh/vendor-completions/_bagit" | LC_ALL=C sort | diff in_help - || fail 'zsh completes other options'
+sed -nE 'h; s/.* -l ([a-z0-9-]+).*/--\1/p; g; s/.* -s (h) .*/-\1/p' "$share/fish/vendor_completions.d/bagit.fish" | LC_ALL=C sort |
+    diff in_help - || fail 'fish completes other options'
+
+# What bash completes.
+source "$share/bash-completion/completions/bagit"
+mkdir -p here/photographs here/plans
+touch here/profile.json
+completes() {
+    local wanted=$1
+    shift
+    COMP_WORDS=("$@") COMP_CWORD=$(($# - 1))
+    (cd here && _bagit && printf '%s\n' "${COMPREPLY[@]}") | sort | paste -sd ' ' | diff - <(echo "$wanted") ||
+        fail "bash completes '$*' otherwise"
+}
+completes '--fast' bagit --validate --fa
+completes '--completeness-only --contact-email --contact-name --contact-phone' bagit --co
+completes 'photographs plans' bagit --validate p
+completes 'photographs plans profile.json' bagit --validate --profile p
+completes '' bagit --contact-name p
+
+echo "the package is built twice the same, and has $(wc -l <in_help) options and $(wc -l <written) codes in all its pages; $pages pages were rendered"

@@ -1,0 +1,163 @@
+#!/usr/bin/env bash
+# Follows the pages for users as they are written: README's first session, with what it says that is printed; the ways back of
+# docs/NOT_MADE.md, over folders as a making leaves them; the scripts of docs/LARGE_BAGS.md over 40 bags of which five are bad.
+#
+# usage: tests/readme.sh [PROGRAM]
+#
+# PROGRAM is crates/bagit/out/bagit by default. GNU parallel is tried where it is there. The last line says how much was followed.
+set -euo pipefail
+
+top=$(realpath "$(dirname "$0")/..")
+program=$(realpath "${1:-$top/crates/bagit/out/bagit}")
+work=$(mktemp -d /tmp/bagit-pages.XXXXXX)
+trap 'rm -rf "$work"' EXIT
+cd "$work"
+mkdir bin
+ln -s "$program" bin/bagit
+ln -s "$top/packaging/bagit-check-large" bin/
+export PATH=$work/bin:$PATH LC_ALL=C.UTF-8
+followed=0
+
+fail() { echo "$1"; exit 1; }
+
+# The indented blocks of a section of a page, without their indentation; each ends with a line that has a form feed.
+blocks() {
+    sed -n "/^#* *$2\$/,/^## /p" "$top/$1" | awk '
+        /^```/ { fenced = !fenced }
+        fenced { next }
+        /^ *$/ { gap = gap "\n"; next }
+        match($0, /^ +/) && RLENGTH >= 4 {
+            if (!inside) width = RLENGTH
+            if (inside && gap != "") printf "%s", gap
+            inside = 1; gap = ""; print substr($0, width + 1); next
+        }
+        { if (inside) print "\f"; inside = 0; gap = "" }
+        END { if (inside) print "\f" }'
+}
+
+# The block of a number.
+block() { blocks "$1" "$2" | awk -v RS='\n?\f\n' -v n="$3" 'NR == n'; }
+
+# README's first session: what stands below a line "$ COMMAND" is what it prints. A file that a command shows is made first, and
+# `ls` writes in columns to a terminal alone.
+follow_session() {
+    local line command='' wanted='' status=0
+    compare() {
+        local ended=0
+        [[ $command ]] || return 0
+        [[ $command != cat\ * ]] || printf '%s' "$wanted" >"${command#cat }"
+        [[ $command != ls\ * ]] || wanted=$(xargs -n 1 <<<"$wanted")$'\n'
+        eval "${command/'$?'/$status}" >"$work/printed" 2>&1 || ended=$?
+        status=$ended
+        printf '%s' "$wanted" | diff - "$work/printed" || fail "README: $command prints something else"
+        followed=$((followed + 1))
+    }
+    while IFS= read -r line; do
+        case $line in
+            '$ '*) compare; command=${line#'$ '} wanted='' ;;
+            $'\f' | '') ;;
+            *) wanted+=$line$'\n' ;;
+        esac
+    done < <(blocks README.md 'A first session')
+    compare
+}
+
+mkdir session
+(cd session && follow_session && echo "$followed" >"$work/followed")
+followed=$(<followed)
+((followed > 10)) || fail 'README: its first session was not found'
+
+# A folder, and what a making that was cut off leaves of it.
+new_folder() {
+    rm -rf photographs whole
+    mkdir -p photographs/inner photographs/data
+    echo a >photographs/a
+    echo b >photographs/inner/b
+    echo c >photographs/data/c
+    echo d >photographs/.hidden
+    cp -a photographs whole
+}
+
+# Follows a block in a shell of its own, and sees that the folder is again what it was.
+goes_back() {
+    block docs/NOT_MADE.md "$1" "$2" >way
+    [[ -s way ]] || fail "docs/NOT_MADE.md: no block $2 below $1"
+    bash -e way >printed 2>&1 < <(yes 2>/dev/null) || { cat printed; fail "docs/NOT_MADE.md: block $2 of '$1' ended with an error"; }
+    diff -r whole photographs || fail "docs/NOT_MADE.md: block $2 of '$1' leaves something else ($3)"
+    followed=$((followed + 1))
+}
+
+title='After `not made`, or a making that was cut off'
+for moved in '' a 'a inner' 'a inner data .hidden'; do
+    new_folder
+    mkdir photographs/.bagit-new
+    for name in $moved; do mv "photographs/$name" photographs/.bagit-new/; done
+    goes_back "$title" 1 "moved: $moved"
+done
+for written in 0 1 3 6; do
+    new_folder
+    bagit photographs >printed
+    (cd photographs && ls ./*.txt | tail -n +$((written + 1)) | xargs -r rm)
+    goes_back "$title" 2 "$written tag files"
+done
+new_folder
+bagit photographs >printed
+rm -rf whole
+cp -a photographs whole
+bagit photographs >printed
+goes_back 'A bag in a bag' 1 'a bag'
+(cd photographs && [[ $(bagit --validate .) == '. is valid' ]]) || fail 'the inner bag is not what it was'
+
+# LARGE_BAGS: a bag in pieces, and forty bags.
+page=$top/docs/LARGE_BAGS.md
+for ((bag = 10; bag < 50; bag++)); do
+    mkdir -p "bags/bag $bag"
+    echo "$bag" >"bags/bag $bag/file"
+done
+bagit --sha256 bags/* >printed
+echo x >>'bags/bag 11/data/file'
+rm 'bags/bag 22/data/file'
+rm 'bags/bag 33/bagit.txt'
+ln -s file 'bags/bag 44/data/link'
+mv 'bags/bag 45' $'bags/bag\n45'
+echo y >>$'bags/bag\n45/data/file'
+wanted='1 bags/bag%0A45 has faults: 2
+1 bags/bag%2011 has faults: 2
+1 bags/bag%2022 has faults: 2
+1 bags/bag%2033 has faults: 2
+3 bags/bag%2044 unread - special, faults: 0'
+
+awk '/^```sh$/ { n++; next } /^```$/ { inside = 0; next } { if (n) print > ("script" n) } ' <(
+    awk '/^```sh$/ { inside = 1 } inside { print } /^```$/ { inside = 0 }' "$page"
+)
+mv script1 check-one
+mv script2 table
+ways=$(sed -n 's/^    \(find bags .*check-one\)$/\1/p' "$page")
+while IFS= read -r way; do
+    [[ $way == *parallel* && ! $(type -P parallel) ]] && continue
+    rm -rf reports
+    read -r prepares < <(block docs/LARGE_BAGS.md 'Many bags' 1)
+    bash -e <<<"$prepares"$'\n'"$way"
+    # interrupted: what has a status isn't checked again
+    rm reports/bag\ 1?.status
+    find reports -name '*.status' -newer check-one -printf '%T@ %p\0' | sort -z >before
+    bash -e <<<"$way"
+    find reports -name '*.status' -printf '%T@ %p\0' | sort -z | comm -z -12 before - | cmp before - ||
+        fail "docs/LARGE_BAGS.md: '$way' checked a bag again that had its status"
+    status=0
+    ./table || status=$?
+    [[ $status == 3 && $(grep -c '^0 ' statuses) == 35 ]] || fail "docs/LARGE_BAGS.md: the table of '$way' ends with $status"
+    diff <(grep -v '^0 ' statuses) - <<<"$wanted" || fail "docs/LARGE_BAGS.md: the table of '$way' says something else"
+    followed=$((followed + 1))
+done <<<"$ways"
+block docs/LARGE_BAGS.md 'Many bags' 4 | bash -e
+[[ ! -e 'reports/bag 44.status' && -e 'reports/bag 11.status' ]] || fail 'docs/LARGE_BAGS.md: statuses of 3 are not taken away alone'
+
+cp -a 'bags/bag 11' deposit
+status=0
+$(block docs/LARGE_BAGS.md 'A check that survives a failing disk' 1) >printed || status=$?
+[[ $status == 1 && $(<printed) == 'deposit has faults: 2' ]] || fail 'docs/LARGE_BAGS.md: bagit-check-large ends otherwise'
+diff deposit.txt <(bagit --validate deposit) || fail 'docs/LARGE_BAGS.md: the report in pieces is another'
+followed=$((followed + 2))
+
+echo "followed $followed parts of the pages as they are written"
