@@ -4,29 +4,25 @@
 #
 # usage: tests/package.sh [PROGRAM]
 #
-# PROGRAM is crates/bagit/out/bagit by default. It needs dpkg-deb and strip.
+# PROGRAM is crates/bagit/out/bagit by default. It needs dpkg-deb, strip and Python.
 set -euo pipefail
+source "$(dirname "$0")/common.sh"
+take_program bagit "${1:-}"
+for tool in dpkg-deb strip python3; do needs "$tool"; done
+enter package
 
-top=$(realpath "$(dirname "$0")/..")
-program=$(realpath "${1:-$top/crates/bagit/out/bagit}")
-work=$(mktemp -d /tmp/bagit-package-test.XXXXXX)
-trap 'rm -rf "$work"' EXIT
-cd "$work"
-
-fail() { echo "$1"; exit 1; }
-
-package=$("$top/packaging/build" --program "$program" first)
-"$top/packaging/build" --program "$program" second >printed
-cmp "$package" "second/${package##*/}" || fail 'built twice, the package differs'
-[[ ${package##*/} == "bagit_$(<"$top/VERSION")_amd64.deb" ]] || fail "it is called ${package##*/}"
+package=$("$root/packaging/build" --program "$program" first)
+"$root/packaging/build" --program "$program" second >printed
+cmp "$package" "second/${package##*/}" || give_up 'built twice, the package differs'
+[[ ${package##*/} == "bagit_$(<"$root/VERSION")_amd64.deb" ]] || give_up "it is called ${package##*/}"
 dpkg-deb --extract "$package" tree
-dpkg-deb --info "$package" control | grep -qx "Version: $(<"$top/VERSION")" || fail 'it has another version'
+dpkg-deb --info "$package" control | grep -qx "Version: $(<"$root/VERSION")" || give_up 'it has another version'
 dpkg-deb --control "$package" control
 (cd tree && md5sum --check --quiet ../control/md5sums)
 
 # The program, and the one that checks large bags by it.
 export PATH=$work/tree/usr/bin:$PATH
-[[ $(bagit) == 'sample has a good declaration' ]] || fail 'the program does not check its sample'
+[[ $(bagit) == 'sample has a good declaration' ]] || give_up 'the program does not check its sample'
 mkdir deposit
 echo a >deposit/a
 bagit deposit >printed
@@ -39,29 +35,29 @@ share=$work/tree/usr/share
 pages=0
 for page in man1/bagit man1/bagit-check-large man7/bagit-faults; do
     gzip -dc "$share/man/$page".?.gz >page
-    grep -q "bagit $(<"$top/VERSION")" page || fail "$page has another version"
+    grep -q "bagit $(<"$root/VERSION")" page || give_up "$page has another version"
     if type -P man >/dev/null; then
         LC_ALL=C.UTF-8 MANWIDTH=100 man --warnings -l page >rendered 2>warnings
-        [[ ! -s warnings && $(wc -l <rendered) -gt 30 ]] || { cat warnings; fail "$page is not rendered"; }
-        ! grep -nE '^ *\.[A-Z]|\\f|`|\*\*' rendered || fail "$page shows markup"
+        [[ ! -s warnings && $(wc -l <rendered) -gt 30 ]] || { cat warnings; give_up "$page is not rendered"; }
+        ! grep -nE '^ *\.[A-Z]|\\f|`|\*\*' rendered || give_up "$page shows markup"
         pages=$((pages + 1))
     fi
 done
-sed -n 's/^| \([1-8][0-9][0-9]\) | `\([a-z0-9-]*\)`.*/\1 \2/p' "$top/docs/FAULTS.md" | sort >written
+sed -n 's/^| \([1-8][0-9][0-9]\) | `\([a-z0-9-]*\)`.*/\1 \2/p' "$root/docs/FAULTS.md" | sort >written
 gzip -dc "$share/man/man7/bagit-faults.7.gz" | sed 's/\\-/-/g' | sed -n 's/^\.B \([1-8][0-9][0-9] [a-z0-9-]*\)$/\1/p' | sort | diff written - ||
-    fail 'bagit-faults(7) has other codes than docs/FAULTS.md'
-[[ $(wc -l <written) -gt 40 ]] || fail 'docs/FAULTS.md has no codes'
+    give_up 'bagit-faults(7) has other codes than docs/FAULTS.md'
+[[ $(wc -l <written) -gt 40 ]] || give_up 'docs/FAULTS.md has no codes'
 
 # The options of each.
 options() { grep -oE -- '(^|[^a-z0-9-])(--[a-z][a-z0-9-]*|-h)\b' | grep -oE -- '--?[a-z0-9-]+' | LC_ALL=C sort -u; }
 bagit --help | sed -n '/^Options:/,/^Exit statuses/p' | grep -E '^ +(-h, )?--' | sed -E 's/  +[A-Z].*//' | options >in_help
-[[ $(wc -l <in_help) -gt 30 ]] || fail '--help has no options'
+[[ $(wc -l <in_help) -gt 30 ]] || give_up '--help has no options'
 gzip -dc "$share/man/man1/bagit.1.gz" | sed 's/\\-/-/g' | sed -n '/^.SH OPTIONS/,/^.SH OUTPUT/p' | options | diff in_help - ||
-    fail 'bagit(1) has other options than --help'
-options <"$share/bash-completion/completions/bagit" | diff in_help - || fail 'bash completes other options'
-sed -n "s/^ *'\(-[a-z0-9-]*\)\[.*/\1/p" "$share/zsh/vendor-completions/_bagit" | LC_ALL=C sort | diff in_help - || fail 'zsh completes other options'
+    give_up 'bagit(1) has other options than --help'
+options <"$share/bash-completion/completions/bagit" | diff in_help - || give_up 'bash completes other options'
+sed -n "s/^ *'\(-[a-z0-9-]*\)\[.*/\1/p" "$share/zsh/vendor-completions/_bagit" | LC_ALL=C sort | diff in_help - || give_up 'zsh completes other options'
 sed -nE 'h; s/.* -l ([a-z0-9-]+).*/--\1/p; g; s/.* -s (h) .*/-\1/p' "$share/fish/vendor_completions.d/bagit.fish" | LC_ALL=C sort |
-    diff in_help - || fail 'fish completes other options'
+    diff in_help - || give_up 'fish completes other options'
 
 # What bash completes.
 source "$share/bash-completion/completions/bagit"
@@ -72,7 +68,7 @@ completes() {
     shift
     COMP_WORDS=("$@") COMP_CWORD=$(($# - 1))
     (cd here && _bagit && printf '%s\n' "${COMPREPLY[@]}") | sort | paste -sd ' ' | diff - <(echo "$wanted") ||
-        fail "bash completes '$*' otherwise"
+        give_up "bash completes '$*' otherwise"
 }
 completes '--fast' bagit --validate --fa
 completes '--completeness-only --contact-email --contact-name --contact-phone' bagit --co

@@ -6,23 +6,18 @@
 #
 # PROGRAM is crates/bagit/out/bagit by default. GNU parallel is tried where it is there. The last line says how much was followed.
 set -euo pipefail
-
-top=$(realpath "$(dirname "$0")/..")
-program=$(realpath "${1:-$top/crates/bagit/out/bagit}")
-work=$(mktemp -d /tmp/bagit-pages.XXXXXX)
-trap 'rm -rf "$work"' EXIT
-cd "$work"
+source "$(dirname "$0")/common.sh"
+take_program bagit "${1:-}"
+enter pages
 mkdir bin
 ln -s "$program" bin/bagit
-ln -s "$top/packaging/bagit-check-large" bin/
-export PATH=$work/bin:$PATH LC_ALL=C.UTF-8
+ln -s "$root/packaging/bagit-check-large" bin/
+export PATH=$work/bin:$PATH
 followed=0
-
-fail() { echo "$1"; exit 1; }
 
 # The indented blocks of a section of a page, without their indentation; each ends with a line that has a form feed.
 blocks() {
-    sed -n "/^#* *$2\$/,/^## /p" "$top/$1" | awk '
+    sed -n "/^#* *$2\$/,/^## /p" "$root/$1" | awk '
         /^```/ { fenced = !fenced }
         fenced { next }
         /^ *$/ { gap = gap "\n"; next }
@@ -49,7 +44,7 @@ follow_session() {
         [[ $command != ls\ * ]] || wanted=$(xargs -n 1 <<<"$wanted")$'\n'
         eval "${command/'$?'/$status}" >"$work/printed" 2>&1 || ended=$?
         status=$ended
-        printf '%s' "$wanted" | diff - "$work/printed" || fail "README: $command prints something else"
+        printf '%s' "$wanted" | diff - "$work/printed" || give_up "README: $command prints something else"
         followed=$((followed + 1))
     }
     while IFS= read -r line; do
@@ -65,7 +60,7 @@ follow_session() {
 mkdir session
 (cd session && follow_session && echo "$followed" >"$work/followed")
 followed=$(<followed)
-((followed > 10)) || fail 'README: its first session was not found'
+((followed > 10)) || give_up 'README: its first session was not found'
 
 # A folder, and what a making that was cut off leaves of it.
 new_folder() {
@@ -81,9 +76,9 @@ new_folder() {
 # Follows a block in a shell of its own, and sees that the folder is again what it was.
 goes_back() {
     block docs/NOT_MADE.md "$1" "$2" >way
-    [[ -s way ]] || fail "docs/NOT_MADE.md: no block $2 below $1"
-    bash -e way >printed 2>&1 < <(yes 2>/dev/null) || { cat printed; fail "docs/NOT_MADE.md: block $2 of '$1' ended with an error"; }
-    diff -r whole photographs || fail "docs/NOT_MADE.md: block $2 of '$1' leaves something else ($3)"
+    [[ -s way ]] || give_up "docs/NOT_MADE.md: no block $2 below $1"
+    bash -e way >printed 2>&1 < <(yes 2>/dev/null) || { cat printed; give_up "docs/NOT_MADE.md: block $2 of '$1' ended with an error"; }
+    diff -r whole photographs || give_up "docs/NOT_MADE.md: block $2 of '$1' leaves something else ($3)"
     followed=$((followed + 1))
 }
 
@@ -106,10 +101,10 @@ rm -rf whole
 cp -a photographs whole
 bagit photographs >printed
 goes_back 'A bag in a bag' 1 'a bag'
-(cd photographs && [[ $(bagit --validate .) == '. is valid' ]]) || fail 'the inner bag is not what it was'
+(cd photographs && [[ $(bagit --validate .) == '. is valid' ]]) || give_up 'the inner bag is not what it was'
 
 # LARGE_BAGS: a bag in pieces, and forty bags.
-page=$top/docs/LARGE_BAGS.md
+page=$root/docs/LARGE_BAGS.md
 for ((bag = 10; bag < 50; bag++)); do
     mkdir -p "bags/bag $bag"
     echo "$bag" >"bags/bag $bag/file"
@@ -143,21 +138,21 @@ while IFS= read -r way; do
     find reports -name '*.status' -newer check-one -printf '%T@ %p\0' | sort -z >before
     bash -e <<<"$way"
     find reports -name '*.status' -printf '%T@ %p\0' | sort -z | comm -z -12 before - | cmp before - ||
-        fail "docs/LARGE_BAGS.md: '$way' checked a bag again that had its status"
+        give_up "docs/LARGE_BAGS.md: '$way' checked a bag again that had its status"
     status=0
     ./table || status=$?
-    [[ $status == 3 && $(grep -c '^0 ' statuses) == 35 ]] || fail "docs/LARGE_BAGS.md: the table of '$way' ends with $status"
-    diff <(grep -v '^0 ' statuses) - <<<"$wanted" || fail "docs/LARGE_BAGS.md: the table of '$way' says something else"
+    [[ $status == 3 && $(grep -c '^0 ' statuses) == 35 ]] || give_up "docs/LARGE_BAGS.md: the table of '$way' ends with $status"
+    diff <(grep -v '^0 ' statuses) - <<<"$wanted" || give_up "docs/LARGE_BAGS.md: the table of '$way' says something else"
     followed=$((followed + 1))
 done <<<"$ways"
 block docs/LARGE_BAGS.md 'Many bags' 4 | bash -e
-[[ ! -e 'reports/bag 44.status' && -e 'reports/bag 11.status' ]] || fail 'docs/LARGE_BAGS.md: statuses of 3 are not taken away alone'
+[[ ! -e 'reports/bag 44.status' && -e 'reports/bag 11.status' ]] || give_up 'docs/LARGE_BAGS.md: statuses of 3 are not taken away alone'
 
 cp -a 'bags/bag 11' deposit
 status=0
 $(block docs/LARGE_BAGS.md 'A check that survives a failing disk' 1) >printed || status=$?
-[[ $status == 1 && $(<printed) == 'deposit has faults: 2' ]] || fail 'docs/LARGE_BAGS.md: bagit-check-large ends otherwise'
-diff deposit.txt <(bagit --validate deposit) || fail 'docs/LARGE_BAGS.md: the report in pieces is another'
+[[ $status == 1 && $(<printed) == 'deposit has faults: 2' ]] || give_up 'docs/LARGE_BAGS.md: bagit-check-large ends otherwise'
+diff deposit.txt <(bagit --validate deposit) || give_up 'docs/LARGE_BAGS.md: the report in pieces is another'
 followed=$((followed + 2))
 
 echo "followed $followed parts of the pages as they are written"
