@@ -68,10 +68,19 @@ impl BaseFolder {
         answer_of(fs::open(rt, location.as_str()))
     }
 
-    /// Makes a folder at a path.
+    /// Makes a folder at a path, with the base folder's mode as far as the system lets it.
     pub(crate) fn make_folder<R: Files>(&self, rt: &R, path: &str) -> Result<(), DiskFault> {
         let location = self.location(path)?;
-        answer_of(fs::create_dir(rt, location.as_str()))
+        answer_of(fs::create_dir(rt, location.as_str()))?;
+        self.give_mode(rt, location.as_str());
+        Ok(())
+    }
+
+    /// Gives a folder the base folder's mode. Where the system refuses, it keeps its own: no byte depends on it.
+    fn give_mode<R: Files>(&self, rt: &R, location: &str) {
+        if let Ok(metadata) = fs::metadata(rt, self.path.as_str()) {
+            let _ = fs::set_permissions(rt, location, metadata.permissions());
+        }
     }
 
     /// Moves what stands at one path to another.
