@@ -1,15 +1,21 @@
 -- What single events do, and what makes them durable.
 use Rattle.bag_tree.proofs.Common.{arith, ◌≡◌, ◌++◌, ◌∷◌, ℕ, inl, inr, true, false, cond, List, [], Some, bytes_eq, bytes_eq-Decides, refl, ap, ◌∙◌, and_from, and_parts, or_right, false≢true, get-insert, nat_list_cmp_total, is_base_name, under, file}
-use Rattle.std.proofs.Common.{◌≢◌, ◌&&◌, not}
+use Rattle.std.proofs.Common.{◌≢◌, ◌&&◌, not, Bool, Option, None, sym}
 use Rattle.std.proofs.lemmas.Bool.{or_cases, or_left, false_from_ne_true}
 use Rattle.std.specs.FinMap as fin
+use Rattle.std.specs.FinMap.{find}
 use Rattle.std.specs.FinSet as set
+use Rattle.std.specs.FinSet.{contains-insert, contains-remove, same_set}
+use Rattle.std.specs.List.{list_any}
+use Rattle.std.specs.Ordering.{eq_by_cmp}
+use Rattle.bag_text.specs.Text.{text_cmp}
 use Rattle.bag_tree.proofs.Parents.{base_not_under, first-under}
 use Rattle.bag_tree.proofs.SameText.{exact_texts, one_text, text_itself}
 use Rattle.bag_tree.specs.Asked.{AreSyncs, IsSync, has_durable_folders, is_named}
 use Rattle.bag_tree.specs.Bag.{Bag, has_file, has_folder}
-use Rattle.bag_tree.specs.Cut.{done, folder_of, hold, is_durable, is_file_synced, is_synced, is_there, rename}
-use Rattle.bag_tree.specs.Steps.{create, make_folder, move_in, rename_folder}
+use Rattle.bag_tree.specs.Cut.{done, folder_of, hold, is_durable, is_file_synced, is_synced, is_there, lose, rename, without}
+use Rattle.bag_tree.specs.Moved.{is_within, moved}
+use Rattle.bag_tree.specs.Steps.{create, has_within, make_folder, move_in, rename_folder}
 use Rattle.bag_tree.specs.declared.event.DeviceEvent.{DeviceEvent}
 use Rattle.bag_tree.specs.declared.event.DeviceEvent.TheVariants.{MakeFolder, Rename, Create, Write, Sync, SyncFolder}
 
@@ -30,26 +36,72 @@ other_name name folder apart = grind (arith, bytes_eq-Decides)
 pub same_name : (name : List ℕ) → bytes_eq name name ≡ true
 same_name name = grind (arith, bytes_eq-Decides)
 
--- what each change does
-pub done_make : (name : List ℕ) (d : Bag) → done (MakeFolder name) d ≡ make_folder name d
-unfolding done
-done_make name d = refl
+-- ---- what each change does
 
-pub done_move : (top folder : List ℕ) (d : Bag) → is_base_name folder ≡ true → has_folder d folder ≡ true → done (Rename top (under folder top)) d ≡ move_in top folder d
+found : (q c : List ℕ) (es : List (List ℕ × List ℕ)) → find text_cmp q es ≡ Some c → (k : List ℕ) → is_within k q ≡ true → list_any (λ e. is_within k e.0) es ≡ true
+found q c [] at k within = cc
+found q c (e ∷ es) at k within = elim (eq_by_cmp text_cmp q e.0) as (λ b. eq_by_cmp text_cmp q e.0 ≡ b → cond b (Some e.1) (find text_cmp q es) ≡ Some c → list_any (λ e. is_within k e.0) (e ∷ es) ≡ true) [
+  | true ↦ λ same _. or_left _ _ (ap (is_within k) (sym (one_text q e.0 same)) ∙ within)
+  | false ↦ λ _ later. or_right (is_within k e.0) _ (found q c es later k within)
+] refl at
+
+-- a file at a path, or below it
+file_within : (d : Bag) (path q c : List ℕ) → file d q ≡ Some c → is_within path q ≡ true → has_within d path ≡ true
+file_within d path q c at within = found q c (fin.entries d.files) (sym (fin.get-entries d.files q) ∙ at) path within
+
+-- where nothing stands at a path or below it, nothing is lost there
+pub nothing_lost : (d : Bag) (path : List ℕ) → has_within d path ≡ false → without path d.files ≡ d.files
+nothing_lost d path none = fin.same_map nat_list_cmp_total exact_texts (without path d.files) d.files (λ q.
+    fin.get-retain_keys d.files (λ p. not (is_within path p)) q (λ x same. ap (λ p. not (is_within path p)) (sym (exact_texts q x same)))
+    ∙ stays q (is_within path q) refl (file d q) refl)
+  where
+    stays : (q : List ℕ) (b : Bool) → is_within path q ≡ b → (o : Option (List ℕ)) → file d q ≡ o → cond (not b) o None ≡ o
+    stays q false outside o at = refl
+    stays q true within None at = refl
+    stays q true within (Some c) at = absurd (false≢true (sym none ∙ file_within d path q c at within))
+
+pub done_make : (name : List ℕ) (d : Bag) → has_within d name ≡ false → done (MakeFolder name) d ≡ make_folder name d
+unfolding done lose
+done_make name d none =
+    let files = nothing_lost d name none in
+    let folders = same_set nat_list_cmp_total exact_texts (set.insert (set.remove d.folders name) name) (set.insert d.folders name) (λ q.
+    grind (arith, contains-insert nat_list_cmp_total (set.remove d.folders name) name q, contains-remove nat_list_cmp_total d.folders name q, contains-insert nat_list_cmp_total d.folders name q)) in
+    (λ i. record { files = files i; folders = folders i })
+
+pub done_move : (top folder : List ℕ) (d : Bag) → is_base_name folder ≡ true → has_folder d folder ≡ true → has_within d (under folder top) ≡ false
+    → done (Rename top (under folder top)) d ≡ move_in top folder d
 unfolding done rename
-done_move top folder d is there =
+done_move top folder d is there none =
     let at : is_there d (folder_of (under folder top)) ≡ true = ap (is_there d) (in_folder_of folder top is) ∙ or_right (bytes_eq folder []) _ there in
-    rw at (ap (λ b. record { files = (move_in top folder d).files; folders = set.remove (cond (b && has_folder d top) (set.insert d.folders (under folder top)) d.folders) top }) (not_base folder top))
+    let files = ap (moved top (under folder top)) (nothing_lost d (under folder top) none) in
+    let kind = ap (λ b. set.remove (cond b (cond (has_folder d top) (set.insert d.folders (under folder top)) (set.remove d.folders (under folder top))) d.folders) top) (not_base folder top) in
+    rw at (λ i. record { files = files i; folders = kind i })
 
-pub done_rename : (from to : List ℕ) (d : Bag) → is_base_name to ≡ true → has_folder d from ≡ true → done (Rename from to) d ≡ rename_folder from to d
+pub done_rename : (from to : List ℕ) (d : Bag) → is_base_name to ≡ true → has_folder d from ≡ true → has_within d to ≡ false
+    → done (Rename from to) d ≡ rename_folder from to d
 unfolding done rename
-done_rename from to d is there =
+done_rename from to d is there none =
     let at : is_there d (folder_of to) ≡ true = ap (is_there d) (in_base to is) in
-    rw at (ap (λ b. record { files = (rename_folder from to d).files; folders = set.remove (cond b (set.insert d.folders to) d.folders) from }) (and_from _ _ is there))
+    let files = ap (moved from to) (nothing_lost d to none) in
+    let base = ap (λ b. set.remove (cond b (cond (has_folder d from) (set.insert d.folders to) (set.remove d.folders to)) d.folders) from) is in
+    let kind = base ∙ ap (λ b. set.remove (cond b (set.insert d.folders to) (set.remove d.folders to)) from) there in
+    rw at (λ i. record { files = files i; folders = kind i })
 
-pub done_create : (name : List ℕ) (d : Bag) → done (Create name) d ≡ create name [] d
+pub done_create : (name : List ℕ) (d : Bag) → done (Create name) d ≡ create name [] (lose name d)
 unfolding done
 done_create name d = refl
+
+-- where nothing has a name
+pub nothing_named : (name : List ℕ) (d : Bag) → has_within d name ≡ false → has_folder d name ≡ false → lose name d ≡ d
+unfolding lose
+nothing_named name d none absent =
+    let files = nothing_lost d name none in
+    let folders = same_set nat_list_cmp_total exact_texts (set.remove d.folders name) d.folders (λ q.
+    contains-remove nat_list_cmp_total d.folders name q ∙ elim (eq_by_cmp text_cmp q name) as (λ b. eq_by_cmp text_cmp q name ≡ b → (not b && has_folder d q) ≡ has_folder d q) [
+      | true ↦ λ same. sym (ap (has_folder d) (one_text q name same) ∙ absent)
+      | false ↦ λ _. refl
+    ] refl) in
+    (λ i. record { files = files i; folders = folders i })
 
 -- a sync does nothing, and is durable
 pub done_sync : (e : DeviceEvent) (d : Bag) → IsSync e → done e d ≡ d

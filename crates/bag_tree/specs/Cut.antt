@@ -7,7 +7,7 @@ use Rattle.bag_text.specs.Path.{is_base_name, first_component}
 use Rattle.bag_text.specs.Text.{text_cmp}
 use Rattle.bag_tree.specs.Bag.{Bag, file, has_file, has_folder}
 use Rattle.bag_tree.specs.Moved.{is_within, moved}
-use Rattle.bag_tree.specs.Steps.{make_folder, create}
+use Rattle.bag_tree.specs.Steps.{Files, make_folder, create}
 use Rattle.bag_tree.specs.declared.event.DeviceEvent.{DeviceEvent}
 use Rattle.bag_tree.specs.declared.event.DeviceEvent.TheVariants.{MakeFolder, Rename, Create}
 use Rattle.bag_tree.specs.declared.event.DeviceEvent.TheVariants.{Write, Sync, SyncFolder}
@@ -20,22 +20,29 @@ folder_of path = if is_base_name path then [] else first_component path
 abbrev pub is_there : Bag → List ℕ → Bool
 is_there bag folder = bytes_eq folder [] || has_folder bag folder
 
--- the folders of the base folder, with the new path of one that stays in it
+-- the files without one that stands at a path, and without those below it
+abbrev pub without : List ℕ → Files → Files
+without path files = fin.retain_keys files (λ p. not (is_within path p))
+
+-- the folders of the base folder, when what stood at one path has another: a folder, or a file
 abbrev pub with_renamed_folder : List ℕ → List ℕ → Bag → set.FinSet text_cmp
 with_renamed_folder from to bag =
-    if is_base_name to && has_folder bag from then set.insert bag.folders to else bag.folders
+    if is_base_name to
+    then (if has_folder bag from then set.insert bag.folders to else set.remove bag.folders to)
+    else bag.folders
 
--- the bag when what stood at one path, with all that is below it, stands at another
+-- The bag when what stood at one path, with all that is below it, stands at another. A name means
+-- one thing: what stood there before is lost.
 unfoldable pub rename : List ℕ → List ℕ → Bag → Bag
 rename from to bag = record {
-  files = moved from to bag.files;
+  files = moved from to (without to bag.files);
   folders = set.remove (with_renamed_folder from to bag) from;
 }
 
 -- the bag without what stood at a path and below it
 unfoldable pub lose : List ℕ → Bag → Bag
 lose from bag = record {
-  files = fin.retain_keys bag.files (λ path. not (is_within from path));
+  files = without from bag.files;
   folders = set.remove bag.folders from;
 }
 
@@ -48,12 +55,12 @@ abbrev pub appended : Option (List ℕ) → List ℕ → List ℕ
 appended None bytes = bytes
 appended (Some content) bytes = content ++ bytes
 
--- What an event makes of a bag. What is moved into a folder that isn't there is lost, and no bytes
--- are written to a file that isn't.
+-- What an event makes of a bag. What had a name before that is given anew is lost; so is what is
+-- moved into a folder that isn't there, and no bytes are written to a file that isn't.
 unfoldable pub done : DeviceEvent → Bag → Bag
-done (MakeFolder name) bag = make_folder name bag
+done (MakeFolder name) bag = make_folder name (lose name bag)
 done (Rename from to) bag = if is_there bag (folder_of to) then rename from to bag else lose from bag
-done (Create name) bag = create name [] bag
+done (Create name) bag = create name [] (lose name bag)
 done (Write name bytes) bag = hold name (appended (file bag name) bytes) bag
 done (Sync name) bag = bag
 done (SyncFolder folder) bag = bag
