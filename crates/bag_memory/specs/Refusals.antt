@@ -23,6 +23,12 @@ next_due (After zero) = Past
 next_due (After (suc left)) = After left
 next_due Past = Past
 
+-- how many calls are left before the refused one
+abbrev pub calls_left : Due → Option ℕ
+calls_left Never = None
+calls_left (After left) = Some left
+calls_left Past = None
+
 -- how many calls were refused
 abbrev pub refused_calls : Due → ℕ
 refused_calls Never = 0

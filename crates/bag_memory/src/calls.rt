@@ -1,6 +1,6 @@
 //! Which call of a tree is refused.
 ghost use Rattle.std.specs.Prelude.{◌≡◌};
-ghost use Rattle.bag_memory.specs.Refusals.{after_call, before_calls, is_kth, next_due};
+ghost use Rattle.bag_memory.specs.Refusals.{after_call, before_calls, calls_left, is_kth, next_due};
 
 use bag_tree::{Answer, TreeFault};
 
@@ -57,6 +57,16 @@ impl Calls {
             },
             shut: false,
             own: None,
+        }
+    }
+
+    /// How many calls are left before the refused one.
+    pub(crate) fn left(&self) -> Option<u64>
+        ensures { result ≡ calls_left self.now.due }
+    {
+        match self.due {
+            Due::After(left) => Some(left),
+            Due::Never | Due::Past => None,
         }
     }
 

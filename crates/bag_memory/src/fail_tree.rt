@@ -1,6 +1,6 @@
 //! A tree of which one call is refused.
 ghost use Rattle.std.specs.Prelude.{◌≡◌};
-ghost use Rattle.bag_memory.specs.Refusals.{before_calls, failing};
+ghost use Rattle.bag_memory.specs.Refusals.{before_calls, calls_left, failing};
 ghost use Rattle.bag_memory.specs.FailTree.{below_of, calls_of};
 
 use crate::calls::Calls;
@@ -27,6 +27,13 @@ impl<T: Tree + Drop> FailTree<T> {
             tree,
             calls: Calls::before(k),
         }
+    }
+
+    /// How many calls are left before the refused one; none where that is past, or where none is refused.
+    pub fn calls_left(&self) -> Option<u64>
+        ensures { result ≡ calls_left (calls_of self.now).due }
+    {
+        self.calls.left()
     }
 
     /// The tree that it stands over.
