@@ -4,7 +4,7 @@ use Rattle.bag_disk.specs.Disk.{DiskState}
 use Rattle.bag_disk.specs.declared.disk.DiskFault.{DiskFault}
 use Rattle.bag_disk.specs.declared.disk.DiskFault.TheVariants.{NotFound, Exists, Name, Memory, Device}
 use Rattle.test_disk.specs.declared.refusing_disk.Call.{Call}
-use Rattle.test_disk.specs.declared.refusing_disk.Call.TheVariants.{Numbered, EntryAt, Past}
+use Rattle.test_disk.specs.declared.refusing_disk.Call.TheVariants.{Numbered, EntryAt, Counted, Past}
 
 -- an honest disk may refuse any call by this fault
 abbrev pub tells_nothing : DiskFault → Bool
@@ -32,6 +32,7 @@ abbrev pub is_due : Call → Bool
 is_due (Numbered zero) = true
 is_due (Numbered (suc left)) = false
 is_due (EntryAt path) = false
+is_due (Counted calls) = false
 is_due Past = false
 
 -- what is to be refused after one numbered call
@@ -39,10 +40,12 @@ abbrev pub one_less : Call → Call
 one_less (Numbered zero) = Past
 one_less (Numbered (suc left)) = Numbered left
 one_less (EntryAt path) = EntryAt path
+one_less (Counted calls) = Counted calls
 one_less Past = Past
 
 -- each look at the path is refused
 abbrev pub is_refused : Call → List ℕ → Bool
 is_refused (Numbered left) path = false
 is_refused (EntryAt refused) path = bytes_eq refused path
+is_refused (Counted calls) path = false
 is_refused Past path = false

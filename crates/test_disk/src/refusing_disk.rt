@@ -5,6 +5,8 @@ ghost use Rattle.test_disk.specs.Refusing.{is_due, is_refused, one_less, refusin
 
 use bag_disk::{Disk, DiskFault, Entry, Failures, Refusal, WritableDisk};
 use bag_text::Text;
+use std::cell::Cell;
+use std::rc::Rc;
 
 /// Which call of a disk is refused.
 #[derive(Drop)]
@@ -13,6 +15,8 @@ pub enum Call {
     Numbered(u64),
     /// Each `entry_at` and `named_entry` of this path.
     EntryAt(Text),
+    /// None; the cell counts those that have numbers.
+    Counted(Rc<Cell<u64>>),
     /// None any more.
     Past,
 }
@@ -57,7 +61,7 @@ impl<D: Disk + Drop> RefusingDisk<D> {
     {
         match &self.call {
             Call::EntryAt(refused) => refused.as_str() == path,
-            Call::Numbered(_) | Call::Past => false,
+            Call::Numbered(_) | Call::Counted(_) | Call::Past => false,
         }
     }
 }
@@ -84,6 +88,10 @@ impl Call {
             }
             Call::Numbered(left) => {
                 *left -= 1;
+                false
+            }
+            Call::Counted(calls) => {
+                calls.set(calls.get().saturating_add(1));
                 false
             }
             Call::EntryAt(_) | Call::Past => false,
