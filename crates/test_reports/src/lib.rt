@@ -26,6 +26,8 @@ mod segments;
 #[cfg(test)]
 mod series;
 #[cfg(test)]
+mod shown;
+#[cfg(test)]
 mod sources;
 #[cfg(test)]
 mod texts;
