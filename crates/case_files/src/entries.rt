@@ -1,7 +1,7 @@
 //! What the entries of a case file say.
 use crate::answers::Answer;
 use crate::bytes::Bytes;
-use crate::lines::{Entry, Line};
+use crate::lines::{Entry, Word};
 use crate::mistake::Mistake;
 use crate::reader::Reader;
 use crate::report::{Report, Sight};
@@ -16,17 +16,18 @@ fn name_and_value(rest: &str) -> (&str, Option<&str>) {
     }
 }
 
-/// The bytes of an entry: those of its value, where it has one, or else of the lines below it.
-fn value_of(texts: &Texts, value: Option<&str>, below: &[Line<'_>]) -> Bytes {
-    match value {
-        Some(value) if below.is_empty() => texts.bytes(value),
-        Some(_) => {
-            let mut bytes = Bytes::new(texts.alloc);
-            bytes.fail(Mistake::Unasked);
-            bytes
-        }
-        None => texts.lines(below),
-    }
+/// The bytes of an entry: those of its value, where it has one, or else of the lines below it. A folder takes neither, and a link a
+/// value alone.
+fn value_of(texts: &Texts, entry: Entry<'_>, value: Option<&str>) -> Bytes {
+    let mistake = match (entry.line.word, value) {
+        (Word::Folder, Some(_)) | (Word::Link, None) => Mistake::Value,
+        (Word::Folder, None) | (_, Some(_)) if !entry.below.is_empty() => Mistake::Unasked,
+        (_, Some(value)) => return texts.bytes(value),
+        (_, None) => return texts.lines(entry.below),
+    };
+    let mut bytes = Bytes::new(texts.alloc);
+    bytes.fail(mistake);
+    bytes
 }
 
 /// The path at which an entry puts something, below a folder, and what that holds.
@@ -41,7 +42,7 @@ pub fn path_and_bytes(
     path.put_bytes(folder);
     texts.add_text(name, &mut path);
     report.note(&path);
-    let bytes = value_of(texts, value, entry.below);
+    let bytes = value_of(texts, entry, value);
     report.note(&bytes);
     (path, bytes)
 }
@@ -49,7 +50,7 @@ pub fn path_and_bytes(
 /// `text NAME = VALUE`: gives a text a name.
 pub fn name_text(texts: &mut Texts, entry: Entry<'_>, report: &mut Report) {
     let (name, value) = name_and_value(entry.line.rest);
-    let bytes = value_of(texts, value, entry.below);
+    let bytes = value_of(texts, entry, value);
     report.note(&bytes);
     if !texts.name(name, bytes.held) {
         report.text.fail(Mistake::Memory);

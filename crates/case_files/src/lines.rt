@@ -1,4 +1,5 @@
 //! The lines of a case file.
+use crate::mistake::Mistake;
 use std::alloc::{AllocError, Global};
 
 /// What a line says, by its first word.
@@ -117,6 +118,23 @@ pub fn below<'a>(lines: &'a [Line<'a>], place: usize) -> &'a [Line<'a>] {
         }
     }
     rest
+}
+
+impl Entry<'_> {
+    /// What is wrong with the answers that are wanted: one has two statuses, or something stands behind a `then`.
+    pub fn mistake(&self) -> Option<Mistake> {
+        let mut has_status = false;
+        for line in self.below {
+            match line.word {
+                Word::Status if has_status => return Some(Mistake::Status),
+                Word::Then if !line.rest.is_empty() => return Some(Mistake::Place),
+                Word::Status => has_status = true,
+                Word::Then => has_status = false,
+                _ => {}
+            }
+        }
+        None
+    }
 }
 
 impl<'a> Part<'a> {

@@ -14,6 +14,10 @@ pub enum Mistake {
     Entry,
     /// Lines are wanted of nothing, or of an entry that has no answer.
     Unasked,
+    /// An answer has two statuses.
+    Status,
+    /// A folder has a value, or a link has none.
+    Value,
     /// An escape is none, or has no end.
     Escape,
     /// A quoted word has no end.
@@ -40,6 +44,8 @@ impl Mistake {
             Mistake::System => "the system refuses a file or a folder",
             Mistake::Entry => "no entry begins with this word",
             Mistake::Unasked => "lines that are wanted of nothing",
+            Mistake::Status => "an answer has one status",
+            Mistake::Value => "a folder takes no value, and a link takes one in its line",
             Mistake::Escape => "no such escape",
             Mistake::Quote => "a quoted word has no end",
             Mistake::Text => "not UTF-8",

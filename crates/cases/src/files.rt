@@ -110,6 +110,10 @@ fn follow_entry<'a, O: Others>(
     session: &mut Session,
     report: &mut Report,
 ) {
+    if let Some(mistake) = entry.mistake() {
+        report.text.fail(mistake);
+        return;
+    }
     match other_of(entry) {
         Some(other) => {
             let texts = &session.texts;

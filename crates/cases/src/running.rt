@@ -37,6 +37,8 @@ fn run_verb(
     match verb {
         Verb::RefuseTree | Verb::RefuseDisk(_) => see_planned(sight, verb, words, world, report),
         Verb::Stage => stages::see_stage(sight, words, world, report),
+        // on the disk no file holds something else than is listed
+        Verb::RunOnDisk if world.opened.is_some() => report.text.fail(Mistake::Place),
         Verb::RunOnDisk => see_on_disk(rt, sight, verb, words, world, report),
         Verb::Run | Verb::RunWithRoom(_) | Verb::List | Verb::Write => {
             see_on_disk(rt, sight, verb, words, world, report);

@@ -80,9 +80,10 @@ impl World {
         }
     }
 
-    /// Has a file hold something else when it is opened. In a case one file can.
+    /// Has a file that is there hold something else when it is opened. In a case one file can.
     fn open_as(&mut self, path: &str, bytes: Vec<u8>, report: &mut Report) {
         match String::from_str(self.alloc, path) {
+            Ok(path) if self.file(path.as_str()).is_none() => report.text.fail(Mistake::Name),
             Ok(path) if self.opened.is_none() => self.opened = Some((path, bytes)),
             Ok(_) => report.text.fail(Mistake::Place),
             Err(_) => report.text.fail(Mistake::Memory),
