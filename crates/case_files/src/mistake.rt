@@ -16,6 +16,8 @@ pub enum Mistake {
     Unasked,
     /// An answer has two statuses.
     Status,
+    /// No answer is given for calls that are refused, or one that isn't theirs.
+    Turns,
     /// A folder has a value, or a link has none.
     Value,
     /// An escape is none, or has no end.
@@ -45,6 +47,7 @@ impl Mistake {
             Mistake::Entry => "no entry begins with this word",
             Mistake::Unasked => "lines that are wanted of nothing",
             Mistake::Status => "an answer has one status",
+            Mistake::Turns => "before the last answer stand those of the refused calls",
             Mistake::Value => "a folder takes no value, and a link takes one in its line",
             Mistake::Escape => "no such escape",
             Mistake::Quote => "a quoted word has no end",

@@ -19,11 +19,15 @@ pub fn is_wanted(sight: &Sight<'_>, part: Option<Part<'_>>, found: &Answer) -> b
     }
 }
 
-/// Compares the answer that comes where the call of a number is refused with the one that a part wants.
+/// Compares the answer that comes where the call of a number is refused, or none for 0, with the one that a part wants.
 pub fn see_part(sight: &Sight<'_>, part: Part<'_>, call: u64, found: &Answer, report: &mut Report) {
     let mut side = Bytes::new(sight.texts.alloc);
-    side.put("where call ");
-    side.show(&call, " is refused");
+    if call == 0 {
+        side.put("where no call is refused");
+    } else {
+        side.put("where call ");
+        side.show(&call, " is refused");
+    }
     let line = sight.entry.line;
     let below = part.lines;
     let entry = Entry { line, below };

@@ -85,7 +85,10 @@ fn follow_lines<'a, O: Others>(
     number: &mut usize,
     report: &mut Report,
 ) {
-    let mut session = Session::new(rt.alloc());
+    let Ok(mut session) = Session::new(rt.alloc()) else {
+        report.text.fail(Mistake::Memory);
+        return;
+    };
     for (place, line) in lines.iter().enumerate() {
         // the first line of a file is an entry, whatever it says
         let is_entry = place == 0 || !line.word.is_wanted();

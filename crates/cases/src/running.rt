@@ -97,17 +97,21 @@ fn see_plan(
     world: &mut World,
     report: &mut Report,
 ) {
-    let alloc = sight.texts.alloc;
     let fault = match verb {
         Verb::Run => return trees::see_in_trees(sight, plan, world, report),
         Verb::RefuseDisk(fault) => Some(fault),
         _ => None,
     };
+    let [folder] = plan.directories.as_slice() else {
+        report.text.fail(Mistake::Command);
+        return;
+    };
     let turns = Turns {
-        alloc,
+        alloc: sight.texts.alloc,
         fault,
         words,
         plan,
+        folder: folder.as_str(),
         world,
     };
     turns::see_in_turn(sight, &turns, report);

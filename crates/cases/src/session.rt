@@ -5,7 +5,7 @@ use case_files::{
     Bytes, Entry, Line, Mistake, Reader, Report, Sight, Texts, Word, below, name_text,
     path_and_bytes, read_row, words_of,
 };
-use std::alloc::Global;
+use std::alloc::{AllocError, Global};
 
 /// What a file has said up to an entry.
 #[derive(Drop)]
@@ -22,14 +22,15 @@ pub(crate) struct Session {
 }
 
 impl Session {
-    pub(crate) fn new(alloc: Global) -> Session {
-        Session {
+    pub(crate) fn new(alloc: Global) -> Result<Session, AllocError> {
+        let world = World::new(alloc)?;
+        Ok(Session {
             texts: Texts::new(alloc),
-            world: World::new(alloc),
+            world,
             folder: Bytes::new(alloc),
             is_bag: false,
             reader: None,
-        }
+        })
     }
 
     /// Follows an entry, before which these lines stand.

@@ -12,7 +12,9 @@ use bag_disk::DiskFault;
 use bag_text::Text;
 use case_files::Answer;
 use std::alloc::{AllocError, Global};
+use std::cell::Cell;
 use std::collections::BTreeMap;
+use std::rc::Rc;
 use test_disk::{Call, MemoryDisk, RefusingDisk};
 
 /// A copy of the disk of a folder; an empty one where there is none.
@@ -72,12 +74,13 @@ impl Disks for World {
     }
 }
 
-/// Disks of each of which the call of a number is refused, from 0, or none.
+/// Disks of each of which the call of a number is refused, from 0, or none, and then their calls are counted.
 #[derive(Drop)]
 struct Refusing<'a, D> {
     disks: &'a D,
     call: Option<u64>,
     fault: DiskFault,
+    calls: &'a Rc<Cell<u64>>,
 }
 
 impl<'a, D: Disks> Disks for Refusing<'a, D> {
@@ -91,7 +94,7 @@ impl<'a, D: Disks> Disks for Refusing<'a, D> {
         let disk = self.disks.disk(alloc, base)?;
         let call = match self.call {
             Some(number) => Call::Numbered(number),
-            None => Call::Past,
+            None => Call::Counted(self.calls.clone()?),
         };
         Ok(RefusingDisk::over(disk, call, self.fault))
     }
@@ -101,7 +104,8 @@ impl<'a, D: Disks> Disks for Refusing<'a, D> {
     }
 }
 
-/// What a command answers over disks in memory, of each of which the call of a number is refused by a fault, from 0, or none.
+/// What a command answers over disks in memory, of each of which the call of a number is refused by a fault, from 0, or none: then
+/// their calls are counted.
 pub(crate) fn answer_in_memory(
     alloc: Global,
     disks: &World,
@@ -113,5 +117,13 @@ pub(crate) fn answer_in_memory(
         Some((call, fault)) => (Some(call), fault),
         None => (None, DiskFault::Device),
     };
-    answer_to(alloc, &Refusing { disks, call, fault }, verb, words)
+    let calls = &disks.calls;
+    calls.set(0);
+    let disks = Refusing {
+        disks,
+        call,
+        fault,
+        calls,
+    };
+    answer_to(alloc, &disks, verb, words)
 }

@@ -5,7 +5,7 @@ ghost use Rattle.cases.specs.Checked.{IsChecked};
 
 use crate::world::World;
 use bag_cli::{Action, Plan, elements, make_and_tell, request_for};
-use bag_store::{MemoryTree, Tree, WriteTree, WriterOut};
+use bag_store::{FailTree, MemoryTree, Tree, WriteTree, WriterOut};
 use bag_text::Text;
 use bag_walk::{Request, run, status};
 use case_files::{Answer, Bytes, Mistake, Report, Sight};
@@ -71,11 +71,11 @@ pub(crate) fn do_over_tree(
     name: &str,
     call: u64,
     answer: &mut Answer,
-) -> Result<MemoryTree, Mistake> {
+) -> Result<FailTree<MemoryTree>, Mistake> {
     let (tree, written, status) = done(alloc, plan, name, world.tree(name, call)?)?;
     answer.written.put_bytes(&written);
     answer.status = answer.status.max(status);
-    Ok(tree.into_inner())
+    Ok(tree)
 }
 
 /// Does with each folder what a plan says, as a tree in memory, where they can be trees, and keeps what a making leaves.
@@ -88,7 +88,7 @@ pub(crate) fn see_in_trees(sight: &Sight<'_>, plan: &Plan, world: &mut World, re
     for directory in plan.directories.as_slice() {
         let name = directory.as_str();
         match do_over_tree(alloc, plan, world, name, 0, &mut found) {
-            Ok(mut tree) => world.keep(name, &mut tree, report),
+            Ok(tree) => world.keep(name, &mut tree.into_inner(), report),
             Err(mistake) => report.text.fail(mistake),
         }
     }

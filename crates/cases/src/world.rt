@@ -4,7 +4,9 @@ use bag_store::{FailTree, Listing, MemoryTree, Tree, read_whole};
 use bag_text::check_path;
 use case_files::{Mistake, Report, Word};
 use std::alloc::{AllocError, Global};
+use std::cell::Cell;
 use std::collections::BTreeMap;
+use std::rc::Rc;
 use std::{io, str};
 use test_disk::{MemoryDisk, Node};
 
@@ -22,6 +24,8 @@ pub(crate) struct World {
     has_trees: bool,
     /// Disks in memory of the folders, as they were when the last command began.
     pub(crate) disks: BTreeMap<String, MemoryDisk>,
+    /// How many of their calls the last command made, where none was refused.
+    pub(crate) calls: Rc<Cell<u64>>,
 }
 
 /// Notes the mistake of an answer of the system, where it is one.
@@ -33,15 +37,17 @@ fn note(answer: &io::Result<()>, report: &mut Report) {
 
 impl World {
     /// Nothing stands there.
-    pub(crate) fn new(alloc: Global) -> World {
-        World {
+    pub(crate) fn new(alloc: Global) -> Result<World, AllocError> {
+        let calls = Rc::new(alloc, Cell::new(0))?;
+        Ok(World {
             alloc,
             top: BTreeMap::new(alloc),
             folders: BTreeMap::new(alloc),
             opened: None,
             has_trees: true,
             disks: BTreeMap::new(alloc),
-        }
+            calls,
+        })
     }
 
     /// Makes a folder anew.
