@@ -63,8 +63,10 @@ pub use Rattle.bag_tree.proofs.ListingLaw.{listings_are_of_the_bag}
 pub use Rattle.bag_tree.proofs.Parents.{first-under, first_is_base_name, in_folder, is_slash, under_in_folder}
 pub use Rattle.bag_tree.proofs.SameText.{exact_texts, one_text, text_itself}
 pub use Rattle.bag_tree.proofs.Within.{goes_itself, goes_under, itself_within, not_within, stays, under_within, within_cases}
-pub use Rattle.bag_tree.specs.Bag.{Bag, HasFile, IsBag, file, files_of, has_folder}
+pub use Rattle.bag_tree.specs.Asked.{Adds, AreSyncs, Asking, AsksFile, AsksFolder, AsksMove, AsksPart, has_durable_folders, joined}
+pub use Rattle.bag_tree.specs.Bag.{Bag, HasFile, IsBag, file, files_of, has_file, has_folder}
 pub use Rattle.bag_tree.specs.Calm.{RefusesNothing}
+pub use Rattle.bag_tree.specs.Cut.{EachCut, LeavesOnly, MayLeave, is_durable, is_file_synced, is_synced}
 pub use Rattle.bag_tree.specs.Digest.{digest, hash}
 pub use Rattle.bag_tree.specs.Listing.{IsListingOf, IsOrdered}
 pub use Rattle.bag_tree.specs.Moved.{is_within, moved, renamed}
@@ -79,8 +81,9 @@ pub use Rattle.bag_make.specs.Contents.{AreInPathOrder, IsMoved, IsNew, IsNewTex
 pub use Rattle.bag_make.specs.Made.{File, data_folder, declaration_file, entries_of, info_file, made, manifest, named_tag_files, new_elements, new_payload, new_tag_files, payload_manifests, tag_manifests}
 pub use Rattle.bag_make.specs.Make.{CanAsk, CanTell, HasMade, HasNoFault, Leaves, MayRefuseMaking}
 pub use Rattle.bag_make.specs.Plan.{StepsMake, has_new, in_order, is_in_the_way, listed_tops, new_file, steps, steps_for, tops}
+pub use Rattle.bag_make.specs.PowerCut.{HasAllFiles, LastsForGood, OutlastsCuts}
 pub use Rattle.bag_make.specs.Request.{AreTexts}
-pub use Rattle.bag_make.specs.Steps.{CanTake, CanTakeAll, HasDone, HasLeft, HasTaken, IsStep, after_steps, change, new_folder}
+pub use Rattle.bag_make.specs.Steps.{AllAsk, CanTake, CanTakeAll, HasDone, HasLeft, HasTaken, IsStep, RefusedAsks, StepAsks, after_steps, change, new_folder}
 pub use Rattle.bag_make.specs.Stops.{IsAtFile, MayStopMaking, StopsSumming, TellsOneFile}
 pub use Rattle.bag_make.specs.Summed.{AreSummed, AreSummedFiles, HasItsSums, IsSummedEntry, OpensFirstOf, entry_of, summed_entry}
 pub use Rattle.bag_make.specs.Texts.{info_of, manifests_of, named_of, size_of}

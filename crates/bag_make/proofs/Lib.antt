@@ -1,3 +1,4 @@
+pub mod Asking
 pub mod Common
 pub mod Composed
 pub mod ContentsOfMade
@@ -16,11 +17,14 @@ pub mod MetadataReads
 pub mod NoFault
 pub mod OfTheBag
 pub mod OneFile
+pub mod Outlasting
 pub mod OxumReads
 pub mod PartsAreThere
 pub mod PathOrder
 pub mod PayloadIsTheFolder
+pub mod Phases
 pub mod Placed
+pub mod PowerCut
 pub mod PutFiles
 pub mod ReadFolder
 pub mod StepsMake

@@ -41,7 +41,7 @@ abbrev pub placed_by : (List ℕ → Bool) → List ℕ → List ℕ
 placed_by done p = cond (done (first_component p)) (under new_folder p) p
 
 -- with one name more
-abbrev with_name : (List ℕ → Bool) → List ℕ → List ℕ → Bool
+abbrev pub with_name : (List ℕ → Bool) → List ℕ → List ℕ → Bool
 with_name done top t = done t || bytes_eq t top
 
 within_first : (top k : List ℕ) → first_component k ≡ top → is_within top k ≡ true
@@ -59,7 +59,7 @@ goes_in top path within = elim (within_cases top path within) [
 abbrev pub IsTop : List ℕ → Type 0
 IsTop top = (is_base_name top ≡ true) × (top ≢ new_folder)
 
-goes_on : (done : List ℕ → Bool) (top p : List ℕ) → IsTop top → renamed top (under new_folder top) (placed_by done p) ≡ placed_by (with_name done top) p
+pub goes_on : (done : List ℕ → Bool) (top p : List ℕ) → IsTop top → renamed top (under new_folder top) (placed_by done p) ≡ placed_by (with_name done top) p
 goes_on done top p is = grind (arith, first_component, renamed, under, new_folder, stays, not_within, first-under, goes_in, within_first, bytes_eq-Decides, false≢true, first-name)
 
 module _ (bag : Bag) (free : is_in_the_way bag ≡ false) where
@@ -68,7 +68,7 @@ module _ (bag : Bag) (free : is_in_the_way bag ≡ false) where
       let c = content_of (file bag r) has in
       false≢true (sym free ∙ any_from (λ e. is_within new_folder e.0) (files_of bag) (r, c.0) (listed bag.files r c.0 c.1) within)
 
-  apart : (done : List ℕ → Bool) (p r : List ℕ) → HasFile bag p → HasFile bag r → placed_by done p ≡ placed_by done r → p ≡ r
+  pub apart : (done : List ℕ → Bool) (p r : List ℕ) → HasFile bag p → HasFile bag r → placed_by done p ≡ placed_by done r → p ≡ r
   apart done p r has_p has_r = elim (done (first_component p)) as (λ a. cond a (under new_folder p) p ≡ placed_by done r → p ≡ r) [
     | true ↦ elim (done (first_component r)) as (λ b. under new_folder p ≡ cond b (under new_folder r) r → p ≡ r) [
       | true ↦ λ e. ap (drop 11) e

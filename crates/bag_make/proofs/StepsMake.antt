@@ -1,5 +1,5 @@
 -- All steps make the bag.
-use Rattle.bag_make.proofs.Common.{arith, ◌≡◌, ℕ, inl, inr, Bool, true, false, not, ◌&&◌, ◌||◌, cond, List, [], ◌∷◌, ◌++◌, Some, map, Contains, refl, ap, sym, ◌∙◌, subst, nat_list_cmp_total, contains-insert, contains-remove, same_set, list_any, list_any-append, eq_by_cmp, bytes_eq, false_from_ne_true, fold-append, first_component, under, text_cmp, Alg, contains_either, contains_front, each_from_members, Bag, IsBag, file, files_of, has_folder, exact_texts, one_text, NewElement, make_folder, move_in, rename_folder, create, File, data_folder, new_payload, new_tag_files, made, StepsMake, is_in_the_way, steps, tops, new_folder, after_steps, MoveIn, Create}
+use Rattle.bag_make.proofs.Common.{arith, ◌≡◌, ℕ, inl, inr, Bool, true, false, not, ◌&&◌, ◌||◌, cond, List, [], ◌∷◌, ◌++◌, Some, map, Contains, refl, ap, sym, ◌∙◌, subst, AllByRecursion, nat_list_cmp_total, contains-insert, contains-remove, same_set, list_any, list_any-append, eq_by_cmp, bytes_eq, false_from_ne_true, fold-append, first_component, under, text_cmp, Alg, contains_either, contains_front, each_from_members, Bag, HasFile, IsBag, file, files_of, has_folder, exact_texts, one_text, NewElement, make_folder, move_in, rename_folder, create, File, data_folder, new_payload, new_tag_files, made, StepsMake, is_in_the_way, steps, tops, new_folder, after_steps, MoveIn, Create}
 use Rattle.std.specs.FinMap as fin
 use Rattle.std.specs.FinSet as set
 use Rattle.std.specs.Cmp.Lexicographic.{nat_list_eq_equiv, texts_ties}
@@ -27,16 +27,40 @@ agree : (new payload first also has : Bool) → (new ≡ true → payload ≡ fa
     → (not new && (payload || (not (first || also) && (new || has)))) ≡ (payload || (has && not first))
 agree new payload first also has apart absent none = grind arith
 
+-- what is moved: the first component of each path, and data
+module _ (bag : Bag) where
+  abbrev data_of : List (List ℕ)
+  data_of = cond (has_folder bag data_folder) (data_folder ∷ []) []
+
+  abbrev names_of : List (List ℕ)
+  names_of = tops (files_of bag) (has_folder bag data_folder)
+
+  name_is_top : IsBag bag → is_in_the_way bag ≡ false → (t : List ℕ) → Contains names_of t → IsTop t
+  name_is_top is free t has = elim (contains_either (firsts bag) data_of t (((listed_in_order (firsts bag ++ data_of)).members t).0 has)) [
+    | inl a ↦ (let at = in_first bag t a in subst IsTop at.2 (first_top at.0 (is.paths at.0 at.1).0 (false_from_ne_true _ (none_within bag free at.0 at.1))))
+    | inr b ↦ data_top (has_folder bag data_folder) t b
+  ]
+
+  -- no name is that of the folder for the files
+  pub names_are_tops : IsBag bag → is_in_the_way bag ≡ false → AllByRecursion IsTop names_of
+  names_are_tops is free = each_from_members IsTop names_of (name_is_top is free)
+
+  -- and each file stands at one of them or below it
+  pub each_is_moved : (p : List ℕ) → HasFile bag p → list_any (bytes_eq (first_component p)) names_of ≡ true
+  each_is_moved p has =
+      list_any-from_Contains nat_list_eq_equiv (first_component p) names_of
+      (((listed_in_order (firsts bag ++ data_of)).members (first_component p)).1
+      (contains_front (firsts bag) data_of (first_component p) (first_in bag p has)))
+
 module _ (bag : Bag) (algs : List Alg) (info : List NewElement) (is : IsBag bag) (free : is_in_the_way bag ≡ false) (absent : has_folder bag new_folder ≡ false) where
   abbrev tags : List File
   tags = new_tag_files (files_of bag) algs info
 
-  -- what is moved: the first component of each path, and data
   abbrev data_there : List (List ℕ)
-  data_there = cond (has_folder bag data_folder) (data_folder ∷ []) []
+  data_there = data_of bag
 
   abbrev names : List (List ℕ)
-  names = tops (files_of bag) (has_folder bag data_folder)
+  names = names_of bag
 
   abbrev begun : Bag
   begun = make_folder new_folder bag
@@ -53,20 +77,12 @@ module _ (bag : Bag) (algs : List Alg) (info : List NewElement) (is : IsBag bag)
   all_steps : after_steps (steps bag algs info) bag ≡ ended
   all_steps = grind (arith, fold-append, created)
 
-  name_is_top : (t : List ℕ) → Contains names t → IsTop t
-  name_is_top t has = elim (contains_either (firsts bag) data_there t (((listed_in_order (firsts bag ++ data_there)).members t).0 has)) [
-    | inl a ↦ (let at = in_first bag t a in subst IsTop at.2 (first_top at.0 (is.paths at.0 at.1).0 (false_from_ne_true _ (none_within bag free at.0 at.1))))
-    | inr b ↦ data_top (has_folder bag data_folder) t b
-  ]
-
   payload : IsPlaced bag (under data_folder) named.files
   payload =
       all_under_data bag free (λ t. list_any (bytes_eq t) names) filled.files
-      (moves_placed bag free names (λ _. false) begun (each_from_members IsTop names name_is_top)
+      (moves_placed bag free names (λ _. false) begun (names_are_tops bag is free)
       (record { from = λ q c at. (q, refl, at); to = λ p c at. at }))
-      (λ p has. list_any-from_Contains nat_list_eq_equiv (first_component p) names
-      (((listed_in_order (firsts bag ++ data_there)).members (first_component p)).1
-      (contains_front (firsts bag) data_there (first_component p) (first_in bag p has))))
+      (each_is_moved bag)
 
   tag_there : (q c : List ℕ) → Contains tags (q, c) → file (made bag algs info) q ≡ Some c
   tag_there q c has = (these_files bag algs info q c).1 (inr (tag_member bag algs info q c has))

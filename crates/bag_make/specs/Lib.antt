@@ -2,6 +2,7 @@ pub mod Contents
 pub mod Made
 pub mod Make
 pub mod Plan
+pub mod PowerCut
 pub mod Reading
 pub mod Request
 pub mod Steps

@@ -1,8 +1,10 @@
 -- The steps in which a bag is made, and what they leave.
-use Rattle.std.specs.Prelude.{ℕ, ◌≡◌, ◌≢◌, ◌⊎◌, ◌≤◌, ◌-◌, true, IsTrue, List, [], ◌∷◌, Some, codes, fold, take, slice_get}
+use Rattle.std.specs.Prelude.{ℕ, ◌≡◌, ◌≢◌, ◌⊎◌, ◌≤◌, ◌-◌, ◌++◌, true, IsTrue, List, [], ◌∷◌, Some, Result, MatchResult, codes, fold, take, slice_get}
 use Rattle.bag_text.specs.Path.{is_base_name, under}
+use Rattle.bag_tree.specs.Asked.{Adds, Asking, AsksFile, AsksFolder, AsksMove, AsksRename, AsksSyncs, MayBegin}
 use Rattle.bag_tree.specs.Bag.{Bag}
 use Rattle.bag_tree.specs.Tree.{TreeState}
+use Rattle.bag_tree.specs.declared.event.DeviceEvent.{DeviceEvent}
 use Rattle.bag_tree.specs.declared.answer.Answer.TheVariants.{Refused}
 use Rattle.bag_tree.specs.declared.tree_fault.TreeFault.{TreeFault}
 use Rattle.bag_tree.specs.Changes.{HasChanged, HasBegun, IsSame, MayRefuseChange}
@@ -62,6 +64,32 @@ abbrev pub HasLeft : Step → TreeState → TreeState → Type 0
 HasLeft (Create name bytes) old new = IsSame old new ⊎ HasBegun name bytes old new
 HasLeft step old new = IsSame old new
 
+-- what a step asks of the device
+abbrev pub StepAsks : Step → Asking
+StepAsks MakeFolder = AsksFolder new_folder
+StepAsks (MoveIn top) = AsksMove top new_folder
+StepAsks Rename = AsksRename new_folder data_folder
+StepAsks (Create name bytes) = AsksFile name bytes
+
+-- what a step asks that is refused: syncs alone, but that a file may be begun
+abbrev pub RefusedAsks : Step → Asking
+RefusedAsks (Create name bytes) = MayBegin name
+RefusedAsks step = AsksSyncs
+
+-- what steps ask that are taken one after another
+abbrev pub AllAsk : List Step → Asking
+AllAsk [] before events = events ≡ []
+AllAsk (step ∷ steps) before events =
+    (now : List DeviceEvent) × (later : List DeviceEvent) × (events ≡ now ++ later)
+    × StepAsks step before now × AllAsk steps (before ++ now) later
+
+-- what a step asked of a device that notes what it does
+abbrev pub HasAsked : Step → TreeState → TreeState → Result (Unit {0}) TreeFault → Type 0
+HasAsked step old new result =
+    IsTrue old.noted → MatchResult result
+    (λ _. Adds (StepAsks step) old.trail new.trail)
+    (λ _. Adds (RefusedAsks step) old.trail new.trail)
+
 -- a step may answer this refusal: of an honest tree NotFound and Exists only where they are so
 abbrev pub MayRefuseStep : Step → TreeState → TreeState → TreeFault → Type 0
 MayRefuseStep MakeFolder old new = MayRefuseChange ⊥ (is_taken old.bag new_folder ≡ true) old new
@@ -69,8 +97,8 @@ MayRefuseStep (MoveIn top) old new = MayRefuseChange (lacks_source old.bag top n
 MayRefuseStep Rename old new = MayRefuseChange (lacks_folder old.bag new_folder ≡ true) (is_taken old.bag data_folder ≡ true) old new
 MayRefuseStep (Create name bytes) old new = MayRefuseChange ⊥ (is_taken old.bag name ≡ true) old new
 
--- These steps were taken. The bag of an honest tree is then the steps' bag, each step could be taken, the device didn't fail, and no
--- file was opened.
+-- These steps were taken. The bag of an honest tree is then the steps' bag, each step could be taken,
+-- the device didn't fail, it was asked for what the steps ask, and no file was opened.
 pub record HasTaken (steps : List Step) (old new : TreeState) : Type 0 where
   pub bag : IsTrue old.honest → new.bag ≡ after_steps steps old.bag
   pub possible : IsTrue old.honest → CanTakeAll steps old.bag
@@ -78,9 +106,11 @@ pub record HasTaken (steps : List Step) (old new : TreeState) : Type 0 where
   pub honest : new.honest ≡ old.honest
   pub calm : new.failures ≡ old.failures
   pub openings : new.openings ≡ old.openings
+  pub noted : new.noted ≡ old.noted
+  pub asked : IsTrue old.noted → Adds (AllAsk steps) old.trail new.trail
 
--- All steps before this one were taken, and this one was refused, as the tree answered. It left nothing, but that a file may be
--- begun.
+-- All steps before this one were taken, and this one was refused, as the tree answered. It left
+-- nothing, but that a file may be begun, and asked for no more than that.
 pub record HasStopped (steps : List Step) (old new : TreeState) (refusal : Refusal) : Type 0 where
   pub first : 1 ≤ refusal.step
   pub step : Step
@@ -90,3 +120,4 @@ pub record HasStopped (steps : List Step) (old new : TreeState) (refusal : Refus
   pub left : HasLeft step before new
   pub refused : MayRefuseStep step before new refusal.cause
   pub answered : new.last ≡ Refused refusal.cause
+  pub asked : IsTrue before.noted → Adds (RefusedAsks step) before.trail new.trail

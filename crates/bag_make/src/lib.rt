@@ -9,6 +9,9 @@
 //! The bag that was made is the one of the definition, has the folder as its payload, and no fault, as long as the numbers of
 //! files and of bytes stay below 2^64. Each refusal comes for its reason alone, and before the first step leaves the bag as it
 //! was; a refused step leaves what the steps before it made, and perhaps a begun tag file.
+//!
+//! A making outlasts a power cut: at any moment it leaves each file of the folder whole, and after Ok the bag that was made
+//! and nothing else, as far as the device keeps what it is asked to sync.
 #![tactic(auto)]
 
 mod fault;

@@ -11,6 +11,7 @@ ghost use Rattle.bag_make.specs.Valid.{is_refused};
 ghost use Rattle.bag_make.specs.Make.{CanTell, HasMade, HasNoFault, Leaves, MayRefuseMaking};
 ghost use Rattle.bag_make.specs.Plan as spec;
 ghost use Rattle.bag_make.specs.Plan.{has_new};
+ghost use Rattle.bag_make.specs.PowerCut.{LastsForGood, OutlastsCuts};
 ghost use Rattle.bag_make.specs.Reading.{IsStopped, MayRefuseReading, OpensFolder};
 ghost use Rattle.bag_make.specs.Steps.{IsStep};
 ghost use Rattle.bag_make.specs.Summed.{AreSummed, entry_of};
@@ -33,6 +34,11 @@ use std::alloc::{AllocError, Global};
 /// first step that changes the tree. The steps are: the folder `.bagit-new` is made; each entry of the base folder that has a
 /// file is moved into it, and `data` where that folder is there, in the order of their bytes; it is renamed to `data`;
 /// `bagit.txt`, `bag-info.txt`, the manifests and the tag manifests are written.
+///
+/// On a device that notes what it does, and on which what was synced is durable, a power cut at any
+/// moment leaves each file of the folder whole: at its path, or at that path in `.bagit-new` or in
+/// `data`, be it answered Ok or not. After Ok a power cut leaves the bag that was made and nothing
+/// else. Both hold where the folder was durable when the call began.
 pub fn make<T: WriteTree>(
     alloc: Global,
     tree: T,
@@ -47,6 +53,9 @@ pub fn make<T: WriteTree>(
     ensures opens { OpensFolder (T.state tree) (T.state result.0) }
     ensures refused { IfErr result.1 (MayRefuseMaking algs info.now (T.state tree) (T.state result.0)) }
     ensures leaves { IfErr result.1 (λ fault. IsTrue (T.state tree).honest → Leaves algs info.now (T.state tree).bag (T.state result.0).bag fault) }
+    ensures noted { (T.state result.0).noted ≡ (T.state tree).noted }
+    ensures any_moment { OutlastsCuts (T.state tree) (T.state result.0) }
+    ensures lasting { OnOk result.1 (LastsForGood algs info.now (T.state tree) (T.state result.0)) }
 {
     let mut tree = tree;
     let result = make_in(alloc, &mut tree, algs, info);
@@ -66,6 +75,9 @@ fn make_in<T: WriteTree>(
     ensures made { OnOk result (HasMade algs info.now (T.state tree.old) (T.state tree.new)) }
     ensures opens { OpensFolder (T.state tree.old) (T.state tree.new) }
     ensures refused { IfErr result (MayRefuseMaking algs info.now (T.state tree.old) (T.state tree.new)) }
+    ensures noted { (T.state tree.new).noted ≡ (T.state tree.old).noted }
+    ensures any_moment { OutlastsCuts (T.state tree.old) (T.state tree.new) }
+    ensures lasting { OnOk result (LastsForGood algs info.now (T.state tree.old) (T.state tree.new)) }
 {
     check_request(algs, info)?;
     let steps = read_and_plan(alloc, tree, algs, info)?;

@@ -1,7 +1,7 @@
 //! The steps in which a bag is made.
 ghost use Rattle.std.specs.Prelude.{◌≡◌, ◌⊎◌, OnOk, OnErr, IfErr, IsTrue, All};
 ghost use Rattle.bag_tree.specs.declared.answer.Answer.TheVariants.{Refused};
-ghost use Rattle.bag_make.specs.Steps.{CanTake, IsStep, HasDone, HasLeft, MayRefuseStep, HasTaken, HasStopped};
+ghost use Rattle.bag_make.specs.Steps.{CanTake, IsStep, HasAsked, HasDone, HasLeft, MayRefuseStep, HasTaken, HasStopped};
 
 use bag_text::{Items, Text};
 use bag_tree::{TreeFault, WriteTree};
@@ -59,6 +59,7 @@ fn take_step<T: WriteTree>(tree: &mut T, step: &Step) -> Result<(), TreeFault>
     ensures left { OnErr result (HasLeft step.now (T.state tree.old) (T.state tree.new)) }
     ensures refused { IfErr result (MayRefuseStep step.now (T.state tree.old) (T.state tree.new)) }
     ensures answered { IfErr result (λ cause. (T.state tree.new).last ≡ Refused cause) }
+    ensures asked { HasAsked step.now (T.state tree.old) (T.state tree.new) result }
 {
     match step {
         Step::MakeFolder => tree.make_folder(NEW_FOLDER),

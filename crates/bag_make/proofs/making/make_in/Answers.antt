@@ -1,5 +1,6 @@
-use Rattle.bag_make.proofs.Common.{◌∙◌}
+use Rattle.bag_make.proofs.Common.{◌∙◌, keeps_itself}
 use Rattle.bag_make.proofs.Made.{has_made, opens_nothing}
+use Rattle.bag_make.proofs.PowerCut.{outlasts_before, outlasts_all, outlasts_some, lasts_for_good}
 use Rattle.bag_make.proofs.making.make_in.Goals as goal
 
 pub returns-in-Ok-clause-made : goal.returns-in-Ok-clause-made
@@ -26,3 +27,27 @@ returns-clause-refused g c =
         stopped = rw c.deref.ensures.value at stopped;
       },
     )
+
+pub returns-in_err-check_request-clause-any_moment : goal.returns-in_err-check_request-clause-any_moment
+returns-in_err-check_request-clause-any_moment g c = outlasts_before _ _ (keeps_itself (g.T.Tree.state c.args.tree.now))
+
+pub returns-in_err-steps-clause-any_moment : goal.returns-in_err-steps-clause-any_moment
+returns-in_err-steps-clause-any_moment g c = outlasts_before _ _ c.read_and_plan.ensures.keeps
+
+pub returns-in-Ok-clause-any_moment : goal.returns-in-Ok-clause-any_moment
+returns-in-Ok-clause-any_moment g c =
+    let read = c.in_ok-steps.ensures in
+    outlasts_all c.args.algs c.args.info.now _ _ _ _ (g.met.T.Tree.is_bag c.args.tree.now) read.keeps read.planned
+    (rw c.deref.ensures.value at c.in-Ok.ensures.taken)
+
+pub returns-in-Ok-clause-lasting : goal.returns-in-Ok-clause-lasting
+returns-in-Ok-clause-lasting g c =
+    let read = c.in_ok-steps.ensures in
+    lasts_for_good c.args.algs c.args.info.now _ _ _ _ (g.met.T.Tree.is_bag c.args.tree.now) read.keeps read.planned
+    (rw c.deref.ensures.value at c.in-Ok.ensures.taken)
+
+pub returns-clause-any_moment : goal.returns-clause-any_moment
+returns-clause-any_moment g c =
+    let read = c.in_ok-steps.ensures in
+    outlasts_some c.args.algs c.args.info.now _ _ _ _ (g.met.T.Tree.is_bag c.args.tree.now) read.keeps read.planned _
+    (rw c.deref.ensures.value at c.in-Err.ensures.stopped)

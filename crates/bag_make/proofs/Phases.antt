@@ -1,0 +1,233 @@
+-- What each step leaves after it.
+use Rattle.bag_make.proofs.Common.{arith, ◌≡◌, ◌++◌, ◌∷◌, ◌⊎◌, ℕ, inl, inr, Bool, true, false, cond, List, [], Some, map, refl, ap, sym, ◌∙◌, subst, and_from, false≢true, append-nil, append_assoc, contains-insert, contains-remove, one_text, nat_list_cmp_total, text_itself, is_base_name, first_component, under, Bag, file, has_folder, create, make_folder, move_in, rename_folder, is_synced, is_file_synced, is_durable, AreSyncs, joined, AllByRecursion, HasAllFiles, is_in_the_way, new_folder, data_folder, after_steps, MoveIn}
+use Rattle.bag_tree.specs.Cut.{done, hold}
+use Rattle.bag_tree.specs.declared.event.DeviceEvent.{DeviceEvent}
+use Rattle.bag_tree.specs.declared.event.DeviceEvent.TheVariants.{MakeFolder, Rename, Create, Write, Sync, SyncFolder}
+use Rattle.bag_tree.proofs.Events.{in_base, in_folder_of, other_name, same_name, done_make, done_move, done_rename, done_create, synced_front, synced_after, stays_under, held_under, done_write, done_write_is}
+use Rattle.bag_tree.proofs.Runs as run
+use Rattle.bag_tree.proofs.Runs.{one_more, weaker, synced}
+use Rattle.bag_make.proofs.Placed.{IsPlaced, IsTop, placed_by, with_name, moved_placed, goes_on, apart}
+
+-- what is left after these events has Q, and at each moment each file was whole
+abbrev pub Reaches : Bag → List DeviceEvent → (List DeviceEvent → Bag → Type 0) → Type 0
+Reaches bag trail Q = run.Reaches (HasAllFiles bag) bag trail Q
+
+-- each file of the bag stands in the folder
+abbrev pub AllIn : List ℕ → Bag → Bag → Type 0
+AllIn folder bag d = (p c : List ℕ) → file bag p ≡ Some c → file d (under folder p) ≡ Some c
+
+abbrev pub AllInOne : Bag → Bag → Type 0
+AllInOne bag d = AllIn new_folder bag d ⊎ AllIn data_folder bag d
+
+pub all_whole : (bag d : Bag) → AllInOne bag d → HasAllFiles bag d
+all_whole bag d (inl new) p c at = inr (inl (new p c at))
+all_whole bag d (inr data_) p c at = inr (inr (data_ p c at))
+
+pub placed_whole : (bag d : Bag) (moved : List ℕ → Bool) → IsPlaced bag (placed_by moved) d.files → HasAllFiles bag d
+placed_whole bag d moved placed p c at =
+    elim (moved (first_component p)) as (λ b. file d (cond b (under new_folder p) p) ≡ Some c → (file d p ≡ Some c) ⊎ (file d (under new_folder p) ≡ Some c) ⊎ (file d (under data_folder p) ≡ Some c)) [
+      | true ↦ λ there. inr (inl there)
+      | false ↦ λ there. inl there
+    ] (placed.to p c at)
+
+pub itself_whole : (bag : Bag) → HasAllFiles bag bag
+itself_whole bag p c at = inl at
+
+module _ (bag : Bag) (free : is_in_the_way bag ≡ false) where
+  abbrev pub begun : Bag
+  begun = make_folder new_folder bag
+
+  -- the folder is made, or is still missing
+  abbrev pub IsMade : List DeviceEvent → Bag → Type 0
+  IsMade later d = (d ≡ begun) ⊎ ((d ≡ bag) × (is_synced [] later ≡ false))
+
+  made_whole : (later : List DeviceEvent) (d : Bag) → IsMade later d → HasAllFiles bag d
+  made_whole later d (inl is) = subst (HasAllFiles bag) (sym is) (λ p c at. inl at)
+  made_whole later d (inr (is, _)) = subst (HasAllFiles bag) (sym is) (itself_whole bag)
+
+  pub make_step : (t : List DeviceEvent) → Reaches bag t (λ later d. d ≡ bag) → Reaches bag (t ++ MakeFolder new_folder ∷ []) IsMade
+  make_step t so_far = one_more t (λ later d. d ≡ bag) IsMade (MakeFolder new_folder) so_far
+      (λ later d is. inl (ap (done (MakeFolder new_folder)) is ∙ done_make new_folder bag))
+      (λ later d part is missing same. inr (same ∙ is, missing))
+      made_whole
+
+  -- some names are moved, and all that were asked for once both folders are synced
+  pub record IsMoving (actual : Bag) (later : List DeviceEvent) (d : Bag) : Type 0 where
+    pub moved : List ℕ → Bool
+    pub placed : IsPlaced bag (placed_by moved) d.files
+    pub there : has_folder d new_folder ≡ true
+    pub durable : is_synced [] later ≡ true → is_synced new_folder later ≡ true → d ≡ actual
+
+  pub moving_whole : (actual : Bag) (later : List DeviceEvent) (d : Bag) → IsMoving actual later d → HasAllFiles bag d
+  moving_whole actual later d is = placed_whole bag d is.moved is.placed
+
+  pub begun_there : has_folder begun new_folder ≡ true
+  begun_there = contains-insert nat_list_cmp_total bag.folders new_folder new_folder ∙ grind (arith, text_itself new_folder)
+
+  begun_moving : (later : List DeviceEvent) → IsMoving begun later begun
+  begun_moving later = record { moved = λ _. false; placed = record { from = λ q c at. (q, refl, at); to = λ p c at. at }; there = begun_there; durable = λ _ _. refl }
+
+  only_begun : (es : List DeviceEvent) → is_synced [] es ≡ true → (later : List DeviceEvent) (d : Bag) → IsMade (es ++ later) d → d ≡ begun
+  only_begun es durable later d (inl is) = is
+  only_begun es durable later d (inr (_, missing)) = absurd (false≢true (sym missing ∙ synced_front [] es later durable))
+
+  -- the folder is there once its name is durable
+  pub made_durable : (t es : List DeviceEvent) → Reaches bag t IsMade → AreSyncs es → is_synced [] es ≡ true → Reaches bag (t ++ es) (λ later d. d ≡ begun)
+  made_durable t es so_far are durable =
+      weaker (t ++ es) (λ later d. IsMade (es ++ later) d) (λ later d. d ≡ begun) (synced es t IsMade so_far are) (only_begun es durable)
+      (λ later d is. made_whole later d (inl is))
+
+  pub can_move : (t : List DeviceEvent) → Reaches bag t (λ later d. d ≡ begun) → Reaches bag t (IsMoving begun)
+  can_move t so_far =
+      weaker t (λ later d. d ≡ begun) (IsMoving begun) so_far (λ later d is. subst (IsMoving begun later) (sym is) (begun_moving later)) (moving_whole begun)
+
+  pub moving_synced : (actual : Bag) (t es : List DeviceEvent) → Reaches bag t (IsMoving actual) → AreSyncs es → Reaches bag (t ++ es) (IsMoving actual)
+  moving_synced actual t es so_far are =
+      weaker (t ++ es) (λ later d. IsMoving actual (es ++ later) d) (IsMoving actual) (synced es t (IsMoving actual) so_far are)
+      (λ later d is. record {
+        moved = is.moved;
+        placed = is.placed;
+        there = is.there;
+        durable = λ base new. is.durable (synced_after [] es later are base) (synced_after new_folder es later are new);
+      }) (moving_whole actual)
+
+  still_there : (top : List ℕ) (d : Bag) → IsTop top → has_folder d new_folder ≡ true → has_folder (move_in top new_folder d) new_folder ≡ true
+  still_there top d is there = grind (arith, contains-remove nat_list_cmp_total d.folders top new_folder, one_text new_folder top, there, is.1)
+
+  -- and stays there through all moves
+  pub all_there : (names : List (List ℕ)) (d : Bag) → AllByRecursion IsTop names → has_folder d new_folder ≡ true → has_folder (after_steps (map MoveIn names) d) new_folder ≡ true
+  all_there [] d are there = there
+  all_there (top ∷ names) d are there = all_there names (move_in top new_folder d) are.1 (still_there top d are.0 there)
+
+  abbrev move_event : List ℕ → DeviceEvent
+  move_event top = Rename top (under new_folder top)
+
+  moved_on : (actual : Bag) (top : List ℕ) → IsTop top → (later : List DeviceEvent) (d : Bag) → IsMoving actual (move_event top ∷ later) d
+      → IsMoving (move_in top new_folder actual) later (move_in top new_folder d)
+  moved_on actual top is later d was = record {
+    moved = with_name was.moved top;
+    placed = moved_placed bag (placed_by was.moved) (placed_by (with_name was.moved top)) top (under new_folder top) d.files was.placed
+        (λ p has. goes_on was.moved top p is) (apart bag free (with_name was.moved top));
+    there = still_there top d is was.there;
+    durable = λ base new. ap (move_in top new_folder) (was.durable base (rw (other_name top new_folder is.1) new));
+  }
+
+  not_moved : (actual : Bag) (top : List ℕ) → IsTop top → (later : List DeviceEvent) (d : Bag) → IsMoving actual (move_event top ∷ later) d → is_durable (move_event top) later ≡ false
+      → IsMoving (move_in top new_folder actual) later d
+  not_moved actual top is later d was missing = record {
+    moved = was.moved;
+    placed = was.placed;
+    there = was.there;
+    durable = λ base new. absurd (false≢true (sym missing ∙ and_from _ _ (ap (λ f. is_synced f later) (in_base top is.0) ∙ base) (ap (λ f. is_synced f later) (in_folder_of new_folder top refl) ∙ new)));
+  }
+
+  -- a move
+  pub move_step : (actual : Bag) (t : List DeviceEvent) (top : List ℕ) → IsTop top → Reaches bag t (IsMoving actual)
+      → Reaches bag (t ++ Rename top (under new_folder top) ∷ []) (IsMoving (move_in top new_folder actual))
+  move_step actual t top is so_far =
+      one_more t (IsMoving actual) (IsMoving (move_in top new_folder actual)) (move_event top) so_far
+      (λ later d was. subst (IsMoving (move_in top new_folder actual) later) (sym (done_move top new_folder d refl was.there)) (moved_on actual top is later d was))
+      (λ later d part was missing same. subst (IsMoving (move_in top new_folder actual) later) (sym same) (not_moved actual top is later d was missing))
+      (moving_whole (move_in top new_folder actual))
+
+  -- all moves are durable
+  pub moves_durable : (actual : Bag) (t es : List DeviceEvent) → HasAllFiles bag actual → Reaches bag t (IsMoving actual) → AreSyncs es → is_synced [] es ≡ true → is_synced new_folder es ≡ true
+      → Reaches bag (t ++ es) (λ later d. d ≡ actual)
+  moves_durable actual t es whole so_far are base new =
+      weaker (t ++ es) (λ later d. IsMoving actual (es ++ later) d) (λ later d. d ≡ actual) (synced es t (IsMoving actual) so_far are)
+      (λ later d is. is.durable (synced_front [] es later base) (synced_front new_folder es later new))
+      (λ later d is. subst (HasAllFiles bag) (sym is) whole)
+
+  -- the folder has its last name, or not yet
+  pub record IsNamed (actual : Bag) (later : List DeviceEvent) (d : Bag) : Type 0 where
+    pub all : AllInOne bag d
+    pub durable : is_synced [] later ≡ true → d ≡ actual
+
+  pub named_whole : (actual : Bag) (later : List DeviceEvent) (d : Bag) → IsNamed actual later d → HasAllFiles bag d
+  named_whole actual later d is = all_whole bag d is.all
+
+  pub rename_step : (actual : Bag) (t : List DeviceEvent) → has_folder actual new_folder ≡ true → AllIn new_folder bag actual → AllIn data_folder bag (rename_folder new_folder data_folder actual) → Reaches bag t (λ later d. d ≡ actual)
+      → Reaches bag (t ++ Rename new_folder data_folder ∷ []) (IsNamed (rename_folder new_folder data_folder actual))
+  rename_step actual t there new data_ so_far =
+      one_more t (λ later d. d ≡ actual) (IsNamed (rename_folder new_folder data_folder actual)) (Rename new_folder data_folder) so_far
+      (λ later d is.
+      let now : done (Rename new_folder data_folder) d ≡ rename_folder new_folder data_folder actual = done_rename new_folder data_folder d refl (ap (λ b. has_folder b new_folder) is ∙ there) ∙ ap (rename_folder new_folder data_folder) is in
+      record { all = inr (subst (AllIn data_folder bag) (sym now) data_); durable = λ _. now })
+      (λ later d part is missing same. record {
+        all = inl (subst (AllIn new_folder bag) (sym (same ∙ is)) new);
+        durable = λ base. absurd (false≢true (sym missing ∙ and_from _ _ (ap (λ f. is_synced f later) (in_base new_folder refl) ∙ base) (ap (λ f. is_synced f later) (in_base data_folder refl) ∙ base)));
+      })
+      (named_whole (rename_folder new_folder data_folder actual))
+
+  pub named_synced : (actual : Bag) (t es : List DeviceEvent) → Reaches bag t (IsNamed actual) → AreSyncs es → Reaches bag (t ++ es) (IsNamed actual)
+  named_synced actual t es so_far are =
+      weaker (t ++ es) (λ later d. IsNamed actual (es ++ later) d) (IsNamed actual) (synced es t (IsNamed actual) so_far are)
+      (λ later d is. record { all = is.all; durable = λ base. is.durable (synced_after [] es later are base) }) (named_whole actual)
+
+  -- a file is being written, with some bytes so far
+  pub record IsWriting (name text : List ℕ) (actual : Bag) (later : List DeviceEvent) (d : Bag) : Type 0 where
+    pub all : AllInOne bag d
+    pub durable : is_synced [] later ≡ true → is_file_synced name later ≡ true → d ≡ create name text actual
+
+  pub writing_whole : (name text : List ℕ) (actual : Bag) (later : List DeviceEvent) (d : Bag) → IsWriting name text actual later d → HasAllFiles bag d
+  writing_whole name text actual later d is = all_whole bag d is.all
+
+  created_all : (name text : List ℕ) (d : Bag) → is_base_name name ≡ true → AllInOne bag d → AllInOne bag (create name text d)
+  created_all name text d is (inl all) = inl (λ p c at. stays_under name text new_folder p d is ∙ all p c at)
+  created_all name text d is (inr all) = inr (λ p c at. stays_under name text data_folder p d is ∙ all p c at)
+
+  held_all : (name text : List ℕ) (d : Bag) → is_base_name name ≡ true → AllInOne bag d → AllInOne bag (hold name text d)
+  held_all name text d is (inl all) = inl (λ p c at. held_under name text new_folder p d is ∙ all p c at)
+  held_all name text d is (inr all) = inr (λ p c at. held_under name text data_folder p d is ∙ all p c at)
+
+  pub create_step : (actual : Bag) (t : List DeviceEvent) (name : List ℕ) → is_base_name name ≡ true → Reaches bag t (IsNamed actual)
+      → Reaches bag (t ++ Create name ∷ []) (IsWriting name [] actual)
+  create_step actual t name is so_far =
+      one_more t (IsNamed actual) (IsWriting name [] actual) (Create name) so_far
+      (λ later d was. subst (IsWriting name [] actual later) (sym (done_create name d)) (record {
+        all = created_all name [] d is was.all;
+        durable = λ base file_synced. ap (create name []) (was.durable base);
+      }))
+      (λ later d part was missing same. record { all = subst (AllInOne bag) (sym same) was.all; durable = λ base file_synced. absurd (false≢true (sym missing ∙ base)) })
+      (writing_whole name [] actual)
+
+  pub write_step : (actual : Bag) (t : List DeviceEvent) (name text piece : List ℕ) → is_base_name name ≡ true → Reaches bag t (IsWriting name text actual)
+      → Reaches bag (t ++ Write name piece ∷ []) (IsWriting name (text ++ piece) actual)
+  write_step actual t name text piece is so_far =
+      one_more t (IsWriting name text actual) (IsWriting name (text ++ piece) actual) (Write name piece) so_far
+      (λ later d was. record {
+        all = let held = done_write_is name piece d in subst (AllInOne bag) (sym held.1) (held_all name held.0 d is was.all);
+        durable = λ base file_synced. ap (done (Write name piece)) (was.durable base file_synced) ∙ done_write name text piece actual;
+      })
+      (λ later d part was missing some. record {
+        all = subst (AllInOne bag) (sym some.1) (held_all name some.0 d is was.all);
+        durable = λ base file_synced. absurd (false≢true (sym missing ∙ file_synced));
+      })
+      (writing_whole name (text ++ piece) actual)
+
+  pub write_steps : (actual : Bag) (name : List ℕ) (is : is_base_name name ≡ true) (pieces : List (List ℕ)) (t : List DeviceEvent) (text : List ℕ) → Reaches bag t (IsWriting name text actual)
+      → Reaches bag (t ++ map (Write name) pieces) (IsWriting name (text ++ joined pieces) actual)
+  write_steps actual name is [] t text so_far =
+      subst (λ es. Reaches bag es (IsWriting name (text ++ []) actual)) (sym (append-nil t)) (subst (λ bytes. Reaches bag t (IsWriting name bytes actual)) (sym (append-nil text)) so_far)
+  write_steps actual name is (piece ∷ pieces) t text so_far =
+      let all = write_steps actual name is pieces (t ++ Write name piece ∷ []) (text ++ piece) (write_step actual t name text piece is so_far) in
+      subst (λ es. Reaches bag es (IsWriting name (text ++ (piece ++ joined pieces)) actual)) (append_assoc t (Write name piece ∷ []) (map (Write name) pieces))
+      (subst (λ bytes. Reaches bag ((t ++ Write name piece ∷ []) ++ map (Write name) pieces) (IsWriting name bytes actual)) (append_assoc text piece (joined pieces)) all)
+
+  pub file_step : (actual : Bag) (t : List DeviceEvent) (name text : List ℕ) → Reaches bag t (IsWriting name text actual) → Reaches bag (t ++ Sync name ∷ []) (IsNamed (create name text actual))
+  file_step actual t name text so_far =
+      weaker (t ++ Sync name ∷ []) (λ later d. IsWriting name text actual (Sync name ∷ later) d) (IsNamed (create name text actual)) (synced (Sync name ∷ []) t (IsWriting name text actual) so_far (tt, tt))
+      (λ later d is. record { all = is.all; durable = λ base. is.durable base (grind (arith, same_name name)) }) (named_whole (create name text actual))
+
+  -- the bag is this one
+  pub record IsLast (actual : Bag) (later : List DeviceEvent) (d : Bag) : Type 0 where
+    pub all : AllInOne bag d
+    pub durable : d ≡ actual
+
+  pub base_step : (actual : Bag) (t : List DeviceEvent) → Reaches bag t (IsNamed actual) → Reaches bag (t ++ SyncFolder [] ∷ []) (IsLast actual)
+  base_step actual t so_far =
+      weaker (t ++ SyncFolder [] ∷ []) (λ later d. IsNamed actual (SyncFolder [] ∷ later) d) (IsLast actual) (synced (SyncFolder [] ∷ []) t (IsNamed actual) so_far (tt, tt))
+      (λ later d is. record { all = is.all; durable = is.durable refl }) (λ later d is. all_whole bag d is.all)
+
+  pub last_named : (actual : Bag) (t : List DeviceEvent) → Reaches bag t (IsLast actual) → Reaches bag t (IsNamed actual)
+  last_named actual t so_far = weaker t (IsLast actual) (IsNamed actual) so_far (λ later d is. record { all = is.all; durable = λ _. is.durable }) (named_whole actual)
