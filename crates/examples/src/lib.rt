@@ -1,0 +1,15 @@
+//! The examples of docs/LIBRARY.md, proved: a check by a profile that goes on after an earlier report, a check that passes over
+//! files that can't be read, a report in segments, and a making with each refusal.
+#![tactic(auto)]
+
+mod check;
+mod making;
+mod not_done;
+mod passing;
+mod segments;
+
+pub use check::check_by_profile;
+pub use making::{Advice, make_bag};
+pub use not_done::NotDone;
+pub use passing::check_what_can_be_read;
+pub use segments::check_in_segments;
