@@ -155,4 +155,18 @@ $(block docs/LARGE_BAGS.md 'A check that survives a failing disk' 1) >printed ||
 diff deposit.txt <(bagit --validate deposit) || give_up 'docs/LARGE_BAGS.md: the report in pieces is another'
 followed=$((followed + 2))
 
+# LIBRARY: what it quotes stands in the crate of its examples, line by line.
+awk '/^```rust$/ { n++; inside = 1; next } /^```$/ { inside = 0 } inside { print > ("quoted" n) }' "$root/docs/LIBRARY.md"
+for quoted in quoted*; do
+    for file in "$root"/crates/examples/src/*.rt; do
+        awk -v wanted="$quoted" '
+            BEGIN { while ((getline line < wanted) > 0) lines[++count] = line }
+            { at = $0 == lines[at + 1] ? at + 1 : $0 == lines[1]; if (at == count) found = 1 }
+            END { exit !found }' "$file" && continue 2
+    done
+    cat "$quoted"
+    give_up 'docs/LIBRARY.md: this stands nowhere in crates/examples'
+done
+followed=$((followed + $(ls quoted* | wc -l)))
+
 echo "followed $followed parts of the pages as they are written"
