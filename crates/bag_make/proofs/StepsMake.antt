@@ -3,6 +3,7 @@ use Rattle.bag_make.proofs.Common.{arith, ◌≡◌, ℕ, inl, inr, Bool, true, 
 use Rattle.std.specs.FinMap as fin
 use Rattle.std.specs.FinSet as set
 use Rattle.std.specs.Cmp.Lexicographic.{nat_list_eq_equiv, texts_ties}
+use Rattle.std.specs.List.Sorted.{IsStrictlySortedBy}
 use Rattle.std.proofs.lemmas.Map.Views.{list_any-from_Contains}
 use Rattle.bag_make.proofs.ContentsOfMade.{firsts, first_in, in_first, left_test, these_files}
 use Rattle.bag_make.proofs.Held.{found, held, held_at, payload_member, tag_member}
@@ -40,6 +41,9 @@ module _ (bag : Bag) where
     | inl a ↦ (let at = in_first bag t a in subst IsTop at.2 (first_top at.0 (is.paths at.0 at.1).0 (false_from_ne_true _ (none_within bag free at.0 at.1))))
     | inr b ↦ data_top (has_folder bag data_folder) t b
   ]
+
+  pub names_in_order : IsStrictlySortedBy text_cmp names_of
+  names_in_order = (listed_in_order (firsts bag ++ data_of)).ascending
 
   -- no name is that of the folder for the files
   pub names_are_tops : IsBag bag → is_in_the_way bag ≡ false → AllByRecursion IsTop names_of
