@@ -81,14 +81,15 @@ pub use Rattle.bag_walk.specs.Completeness.{IsAbove, IsOfAlg, IsOfSomeAlg, IsSou
 pub use Rattle.bag_walk.specs.Ending.{IsAnswered, IsCutAt, MayEnd, ReachesEnd, Wrote, ended, ideal, limit_of, lines_of_run, written, written_line}
 pub use Rattle.bag_walk.specs.Files.{AreToSum, IsNamedAhead, IsToSum, TellsItsFaults}
 pub use Rattle.bag_walk.specs.Filled.{awaits_second, is_both}
-pub use Rattle.bag_walk.specs.Lines.{IsLastLine, IsLastOf}
+pub use Rattle.bag_walk.specs.Lines.{IsLastLine, IsLastOf, cursor_behind}
 pub use Rattle.bag_walk.specs.Merge.{fronts, least_of, union, union_is}
 pub use Rattle.bag_walk.specs.Openings.{IsBeforeFile, IsReached, NoneBehind, NoneWaits, Opens, OpensAgain, OpensNoneBehind, StillWait}
 pub use Rattle.bag_walk.specs.Run.{AreFirst, EndsAt, IsAsked, IsRun, IsRunByReport, SeesOneBag, check_of}
 pub use Rattle.bag_walk.specs.RunOpenings.{AreEarly, IsListed, LooksNoFurther, OpensInRun, OpensInTurn, OpensListed, OpensNonePassed, OpensUpToSummed, StopsInTurn, written_before}
 pub use Rattle.bag_walk.specs.Segment.{ClosesSegment, EndsSegment, IfUnread, IsRead, IsSegment, MayStopRun, MayStopWalk, StopsAt, WritesCalmly, WroteFirst, looked_past, still_to_come}
-pub use Rattle.bag_walk.specs.SegmentOpenings.{AreListed, EachBagHasListedFiles, IsListedFile, NoneBehindLast, OpensFew, OpensInSegment, not_passed}
-pub use Rattle.bag_walk.specs.Segments.{AreSegments, GoesOn, IsStopped, MayLose, RunsOfSegments, SegmentsFrom, SegmentsJoin, WroteSegments, cost, cursor_behind, is_last, outcome_at}
+pub use Rattle.bag_walk.specs.SegmentOpenings.{AreListed, EachBagHasListedFiles, IsListedFile, OpensFew, OpensInSegment, not_passed}
+pub use Rattle.bag_walk.specs.SegmentChain.{Chain, Progress, RunsInSegments, RunsSegment, begun}
+pub use Rattle.bag_walk.specs.Segments.{AreSegments, ForReport, ForReportFrom, GoesOn, IsStopped, MayLose, RunsOfSegments, SegmentsFrom, SegmentsJoin, WroteSegments, cost, is_last, outcome_at}
 pub use Rattle.bag_walk.specs.Shown.{front_is, none_is}
 pub use Rattle.bag_walk.specs.Source.{AllBelow, MayStopAnyway, MayStopFilling, Sees, Where, first_of, rest_of}
 pub use Rattle.bag_walk.specs.Start.{AreAheadBefore, IsListedToOpen, IsStarted, IsToOpen}

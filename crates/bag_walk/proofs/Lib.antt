@@ -13,6 +13,7 @@ pub mod Refusing
 pub mod Running
 pub mod SegmentLines
 pub mod SegmentOpenings
+pub mod SegmentRuns
 pub mod SegmentStart
 pub mod SegmentSteps
 pub mod SegmentSums

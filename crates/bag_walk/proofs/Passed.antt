@@ -1,5 +1,5 @@
 -- The files that a cursor has passed.
-use Rattle.bag_walk.proofs.Common.{◌≡◌, ◌≢◌, ◌<◌, ◌≤◌, ◌+◌, ◌++◌, ◌∷◌, ◌∙◌, ◌==◌, ◌&&◌, inl, ℕ, zero, suc, Bool, true, false, not, List, [], Option, None, Some, Contains, length, nat_lt, refl, sym, ap, subst, arith, nat_list_cmp_total, ordering_reverse, Ordering, Less, Greater, eq-eqb, eqb-true, lt-ltb, ltb-true, or_left, or_parts, or_right, nat_tests, length-append, filter-append, IsStrictlySortedBy-filter, stage, text_cmp, contains_behind, contains_first, fault_cmp, Fault, not_both, not_less_than_itself, fault_cmp_total, kept, front_ascends, less_by_path, IsBeforeFile, is_passed, NoneBehindLast, not_passed, cursor_behind, is_lt, not-true, and_parts, cases_lt, inr, or_cases, length-filter_both}
+use Rattle.bag_walk.proofs.Common.{◌≡◌, ◌≢◌, ◌<◌, ◌≤◌, ◌+◌, ◌++◌, ◌∷◌, ◌∙◌, ◌==◌, ◌&&◌, inl, ℕ, zero, suc, Bool, true, false, not, List, [], Option, None, Some, Contains, length, nat_lt, refl, sym, ap, subst, arith, nat_list_cmp_total, ordering_reverse, Ordering, Less, Greater, eq-eqb, eqb-true, lt-ltb, ltb-true, or_left, or_parts, or_right, nat_tests, length-append, filter-append, IsStrictlySortedBy-filter, stage, text_cmp, contains_behind, contains_first, fault_cmp, Fault, not_both, not_less_than_itself, fault_cmp_total, kept, front_ascends, less_by_path, IsBeforeFile, is_passed, not_passed, cursor_behind, is_lt, not-true, and_parts, cases_lt, inr, or_cases, length-filter_both}
 use Rattle.std.specs.List.Sorted.{IsStrictlySortedBy}
 use Rattle.bag_tree.proofs.SameText.{exact_texts}
 use Rattle.bag_walk.proofs.Chosen.{less_by_stage, less_is}
@@ -74,6 +74,11 @@ at_most_one own (x ∷ []) sorted all = omega arith
 at_most_one own (x ∷ y ∷ xs) sorted all =
     let same : x ≡ y = all x (contains_first x (y ∷ xs)) ∙ sym (all y (contains_behind x (y ∷ xs) y (contains_first y xs))) in
     absurd (not_less_than_itself nat_list_cmp_total x y same sorted.0.0)
+
+-- none of these files stands behind the fault that was written last, and where none was written there are none of them
+abbrev pub NoneBehindLast : Option Fault → List (List ℕ) → Type 0
+NoneBehindLast None paths = paths ≡ []
+NoneBehindLast (Some f) paths = (path : List ℕ) → Contains paths path → ¬ (IsBeforeFile f path)
 
 -- of files of which none stands behind the last fault, it hasn't passed more than one
 one_left : (last : Option Fault) (xs : List (List ℕ)) → IsStrictlySortedBy text_cmp xs → NoneBehindLast last xs → length (not_passed last xs) ≤ 1

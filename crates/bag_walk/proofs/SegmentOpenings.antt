@@ -1,9 +1,9 @@
 -- The payload files that segments open.
-use Rattle.bag_walk.proofs.Common.{◌≡◌, ◌<◌, ◌≤◌, ◌+◌, ◌-◌, ◌*◌, ◌++◌, ◌∙◌, inl, inr, ℕ, suc, Bool, true, not, List, [], Option, None, Some, Contains, length, drop, filter, sym, ap, subst, append-nil, append_assoc, arith, IsStrictlySortedBy, length-append, filter-append, IsListOf, is_payload_path, text_cmp, contains_either, contains_front, contains_nothing, same_members, TreeState, Fault, OpensWanted, Options, kept, Check, filtered_list, NoneBehind, OpensAgain, OpensNoneBehind, IsListedToOpen, is_passed, EndsSegment, looked_past, still_to_come, AreListed, IsListedFile, NoneBehindLast, OpensFew, OpensInSegment, not_passed, cursor_behind, Segment, SegmentEnd, not-true}
+use Rattle.bag_walk.proofs.Common.{◌≡◌, ◌<◌, ◌≤◌, ◌+◌, ◌-◌, ◌*◌, ◌++◌, ◌∙◌, inl, inr, ℕ, suc, Bool, true, not, List, [], Option, None, Some, Contains, length, drop, filter, sym, ap, subst, append-nil, append_assoc, arith, IsStrictlySortedBy, length-append, filter-append, IsListOf, is_payload_path, text_cmp, contains_either, contains_front, contains_nothing, same_members, TreeState, Fault, OpensWanted, Options, kept, Check, filtered_list, NoneBehind, OpensAgain, OpensNoneBehind, IsListedToOpen, is_passed, EndsSegment, looked_past, still_to_come, AreListed, IsListedFile, OpensFew, OpensInSegment, not_passed, cursor_behind, Segment, not-true, append_cancel_left, cases_lt}
 use Rattle.bag_walk.specs.declared.segment.SegmentEnd.TheVariants.{Full}
 use Rattle.bag_walk.proofs.Filling.{opened_front}
 use Rattle.bag_walk.proofs.Openings.{no_payload, payload_of}
-use Rattle.bag_walk.proofs.Passed.{no_more, one_twice}
+use Rattle.bag_walk.proofs.Passed.{NoneBehindLast, no_more, one_twice}
 use Rattle.bag_walk.proofs.Places.{at_later, at_place, contains_from}
 
 -- ---- one segment
@@ -11,17 +11,20 @@ use Rattle.bag_walk.proofs.Places.{at_later, at_place, contains_from}
 none_behind_nothing : (last : Option Fault) (paths : List (List ℕ)) → paths ≡ [] → NoneBehindLast last paths
 none_behind_nothing last paths none = grind (arith, contains_nothing)
 
+none_in_nothing : (faults : List Fault) (paths : List (List ℕ)) → paths ≡ [] → NoneBehind faults paths
+none_in_nothing faults paths none f path c d before = contains_nothing path (subst (λ l. Contains l path) none d)
+
 -- where tag files alone were read, no payload file was opened
-pub opens_no_payload : (options : Options) {listed : List (List ℕ)} {cursor last : Option Fault} {old new : TreeState} {end : SegmentEnd}
-    → OpensWanted options old new → OpensInSegment listed cursor last old new end
-opens_no_payload options {listed} {cursor} {last} {old} {new} read =
+pub opens_no_payload : (options : Options) {listed : List (List ℕ)} {report : List Fault} {n : ℕ} {segment : Segment} {old new : TreeState}
+    → OpensWanted options old new → OpensInSegment listed report n segment old new
+opens_no_payload options {listed} {report} {n} {segment} {old} {new} read =
     let none : filter is_payload_path read.0 ≡ [] = no_payload options old new read read.0 read.1 in
     record {
       opened = read.0;
       openings = read.1;
-      rest = not_passed cursor listed;
-      first = sym (ap (λ xs. xs ++ not_passed cursor listed) none);
-      none_behind = λ full. none_behind_nothing last (filter is_payload_path read.0) none;
+      rest = not_passed (cursor_behind n report) listed;
+      first = sym (ap (λ xs. xs ++ not_passed (cursor_behind n report) listed) none);
+      in_turn = none_in_nothing (still_to_come segment (drop n report)) (filter is_payload_path read.0) none;
     }
 
 -- the listed files that a cursor hasn't passed are those of the payload that are still to be opened
@@ -47,23 +50,38 @@ module _ (old mid new : TreeState) (options : Options) (todo left : List (List �
   none_before faults behind f path c d =
       behind paths (opened_front again).2 f path c (kept is_payload_path paths path (subst (λ l. Contains l path) payload_is d)).1
 
-  module _ (n limit : ℕ) (report : List Fault) (segment : Segment) (some : 0 < limit) (ends : EndsSegment (drop n report) limit segment.written segment.end)
-      (behind : OpensNoneBehind (still_to_come segment (drop n report)) mid new) where
-    -- none behind the fault that was written last
-    last_at : segment.end ≡ Full → NoneBehindLast (cursor_behind (n + segment.written) report) (filter is_payload_path opened)
-    last_at full =
-        let all : (segment.written ≡ limit) × (segment.written ≤ length (drop n report)) = subst (EndsSegment (drop n report) limit segment.written) full ends in
-        let k : ℕ = segment.written - 1 in
-        let at = at_place k (drop n report) (omega (arith, some, all.0, all.1)) in
-        let place : n + segment.written ≡ suc (n + k) = omega (arith, some, all.0) in
-        let last : cursor_behind (n + segment.written) report ≡ Some at.0 = ap (λ i. cursor_behind i report) place ∙ at_later n k report at.0 at.1 in
-        let waits : Contains (still_to_come segment (drop n report)) at.0 =
-        subst (λ e. Contains (drop (looked_past e segment.written) (drop n report)) at.0) (sym full) (contains_from k (drop n report) at.0 at.1) in
-        subst (λ c. NoneBehindLast c (filter is_payload_path opened)) (sym last) (λ path c. none_before (still_to_come segment (drop n report)) behind at.0 path waits c)
+  pub opens_front : (listed : List (List ℕ)) (report : List Fault) (n : ℕ) (segment : Segment) → OpensNoneBehind (still_to_come segment (drop n report)) mid new
+      → filter is_payload_path todo ≡ not_passed (cursor_behind n report) listed → OpensInSegment listed report n segment old new
+  opens_front listed report n segment behind same = record {
+    opened = opened;
+    openings = (opened_front again).2 ∙ ap (λ l. l ++ paths) read.1 ∙ append_assoc old.openings read.0 paths;
+    rest = filter is_payload_path (opened_front again).1;
+    first = sym same ∙ ap (filter is_payload_path) (opened_front again).3 ∙ filter-append is_payload_path paths (opened_front again).1
+        ∙ ap (λ l. l ++ filter is_payload_path (opened_front again).1) (sym payload_is);
+    in_turn = none_before (still_to_come segment (drop n report)) behind;
+  }
 
-    pub opens_front : (listed : List (List ℕ)) (cursor : Option Fault) → filter is_payload_path todo ≡ not_passed cursor listed
-        → OpensInSegment listed cursor (cursor_behind (n + segment.written) report) old new segment.end
-    opens_front listed cursor same = grind (arith, last_at, opened_front, append_assoc, filter-append, payload_is)
+-- a full segment opened no file behind the fault that was written last
+module _ (limit n : ℕ) (report : List Fault) (segment : Segment) (filled : EndsSegment (drop n report) limit segment.written Full) (full : segment.end ≡ Full)
+    {listed : List (List ℕ)} {old new : TreeState} (opens : OpensInSegment listed report n segment old new) where
+  last_written : 0 < limit → NoneBehindLast (cursor_behind (n + segment.written) report) (filter is_payload_path opens.opened)
+  last_written some =
+      let k : ℕ = segment.written - 1 in
+      let at = at_place k (drop n report) (omega (arith, some, filled.0, filled.1)) in
+      let place : n + segment.written ≡ suc (n + k) = omega (arith, some, filled.0) in
+      let last : cursor_behind (n + segment.written) report ≡ Some at.0 = ap (λ i. cursor_behind i report) place ∙ at_later n k report at.0 at.1 in
+      let waits : Contains (still_to_come segment (drop n report)) at.0 =
+      subst (λ e. Contains (drop (looked_past e segment.written) (drop n report)) at.0) (sym full) (contains_from k (drop n report) at.0 at.1) in
+      subst (λ c. NoneBehindLast c (filter is_payload_path opens.opened)) (sym last) (λ path c. opens.in_turn at.0 path waits c)
+
+  opened_nothing : new ≡ old → opens.opened ≡ []
+  opened_nothing same = append_cancel_left old.openings opens.opened [] (sym opens.openings ∙ ap (λ (s : TreeState). s.openings) same ∙ sym (append-nil old.openings))
+
+  pub none_behind_last : (limit ≡ 0 → new ≡ old) → NoneBehindLast (cursor_behind (n + segment.written) report) (filter is_payload_path opens.opened)
+  none_behind_last untouched = elim (cases_lt 0 limit) [
+    | inl some ↦ last_written some
+    | inr none ↦ none_behind_nothing _ _ (ap (filter is_payload_path) (opened_nothing (untouched (omega (arith, none)))))
+  ]
 
 -- ---- segment after segment
 
@@ -82,15 +100,16 @@ pub few_of : (listed : List (List ℕ)) (i unread segments : ℕ) (cursor : Opti
     → OpensFew listed segments unread old now
 few_of listed i unread segments cursor old now so le = record { opened = so.opened; openings = so.openings; only_listed = so.only_listed; few = omega (arith, so.few, le) }
 
-module _ (listed : List (List ℕ)) (i unread : ℕ) (cursor last : Option Fault) (old now new : TreeState) (end : SegmentEnd)
-    (so : OpenedSoFar listed i unread cursor old now) (opens : OpensInSegment listed cursor last now new end) where
+module _ (listed : List (List ℕ)) (report : List Fault) (n i unread : ℕ) (segment : Segment) {old now new : TreeState}
+    (so : OpenedSoFar listed i unread (cursor_behind n report) old now) (opens : OpensInSegment listed report n segment now new) where
   abbrev both : List (List ℕ)
   both = so.opened ++ opens.opened
 
   only : (path : List ℕ) → Contains (filter is_payload_path both) path → Contains listed path
   only path c = elim (contains_either (filter is_payload_path so.opened) (filter is_payload_path opens.opened) path (rw (← filter-append) c)) [
     | inl a ↦ so.only_listed path a
-    | inr b ↦ (kept (λ p. not (is_passed cursor p)) listed path (subst (λ l. Contains l path) (sym opens.first) (contains_front (filter is_payload_path opens.opened) opens.rest path b))).1
+    | inr b ↦ (kept (λ p. not (is_passed (cursor_behind n report) p)) listed path
+        (subst (λ l. Contains l path) (sym opens.first) (contains_front (filter is_payload_path opens.opened) opens.rest path b))).1
   ]
 
   -- one segment more, behind which none follows
@@ -98,10 +117,10 @@ module _ (listed : List (List ℕ)) (i unread : ℕ) (cursor last : Option Fault
   few_with_last segments less = grind (arith, only, append_assoc, filter-append, length-append)
 
   -- and one behind which others follow: a full one
-  pub full_more : IsStrictlySortedBy text_cmp listed → ((path : List ℕ) → is_passed cursor path ≡ true → is_passed last path ≡ true) → end ≡ Full
-      → OpenedSoFar listed (i + 1) unread last old new
-  full_more sorted later full = grind (arith, only, append_assoc, filter-append, length-append, one_twice)
+  pub full_more : (last : Option Fault) → IsStrictlySortedBy text_cmp listed → ((path : List ℕ) → is_passed (cursor_behind n report) path ≡ true → is_passed last path ≡ true)
+      → NoneBehindLast last (filter is_payload_path opens.opened) → OpenedSoFar listed (i + 1) unread last old new
+  full_more last sorted later none = grind (arith, only, append_assoc, filter-append, length-append, one_twice)
 
   -- or one that was unread
-  pub unread_more : OpenedSoFar listed (i + 1) (unread + 1) last old new
-  unread_more = grind (arith, only, append_assoc, filter-append, length-append, no_more)
+  pub unread_more : (last : Option Fault) → OpenedSoFar listed (i + 1) (unread + 1) last old new
+  unread_more last = grind (arith, only, append_assoc, filter-append, length-append, no_more)

@@ -1,5 +1,5 @@
 -- A segment over a walk that was started behind others.
-use Rattle.bag_walk.proofs.Common.{arith, ◌≡◌, ◌<◌, ◌≤◌, ◌+◌, ℕ, inl, true, List, [], length, drop, filter, Option, None, IsTrue, sym, ap, ◌∙◌, subst, nat_list_cmp_total, is_payload_path, text_cmp, one_list, OutState, Bag, RefusesNothing, TreeState, Keeps, fault_cmp, Fault, fault_cmp_total, OpensWanted, Options, Profile, Check, IsReport, above, Request, OpensAgain, OpensNoneBehind, Sees, IsListedToOpen, IsStarted, IsLastLine, IsLastOf, IsAsked, IfUnread, IsSegment, MayStopRun, still_to_come, AreListed, OpensInSegment, not_passed, cursor_behind, GoesOn, MayStop, Segment, SegmentEnd}
+use Rattle.bag_walk.proofs.Common.{arith, ◌≡◌, ◌≤◌, ℕ, inl, true, List, [], length, drop, filter, Option, None, IsTrue, sym, ap, ◌∙◌, subst, nat_list_cmp_total, is_payload_path, text_cmp, one_list, OutState, Bag, RefusesNothing, TreeState, Keeps, fault_cmp, Fault, fault_cmp_total, OpensWanted, Options, Profile, Check, IsReport, above, Request, OpensAgain, OpensNoneBehind, Sees, IsListedToOpen, IsStarted, IsLastLine, IsLastOf, IsAsked, IfUnread, IsSegment, MayStopRun, still_to_come, AreListed, OpensInSegment, not_passed, cursor_behind, GoesOn, MayStop, Segment, SegmentEnd}
 use Rattle.bag_walk.specs.declared.segment.SegmentEnd.TheVariants.{Unread}
 use Rattle.bag_walk.proofs.Running.{sees_of, stop_of_walk}
 use Rattle.bag_walk.proofs.SegmentOpenings.{not_passed_listed, opens_front}
@@ -41,13 +41,10 @@ module _ {old mid : TreeState} (new : TreeState) {profile : Option Profile} {opt
         (not_passed_listed check_seen after listed (subst (λ bag. AreListed options bag listed) (sym (started.honest honest)) are))
         ∙ ap (λ cursor. not_passed cursor listed) behind
 
-    pub opens_behind : OpensWanted options old mid → (others : List (List ℕ)) → OpensAgain todo others mid new → (limit : ℕ) → 0 < limit → (before then : OutState) (segment : Segment)
-        → ((bag : Bag) → IsOf bag → Sees mid todo bag → IsSegment (left bag) limit before then segment)
+    pub opens_behind : OpensWanted options old mid → (others : List (List ℕ)) → OpensAgain todo others mid new → (segment : Segment)
         → ((bag : Bag) → IsOf bag → Sees mid todo bag → OpensNoneBehind (still_to_come segment (left bag)) mid new)
-        → (listed : List (List ℕ)) → AreListed options old.bag listed
-        → OpensInSegment listed (cursor_behind n report) (cursor_behind (n + segment.written) report) old new segment.end
-    opens_behind read others again limit some before then segment seen none listed are =
+        → (listed : List (List ℕ)) → AreListed options old.bag listed → OpensInSegment listed report n segment old new
+    opens_behind read others again segment none listed are =
         let sees = sees_of new (asking_of options after) started k (inl honest) in
-        let s = subst (λ faults. IsSegment faults limit before then segment) left_behind (seen started.seen started.of sees) in
         let b = subst (λ faults. OpensNoneBehind (still_to_come segment faults) mid new) left_behind (none started.seen started.of sees) in
-        opens_front old mid new options todo others read again n limit report segment some s.ends b listed (cursor_behind n report) (payload_left listed are)
+        opens_front old mid new options todo others read again listed report n segment b (payload_left listed are)

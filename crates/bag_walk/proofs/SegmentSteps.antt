@@ -1,5 +1,5 @@
 -- Segment after segment of a report.
-use Rattle.bag_walk.proofs.Common.{◌≡◌, ◌<◌, ◌≤◌, ◌+◌, ◌-◌, ◌++◌, ◌∷◌, inl, inr, ℕ, zero, suc, true, false, List, [], length, take, drop, get_or, None, Some, refl, sym, ap, ◌∙◌, subst, arith, true≢false, append_assoc, take-append-drop, length-drop, take-map, concat, sum, IsStrictlySortedBy, Appends, append_cancel_left, drop_more, drop_all, OutState, TreeState, Keeps, Stop, TreeFault, fault_cmp, Fault, MayRefuseFacts, Options, keeps_itself, keeps_on, later_refusal, above, first, ended, written, written_line, Outcome, Stopped, IsLastLine, IsLastOf, EndsSegment, IfUnread, WroteFirst, AreListed, OpensFew, OpensInSegment, cursor_behind, SegmentsJoin, cost, SegmentsFrom, AreSegments, WroteSegments, MayLose, IsStopped, RunsOfSegments, is_last, outcome_at, MayStop, SegmentEnd, drop-map, drop-take, take-take}
+use Rattle.bag_walk.proofs.Common.{◌≡◌, ◌≤◌, ◌+◌, ◌-◌, ◌++◌, ◌∷◌, inl, inr, ℕ, zero, suc, true, false, List, [], length, take, drop, None, Some, refl, sym, ap, ◌∙◌, subst, arith, true≢false, append_assoc, take-append-drop, length-drop, take-map, concat, IsStrictlySortedBy, Appends, append_cancel_left, OutState, TreeState, Keeps, Stop, TreeFault, fault_cmp, Fault, MayRefuseFacts, Options, keeps_itself, keeps_on, later_refusal, above, first, ended, written, written_line, Outcome, Stopped, IsLastLine, IsLastOf, EndsSegment, IfUnread, WroteFirst, AreListed, OpensInSegment, cursor_behind, SegmentsJoin, cost, SegmentsFrom, AreSegments, WroteSegments, MayLose, IsStopped, RunsOfSegments, is_last, outcome_at, MayStop, SegmentEnd, drop-map, drop-take, take-take, Option, IsTrue, sum_by-cons, MayTellMemory, Profile, IsReport, Chain, Progress, RunsInSegments, RunsSegment, begun, IsSegment, Segment, Unread}
 use Rattle.bag_walk.proofs.Writing.{Appends-append, Appends-nil}
 use Rattle.bag_walk.specs.declared.segment.SegmentEnd.TheVariants as end_of
 use Rattle.bag_walk.proofs.Closed.{end_has_no_stop}
@@ -7,7 +7,8 @@ use Rattle.bag_walk.proofs.Passed.{passed_later}
 use Rattle.bag_walk.proofs.RunLines.{concat_joined}
 use Rattle.bag_walk.proofs.UnitedLists.{above_none}
 use Rattle.bag_walk.proofs.Places.{at_later, at_place, cursor_cuts_list}
-use Rattle.bag_walk.proofs.SegmentOpenings.{OpenedSoFar, few_of, few_with_last, full_more, opened_none, unread_more}
+use Rattle.bag_walk.proofs.SegmentOpenings.{OpenedSoFar, few_of, few_with_last, full_more, none_behind_last, opened_none, unread_more}
+use Rattle.bag_walk.specs.SegmentLaws.{ChainsAreSegments}
 
 -- ---- what stands behind the first faults
 
@@ -80,122 +81,193 @@ module _ (options : Options) (old mid next new : TreeState) (k : Keeps old mid) 
   pub may_lose : MayStop options mid next stop → MayLose options old new stop
   may_lose h = grind (arith, later_refusal)
 
-pub stopped_at_last : (options : Options) (limits : List ℕ) (old mid new : TreeState) (n : ℕ) (end : SegmentEnd) → Keeps old mid → (sum limits ≡ 0 → mid ≡ old) → IfUnread end (MayStop options mid new)
-    → IsStopped options limits old new (outcome_at n end)
-stopped_at_last options limits old mid new n end k same h = grind (arith, may_lose, keeps_itself, end_has_no_stop)
+module _ (options : Options) (old mid new : TreeState) (k : Keeps old mid) (stop : Stop) where
+  -- and one of the later segments
+  lose_later : MayLose options mid new stop → MayLose options old new stop
+  lose_later h = grind (arith, later_refusal)
+
+-- the last segment's stop
+stopped_at_last : (options : Options) (old new : TreeState) (n : ℕ) (end : SegmentEnd) → IfUnread end (MayStop options old new) → IsStopped options [] old new (outcome_at n end)
+stopped_at_last options old new n end h = grind (arith, may_lose, keeps_itself, end_has_no_stop)
 
 -- behind which none follows
-pub last_is_no_stop : (options : Options) (limits : List ℕ) (old new : TreeState) (n : ℕ) (end : SegmentEnd) → is_last end ≡ true → IsStopped options limits old new (outcome_at n end)
+last_is_no_stop : (options : Options) (limits : List ℕ) (old new : TreeState) (n : ℕ) (end : SegmentEnd) → is_last end ≡ true → IsStopped options limits old new (outcome_at n end)
 last_is_no_stop options limits old new n end last = grind (arith, end_has_no_stop)
+
+-- and behind one segment more
+stopped_later : (options : Options) (m : ℕ) (limits : List ℕ) (old mid new : TreeState) (outcome : Outcome) → Keeps old mid → (m ≡ 0 → mid ≡ old)
+    → IsStopped options limits mid new outcome → IsStopped options (m ∷ limits) old new outcome
+stopped_later options m limits old mid new (Unread n stop) k same (lose, answer, memory) = (
+  lose_later options old mid new k stop lose,
+  answer,
+  λ none is.
+      let sums = sum_by-cons (λ (x : ℕ). x) m limits in
+      subst (λ (s : TreeState). MayTellMemory s new) (same (omega (arith, none, sums))) (memory (omega (arith, none, sums)) is),
+)
+stopped_later options m limits old mid new other k same h = tt
+
+module _ (profile : Option Profile) (options : Options) where
+  stops_from : (m : ℕ) (limits : List ℕ) (old last : Progress) → Chain profile options (m ∷ limits) old last
+      → IsStopped options (take (length limits) (m ∷ limits)) old.tree last.tree last.outcome
+  stops_from m limits old last (mid, run, inl (ends, same)) =
+      subst (λ (p : Progress). IsStopped options (take (length limits) (m ∷ limits)) old.tree p.tree p.outcome) (sym same)
+      (rw run.ends (last_is_no_stop options (take (length limits) (m ∷ limits)) old.tree mid.tree mid.count run.segment.end ends))
+  stops_from m [] old last (mid, run, inr (goes, same)) =
+      subst (λ (p : Progress). IsStopped options [] old.tree p.tree p.outcome) (sym same)
+      (rw run.ends (stopped_at_last options old.tree mid.tree mid.count run.segment.end run.stop))
+  stops_from m (next ∷ limits) old last (mid, run, inr (goes, chain)) =
+      stopped_later options m (take (length limits) (next ∷ limits)) old.tree mid.tree last.tree last.outcome run.keeps run.untouched (stops_from next limits mid last chain)
+
+  pub chain_stops : (limits : List ℕ) (old new : TreeState) (before after : OutState) (outcome : Outcome) → RunsInSegments old new profile options limits before after outcome
+      → IsStopped options (take (length limits - 1) limits) old new outcome
+  chain_stops [] old new before after outcome (count, same) = subst (λ (p : Progress). IsStopped options [] old p.tree p.outcome) (sym same) tt
+  chain_stops (m ∷ limits) old new before after outcome (count, chain) =
+      let one_less : length (m ∷ limits) - 1 ≡ length limits = omega arith in rw one_less (stops_from m limits (begun old before) (record { tree = new; out = after; count = count; outcome = outcome }) chain)
 
 -- ---- segment after segment
 
--- the segments of the first limits
-pub record SoFar (options : Options) (report : List Fault) (limits : List ℕ) (i : ℕ) (old now : TreeState) (count : ℕ) (line : List ℕ) (before after : OutState) (outcome : Outcome) : Type 0 where
+-- the segments of the first limits, behind which the rest follows
+record SoFar (options : Options) (report : List Fault) (limits rest : List ℕ) (i : ℕ) (old now : TreeState) (count : ℕ) (before after : OutState) (outcome : Outcome) : Type 0 where
   pub lost : ℕ
   pub unread : ℕ
   pub few_lost : old.failures + lost ≤ now.failures
-  pub gone : i ≤ length limits
+  pub gone : i + length rest ≡ length limits
+  pub kept : Keeps old now
   pub within : count ≤ length report
-  pub last : IsLastLine (cursor_behind count report) line
   pub wrote : Appends before.taken after.taken (concat (written (first count report)))
   pub shown : WroteSegments count report before after outcome
-  pub follows : (new : TreeState) → Keeps now new → (u r n : ℕ) (last : Outcome) → SegmentsFrom report (MayLose options old new) lost unread count outcome (drop i limits) u r n last
+  pub follows : (new : TreeState) → Keeps now new → (u r n : ℕ) (last : Outcome) → SegmentsFrom report (MayLose options old new) lost unread count outcome rest u r n last
       → AreSegments report (MayLose options old new) limits u r n last
   pub opens : (listed : List (List ℕ)) → AreListed options old.bag listed → OpenedSoFar listed i unread (cursor_behind count report) old now
 
-pub so_far_none : (options : Options) (report : List Fault) (limits : List ℕ) (old : TreeState) (line : List ℕ) (before : OutState) → line ≡ []
-    → SoFar options report limits 0 old old 0 line before before (Stopped 0)
-so_far_none options report limits old line before none = record {
+so_far_none : (options : Options) (report : List Fault) (limits : List ℕ) (old : TreeState) (before : OutState) → SoFar options report limits limits 0 old old 0 before before (Stopped 0)
+so_far_none options report limits old before = record {
   lost = 0;
   unread = 0;
   few_lost = omega arith;
   gone = omega arith;
+  kept = keeps_itself old;
   within = omega arith;
-  last = none;
   wrote = Appends-nil before.taken;
   shown = Appends-nil before.taken;
   follows = λ new k u r n last rest. rest;
   opens = λ listed are. opened_none listed old;
 }
 
-module _ {options : Options} {report : List Fault} {limits : List ℕ} {i : ℕ} {old now : TreeState} {count : ℕ} {line : List ℕ}
-    {before after : OutState} {outcome : Outcome} (so : SoFar options report limits i old now count line before after outcome)
-    (kept : Keeps old now) (sorted : IsStrictlySortedBy fault_cmp report) where
-  -- all limits were gone through
-  pub all_segments : length limits ≤ i → RunsOfSegments options report limits old now before after outcome
-  all_segments past = grind (arith, keeps_itself, drop_all, few_of)
+module _ {options : Options} {report : List Fault} {limits : List ℕ} {i : ℕ} {old : TreeState} {before : OutState} (sorted : IsStrictlySortedBy fault_cmp report) where
+  -- no limit is left
+  all_segments : {now : TreeState} {count : ℕ} {after : OutState} {outcome : Outcome} → SoFar options report limits [] i old now count before after outcome
+      → RunsOfSegments options report limits old now before after outcome
+  all_segments {now} {count} {after} {outcome} so = record {
+    lost = so.lost;
+    unread = so.unread;
+    count = count;
+    segments = so.follows now (keeps_itself now) so.lost so.unread count outcome (refl, refl, refl, refl);
+    few_lost = so.few_lost;
+    wrote = so.shown;
+    opens = λ listed are. few_of listed i so.unread (length limits) (cursor_behind count report) old now (so.opens listed are) (omega (arith, so.gone));
+  }
 
-  module _ {m : ℕ} {new : TreeState} (k : ℕ) (next : List ℕ) (then : OutState) (less : i < length limits) (is : m ≡ get_or limits i 0) (keeps : Keeps now new)
-      (last : IsLastLine (cursor_behind (count + k) report) next) where
-    at_limit : drop i limits ≡ m ∷ drop (i + 1) limits
-    at_limit = drop_more limits i 0 less ∙ ap (λ limit. limit ∷ drop (i + 1) limits) (sym is)
+  module _ {m : ℕ} {rest : List ℕ} {now new : TreeState} {count : ℕ} {after : OutState} {outcome : Outcome}
+      (so : SoFar options report limits (m ∷ rest) i old now count before after outcome) (then : OutState) (segment : Segment) (keeps : Keeps now new) (untouched : m ≡ 0 → new ≡ now)
+      (front : (listed : List (List ℕ)) → AreListed options old.bag listed → OpensInSegment listed report count segment now new) where
+    abbrev k : ℕ
+    k = segment.written
 
     left : length (drop count report) ≡ length report - count
     left = length-drop count report
 
-    -- what it opens of the payload
-    abbrev OpensFront : SegmentEnd → Type 0
-    OpensFront end = (listed : List (List ℕ)) → AreListed options old.bag listed → OpensInSegment listed (cursor_behind count report) (cursor_behind (count + k) report) now new end
-
-    few_then : (end : SegmentEnd) → OpensFront end → (listed : List (List ℕ)) → AreListed options old.bag listed → OpensFew listed (length limits) so.unread old new
-    few_then end front listed are = grind (arith, few_with_last)
-
     -- one segment more, behind which others follow
-    pub one_segment_more : (end : SegmentEnd) → is_last end ≡ false → EndsSegment (drop count report) m k end → WroteFirst (drop count report) k after then end → IfUnread end (MayStop options now new)
-        → OpensFront end → SoFar options report limits (i + 1) old new (count + k) next before then (outcome_at (count + k) end)
-    one_segment_more end_of.Full goes ends wrote stops front = record {
+    one_segment_more : (end : SegmentEnd) → segment.end ≡ end → is_last end ≡ false → EndsSegment (drop count report) m k end → WroteFirst (drop count report) k after then end
+        → IfUnread end (MayStop options now new) → SoFar options report limits rest (i + 1) old new (count + k) before then (outcome_at (count + k) end)
+    one_segment_more end_of.Full is goes ends wrote stops = record {
       lost = so.lost;
       unread = so.unread;
       few_lost = omega (arith, so.few_lost, keeps.failures);
-      gone = omega (arith, less);
+      gone = omega (arith, so.gone);
+      kept = keeps_on old now new so.kept keeps;
       within = omega (arith, ends.1, left, so.within);
-      last = last;
       wrote = whole count k report before after then so.wrote wrote;
       shown = whole count k report before after then so.wrote wrote;
-      follows = λ end keep u r n last rest.
-          let P : ℕ → Type 0 = λ w. SegmentsFrom report (MayLose options old end) so.lost so.unread (count + w) (Stopped (count + w)) (drop (i + 1) limits) u r n last in
-          so.follows end (keeps_on now new end keeps keep) u r n last (rw at_limit (inl (omega (arith, ends.0, ends.1, left), subst P ends.0 rest)));
+      follows = λ end keep u r n last others.
+          let P : ℕ → Type 0 = λ w. SegmentsFrom report (MayLose options old end) so.lost so.unread (count + w) (Stopped (count + w)) rest u r n last in
+          so.follows end (keeps_on now new end keeps keep) u r n last (inl (omega (arith, ends.0, ends.1, left), subst P ends.0 others));
       opens = λ listed are.
-          full_more listed i so.unread (cursor_behind count report) (cursor_behind (count + k) report) old now new end_of.Full (so.opens listed are) (front listed are) are.ascending
-          (passed_later count k report sorted (omega (arith, ends.1, left, so.within))) refl;
+          full_more listed report count i so.unread segment (so.opens listed are) (front listed are) (cursor_behind (count + k) report) are.ascending
+          (passed_later count k report sorted (omega (arith, ends.1, left, so.within))) (none_behind_last m count report segment ends is (front listed are) untouched);
     }
-    one_segment_more (end_of.Unread stop) goes ends wrote stops front =
+    one_segment_more (end_of.Unread stop) is goes ends wrote stops =
         let paid : now.failures + cost stop.cause ≤ new.failures = paid_by stop.cause now new keeps.failures stops.cause in record {
           lost = so.lost + cost stop.cause;
           unread = so.unread + 1;
           few_lost = omega (arith, so.few_lost, paid);
-          gone = omega (arith, less);
+          gone = omega (arith, so.gone);
+          kept = keeps_on old now new so.kept keeps;
           within = omega (arith, ends.1, left, so.within);
-          last = last;
           wrote = whole count k report before after then so.wrote wrote;
           shown = whole count k report before after then so.wrote wrote;
-          follows = λ end keep u r n last rest.
+          follows = λ end keep u r n last others.
               so.follows end (keeps_on now new end keeps keep) u r n last
-              (rw at_limit (inr (inr (inl (k, stop, ends.0, omega (arith, ends.1, left, so.within), may_lose options old now new end kept keep stop stops, rest)))));
-          opens = λ listed are.
-              unread_more listed i so.unread (cursor_behind count report) (cursor_behind (count + k) report) old now new (end_of.Unread stop) (so.opens listed are) (front listed are);
+              (inr (inr (inl (k, stop, ends.0, omega (arith, ends.1, left, so.within), may_lose options old now new end so.kept keep stop stops, others))));
+          opens = λ listed are. unread_more listed report count i so.unread segment (so.opens listed are) (front listed are) (cursor_behind (count + k) report);
         }
-    one_segment_more other goes ends wrote stops front = absurd (true≢false goes)
+    one_segment_more other is goes ends wrote stops = absurd (true≢false goes)
 
     -- and one behind which none follows
     none_follows : (end : SegmentEnd) → is_last end ≡ true → EndsSegment (drop count report) m k end
-        → SegmentsFrom report (MayLose options old new) so.lost so.unread count outcome (drop i limits)
+        → SegmentsFrom report (MayLose options old new) so.lost so.unread count outcome (m ∷ rest)
         so.lost so.unread (count + k) (outcome_at (count + k) end)
     none_follows end_of.AtEnd ends_all ends =
         let all : count + k ≡ length report = omega (arith, ends.1, left, so.within) in
-        rw at_limit (inr (inl (omega (arith, ends.0, ends.1, left), refl, refl, all, ap (ended None) all)))
-    none_follows end_of.Unwritten ends_all ends = rw at_limit (inr (inr (inr (k, ends.0, omega (arith, ends.1, left), refl, refl, refl, refl))))
+        inr (inl (omega (arith, ends.0, ends.1, left), refl, refl, all, ap (ended None) all))
+    none_follows end_of.Unwritten ends_all ends = inr (inr (inr (k, ends.0, omega (arith, ends.1, left), refl, refl, refl, refl)))
     none_follows other ends_all ends = absurd (true≢false (sym ends_all))
 
-    pub last_segment : (end : SegmentEnd) → is_last end ≡ true → EndsSegment (drop count report) m k end → WroteFirst (drop count report) k after then end → OpensFront end
+    last_segment : (end : SegmentEnd) → is_last end ≡ true → EndsSegment (drop count report) m k end → WroteFirst (drop count report) k after then end
         → RunsOfSegments options report limits old new before then (outcome_at (count + k) end)
-    last_segment end ends_all ends wrote front = record {
+    last_segment end ends_all ends wrote = record {
       lost = so.lost;
       unread = so.unread;
       count = count + k;
       segments = so.follows new keeps so.lost so.unread (count + k) _ (none_follows end ends_all ends);
       few_lost = omega (arith, so.few_lost, keeps.failures);
       wrote = wrote_on count k report before after then so.wrote end wrote;
-      opens = few_then end front;
+      opens = λ listed are. few_with_last listed report count i so.unread segment (so.opens listed are) (front listed are) (length limits) (omega (arith, so.gone));
     }
+
+-- ---- a chain of segments
+
+module _ (profile : Option Profile) {options : Options} {report : List Fault} (limits : List ℕ) (old : TreeState) (before : OutState) (honest : IsTrue old.honest)
+    (is : IsReport (record { bag = old.bag; profile = profile; options = options }) report) where
+  module _ {m : ℕ} {rest : List ℕ} {i : ℕ} (now mid : Progress) (so : SoFar options report limits (m ∷ rest) i old now.tree now.count before now.out now.outcome)
+      (run : RunsSegment profile options m now mid) where
+    segment_next : IsSegment (drop now.count report) m now.out mid.out run.segment
+    segment_next = run.next (so.kept.honest ∙ honest) report (rw so.kept.bag is)
+
+    opens_next : (listed : List (List ℕ)) → AreListed options old.bag listed → OpensInSegment listed report now.count run.segment now.tree mid.tree
+    opens_next listed are = run.opens (so.kept.honest ∙ honest) report (rw so.kept.bag is) listed (rw so.kept.bag are)
+
+    more_next : is_last run.segment.end ≡ false → SoFar options report limits rest (i + 1) old mid.tree mid.count before mid.out mid.outcome
+    more_next goes =
+        rw (run.ends, run.counts)
+        (one_segment_more is.ascending so mid.out run.segment run.keeps run.untouched opens_next run.segment.end refl goes segment_next.ends segment_next.wrote run.stop)
+
+    none_next : is_last run.segment.end ≡ true → RunsOfSegments options report limits old mid.tree before mid.out mid.outcome
+    none_next ends =
+        rw (run.ends, run.counts)
+        (last_segment is.ascending so mid.out run.segment run.keeps run.untouched opens_next run.segment.end ends segment_next.ends segment_next.wrote)
+
+  segments_from : (rest : List ℕ) (i : ℕ) (now last : Progress) → SoFar options report limits rest i old now.tree now.count before now.out now.outcome → Chain profile options rest now last
+      → RunsOfSegments options report limits old last.tree before last.out last.outcome
+  segments_from [] i now last so same = subst (λ (p : Progress). RunsOfSegments options report limits old p.tree before p.out p.outcome) (sym same) (all_segments is.ascending so)
+  segments_from (m ∷ rest) i now last so (mid, run, inl (ends, same)) =
+      subst (λ (p : Progress). RunsOfSegments options report limits old p.tree before p.out p.outcome) (sym same) (none_next now mid so run ends)
+  segments_from (m ∷ rest) i now last so (mid, run, inr (goes, chain)) = segments_from rest (i + 1) mid last (more_next now mid so run goes) chain
+
+pub chains_are_segments : ChainsAreSegments
+chains_are_segments profile options limits old new before after outcome runs = record {
+  stop = chain_stops profile options limits old new before after outcome runs;
+  segments = λ honest report is.
+      segments_from profile limits old before honest is limits 0 (begun old before) (record { tree = new; out = after; count = runs.0; outcome = outcome })
+      (so_far_none options report limits old before) runs.1;
+}

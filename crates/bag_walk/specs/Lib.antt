@@ -11,6 +11,7 @@ pub mod Openings
 pub mod Run
 pub mod RunOpenings
 pub mod Segment
+pub mod SegmentChain
 pub mod SegmentLaws
 pub mod SegmentOpenings
 pub mod Segments

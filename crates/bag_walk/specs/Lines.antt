@@ -4,6 +4,11 @@ use Rattle.bag_facts.specs.FaultOrder.{IsFault}
 use Rattle.bag_facts.specs.declared.fault.Fault.{Fault}
 use Rattle.bag_walk.specs.Ending.{written_line}
 
+-- the last of the first n faults, from which a segment goes on: none where there is none yet
+abbrev pub cursor_behind : ℕ → List Fault → Option Fault
+cursor_behind zero report = None
+cursor_behind (suc n) report = slice_get report n
+
 -- it is this fault's line, or nothing where there is none
 abbrev pub IsLastLine : Option Fault → List ℕ → Type 0
 IsLastLine None line = line ≡ []

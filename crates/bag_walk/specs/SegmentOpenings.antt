@@ -1,5 +1,6 @@
 -- Which payload files segments open.
-use Rattle.std.specs.Prelude.{ℕ, ◌≡◌, ◌≤◌, ◌+◌, ◌-◌, ◌*◌, ◌++◌, true, List, [], Option, None, Some, Contains, filter, length, not}
+use Rattle.std.specs.Prelude.{ℕ, ◌≡◌, ◌≤◌, ◌+◌, ◌-◌, ◌*◌, ◌++◌, true, List, Option, Contains}
+use Rattle.std.specs.Prelude.{drop, filter, length, not}
 use Rattle.bag_text.specs.Order.{IsListOf}
 use Rattle.bag_text.specs.Path.{is_payload_path}
 use Rattle.bag_text.specs.Text.{text_cmp}
@@ -8,11 +9,12 @@ use Rattle.bag_tree.specs.Tree.{TreeState}
 use Rattle.bag_facts.specs.declared.fault.Fault.{Fault}
 use Rattle.bag_facts.specs.declared.options.Depth.TheVariants.{Full}
 use Rattle.bag_facts.specs.declared.options.Options.{Options}
-use Rattle.bag_walk.specs.Openings.{IsBeforeFile}
+use Rattle.bag_walk.specs.Lines.{cursor_behind}
+use Rattle.bag_walk.specs.Openings.{NoneBehind}
 use Rattle.bag_walk.specs.Validity.{is_passed}
 use Rattle.bag_walk.specs.RunOpenings.{IsListed}
-use Rattle.bag_walk.specs.declared.segment.SegmentEnd.{SegmentEnd}
-use Rattle.bag_walk.specs.declared.segment.SegmentEnd.TheVariants as end_of
+use Rattle.bag_walk.specs.Segment.{still_to_come}
+use Rattle.bag_walk.specs.declared.segment.Segment.{Segment}
 
 -- A payload file whose digests are compared: at depth Full one that is there and that a payload manifest names (RFC 8493,
 -- 2.1.3).
@@ -31,23 +33,23 @@ EachBagHasListedFiles = (options : Options) (bag : Bag) → (listed : List (List
 abbrev pub not_passed : Option Fault → List (List ℕ) → List (List ℕ)
 not_passed cursor listed = filter (λ path. not (is_passed cursor path)) listed
 
--- none of these files stands behind the fault that was written last, and where none was written there are none of them
-abbrev pub NoneBehindLast : Option Fault → List (List ℕ) → Type 0
-NoneBehindLast None paths = paths ≡ []
-NoneBehindLast (Some f) paths = (path : List ℕ) → Contains paths path → ¬ (IsBeforeFile f path)
-
--- What a segment opens of the payload: the first of the listed files that its cursor hasn't passed, each once and in path
--- order, and no other; and where it is full none behind the fault that was written last.
-pub record OpensInSegment (listed : List (List ℕ)) (cursor last : Option Fault) (old new : TreeState) (end : SegmentEnd) : Type 0 where
+-- What a segment after the first n faults of a report opens of the payload: the first of the
+-- listed files that its cursor hasn't passed, each once and in path order, and no other. None comes
+-- after a fault that it didn't write, and where it is full none after the last that it wrote.
+pub record OpensInSegment (listed : List (List ℕ)) (report : List Fault) (n : ℕ) (segment : Segment)
+    (old new : TreeState) : Type 0 where
   pub opened : List (List ℕ)
   pub openings : new.openings ≡ old.openings ++ opened
   pub rest : List (List ℕ)
-  pub first : not_passed cursor listed ≡ filter is_payload_path opened ++ rest
-  pub none_behind : end ≡ end_of.Full → NoneBehindLast last (filter is_payload_path opened)
+  pub first : not_passed (cursor_behind n report) listed ≡ filter is_payload_path opened ++ rest
+  pub in_turn :
+      NoneBehind (still_to_come segment (drop n report)) (filter is_payload_path opened)
 
--- What this number of segments open of the payload: listed files alone. They make at most as many openings as files are listed, one
--- more for each segment but the first, and as many as files are listed for each segment that is unread.
-pub record OpensFew (listed : List (List ℕ)) (segments unread : ℕ) (old new : TreeState) : Type 0 where
+-- What this number of segments open of the payload: listed files alone. They make at most as many
+-- openings as files are listed, one more for each segment but the first, and as many as files are
+-- listed for each segment that is unread.
+pub record OpensFew (listed : List (List ℕ)) (segments unread : ℕ) (old new : TreeState)
+    : Type 0 where
   pub opened : List (List ℕ)
   pub openings : new.openings ≡ old.openings ++ opened
   pub only_listed : (path : List ℕ) → Contains (filter is_payload_path opened) path → Contains listed path

@@ -1,5 +1,5 @@
 -- A report in segments, each with a limit of its own.
-use Rattle.std.specs.Prelude.{zero, suc, ℕ, ◌+◌, ◌-◌, ◌<◌, ◌≤◌, ◌≡◌, ◌⊎◌, ◌++◌, Bool, true, false, IsTrue, List, [], ◌∷◌, Option, None, length, drop, slice_get, sum}
+use Rattle.std.specs.Prelude.{ℕ, ◌+◌, ◌-◌, ◌<◌, ◌≤◌, ◌≡◌, ◌⊎◌, ◌++◌, Bool, true, false, IsTrue, List, [], ◌∷◌, Option, None, length, drop, sum}
 use Rattle.std.specs.List.{concat}
 use Rattle.std.specs.List.Sorted.{IsStrictlySortedBy}
 use Rattle.std.specs.Io.KnownBytes.{Appends}
@@ -18,18 +18,13 @@ use Rattle.bag_report.specs.Report.{IsReport, above, first}
 use Rattle.bag_walk.specs.Ending.{IsCutAt, ended, written}
 use Rattle.bag_walk.specs.declared.outcome.Outcome.{Outcome}
 use Rattle.bag_walk.specs.declared.outcome.Outcome.TheVariants.{Stopped, Unread, Unwritten}
-use Rattle.bag_walk.specs.Lines.{IsLastLine}
+use Rattle.bag_walk.specs.Lines.{IsLastLine, cursor_behind}
 use Rattle.bag_walk.specs.Segment.{IsSegment}
 use Rattle.bag_walk.specs.SegmentOpenings.{AreListed, OpensFew}
 use Rattle.bag_walk.specs.Stops.{IfStopped, IsOfSummed}
 use Rattle.bag_walk.specs.declared.segment.Segment.{Segment}
 use Rattle.bag_walk.specs.declared.segment.SegmentEnd.{SegmentEnd}
 use Rattle.bag_walk.specs.declared.segment.SegmentEnd.TheVariants as end_of
-
--- the last of the first n faults, from which a segment goes on: none where there is none yet
-abbrev pub cursor_behind : ℕ → List Fault → Option Fault
-cursor_behind zero report = None
-cursor_behind (suc n) report = slice_get report n
 
 -- the law: a segment of n faults and one of m behind it are the first n + m faults
 abbrev pub SegmentsJoin : Type 0
@@ -82,22 +77,18 @@ abbrev pub IsStopped : Options → List ℕ → TreeState → TreeState → Outc
 IsStopped options before old new outcome =
     IfStopped outcome (λ stop. MayLose options old new stop × TellsAnswer new stop × (sum before ≡ 0 → stop.cause ≡ Memory → MayTellMemory old new))
 
--- What the segments of these limits write of a report, how the last ends, and which payload files they open. Each failure of
--- the device costs one limit at most.
-pub record RunsOfSegments (options : Options) (report : List Fault) (limits : List ℕ) (old new : TreeState) (before after : OutState) (outcome : Outcome) : Type 0 where
+-- What the segments of these limits write of a report, how the last ends, and which payload files
+-- they open. Each failure of the device costs one limit at most.
+pub record RunsOfSegments (options : Options) (report : List Fault) (limits : List ℕ)
+    (old new : TreeState) (before after : OutState) (outcome : Outcome) : Type 0 where
   pub lost : ℕ
   pub unread : ℕ
   pub count : ℕ
   pub segments : AreSegments report (MayLose options old new) limits lost unread count outcome
   pub few_lost : old.failures + lost ≤ new.failures
   pub wrote : WroteSegments count report before after outcome
-  pub opens : (listed : List (List ℕ)) → AreListed options old.bag listed → OpensFew listed (length limits) unread old new
-
--- the theorem of segments, by the report of the bag
-abbrev pub RunsInSegments : TreeState → TreeState → Option Profile → Options → List ℕ → OutState → OutState → Outcome → Type 0
-RunsInSegments old new profile options limits before after outcome =
-    IsTrue old.honest → (report : List Fault) → IsReport (record { bag = old.bag; profile = profile; options = options }) report
-    → RunsOfSegments options report limits old new before after outcome
+  pub opens : (listed : List (List ℕ)) → AreListed options old.bag listed
+      → OpensFew listed (length limits) unread old new
 
 -- whether no further segment follows
 abbrev pub is_last : SegmentEnd → Bool
@@ -118,10 +109,16 @@ pub record GoesOn (report : List Fault) (n limit : ℕ) (before after : OutState
   pub writes : IsSegment (drop n report) limit before after segment
   pub last : IsLastLine (cursor_behind (n + segment.written) report) line
 
--- so it is for the report of an honest tree's bag, and the number n of its faults up to the last line's
+-- so it is for the report of an honest tree's bag
+abbrev pub ForReport : TreeState → Option Profile → Options → (List Fault → Type 0) → Type 0
+ForReport old profile options Holds =
+    IsTrue old.honest → (report : List Fault)
+    → IsReport (record { bag = old.bag; profile = profile; options = options }) report
+    → Holds report
+
+-- and for the number n of its faults up to the last line's
 abbrev pub ForReportFrom : TreeState → Option Profile → Options → List ℕ
     → (List Fault → ℕ → Type 0) → Type 0
 ForReportFrom old profile options line Holds =
-    IsTrue old.honest → (report : List Fault)
-    → IsReport (record { bag = old.bag; profile = profile; options = options }) report
-    → (n : ℕ) → n ≤ length report → IsLastLine (cursor_behind n report) line → Holds report n
+    ForReport old profile options (λ report.
+    (n : ℕ) → n ≤ length report → IsLastLine (cursor_behind n report) line → Holds report n)

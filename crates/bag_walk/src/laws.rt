@@ -1,6 +1,6 @@
 //! Laws of the definitions, each the contract of a function that does nothing.
 ghost use Rattle.bag_walk.specs.Cursor.{CursorCutsList};
-ghost use Rattle.bag_walk.specs.SegmentLaws.{SegmentsAddUp};
+ghost use Rattle.bag_walk.specs.SegmentLaws.{AnswersTellUnread, ChainsAreSegments, SegmentsAddUp};
 ghost use Rattle.bag_walk.specs.SegmentOpenings.{EachBagHasListedFiles};
 ghost use Rattle.bag_walk.specs.Segments.{SegmentsJoin};
 
@@ -14,9 +14,20 @@ pub fn segments_join()
     ensures { SegmentsJoin }
 {}
 
-/// Where nothing is refused, segments come to what one with all their limits comes to.
+/// Segments that run one after the other, as `run_segments` promises, write the first faults of an
+/// honest tree's report, lose a limit to the device only where it failed, and open few files again.
+pub fn chains_are_segments()
+    ensures { ChainsAreSegments }
+{}
+
+/// Where no limit is unread, segments come to what one with all their limits comes to.
 pub fn segments_add_up()
     ensures { SegmentsAddUp }
+{}
+
+/// No limit is unread where as many faults were written as all limits allow.
+pub fn answers_tell_unread()
+    ensures { AnswersTellUnread }
 {}
 
 /// Every bag has a list of the payload files whose digests are compared, whatever is asked for.

@@ -1,12 +1,14 @@
 //! A report in segments, each with a limit of its own.
-ghost use Rattle.std.specs.Prelude.{◌≡◌, ◌<◌, ◌≤◌, ◌+◌, ◌-◌, ◌^◌, ℕ, List};
-ghost use Rattle.std.specs.Prelude.{length, sum, take, string_bytes};
+ghost use Rattle.std.specs.Prelude.{◌≡◌, ◌<◌, ◌≤◌, ◌^◌, ℕ, List, sum, string_bytes};
 ghost use Rattle.std.specs.Option.{option_copied};
+ghost use Rattle.bag_tree.specs.Calm.{RefusesNothing};
 ghost use Rattle.bag_tree.specs.Tree.{Keeps};
+ghost use Rattle.bag_facts.specs.declared.fault.Fault.{Fault as Spoken};
 ghost use Rattle.bag_walk.specs.Openings.{OpensAgain, OpensNoneBehind};
 ghost use Rattle.bag_walk.specs.Steps.{left, to_open, ForEachBag, IsOfHonest};
 ghost use Rattle.bag_walk.specs.Lines.{IsLastOf};
-ghost use Rattle.bag_walk.specs.Segment.{IfUnread, IsSegment, MayStopRun, still_to_come};
+ghost use Rattle.bag_walk.specs.Segment.{IfUnread, IsRead, IsSegment, MayStopRun, still_to_come};
+ghost use Rattle.bag_walk.specs.SegmentChain.{RunsInSegments};
 ghost use Rattle.bag_walk.specs.SegmentOpenings.{AreListed, OpensInSegment};
 ghost use Rattle.bag_walk.specs.Stops.{MayStop};
 ghost use Rattle.bag_walk.specs.Segments as spec;
@@ -63,9 +65,7 @@ pub fn run_segments<T: Tree, W: Out>(
     requires { sum limits.now < 2 ^ 64 }
     ensures keeps { Keeps (T.state tree) (T.state result.0) }
     ensures untouched { sum limits.now ≡ 0 → result.0 ≡ tree }
-    ensures stop { spec.IsStopped options (take (length limits.now - 1) limits.now)
-        (T.state tree) (T.state result.0) result.1 }
-    ensures segments { spec.RunsInSegments (T.state tree) (T.state result.0)
+    ensures segments { RunsInSegments (T.state tree) (T.state result.0)
         (option_copied profile.entry) options limits.now
         (W.state out.old) (W.state out.new) result.1 }
 {
@@ -97,18 +97,19 @@ fn write_segment<T: Tree, W: Out>(
     out: &mut W,
 ) -> (T, Segment)
     ensures keeps { Keeps (T.state tree) (T.state result.0) }
+    ensures calm { IsRead result.1.end → RefusesNothing (T.state tree) (T.state result.0) }
     ensures bounded { result.1.written ≤ limit }
     ensures untouched { limit ≡ 0 → result.0 ≡ tree }
     ensures stop { IfUnread result.1.end (MayStop options (T.state tree) (T.state result.0)) }
+    ensures unseen { (faults : List Spoken) ×
+        IsSegment faults limit (W.state out.old) (W.state out.new) result.1 }
     ensures segment { ForReportFrom (T.state tree) (option_copied profile.entry) options
         (string_bytes lines.old.last) (λ report n. spec.GoesOn report n limit
         (W.state out.old) (W.state out.new) (string_bytes lines.new.last) result.1) }
     ensures opens { ForReportFrom (T.state tree) (option_copied profile.entry) options
         (string_bytes lines.old.last) (λ report n.
         (listed : List (List ℕ)) → AreListed options (T.state tree).bag listed
-        → OpensInSegment listed (spec.cursor_behind n report)
-        (spec.cursor_behind (n + result.1.written) report)
-        (T.state tree) (T.state result.0) result.1.end) }
+        → OpensInSegment listed report n result.1 (T.state tree) (T.state result.0)) }
 {
     if limit == 0 {
         return (
@@ -141,6 +142,7 @@ fn segment_of_walk<T: Tree, S: InOrder<T> + Drop, W: Out>(
     out: &mut W,
 ) -> (T, Segment)
     ensures keeps { Keeps (T.state walk.tree) (T.state result.0) }
+    ensures calm { IsRead result.1.end → RefusesNothing (T.state walk.tree) (T.state result.0) }
     ensures bounded { result.1.written ≤ limit }
     ensures opens { (files : List (List ℕ)) ×
         OpensAgain (to_open S.Source walk) files (T.state walk.tree) (T.state result.0) }
@@ -151,6 +153,8 @@ fn segment_of_walk<T: Tree, S: InOrder<T> + Drop, W: Out>(
         (to_open S.Source walk) (T.state walk.tree) (T.state result.0)) }
     ensures seen { ForEachBag T.Tree S.Source walk (λ bag.
         IsSegment (left S.Source bag walk) limit (W.state out.old) (W.state out.new) result.1) }
+    ensures unseen { (faults : List Spoken) ×
+        IsSegment faults limit (W.state out.old) (W.state out.new) result.1 }
     ensures last { ForEachBag T.Tree S.Source walk (λ bag.
         IsLastOf (left S.Source bag walk) result.1.written
         (string_bytes lines.old.last) (string_bytes lines.new.last)) }

@@ -18,3 +18,6 @@ returns-clause-stop g c =
 
 pub returns-clause-behind : goal.returns-clause-behind
 returns-clause-behind g c = λ bag h sees. rw c.into_tree.ensures (c.write_faults-segment.ensures.behind bag h sees)
+
+pub returns-clause-calm : goal.returns-clause-calm
+returns-clause-calm g c = rw c.into_tree.ensures c.write_faults-segment.ensures.calm

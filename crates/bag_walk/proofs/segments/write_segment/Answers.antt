@@ -1,4 +1,4 @@
-use Rattle.bag_walk.proofs.Common.{◌≡◌, ◌+◌, inr, refl, arith, nothing_asked, reads_none}
+use Rattle.bag_walk.proofs.Common.{◌≡◌, ◌+◌, [], inr, refl, arith, nothing_asked, nothing_then, reads_none}
 use Rattle.bag_walk.proofs.Running.{memory_may_stop, stop_of_reading}
 use Rattle.bag_walk.proofs.SegmentOpenings.{opens_no_payload}
 use Rattle.bag_walk.proofs.SegmentStart.{goes_on, opens_behind, stop_of_started}
@@ -23,7 +23,7 @@ returns-in-Ok-start-clause-opens g c = λ honest report is n within was listed a
     let begun = c.in-Ok-start.ensures in
     let then = c.segment_of_walk in
     opens_behind (g.T.Tree.state then.result.0) begun.started begun.keeps honest report is n within (c.in-Ok.ensures _ was) begun.opens _
-    then.ensures.opens.1 c.args.limit (omega (arith, c.if-limit-eq0.false)) _ _ then.result.1 then.ensures.seen then.ensures.behind listed are
+    then.ensures.opens.1 then.result.1 then.ensures.behind listed are
 
 pub returns-in-Err-clause-stop : goal.returns-in-Err-clause-stop
 returns-in-Err-clause-stop g c = let state = g.T.Tree.state in stop_of_reading c.args.options (state c.args.tree) (state c.in-Err.tree) c.in-Err.stop c.in-Err.ensures.stop
@@ -50,3 +50,24 @@ returns-in-Err-clause-segment g c = λ honest report is n within was.
       writes = record { ends = (omega (arith, c.if-limit-eq0.false), omega arith); wrote = Appends-nil (g.W.Out.state c.args.out.now).taken };
       last = rw (← same) was;
     }
+
+pub returns-then-limit-eq0-clause-calm : goal.returns-then-limit-eq0-clause-calm
+returns-then-limit-eq0-clause-calm g c = λ read. nothing_asked (g.T.Tree.state c.args.tree)
+
+pub returns-in-Ok-start-clause-calm : goal.returns-in-Ok-start-clause-calm
+returns-in-Ok-start-clause-calm g c = λ read.
+    let state = g.T.Tree.state in
+    let then = c.segment_of_walk in
+    nothing_then (state c.args.tree) (state c.in-Ok-start.walk.tree) (state then.result.0) c.in-Ok-start.ensures.calm (then.ensures.calm read)
+
+pub returns-then-limit-eq0-clause-unseen : goal.returns-then-limit-eq0-clause-unseen
+returns-then-limit-eq0-clause-unseen g c =
+    ([], record { ends = (omega (arith, c.if-limit-eq0.true), omega arith); wrote = Appends-nil (g.W.Out.state c.args.out.now).taken })
+
+pub returns-in_default-clause-unseen : goal.returns-in_default-clause-unseen
+returns-in_default-clause-unseen g c =
+    ([], record { ends = (omega (arith, c.if-limit-eq0.false), omega arith); wrote = Appends-nil (g.W.Out.state c.args.out.now).taken })
+
+pub returns-in-Err-clause-unseen : goal.returns-in-Err-clause-unseen
+returns-in-Err-clause-unseen g c =
+    ([], record { ends = (omega (arith, c.if-limit-eq0.false), omega arith); wrote = Appends-nil (g.W.Out.state c.args.out.now).taken })
