@@ -35,7 +35,7 @@ other_lines() {
     }'
 }
 
-# Rows of a kind, behind the line that says what reads them.
+# Rows of a kind, after the line that says what reads them.
 rows() {
     echo 'read line'
     "$@"

@@ -71,7 +71,7 @@ C
 }
 
 # Runs a program of which the growth of a number is refused, from 1, or none for 0. Its output, its errors and its status stand in
-# the files `output` and `errors` and in `status` then, and its growths in `grown`: KIND BYTES, with the word `refused` behind one.
+# the files `output` and `errors` and in `status` then, and its growths in `grown`: KIND BYTES, with `refused` after the one.
 refusing() {
     status=0
     REFUSED=$1 LD_PRELOAD=$work/refuse.so "${@:2}" >"$work/output" 2>"$work/errors" 9>"$work/growths" || status=$?
@@ -110,7 +110,7 @@ refusing_each() {
 
 count_refused() { refused[$1]=$((${refused[$1]:-0} + 1)); }
 
-# Whether nothing but want of memory was told, where errors are.
+# Whether nothing is reported but that memory ran out, where errors are.
 is_out_of_memory() { [[ $status == 3 && $(<"$work/errors") == 'bagit: out of memory' ]]; }
 
 # Whether the file `front` is the first lines of a file.

@@ -1,6 +1,6 @@
 #!/usr/bin/env bash
-# Makes folders bags and checks bags, and each time has the system refuse another of the program's calls: the first, the second, and so on,
-# each by EIO, EACCES, ENOSPC, EINTR and ENOMEM; and kills the program at each. Calls of the loader, before the program begins, are left
+# Makes folders bags and checks bags, and each time has the system refuse another of the program's calls: the first, the second, and so
+# on, each by EIO, EACCES, ENOSPC, EINTR and ENOMEM; and kills the program at each. Calls of the loader, before the program begins, are left
 # alone. Whatever is refused, no run hangs, statuses are 0, 1 and 3, and no file is lost:
 #
 # - of a making: the bytes of each file stand once, at the file's own path, in `.bagit-new` or in `data`; status 0 and `made` come only
@@ -33,7 +33,7 @@ run() {
     [[ -z $injection ]] || grep -qE '\(INJECTED\)|killed by SIGKILL' calls || is_wrong 'no call was refused'
 }
 
-# The calls of the program, each as NAME NUMBER, counted for each name from 1, behind those of the loader. The call that ends the program
+# The calls of the program, each as NAME NUMBER, counted for each name from 1, after those of the loader. The call that ends the program
 # isn't one that can be refused.
 numbered_calls() {
     awk '
@@ -53,7 +53,7 @@ refusals() {
 
 # Says what is wrong with the last run.
 is_wrong() {
-    echo "$what: $1; status $status, written: $(head -c 300 output), told: $(head -c 300 failures)"
+    echo "$what: $1; status $status, written: $(head -c 300 output), complained: $(head -c 300 failures)"
     wrong=$((wrong + 1))
 }
 
@@ -100,7 +100,7 @@ move_back() {
 made() {
     keeps_all || is_wrong 'a file is lost, or stands twice'
     if [[ $status == 0 ]] || grep -q ' made$' output; then
-        is_whole_bag || is_wrong 'made is told of what is no whole bag'
+        is_whole_bag || is_wrong 'made is reported of what is no whole bag'
     fi
     [[ $status != 0 ]] || cmp -s whole output || is_wrong 'status 0 without the line'
     [[ $status != 1 ]] || is_wrong 'status 1 of a making'

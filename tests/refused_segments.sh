@@ -83,15 +83,16 @@ fn main(rt: HostRuntime) -> io::Result<ExitCode> {
 END
 }
 
-# Whether a crate's library stands in its `out`, and is no older than what it is built of.
-is_built() { [[ -d $1/out/rlib && -z $(find "$1"/{src,specs} -newer "$1/out/rlib/${1##*/}.rlib/format") ]]; }
+# Whether the library in a crate's `out` is older than what it is built of.
+is_old() { [[ -n $(find "$1"/{src,specs} -newer "$1/out/rlib/${1##*/}.rlib/format") ]]; }
 
 # Proves and builds the program over the libraries that `rt ci` leaves, by the commands that `rt` calls. (`rt run` wouldn't take them,
 # since of their proofs they have only the statements.)
 build_over_ci() {
     local kit=$(realpath "$(dirname "$(realpath "$(command -v rt)")")/..") crate words=()
     for crate in "$root"/crates/bag_*; do
-        is_built "$crate" || return
+        [[ -d $crate/out/rlib ]] || continue
+        if is_old "$crate"; then return 1; fi
         words+=(-L "dependency=$crate/out/rlib")
     done
     for crate in bag_{text,store,report,walk}; do words+=(--extern "$crate=$root/crates/$crate/out/rlib/$crate.rlib"); done
