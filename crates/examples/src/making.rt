@@ -32,11 +32,11 @@ pub fn make_bag<T: WriteTree + Drop>(
     let value = Text::from_str(alloc, contact)?;
     let algs = AlgSet::empty().with(Alg::Sha256).with(Alg::Sha512);
     let (tree, made) = make(alloc, tree, algs, &[(label, value)]);
-    Ok((tree, advice(&made)))
+    Ok((tree, what_follows(&made)))
 }
 
 /// What the answer of a making asks for.
-fn advice(made: &Result<(), MakeFault>) -> Advice {
+fn what_follows(made: &Result<(), MakeFault>) -> Advice {
     match made {
         Ok(()) => Advice::Done,
         Err(MakeFault::NoAlgorithm | MakeFault::BadValue) => Advice::AskOtherwise,
