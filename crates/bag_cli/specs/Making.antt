@@ -10,6 +10,7 @@ use Rattle.bag_tags.specs.Element.{NewElement}
 use Rattle.bag_walk.specs.Write.{IsCut}
 use Rattle.bag_make.specs.Valid.{is_refused}
 use Rattle.bag_make.specs.Make.{CanTell, HasMade, HasNoFault, Leaves, MayRefuseMaking}
+use Rattle.bag_make.specs.PowerCut.{LastsForGood, OutlastsCuts}
 use Rattle.bag_make.specs.Reading.{OpensFolder}
 use Rattle.bag_make.specs.declared.fault.MakeFault.{MakeFault}
 use Rattle.bag_cli.specs.MakingLine.{line, status}
@@ -24,6 +25,9 @@ pub record IsMake (algs : List Alg) (info : List NewElement) (old new : TreeStat
   pub opens : OpensFolder old new
   pub refused : IfErr made (MayRefuseMaking algs info old new)
   pub leaves : IfErr made (λ fault. IsTrue old.honest → Leaves algs info old.bag new.bag fault)
+  pub noted : new.noted ≡ old.noted
+  pub any_moment : OutlastsCuts old new
+  pub lasting : OnOk made (LastsForGood algs info old new)
 
 -- the output took the line, and this is the status; or it refused, and took a proper prefix
 abbrev pub TellsMaking : List ℕ → Result (Unit {0}) MakeFault → Bool → OutState → OutState → Result ℕ Refused → Type 0

@@ -45,18 +45,19 @@ HonestDisksAreTold =
     → IsTrue (below name).honest → AreChecksOf plan profile (λ name. tree_state (below name) 0) (name ∷ []) before after visits n
     → TellsReport plan profile (bag_of (below name).nodes) name before after n
 
--- The folder's tree was left as the bag that the plan makes of what stood there, it has no fault where its size can be told, and
--- that was said but for a quiet making.
-abbrev pub TellsMade : Plan → Bag → List ℕ → OutState → OutState → List Event → Type 0
-TellsMade plan bag name before after visits =
-    (new : TreeState) × (visits ≡ visit_of name new) × IsToldMade name plan.algs (map element_of plan.info) plan.quiet bag new.bag before after 0
+-- The folder's tree was left as the bag that the plan makes of what stood there, which has no fault
+-- where its size can be told and outlasts a power cut. That was said, but for a quiet making.
+abbrev pub TellsMade : Plan → TreeState → List ℕ → OutState → OutState → List Event → Type 0
+TellsMade plan tree name before after visits =
+    (new : TreeState) × (visits ≡ visit_of name new)
+    × IsToldMade name plan.algs (map element_of plan.info) plan.quiet tree new before after 0
 
 -- the law: over an honest disk, the making of one directory with status 0 left it a bag, and told that
 abbrev pub HonestFoldersAreMade : Type 0
 HonestFoldersAreMade =
     (plan : Plan) (below : List ℕ → DiskState) (name : List ℕ) (before after : OutState) (visits : List Event)
     → IsTrue (below name).honest → AreMakingsOf plan (λ name. tree_state (below name) 0) (name ∷ []) before after visits 0
-    → TellsMade plan (bag_of (below name).nodes) name before after visits
+    → TellsMade plan (tree_state (below name) 0) name before after visits
 
 -- a plan that checks one directory, without a profile
 abbrev pub IsCheckOfOne : Plan → List ℕ → Type 0

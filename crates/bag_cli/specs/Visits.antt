@@ -8,7 +8,9 @@ use Rattle.bag_text.specs.Text.{text_cmp}
 use Rattle.bag_tree.specs.Bag.{Bag}
 use Rattle.bag_tree.specs.Tree.{TreeState}
 use Rattle.bag_tree.specs.declared.answer.Answer.{Answer}
-use Rattle.bag_tree.specs.contracts.answer.Answer.{the_row}
+use Rattle.bag_tree.specs.declared.event.DeviceEvent.{DeviceEvent}
+use Rattle.bag_tree.specs.contracts.answer.Answer as answer
+use Rattle.bag_tree.specs.contracts.event.DeviceEvent as device_event
 
 -- the tree of the files in the folder of this name was given, or was asked for and couldn't be given, a tree was left as this, or
 -- the file at this path was read
@@ -32,30 +34,47 @@ abbrev Reads : Type 0
 Reads = List (List ℕ) × (Option (List ℕ) × (ℕ × Answer))
 
 abbrev coded_reads : Coded Reads
-coded_reads = coded× (coded_list coded_text) (coded× (coded_option coded_text) (coded× coded_ℕ the_row.coded))
+coded_reads =
+    coded× (coded_list coded_text) (coded× (coded_option coded_text) (coded× coded_ℕ answer.the_row.coded))
+
+abbrev Noted : Type 0
+Noted = List DeviceEvent × Bool
+
+abbrev coded_noted : Coded Noted
+coded_noted = coded× (coded_list device_event.the_row.coded) coded_bool
+
+abbrev Kept : Type 0
+Kept = Bag × (Bool × (Bool × (ℕ × ℕ)))
+
+abbrev coded_kept : Coded Kept
+coded_kept = coded× coded_bag (coded× coded_bool (coded× coded_bool (coded× coded_ℕ coded_ℕ)))
 
 abbrev Parts : Type 0
-Parts = Bag × (Bool × (Bool × (ℕ × (ℕ × Reads))))
+Parts = Kept × (Reads × Noted)
 
 abbrev parts_of : TreeState → Parts
-parts_of state =
-    (state.bag, (state.plain, (state.honest, (state.entries, (state.failures, (state.openings, (state.rest, (state.given, state.last))))))))
+parts_of state = (
+  (state.bag, (state.plain, (state.honest, (state.entries, state.failures)))),
+  ((state.openings, (state.rest, (state.given, state.last))), (state.trail, state.noted)),
+)
 
 abbrev state_of : Parts → TreeState
-state_of parts = record {
-  bag = parts.0;
-  plain = parts.1.0;
-  honest = parts.1.1.0;
-  entries = parts.1.1.1.0;
-  failures = parts.1.1.1.1.0;
-  openings = parts.1.1.1.1.1.0;
-  rest = parts.1.1.1.1.1.1.0;
-  given = parts.1.1.1.1.1.1.1.0;
-  last = parts.1.1.1.1.1.1.1.1;
+state_of (kept, (reads, noted)) = record {
+  bag = kept.0;
+  plain = kept.1.0;
+  honest = kept.1.1.0;
+  entries = kept.1.1.1.0;
+  failures = kept.1.1.1.1;
+  openings = reads.0;
+  rest = reads.1.0;
+  given = reads.1.1.0;
+  last = reads.1.1.1;
+  trail = noted.0;
+  noted = noted.1;
 }
 
 abbrev coded_state : Coded TreeState
-coded_state = code_by Parts (coded× coded_bag (coded× coded_bool (coded× coded_bool (coded× coded_ℕ (coded× coded_ℕ coded_reads))))) parts_of state_of (λ _. refl)
+coded_state = code_by Parts (coded× coded_kept (coded× coded_reads coded_noted)) parts_of state_of (λ _. refl)
 
 abbrev Kinds : Type 0
 Kinds = List ℕ ⊎ (List ℕ ⊎ (TreeState ⊎ List ℕ))

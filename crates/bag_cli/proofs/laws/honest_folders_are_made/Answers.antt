@@ -1,10 +1,10 @@
-use Rattle.bag_cli.proofs.Common.{◌≡◌, inl, inr, ◌++◌, ℕ, List, IsTrue, map, ap, ◌∙◌, append-nil, arith, OutState, DiskState, Event, bag_of, tree_state, HonestFoldersAreTold, Plan, IsWholeMaking, element_of, TellsMade}
+use Rattle.bag_cli.proofs.Common.{◌≡◌, inl, inr, ◌++◌, ℕ, List, IsTrue, map, ap, ◌∙◌, append-nil, arith, OutState, DiskState, Event, tree_state, HonestFoldersAreTold, Plan, IsWholeMaking, element_of, TellsMade}
 use Rattle.bag_cli.proofs.laws.honest_folders_are_made.Goals as goal
 
 -- a whole making with status 0
 whole : HonestFoldersAreTold → (plan : Plan) (below : List ℕ → DiskState) (name : List ℕ) (before after : OutState) (visits : List Event) (n : ℕ)
     → IsTrue (below name).honest → n ≡ 0 → IsWholeMaking plan (map element_of plan.info) (tree_state (below name) 0) name before after visits n
-    → TellsMade plan (bag_of (below name).nodes) name before after visits
+    → TellsMade plan (tree_state (below name) 0) name before after visits
 whole law plan below name before after visits n honest zero_is making =
     elim (law name plan.algs (map element_of plan.info) plan.quiet (tree_state (below name) 0) making.new before after 0 honest (rw zero_is at making.making)) [
       | inl is ↦ (making.new, making.visit, is)
