@@ -88,7 +88,7 @@ pub use Rattle.bag_walk.specs.Run.{AreFirst, EndsAt, IsAsked, IsRun, IsRunByRepo
 pub use Rattle.bag_walk.specs.RunOpenings.{AreEarly, IsListed, LooksNoFurther, OpensInRun, OpensInTurn, OpensListed, OpensNonePassed, OpensUpToSummed, StopsInTurn, written_before}
 pub use Rattle.bag_walk.specs.Segment.{ClosesSegment, EndsSegment, IfUnread, IsRead, IsSegment, MayStopRun, MayStopWalk, StopsAt, WritesCalmly, WroteFirst, looked_past, still_to_come}
 pub use Rattle.bag_walk.specs.SegmentOpenings.{AreListed, EachBagHasListedFiles, IsListedFile, OpensFew, OpensInSegment, not_passed}
-pub use Rattle.bag_walk.specs.SegmentChain.{Chain, Progress, RunsInSegments, RunsSegment, begun}
+pub use Rattle.bag_walk.specs.SegmentChain.{Chain, Progress, RunsInSegments, RunsSegment, before_segments}
 pub use Rattle.bag_walk.specs.Segments.{AreSegments, ForReport, ForReportFrom, GoesOn, IsStopped, MayLose, RunsOfSegments, SegmentsFrom, SegmentsJoin, WroteSegments, cost, is_last, outcome_at}
 pub use Rattle.bag_walk.specs.Shown.{front_is, none_is}
 pub use Rattle.bag_walk.specs.Source.{AllBelow, MayStopAnyway, MayStopFilling, Sees, Where, first_of, rest_of}

@@ -1,5 +1,5 @@
 -- Segment after segment of a report.
-use Rattle.bag_walk.proofs.Common.{◌≡◌, ◌≤◌, ◌+◌, ◌-◌, ◌++◌, ◌∷◌, inl, inr, ℕ, zero, suc, true, false, List, [], length, take, drop, None, Some, refl, sym, ap, ◌∙◌, subst, arith, true≢false, append_assoc, take-append-drop, length-drop, take-map, concat, IsStrictlySortedBy, Appends, append_cancel_left, OutState, TreeState, Keeps, Stop, TreeFault, fault_cmp, Fault, MayRefuseFacts, Options, keeps_itself, keeps_on, later_refusal, above, first, ended, written, written_line, Outcome, Stopped, IsLastLine, IsLastOf, EndsSegment, IfUnread, WroteFirst, AreListed, OpensInSegment, cursor_behind, SegmentsJoin, cost, SegmentsFrom, AreSegments, WroteSegments, MayLose, IsStopped, RunsOfSegments, is_last, outcome_at, MayStop, SegmentEnd, drop-map, drop-take, take-take, Option, IsTrue, sum_by-cons, MayTellMemory, Profile, IsReport, Chain, Progress, RunsInSegments, RunsSegment, begun, IsSegment, Segment, Unread}
+use Rattle.bag_walk.proofs.Common.{◌≡◌, ◌≤◌, ◌+◌, ◌-◌, ◌++◌, ◌∷◌, inl, inr, ℕ, zero, suc, true, false, List, [], length, take, drop, None, Some, refl, sym, ap, ◌∙◌, subst, arith, true≢false, append_assoc, take-append-drop, length-drop, take-map, concat, IsStrictlySortedBy, Appends, append_cancel_left, OutState, TreeState, Keeps, Stop, TreeFault, fault_cmp, Fault, MayRefuseFacts, Options, keeps_itself, keeps_on, later_refusal, above, first, ended, written, written_line, Outcome, Stopped, IsLastLine, IsLastOf, EndsSegment, IfUnread, WroteFirst, AreListed, OpensInSegment, cursor_behind, SegmentsJoin, cost, SegmentsFrom, AreSegments, WroteSegments, MayLose, IsStopped, RunsOfSegments, is_last, outcome_at, MayStop, SegmentEnd, drop-map, drop-take, take-take, Option, IsTrue, sum_by-cons, MayTellMemory, Profile, IsReport, Chain, Progress, RunsInSegments, RunsSegment, before_segments, IsSegment, Segment, Unread}
 use Rattle.bag_walk.proofs.Writing.{Appends-append, Appends-nil}
 use Rattle.bag_walk.specs.declared.segment.SegmentEnd.TheVariants as end_of
 use Rattle.bag_walk.proofs.Closed.{end_has_no_stop}
@@ -122,7 +122,7 @@ module _ (profile : Option Profile) (options : Options) where
       → IsStopped options (take (length limits - 1) limits) old new outcome
   chain_stops [] old new before after outcome (count, same) = subst (λ (p : Progress). IsStopped options [] old p.tree p.outcome) (sym same) tt
   chain_stops (m ∷ limits) old new before after outcome (count, chain) =
-      let one_less : length (m ∷ limits) - 1 ≡ length limits = omega arith in rw one_less (stops_from m limits (begun old before) (record { tree = new; out = after; count = count; outcome = outcome }) chain)
+      let one_less : length (m ∷ limits) - 1 ≡ length limits = omega arith in rw one_less (stops_from m limits (before_segments old before) (record { tree = new; out = after; count = count; outcome = outcome }) chain)
 
 -- ---- segment after segment
 
@@ -268,6 +268,6 @@ pub chains_are_segments : ChainsAreSegments
 chains_are_segments profile options limits old new before after outcome runs = record {
   stop = chain_stops profile options limits old new before after outcome runs;
   segments = λ honest report is.
-      segments_from profile limits old before honest is limits 0 (begun old before) (record { tree = new; out = after; count = runs.0; outcome = outcome })
+      segments_from profile limits old before honest is limits 0 (before_segments old before) (record { tree = new; out = after; count = runs.0; outcome = outcome })
       (so_far_none options report limits old before) runs.1;
 }

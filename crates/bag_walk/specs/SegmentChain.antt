@@ -23,8 +23,8 @@ pub record Progress : Type 0 where
   pub outcome : Outcome
 
 -- before the first segment
-abbrev pub begun : TreeState → OutState → Progress
-begun tree out = record { tree = tree; out = out; count = 0; outcome = Stopped 0 }
+abbrev pub before_segments : TreeState → OutState → Progress
+before_segments tree out = record { tree = tree; out = out; count = 0; outcome = Stopped 0 }
 
 -- The segment of one limit, from where the segments before it left the tree and the output.
 pub record RunsSegment (profile : Option Profile) (options : Options) (limit : ℕ)
@@ -62,5 +62,5 @@ Chain profile options (limit ∷ limits) old new =
 abbrev pub RunsInSegments : TreeState → TreeState → Option Profile → Options → List ℕ
     → OutState → OutState → Outcome → Type 0
 RunsInSegments old new profile options limits before after outcome =
-    (count : ℕ) × Chain profile options limits (begun old before)
+    (count : ℕ) × Chain profile options limits (before_segments old before)
     (record { tree = new; out = after; count = count; outcome = outcome })

@@ -1,4 +1,4 @@
-use Rattle.bag_walk.proofs.Common.{◌≡◌, ◌≤◌, take, drop, string_bytes, sum, option_copied, Keeps, Chain, Progress, ForReport, begun}
+use Rattle.bag_walk.proofs.Common.{◌≡◌, ◌≤◌, take, drop, string_bytes, sum, option_copied, Keeps, Chain, Progress, ForReport, before_segments}
 use Rattle.bag_walk.proofs.SegmentRuns.{IsWrittenTo}
 use Rattle.bag_walk.proofs.segments.run_segments.Given as goal
 
@@ -11,5 +11,5 @@ invariant-loop-limit g l = record {
   follows : (last : Progress)
       → Chain (option_copied l.profile) l.fn.options (drop l.limit-index l.limits)
       (record { tree = g.T.Tree.state l.tree; out = g.W.Out.state l.out; count = l.written; outcome = l.outcome }) last
-      → Chain (option_copied l.profile) l.fn.options l.limits (begun (g.T.Tree.state l.fn.tree) (g.W.Out.state l.fn.out)) last;
+      → Chain (option_copied l.profile) l.fn.options l.limits (before_segments (g.T.Tree.state l.fn.tree) (g.W.Out.state l.fn.out)) last;
 }

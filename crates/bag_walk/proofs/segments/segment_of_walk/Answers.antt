@@ -21,3 +21,9 @@ returns-clause-behind g c = λ bag h sees. rw c.into_tree.ensures (c.write_fault
 
 pub returns-clause-calm : goal.returns-clause-calm
 returns-clause-calm g c = rw c.into_tree.ensures c.write_faults-segment.ensures.calm
+
+pub returns-clause-unseen : goal.returns-clause-unseen
+returns-clause-unseen g c = c.write_faults-segment.ensures.unseen
+
+pub returns-clause-seen : goal.returns-clause-seen
+returns-clause-seen g c = c.write_faults-segment.ensures.seen
