@@ -19,25 +19,25 @@ use Rattle.bag_store.specs.Changing.{IsMovedIn, IsNameTaken}
 use Rattle.bag_disk.specs.Disk.{OnlyLooks}
 use Rattle.bag_tree.specs.Moved.{ByPath}
 
-same_bag : (a b : Bag) → ((path : List ℕ) → file a path ≡ file b path) → ((name : List ℕ) → has_folder a name ≡ has_folder b name) → a ≡ b
+pub same_bag : (a b : Bag) → ((path : List ℕ) → file a path ≡ file b path) → ((name : List ℕ) → has_folder a name ≡ has_folder b name) → a ≡ b
 same_bag a b files folders =
     let one : a.files ≡ b.files = map.same_map nat_list_cmp_total exact_texts a.files b.files files in
     let other : a.folders ≡ b.folders = set.same_set nat_list_cmp_total exact_texts a.folders b.folders folders in
     λ i. record { files = one i; folders = other i }
 
 -- a folder of the bag has a name
-no_name : (nodes : Nodes) (q : List ℕ) → IsDisk nodes → is_base_name q ≡ false → has_folder (bag_of nodes) q ≡ false
+pub no_name : (nodes : Nodes) (q : List ℕ) → IsDisk nodes → is_base_name q ≡ false → has_folder (bag_of nodes) q ≡ false
 no_name nodes q disk none = grind (arith, bag_of_disk nodes disk, false≢true)
 
 -- the folders of two disks, by the names of the first one's and what takes their place
-by_name : (q : List ℕ) (a b : Bool) → (is_base_name q ≡ true → a ≡ b) → (is_base_name q ≡ false → a ≡ b) → a ≡ b
+pub by_name : (q : List ℕ) (a b : Bool) → (is_base_name q ≡ true → a ≡ b) → (is_base_name q ≡ false → a ≡ b) → a ≡ b
 by_name q a b named other = grind arith
 
 -- two texts, one of which is a name
 other_text : (q name : List ℕ) → is_base_name name ≡ true → is_base_name q ≡ false → eq_by_cmp text_cmp q name ≡ false
 other_text q name is none = grind (arith, one_text q name)
 
-node_put : (nodes : Nodes) (name : List ℕ) (n : Node) (q : List ℕ) → node (map.insert nodes name n) q ≡ cond (eq_by_cmp text_cmp q name) (Some n) (node nodes q)
+pub node_put : (nodes : Nodes) (name : List ℕ) (n : Node) (q : List ℕ) → node (map.insert nodes name n) q ≡ cond (eq_by_cmp text_cmp q name) (Some n) (node nodes q)
 node_put nodes name n q = get-insert nat_list_cmp_total nodes name n q
 
 -- the bag with a folder in its base folder

@@ -1,10 +1,10 @@
 //! Folders that are synced.
-ghost use Rattle.std.specs.Prelude.{◌≡◌, IfErr, IsTrue, OnErr, OnOk, true};
+ghost use Rattle.std.specs.Prelude.{◌≡◌, IfErr, IsTrue, List, OnErr, OnOk, Some, is_some, true, ℕ};
 ghost use Rattle.bag_tree.specs.Asked.{AsksSyncs};
-ghost use Rattle.bag_tree.specs.declared.event.DeviceEvent.TheVariants.{SyncFolder};
+ghost use Rattle.bag_tree.specs.declared.event.DeviceEvent.TheVariants.{Sync, SyncFolder};
 ghost use Rattle.bag_disk.specs.Disk.{OnlyLooks, OnlySyncs};
 ghost use Rattle.bag_disk.specs.Refusal.{IsCounted, IsDueInStep};
-ghost use Rattle.bag_disk.specs.WritableDisk.{Notes};
+ghost use Rattle.bag_disk.specs.WritableDisk.{Closes, Notes};
 ghost use Rattle.bag_store.specs.Asking.{HasAsked, HasDurableFolders, SyncsBoth};
 
 use bag_disk::{Refusal, WritableDisk};
@@ -23,6 +23,23 @@ pub(crate) fn sync_names<D: WritableDisk>(disk: &mut D, folder: &str) -> Result<
     ensures failures { IsCounted result (D.state disk.old) (D.state disk.new) }
 {
     match disk.sync_folder(folder) {
+        Ok(()) => Ok(()),
+        Err(fault) => Err(Refusal::at_known(fault)),
+    }
+}
+
+/// Syncs the file that was written, so that its bytes are durable, and ends its writing.
+pub(crate) fn sync_file<D: WritableDisk>(disk: &mut D) -> Result<(), Refusal>
+    requires { IsTrue (is_some (D.written disk.old)) }
+    ensures held { OnOk result ((D.state disk.new).nodes ≡ (D.state disk.old).nodes) }
+    ensures closed { OnOk result (Closes (D.state disk.old) (D.state disk.new)) }
+    ensures same { OnErr result (OnlyLooks (D.state disk.old) (D.state disk.new)) }
+    ensures noted { IsTrue (D.state disk.old).noted → OnOk result ((path : List ℕ) → D.written disk.old ≡ Some path
+        → Notes (Sync path) (D.state disk.old) (D.state disk.new)) }
+    ensures refused { IfErr result (IsDueInStep ⊥ ⊥ ⊥) }
+    ensures failures { IsCounted result (D.state disk.old) (D.state disk.new) }
+{
+    match disk.sync() {
         Ok(()) => Ok(()),
         Err(fault) => Err(Refusal::at_known(fault)),
     }

@@ -9,7 +9,7 @@ ghost use Rattle.bag_disk.specs.Refusal.{IsCounted, IsDueInStep, MeetsSpecial};
 ghost use Rattle.bag_store.specs.Writing.{Begins, HasWritten, HasWrittenSome, Makes};
 
 use crate::changing::not_made;
-use crate::syncing::{BASE, sync_names};
+use crate::syncing::{BASE, sync_file, sync_names};
 use bag_disk::{Disk, Refusal, WritableDisk};
 
 /// Makes a file in the base folder, where nothing has its name, and syncs it and the base folder.
@@ -42,9 +42,9 @@ fn fill<D: WritableDisk>(disk: &mut D, bytes: &[u8]) -> Result<(), Refusal>
         Ok(()) => {}
         Err(refusal) => return Err(refusal),
     }
-    match disk.sync() {
+    match sync_file(disk) {
         Ok(()) => sync_names(disk, BASE),
-        Err(fault) => Err(Refusal::at_known(fault)),
+        Err(refusal) => Err(refusal),
     }
 }
 
