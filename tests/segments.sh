@@ -53,7 +53,8 @@ printf '#!/bin/sh\nkill "$PPID"\n' >bin/sleep
 killed=0
 rm -f report
 echo 0 >calls
-until "$root/packaging/bagit-check-large" --piece 1 d report >end 2>errors || [[ -e report ]]; do
+check() { bash -c '"$@"; exit "$?"' sh "$root/packaging/bagit-check-large" --piece 1 d report >end 2>errors; }
+until check || [[ -e report ]]; do
     killed=$((killed + 1))
     ((killed < 30)) || give_up 'it does not go on where it was killed'
 done
