@@ -51,7 +51,6 @@ pub use Rattle.bag_cli.specs.InTurn.{AreInTurn, HasVisited, Last, Whole}
 pub use Rattle.bag_cli.specs.Making.{IsMake, TellsMaking}
 pub use Rattle.bag_cli.specs.Makings.{AreMakingsOf, IsTold, IsWholeMaking, element_of}
 pub use Rattle.bag_cli.specs.Performed.{AreMade, IsChecked, IsDoneBy, IsPerformed, IsSaid}
-pub use Rattle.bag_cli.specs.ProfileFile.{IsRead}
 pub use Rattle.bag_cli.specs.Sample.{sample_state}
 pub use Rattle.bag_cli.specs.Saying.{Says}
 pub use Rattle.bag_cli.specs.Status.{whole_status}

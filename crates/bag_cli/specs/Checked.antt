@@ -89,7 +89,7 @@ AreCalm [] = ⊤
 AreCalm (Entered name ∷ visits) = AreCalm visits
 AreCalm (NotGiven name ∷ visits) = AreCalm visits
 AreCalm (Left state ∷ visits) = (state.failures ≡ 0) × AreCalm visits
-AreCalm (Read path ∷ visits) = AreCalm visits
+AreCalm (Read path answer ∷ visits) = AreCalm visits
 
 -- The sample was checked, as a folder of its name would be, and its device never fails. It is held in memory: these visits are none
 -- of a folder.

@@ -7,10 +7,11 @@ use Rattle.bag_cli.specs.Visits.{Event, Read}
 use Rattle.bag_store.specs.FileTree.{tree_state}
 use Rattle.bag_walk.specs.Write.{IsCut}
 use Rattle.bag_profile.specs.Profile.{Profile}
-use Rattle.bag_cli.specs.ProfileFile.{IsRead}
+use Rattle.bag_cli.specs.ProfileFile.{IsAnswer, IsRead}
 use Rattle.bag_cli.specs.ProfileRefusal.{refusal_status}
 use Rattle.bag_cli.specs.UncheckedKeys.{unchecked_lines}
 use Rattle.bag_cli.specs.declared.profile_refusal.ProfileRefusal.{ProfileRefusal}
+use Rattle.bag_cli.specs.declared.read_fault.ReadFault.{ReadFault}
 use Rattle.bag_arguments.specs.declared.plan.Action.{Action}
 use Rattle.bag_arguments.specs.declared.plan.Action.TheVariants.{Sample, Help, Check, Make}
 use Rattle.bag_arguments.specs.declared.plan.Plan.{Plan}
@@ -45,11 +46,13 @@ abbrev pub IsCheckedFor : (List ℕ → DiskState) → Plan → Result Profile P
 IsCheckedFor below plan (Ok profile) before after visits n = AreCheckedBy below plan profile before after visits n
 IsCheckedFor below plan (Err refusal) before after visits n = (n ≡ refusal_status refusal) × (after ≡ before) × (visits ≡ [])
 
--- the folders were checked, by the profile of a file where there is a path of one, which was read once, before them
+-- the folders were checked, by the profile of a file where there is a path of one, which was read by one call, before them
 abbrev pub IsChecked : (List ℕ → DiskState) → (List ℕ → Option (List ℕ) → Type 0) → Plan → Option (List ℕ) → OutState → OutState → List Event → ℕ → Type 0
 IsChecked below file plan None before after visits n = AreChecked below plan None before after visits n
 IsChecked below file plan (Some path) before after visits n =
-    (read : Result Profile ProfileRefusal) × (own : List Event) × (visits ≡ Read path ∷ own) × IsRead (file path) read × IsCheckedFor below plan read before after own n
+    (answer : Result (List ℕ) ReadFault) × (read : Result Profile ProfileRefusal) × (own : List Event)
+    × (visits ≡ Read path answer ∷ own) × IsAnswer (file path) answer × IsRead answer read
+    × IsCheckedFor below plan read before after own n
 
 -- the folders of a plan were made bags, on disks that hold this below each base folder; or memory for the elements, of which
 -- there are some, ran out

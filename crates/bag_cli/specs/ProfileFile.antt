@@ -1,9 +1,12 @@
 -- What the file of a profile is read as.
-use Rattle.std.specs.Prelude.{ℕ, ◌≡◌, ◌≤◌, ◌⊎◌, List, length, Option, Some, Result, Ok, Err}
+use Rattle.std.specs.Prelude.{ℕ, ◌≡◌, ◌≤◌, ◌⊎◌, ◌∷◌, ◌++◌, [], List, length, Option, Some, Result, Ok, Err}
 use Rattle.bag_cli.specs.SystemFile.{MayBeUnread}
+use Rattle.bag_cli.specs.Visits.{Event, Read}
+use Rattle.bag_cli.specs.ProfileRefusal.{unread_as}
+use Rattle.bag_cli.specs.declared.read_fault.ReadFault.{ReadFault}
+use Rattle.bag_cli.specs.declared.read_fault.ReadFault.TheVariants as none
 use Rattle.bag_profile.specs.Profile.{Profile}
 use Rattle.bag_profile.specs.Read.{profile_in}
-use Rattle.bag_profile.specs.declared.fault.ProfileFault.{ProfileFault}
 use Rattle.bag_profile.specs.declared.fault.ProfileFault.TheVariants.{Memory}
 use Rattle.bag_cli.specs.declared.profile_refusal.ProfileRefusal.{ProfileRefusal}
 use Rattle.bag_cli.specs.declared.profile_refusal.ProfileRefusal.TheVariants.{Unread, Refused}
@@ -12,15 +15,24 @@ use Rattle.bag_cli.specs.declared.profile_refusal.ProfileRefusal.TheVariants.{Un
 abbrev pub most_bytes : ℕ
 most_bytes = 16777216
 
--- the file has bytes that are this profile, or that aren't one for this cause
-pub record IsProfileOfFile (file : Option (List ℕ) → Type 0) (answer : Result Profile ProfileFault) : Type 0 where
-  pub bytes : List ℕ
-  pub has : file (Some bytes)
-  pub within : length bytes ≤ most_bytes
-  pub says : profile_in bytes ≡ answer
+-- what may be answered of a file's bytes: all of them, which are no more than that; or that it can't be read, or memory ran out
+abbrev pub IsAnswer : (Option (List ℕ) → Type 0) → Result (List ℕ) ReadFault → Type 0
+IsAnswer file (Ok bytes) = file (Some bytes) × (length bytes ≤ most_bytes)
+IsAnswer file (Err none.Unread) = MayBeUnread file most_bytes
+IsAnswer file (Err none.Memory) = Unit {0}
 
--- The file's bytes are the profile, or aren't one for the cause that is given; or the file can't be read, or memory ran out.
-abbrev pub IsRead : (Option (List ℕ) → Type 0) → Result Profile ProfileRefusal → Type 0
-IsRead file (Ok profile) = IsProfileOfFile file (Ok profile)
-IsRead file (Err Unread) = MayBeUnread file most_bytes
-IsRead file (Err (Refused fault)) = (fault ≡ Memory) ⊎ IsProfileOfFile file (Err fault)
+-- What is read of that answer: the profile that the bytes are, or the cause for which they are none, or memory ran out; and where
+-- there are no bytes, why.
+abbrev pub IsRead : Result (List ℕ) ReadFault → Result Profile ProfileRefusal → Type 0
+IsRead (Ok bytes) (Ok profile) = profile_in bytes ≡ Ok profile
+IsRead (Ok bytes) (Err Unread) = ⊥
+IsRead (Ok bytes) (Err (Refused fault)) = (fault ≡ Memory) ⊎ (profile_in bytes ≡ Err fault)
+IsRead (Err fault) read = read ≡ Err (unread_as fault)
+
+-- the file at the path was read, by one call, and this is what is read of its answer
+pub record ReadsProfile (file : Option (List ℕ) → Type 0) (path : List ℕ) (before after : List Event)
+    (read : Result Profile ProfileRefusal) : Type 0 where
+  pub answer : Result (List ℕ) ReadFault
+  pub visits : after ≡ before ++ Read path answer ∷ []
+  pub is_answer : IsAnswer file answer
+  pub is_read : IsRead answer read

@@ -1,7 +1,7 @@
 -- Which folders were looked into, as what their trees were left, which couldn't be given, and which files were read beside them.
-use Rattle.std.specs.Prelude.{ℕ, ◌≡◌, ◌⊎◌, Bool, List, Option, refl}
+use Rattle.std.specs.Prelude.{ℕ, ◌≡◌, ◌⊎◌, Bool, List, Option, Result, refl}
 use mathlib.Core.Logic.{inl, inr}
-use Rattle.std.specs.Coded.{Coded, code_by, coded×, coded⊎, coded_ℕ, coded_bool, coded_list, coded_option}
+use Rattle.std.specs.Coded.{Coded, code_by, coded×, coded⊎, coded_ℕ, coded_bool, coded_list, coded_option, coded_result}
 use Rattle.std.specs.FinMap as map
 use Rattle.std.specs.FinSet as set
 use Rattle.bag_text.specs.Text.{text_cmp}
@@ -11,14 +11,16 @@ use Rattle.bag_tree.specs.declared.answer.Answer.{Answer}
 use Rattle.bag_tree.specs.declared.event.DeviceEvent.{DeviceEvent}
 use Rattle.bag_tree.specs.contracts.answer.Answer as answer
 use Rattle.bag_tree.specs.contracts.event.DeviceEvent as device_event
+use Rattle.bag_cli.specs.declared.read_fault.ReadFault.{ReadFault}
+use Rattle.bag_cli.specs.contracts.read_fault.ReadFault as read_fault
 
 -- the tree of the files in the folder of this name was given, or was asked for and couldn't be given, a tree was left as this, or
--- the file at this path was read
+-- the file at this path was read, and these bytes were the answer, or why there are none
 pub data Event : Type 0 where
   Entered : List ℕ → Event
   NotGiven : List ℕ → Event
   Left : TreeState → Event
-  Read : List ℕ → Event
+  Read : List ℕ → Result (List ℕ) ReadFault → Event
 
 -- ---- how the logic stores an event
 
@@ -77,25 +79,26 @@ abbrev coded_state : Coded TreeState
 coded_state = code_by Parts (coded× coded_kept (coded× coded_reads coded_noted)) parts_of state_of (λ _. refl)
 
 abbrev Kinds : Type 0
-Kinds = List ℕ ⊎ (List ℕ ⊎ (TreeState ⊎ List ℕ))
+Kinds = List ℕ ⊎ (List ℕ ⊎ (TreeState ⊎ (List ℕ × Result (List ℕ) ReadFault)))
 
 abbrev split : Event → Kinds
 split (Entered name) = inl name
 split (NotGiven name) = inr (inl name)
 split (Left state) = inr (inr (inl state))
-split (Read path) = inr (inr (inr path))
+split (Read path given) = inr (inr (inr (path, given)))
 
 abbrev join : Kinds → Event
 join (inl name) = Entered name
 join (inr (inl name)) = NotGiven name
 join (inr (inr (inl state))) = Left state
-join (inr (inr (inr path))) = Read path
+join (inr (inr (inr (path, given)))) = Read path given
 
 pub join_split : (event : Event) → join (split event) ≡ event
 join_split (Entered name) = refl
 join_split (NotGiven name) = refl
 join_split (Left state) = refl
-join_split (Read path) = refl
+join_split (Read path given) = refl
 
 abbrev pub coded_event : Coded Event
-coded_event = code_by Kinds (coded⊎ coded_text (coded⊎ coded_text (coded⊎ coded_state coded_text))) split join join_split
+coded_event =
+    code_by Kinds (coded⊎ coded_text (coded⊎ coded_text (coded⊎ coded_state (coded× coded_text (coded_result coded_text read_fault.the_row.coded))))) split join join_split

@@ -1,5 +1,6 @@
 //! The folders that a program looks into.
 ghost use Rattle.std.specs.Prelude.{◌≡◌, ◌≤◌, ◌∷◌, ◌++◌, [], Some, IfOk, IsErrOf, OnOk, OnErr, vec_len};
+ghost use Rattle.std.specs.Result.{result_map_both};
 ghost use Rattle.bag_store.specs.FileTree.{disk_of, tree_state};
 ghost use Rattle.bag_cli.specs.SystemFile.{MayBeUnread};
 ghost use Rattle.bag_cli.specs.Folders.{disks_of, visits_of};
@@ -15,7 +16,8 @@ use std::alloc::{AllocError, Global};
 /// The folders that disks reach, and the files beside them.
 ///
 /// A function that borrows a `Folders` and no disks reaches a disk through it alone. So the `Visits` that were made with it hold each
-/// folder that was looked into, with the state in which its tree was left, each that couldn't be given, and each file that was read.
+/// folder that was looked into, with the state in which its tree was left, each that couldn't be given, and each file that was read,
+/// with the answer.
 #[derive(Drop)]
 pub struct Folders<'d, D> {
     disks: &'d D,
@@ -74,10 +76,12 @@ impl<'d, D: Disks> Folders<'d, D> {
         ensures whole { IfOk result (λ bytes. D.file (disks_of self.now) path.now (Some bytes.items)) }
         ensures within { IfOk result (λ bytes. vec_len bytes ≤ most) }
         ensures unread { IsErrOf result Unread → MayBeUnread (D.file (disks_of self.now) path.now) most }
-        ensures read { visits_of visits.new ≡ visits_of visits.old ++ Read path.now ∷ [] }
+        ensures read { visits_of visits.new ≡ visits_of visits.old
+            ++ Read path.now (result_map_both (λ bytes. bytes.items) (λ fault. fault) result) ∷ [] }
     {
-        visits.note_of(&path);
-        self.disks.read_file(alloc, path, most)
+        let answer = self.disks.read_file(alloc, path, most);
+        visits.note_of(&(path, &answer));
+        answer
     }
 }
 

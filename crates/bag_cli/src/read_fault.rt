@@ -1,5 +1,5 @@
 //! Why a file isn't read.
-ghost use Rattle.std.specs.Prelude.{◌≡◌, ◌≢◌, IfOk, Ok};
+ghost use Rattle.std.specs.Prelude.{◌≡◌, ◌≢◌, IfOk, IfErr, Ok, Err};
 ghost use Rattle.std.specs.IoError.{error_kind};
 ghost use Rattle.std.specs.declared.io.ErrorKind.TheVariants.{OutOfMemory};
 ghost use Rattle.bag_cli.specs.declared.read_fault.ReadFault.TheVariants.{Memory, Unread};
@@ -20,9 +20,12 @@ pub enum ReadFault {
     Memory,
 }
 
-/// What a call of the system answered, its error as a fault.
+/// What a call of the system answered, its error as a fault: `Memory` where it is one of memory, and else `Unread`.
 pub(crate) fn answer_of<T>(answer: io::Result<T>) -> Result<T, ReadFault>
-    ensures { IfOk result (λ given. answer ≡ Ok given) }
+    ensures given { IfOk result (λ given. answer ≡ Ok given) }
+    ensures answered { IfOk answer (λ given. result ≡ Ok given) }
+    ensures memory { IfErr answer (λ error. error_kind error ≡ OutOfMemory → result ≡ Err Memory) }
+    ensures unread { IfErr answer (λ error. error_kind error ≢ OutOfMemory → result ≡ Err Unread) }
 {
     match answer {
         Ok(given) => Ok(given),

@@ -1,5 +1,6 @@
 //! A file of the system's, whole.
-ghost use Rattle.std.specs.Prelude.{◌≡◌, ◌≤◌, IfOk, IfSome, vec_len};
+ghost use Rattle.std.specs.Prelude.{◌≡◌, ◌<◌, ◌≤◌, IfOk, IfSome, MatchResult, vec_len};
+ghost use Rattle.bag_cli.specs.declared.read_fault.ReadFault.TheVariants.{Unread};
 
 use crate::read_fault::{ReadFault, answer_of};
 use std::alloc::Global;
@@ -27,10 +28,17 @@ pub(crate) fn read_within<F: Read + Drop>(
     ensures whole { IfOk result (λ bytes. IfSome (F.remaining file) (λ left. bytes.items ≡ left)) }
     ensures within { IfOk result (λ bytes. vec_len bytes ≤ most) }
 {
-    let most = u64::from(most);
     let mut bytes = Vec::new(alloc);
-    answer_of(file.take(most + 1).read_to_end(&mut bytes))?;
-    if bytes.len() as u64 <= most {
+    answer_of(file.take(u64::from(most) + 1).read_to_end(&mut bytes))?;
+    within_bound(bytes, most)
+}
+
+/// The bytes, where they are no more than the bound: more are refused, and so are no others.
+fn within_bound(bytes: Vec<u8>, most: u32) -> Result<Vec<u8>, ReadFault>
+    ensures { MatchResult result (λ whole. (whole ≡ bytes) × (vec_len bytes ≤ most))
+        (λ fault. (fault ≡ Unread) × (most < vec_len bytes)) }
+{
+    if bytes.len() as u64 <= u64::from(most) {
         Ok(bytes)
     } else {
         Err(ReadFault::Unread)

@@ -6,7 +6,8 @@ all_left : (left : Option (List ℕ)) (start bytes : List ℕ) (limit most : ℕ
     → limit ≡ most + 1 → length bytes ≤ most → IfSome left (λ left. bytes ≡ left)
 all_left left start bytes limit most is empty next within = grind (arith, common_steps)
 
-pub returns-then-len-most-clause-whole : goal.returns-then-len-most-clause-whole
-returns-then-len-most-clause-whole g c =
-    all_left _ _ _ _ c.args.most (rw (c.in_ok-answer_of.ensures, c.take.ensures.inner) at c.read_to_end.ensures.bytes) c.new-bytes.ensures.items
-    (omega (arith, c.take.ensures.limit, c.from-most.ensures)) (omega (arith, c.if-len-most.true, c.len.ensures, c.from-most.ensures, c.read_to_end.new.buf.ok.0))
+pub returns-clause-whole : goal.returns-clause-whole
+returns-clause-whole g c =
+    let all = all_left _ _ _ _ c.args.most (rw (c.in_ok-answer_of.ensures.given, c.take.ensures.inner) at c.read_to_end.ensures.bytes) c.new-bytes.ensures.items
+    (omega (arith, c.take.ensures.limit, c.from.ensures)) in
+    grind (arith, all)
