@@ -77,7 +77,8 @@ pub trait WritableDisk: Disk {
         ensures same_file { OnErr result (written self.new ≡ written self.old) }
         ensures noted { IsTrue (Self.state self.old).noted
             → OnOk result (Notes (Create path.now) (Self.state self.old) (Self.state self.new)) }
-        ensures named { IsTrue (Self.state self.old).noted → OnOk result (written self.new ≡ Some path.now) }
+        ensures named { IsTrue (Self.state self.old).noted
+            → OnOk result (written self.new ≡ Some path.now) }
         ensures failures { IsCountedAs of_making result (Self.state self.old).failures (Self.state self.new).failures };
 
     /// Puts some first bytes, as many as it answers, behind those of the file that is being written; one at least, where there
@@ -93,7 +94,8 @@ pub trait WritableDisk: Disk {
         ensures unnamed { IsErrOf result Name → IsTrue (Self.state self.old).honest → ⊥ }
         ensures same { OnErr result (OnlyLooks (Self.state self.old) (Self.state self.new)) }
         ensures same_file { written self.new ≡ written self.old }
-        ensures noted { IsTrue (Self.state self.old).noted → IfOk result (λ n. (path : List ℕ) → written self.old ≡ Some path
+        ensures noted { IsTrue (Self.state self.old).noted
+            → IfOk result (λ n. (path : List ℕ) → written self.old ≡ Some path
             → Notes (Write path (take n bytes.now)) (Self.state self.old) (Self.state self.new)) }
         ensures some { IfOk result (λ n. 0 < length bytes.now → 0 < n) }
         ensures failures { IsCountedAs at_known result (Self.state self.old).failures (Self.state self.new).failures };
@@ -110,7 +112,8 @@ pub trait WritableDisk: Disk {
         ensures unnamed { IsErrOf result Name → IsTrue (Self.state self.old).honest → ⊥ }
         ensures same { OnErr result (OnlyLooks (Self.state self.old) (Self.state self.new)) }
         ensures same_file { OnErr result (written self.new ≡ written self.old) }
-        ensures noted { IsTrue (Self.state self.old).noted → OnOk result ((path : List ℕ) → written self.old ≡ Some path
+        ensures noted { IsTrue (Self.state self.old).noted
+            → OnOk result ((path : List ℕ) → written self.old ≡ Some path
             → Notes (Sync path) (Self.state self.old) (Self.state self.new)) }
         ensures failures { IsCountedAs at_known result (Self.state self.old).failures (Self.state self.new).failures };
 

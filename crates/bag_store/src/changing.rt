@@ -17,15 +17,16 @@ use crate::target::folder_in_the_way;
 use bag_disk::{Disk, DiskFault, Refusal, WritableDisk, check_is_folder, path_in};
 use std::alloc::Global;
 
-/// Makes a folder in the base folder, where nothing has its name. First the base folder is synced, so that a device that can't is
-/// known before anything is changed.
+/// Makes a folder in the base folder, where nothing has its name. First the base folder is synced, so
+/// that a device that can't is known before anything is changed.
 pub(crate) fn make_folder<D: WritableDisk>(disk: &mut D, name: &str) -> Result<(), Refusal>
     requires { IsTrue (is_base_name name.now) }
     ensures made { OnOk result (IsTrue (D.state disk.old).honest
         → MakesFolder (D.state disk.old).nodes (D.state disk.new).nodes name.now) }
     ensures closed { OnOk result (Closes (D.state disk.old) (D.state disk.new)) }
     ensures same { OnErr result (OnlySyncs (D.state disk.old) (D.state disk.new)) }
-    ensures asked { HasAsked (AsksFolder name.now) AsksSyncs (D.state disk.old) (D.state disk.new) result }
+    ensures asked { HasAsked (AsksFolder name.now) AsksSyncs
+        (D.state disk.old) (D.state disk.new) result }
     ensures refused { IfErr result (IsDueInStep (MeetsSpecial (D.state disk.old)) ⊥ (IsNameTaken (D.state disk.old) name.now)) }
     ensures failures { IsCounted result (D.state disk.old) (D.state disk.new) }
 {
@@ -58,8 +59,10 @@ pub(crate) fn not_made<D: Disk>(disk: &mut D, name: &str, fault: DiskFault) -> R
     }
 }
 
-/// Moves what has a name in the base folder into a folder of it, where nothing has this name. Before that the base folder is
-/// synced, but where the names of its folders are known to be durable: in a folder whose own name is lost, what was moved is lost.
+/// Moves what has a name in the base folder into a folder of it, where nothing has this name.
+///
+/// Before that the base folder is synced, but where the names of its folders are known to be
+/// durable: in a folder whose own name is lost, what was moved is lost.
 pub(crate) fn move_in<D: WritableDisk>(
     disk: &mut D,
     alloc: Global,
@@ -73,7 +76,8 @@ pub(crate) fn move_in<D: WritableDisk>(
     ensures moved { OnOk result (IsMovedIn (D.state disk.old) (D.state disk.new) top.now folder.now) }
     ensures closed { OnOk result (Closes (D.state disk.old) (D.state disk.new)) }
     ensures same { OnErr result (OnlySyncs (D.state disk.old) (D.state disk.new)) }
-    ensures asked { HasAsked (AsksMove top.now folder.now) AsksSyncs (D.state disk.old) (D.state disk.new) result }
+    ensures asked { HasAsked (AsksMove top.now folder.now) AsksSyncs
+        (D.state disk.old) (D.state disk.new) result }
     ensures refused { IfErr result (IsDueInMove (MeetsSpecial (D.state disk.old)) (LacksSource (D.state disk.old) top.now folder.now)
         (HasTarget (D.state disk.old) top.now folder.now) (HasFolderInTheWay (D.state disk.old) top.now folder.now)) }
     ensures failures { IsCounted result (D.state disk.old) (D.state disk.new) }
@@ -97,7 +101,8 @@ fn move_below<D: WritableDisk>(
     ensures closed { OnOk result (Closes (D.state disk.old) (D.state disk.new)) }
     ensures same { OnErr result (OnlyLooks (D.state disk.old) (D.state disk.new)) }
     ensures noted { IsTrue (D.state disk.old).noted
-        → OnOk result (Notes (Rename top.now (under folder.now top.now)) (D.state disk.old) (D.state disk.new)) }
+        → OnOk result (Notes (Rename top.now (under folder.now top.now))
+        (D.state disk.old) (D.state disk.new)) }
     ensures refused { IfErr result (IsDueInMove (MeetsSpecial (D.state disk.old)) (LacksSource (D.state disk.old) top.now folder.now)
         (HasTarget (D.state disk.old) top.now folder.now) (HasFolderInTheWay (D.state disk.old) top.now folder.now)) }
     ensures failures { IsCounted result (D.state disk.old) (D.state disk.new) }
@@ -123,8 +128,8 @@ fn move_below<D: WritableDisk>(
     }
 }
 
-/// Gives a folder of the base folder another name, where nothing has it. Before that both folders are synced, which may take a
-/// while: only then it is looked whether the name is free.
+/// Gives a folder of the base folder another name, where nothing has it. Before that both folders are
+/// synced, which may take a while: only then it is looked whether the name is free.
 pub(crate) fn rename_folder<D: WritableDisk>(
     disk: &mut D,
     from: &str,
@@ -135,7 +140,8 @@ pub(crate) fn rename_folder<D: WritableDisk>(
     ensures renamed { OnOk result (IsRenamed (D.state disk.old) (D.state disk.new) from.now to.now) }
     ensures closed { OnOk result (Closes (D.state disk.old) (D.state disk.new)) }
     ensures same { OnErr result (OnlySyncs (D.state disk.old) (D.state disk.new)) }
-    ensures asked { HasAsked (AsksRename from.now to.now) AsksSyncs (D.state disk.old) (D.state disk.new) result }
+    ensures asked { HasAsked (AsksRename from.now to.now) AsksSyncs
+        (D.state disk.old) (D.state disk.new) result }
     ensures refused { IfErr result (IsDueInStep (MeetsSpecial (D.state disk.old))
         (LacksFolder (D.state disk.old) from.now) (IsNameTaken (D.state disk.old) to.now)) }
     ensures failures { IsCounted result (D.state disk.old) (D.state disk.new) }

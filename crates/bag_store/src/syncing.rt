@@ -34,7 +34,8 @@ pub(crate) fn sync_file<D: WritableDisk>(disk: &mut D) -> Result<(), Refusal>
     ensures held { OnOk result ((D.state disk.new).nodes ≡ (D.state disk.old).nodes) }
     ensures closed { OnOk result (Closes (D.state disk.old) (D.state disk.new)) }
     ensures same { OnErr result (OnlyLooks (D.state disk.old) (D.state disk.new)) }
-    ensures noted { IsTrue (D.state disk.old).noted → OnOk result ((path : List ℕ) → D.written disk.old ≡ Some path
+    ensures noted { IsTrue (D.state disk.old).noted
+        → OnOk result ((path : List ℕ) → D.written disk.old ≡ Some path
         → Notes (Sync path) (D.state disk.old) (D.state disk.new)) }
     ensures refused { IfErr result (IsDueInStep ⊥ ⊥ ⊥) }
     ensures failures { IsCounted result (D.state disk.old) (D.state disk.new) }
@@ -48,7 +49,8 @@ pub(crate) fn sync_file<D: WritableDisk>(disk: &mut D) -> Result<(), Refusal>
 /// Syncs a folder, and then the base folder.
 pub(crate) fn sync_with_base<D: WritableDisk>(disk: &mut D, folder: &str) -> Result<(), Refusal>
     ensures syncs { OnlySyncs (D.state disk.old) (D.state disk.new) }
-    ensures asked { HasAsked (SyncsBoth folder.now) AsksSyncs (D.state disk.old) (D.state disk.new) result }
+    ensures asked { HasAsked (SyncsBoth folder.now) AsksSyncs
+        (D.state disk.old) (D.state disk.new) result }
     ensures refused { IfErr result (IsDueInStep ⊥ ⊥ ⊥) }
     ensures failures { IsCounted result (D.state disk.old) (D.state disk.new) }
 {
@@ -58,7 +60,7 @@ pub(crate) fn sync_with_base<D: WritableDisk>(disk: &mut D, folder: &str) -> Res
     }
 }
 
-/// Syncs the base folder, but where it is known that the names which folders were given in it are durable.
+/// Syncs the base folder, but where the names that folders were given in it are known to be durable.
 pub(crate) fn sync_folder_names<D: WritableDisk>(
     disk: &mut D,
     is_synced: bool,

@@ -18,7 +18,8 @@ pub(crate) fn create<D: WritableDisk>(disk: &mut D, name: &str, bytes: &[u8]) ->
     ensures made { OnOk result (Makes (D.state disk.old) (D.state disk.new) name.now bytes.now) }
     ensures begun { OnErr result (OnlyLooks (D.state disk.old) (D.state disk.new)
         ⊎ Begins (D.state disk.old) (D.state disk.new) name.now bytes.now) }
-    ensures asked { HasAsked (AsksFile name.now bytes.now) (MayBegin name.now) (D.state disk.old) (D.state disk.new) result }
+    ensures asked { HasAsked (AsksFile name.now bytes.now) (MayBegin name.now)
+        (D.state disk.old) (D.state disk.new) result }
     ensures refused { IfErr result (IsDueInStep (MeetsSpecial (D.state disk.old)) ⊥ (IsNameTaken (D.state disk.old) name.now)) }
     ensures failures { IsCounted result (D.state disk.old) (D.state disk.new) }
 {

@@ -19,14 +19,17 @@ MayBecome event later bag left =
 -- each of these disks is left by the event of one of those
 abbrev pub AreLeftBy : DeviceEvent → List DeviceEvent → List MemoryDisk → List MemoryDisk → Type 0
 AreLeftBy event later disks left =
-    All (λ disk. (one : MemoryDisk) × Contains disks one × MayBecome event later (bag_in one) (bag_in disk)) left
+    All (λ disk. (one : MemoryDisk) × Contains disks one
+    × MayBecome event later (bag_in one) (bag_in disk)) left
 
 -- disks were added to others, each of them left by the event of this one
-pub record AddsLeft (event : DeviceEvent) (later : List DeviceEvent) (one : MemoryDisk) (old new : List MemoryDisk) : Type 0 where
+pub record AddsLeft (event : DeviceEvent) (later : List DeviceEvent) (one : MemoryDisk)
+    (old new : List MemoryDisk) : Type 0 where
   pub more : List MemoryDisk
   pub added : new ≡ old ++ more
   pub are : All (λ disk. MayBecome event later (bag_in one) (bag_in disk)) more
 
--- each of these disks may be left by a power cut after the events of a device that first held what the first one holds
+-- each of these disks may be left by a power cut after the events of a device that first held what
+-- the first one holds
 abbrev pub MayBeLeft : List DeviceEvent → MemoryDisk → List MemoryDisk → Type 0
 MayBeLeft trail first left = All (λ disk. MayLeave trail (bag_in first) (bag_in disk)) left

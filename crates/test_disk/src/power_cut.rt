@@ -17,12 +17,13 @@ use bag_tree::DeviceEvent;
 use std::alloc::Global;
 use std::collections::BTreeMap;
 
-/// Disks that a power cut may leave after these events of a device that first held what a disk holds.
+/// Disks that a power cut may leave after these events of a device that held first what `first` does.
 ///
-/// All that may be left is among them, but of bytes that weren't synced, where anything may be there: no bytes stand for that,
-/// and as many zeros as were written. The events are those of steps: what is made has a name in the base folder, and so has what
-/// is moved, to another name or into a folder. Others are refused by `Device`, and so is what no disk can hold. A move into a folder
-/// that may be missing is refused by `NotFound`, since what was moved might be lost.
+/// Each event that isn't durable is done and left out, in every combination. Of bytes that weren't
+/// synced anything may be there: no bytes stand for that, and as many zeros as were written. The events
+/// are those of steps: what is made has a name in the base folder, and so has what is moved, to another
+/// name or into a folder. Others are refused by `Device`, and so is what no disk can hold. A move into a
+/// folder that may be missing is refused by `NotFound`, since what was moved might be lost.
 pub fn cuts(
     alloc: Global,
     first: &MemoryDisk,
@@ -164,7 +165,8 @@ fn with_file(alloc: Global, disk: &MemoryDisk, name: &str) -> Result<MemoryDisk,
 
 /// What stands there when a path has become another.
 fn renamed(alloc: Global, disk: &MemoryDisk, from: &str, to: &str) -> Result<MemoryDisk, DiskFault>
-    ensures { IfOk result (λ left. bag_in left ≡ cut.done (Rename from.now to.now) (bag_in disk.now)) }
+    ensures { IfOk result (λ left.
+        bag_in left ≡ cut.done (Rename from.now to.now) (bag_in disk.now)) }
 {
     if !is_base_name(from.as_bytes()) {
         return Err(DiskFault::Device);
@@ -190,7 +192,8 @@ fn with_name(
     to: &str,
 ) -> Result<MemoryDisk, DiskFault>
     requires { is_base_name from.now ≡ true }
-    ensures { IfOk result (λ left. bag_in left ≡ cut.done (Rename from.now to.now) (bag_in disk.now)) }
+    ensures { IfOk result (λ left.
+        bag_in left ≡ cut.done (Rename from.now to.now) (bag_in disk.now)) }
 {
     if !is_base_name(to.as_bytes()) || !is_folder(&disk.nodes, from.as_bytes()) {
         return Err(DiskFault::Device);
@@ -206,7 +209,8 @@ fn with_bytes(
     name: &str,
     bytes: &[u8],
 ) -> Result<MemoryDisk, DiskFault>
-    ensures { IfOk result (λ left. bag_in left ≡ cut.done (Write name.now bytes.now) (bag_in disk.now)) }
+    ensures { IfOk result (λ left.
+        bag_in left ≡ cut.done (Write name.now bytes.now) (bag_in disk.now)) }
 {
     let mut nodes = disk.nodes.clone()?;
     if is_file(&nodes, name.as_bytes()) {
@@ -222,7 +226,8 @@ fn with_zeros(
     name: &str,
     zeros: usize,
 ) -> Result<MemoryDisk, DiskFault>
-    ensures { IfOk result (λ left. (found : List ℕ) × (bag_in left ≡ cut.hold name.now found (bag_in disk.now))) }
+    ensures { IfOk result (λ left. (found : List ℕ)
+        × (bag_in left ≡ cut.hold name.now found (bag_in disk.now))) }
 {
     let mut nodes = disk.nodes.clone()?;
     if is_file(&nodes, name.as_bytes()) {
