@@ -19,7 +19,7 @@ use std::str;
 #[derive(Drop)]
 pub struct MemoryDisk {
     alloc: Global,
-    pub(crate) nodes: BTreeMap<Vec<u8>, Node>,
+    nodes: BTreeMap<Vec<u8>, Node>,
     barred: Items<Text>,
     swap: Option<Swap>,
     openings: Items<Text>,
