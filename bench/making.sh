@@ -5,9 +5,10 @@
 # program's own and the system's, and the least of several runs, in each of which a bag is made of a fresh folder and then
 # checked, with the files in the page cache.
 #
-# usage: bench/making.sh [PROGRAM] [RUNS]
+# usage: bench/making.sh [PROGRAM] [RUNS [OLDER]]
 #
-# PROGRAM is crates/bagit/out/bagit by default, which `rt run` and `rt ci` leave there.
+# PROGRAM is crates/bagit/out/bagit by default, which `rt run` and `rt ci` leave there. With an OLDER program, as one that was built of an
+# earlier commit, two makings by both are compared too: of 10,000 entries of one folder, and of 10,000 files in 20 folders.
 set -euo pipefail
 source "$(dirname "$0")/common.sh"
 
@@ -63,4 +64,36 @@ if command -v strace >"$work/output"; then
     strace -f -c -e trace=rename,renameat,renameat2 -o "$work/calls" "$program" --sha256 --sha512 "$work/bag" >"$work/output"
     renames=$(awk '$NF ~ /^rename/ { sum += $4 } END { print sum + 0 }' "$work/calls")
     at_most "renames for $folders entries" "$renames" $((folders + 1))
+fi
+
+# The syncs of a making.
+syncs_of() {
+    rm -rf "$work/bag"
+    cp -r "$work/$2" "$work/bag"
+    strace -f -c -e trace=fsync,fdatasync -o "$work/calls" "$1" "$work/bag" >"$work/output"
+    awk '$NF ~ /sync$/ { sum += $4 } END { print sum + 0 }' "$work/calls"
+}
+
+# Beside an older program.
+older=${3:-}
+if [[ $older ]]; then
+    mkdir "$work/flat" "$work/deep"
+    for ((file = 0; file < 10000; file++)); do
+        mkdir -p "$work/deep/folder-$((file % 20))"
+        echo "$file" | tee "$work/flat/file-$file" >"$work/deep/folder-$((file % 20))/file-$file"
+    done
+    for kind in flat deep; do
+        ours= theirs=
+        for ((run = 0; run < runs; run++)); do
+            for one in "$program" "$older"; do
+                rm -rf "$work/bag"
+                cp -r "$work/$kind" "$work/bag"
+                took=$(milliseconds "$one" "$work/bag")
+                diff <(echo "$work/bag made") "$work/output"
+                if [[ $one == "$program" ]]; then ours=$(least "$ours" "$took"); else theirs=$(least "$theirs" "$took"); fi
+            done
+        done
+        ratio "10,000 files, $kind, beside the older program" "$ours" "$theirs" 1.03
+        at_most "syncs more, $kind" $(($(syncs_of "$program" $kind) - $(syncs_of "$older" $kind))) 1
+    done
 fi
