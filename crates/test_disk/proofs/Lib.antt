@@ -1,7 +1,10 @@
+pub mod CutBags
+pub mod CutPaths
 pub mod HeldCopied
 pub mod HeldMoved
 pub mod HeldNames
 pub mod HeldNodes
 pub mod HeldPut
+pub mod LeftOver
 pub mod Placed
 pub mod PutPlaced

@@ -1,4 +1,5 @@
 pub mod Changing
+pub mod Cuts
 pub mod DiskCalls
 pub mod Held
 pub mod MemoryDisk

@@ -6,16 +6,19 @@
 //! let disk = MemoryDisk::holding(alloc, nodes);
 //! ```
 //!
-//! A `MemoryDisk` is honest unless it is told otherwise, and notes what its device did. A `RefusingDisk` is any disk of which one call is refused.
+//! A `MemoryDisk` is honest unless it is told otherwise, and notes what its device did; `cuts` gives disks that a power cut may
+//! leave after that. A `RefusingDisk` is any disk of which one call is refused.
 //!
 //! There is a disk of all that can stand on one, and of nothing else. It is honest until a file is swapped, and calls that
 //! change it are exact.
 #![tactic(auto)]
 
 mod changing;
+mod durable;
 mod held;
 mod memory_disk;
 mod placing;
+mod power_cut;
 mod reading;
 mod refusing_disk;
 mod swap;
@@ -24,4 +27,5 @@ mod trail;
 pub use bag_tree::DeviceEvent;
 pub use held::Node;
 pub use memory_disk::MemoryDisk;
+pub use power_cut::cuts;
 pub use refusing_disk::{Call, RefusingDisk};

@@ -19,7 +19,7 @@ use std::str;
 #[derive(Drop)]
 pub struct MemoryDisk {
     alloc: Global,
-    nodes: BTreeMap<Vec<u8>, Node>,
+    pub(crate) nodes: BTreeMap<Vec<u8>, Node>,
     barred: Items<Text>,
     swap: Option<Swap>,
     openings: Items<Text>,

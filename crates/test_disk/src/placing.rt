@@ -66,7 +66,7 @@ pub(crate) fn is_reached(nodes: &BTreeMap<Vec<u8>, Node>, path: &[u8]) -> bool
 }
 
 /// Whether bytes are a path, though not in UTF-8 (RFC 8493, 2 and 5.1).
-fn is_path(path: &[u8]) -> bool
+pub(crate) fn is_path(path: &[u8]) -> bool
     ensures { result ≡ spec.is_path path.now }
 {
     path.split(|byte| *byte == SLASH).all(is_component)
