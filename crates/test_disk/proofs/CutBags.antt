@@ -1,18 +1,18 @@
 -- What events make of the bag below the base folder of a disk in memory.
 use Rattle.std.proofs.Common.{arith, ◌≡◌, ◌++◌, ℕ, Bool, true, false, cond, List, [], Option, Some, None, is_some, Result, Ok, Err, IfOk, refl, ap, sym, ◌∙◌, subst}
-use Rattle.std.proofs.lemmas.Bool.{false≢true}
+use Rattle.std.proofs.lemmas.Bool.{false_from_ne_true, false≢true}
 use Rattle.std.specs.FinMap as map
 use Rattle.std.specs.FinMap.{get-insert}
 use Rattle.std.specs.Cmp.Lexicographic.{nat_list_cmp_total}
 use Rattle.bag_text.specs.Path.{is_base_name, under}
-use Rattle.bag_tree.proofs.Events.{done_create, done_make, done_move, done_rename, done_sync}
+use Rattle.bag_tree.proofs.Events.{done_create, done_make, done_move, done_rename, done_sync, nothing_named}
 use Rattle.bag_tree.specs.Asked.{IsSync}
 use Rattle.bag_tree.specs.declared.event.DeviceEvent.{DeviceEvent}
 use Rattle.bag_tree.proofs.SameText.{one_text}
-use Rattle.bag_tree.specs.Bag.{Bag, file, has_file}
+use Rattle.bag_tree.specs.Bag.{Bag, file, has_file, has_folder}
 use Rattle.bag_tree.specs.Cut.{appended, done, hold}
 use Rattle.bag_tree.specs.Moved.{moved}
-use Rattle.bag_tree.specs.Steps.{create, make_folder}
+use Rattle.bag_tree.specs.Steps.{create, has_within}
 use Rattle.bag_tree.specs.declared.event.DeviceEvent.TheVariants as event
 use Rattle.bag_disk.specs.BagBelow.{file_of_disk, folder_of_disk}
 use Rattle.bag_disk.specs.Disk.{IsDisk, Node, Nodes, bytes_of, is_folder_node, node}
@@ -20,7 +20,7 @@ use Rattle.bag_disk.specs.Disk.Node.{File, Folder}
 use Rattle.bag_disk.specs.DiskBag.{bag_of}
 use Rattle.bag_disk.specs.WritableDisk.{Appends, Moves, with_file, with_folder}
 use Rattle.bag_disk.specs.declared.disk.DiskFault.{DiskFault}
-use Rattle.bag_store.proofs.BagSteps.{bag_moved_in, bag_renamed, by_name, file_made, folder_made, no_name, node_put, same_bag}
+use Rattle.bag_store.proofs.BagSteps.{bag_moved_in, bag_renamed, by_name, file_made, folder_made, free_not_within, no_name, node_put, same_bag}
 use Rattle.test_disk.specs.Cuts.{bag_in}
 use Rattle.test_disk.specs.Held.{nodes_of}
 use Rattle.test_disk.specs.PlacingLaw.{passing_is_disk}
@@ -34,28 +34,37 @@ left_is (Err fault) new bag holds is = tt
 pub disk_is : (disk : MemoryDisk) → IsDisk (nodes_of disk.nodes.entries)
 disk_is disk = passing_is_disk (nodes_of disk.nodes.entries) disk.passes
 
+-- where nothing stands at a path
+none_within : (nodes : Nodes) (path : List ℕ) → IsDisk nodes → node nodes path ≡ None → has_within (bag_of nodes) path ≡ false
+none_within nodes path disk free = false_from_ne_true _ (free_not_within nodes path disk free)
+
+no_folder : (nodes : Nodes) (name : List ℕ) → IsDisk nodes → node nodes name ≡ None → has_folder (bag_of nodes) name ≡ false
+no_folder nodes name disk free =
+    by_name name _ _ (λ named. folder_of_disk nodes name named ∙ ap is_folder_node free) (λ none. no_name nodes name disk none)
+
 -- a folder is made
 pub folder_is : (nodes cloned new : Nodes) (name key : List ℕ) → cloned ≡ nodes → key ≡ name → IsDisk nodes → is_base_name name ≡ true → node cloned key ≡ None → new ≡ map.insert cloned key Folder → IsDisk new
-    → bag_of new ≡ make_folder name (bag_of nodes)
+    → bag_of new ≡ done (event.MakeFolder name) (bag_of nodes)
 folder_is nodes cloned new name key same text disk is free made then =
     let all : new ≡ with_folder nodes name = made ∙ ap (λ (k : List ℕ). map.insert cloned k Folder) text ∙ ap (λ (m : Nodes). map.insert m name Folder) same in
     let none : node nodes name ≡ None = sym (ap (λ (m : Nodes). node m key) same ∙ ap (node nodes) text) ∙ free in
-    ap bag_of all ∙ folder_made nodes name disk (subst IsDisk all then) is none
+    ap bag_of all ∙ folder_made nodes name disk (subst IsDisk all then) is none ∙ sym (done_make name (bag_of nodes) (none_within nodes name disk none))
 
 -- a file is made
 pub file_is : (nodes cloned new : Nodes) (name key bytes : List ℕ) → cloned ≡ nodes → key ≡ name → IsDisk nodes → node cloned key ≡ None → new ≡ map.insert cloned key (File bytes) → bytes ≡ [] → IsDisk new
-    → bag_of new ≡ create name [] (bag_of nodes)
+    → bag_of new ≡ done (event.Create name) (bag_of nodes)
 file_is nodes cloned new name key bytes same text disk free made empty then =
     let all : new ≡ with_file nodes name [] = made ∙ ap (λ (k : List ℕ). map.insert cloned k (File bytes)) text ∙ ap (λ (m : Nodes). map.insert m name (File bytes)) same ∙ ap (λ (b : List ℕ). with_file nodes name b) empty in
     let none : node nodes name ≡ None = sym (ap (λ (m : Nodes). node m key) same ∙ ap (node nodes) text) ∙ free in
-    ap bag_of all ∙ file_made nodes name [] disk (subst IsDisk all then) none
+    let free_name = nothing_named name (bag_of nodes) (none_within nodes name disk none) (no_folder nodes name disk none) in
+    ap bag_of all ∙ file_made nodes name [] disk (subst IsDisk all then) none ∙ sym (done_create name (bag_of nodes) ∙ ap (create name []) free_name)
 
 -- a folder has another name
 pub renamed_is : (nodes new : Nodes) (from to : List ℕ) → IsDisk nodes → is_base_name from ≡ true → is_base_name to ≡ true → is_folder_node (node nodes from) ≡ true → node nodes to ≡ None → new ≡ moved from to nodes → IsDisk new
     → bag_of new ≡ done (event.Rename from to) (bag_of nodes)
 renamed_is nodes new from to disk from_is to_is there free made then =
     let all = bag_renamed nodes from to disk (subst IsDisk made then) from_is to_is (a_folder (node nodes from) there) free in
-    ap bag_of made ∙ all ∙ sym (done_rename from to (bag_of nodes) to_is (folder_of_disk nodes from from_is ∙ there))
+    ap bag_of made ∙ all ∙ sym (done_rename from to (bag_of nodes) to_is (folder_of_disk nodes from from_is ∙ there) (none_within nodes to disk free))
   where
     a_folder : (o : Option Node) → is_folder_node o ≡ true → o ≡ Some Folder
     a_folder (Some Folder) is = refl
@@ -68,7 +77,7 @@ moved_is nodes new from folder to target disk from_is folder_is there free made 
     let all : new ≡ moved from (under folder from) nodes = made ∙ ap (λ (t : List ℕ). moved from t nodes) target in
     let none : node nodes (under folder from) ≡ None = ap (node nodes) (sym target) ∙ free in
     ap bag_of all ∙ bag_moved_in nodes from folder disk (subst IsDisk all then) from_is none
-    ∙ sym (done_move from folder (bag_of nodes) folder_is (folder_of_disk nodes folder folder_is ∙ there)) ∙ ap (λ (t : List ℕ). done (event.Rename from t) (bag_of nodes)) (sym target)
+    ∙ sym (done_move from folder (bag_of nodes) folder_is (folder_of_disk nodes folder folder_is ∙ there) (none_within nodes (under folder from) disk none)) ∙ ap (λ (t : List ℕ). done (event.Rename from t) (bag_of nodes)) (sym target)
 
 -- a file that is there has other bytes
 pub filled_is : (nodes new : Nodes) (name bytes : List ℕ) → IsDisk nodes → IsDisk new → is_some (bytes_of (node nodes name)) ≡ true → new ≡ with_file nodes name bytes → bag_of new ≡ hold name bytes (bag_of nodes)
@@ -101,11 +110,11 @@ module _ (r : Result MemoryDisk DiskFault) (disk : MemoryDisk) (cloned new : Nod
   abbrev held_in : Nodes
   held_in = nodes_of disk.nodes.entries
 
-  pub folder_left : (name key : List ℕ) → cloned ≡ held_in → key ≡ name → is_base_name name ≡ true → node cloned key ≡ None → new ≡ map.insert cloned key Folder → IfOk r (λ left. bag_in left ≡ make_folder name (bag_in disk))
-  folder_left name key same text is free made = left_is r new (make_folder name (bag_in disk)) holds (λ then. folder_is held_in cloned new name key same text (disk_is disk) is free made then)
+  pub folder_left : (name key : List ℕ) → cloned ≡ held_in → key ≡ name → is_base_name name ≡ true → node cloned key ≡ None → new ≡ map.insert cloned key Folder → IfOk r (λ left. bag_in left ≡ done (event.MakeFolder name) (bag_in disk))
+  folder_left name key same text is free made = left_is r new (done (event.MakeFolder name) (bag_in disk)) holds (λ then. folder_is held_in cloned new name key same text (disk_is disk) is free made then)
 
-  pub file_left_there : (name key bytes : List ℕ) → cloned ≡ held_in → key ≡ name → node cloned key ≡ None → new ≡ map.insert cloned key (File bytes) → bytes ≡ [] → IfOk r (λ left. bag_in left ≡ create name [] (bag_in disk))
-  file_left_there name key bytes same text free made empty = left_is r new (create name [] (bag_in disk)) holds (λ then. file_is held_in cloned new name key bytes same text (disk_is disk) free made empty then)
+  pub file_left_there : (name key bytes : List ℕ) → cloned ≡ held_in → key ≡ name → node cloned key ≡ None → new ≡ map.insert cloned key (File bytes) → bytes ≡ [] → IfOk r (λ left. bag_in left ≡ done (event.Create name) (bag_in disk))
+  file_left_there name key bytes same text free made empty = left_is r new (done (event.Create name) (bag_in disk)) holds (λ then. file_is held_in cloned new name key bytes same text (disk_is disk) free made empty then)
 
   pub renamed_left : (from to k l m : List ℕ) → k ≡ from → l ≡ from → m ≡ to → is_base_name from ≡ true → is_base_name to ≡ true → is_folder_node (node held_in k) ≡ true → Moves held_in new l m → node held_in m ≡ None
       → IfOk r (λ left. bag_in left ≡ done (event.Rename from to) (bag_in disk))
@@ -149,12 +158,12 @@ module _ (r : Result MemoryDisk DiskFault) (disk : MemoryDisk) (cloned new : Nod
       with_none (Err fault) is = tt
 
 -- an event that is one of a name
-pub made_then : (r : Result MemoryDisk DiskFault) (disk : MemoryDisk) (e : DeviceEvent) (name given : List ℕ) → e ≡ event.MakeFolder name → given ≡ name → IfOk r (λ left. bag_in left ≡ make_folder given (bag_in disk)) → IfOk r (λ left. bag_in left ≡ done e (bag_in disk))
-made_then (Ok left) disk e name given is same made = made ∙ ap (λ (n : List ℕ). make_folder n (bag_in disk)) same ∙ sym (done_make name (bag_in disk)) ∙ ap (λ (x : DeviceEvent). done x (bag_in disk)) (sym is)
+pub made_then : (r : Result MemoryDisk DiskFault) (disk : MemoryDisk) (e : DeviceEvent) (name given : List ℕ) → e ≡ event.MakeFolder name → given ≡ name → IfOk r (λ left. bag_in left ≡ done (event.MakeFolder given) (bag_in disk)) → IfOk r (λ left. bag_in left ≡ done e (bag_in disk))
+made_then (Ok left) disk e name given is same made = made ∙ ap (λ (n : List ℕ). done (event.MakeFolder n) (bag_in disk)) same ∙ ap (λ (x : DeviceEvent). done x (bag_in disk)) (sym is)
 made_then (Err fault) disk e name given is same made = tt
 
-pub created_then : (r : Result MemoryDisk DiskFault) (disk : MemoryDisk) (e : DeviceEvent) (name given : List ℕ) → e ≡ event.Create name → given ≡ name → IfOk r (λ left. bag_in left ≡ create given [] (bag_in disk)) → IfOk r (λ left. bag_in left ≡ done e (bag_in disk))
-created_then (Ok left) disk e name given is same made = made ∙ ap (λ (n : List ℕ). create n [] (bag_in disk)) same ∙ sym (done_create name (bag_in disk)) ∙ ap (λ (x : DeviceEvent). done x (bag_in disk)) (sym is)
+pub created_then : (r : Result MemoryDisk DiskFault) (disk : MemoryDisk) (e : DeviceEvent) (name given : List ℕ) → e ≡ event.Create name → given ≡ name → IfOk r (λ left. bag_in left ≡ done (event.Create given) (bag_in disk)) → IfOk r (λ left. bag_in left ≡ done e (bag_in disk))
+created_then (Ok left) disk e name given is same made = made ∙ ap (λ (n : List ℕ). done (event.Create n) (bag_in disk)) same ∙ ap (λ (x : DeviceEvent). done x (bag_in disk)) (sym is)
 created_then (Err fault) disk e name given is same made = tt
 
 -- a sync does nothing

@@ -1,9 +1,8 @@
 //! What a power cut may leave of a disk in memory.
-ghost use Rattle.std.specs.Prelude.{◌≡◌, [], IfOk, List, OnOk, ℕ, is_some, true};
+ghost use Rattle.std.specs.Prelude.{◌≡◌, IfOk, List, OnOk, ℕ, is_some, true};
 ghost use Rattle.bag_text.specs.Path.{is_base_name};
 ghost use Rattle.bag_tree.specs.Cut as cut;
-ghost use Rattle.bag_tree.specs.Steps.{create, make_folder};
-ghost use Rattle.bag_tree.specs.declared.event.DeviceEvent.TheVariants.{Rename, Write};
+ghost use Rattle.bag_tree.specs.declared.event.DeviceEvent.TheVariants.{Create, MakeFolder, Rename, Write};
 ghost use Rattle.bag_disk.specs.Disk.{bytes_of, node};
 ghost use Rattle.test_disk.specs.Held.{nodes_of};
 ghost use Rattle.test_disk.specs.Cuts.{AddsLeft, AreLeftBy, MayBeLeft, bag_in};
@@ -23,7 +22,8 @@ use std::collections::BTreeMap;
 /// synced anything may be there: no bytes stand for that, and as many zeros as were written. The events
 /// are those of steps: what is made has a name in the base folder, and so has what is moved, to another
 /// name or into a folder. Others are refused by `Device`, and so is what no disk can hold. A move into a
-/// folder that may be missing is refused by `NotFound`, since what was moved might be lost.
+/// folder that may be missing is refused by `NotFound`, and a name that may be taken by `Exists`, since
+/// what was moved or stood there might be lost.
 pub fn cuts(
     alloc: Global,
     first: &MemoryDisk,
@@ -139,7 +139,8 @@ fn holding(alloc: Global, nodes: BTreeMap<Vec<u8>, Node>) -> Result<MemoryDisk, 
 
 /// What stands there, with a folder in the base folder.
 fn with_folder(alloc: Global, disk: &MemoryDisk, name: &str) -> Result<MemoryDisk, DiskFault>
-    ensures { IfOk result (λ left. bag_in left ≡ make_folder name.now (bag_in disk.now)) }
+    ensures { IfOk result (λ left.
+        bag_in left ≡ cut.done (MakeFolder name.now) (bag_in disk.now)) }
 {
     if !is_base_name(name.as_bytes()) {
         return Err(DiskFault::Device);
@@ -151,7 +152,8 @@ fn with_folder(alloc: Global, disk: &MemoryDisk, name: &str) -> Result<MemoryDis
 
 /// What stands there, with an empty file in the base folder.
 fn with_file(alloc: Global, disk: &MemoryDisk, name: &str) -> Result<MemoryDisk, DiskFault>
-    ensures { IfOk result (λ left. bag_in left ≡ create name.now [] (bag_in disk.now)) }
+    ensures { IfOk result (λ left.
+        bag_in left ≡ cut.done (Create name.now) (bag_in disk.now)) }
 {
     let mut nodes = disk.nodes.clone()?;
     add_node(
