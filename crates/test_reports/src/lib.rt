@@ -18,6 +18,8 @@ mod openings;
 #[cfg(test)]
 mod pieces;
 #[cfg(test)]
+mod power_cuts;
+#[cfg(test)]
 mod profiles;
 #[cfg(test)]
 mod refused_calls;
