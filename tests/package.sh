@@ -30,6 +30,24 @@ bagit-check-large deposit report >printed
 diff report - <<<'deposit is valid'
 bagit-check-large --help >printed
 
+# Where the program is killed in the middle of a piece, no report is closed; started again, it goes on. A report that can't be
+# written doesn't end as one with faults.
+echo b >deposit/data/b
+echo x >>deposit/data/a
+printf '#!/bin/sh\nbagit "$@" | head -c 250; exit 137\n' >killed
+chmod +x killed
+status=0
+BAGIT=$work/killed bagit-check-large deposit faults 2>printed || status=$?
+[[ $status == 3 && ! -e faults && -s faults.part ]] || give_up "bagit-check-large ends with $status where the program is killed"
+status=0
+bagit-check-large deposit faults >printed || status=$?
+[[ $status == 1 ]] && ! bagit --validate deposit >printed
+diff faults printed || give_up 'bagit-check-large goes on otherwise after the program was killed'
+status=0
+bagit-check-large deposit nowhere/faults 2>printed || status=$?
+[[ $status == 3 ]] || give_up "bagit-check-large ends with $status where the report can't be written"
+[[ ! $(ls faults.* report.* 2>/dev/null) ]] || give_up "bagit-check-large leaves $(ls faults.* report.*)"
+
 # The manual pages have no warnings, and show no line of markup.
 share=$work/tree/usr/share
 pages=0
