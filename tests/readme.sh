@@ -1,13 +1,16 @@
 #!/usr/bin/env bash
 # Follows the pages for users as they are written: README's first session, with what it says that is printed; the ways back of
-# docs/NOT_MADE.md, over folders as a making leaves them; the scripts of docs/LARGE_BAGS.md over 40 bags of which five are bad.
+# docs/NOT_MADE.md, over folders as a making leaves them; the scripts of docs/LARGE_BAGS.md over 40 bags of which five are bad; the
+# command of docs/FAULTS.md that finds too long paths; the keys of docs/PROFILES.md.
 #
 # usage: tests/readme.sh [PROGRAM]
 #
-# PROGRAM is crates/bagit/out/bagit by default. GNU parallel is tried where it is there. The last line says how much was followed.
+# PROGRAM is crates/bagit/out/bagit by default. It needs Python; GNU parallel is tried where it is there. The last line says how much
+# was followed.
 set -euo pipefail
 source "$(dirname "$0")/common.sh"
 take_program bagit "${1:-}"
+needs python3
 enter pages
 mkdir bin
 ln -s "$program" bin/bagit
@@ -154,6 +157,44 @@ $(block docs/LARGE_BAGS.md 'A check that survives a failing disk' 1) >printed ||
 [[ $status == 1 && $(<printed) == 'deposit has faults: 2' ]] || give_up 'docs/LARGE_BAGS.md: bagit-check-large ends otherwise'
 diff deposit.txt <(bagit --validate deposit) || give_up 'docs/LARGE_BAGS.md: the report in pieces is another'
 followed=$((followed + 2))
+
+# FAULTS: of a path of 4,085 bytes in a folder `long` nothing is said, and it can be checked once it is in `data`; not so one byte more.
+for last in 69 70; do
+    rm -rf long
+    python3 - "$last" <<'END'
+import os, sys
+for folder in ["long", *["a" * 250] * 16]:
+    os.mkdir(folder)
+    os.chdir(folder)
+open("f" * int(sys.argv[1]), "w").close()
+END
+    named=$(block docs/FAULTS.md 'Paths that are too long' 1 | sed 's/DIR/long/g' | bash -e | wc -l)
+    bagit --quiet long
+    status=0
+    bagit --validate long >printed || status=$?
+    [[ "$named $status" == "$((last - 69)) $(((last - 69) * 3))" ]] ||
+        give_up "docs/FAULTS.md: $named paths are named, where the check says: $(<printed)"
+done
+followed=$((followed + 1))
+
+# PROFILES: of the keys with a wrong value the first of its table is named, and the archive file's way round lets a bag pass.
+mapfile -t keys < <(sed -n '/^## The keys$/,/^## /s/^| `\([^`]*\)` .*/\1/p' "$root/docs/PROFILES.md")
+((${#keys[@]} == 11)) || give_up "docs/PROFILES.md: its table has ${#keys[@]} keys"
+for ((first = 1; first < ${#keys[@]}; first++)); do
+    printf '{"BagIt-Profile-Info": {"BagIt-Profile-Identifier": "x"}%s}' "$(printf ', "%s": 5' "${keys[@]:first}")" >wrong.json
+    status=0
+    bagit --validate --profile wrong.json deposit 2>printed || status=$?
+    [[ $status == 2 && $(<printed) == "bagit: profile: wrong shape: ${keys[first]}" ]] ||
+        give_up "docs/PROFILES.md: ${keys[first]} should be named, not: $(<printed)"
+done
+mkdir -p asks/deposit
+echo a >asks/deposit/a
+bagit --quiet --bagit-profile-identifier x asks/deposit
+echo '{"BagIt-Profile-Info": {"BagIt-Profile-Identifier": "x"}, "Serialization": "required"}' >asks/profile.json
+! bagit --validate --profile asks/profile.json asks/deposit >printed || give_up 'docs/PROFILES.md: a folder is taken for an archive file'
+(cd asks && block docs/PROFILES.md 'Profiles that ask for an archive file' 1 | bash -e) >printed
+[[ $(<printed) == 'deposit is valid' ]] || give_up "docs/PROFILES.md: by the copy of a profile: $(<printed)"
+followed=$((followed + ${#keys[@]}))
 
 # LIBRARY: what it quotes stands in the crate of its examples, line by line.
 awk '/^```rust$/ { n++; inside = 1; next } /^```$/ { inside = 0 } inside { print > ("quoted" n) }' "$root/docs/LIBRARY.md"
