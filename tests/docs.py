@@ -127,6 +127,12 @@ def compare_functions(page, text):
             known = [key for key in keys if any(key == function[1:] for function in functions)]
             compare("public call", page, name, known)
             rows |= set(known)
+    for calls, clauses in re.findall(r"^\| (`.*?) \| .* \| (`.*?) \|$", tables, re.M):
+        names = [re.escape(call.split("::")[-1]) for call in quoted(calls)]
+        files = [text_of(path) for path in crates.glob("bag_*/src/*.rt")]
+        files = [file for file in files if any(re.search(rf"\bfn {name}\b", file) for name in names)]
+        for clause in (clause for clause in quoted(clauses) if clause[:1].islower()):
+            compare("clause of a call", page, f"{calls}: {clause}", any(f"ensures {clause} {{" in file for file in files))
     for crate, owner, name in sorted(functions):
         if owner == "laws":
             compare("law", page, f"of {crate}, without a sentence: {name}", f"`{name}`" in text)
@@ -153,7 +159,7 @@ def main():
     compare_functions(root / "docs/PROVED.md", text_of(root / "docs/PROVED.md"))
     compare_cases(root / "docs/TESTED.md", text_of(root / "docs/TESTED.md"))
     print(*stale, sep="\n", end="\n" if stale else "")
-    kinds = ["link", "file", "definition or clause", "module", "name", "file of a way", "public call", "public function", "law", "case file"]
+    kinds = ["link", "file", "definition or clause", "module", "name", "file of a way", "public call", "clause of a call", "public function", "law", "case file"]
     print("compared: " + ", ".join(f"{compared.get(kind, 0)} of {kind}" for kind in kinds))
     sys.exit(bool(stale) or any(not compared.get(kind) for kind in kinds))
 
