@@ -19,6 +19,8 @@ FILE = re.compile(rf"(?<![\w/.~-])((?:{FOLDERS}|\w+/(?:src|specs|proofs|must-fai
 NAMES = r"`[^`\n]+`(?:(?:,| and|, and)\s+`[^`\n]+`)*"
 CITATION = re.compile(rf"`([\w/]+\.(?:rt|antt))`:\s+({NAMES})")
 MODULES = re.compile(rf"`(\w+)`'s ({NAMES})")
+KINDS = ["link", "file", "definition or clause", "module", "name", "file of a way", "case file"]
+KINDS += ["public function", "law", "public call", "clause of a call"]
 compared, stale = {}, []
 
 
@@ -159,9 +161,8 @@ def main():
     compare_functions(root / "docs/PROVED.md", text_of(root / "docs/PROVED.md"))
     compare_cases(root / "docs/TESTED.md", text_of(root / "docs/TESTED.md"))
     print(*stale, sep="\n", end="\n" if stale else "")
-    kinds = ["link", "file", "definition or clause", "module", "name", "file of a way", "public call", "clause of a call", "public function", "law", "case file"]
-    print("compared: " + ", ".join(f"{compared.get(kind, 0)} of {kind}" for kind in kinds))
-    sys.exit(bool(stale) or any(not compared.get(kind) for kind in kinds))
+    print("compared: " + ", ".join(f"{compared.get(kind, 0)} times {kind}" for kind in KINDS))
+    sys.exit(bool(stale) or not all(compared.get(kind) for kind in KINDS))
 
 
 main()
