@@ -61,7 +61,7 @@ def compare_files(page, text):
         name = name.rstrip(".").removesuffix("-")
         if "/out" in name or re.search(r"/[A-Z]+(/|$)", name) and not name.endswith(".md"):
             continue
-        there = any(any(base.glob(name)) if "*" in name else (base / name).exists() for base in (root, crates))
+        there = any(any(base.glob(name)) if "*" in name else (base / name).exists() for base in (root, crates, page.parent))
         compare("file", page, name, there)
 
 
