@@ -3,24 +3,25 @@
 
 usage: tests/docs.py ROOT
 
-Prints a line for each name that is stale, and at last how many were compared; the status is 1 where one is stale, or where a kind
-of name was found nowhere. Definitions and clauses are cited as `CRATE/specs/PAGE.antt`: `A`, `B`, and modules as `CRATE`'s `A`.
+Prints each name that is stale, and at last how many were compared; the status is 1 where one is stale, or where a kind of name
+was found nowhere. Definitions and clauses are cited as `CRATE/specs/PAGE.antt`: `A`, `B`, and modules as `CRATE`'s `A`.
 """
 import re
 import sys
 from functools import lru_cache
 from pathlib import Path
 
-root = Path(sys.argv[1])
-crates = root / "crates"
-pages = sorted(path for folder in (".", "docs", "bench") for path in (root / folder).glob("*.md"))
-FOLDERS = "docs|tests|bench|packaging|tools|crates|.ci".replace(".", r"\.")
-FILE = re.compile(rf"(?<![\w/.~-])((?:{FOLDERS}|\w+/(?:src|specs|proofs|must-fail))/[\w./*-]*|[A-Z]+\.md|crates\.txt)")
+KINDS = ["link", "file", "definition or clause", "module", "name", "file of a way", "case file"]
+KINDS += ["public function", "law", "public call", "clause of a call"]
+FOLDERS = r"docs|tests|bench|packaging|tools|crates|\.ci|\w+(?=/(?:src|specs|proofs|must-fail)/)"
+FILE = re.compile(rf"(?<![\w/.~-])((?:{FOLDERS})/[\w./*-]*|[A-Z]+\.md|crates\.txt)")
 NAMES = r"`[^`\n]+`(?:(?:,| and|, and)\s+`[^`\n]+`)*"
 CITATION = re.compile(rf"`([\w/]+\.(?:rt|antt))`:\s+({NAMES})")
 MODULES = re.compile(rf"`(\w+)`'s ({NAMES})")
-KINDS = ["link", "file", "definition or clause", "module", "name", "file of a way", "case file"]
-KINDS += ["public function", "law", "public call", "clause of a call"]
+WITH_NAMES = ("THEOREM.md", "PROVED.md", "NOT_PROVED.md", "DEFINITIONS.md", "MAP.md")
+
+root = Path(sys.argv[1])
+crates = root / "crates"
 compared, stale = {}, []
 
 
@@ -44,39 +45,48 @@ def quoted(text):
     return re.findall(r"`([^`\n]+)`", text)
 
 
-def stands_in(name, text, is_source):
-    """Whether a file declares the name: an item or a clause of it, or a definition."""
+def part_of(text, start, end):
+    return text[text.index(f"\n## {start}") : text.index(f"\n## {end}")]
+
+
+def declares(text, name, is_source):
+    """Whether a file declares the name: an item, a field or a clause of it, or a definition."""
     name = re.escape(name.split("::")[-1])
     if is_source:
         item = rf"\b(?:fn|trait|struct|enum|type|const|static|ensures\*?|requires\*?|ghost) {name}\b"
-        return re.search(rf"{item}|^ *(?:pub )?{name}: ", text, re.M)
-    return re.search(rf"^ *(?:(?:abbrev|pub|unfoldable|record|data) )*{name}(?: |$)", text, re.M)
+        return bool(re.search(rf"{item}|^ *(?:pub )?{name}: ", text, re.M))
+    return bool(re.search(rf"^ *(?:(?:abbrev|pub|unfoldable|record|data) )*{name}(?: |$)", text, re.M))
+
+
+def has_module(crate, name):
+    return (crates / crate / "src" / f"{name}.rt").exists() or declares(source_of(crate), name, True)
 
 
 def compare_files(page, text):
+    """Links, and paths from the root, from crates/ or from the page; but for what is built, and for words such as NAME."""
     for link in re.findall(r"\]\(([^)#\s]+)", text):
         if not link.startswith("http"):
             compare("link", page, link, (page.parent / link).exists())
     for name in FILE.findall(text):
-        name = name.rstrip(".").removesuffix("-")
-        if "/out" in name or re.search(r"/[A-Z]+(/|$)", name) and not name.endswith(".md"):
+        name = name.rstrip(".-")
+        if "/out" in name or re.search(r"/[A-Z]+(/|$)", name):
             continue
-        there = any(any(base.glob(name)) if "*" in name else (base / name).exists() for base in (root, crates, page.parent))
-        compare("file", page, name, there)
+        bases = (root, crates, page.parent)
+        compare("file", page, name, any(any(base.glob(name)) if "*" in name else (base / name).exists() for base in bases))
 
 
 def compare_citations(page, text):
     for path, names in CITATION.findall(text):
-        cited = text_of(crates / path.removeprefix("crates/"))
         for name in quoted(names):
-            compare("definition or clause", page, f"{path}: {name}", stands_in(name, cited, path.endswith(".rt")))
-    for crate, names in (found for found in MODULES.findall(text) if (crates / found[0]).exists()):
-        for name in (name for name in quoted(names) if "/" not in name and not (crates / name).exists()):
-            there = (crates / crate / "src" / f"{name}.rt").exists() or stands_in(name, source_of(crate), True)
-            compare("module", page, f"{crate}: {name}", there)
+            there = declares(text_of(crates / path), name, path.endswith(".rt"))
+            compare("definition or clause", page, f"{path}: {name}", there)
+    for crate, names in MODULES.findall(text):
+        for name in quoted(names) if (crates / crate).exists() else ():
+            if "/" not in name and not (crates / name).exists():
+                compare("module", page, f"{crate}: {name}", has_module(crate, name))
 
 
-def compare_words(page, text, words):
+def compare_names(page, text, words):
     """Whatever looks like a name of ours stands somewhere in the sources."""
     for name in quoted(text):
         if re.fullmatch(r"[A-Za-z]\w*(::\w+)?", name) and re.search(r"[a-z][A-Z]|_", name):
@@ -84,82 +94,77 @@ def compare_words(page, text, words):
 
 
 def compare_ways(page, text):
-    """The files in the tables of docs/MAP.md, each row of one crate or more, or of those above it."""
+    """The files and functions in a table of docs/MAP.md: each row is of some crates, or of those of the row above it."""
     row_crates = []
-    for first, second in re.findall(r"^\| (.*?) \| (.*?) \|", text, re.M):
-        row_crates = [name for name in quoted(first) if (crates / name / "src").exists()] or ([] if first.strip() else row_crates)
-        for name in quoted(second) if row_crates and "## The way" in text[: text.find(second)] else []:
-            there = any(
-                (crates / crate / "src" / f"{name}.rt").exists() or stands_in(name, source_of(crate), True) for crate in row_crates
-            )
-            compare("file of a way", page, name, there)
-
-
-def public_functions():
-    """The public functions of the libraries: each with its crate and its type, which is empty for a free one."""
-    for path in sorted(crates.glob("bag_*/src/*.rt")):
-        crate, uses = path.parts[-3], re.findall(r"^pub use (\w+)::(?:\{([^}]*)\}|(\w+));", text_of(path.parent / "lib.rt"), re.M)
-        shown = {name for module, names, name in uses if name} | {name for _, names, _ in uses for name in re.findall(r"\w+", names)}
-        owner = ""
-        for line in text_of(path).splitlines():
-            if block := re.match(r"impl(?:<.*?>)? (?:\w.* for )?(\w+)|pub trait (\w+)", line):
-                owner, is_trait = block[1] or block[2], bool(block[2])
-                owner = "" if " for " in line and not is_trait else owner
-            elif line == "}":
-                owner = ""
-            found = re.match(r"( *)(pub )?(?:const )?fn (\w+)", line)
-            if not found or path.stem == "laws" and not found[2]:
-                continue
-            if path.stem == "laws":
-                yield crate, "laws", found[3]
-            elif not found[1] and found[2] and found[3] in shown:
-                yield crate, "", found[3]
-            elif found[1] and owner in shown and (found[2] or is_trait):
-                yield crate, owner, found[3]
-
-
-def compare_functions(page, text):
-    functions = set(public_functions())
-    rows, tables = set(), text[text.index("\n## Safe and total") :]
-    for first, second in re.findall(r"^\| (.*?) \| (.*?) \|", tables, re.M):
-        owners = quoted(first) if re.fullmatch(NAMES, second.strip()) else [""]
-        for name in quoted(second) if owners != [""] else quoted(first):
-            owner, _, method = name.rpartition("::")
-            keys = [(one if one[:1].isupper() else "", method) for one in ([owner] if owner else owners)]
-            known = [key for key in keys if any(key == function[1:] for function in functions)]
-            compare("public call", page, name, known)
-            rows |= set(known)
-    for calls, clauses in re.findall(r"^\| (`.*?) \| .* \| (`.*?) \|$", tables, re.M):
-        names = [re.escape(call.split("::")[-1]) for call in quoted(calls)]
-        files = [text_of(path) for path in crates.glob("bag_*/src/*.rt")]
-        files = [file for file in files if any(re.search(rf"\bfn {name}\b", file) for name in names)]
-        for clause in (clause for clause in quoted(clauses) if clause[:1].islower()):
-            compare("clause of a call", page, f"{calls}: {clause}", any(f"ensures {clause} {{" in file for file in files))
-    for crate, owner, name in sorted(functions):
-        if owner == "laws":
-            compare("law", page, f"of {crate}, without a sentence: {name}", f"`{name}`" in text)
-        else:
-            compare("public function", page, f"of {crate}, without a row: {owner + '::' if owner else ''}{name}", (owner, name) in rows)
+    for first, second in re.findall(r"^\| (.*?)\| (.*?) \|", part_of(text, "The way of a manifest", "Where things stand"), re.M):
+        row_crates = quoted(first) or row_crates
+        for name in (name for name in quoted(second) if name.isidentifier()):
+            compare("file of a way", page, name, any(has_module(crate, name) for crate in row_crates))
 
 
 def compare_cases(page, text):
-    section = text[text.index("\n## Cases") : text.index("\n## Tests")]
-    for name in re.findall(r"`([^`\n]+)`", "".join(re.findall(r"^\| (`.*?) \|", section, re.M))):
-        compare("case file", page, name, any((crates / "cases" / "data").glob(f"{name}.cases")))
+    for cells in re.findall(r"^\| (`.*?) \|", part_of(text, "Cases", "Tests"), re.M):
+        for name in quoted(cells):
+            compare("case file", page, name, any((crates / "cases" / "data").glob(f"{name}.cases")))
+
+
+def public_functions():
+    """The public functions of the libraries, each with its crate and its type: none of a free function, and `laws` of a law."""
+    for path in sorted(crates.glob("bag_*/src/*.rt")):
+        crate, lib, owner = path.parts[-3], text_of(path.parent / "lib.rt"), ""
+        exported = set(re.findall(r"\w+", " ".join(re.findall(r"^pub use (?!bag_)\w+::([^;]*);", lib, re.M))))
+        for line in text_of(path).splitlines():
+            if block := re.match(r"impl(?:<.*?>)? (\w.* for )?(\w+)|(pub )?trait (\w+)", line):
+                owner = "" if block[1] else block[2] or block[4]
+                is_trait = bool(block[3])
+            elif line == "}":
+                owner = ""
+            found = re.match(r"( *)(pub )?(?:const )?fn (\w+)", line)
+            if found and path.stem == "laws":
+                yield crate, "laws", found[3]
+            elif found and found[1] and owner in exported and (found[2] or is_trait):
+                yield crate, owner, found[3]
+            elif found and not found[1] and found[2] and found[3] in exported:
+                yield crate, "", found[3]
+
+
+def compare_functions(page, text):
+    """The tables of calls: one that may be refused is named as `TYPE::NAME` or `NAME`, the others beside their type or crate."""
+    functions = set(public_functions())
+    known, rows = {(owner, name) for _, owner, name in functions}, set()
+    files = [text_of(path) for path in sorted(crates.glob("bag_*/src/*.rt"))]
+    for line in re.findall(r"^\| `.*\|$", part_of(text, "Safe and total", "Wrong bodies"), re.M):
+        cells = [cell.strip() for cell in line.strip("|").split("|")]
+        if len(cells) == 2:
+            calls = {name: {(owner if owner[:1].isupper() else "", name) for owner in quoted(cells[0])} for name in quoted(cells[1])}
+        else:
+            calls = {name: {("", *name.split("::"))[-2:]} for name in quoted(cells[0])}
+        for name, keys in calls.items():
+            compare("public call", page, name, keys & known)
+            rows |= keys & known
+        own = [file for file in files if any(declares(file, name, True) for name in calls)]
+        for clause in quoted(cells[3]) if len(cells) == 4 else ():
+            is_there = clause[:1].isupper() or any(f"ensures {clause} {{" in file for file in own)
+            compare("clause of a call", page, f"{cells[0]}: {clause}", is_there)
+    for crate, owner, name in sorted(functions):
+        if owner == "laws":
+            compare("law", page, f"of {crate} that no sentence names: {name}", f"`{name}`" in text)
+        else:
+            compare("public function", page, f"of {crate} without a row: {owner}::{name}".replace(" ::", " "), (owner, name) in rows)
 
 
 def main():
     sources = [path for form in ("*/src/*.rt", "*/specs/*.antt") for path in crates.glob(form)] + [root / "crates.txt"]
     words = {word for path in sources for word in re.findall(r"\w+", text_of(path))}
-    for page in pages:
+    for page in sorted(path for folder in (".", "docs", "bench") for path in (root / folder).glob("*.md")):
         text = text_of(page)
         compare_files(page, text)
         compare_citations(page, text)
-        if page.name in ("THEOREM.md", "PROVED.md", "NOT_PROVED.md", "DEFINITIONS.md", "MAP.md"):
-            compare_words(page, text, words)
-    compare_ways(root / "docs/MAP.md", text_of(root / "docs/MAP.md"))
-    compare_functions(root / "docs/PROVED.md", text_of(root / "docs/PROVED.md"))
-    compare_cases(root / "docs/TESTED.md", text_of(root / "docs/TESTED.md"))
+        if page.name in WITH_NAMES:
+            compare_names(page, text, words)
+    for name, compare_page in ("MAP", compare_ways), ("TESTED", compare_cases), ("PROVED", compare_functions):
+        page = root / "docs" / f"{name}.md"
+        compare_page(page, text_of(page))
     print(*stale, sep="\n", end="\n" if stale else "")
     print("compared: " + ", ".join(f"{compared.get(kind, 0)} times {kind}" for kind in KINDS))
     sys.exit(bool(stale) or not all(compared.get(kind) for kind in KINDS))
