@@ -142,7 +142,8 @@ def compare_functions(page, text):
         for name, keys in calls.items():
             compare("public call", page, name, keys & known)
             rows |= keys & known
-        own = [file for file in files if any(declares(file, name, True) for name in calls)]
+        items = [f"fn {name.split('::')[-1]}" for name in calls]
+        own = [file for file in files if any(item in file for item in items)]
         for clause in quoted(cells[3]) if len(cells) == 4 else ():
             is_there = clause[:1].isupper() or any(f"ensures {clause} {{" in file for file in own)
             compare("clause of a call", page, f"{cells[0]}: {clause}", is_there)
