@@ -106,6 +106,14 @@ bagit photographs >printed
 goes_back 'A bag in a bag' 1 'a bag'
 (cd photographs && [[ $(bagit --validate .) == '. is valid' ]]) || give_up 'the inner bag is not what it was'
 
+# A copy elsewhere is made a bag.
+new_folder
+mkdir archive
+block docs/NOT_MADE.md 'Changing a bag, or making one elsewhere' 1 | sed "s#/archive/#$work/archive/#g" | bash -e >printed
+[[ $(<printed) == "$work/archive/photographs made" ]] && bagit --validate --quiet archive/photographs && diff -r whole photographs ||
+    give_up 'docs/NOT_MADE.md: a copy elsewhere is made otherwise'
+followed=$((followed + 1))
+
 # LARGE_BAGS: a bag in pieces, and forty bags.
 page=$root/docs/LARGE_BAGS.md
 for ((bag = 10; bag < 50; bag++)); do
