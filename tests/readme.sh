@@ -185,6 +185,24 @@ END
 done
 followed=$((followed + 1))
 
+# FAULTS: after a file that can't be read the check goes on by the line that the page gives. Root may read each file.
+mkdir closed
+for name in a "it's here" z; do echo "$name" >"closed/$name"; done
+bagit --quiet --sha256 closed
+echo x >>closed/data/z
+cp "$program" bagit
+chmod 755 . closed closed/data bagit
+chmod 644 closed/*.txt closed/data/*
+chmod 000 "closed/data/it's here"
+reads() { if ((EUID)); then "$@"; else setpriv --reuid 65534 --regid 65534 --clear-groups "$@"; fi; }
+! reads ./bagit --validate closed >printed || give_up 'a file of mode 000 was read'
+path=$(sed -n 's/^closed unread \(.*\) device, faults: 1$/\1/p' printed)
+way=$(block docs/FAULTS.md "Going on after a file that can't be read" 1 | sed 's/^bagit/.\/&/; s/DIR/closed/')
+way=${way/PATH/${path//\'/\'\\\'\'}}
+! reads bash -c "$way" >printed || give_up "docs/FAULTS.md: $way ends with 0"
+[[ $(cut -d ' ' -f 1-3 printed) == $'701 payload-sum-differs data/z\nclosed rest done,' ]] || give_up "docs/FAULTS.md: $way says: $(<printed)"
+followed=$((followed + 1))
+
 # PROFILES: of the keys with a wrong value the first of its table is named, and the archive file's way round lets a bag pass.
 mapfile -t keys < <(sed -n '/^## The keys$/,/^## /s/^| `\([^`]*\)` .*/\1/p' "$root/docs/PROFILES.md")
 ((${#keys[@]} == 11)) || give_up "docs/PROFILES.md: its table has ${#keys[@]} keys"
