@@ -1,7 +1,8 @@
 #!/usr/bin/env bash
 # Follows the pages for users as they are written: README's first session, with what it says that is printed; the ways back of
 # docs/NOT_MADE.md, over folders as a making leaves them; the scripts of docs/LARGE_BAGS.md over 40 bags of which five are bad; the
-# command of docs/FAULTS.md that finds too long paths; the keys of docs/PROFILES.md.
+# commands of docs/FAULTS.md that find too long paths and go on after a file that can't be read; the keys of docs/PROFILES.md; what
+# docs/LIBRARY.md quotes.
 #
 # usage: tests/readme.sh [PROGRAM]
 #
