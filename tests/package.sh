@@ -46,7 +46,17 @@ diff faults printed || give_up 'bagit-check-large goes on otherwise after the pr
 status=0
 bagit-check-large deposit nowhere/faults 2>printed || status=$?
 [[ $status == 3 ]] || give_up "bagit-check-large ends with $status where the report can't be written"
-[[ ! $(ls faults.* report.* 2>/dev/null) ]] || give_up "bagit-check-large leaves $(ls faults.* report.*)"
+printf '#!/bin/sh\nwhile [ ! -e asked ]; do sleep 0.1; done\nexec bagit "$@"\n' >slow
+chmod +x slow
+BAGIT=$work/slow bagit-check-large deposit twice >first_printed 2>&1 &
+until [[ -e twice.part ]]; do sleep 0.1; done
+status=0
+bagit-check-large deposit twice 2>printed || status=$?
+touch asked
+[[ $status == 3 && $(<printed) == *'another bagit-check-large writes twice' ]] || give_up "a second bagit-check-large ends with $status"
+wait "$!" || [[ $? == 1 ]]
+diff twice faults || give_up 'bagit-check-large was disturbed by a second one'
+[[ ! $(ls faults.* report.* twice.* 2>/dev/null) ]] || give_up "bagit-check-large leaves $(ls faults.* report.*)"
 
 # The manual pages have no warnings, and show no line of markup.
 share=$work/tree/usr/share

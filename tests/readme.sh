@@ -1,7 +1,8 @@
 #!/usr/bin/env bash
 # Follows the pages for users as they are written: README's first session, with what it says that is printed; the ways back of
 # docs/NOT_MADE.md, over folders as a making leaves them; the scripts of docs/LARGE_BAGS.md over 40 bags of which five are bad; the
-# command of docs/FAULTS.md that finds too long paths; the keys of docs/PROFILES.md.
+# commands of docs/FAULTS.md that find too long paths and go on after a file that can't be read; the keys of docs/PROFILES.md; what
+# docs/LIBRARY.md quotes.
 #
 # usage: tests/readme.sh [PROGRAM]
 #
@@ -106,6 +107,14 @@ bagit photographs >printed
 goes_back 'A bag in a bag' 1 'a bag'
 (cd photographs && [[ $(bagit --validate .) == '. is valid' ]]) || give_up 'the inner bag is not what it was'
 
+# A copy elsewhere is made a bag.
+new_folder
+mkdir archive
+block docs/NOT_MADE.md 'Changing a bag, or making one elsewhere' 1 | sed "s#/archive/#$work/archive/#g" | bash -e >printed
+[[ $(<printed) == "$work/archive/photographs made" ]] && bagit --validate --quiet archive/photographs && diff -r whole photographs ||
+    give_up 'docs/NOT_MADE.md: a copy elsewhere is made otherwise'
+followed=$((followed + 1))
+
 # LARGE_BAGS: a bag in pieces, and forty bags.
 page=$root/docs/LARGE_BAGS.md
 for ((bag = 10; bag < 50; bag++)); do
@@ -175,6 +184,24 @@ END
     [[ "$named $status" == "$((last - 69)) $(((last - 69) * 3))" ]] ||
         give_up "docs/FAULTS.md: $named paths are named, where the check says: $(<printed)"
 done
+followed=$((followed + 1))
+
+# FAULTS: after a file that can't be read the check goes on by the line that the page gives. Root may read each file.
+mkdir closed
+for name in a "it's here" z; do echo "$name" >"closed/$name"; done
+bagit --quiet --sha256 closed
+echo x >>closed/data/z
+cp "$program" bagit
+chmod 755 . closed closed/data bagit
+chmod 644 closed/*.txt closed/data/*
+chmod 000 "closed/data/it's here"
+reads() { if ((EUID)); then "$@"; else setpriv --reuid 65534 --regid 65534 --clear-groups "$@"; fi; }
+! reads ./bagit --validate closed >printed || give_up 'a file of mode 000 was read'
+path=$(sed -n 's/^closed unread \(.*\) device, faults: 1$/\1/p' printed)
+way=$(block docs/FAULTS.md "Going on after a file that can't be read" 1 | sed 's/^bagit/.\/&/; s/DIR/closed/')
+way=${way/PATH/${path//\'/\'\\\'\'}}
+! reads bash -c "$way" >printed || give_up "docs/FAULTS.md: $way ends with 0"
+[[ $(cut -d ' ' -f 1-3 printed) == $'701 payload-sum-differs data/z\nclosed rest done,' ]] || give_up "docs/FAULTS.md: $way says: $(<printed)"
 followed=$((followed + 1))
 
 # PROFILES: of the keys with a wrong value the first of its table is named, and the archive file's way round lets a bag pass.
