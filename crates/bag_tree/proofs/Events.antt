@@ -13,7 +13,7 @@ use Rattle.bag_tree.proofs.Parents.{base_not_under, is_slash, name_has_no_slash}
 use Rattle.bag_tree.proofs.SameText.{exact_texts, one_text, text_itself}
 use Rattle.bag_tree.specs.Asked.{AreSyncs, IsSync, has_durable_folders, is_named}
 use Rattle.bag_tree.specs.Bag.{Bag, has_file, has_folder}
-use Rattle.bag_tree.specs.Cut.{IsLost, done, folder_of, has_below, hold, is_durable, is_file_synced, is_synced, is_there, lose, rename, without}
+use Rattle.bag_tree.specs.Cut.{IsLost, appended, done, folder_of, has_below, hold, is_durable, is_file_synced, is_synced, is_there, lose, rename, without}
 use Rattle.bag_tree.specs.Moved.{is_within, moved}
 use Rattle.bag_tree.specs.Steps.{create, has_within, make_folder, move_in, rename_folder}
 use Rattle.bag_tree.specs.declared.event.DeviceEvent.{DeviceEvent}
@@ -132,6 +132,11 @@ nothing_named name d none absent =
       | false ↦ λ _. refl
     ] refl) in
     (λ i. record { files = files i; folders = folders i })
+
+-- no bytes are written to a file that isn't there
+pub no_bytes : (name bytes : List ℕ) (d : Bag) → has_file d name ≡ false → done (Write name bytes) d ≡ d
+unfolding done
+no_bytes name bytes d none = ap (λ b. cond b (create name (appended (file d name) bytes) d) d) none
 
 -- a sync does nothing, and is durable
 pub done_sync : (e : DeviceEvent) (d : Bag) → IsSync e → done e d ≡ d

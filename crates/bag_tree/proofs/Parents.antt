@@ -36,7 +36,7 @@ parted path place = grind (arith, slice_split_first, length-slice_split)
 pub name_has_none : (name : List ℕ) → is_base_name name ≡ true → All (λ c. is_slash c ≡ false) name
 name_has_none name is = grind (arith, eqb-true, and_parts, ⊎_elim, parted, none_until, cases_lt)
 
-any_fails : (xs : List ℕ) → All (λ c. is_slash c ≡ false) xs → list_any is_slash xs ≡ false
+pub any_fails : (xs : List ℕ) → All (λ c. is_slash c ≡ false) xs → list_any is_slash xs ≡ false
 any_fails [] none = refl
 any_fails (x ∷ xs) none = let head = All-head (λ c. is_slash c ≡ false) x xs none in let tail = any_fails xs (All-tail (λ c. is_slash c ≡ false) x xs none) in grind arith
 
