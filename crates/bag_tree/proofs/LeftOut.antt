@@ -1,13 +1,13 @@
 -- That a sync which is left out may lose what was done.
-use Rattle.bag_tree.proofs.Common.{arith, ◌≡◌, ◌++◌, ◌∷◌, ◌⊎◌, ◌&&◌, ℕ, inl, inr, Bool, true, false, cond, map, bytes_eq, Contains, List, [], length, bytes_eq-Decides, refl, ap, sym, ◌∙◌, and_from, and_parts, or_right, false≢true, is_base_name, under}
+use Rattle.bag_tree.proofs.Common.{arith, ◌≡◌, ◌++◌, ◌∷◌, ◌&&◌, ℕ, inl, inr, Bool, true, false, cond, map, bytes_eq, Contains, List, [], bytes_eq-Decides, refl, ap, sym, ◌∙◌, and_parts, or_right, false≢true, is_base_name, under}
 use Rattle.std.proofs.Common.{◌||◌, not, subst}
 use Rattle.std.proofs.lemmas.Bool.{false_from_ne_true, or_cases}
 use Rattle.std.proofs.lemmas.List.Elements.{Contains-append_right}
-use Rattle.bag_tree.proofs.Events.{done_sync, in_base, in_folder_of, no_bytes, same_name}
+use Rattle.bag_tree.proofs.Events.{done_sync, in_base, in_folder_of, no_bytes}
 use Rattle.bag_tree.proofs.Within.{itself_within}
 use Rattle.bag_tree.specs.Asked.{AreSyncs}
 use Rattle.bag_tree.specs.Bag.{Bag, has_file}
-use Rattle.bag_tree.specs.Cut.{MayLeave, folder_of, is_anew, is_file_synced, is_on_way, is_synced, is_there}
+use Rattle.bag_tree.specs.Cut.{MayLeave, folder_of, is_file_synced, is_on_way, is_synced, is_there}
 use Rattle.bag_tree.specs.LeftOut.{AreSyncsWithout, BytesMayBeAny, FilesMayBeMissing, MovesMayLose, RenamesMayBeUndone, SyncsAreOfTheFileThere}
 use Rattle.bag_tree.specs.Steps.{create}
 use Rattle.bag_tree.specs.declared.event.DeviceEvent.{DeviceEvent}

@@ -1,6 +1,6 @@
 -- What a power cut may leave of a base folder, by what its device did.
-use Rattle.std.specs.Prelude.{ℕ, ◌≡◌, ◌++◌, ◌==◌, ◌&&◌, ◌||◌, ◌⊎◌, not, Bool, true, false, List, [], ◌∷◌}
-use Rattle.std.specs.Prelude.{Option, Some, None, bytes_eq, nat_eq, if◌then◌else◌}
+use Rattle.std.specs.Prelude.{ℕ, ◌≡◌, ◌++◌, ◌==◌, ◌&&◌, ◌||◌, ◌⊎◌, not, Bool, true, false}
+use Rattle.std.specs.Prelude.{List, [], ◌∷◌, Option, Some, None, bytes_eq, nat_eq, if◌then◌else◌}
 use Rattle.std.specs.List.{list_any, starts_with}
 use Rattle.std.specs.FinMap as fin
 use Rattle.std.specs.FinSet as set
@@ -13,8 +13,8 @@ use Rattle.bag_tree.specs.declared.event.DeviceEvent.{DeviceEvent}
 use Rattle.bag_tree.specs.declared.event.DeviceEvent.TheVariants.{MakeFolder, Rename, Create}
 use Rattle.bag_tree.specs.declared.event.DeviceEvent.TheVariants.{Write, Sync, SyncFolder}
 
--- the folder that holds a path's name: what is before its last slash, or else the base folder, whose
--- path is empty
+-- the folder that holds a path's name: what stands before the path's last slash, or else the base
+-- folder, whose path is empty
 unfoldable pub folder_of : List ℕ → List ℕ
 folder_of [] = []
 folder_of (c ∷ rest) = if list_any (λ d. d == slash) rest then c ∷ folder_of rest else []
@@ -54,7 +54,7 @@ lose from bag = record {
   folders = set.remove bag.folders from;
 }
 
--- the bag with a folder that is made; it tells of those in the base folder
+-- the bag with a folder that is made; it tells of those in the base folder alone
 abbrev pub with_folder : List ℕ → Bag → Bag
 with_folder name bag = if is_base_name name then make_folder name bag else bag
 
@@ -81,8 +81,8 @@ done (SyncFolder folder) bag = bag
 abbrev pub is_on_way : List ℕ → List ℕ → Bool
 is_on_way path name = not (bytes_eq path []) && is_within name path
 
--- After the event the path may mean another file or folder: it, or one above it, was made or renamed,
--- or was replaced by what was renamed.
+-- After the event the path may mean another file or folder: it, or one above it, was made, or was
+-- renamed, or is the new name of what was renamed.
 abbrev pub is_anew : List ℕ → DeviceEvent → Bool
 is_anew path (MakeFolder name) = is_on_way path name
 is_anew path (Rename from to) = is_on_way path from || is_on_way path to
@@ -98,31 +98,32 @@ is_synced folder [] = false
 is_synced folder (SyncFolder synced ∷ later) = bytes_eq synced folder || is_synced folder later
 is_synced folder (event ∷ later) = not (is_anew folder event) && is_synced folder later
 
--- These events sync the file, before its path may mean another one. That makes its bytes durable, and
--- not its name.
+-- These events sync the file, before its path may mean another one. That makes its bytes durable,
+-- and not its name.
 abbrev pub is_file_synced : List ℕ → List DeviceEvent → Bool
 is_file_synced name [] = false
 is_file_synced name (Sync synced ∷ later) = bytes_eq synced name || is_file_synced name later
 is_file_synced name (event ∷ later) = not (is_anew name event) && is_file_synced name later
 
--- The later events make an event durable: a new name where its folder is synced, one that moved where
--- the folder it left is synced too, bytes where their file is. A sync itself changes nothing.
+-- The later events make an event durable: a new name where its folder is synced, one that moved
+-- where the folder it left is synced too, bytes where their file is. A sync changes nothing.
 abbrev pub is_durable : DeviceEvent → List DeviceEvent → Bool
 is_durable (MakeFolder name) later = is_synced (folder_of name) later
-is_durable (Rename from to) later = is_synced (folder_of from) later && is_synced (folder_of to) later
+is_durable (Rename from to) later =
+    is_synced (folder_of from) later && is_synced (folder_of to) later
 is_durable (Create name) later = is_synced (folder_of name) later
 is_durable (Write name bytes) later = is_file_synced name later
 is_durable (Sync name) later = true
 is_durable (SyncFolder folder) later = true
 
--- What there may be of an event that isn't durable: nothing, but of a write any bytes in its file. So
--- a rename is made whole or not at all.
+-- What there may be of an event that isn't durable: nothing, but of a write any bytes in its file.
+-- So a rename is made whole or not at all.
 abbrev pub IsPart : DeviceEvent → Bag → Bag → Type 0
 IsPart (Write name bytes) bag part = (found : List ℕ) × (part ≡ hold name found bag)
 IsPart event bag part = part ≡ bag
 
--- What there may be of a name, durable or not, whose folder isn't known to be there: what was made is
--- missing, and what was moved is lost.
+-- What there may be of a name, durable or not, whose folder isn't known to be there: what was made
+-- is missing, and what was moved is lost.
 abbrev pub IsLost : DeviceEvent → Bag → Bag → Type 0
 IsLost (MakeFolder name) bag left = (is_there bag (folder_of name) ≡ false) × (left ≡ bag)
 IsLost (Rename from to) bag left = (is_there bag (folder_of to) ≡ false) × (left ≡ lose from bag)
@@ -136,19 +137,19 @@ MayBecome event later bag left =
     ⊎ ((is_durable event later ≡ false) × IsPart event bag left)
     ⊎ IsLost event bag left
 
--- What a power cut may leave of a bag after these events. Without a sync they are in no order: any of
--- them may be left out. Each goes by its paths, so to what stands there on the device by then.
+-- What a power cut may leave of a bag after these events. Without a sync they are in no order: any
+-- of them may be left out. Each goes by its paths, so to what stands there on the device by then.
 abbrev pub MayLeave : List DeviceEvent → Bag → Bag → Type 0
 MayLeave [] bag left = left ≡ bag
 MayLeave (event ∷ later) bag left =
     (next : Bag) × MayBecome event later bag next × MayLeave later next left
 
--- On a device that first held `first`, a power cut after these events leaves this bag, nothing else.
+-- on a device that first held `first` a power cut after these events leaves this bag, nothing else
 abbrev pub IsDurableAs : List DeviceEvent → Bag → Bag → Type 0
 IsDurableAs trail first bag = (left : Bag) → MayLeave trail first left → left ≡ bag
 
--- At each moment of the events that were added to a trail, whatever a power cut leaves has P, if the
--- bag was durable when they began. A cut during an event leaves what one before or after it may leave.
+-- At each moment of the events that were added to a trail, whatever a power cut leaves has P, if
+-- the bag was durable when they began. One during an event leaves what one before or after it may.
 pub record EachCut (old new : List DeviceEvent) (bag : Bag) (P : Bag → Type 0) : Type 0 where
   pub since : List DeviceEvent
   pub trail : new ≡ old ++ since

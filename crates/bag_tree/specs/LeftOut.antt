@@ -19,7 +19,8 @@ MovesMayLose =
     (bag : Bag) (folder name : List ℕ) (first last : List DeviceEvent)
     → IsTrue (is_base_name folder) → IsTrue (is_base_name name) → is_there bag folder ≡ false
     → AreSyncsWithout (SyncFolder []) first → AreSyncsWithout (SyncFolder []) last
-    → MayLeave (MakeFolder folder ∷ first ++ Rename name (under folder name) ∷ last) bag (lose name bag)
+    → MayLeave (MakeFolder folder ∷ first ++ Rename name (under folder name) ∷ last)
+    bag (lose name bag)
 
 -- a rename may be undone, where the folder that was left or the other one isn't synced
 abbrev pub RenamesMayBeUndone : Type 0
