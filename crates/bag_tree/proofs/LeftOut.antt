@@ -1,14 +1,17 @@
 -- That a sync which is left out may lose what was done.
-use Rattle.bag_tree.proofs.Common.{arith, ◌≡◌, ◌++◌, ◌∷◌, ◌&&◌, ℕ, inl, inr, Bool, true, false, cond, map, bytes_eq, Contains, List, [], bytes_eq-Decides, refl, ap, sym, ◌∙◌, and_parts, or_right, false≢true, is_base_name, under}
+use Rattle.bag_tree.proofs.Common.{arith, ◌≡◌, ◌≢◌, ◌<◌, ◌≤◌, ◌++◌, ◌∷◌, ◌&&◌, and_from, length, length-append, slash, ℕ, inl, inr, Bool, true, false, cond, map, bytes_eq, Contains, List, [], bytes_eq-Decides, refl, ap, sym, ◌∙◌, and_parts, or_right, false≢true, under}
 use Rattle.std.proofs.Common.{◌||◌, not, subst}
-use Rattle.std.proofs.lemmas.Bool.{false_from_ne_true, or_cases}
+use Rattle.std.proofs.lemmas.Bool.{false_from_ne_true, or_cases, or_left}
 use Rattle.std.proofs.lemmas.List.Elements.{Contains-append_right}
-use Rattle.bag_tree.proofs.Events.{done_sync, in_base, in_folder_of, no_bytes}
-use Rattle.bag_tree.proofs.Within.{itself_within}
+use Rattle.std.specs.List.{list_any}
+use Rattle.bag_tree.proofs.Parents.{is_slash}
+use Rattle.bag_tree.proofs.Events.{done_sync, in_base, in_folder_of, no_bytes, other_name, without_slash}
+use Rattle.bag_tree.proofs.Within.{IsWithin, within_cases}
 use Rattle.bag_tree.specs.Asked.{AreSyncs}
 use Rattle.bag_tree.specs.Bag.{Bag, has_file}
-use Rattle.bag_tree.specs.Cut.{MayLeave, folder_of, is_file_synced, is_on_way, is_synced, is_there}
-use Rattle.bag_tree.specs.LeftOut.{AreSyncsWithout, BytesMayBeAny, FilesMayBeMissing, MovesMayLose, RenamesMayBeUndone, SyncsAreOfTheFileThere}
+use Rattle.bag_tree.specs.Moved.{is_within}
+use Rattle.bag_tree.specs.Cut.{MayBecome, MayLeave, folder_of, is_anew, is_file_synced, is_on_way, is_synced, is_there}
+use Rattle.bag_tree.specs.LeftOut.{AreSyncsWithout, BytesMayBeAny, FilesMayBeMissing, MovesMayLose, RenamesMayBeUndone, GivesAnew, SyncsAreOfTheNewFile, SyncsAreOfTheNewFolder}
 use Rattle.bag_tree.specs.Steps.{create}
 use Rattle.bag_tree.specs.declared.event.DeviceEvent.{DeviceEvent}
 use Rattle.bag_tree.specs.declared.event.DeviceEvent.TheVariants.{MakeFolder, Rename, Create, Write, Sync, SyncFolder}
@@ -109,12 +112,70 @@ bytes_may_be_any bag name bytes found syncs there are =
     let missing = false_from_ne_true (is_file_synced name syncs) (λ is. are.1 (file_synced_has name syncs are.0 is)) in
     (create name found bag, inr (inl (missing, (found, any_bytes name found bag there))), syncs_leave syncs _ are.0)
 
-pub syncs_are_of_the_file_there : SyncsAreOfTheFileThere
-syncs_are_of_the_file_there bag name other bytes found is there =
-    let anew = or_right (is_on_way name other) _ (on_way name is) in
-    let missing = ap (λ b. not b && is_file_synced name (Sync name ∷ [])) anew in
-    (create name found bag, inr (inl (missing, (found, any_bytes name found bag there))), (create name found bag, inr (inl (refl, refl)), syncs_leave (Sync name ∷ []) _ (tt, tt)))
+-- a path given anew may mean another file or folder, and so do those below it
+on_way : (path name : List ℕ) → name ≢ [] → is_within path name ≡ true → is_on_way name path ≡ true
+on_way path name some within = and_from (not (bytes_eq name [])) _ (ap not (other_name name [] some)) within
+
+given_anew : (name path : List ℕ) (event : DeviceEvent) → name ≢ [] → is_within path name ≡ true → GivesAnew path event → is_anew name event ≡ true
+given_anew name path event some within (inl made) = ap (is_anew name) made ∙ on_way path name some within
+given_anew name path event some within (inr (inl made)) = ap (is_anew name) made ∙ on_way path name some within
+given_anew name path event some within (inr (inr (inl (other, is)))) = ap (is_anew name) is ∙ or_left (is_on_way name path) _ (on_way path name some within)
+given_anew name path event some within (inr (inr (inr (other, is)))) = ap (is_anew name) is ∙ or_right (is_on_way name other) _ (on_way path name some within)
+
+file_synced_after : (name : List ℕ) (event : DeviceEvent) (later : List DeviceEvent) → is_anew name event ≡ true → is_file_synced name (event ∷ later) ≡ false
+file_synced_after name (MakeFolder n) later anew = ap (λ b. not b && is_file_synced name later) anew
+file_synced_after name (Rename from to) later anew = ap (λ b. not b && is_file_synced name later) anew
+file_synced_after name (Create n) later anew = ap (λ b. not b && is_file_synced name later) anew
+file_synced_after name (Write n bytes) later anew = absurd (false≢true anew)
+file_synced_after name (Sync n) later anew = absurd (false≢true anew)
+file_synced_after name (SyncFolder f) later anew = absurd (false≢true anew)
+
+synced_after_it : (folder : List ℕ) (event : DeviceEvent) (later : List DeviceEvent) → is_anew folder event ≡ true → is_synced folder (event ∷ later) ≡ false
+synced_after_it folder (MakeFolder n) later anew = ap (λ b. not b && is_synced folder later) anew
+synced_after_it folder (Rename from to) later anew = ap (λ b. not b && is_synced folder later) anew
+synced_after_it folder (Create n) later anew = ap (λ b. not b && is_synced folder later) anew
+synced_after_it folder (Write n bytes) later anew = absurd (false≢true anew)
+synced_after_it folder (Sync n) later anew = absurd (false≢true anew)
+synced_after_it folder (SyncFolder f) later anew = absurd (false≢true anew)
+
+-- what isn't durable may be left out
+left_out : (path : List ℕ) (event : DeviceEvent) (later : List DeviceEvent) (bag : Bag) → GivesAnew path event → is_synced (folder_of path) later ≡ false → MayBecome event later bag bag
+left_out path event later bag (inl made) none = subst (λ e. MayBecome e later bag bag) (sym made) (inr (inl (none, refl)))
+left_out path event later bag (inr (inl made)) none = subst (λ e. MayBecome e later bag bag) (sym made) (inr (inl (none, refl)))
+left_out path event later bag (inr (inr (inl (other, is)))) none = subst (λ e. MayBecome e later bag bag) (sym is) (inr (inl (ap (λ b. b && is_synced (folder_of other) later) none, refl)))
+left_out path event later bag (inr (inr (inr (other, is)))) none = subst (λ e. MayBecome e later bag bag) (sym is) (inr (inl (false_from_ne_true _ (λ both. false≢true (sym none ∙ (and_parts _ _ both).1)), refl)))
+
+pub syncs_are_of_the_new_file : SyncsAreOfTheNewFile
+syncs_are_of_the_new_file bag name path bytes found event there some within anew =
+    let missing = file_synced_after name event (Sync name ∷ []) (given_anew name path event some within anew) in
+    let filled = create name found bag in
+    (filled, inr (inl (missing, (found, any_bytes name found bag there))), (filled, left_out path event (Sync name ∷ []) filled anew refl, syncs_leave (Sync name ∷ []) filled (tt, tt)))
+
+-- a folder isn't the one that holds its name, or that of one above it
+shorter : (path : List ℕ) → path ≢ [] → length (folder_of path) < length path
+unfolding folder_of
+shorter [] some = absurd (some refl)
+shorter (c ∷ rest) some = elim (list_any is_slash rest) as (λ b. list_any is_slash rest ≡ b → length (cond b (c ∷ folder_of rest) []) < length (c ∷ rest)) [
+  | true ↦ λ has. let more = shorter rest (λ none. false≢true (ap (list_any is_slash) (sym none) ∙ has)) in omega (arith, more)
+  | false ↦ λ _. omega arith
+] refl
+
+within_longer : (path name : List ℕ) → IsWithin path name → length path ≤ length name
+within_longer path name (inl same) = omega (arith, ap length same)
+within_longer path name (inr (rest, below)) = omega (arith, ap length below, length-append path (slash ∷ rest))
+
+holds_other : (path folder : List ℕ) → folder ≢ [] → is_within path folder ≡ true → bytes_eq folder (folder_of path) ≡ false
+holds_other path folder some within = other_name folder (folder_of path) (λ same.
+    let long = within_longer path folder (within_cases path folder within) in
+    absurd (by_case path folder some within long same))
   where
-    on_way : (name : List ℕ) → is_base_name name ≡ true → is_on_way name name ≡ true
-    on_way [] is = absurd (false≢true is)
-    on_way (c ∷ name) is = itself_within (c ∷ name)
+    by_case : (path folder : List ℕ) → folder ≢ [] → is_within path folder ≡ true → length path ≤ length folder → folder ≡ folder_of path → ⊥
+    by_case [] folder some within long same = some (same ∙ without_slash [] refl)
+    by_case (c ∷ path) folder some within long same = let less = shorter (c ∷ path) (λ none. cc) in omega (arith, less, long, ap length same)
+
+pub syncs_are_of_the_new_folder : SyncsAreOfTheNewFolder
+syncs_are_of_the_new_folder bag folder name path event some is within anew =
+    let syncs = SyncFolder folder ∷ [] in
+    let missing = ap (λ f. is_synced f (event ∷ syncs)) (in_folder_of folder name is) ∙ synced_after_it folder event syncs (given_anew folder path event some within anew) in
+    let other = ap (λ b. b || false) (holds_other path folder some within) in
+    (bag, inr (inl (missing, refl)), (bag, left_out path event syncs bag anew other, syncs_leave syncs bag (tt, tt)))

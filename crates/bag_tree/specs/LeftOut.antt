@@ -1,9 +1,10 @@
 -- What a power cut may leave where a sync is left out, whatever else is synced.
-use Rattle.std.specs.Prelude.{ℕ, ◌≡◌, ◌++◌, false, IsTrue, Contains, List, [], ◌∷◌, map}
+use Rattle.std.specs.Prelude.{ℕ, ◌≡◌, ◌≢◌, ◌⊎◌, ◌++◌, false, IsTrue, Contains, List, [], ◌∷◌, map}
 use Rattle.bag_text.specs.Path.{is_base_name, under}
 use Rattle.bag_tree.specs.Asked.{AreSyncs}
 use Rattle.bag_tree.specs.Bag.{Bag, HasFile, has_file}
 use Rattle.bag_tree.specs.Cut.{MayLeave, folder_of, is_there, lose}
+use Rattle.bag_tree.specs.Moved.{is_within}
 use Rattle.bag_tree.specs.Steps.{create}
 use Rattle.bag_tree.specs.declared.event.DeviceEvent.{DeviceEvent}
 use Rattle.bag_tree.specs.declared.event.DeviceEvent.TheVariants.{MakeFolder, Rename, Create}
@@ -43,8 +44,24 @@ BytesMayBeAny =
     → HasFile bag name → AreSyncsWithout (Sync name) syncs
     → MayLeave (Write name bytes ∷ syncs) bag (create name found bag)
 
--- a sync makes nothing durable that was written before another file was given the name
-abbrev pub SyncsAreOfTheFileThere : Type 0
-SyncsAreOfTheFileThere =
-    (bag : Bag) (name other bytes found : List ℕ) → IsTrue (is_base_name name) → HasFile bag name
-    → MayLeave (Write name bytes ∷ Rename other name ∷ Sync name ∷ []) bag (create name found bag)
+-- this event gives a path to another file or folder, or takes it from one
+abbrev pub GivesAnew : List ℕ → DeviceEvent → Type 0
+GivesAnew path event =
+    (event ≡ MakeFolder path) ⊎ (event ≡ Create path)
+    ⊎ ((other : List ℕ) × (event ≡ Rename path other))
+    ⊎ ((other : List ℕ) × (event ≡ Rename other path))
+
+-- A sync of a file makes nothing durable that was written before its path, or one above it, was given
+-- anew: the older file may hold any bytes.
+abbrev pub SyncsAreOfTheNewFile : Type 0
+SyncsAreOfTheNewFile =
+    (bag : Bag) (name path bytes found : List ℕ) (event : DeviceEvent)
+    → HasFile bag name → name ≢ [] → IsTrue (is_within path name) → GivesAnew path event
+    → MayLeave (Write name bytes ∷ event ∷ Sync name ∷ []) bag (create name found bag)
+
+-- and a sync of a folder no name: the file that was made in the older one may be missing
+abbrev pub SyncsAreOfTheNewFolder : Type 0
+SyncsAreOfTheNewFolder =
+    (bag : Bag) (folder name path : List ℕ) (event : DeviceEvent)
+    → folder ≢ [] → IsTrue (is_base_name name) → IsTrue (is_within path folder) → GivesAnew path event
+    → MayLeave (Create (under folder name) ∷ event ∷ SyncFolder folder ∷ []) bag bag

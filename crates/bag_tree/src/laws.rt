@@ -20,5 +20,6 @@ pub fn what_is_not_synced_may_be_lost()
     ensures renames { left_out.RenamesMayBeUndone }
     ensures files { left_out.FilesMayBeMissing }
     ensures bytes { left_out.BytesMayBeAny }
-    ensures replaced { left_out.SyncsAreOfTheFileThere }
+    ensures new_file { left_out.SyncsAreOfTheNewFile }
+    ensures new_folder { left_out.SyncsAreOfTheNewFolder }
 {}

@@ -13,5 +13,8 @@ returns-clause-files c = left_out.files_may_be_missing
 pub returns-clause-bytes : goal.returns-clause-bytes
 returns-clause-bytes c = left_out.bytes_may_be_any
 
-pub returns-clause-replaced : goal.returns-clause-replaced
-returns-clause-replaced c = left_out.syncs_are_of_the_file_there
+pub returns-clause-new_file : goal.returns-clause-new_file
+returns-clause-new_file c = left_out.syncs_are_of_the_new_file
+
+pub returns-clause-new_folder : goal.returns-clause-new_folder
+returns-clause-new_folder c = left_out.syncs_are_of_the_new_folder
