@@ -1,9 +1,8 @@
 -- The names in the base folder, and the folders that paths stand in.
-use Rattle.std.proofs.Common.{Bor, MatchOption, None, Option, Some, suc, drop, take, take-append-drop, lit<, ◌+◌, ◌≤◌, arith, ◌≡◌, ◌∙◌, ◌==◌, ◌<◌, ◌++◌, ℕ, Bool, true, false, not, All, List, [], ◌∷◌, length, refl, ap, sym}
+use Rattle.std.proofs.Common.{Bor, MatchOption, None, Option, Some, suc, drop, take, take-append-drop, lit<, ◌+◌, ◌≤◌, arith, ◌≡◌, ◌∙◌, ◌==◌, ◌<◌, ◌++◌, ℕ, Bool, true, false, not, All, List, [], ◌∷◌, length, ap, sym}
 use Rattle.std.proofs.lemmas.Bool.{and_from, eqb-true, false≢true, false_from_ne_true}
 use Rattle.std.proofs.lemmas.List.Sums.{passes_at_first, split_at_first}
-use Rattle.std.proofs.lemmas.List.{take_all}
-use Rattle.std.proofs.lemmas.List.Elements.{All-cons, All-head, All-nil, All-tail}
+use Rattle.std.proofs.lemmas.List.Elements.{All-cons, All-nil}
 use Rattle.std.proofs.lemmas.List.Splits.{slice_split_none}
 use Rattle.std.proofs.Math.Seq.{drop-cons}
 use Rattle.std.proofs.lemmas.Str.{len_utf8_ascii}
