@@ -6,10 +6,11 @@ BEFORE is the folder as it was, all of it on the disk; AFTER is the bag that it 
 the making, where the folder is `d`; PROGRAM checks what is left. There are two disks:
 
 - A strict one keeps what was synced, and of all else any part in any combination. A name is kept where each folder that
-  it is in or was in was synced after the change, and bytes where their file was. After a renaming a path means another
-  file or folder, so that a sync of it keeps nothing older. Each renaming is done whole or not at all, and replaces what
-  has the new name; what is moved into a folder that isn't there is lost. Bytes go to what has the path of their file, and
-  those that aren't kept may be any: here they are zeros, or end after any line or in the middle.
+  it is in or was in was synced after the change, and bytes where their file was. Once it or one above it was made or
+  renamed a path means another file or folder, so that a sync of it keeps nothing older. Each renaming is done whole or
+  not at all, and replaces what has the new name; what is moved into a folder that isn't there is lost. Bytes go to what
+  has the path of their file, and those that aren't kept may be any: here they are zeros, or end after any line or in the
+  middle.
 - One with a journal keeps the changes of names in their order, so that some first part of them is left. A sync writes the
   journal up to the last change of what is synced, and nothing where that didn't change: ext4 and XFS promise no more.
   Bytes are in no journal, and are kept as by the strict disk: a name may be on the disk before the bytes of its file.
@@ -125,7 +126,7 @@ def is_synced(path, later):
     for kind, *paths in later:
         if kind == "fsync" and paths == [path]:
             return True
-        if kind == "rename" and any(within(renamed, path) for renamed in paths):
+        if kind in NAMES and any(within(named, path) for named in paths):
             return False
     return False
 

@@ -1,12 +1,12 @@
 -- What each step leaves after it.
-use Rattle.bag_make.proofs.Common.{arith, ◌≡◌, ◌≢◌, ◌++◌, ◌∷◌, ◌⊎◌, ◌||◌, ℕ, inl, inr, Bool, true, false, not, cond, List, [], Some, None, is_some, drop, map, refl, ap, sym, ◌∙◌, subst, and_from, or_left, or_right, false≢true, false_from_ne_true, append-nil, append_assoc, contains-insert, contains-remove, list_any, bytes_eq, bytes_eq-Decides, exact_texts, from_any, one_text, nat_list_cmp_total, text_itself, slash, is_base_name, first_component, first-under, under, Bag, HasFile, file, files_of, has_folder, create, make_folder, move_in, rename_folder, is_within, not_within, under_within, within_cases, is_synced, is_file_synced, is_durable, AreSyncs, joined, AllByRecursion, HasAllFiles, is_in_the_way, new_folder, data_folder, after_steps, MoveIn}
+use Rattle.bag_make.proofs.Common.{arith, ◌≡◌, ◌≢◌, ◌++◌, ◌∷◌, ◌⊎◌, ◌||◌, ℕ, inl, inr, Bool, true, false, not, cond, List, [], Some, None, is_some, get_or, drop, map, refl, ap, sym, ◌∙◌, subst, and_from, or_left, or_right, false≢true, false_from_ne_true, append-nil, append_assoc, contains-insert, contains-remove, list_any, bytes_eq, bytes_eq-Decides, exact_texts, from_any, one_text, nat_list_cmp_total, text_itself, slash, is_base_name, first_component, first-under, under, Bag, HasFile, file, files_of, has_folder, create, make_folder, move_in, rename_folder, is_within, not_within, under_within, within_cases, is_synced, is_file_synced, is_durable, AreSyncs, joined, AllByRecursion, HasAllFiles, is_in_the_way, new_folder, data_folder, after_steps, MoveIn}
 use Rattle.std.specs.FinMap.{get-retain_keys}
-use Rattle.bag_tree.proofs.Events.{in_base, in_folder_of, other_name, same_name, done_make, done_move, done_rename, done_create, synced_front, synced_after, stays_under, held_under, done_write, done_write_is}
+use Rattle.bag_tree.proofs.Events.{base_there, folder_there, in_base, in_folder_of, same_name, done_make, done_move, done_rename, done_create, synced_front, synced_after, stays_under, held_under, done_write, done_write_is}
 use Rattle.bag_tree.proofs.Parents.{base_not_under}
 use Rattle.bag_tree.proofs.Runs as run
 use Rattle.bag_tree.proofs.Runs.{one_more, weaker, synced}
 use Rattle.bag_tree.proofs.Within.{IsWithin}
-use Rattle.bag_tree.specs.Cut.{done, hold, lose}
+use Rattle.bag_tree.specs.Cut.{done, hold, is_anew, is_on_way, lose}
 use Rattle.bag_tree.specs.Steps.{has_within}
 use Rattle.bag_tree.specs.declared.event.DeviceEvent.{DeviceEvent}
 use Rattle.bag_tree.specs.declared.event.DeviceEvent.TheVariants.{MakeFolder, Rename, Create, Write, Sync, SyncFolder}
@@ -75,8 +75,9 @@ module _ (bag : Bag) (free : is_in_the_way bag ≡ false) where
 
   pub make_step : (t : List DeviceEvent) → Reaches bag t (λ later d. d ≡ bag) → Reaches bag (t ++ MakeFolder new_folder ∷ []) IsMade
   make_step t so_far = one_more t (λ later d. d ≡ bag) IsMade (MakeFolder new_folder) so_far
-      (λ later d is. inl (ap (done (MakeFolder new_folder)) is ∙ done_make new_folder bag free))
-      (λ later d part is missing same. inr (same ∙ is, missing))
+      (λ later d is. inl (ap (done (MakeFolder new_folder)) is ∙ done_make new_folder bag refl free))
+      (λ later d part is missing same. inr (same ∙ is, sym (ap (λ f. is_synced f later) (in_base new_folder refl)) ∙ missing))
+      (λ later d left is lost. absurd (false≢true (sym lost.0 ∙ base_there d new_folder refl)))
       made_whole
 
   -- some names are moved, none of those that are left, and all that were asked for once both folders are synced
@@ -157,6 +158,21 @@ module _ (bag : Bag) (free : is_in_the_way bag ≡ false) where
   other_left t top left once has = false_from_ne_true _ (λ same.
       false≢true (sym once ∙ ap (λ x. list_any (bytes_eq x) left) (sym ((bytes_eq-Decides t top).0 same)) ∙ has))
 
+  -- the folder keeps its meaning when a name is moved into it
+  not_on_way : (top : List ℕ) → IsTop top → is_anew new_folder (Rename top (under new_folder top)) ≡ false
+  not_on_way top is = ap (λ b. b || is_on_way new_folder (under new_folder top)) (not_within top new_folder (no_top top is)) ∙ not_within (under new_folder top) new_folder (no_way top)
+    where
+      no_top : (top : List ℕ) → IsTop top → IsWithin top new_folder → ⊥
+      no_top top is (inl at) = is.1 (sym at)
+      no_top top is (inr (rest, below)) = base_not_under new_folder top rest refl below
+
+      no_way : (top : List ℕ) → IsWithin (under new_folder top) new_folder → ⊥
+      no_way top (inl at) = base_not_under new_folder new_folder top refl at
+      no_way top (inr (rest, below)) = base_not_under new_folder new_folder (top ++ slash ∷ rest) refl (below ∙ append_assoc new_folder (slash ∷ top) (slash ∷ rest))
+
+  other_folder : new_folder ≢ data_folder
+  other_folder same = absurd (omega (arith, ap (λ t. get_or t 0 0) same))
+
   abbrev move_event : List ℕ → DeviceEvent
   move_event top = Rename top (under new_folder top)
 
@@ -171,7 +187,7 @@ module _ (bag : Bag) (free : is_in_the_way bag ≡ false) where
           (λ p has. goes_on was.moved top p is) (apart bag free (with_name was.moved top));
       there = still_there top d is was.there;
       unmoved = λ t has. (λ i. was.unmoved t (or_right (bytes_eq t top) _ has) i || other_left t top left once has i);
-      durable = λ base new. ap (move_in top new_folder) (was.durable base (rw (other_name top new_folder is.1) new));
+      durable = λ base new. ap (move_in top new_folder) (was.durable base (rw (not_on_way top is) new));
     }
 
     not_moved : (later : List DeviceEvent) (d : Bag) → IsMoving (top ∷ left) actual (move_event top ∷ later) d → is_durable (move_event top) later ≡ false
@@ -181,7 +197,7 @@ module _ (bag : Bag) (free : is_in_the_way bag ≡ false) where
       placed = was.placed;
       there = was.there;
       unmoved = λ t has. was.unmoved t (or_right (bytes_eq t top) _ has);
-      durable = λ base new. absurd (false≢true (sym missing ∙ and_from _ _ (ap (λ f. is_synced f later) (in_base top is.0) ∙ base) (ap (λ f. is_synced f later) (in_folder_of new_folder top refl) ∙ new)));
+      durable = λ base new. absurd (false≢true (sym missing ∙ and_from _ _ (ap (λ f. is_synced f later) (in_base top is.0) ∙ base) (ap (λ f. is_synced f later) (in_folder_of new_folder top is.0) ∙ new)));
     }
 
     -- a move
@@ -190,8 +206,9 @@ module _ (bag : Bag) (free : is_in_the_way bag ≡ false) where
     move_step t so_far =
         one_more t (IsMoving (top ∷ left) actual) (IsMoving left (move_in top new_folder actual)) (move_event top) so_far
         (λ later d was. subst (IsMoving left (move_in top new_folder actual) later)
-        (sym (done_move top new_folder d refl was.there (clear was.moved top d is was.placed (top_unmoved (move_event top ∷ later) d was)))) (moved_on later d was))
+        (sym (done_move top new_folder d is.0 (clear was.moved top d is was.placed (top_unmoved (move_event top ∷ later) d was)))) (moved_on later d was))
         (λ later d part was missing same. subst (IsMoving left (move_in top new_folder actual) later) (sym same) (not_moved later d was missing))
+        (λ later d lost was missing. absurd (false≢true (sym missing.0 ∙ folder_there d new_folder top is.0 was.there)))
         (moving_whole left (move_in top new_folder actual))
 
   -- all moves are durable
@@ -215,12 +232,13 @@ module _ (bag : Bag) (free : is_in_the_way bag ≡ false) where
   rename_step actual t there none new data_ so_far =
       one_more t (λ later d. d ≡ actual) (IsNamed (rename_folder new_folder data_folder actual)) (Rename new_folder data_folder) so_far
       (λ later d is.
-      let now : done (Rename new_folder data_folder) d ≡ rename_folder new_folder data_folder actual = done_rename new_folder data_folder d refl (ap (λ b. has_folder b new_folder) is ∙ there) (ap (λ b. has_within b data_folder) is ∙ none) ∙ ap (rename_folder new_folder data_folder) is in
+      let now : done (Rename new_folder data_folder) d ≡ rename_folder new_folder data_folder actual = done_rename new_folder data_folder d other_folder refl (ap (λ b. has_folder b new_folder) is ∙ there) (ap (λ b. has_within b data_folder) is ∙ none) ∙ ap (rename_folder new_folder data_folder) is in
       record { all = inr (subst (AllIn data_folder bag) (sym now) data_); durable = λ _. now })
       (λ later d part is missing same. record {
         all = inl (subst (AllIn new_folder bag) (sym (same ∙ is)) new);
         durable = λ base. absurd (false≢true (sym missing ∙ and_from _ _ (ap (λ f. is_synced f later) (in_base new_folder refl) ∙ base) (ap (λ f. is_synced f later) (in_base data_folder refl) ∙ base)));
       })
+      (λ later d left is lost. absurd (false≢true (sym lost.0 ∙ base_there d data_folder refl)))
       (named_whole (rename_folder new_folder data_folder actual))
 
   pub named_synced : (actual : Bag) (t es : List DeviceEvent) → Reaches bag t (IsNamed actual) → AreSyncs es → Reaches bag (t ++ es) (IsNamed actual)
@@ -256,7 +274,8 @@ module _ (bag : Bag) (free : is_in_the_way bag ≡ false) where
         all = created_all name [] (lose name d) is.0 (lost_all name d is was.all);
         durable = λ base file_synced. ap (λ b. create name [] (lose name b)) (was.durable base);
       }))
-      (λ later d part was missing same. record { all = subst (AllInOne bag) (sym same) was.all; durable = λ base file_synced. absurd (false≢true (sym missing ∙ base)) })
+      (λ later d part was missing same. record { all = subst (AllInOne bag) (sym same) was.all; durable = λ base file_synced. absurd (false≢true (sym missing ∙ ap (λ f. is_synced f later) (in_base name is.0) ∙ base)) })
+      (λ later d left was lost. absurd (false≢true (sym lost.0 ∙ base_there d name is.0)))
       (writing_whole name [] (lose name actual))
 
   pub write_step : (actual : Bag) (t : List DeviceEvent) (name text piece : List ℕ) → is_base_name name ≡ true → Reaches bag t (IsWriting name text actual)
@@ -271,6 +290,7 @@ module _ (bag : Bag) (free : is_in_the_way bag ≡ false) where
         all = subst (AllInOne bag) (sym some.1) (held_all name some.0 d is was.all);
         durable = λ base file_synced. absurd (false≢true (sym missing ∙ file_synced));
       })
+      (λ later d left was lost. absurd lost)
       (writing_whole name (text ++ piece) actual)
 
   pub write_steps : (actual : Bag) (name : List ℕ) (is : is_base_name name ≡ true) (pieces : List (List ℕ)) (t : List DeviceEvent) (text : List ℕ) → Reaches bag t (IsWriting name text actual)

@@ -1,6 +1,6 @@
 -- What single events do, and what makes them durable.
-use Rattle.bag_tree.proofs.Common.{arith, ◌≡◌, ◌++◌, ◌∷◌, ℕ, inl, inr, true, false, cond, List, [], Some, bytes_eq, bytes_eq-Decides, refl, ap, ◌∙◌, and_from, and_parts, or_right, false≢true, get-insert, nat_list_cmp_total, is_base_name, under, file}
-use Rattle.std.proofs.Common.{◌≢◌, ◌&&◌, not, Bool, Option, None, sym}
+use Rattle.bag_tree.proofs.Common.{arith, ◌≡◌, ◌++◌, ◌∷◌, ℕ, inl, inr, true, false, cond, List, [], Some, bytes_eq, bytes_eq-Decides, refl, ap, ◌∙◌, and_from, and_parts, or_right, false≢true, get-insert, nat_list_cmp_total, is_base_name, slash, under, file}
+use Rattle.std.proofs.Common.{◌≢◌, ◌&&◌, ◌||◌, not, Bool, Option, None, sym}
 use Rattle.std.proofs.lemmas.Bool.{or_cases, or_left, false_from_ne_true}
 use Rattle.std.specs.FinMap as fin
 use Rattle.std.specs.FinMap.{find}
@@ -9,26 +9,53 @@ use Rattle.std.specs.FinSet.{contains-insert, contains-remove, same_set}
 use Rattle.std.specs.List.{list_any}
 use Rattle.std.specs.Ordering.{eq_by_cmp}
 use Rattle.bag_text.specs.Text.{text_cmp}
-use Rattle.bag_tree.proofs.Parents.{base_not_under, first-under}
+use Rattle.bag_tree.proofs.Parents.{base_not_under, is_slash, name_has_no_slash}
 use Rattle.bag_tree.proofs.SameText.{exact_texts, one_text, text_itself}
 use Rattle.bag_tree.specs.Asked.{AreSyncs, IsSync, has_durable_folders, is_named}
 use Rattle.bag_tree.specs.Bag.{Bag, has_file, has_folder}
-use Rattle.bag_tree.specs.Cut.{done, folder_of, hold, is_durable, is_file_synced, is_synced, is_there, lose, rename, without}
+use Rattle.bag_tree.specs.Cut.{IsLost, appended, done, folder_of, has_below, hold, is_durable, is_file_synced, is_synced, is_there, lose, rename, without}
 use Rattle.bag_tree.specs.Moved.{is_within, moved}
 use Rattle.bag_tree.specs.Steps.{create, has_within, make_folder, move_in, rename_folder}
 use Rattle.bag_tree.specs.declared.event.DeviceEvent.{DeviceEvent}
 use Rattle.bag_tree.specs.declared.event.DeviceEvent.TheVariants.{MakeFolder, Rename, Create, Write, Sync, SyncFolder}
 
+or_false : (a b : Bool) → (a || b) ≡ false → b ≡ false
+or_false a b none = grind arith
+
+known : (d : Bag) (folder : List ℕ) → has_folder d folder ≡ true → is_there d folder ≡ true
+known d folder there = or_left _ (has_below d folder) (or_right (bytes_eq folder []) _ there)
+
 pub not_base : (folder rest : List ℕ) → is_base_name (under folder rest) ≡ false
 not_base folder rest = false_from_ne_true _ (λ is. base_not_under (under folder rest) folder rest is refl)
 
-pub in_base : (name : List ℕ) → is_base_name name ≡ true → folder_of name ≡ []
+-- a path without a slash is in the base folder, and one with a last slash in the folder before it
+pub without_slash : (path : List ℕ) → list_any is_slash path ≡ false → folder_of path ≡ []
 unfolding folder_of
-in_base name is = rw is refl
+without_slash [] none = refl
+without_slash (c ∷ rest) none = ap (λ b. cond b (c ∷ folder_of rest) []) (or_false (is_slash c) (list_any is_slash rest) none)
 
-pub in_folder_of : (folder rest : List ℕ) → is_base_name folder ≡ true → folder_of (under folder rest) ≡ folder
+has_slash : (front back : List ℕ) → list_any is_slash (front ++ slash ∷ back) ≡ true
+has_slash [] back = refl
+has_slash (c ∷ front) back = or_right (is_slash c) _ (has_slash front back)
+
+pub before_last : (front back : List ℕ) → list_any is_slash back ≡ false → folder_of (front ++ slash ∷ back) ≡ front
 unfolding folder_of
-in_folder_of folder rest is = rw (not_base folder rest) (first-under folder rest is)
+before_last [] back none = ap (λ b. cond b (slash ∷ folder_of back) []) none
+before_last (c ∷ front) back none =
+    ap (λ b. cond b (c ∷ folder_of (front ++ slash ∷ back)) []) (has_slash front back) ∙ ap (λ f. c ∷ f) (before_last front back none)
+
+pub in_base : (name : List ℕ) → is_base_name name ≡ true → folder_of name ≡ []
+in_base name is = without_slash name (name_has_no_slash name is)
+
+pub in_folder_of : (folder name : List ℕ) → is_base_name name ≡ true → folder_of (under folder name) ≡ folder
+in_folder_of folder name is = before_last folder name (name_has_no_slash name is)
+
+-- the base folder is there, and the folders that a bag tells of
+pub base_there : (d : Bag) (name : List ℕ) → is_base_name name ≡ true → is_there d (folder_of name) ≡ true
+base_there d name is = ap (is_there d) (in_base name is)
+
+pub folder_there : (d : Bag) (folder name : List ℕ) → is_base_name name ≡ true → has_folder d folder ≡ true → is_there d (folder_of (under folder name)) ≡ true
+folder_there d folder name is there = ap (is_there d) (in_folder_of folder name is) ∙ known d folder there
 
 pub other_name : (name folder : List ℕ) → name ≢ folder → bytes_eq name folder ≡ false
 other_name name folder apart = grind (arith, bytes_eq-Decides)
@@ -60,32 +87,35 @@ nothing_lost d path none = fin.same_map nat_list_cmp_total exact_texts (without 
     stays q true within None at = refl
     stays q true within (Some c) at = absurd (false≢true (sym none ∙ file_within d path q c at within))
 
-pub done_make : (name : List ℕ) (d : Bag) → has_within d name ≡ false → done (MakeFolder name) d ≡ make_folder name d
+pub done_make : (name : List ℕ) (d : Bag) → is_base_name name ≡ true → has_within d name ≡ false → done (MakeFolder name) d ≡ make_folder name d
 unfolding done lose
-done_make name d none =
+done_make name d is none =
     let files = nothing_lost d name none in
     let folders = same_set nat_list_cmp_total exact_texts (set.insert (set.remove d.folders name) name) (set.insert d.folders name) (λ q.
     grind (arith, contains-insert nat_list_cmp_total (set.remove d.folders name) name q, contains-remove nat_list_cmp_total d.folders name q, contains-insert nat_list_cmp_total d.folders name q)) in
-    (λ i. record { files = files i; folders = folders i })
+    rw is (λ i. record { files = files i; folders = folders i })
 
-pub done_move : (top folder : List ℕ) (d : Bag) → is_base_name folder ≡ true → has_folder d folder ≡ true → has_within d (under folder top) ≡ false
+-- where a name is another one
+apart : (from to : List ℕ) (d : Bag) → from ≢ to → done (Rename from to) d ≡ rename from to d
+unfolding done
+apart from to d other = ap (λ b. cond b d (rename from to d)) (other_name from to other)
+
+pub done_move : (top folder : List ℕ) (d : Bag) → is_base_name top ≡ true → has_within d (under folder top) ≡ false
     → done (Rename top (under folder top)) d ≡ move_in top folder d
-unfolding done rename
-done_move top folder d is there none =
-    let at : is_there d (folder_of (under folder top)) ≡ true = ap (is_there d) (in_folder_of folder top is) ∙ or_right (bytes_eq folder []) _ there in
+unfolding rename
+done_move top folder d is none =
     let files = ap (moved top (under folder top)) (nothing_lost d (under folder top) none) in
-    let kind = ap (λ b. set.remove (cond b (cond (has_folder d top) (set.insert d.folders (under folder top)) (set.remove d.folders (under folder top))) d.folders) top) (not_base folder top) in
-    rw at (λ i. record { files = files i; folders = kind i })
+    let kind = ap (λ b. set.remove (cond b (cond (is_there d top) (set.insert d.folders (under folder top)) (set.remove d.folders (under folder top))) d.folders) top) (not_base folder top) in
+    apart top (under folder top) d (base_not_under top folder top is) ∙ (λ i. record { files = files i; folders = kind i })
 
-pub done_rename : (from to : List ℕ) (d : Bag) → is_base_name to ≡ true → has_folder d from ≡ true → has_within d to ≡ false
+pub done_rename : (from to : List ℕ) (d : Bag) → from ≢ to → is_base_name to ≡ true → has_folder d from ≡ true → has_within d to ≡ false
     → done (Rename from to) d ≡ rename_folder from to d
-unfolding done rename
-done_rename from to d is there none =
-    let at : is_there d (folder_of to) ≡ true = ap (is_there d) (in_base to is) in
+unfolding rename
+done_rename from to d other is there none =
     let files = ap (moved from to) (nothing_lost d to none) in
-    let base = ap (λ b. set.remove (cond b (cond (has_folder d from) (set.insert d.folders to) (set.remove d.folders to)) d.folders) from) is in
-    let kind = base ∙ ap (λ b. set.remove (cond b (set.insert d.folders to) (set.remove d.folders to)) from) there in
-    rw at (λ i. record { files = files i; folders = kind i })
+    let base = ap (λ b. set.remove (cond b (cond (is_there d from) (set.insert d.folders to) (set.remove d.folders to)) d.folders) from) is in
+    let kind = base ∙ ap (λ b. set.remove (cond b (set.insert d.folders to) (set.remove d.folders to)) from) (known d from there) in
+    apart from to d other ∙ (λ i. record { files = files i; folders = kind i })
 
 pub done_create : (name : List ℕ) (d : Bag) → done (Create name) d ≡ create name [] (lose name d)
 unfolding done
@@ -102,6 +132,11 @@ nothing_named name d none absent =
       | false ↦ λ _. refl
     ] refl) in
     (λ i. record { files = files i; folders = folders i })
+
+-- no bytes are written to a file that isn't there
+pub no_bytes : (name bytes : List ℕ) (d : Bag) → has_file d name ≡ false → done (Write name bytes) d ≡ d
+unfolding done
+no_bytes name bytes d none = ap (λ b. cond b (create name (appended (file d name) bytes) d) d) none
 
 -- a sync does nothing, and is durable
 pub done_sync : (e : DeviceEvent) (d : Bag) → IsSync e → done e d ≡ d
@@ -121,13 +156,21 @@ sync_durable (Rename from to) later is missing = is
 sync_durable (Create name) later is missing = is
 sync_durable (Write name bytes) later is missing = is
 
+pub sync_lost : (e : DeviceEvent) (d left : Bag) → IsSync e → IsLost e d left → ⊥
+sync_lost (Sync name) d left is lost = lost
+sync_lost (SyncFolder name) d left is lost = lost
+sync_lost (MakeFolder name) d left is lost = is
+sync_lost (Rename from to) d left is lost = is
+sync_lost (Create name) d left is lost = is
+sync_lost (Write name bytes) d left is lost = is
+
 -- a folder that was synced is so whatever follows
 pub synced_front : (folder : List ℕ) (es later : List DeviceEvent) → is_synced folder es ≡ true → is_synced folder (es ++ later) ≡ true
 synced_front folder [] later is = absurd (false≢true is)
 synced_front folder (SyncFolder f ∷ es) later is = elim (or_cases (bytes_eq f folder) (is_synced folder es) is) [ inl a ↦ or_left _ _ a | inr b ↦ or_right (bytes_eq f folder) _ (synced_front folder es later b) ]
 synced_front folder (Rename from to ∷ es) later is = let two = and_parts _ _ is in and_from _ _ two.0 (synced_front folder es later two.1)
-synced_front folder (MakeFolder name ∷ es) later is = synced_front folder es later is
-synced_front folder (Create name ∷ es) later is = synced_front folder es later is
+synced_front folder (MakeFolder name ∷ es) later is = let two = and_parts _ _ is in and_from _ _ two.0 (synced_front folder es later two.1)
+synced_front folder (Create name ∷ es) later is = let two = and_parts _ _ is in and_from _ _ two.0 (synced_front folder es later two.1)
 synced_front folder (Write name bytes ∷ es) later is = synced_front folder es later is
 synced_front folder (Sync name ∷ es) later is = synced_front folder es later is
 
@@ -136,15 +179,15 @@ file_synced_front name [] later is = absurd (false≢true is)
 file_synced_front name (Sync n ∷ es) later is = elim (or_cases (bytes_eq n name) (is_file_synced name es) is) [ inl a ↦ or_left _ _ a | inr b ↦ or_right (bytes_eq n name) _ (file_synced_front name es later b) ]
 file_synced_front name (Rename from to ∷ es) later is = let two = and_parts _ _ is in and_from _ _ two.0 (file_synced_front name es later two.1)
 file_synced_front name (SyncFolder f ∷ es) later is = file_synced_front name es later is
-file_synced_front name (MakeFolder n ∷ es) later is = file_synced_front name es later is
-file_synced_front name (Create n ∷ es) later is = file_synced_front name es later is
+file_synced_front name (MakeFolder n ∷ es) later is = let two = and_parts _ _ is in and_from _ _ two.0 (file_synced_front name es later two.1)
+file_synced_front name (Create n ∷ es) later is = let two = and_parts _ _ is in and_from _ _ two.0 (file_synced_front name es later two.1)
 file_synced_front name (Write n bytes ∷ es) later is = file_synced_front name es later is
 
 -- what is durable stays so
 pub durable_front : (e : DeviceEvent) (es later : List DeviceEvent) → is_durable e es ≡ true → is_durable e (es ++ later) ≡ true
-durable_front (MakeFolder name) es later is = synced_front [] es later is
+durable_front (MakeFolder name) es later is = synced_front (folder_of name) es later is
 durable_front (Rename from to) es later is = let two = and_parts _ _ is in and_from _ _ (synced_front (folder_of from) es later two.0) (synced_front (folder_of to) es later two.1)
-durable_front (Create name) es later is = synced_front [] es later is
+durable_front (Create name) es later is = synced_front (folder_of name) es later is
 durable_front (Write name bytes) es later is = file_synced_front name es later is
 durable_front (Sync name) es later is = refl
 durable_front (SyncFolder folder) es later is = refl

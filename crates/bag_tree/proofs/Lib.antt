@@ -3,6 +3,7 @@ pub mod Calm
 pub mod Common
 pub mod Events
 pub mod HashValues
+pub mod LeftOut
 pub mod ListingLaw
 pub mod Moving
 pub mod Parents

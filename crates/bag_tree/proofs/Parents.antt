@@ -1,6 +1,7 @@
 -- The folder that a path stands in.
 use Rattle.bag_tree.proofs.Common.{◌≡◌, ℕ, ◌+◌, ◌<◌, ◌≤◌, ◌==◌, Bool, true, false, IsUtf8, List, [], ◌∷◌, ◌++◌, append_assoc, front_rest, length, length-append, drop, take, nat_lt, subst, add_comm, add-one, refl, ap, ◌∙◌, arith, ⊎_elim, position_or_len, before_first, and_parts, and_from, ltb-true, lt-ltb, cases_lt, eqb-true, All-head, All-tail, slash, components, is_path, is_base_name, first_component, under}
 use Rattle.std.proofs.Common.{All}
+use Rattle.std.specs.List.{list_any}
 use Rattle.std.proofs.Math.Seq.{get_or-append_seam}
 use Rattle.std.proofs.lemmas.List.Splits.{slice_split_none, slice_split_at, slice_split_first, length-slice_split}
 use Rattle.std.proofs.lemmas.List.Sums.{passes_at_first, fails_before_first}
@@ -34,6 +35,13 @@ parted path place = grind (arith, slice_split_first, length-slice_split)
 -- a name has no slash
 pub name_has_none : (name : List ℕ) → is_base_name name ≡ true → All (λ c. is_slash c ≡ false) name
 name_has_none name is = grind (arith, eqb-true, and_parts, ⊎_elim, parted, none_until, cases_lt)
+
+pub any_fails : (xs : List ℕ) → All (λ c. is_slash c ≡ false) xs → list_any is_slash xs ≡ false
+any_fails [] none = refl
+any_fails (x ∷ xs) none = let head = All-head (λ c. is_slash c ≡ false) x xs none in let tail = any_fails xs (All-tail (λ c. is_slash c ≡ false) x xs none) in grind arith
+
+pub name_has_no_slash : (name : List ℕ) → is_base_name name ≡ true → list_any is_slash name ≡ false
+name_has_no_slash name is = any_fails name (name_has_none name is)
 
 -- so it is no path in a folder
 pub base_not_under : (name folder rest : List ℕ) → is_base_name name ≡ true → name ≡ under folder rest → ⊥

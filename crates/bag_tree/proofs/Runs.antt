@@ -1,10 +1,10 @@
 -- How a run of events goes on.
 use Rattle.std.proofs.Common.{◌≡◌, ◌++◌, inl, inr, ⊎_elim, false, List, [], ◌∷◌, ◌⊎◌, refl, sym, ◌∙◌, subst, append-nil, append_assoc}
 use Rattle.std.proofs.lemmas.Bool.{false_from_ne_true, false≢true}
-use Rattle.bag_tree.proofs.Events.{done_sync, durable_front, sync_durable}
+use Rattle.bag_tree.proofs.Events.{done_sync, durable_front, sync_durable, sync_lost}
 use Rattle.bag_tree.specs.Asked.{AreSyncs}
 use Rattle.bag_tree.specs.Bag.{Bag}
-use Rattle.bag_tree.specs.Cut.{IsPart, MayLeave, done, is_durable}
+use Rattle.bag_tree.specs.Cut.{IsLost, IsPart, MayBecome, MayLeave, done, is_durable}
 use Rattle.bag_tree.specs.declared.event.DeviceEvent.{DeviceEvent}
 
 -- What is left after these events has Q, by the events that come later: and at each moment it had P.
@@ -43,14 +43,20 @@ module _ {P : Bag → Type 0} {bag : Bag} where
   pub one_more : (trail : List DeviceEvent) (Q R : List DeviceEvent → Bag → Type 0) (e : DeviceEvent) → Reaches P bag trail Q
       → ((later : List DeviceEvent) (d : Bag) → Q (e ∷ later) d → R later (done e d))
       → ((later : List DeviceEvent) (d part : Bag) → Q (e ∷ later) d → is_durable e later ≡ false → IsPart e d part → R later part)
+      → ((later : List DeviceEvent) (d left : Bag) → Q (e ∷ later) d → IsLost e d left → R later left)
       → ((later : List DeviceEvent) (d : Bag) → R later d → P d)
       → Reaches P bag (trail ++ e ∷ []) R
-  one_more trail Q R e so_far made part whole = record { each = each; on = on; whole = whole }
+  one_more trail Q R e so_far made part lost whole = record { each = each; on = on; whole = whole }
     where
+      becomes : (later : List DeviceEvent) (d next : Bag) → Q (e ∷ later) d → MayBecome e later d next → R later next
+      becomes later d next q (inl is) = subst (R later) (sym is) (made later d q)
+      becomes later d next q (inr (inl (missing, is))) = part later d next q missing is
+      becomes later d next q (inr (inr is)) = lost later d next q is
+
       on : (later : List DeviceEvent) (left : Bag) → MayLeave ((trail ++ e ∷ []) ++ later) bag left → (d : Bag) × R later d × MayLeave later d left
       on later left may =
           let from = so_far.on (e ∷ later) left (subst (λ es. MayLeave es bag left) (append_assoc trail (e ∷ []) later) may) in
-          ⊎_elim (λ all. (done e from.0, made later from.0 from.1, all)) (λ some. (some.1.0, part later from.0 some.1.0 from.1 some.0 some.1.1, some.1.2)) from.2
+          (from.2.0, becomes later from.0 from.2.0 from.1 from.2.1, from.2.2)
 
       each : (before after : List DeviceEvent) → trail ++ e ∷ [] ≡ before ++ after → (left : Bag) → MayLeave before bag left → P left
       each before after is left may = ⊎_elim
@@ -73,13 +79,17 @@ module _ {P : Bag → Type 0} {bag : Bag} where
       let one = one_more trail Q (λ later d. Q (e ∷ later) d) e so_far
       (λ later d q. subst (Q (e ∷ later)) (sym (done_sync e d are.0)) q)
       (λ later d part q missing is. absurd (sync_durable e later are.0 missing))
+      (λ later d left q lost. absurd (sync_lost e d left are.0 lost))
       (λ later d q. so_far.whole (e ∷ later) d q) in
       subst (λ t. Reaches P bag t (λ later d. Q (e ∷ (es ++ later)) d)) (append_assoc trail (e ∷ []) es) (synced es (trail ++ e ∷ []) (λ later d. Q (e ∷ later) d) one are.1)
 
 -- what is left after some events was left after the first of them, and then after the others
 pub left_between : (front back : List DeviceEvent) (first left : Bag) → MayLeave (front ++ back) first left → (d : Bag) × MayLeave front first d × MayLeave back d left
 left_between [] back first left may = (first, refl, may)
-left_between (e ∷ front) back first left (inl all) = let more = left_between front back (done e first) left all in (more.0, inl more.1, more.2)
-left_between (e ∷ front) back first left (inr (missing, (some, is, may))) =
-    let more = left_between front back some left may in
-    (more.0, inr (false_from_ne_true _ (λ durable. false≢true (sym missing ∙ durable_front e front back durable)), (some, is, more.1)), more.2)
+left_between (e ∷ front) back first left (next, becomes, may) =
+    let more = left_between front back next left may in (more.0, (next, sooner becomes, more.1), more.2)
+  where
+    sooner : MayBecome e (front ++ back) first next → MayBecome e front first next
+    sooner (inl all) = inl all
+    sooner (inr (inl (missing, part))) = inr (inl (false_from_ne_true _ (λ durable. false≢true (sym missing ∙ durable_front e front back durable)), part))
+    sooner (inr (inr lost)) = inr (inr lost)

@@ -23,7 +23,7 @@ is_named (MakeFolder name) = true
 is_named (Rename from to) = is_base_name to
 is_named event = false
 
--- each name that these events gave a folder of the base folder is durable
+-- The base folder is synced after each of these events that gave a folder of it its name.
 abbrev pub has_durable_folders : List DeviceEvent → Bool
 has_durable_folders [] = true
 has_durable_folders (event ∷ later) =

@@ -1,24 +1,32 @@
 -- What a power cut may leave of a base folder, by what its device did.
-use Rattle.std.specs.Prelude.{ℕ, ◌≡◌, ◌++◌, ◌&&◌, ◌||◌, ◌⊎◌, not, Bool, true, false, List, [], ◌∷◌}
-use Rattle.std.specs.Prelude.{Option, Some, None, bytes_eq, if◌then◌else◌}
+use Rattle.std.specs.Prelude.{ℕ, ◌≡◌, ◌++◌, ◌==◌, ◌&&◌, ◌||◌, ◌⊎◌, not, Bool, true, false}
+use Rattle.std.specs.Prelude.{List, [], ◌∷◌, Option, Some, None, bytes_eq, nat_eq, if◌then◌else◌}
+use Rattle.std.specs.List.{list_any, starts_with}
 use Rattle.std.specs.FinMap as fin
 use Rattle.std.specs.FinSet as set
-use Rattle.bag_text.specs.Path.{is_base_name, first_component}
+use Rattle.bag_text.specs.Path.{is_base_name, slash}
 use Rattle.bag_text.specs.Text.{text_cmp}
-use Rattle.bag_tree.specs.Bag.{Bag, file, has_file, has_folder}
+use Rattle.bag_tree.specs.Bag.{Bag, file, files_of, has_file, has_folder}
 use Rattle.bag_tree.specs.Moved.{is_within, moved}
 use Rattle.bag_tree.specs.Steps.{Files, make_folder, create}
 use Rattle.bag_tree.specs.declared.event.DeviceEvent.{DeviceEvent}
 use Rattle.bag_tree.specs.declared.event.DeviceEvent.TheVariants.{MakeFolder, Rename, Create}
 use Rattle.bag_tree.specs.declared.event.DeviceEvent.TheVariants.{Write, Sync, SyncFolder}
 
--- the folder that holds a path's name: the base folder, whose path is empty, or a folder of it
+-- the folder that holds a path's name: what stands before the path's last slash, or else the base
+-- folder, whose path is empty
 unfoldable pub folder_of : List ℕ → List ℕ
-folder_of path = if is_base_name path then [] else first_component path
+folder_of [] = []
+folder_of (c ∷ rest) = if list_any (λ d. d == slash) rest then c ∷ folder_of rest else []
 
--- it is the base folder, or one that stands in it
+-- a file stands below this folder
+abbrev pub has_below : Bag → List ℕ → Bool
+has_below bag folder = list_any (λ e. starts_with nat_eq e.0 (folder ++ slash ∷ [])) (files_of bag)
+
+-- The folder is known to be there: it is the base folder, one that stands in it, or one with a file
+-- below it. Others may be there or not, since a bag doesn't tell of deeper folders without files.
 abbrev pub is_there : Bag → List ℕ → Bool
-is_there bag folder = bytes_eq folder [] || has_folder bag folder
+is_there bag folder = bytes_eq folder [] || has_folder bag folder || has_below bag folder
 
 -- the files without one that stands at a path, and without those below it
 abbrev pub without : List ℕ → Files → Files
@@ -28,7 +36,7 @@ without path files = fin.retain_keys files (λ p. not (is_within path p))
 abbrev pub with_renamed_folder : List ℕ → List ℕ → Bag → set.FinSet text_cmp
 with_renamed_folder from to bag =
     if is_base_name to
-    then (if has_folder bag from then set.insert bag.folders to else set.remove bag.folders to)
+    then (if is_there bag from then set.insert bag.folders to else set.remove bag.folders to)
     else bag.folders
 
 -- The bag when what stood at one path, with all that is below it, stands at another. A name means
@@ -46,6 +54,10 @@ lose from bag = record {
   folders = set.remove bag.folders from;
 }
 
+-- the bag with a folder that is made; it tells of those in the base folder alone
+abbrev pub with_folder : List ℕ → Bag → Bag
+with_folder name bag = if is_base_name name then make_folder name bag else bag
+
 -- the bag with these bytes in a file, where that is there
 abbrev pub hold : List ℕ → List ℕ → Bag → Bag
 hold name bytes bag = if has_file bag name then create name bytes bag else bag
@@ -55,65 +67,89 @@ abbrev pub appended : Option (List ℕ) → List ℕ → List ℕ
 appended None bytes = bytes
 appended (Some content) bytes = content ++ bytes
 
--- What an event makes of a bag. What had a name before that is given anew is lost; so is what is
--- moved into a folder that isn't there, and no bytes are written to a file that isn't.
+-- What an event makes of a bag. What had a name before that is given anew is lost; to have its own
+-- name changes nothing, and no bytes are written to a file that isn't there.
 unfoldable pub done : DeviceEvent → Bag → Bag
-done (MakeFolder name) bag = make_folder name (lose name bag)
-done (Rename from to) bag = if is_there bag (folder_of to) then rename from to bag else lose from bag
+done (MakeFolder name) bag = with_folder name (lose name bag)
+done (Rename from to) bag = if bytes_eq from to then bag else rename from to bag
 done (Create name) bag = create name [] (lose name bag)
 done (Write name bytes) bag = hold name (appended (file bag name) bytes) bag
 done (Sync name) bag = bag
 done (SyncFolder folder) bag = bag
 
--- These events sync the folder, which makes the names in it durable. After a folder was renamed its
--- old path means another one; the base folder isn't renamed.
+-- what has this name is at the path or above it; the base folder is below none
+abbrev pub is_on_way : List ℕ → List ℕ → Bool
+is_on_way path name = not (bytes_eq path []) && is_within name path
+
+-- After the event the path may mean another file or folder: it, or one above it, was made, or was
+-- renamed, or is the new name of what was renamed.
+abbrev pub is_anew : List ℕ → DeviceEvent → Bool
+is_anew path (MakeFolder name) = is_on_way path name
+is_anew path (Rename from to) = is_on_way path from || is_on_way path to
+is_anew path (Create name) = is_on_way path name
+is_anew path (Write name bytes) = false
+is_anew path (Sync name) = false
+is_anew path (SyncFolder folder) = false
+
+-- These events sync the folder, before its path may mean another one. That makes the names in it
+-- durable, and not its own.
 abbrev pub is_synced : List ℕ → List DeviceEvent → Bool
 is_synced folder [] = false
 is_synced folder (SyncFolder synced ∷ later) = bytes_eq synced folder || is_synced folder later
-is_synced folder (Rename from to ∷ later) =
-    (bytes_eq folder [] || not (bytes_eq from folder)) && is_synced folder later
-is_synced folder (event ∷ later) = is_synced folder later
+is_synced folder (event ∷ later) = not (is_anew folder event) && is_synced folder later
 
--- These events sync the file, which makes its bytes durable, and not its name. After it was renamed
--- its old path means another one.
+-- These events sync the file, before its path may mean another one. That makes its bytes durable,
+-- and not its name.
 abbrev pub is_file_synced : List ℕ → List DeviceEvent → Bool
 is_file_synced name [] = false
 is_file_synced name (Sync synced ∷ later) = bytes_eq synced name || is_file_synced name later
-is_file_synced name (Rename from to ∷ later) =
-    not (is_within from name) && is_file_synced name later
-is_file_synced name (event ∷ later) = is_file_synced name later
+is_file_synced name (event ∷ later) = not (is_anew name event) && is_file_synced name later
 
--- The later events make an event durable: a new name where its folder is synced, one that moved where
--- the folder it left is synced too, bytes where their file is. A sync itself changes nothing.
+-- The later events make an event durable: a new name where its folder is synced, one that moved
+-- where the folder it left is synced too, bytes where their file is. A sync changes nothing.
 abbrev pub is_durable : DeviceEvent → List DeviceEvent → Bool
-is_durable (MakeFolder name) later = is_synced [] later
-is_durable (Rename from to) later = is_synced (folder_of from) later && is_synced (folder_of to) later
-is_durable (Create name) later = is_synced [] later
+is_durable (MakeFolder name) later = is_synced (folder_of name) later
+is_durable (Rename from to) later =
+    is_synced (folder_of from) later && is_synced (folder_of to) later
+is_durable (Create name) later = is_synced (folder_of name) later
 is_durable (Write name bytes) later = is_file_synced name later
 is_durable (Sync name) later = true
 is_durable (SyncFolder folder) later = true
 
--- What there may be of an event that isn't durable: nothing, but of a write any bytes in its file. So
--- a rename is made whole or not at all.
+-- What there may be of an event that isn't durable: nothing, but of a write any bytes in its file.
+-- So a rename is made whole or not at all.
 abbrev pub IsPart : DeviceEvent → Bag → Bag → Type 0
 IsPart (Write name bytes) bag part = (found : List ℕ) × (part ≡ hold name found bag)
 IsPart event bag part = part ≡ bag
 
--- What a power cut may leave of a bag after these events: each is done, or, where the later ones don't
--- make it durable, there may be a part of it. So without a sync they are in no order.
+-- What there may be of a name, durable or not, whose folder isn't known to be there: what was made
+-- is missing, and what was moved is lost.
+abbrev pub IsLost : DeviceEvent → Bag → Bag → Type 0
+IsLost (MakeFolder name) bag left = (is_there bag (folder_of name) ≡ false) × (left ≡ bag)
+IsLost (Rename from to) bag left = (is_there bag (folder_of to) ≡ false) × (left ≡ lose from bag)
+IsLost (Create name) bag left = (is_there bag (folder_of name) ≡ false) × (left ≡ bag)
+IsLost event bag left = ⊥
+
+-- what a power cut may leave of an event, by the later ones
+abbrev pub MayBecome : DeviceEvent → List DeviceEvent → Bag → Bag → Type 0
+MayBecome event later bag left =
+    (left ≡ done event bag)
+    ⊎ ((is_durable event later ≡ false) × IsPart event bag left)
+    ⊎ IsLost event bag left
+
+-- What a power cut may leave of a bag after these events. Without a sync they are in no order: any
+-- of them may be left out. Each goes by its paths, so to what stands there on the device by then.
 abbrev pub MayLeave : List DeviceEvent → Bag → Bag → Type 0
 MayLeave [] bag left = left ≡ bag
 MayLeave (event ∷ later) bag left =
-    MayLeave later (done event bag) left
-    ⊎ ((is_durable event later ≡ false)
-    × ((part : Bag) × IsPart event bag part × MayLeave later part left))
+    (next : Bag) × MayBecome event later bag next × MayLeave later next left
 
--- On a device that first held `first`, a power cut after these events leaves this bag, nothing else.
+-- on a device that first held `first` a power cut after these events leaves this bag, nothing else
 abbrev pub IsDurableAs : List DeviceEvent → Bag → Bag → Type 0
 IsDurableAs trail first bag = (left : Bag) → MayLeave trail first left → left ≡ bag
 
--- At each moment of the events that were added to a trail, whatever a power cut leaves has P, if the
--- bag was durable when they began. A cut during an event leaves what one before or after it may leave.
+-- At each moment of the events that were added to a trail, whatever a power cut leaves has P, if
+-- the bag was durable when they began. One during an event leaves what one before or after it may.
 pub record EachCut (old new : List DeviceEvent) (bag : Bag) (P : Bag → Type 0) : Type 0 where
   pub since : List DeviceEvent
   pub trail : new ≡ old ++ since

@@ -9,6 +9,7 @@ pub mod FileSums
 pub mod Digests
 pub mod Hasher
 pub mod Heard
+pub mod LeftOut
 pub mod Listing
 pub mod Moved
 pub mod Out

@@ -48,7 +48,7 @@ pub folder_is : (nodes cloned new : Nodes) (name key : List ℕ) → cloned ≡ 
 folder_is nodes cloned new name key same text disk is free made then =
     let all : new ≡ with_folder nodes name = made ∙ ap (λ (k : List ℕ). map.insert cloned k Folder) text ∙ ap (λ (m : Nodes). map.insert m name Folder) same in
     let none : node nodes name ≡ None = sym (ap (λ (m : Nodes). node m key) same ∙ ap (node nodes) text) ∙ free in
-    ap bag_of all ∙ folder_made nodes name disk (subst IsDisk all then) is none ∙ sym (done_make name (bag_of nodes) (none_within nodes name disk none))
+    ap bag_of all ∙ folder_made nodes name disk (subst IsDisk all then) is none ∙ sym (done_make name (bag_of nodes) is (none_within nodes name disk none))
 
 -- a file is made
 pub file_is : (nodes cloned new : Nodes) (name key bytes : List ℕ) → cloned ≡ nodes → key ≡ name → IsDisk nodes → node cloned key ≡ None → new ≡ map.insert cloned key (File bytes) → bytes ≡ [] → IsDisk new
@@ -63,8 +63,9 @@ file_is nodes cloned new name key bytes same text disk free made empty then =
 pub renamed_is : (nodes new : Nodes) (from to : List ℕ) → IsDisk nodes → is_base_name from ≡ true → is_base_name to ≡ true → is_folder_node (node nodes from) ≡ true → node nodes to ≡ None → new ≡ moved from to nodes → IsDisk new
     → bag_of new ≡ done (event.Rename from to) (bag_of nodes)
 renamed_is nodes new from to disk from_is to_is there free made then =
+    let other = λ (same : from ≡ to). absurd (false≢true (sym (ap is_folder_node (ap (node nodes) same ∙ free)) ∙ there)) in
     let all = bag_renamed nodes from to disk (subst IsDisk made then) from_is to_is (a_folder (node nodes from) there) free in
-    ap bag_of made ∙ all ∙ sym (done_rename from to (bag_of nodes) to_is (folder_of_disk nodes from from_is ∙ there) (none_within nodes to disk free))
+    ap bag_of made ∙ all ∙ sym (done_rename from to (bag_of nodes) other to_is (folder_of_disk nodes from from_is ∙ there) (none_within nodes to disk free))
   where
     a_folder : (o : Option Node) → is_folder_node o ≡ true → o ≡ Some Folder
     a_folder (Some Folder) is = refl
@@ -77,7 +78,7 @@ moved_is nodes new from folder to target disk from_is folder_is there free made 
     let all : new ≡ moved from (under folder from) nodes = made ∙ ap (λ (t : List ℕ). moved from t nodes) target in
     let none : node nodes (under folder from) ≡ None = ap (node nodes) (sym target) ∙ free in
     ap bag_of all ∙ bag_moved_in nodes from folder disk (subst IsDisk all then) from_is none
-    ∙ sym (done_move from folder (bag_of nodes) folder_is (folder_of_disk nodes folder folder_is ∙ there) (none_within nodes (under folder from) disk none)) ∙ ap (λ (t : List ℕ). done (event.Rename from t) (bag_of nodes)) (sym target)
+    ∙ sym (done_move from folder (bag_of nodes) from_is (none_within nodes (under folder from) disk none)) ∙ ap (λ (t : List ℕ). done (event.Rename from t) (bag_of nodes)) (sym target)
 
 -- a file that is there has other bytes
 pub filled_is : (nodes new : Nodes) (name bytes : List ℕ) → IsDisk nodes → IsDisk new → is_some (bytes_of (node nodes name)) ≡ true → new ≡ with_file nodes name bytes → bag_of new ≡ hold name bytes (bag_of nodes)

@@ -1,25 +1,21 @@
 -- What events leave of disks, one after the other.
-use Rattle.std.proofs.Common.{◌≡◌, ◌∷◌, inl, inr, All, Contains, List, [], arith, get_or, length, refl, sym, subst}
+use Rattle.std.proofs.Common.{◌≡◌, ◌∷◌, All, Contains, List, [], arith, get_or, length, refl, sym, subst}
 use Rattle.std.proofs.lemmas.List.Elements.{All-append, All-contains, All-contains_itself, All-head, All-nil, All-tail}
 use Rattle.bag_tree.specs.Bag.{Bag}
-use Rattle.bag_tree.specs.Cut.{MayLeave}
+use Rattle.bag_tree.specs.Cut.{MayBecome, MayLeave}
 use Rattle.bag_tree.specs.declared.event.DeviceEvent.{DeviceEvent}
-use Rattle.test_disk.specs.Cuts.{AddsLeft, AreLeftBy, MayBeLeft, MayBecome, bag_in}
+use Rattle.test_disk.specs.Cuts.{AddsLeft, AreLeftBy, MayBeLeft, bag_in}
 use Rattle.test_disk.specs.declared.memory_disk.MemoryDisk.{MemoryDisk}
 
 -- what the rest of a trail may leave of these disks, all of it may leave of the first one
 abbrev pub LeadTo : List DeviceEvent → MemoryDisk → List DeviceEvent → List MemoryDisk → Type 0
 LeadTo trail first rest disks = All (λ disk. (left : Bag) → MayLeave rest (bag_in disk) left → MayLeave trail (bag_in first) left) disks
 
-leads_on : (event : DeviceEvent) (later : List DeviceEvent) (one next left : Bag) → MayBecome event later one next → MayLeave later next left → MayLeave (event ∷ later) one left
-leads_on event later one next left (inl is) may = inl (subst (λ (b : Bag). MayLeave later b left) is may)
-leads_on event later one next left (inr (missing, part)) may = inr (missing, (next, part, may))
-
 pub one_event : (trail rest later : List DeviceEvent) (event : DeviceEvent) (first : MemoryDisk) (disks left : List MemoryDisk) → rest ≡ event ∷ later → LeadTo trail first rest disks → AreLeftBy event later disks left → LeadTo trail first later left
 one_event trail rest later event first disks left is lead are k d within = λ bag may.
     let from = are k d within in
     All-contains (λ disk. (b : Bag) → MayLeave rest (bag_in disk) b → MayLeave trail (bag_in first) b) disks from.0 lead from.1 bag
-    (subst (λ (es : List DeviceEvent). MayLeave es (bag_in from.0) bag) (sym is) (leads_on event later (bag_in from.0) (bag_in (get_or left k d)) bag from.2 may))
+    (subst (λ (es : List DeviceEvent). MayLeave es (bag_in from.0) bag) (sym is) (bag_in (get_or left k d), from.2, may))
 
 -- one disk more
 pub left_more : (event : DeviceEvent) (later : List DeviceEvent) (disks rest others old new : List MemoryDisk) (disk : MemoryDisk) → rest ≡ disk ∷ others → All (Contains disks) rest × AreLeftBy event later disks old → AddsLeft event later disk old new

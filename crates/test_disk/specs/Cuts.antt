@@ -1,7 +1,7 @@
 -- What a power cut may leave of a disk in memory.
-use Rattle.std.specs.Prelude.{◌≡◌, ◌++◌, ◌⊎◌, false, All, Contains, List}
+use Rattle.std.specs.Prelude.{◌≡◌, ◌++◌, All, Contains, List}
 use Rattle.bag_tree.specs.Bag.{Bag}
-use Rattle.bag_tree.specs.Cut.{IsPart, MayLeave, done, is_durable}
+use Rattle.bag_tree.specs.Cut.{MayBecome, MayLeave}
 use Rattle.bag_tree.specs.declared.event.DeviceEvent.{DeviceEvent}
 use Rattle.bag_disk.specs.DiskBag.{bag_of}
 use Rattle.test_disk.specs.Held.{nodes_of}
@@ -10,11 +10,6 @@ use Rattle.test_disk.specs.declared.memory_disk.MemoryDisk.{MemoryDisk}
 -- the bag below the base folder of a disk
 abbrev pub bag_in : MemoryDisk → Bag
 bag_in disk = bag_of (nodes_of disk.nodes.entries)
-
--- what an event leaves of a bag before the later ones: it is done, or a part of it is there
-abbrev pub MayBecome : DeviceEvent → List DeviceEvent → Bag → Bag → Type 0
-MayBecome event later bag left =
-    (left ≡ done event bag) ⊎ ((is_durable event later ≡ false) × IsPart event bag left)
 
 -- each of these disks is left by the event of one of those
 abbrev pub AreLeftBy : DeviceEvent → List DeviceEvent → List MemoryDisk → List MemoryDisk → Type 0

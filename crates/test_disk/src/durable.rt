@@ -13,7 +13,9 @@ pub(crate) fn is_durable(event: &DeviceEvent, later: &[DeviceEvent]) -> bool
     ensures { result ≡ cut.is_durable event.now later.now }
 {
     match event {
-        DeviceEvent::MakeFolder(_) | DeviceEvent::Create(_) => is_synced("", later),
+        DeviceEvent::MakeFolder(name) | DeviceEvent::Create(name) => {
+            is_synced(folder_of(name.as_str()), later)
+        }
         DeviceEvent::Rename(from, to) => {
             is_synced(folder_of(from.as_str()), later) && is_synced(folder_of(to.as_str()), later)
         }
@@ -22,58 +24,64 @@ pub(crate) fn is_durable(event: &DeviceEvent, later: &[DeviceEvent]) -> bool
     }
 }
 
-/// Whether the events sync a folder, before another has its path.
+/// Whether the events sync a folder, before its path may mean another one.
 fn is_synced(folder: &str, later: &[DeviceEvent]) -> bool
     ensures { result ≡ cut.is_synced folder.now later.now }
 {
     let mut rest = later;
     while let Some((event, after)) = rest.split_first() {
-        match event {
-            DeviceEvent::SyncFolder(synced) => {
-                if synced.as_str() == folder {
-                    return true;
-                }
+        if is_anew(folder, event) {
+            return false;
+        }
+        if let DeviceEvent::SyncFolder(synced) = event {
+            if synced.as_str() == folder {
+                return true;
             }
-            DeviceEvent::Rename(from, _) => {
-                if !folder.is_empty() && from.as_str() == folder {
-                    return false;
-                }
-            }
-            DeviceEvent::MakeFolder(_)
-            | DeviceEvent::Create(_)
-            | DeviceEvent::Write(_, _)
-            | DeviceEvent::Sync(_) => {}
         }
         rest = after;
     }
     false
 }
 
-/// Whether the events sync a file, before another has its path.
+/// Whether the events sync a file, before its path may mean another one.
 fn is_file_synced(name: &str, later: &[DeviceEvent]) -> bool
     ensures { result ≡ cut.is_file_synced name.now later.now }
 {
     let mut rest = later;
     while let Some((event, after)) = rest.split_first() {
-        match event {
-            DeviceEvent::Sync(synced) => {
-                if synced.as_str() == name {
-                    return true;
-                }
+        if is_anew(name, event) {
+            return false;
+        }
+        if let DeviceEvent::Sync(synced) = event {
+            if synced.as_str() == name {
+                return true;
             }
-            DeviceEvent::Rename(from, _) => {
-                if is_within(from.as_str(), name) {
-                    return false;
-                }
-            }
-            DeviceEvent::MakeFolder(_)
-            | DeviceEvent::Create(_)
-            | DeviceEvent::Write(_, _)
-            | DeviceEvent::SyncFolder(_) => {}
         }
         rest = after;
     }
     false
+}
+
+/// Whether a path may mean another file or folder after an event.
+fn is_anew(path: &str, event: &DeviceEvent) -> bool
+    ensures { result ≡ cut.is_anew path.now event.now }
+{
+    match event {
+        DeviceEvent::MakeFolder(name) | DeviceEvent::Create(name) => {
+            is_on_way(path, name.as_str())
+        }
+        DeviceEvent::Rename(from, to) => {
+            is_on_way(path, from.as_str()) || is_on_way(path, to.as_str())
+        }
+        DeviceEvent::Write(_, _) | DeviceEvent::Sync(_) | DeviceEvent::SyncFolder(_) => false,
+    }
+}
+
+/// Whether what has this name is at a path or above it. The base folder is below none.
+fn is_on_way(path: &str, name: &str) -> bool
+    ensures { result ≡ cut.is_on_way path.now name.now }
+{
+    !path.is_empty() && is_within(name, path)
 }
 
 /// Whether a path is another, or below it.
@@ -87,13 +95,10 @@ fn is_within(top: &str, path: &str) -> bool
 fn folder_of(path: &str) -> &str
     ensures { result.now ≡ cut.folder_of path.now }
 {
-    if is_base_name(path.as_bytes()) {
-        return "";
+    match path.rsplit_once('/') {
+        Some((folder, _)) => folder,
+        None => "",
     }
-    let Some((first, _)) = path.split_once('/') else {
-        return path;
-    };
-    first
 }
 
 /// Whether bytes are a path of one component.
