@@ -22,6 +22,7 @@ mod arrangement;
 mod facts;
 mod fault;
 mod from_line;
+mod known;
 pub mod laws;
 mod listed_manifest;
 mod options;

@@ -10,10 +10,11 @@ use crate::arrangement::arrange;
 use crate::tag_reader::TagBytes;
 use bag_read::{
     Declaration, Element, FetchEntry, Kind, LineFault, ManifestEntry, Parsed, TagName,
-    read_declaration, read_fetch, read_info, read_manifest,
+    read_declaration, read_fetch, read_info, read_manifest_among,
 };
-use bag_text::{Alg, Code, Items, Rules, Text};
+use bag_text::{Alg, Code, Items, Pool, Rules, Text};
 use std::alloc::{AllocError, Global};
+use std::mem::drop;
 
 /// What is known of a tag file that was read.
 #[derive(Debug, Drop)]
@@ -32,18 +33,23 @@ impl TagFacts {
     /// What the bytes of a tag file say by the rules.
     pub(crate) fn parse(
         alloc: Global,
+        known: &Pool,
         rules: Rules,
-        file: &TagBytes,
+        file: TagBytes,
     ) -> Result<TagFacts, AllocError>
-        ensures { IfOk result (IsParsed rules file.now) }
+        ensures { IfOk result (IsParsed rules file) }
     {
-        let bytes = file.bytes.as_slice();
-        match file.name {
-            TagName::Declaration => Ok(TagFacts::Declaration(read_declaration(alloc, bytes)?)),
-            TagName::Info => Ok(TagFacts::Info(Metadata::parse(alloc, rules, bytes)?)),
-            TagName::Fetch => Ok(TagFacts::Fetch(FetchList::parse(alloc, rules, bytes)?)),
+        let TagBytes { name, bytes } = file;
+        match name {
+            TagName::Declaration => {
+                Ok(TagFacts::Declaration(read_declaration(alloc, bytes.as_slice())?))
+            }
+            TagName::Info => Ok(TagFacts::Info(Metadata::parse(alloc, rules, bytes.as_slice())?)),
+            TagName::Fetch => {
+                Ok(TagFacts::Fetch(FetchList::parse(alloc, rules, bytes.as_slice())?))
+            }
             TagName::Manifest(kind, alg) => {
-                Ok(TagFacts::Manifest(Manifest::parse(alloc, rules, kind, alg, bytes)?))
+                Ok(TagFacts::Manifest(Manifest::parse(alloc, known, rules, kind, alg, bytes)?))
             }
         }
     }
@@ -87,19 +93,22 @@ pub struct Manifest {
 }
 
 impl Manifest {
-    /// What the bytes of a manifest say by the rules.
+    /// What the bytes of a manifest say by the rules. They go before its entries are sorted.
     pub(crate) fn parse(
         alloc: Global,
+        known: &Pool,
         rules: Rules,
         kind: Kind,
         alg: Alg,
-        bytes: &[u8],
+        bytes: Vec<u8>,
     ) -> Result<Manifest, AllocError>
         ensures kind { IfOk result (λ manifest. manifest.kind ≡ kind) }
         ensures alg { IfOk result (λ manifest. manifest.alg ≡ alg) }
-        ensures says { IfOk result (IsManifestOf rules bytes.now) }
+        ensures says { IfOk result (IsManifestOf rules bytes.items) }
     {
-        let Parsed { items, faults } = read_manifest(alloc, rules, kind, alg, bytes)?;
+        let Parsed { items, faults } =
+            read_manifest_among(alloc, known, rules, kind, alg, bytes.as_slice())?;
+        drop(bytes);
         Ok(Manifest {
             kind,
             alg,

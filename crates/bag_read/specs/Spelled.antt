@@ -8,5 +8,5 @@ spelled_bytes (Md5 bytes) = bytes
 spelled_bytes (Sha1 bytes) = bytes
 spelled_bytes (Sha224 bytes) = bytes
 spelled_bytes (Sha256 bytes) = bytes
-spelled_bytes (Sha384 bytes) = bytes
-spelled_bytes (Sha512 bytes) = bytes
+spelled_bytes (Sha384 bytes) = bytes.value
+spelled_bytes (Sha512 bytes) = bytes.value
