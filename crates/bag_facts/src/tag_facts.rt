@@ -3,6 +3,11 @@ ghost use Rattle.std.specs.Prelude.{◌≡◌, IfOk, ◌↔◌, IsTrue, Contains
 ghost use Rattle.std.specs.Option.{option_copied};
 ghost use Rattle.std.specs.List.Sorted.{IsPermutation, IsSortedByKey};
 ghost use Rattle.bag_facts.specs.TagFacts.{name_of, text_test, IsParsed, entry_paths, AreByPath, IsManifestOf, IsFetchListOf, IsMetadataOf};
+ghost use Rattle.std.specs.Ordering.{nat_cmp, on};
+ghost use Rattle.bag_read.specs.LineFault.{AreFaults};
+ghost use Rattle.bag_read.specs.Manifest.{IsEntry, IsManifestFault};
+ghost use Rattle.bag_text.specs.Lines.{lines_of_file};
+ghost use Rattle.bag_text.specs.Order.{IsListOf};
 ghost use Rattle.bag_text.specs.Text.{text_cmp};
 ghost use Rattle.bag_text.specs.declared.code.Code.TheVariants.{NotUtf8};
 
@@ -14,7 +19,6 @@ use bag_read::{
 };
 use bag_text::{Alg, Code, Items, Pool, Rules, Text};
 use std::alloc::{AllocError, Global};
-use std::mem::drop;
 
 /// What is known of a tag file that was read.
 #[derive(Debug, Drop)]
@@ -106,9 +110,7 @@ impl Manifest {
         ensures alg { IfOk result (λ manifest. manifest.alg ≡ alg) }
         ensures says { IfOk result (IsManifestOf rules bytes.items) }
     {
-        let Parsed { items, faults } =
-            read_manifest_among(alloc, known, rules, kind, alg, bytes.as_slice())?;
-        drop(bytes);
+        let Parsed { items, faults } = read_and_drop(alloc, known, rules, kind, alg, bytes)?;
         Ok(Manifest {
             kind,
             alg,
@@ -124,6 +126,21 @@ impl Manifest {
     {
         entry_at(self.entries.as_slice(), path).is_some()
     }
+}
+
+/// Reads the bytes of a manifest, which go then.
+fn read_and_drop(
+    alloc: Global,
+    known: &Pool,
+    rules: Rules,
+    kind: Kind,
+    alg: Alg,
+    bytes: Vec<u8>,
+) -> Result<Parsed<ManifestEntry>, AllocError>
+    ensures items { IfOk result (λ parsed. IsListOf (on (λ e. e.line) nat_cmp) (IsEntry rules kind alg (lines_of_file bytes.items)) parsed.items) }
+    ensures faults { IfOk result (λ parsed. AreFaults (IsManifestFault rules kind alg bytes.items) parsed.faults) }
+{
+    read_manifest_among(alloc, known, rules, kind, alg, bytes.as_slice())
 }
 
 /// The entry of a path among entries in the order of their paths, found in time log n of these.

@@ -45,7 +45,7 @@ pub fn read_manifest(
     ensures items { IfOk result (λ parsed. IsListOf (on (λ e. e.line) nat_cmp) (IsEntry rules kind alg (cut.lines_of_file bytes.now)) parsed.items) }
     ensures faults { IfOk result (λ parsed. AreFaults (IsManifestFault rules kind alg bytes.now) parsed.faults) }
 {
-    read_manifest_among(alloc, &Pool::empty(alloc)?, rules, kind, alg, bytes)
+    read_manifest_among(alloc, &Pool::empty(alloc), rules, kind, alg, bytes)
 }
 
 /// The same, where many paths are known: those of the pool take no memory of their own.

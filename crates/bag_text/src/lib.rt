@@ -46,7 +46,7 @@ pub use line_cut::Lines;
 pub use path::{
     PathFault, Unsafe, check_path, escape_path, is_payload, is_written_as_itself, unescape_path,
 };
-pub use pool::{Pool, PoolBuilder};
+pub use pool::{Pool, Run};
 pub use read_text::{BYTE_ORDER_MARK, NotUtf8, lines, text_of};
 pub use rules::Rules;
 pub use sort_key::{common_front, key_behind};

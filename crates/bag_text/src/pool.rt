@@ -14,27 +14,29 @@ const END: char = '\0';
 /// How often a search halves what is left: more often than any length can be.
 const STEPS: u32 = 64;
 
-/// Texts in the order of their bytes, one behind another in one text, of which equal texts are parts. Which texts it has decides
-/// nothing but how much memory is taken.
+/// Texts of which equal texts are parts: they stand in the order of their bytes, one behind another, in a few longer ones.
+/// Which texts it has decides nothing but how much memory is taken.
 #[derive(Drop)]
 pub struct Pool {
-    whole: RcStr,
-    /// Where the text is looked for first: behind the one that was found last.
-    next: Cell<usize>,
+    wholes: Vec<RcStr>,
+    /// Where a text is looked for first, behind the one that was found last: in which of the longer texts, and where in it.
+    next: Cell<(usize, usize)>,
 }
 
 impl Pool {
-    /// The pool of no text.
-    pub fn empty(alloc: Global) -> Result<Pool, AllocError> {
-        Pool::of(String::new(alloc))
+    /// The pool of no text, which takes no memory.
+    pub fn empty(alloc: Global) -> Pool {
+        Pool {
+            wholes: Vec::new(alloc),
+            next: Cell::new((0, 0)),
+        }
     }
 
-    /// The pool of texts that stand in this one, a NUL behind each.
-    fn of(whole: String) -> Result<Pool, AllocError> {
-        Ok(Pool {
-            whole: RcStr::from_string(whole)?,
-            next: Cell::new(0),
-        })
+    /// Adds the texts of a run, which stand behind those that it has.
+    pub fn add(&mut self, run: Run) -> Result<(), AllocError> {
+        let Run { whole } = run;
+        self.wholes.push(RcStr::from_string(whole)?)?;
+        Ok(())
     }
 
     /// An equal text: a part of the pool's where it has it, and else a copy.
@@ -51,37 +53,56 @@ impl Pool {
     fn find(&self, text: &str) -> Option<Text>
         ensures { IfSome result (λ t. t ≡ text.now) }
     {
-        match self.text_at(self.next.get(), text) {
-            Some(found) => Some(found),
-            None => self.text_at(self.place_of(text), text),
+        let (which, place) = self.next.get();
+        if let Some(found) = self.text_at(which, place, text) {
+            return Some(found);
         }
+        if let Some(found) = self.text_at(which.saturating_add(1), 0, text) {
+            return Some(found);
+        }
+        let (which, place) = self.place_of(text.as_bytes());
+        self.text_at(which, place, text)
     }
 
     /// An equal text, where it stands at this place. The next is looked for behind it.
-    fn text_at(&self, place: usize, text: &str) -> Option<Text>
+    fn text_at(&self, which: usize, place: usize, text: &str) -> Option<Text>
         ensures { IfSome result (λ t. t ≡ text.now) }
     {
-        let found = Text::part_of(&self.whole, place, text)?;
-        self.next.set(place.saturating_add(text.len()).saturating_add(1));
+        let found = Text::part_of(self.wholes.get(which)?, place, text)?;
+        let behind = place.saturating_add(text.len()).saturating_add(1);
+        self.next.set((which, behind));
         Some(found)
     }
 
     /// Where a text stands, if the pool has it.
-    fn place_of(&self, text: &str) -> usize {
-        let bytes = self.whole.as_str().as_bytes();
-        let mut low = 0usize;
-        let mut high = bytes.len();
-        for _ in 0..STEPS {
-            let start = start_before(bytes, low.saturating_add(high.saturating_sub(low) / 2));
-            let found = first_of(bytes, start);
-            match found.cmp(text.as_bytes()) {
-                Ordering::Less => low = start.saturating_add(found.len()).saturating_add(1),
-                Ordering::Equal => return start,
-                Ordering::Greater => high = start,
-            }
+    fn place_of(&self, text: &[u8]) -> (usize, usize) {
+        let which = self.wholes.partition_point(|whole| begins_before(whole, text)).saturating_sub(1);
+        match self.wholes.get(which) {
+            Some(whole) => (which, place_in(whole.as_str().as_bytes(), text)),
+            None => (which, 0),
         }
-        low
     }
+}
+
+/// Whether the first text of a run is this one or stands before it.
+fn begins_before(whole: &RcStr, text: &[u8]) -> bool {
+    first_of(whole.as_str().as_bytes(), 0) <= text
+}
+
+/// Where a text stands in a longer one, if it does.
+fn place_in(bytes: &[u8], text: &[u8]) -> usize {
+    let mut low = 0usize;
+    let mut high = bytes.len();
+    for _ in 0..STEPS {
+        let start = start_before(bytes, low.saturating_add(high.saturating_sub(low) / 2));
+        let found = first_of(bytes, start);
+        match found.cmp(text) {
+            Ordering::Less => low = start.saturating_add(found.len()).saturating_add(1),
+            Ordering::Equal => return start,
+            Ordering::Greater => high = start,
+        }
+    }
+    low
 }
 
 /// Where the text begins that a place is in.
@@ -106,16 +127,16 @@ fn first_of(bytes: &[u8], place: usize) -> &[u8] {
     }
 }
 
-/// The texts that are put into a pool, one after another.
+/// Texts in the order of their bytes that are put into a pool together.
 #[derive(Drop)]
-pub struct PoolBuilder {
+pub struct Run {
     whole: String,
 }
 
-impl PoolBuilder {
+impl Run {
     /// For texts that have so many bytes together, each with one more. For more it grows.
-    pub fn with_room(alloc: Global, bytes: usize) -> Result<PoolBuilder, AllocError> {
-        Ok(PoolBuilder {
+    pub fn with_room(alloc: Global, bytes: usize) -> Result<Run, AllocError> {
+        Ok(Run {
             whole: String::with_capacity(alloc, bytes)?,
         })
     }
@@ -125,11 +146,5 @@ impl PoolBuilder {
         self.whole.push_str(text)?;
         self.whole.push(END)?;
         Ok(())
-    }
-
-    /// The pool of these texts.
-    pub fn build(self) -> Result<Pool, AllocError> {
-        let PoolBuilder { whole } = self;
-        Pool::of(whole)
     }
 }
