@@ -15,8 +15,8 @@ ghost use Rattle.bag_facts.specs.Wanted.{ForListing, OpensAll, OpensFirst, Opens
 ghost use Rattle.bag_facts.specs.declared.options.Depth.TheVariants as depth_of;
 ghost use Rattle.bag_facts.specs.Stops.{MayStopReading};
 
-use crate::pooling::pooled;
 use crate::listed_manifest::has_manifest;
+use crate::pooling::pooled;
 use crate::tag_reader::{TagBytes, read_tag_files};
 use crate::{Depth, FetchList, Manifest, Metadata, Options, TagFacts};
 use bag_read::{Declaration, Kind, ManifestEntry, TagName, declared_rules};

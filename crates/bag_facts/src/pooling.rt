@@ -6,7 +6,7 @@ use bag_tree::{FileEntry, Listing};
 use std::alloc::{AllocError, Global};
 
 /// How many paths stand in one text.
-const RUN: usize = 1024;
+const RUN: usize = 128;
 
 /// A listing with its paths in a few texts, and the pool of these. The memory of the paths of a run is there for the next.
 pub(crate) fn pooled(alloc: Global, listing: Listing) -> Result<(Listing, Pool), AllocError>
@@ -24,31 +24,28 @@ pub(crate) fn pooled(alloc: Global, listing: Listing) -> Result<(Listing, Pool),
 }
 
 /// Makes the path of each file one of the pool.
-fn share_paths(
-    alloc: Global,
-    pool: &mut Pool,
-    files: &mut [FileEntry],
-) -> Result<(), AllocError>
+fn share_paths(alloc: Global, pool: &mut Pool, files: &mut [FileEntry]) -> Result<(), AllocError>
     ensures { OnOk result (files.new ≡ files.old) }
 {
     for k in 0..files.len() {
         if k % RUN == 0 {
-            pool.add(run_of(alloc, &files[k..])?)?;
+            pool.add(run_from(alloc, files, k)?)?;
         }
         share_path(alloc, pool, &mut files[k])?;
     }
     Ok(())
 }
 
-/// The paths of the first files.
-fn run_of(alloc: Global, files: &[FileEntry]) -> Result<Run, AllocError> {
+/// The paths of the files from a place on, as many as stand in one text.
+fn run_from(alloc: Global, files: &[FileEntry], place: usize) -> Result<Run, AllocError> {
+    let end = place.saturating_add(RUN).min(files.len());
     let mut room = 0usize;
-    for file in files.iter().take(RUN) {
-        room = room.saturating_add(file.path.len()).saturating_add(1);
+    for k in place..end {
+        room = room.saturating_add(files[k].path.len()).saturating_add(1);
     }
     let mut run = Run::with_room(alloc, room)?;
-    for file in files.iter().take(RUN) {
-        run.push(file.path.as_str())?;
+    for k in place..end {
+        run.push(files[k].path.as_str())?;
     }
     Ok(run)
 }

@@ -76,7 +76,10 @@ impl Pool {
 
     /// Where a text stands, if the pool has it.
     fn place_of(&self, text: &[u8]) -> (usize, usize) {
-        let which = self.wholes.partition_point(|whole| begins_before(whole, text)).saturating_sub(1);
+        let which = self
+            .wholes
+            .partition_point(|whole| begins_before(whole, text))
+            .saturating_sub(1);
         match self.wholes.get(which) {
             Some(whole) => (which, place_in(whole.as_str().as_bytes(), text)),
             None => (which, 0),
