@@ -10,11 +10,24 @@ use std::alloc::{AllocError, Global};
 pub(crate) fn arrange(alloc: Global, entries: &mut Vec<ManifestEntry>) -> Result<(), AllocError>
     ensures { IsPermutation entries.old.items entries.new.items }
 {
+    if are_in_order(entries.as_slice()) {
+        return Ok(());
+    }
     let mut keys = keys(alloc, entries.as_slice())?;
     keys.sort_by(|a, b| a.0.cmp(&b.0))?;
     let mut places = places(alloc, keys.as_slice())?;
     move_to(entries.as_mut_slice(), places.as_mut_slice());
     Ok(())
+}
+
+/// Whether entries are in the order of their paths, as those of many manifests are.
+fn are_in_order(entries: &[ManifestEntry]) -> bool {
+    for k in 1..entries.len() {
+        if entries[k - 1].path.cmp(&entries[k].path).is_gt() {
+            return false;
+        }
+    }
+    true
 }
 
 /// The key of each entry, with its place.

@@ -16,10 +16,11 @@ ghost use Rattle.bag_facts.specs.declared.options.Depth.TheVariants as depth_of;
 ghost use Rattle.bag_facts.specs.Stops.{MayStopReading};
 
 use crate::listed_manifest::has_manifest;
+use crate::pooling::pooled;
 use crate::tag_reader::{TagBytes, read_tag_files};
 use crate::{Depth, FetchList, Manifest, Metadata, Options, TagFacts};
 use bag_read::{Declaration, Kind, ManifestEntry, TagName, declared_rules};
-use bag_text::{Alg, AlgSet, Items, Rules, is_payload};
+use bag_text::{Alg, AlgSet, Items, Pool, Rules, is_payload};
 use bag_tree::{FileEntry, Listing, Stop, Tree, TreeFault};
 use std::alloc::{AllocError, Global};
 
@@ -83,10 +84,11 @@ impl Facts {
         ensures tags { IfOk result (λ facts. AreJudged read.items facts.tags) }
     {
         let rules = rules_read(read.as_slice());
+        let (listing, known) = pooled(alloc, listing)?;
         Ok(Facts {
             options,
             listing,
-            tags: parse_all(alloc, rules, read)?,
+            tags: parse_all(alloc, &known, rules, read)?,
         })
     }
 
@@ -249,9 +251,10 @@ fn find_declaration(read: &[TagBytes]) -> Option<&TagBytes>
     read.iter().find(|file| file.name == TagName::Declaration)
 }
 
-/// What the bytes of each tag file say by the rules, in their order.
+/// What the bytes of each tag file say by the rules, in their order. The bytes of each go as soon as it was read.
 fn parse_all(
     alloc: Global,
+    known: &Pool,
     rules: Rules,
     read: Vec<TagBytes>,
 ) -> Result<Items<TagFacts>, AllocError>
@@ -259,7 +262,7 @@ fn parse_all(
 {
     let mut tags = Items::new(alloc);
     for file in read {
-        tags.push(TagFacts::parse(alloc, rules, &file)?)?;
+        tags.push(TagFacts::parse(alloc, known, rules, file)?)?;
     }
     Ok(tags)
 }

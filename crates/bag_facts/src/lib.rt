@@ -25,6 +25,7 @@ mod from_line;
 pub mod laws;
 mod listed_manifest;
 mod options;
+mod pooling;
 mod refusal;
 mod tag_facts;
 mod tag_reader;

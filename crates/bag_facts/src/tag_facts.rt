@@ -3,6 +3,11 @@ ghost use Rattle.std.specs.Prelude.{◌≡◌, IfOk, ◌↔◌, IsTrue, Contains
 ghost use Rattle.std.specs.Option.{option_copied};
 ghost use Rattle.std.specs.List.Sorted.{IsPermutation, IsSortedByKey};
 ghost use Rattle.bag_facts.specs.TagFacts.{name_of, text_test, IsParsed, entry_paths, AreByPath, IsManifestOf, IsFetchListOf, IsMetadataOf};
+ghost use Rattle.std.specs.Ordering.{nat_cmp, on};
+ghost use Rattle.bag_read.specs.LineFault.{AreFaults};
+ghost use Rattle.bag_read.specs.Manifest.{IsEntry, IsManifestFault};
+ghost use Rattle.bag_text.specs.Lines.{lines_of_file};
+ghost use Rattle.bag_text.specs.Order.{IsListOf};
 ghost use Rattle.bag_text.specs.Text.{text_cmp};
 ghost use Rattle.bag_text.specs.declared.code.Code.TheVariants.{NotUtf8};
 
@@ -10,9 +15,9 @@ use crate::arrangement::arrange;
 use crate::tag_reader::TagBytes;
 use bag_read::{
     Declaration, Element, FetchEntry, Kind, LineFault, ManifestEntry, Parsed, TagName,
-    read_declaration, read_fetch, read_info, read_manifest,
+    read_declaration, read_fetch, read_info, read_manifest_among,
 };
-use bag_text::{Alg, Code, Items, Rules, Text};
+use bag_text::{Alg, Code, Items, Pool, Rules, Text};
 use std::alloc::{AllocError, Global};
 
 /// What is known of a tag file that was read.
@@ -32,18 +37,23 @@ impl TagFacts {
     /// What the bytes of a tag file say by the rules.
     pub(crate) fn parse(
         alloc: Global,
+        known: &Pool,
         rules: Rules,
-        file: &TagBytes,
+        file: TagBytes,
     ) -> Result<TagFacts, AllocError>
-        ensures { IfOk result (IsParsed rules file.now) }
+        ensures { IfOk result (IsParsed rules file) }
     {
-        let bytes = file.bytes.as_slice();
-        match file.name {
-            TagName::Declaration => Ok(TagFacts::Declaration(read_declaration(alloc, bytes)?)),
-            TagName::Info => Ok(TagFacts::Info(Metadata::parse(alloc, rules, bytes)?)),
-            TagName::Fetch => Ok(TagFacts::Fetch(FetchList::parse(alloc, rules, bytes)?)),
+        let TagBytes { name, bytes } = file;
+        match name {
+            TagName::Declaration => {
+                Ok(TagFacts::Declaration(read_declaration(alloc, bytes.as_slice())?))
+            }
+            TagName::Info => Ok(TagFacts::Info(Metadata::parse(alloc, rules, bytes.as_slice())?)),
+            TagName::Fetch => {
+                Ok(TagFacts::Fetch(FetchList::parse(alloc, rules, bytes.as_slice())?))
+            }
             TagName::Manifest(kind, alg) => {
-                Ok(TagFacts::Manifest(Manifest::parse(alloc, rules, kind, alg, bytes)?))
+                Ok(TagFacts::Manifest(Manifest::parse(alloc, known, rules, kind, alg, bytes)?))
             }
         }
     }
@@ -87,19 +97,20 @@ pub struct Manifest {
 }
 
 impl Manifest {
-    /// What the bytes of a manifest say by the rules.
+    /// What the bytes of a manifest say by the rules. They go before its entries are sorted.
     pub(crate) fn parse(
         alloc: Global,
+        known: &Pool,
         rules: Rules,
         kind: Kind,
         alg: Alg,
-        bytes: &[u8],
+        bytes: Vec<u8>,
     ) -> Result<Manifest, AllocError>
         ensures kind { IfOk result (λ manifest. manifest.kind ≡ kind) }
         ensures alg { IfOk result (λ manifest. manifest.alg ≡ alg) }
-        ensures says { IfOk result (IsManifestOf rules bytes.now) }
+        ensures says { IfOk result (IsManifestOf rules bytes.items) }
     {
-        let Parsed { items, faults } = read_manifest(alloc, rules, kind, alg, bytes)?;
+        let Parsed { items, faults } = read_and_drop(alloc, known, rules, kind, alg, bytes)?;
         Ok(Manifest {
             kind,
             alg,
@@ -115,6 +126,21 @@ impl Manifest {
     {
         entry_at(self.entries.as_slice(), path).is_some()
     }
+}
+
+/// Reads the bytes of a manifest, which go then.
+fn read_and_drop(
+    alloc: Global,
+    known: &Pool,
+    rules: Rules,
+    kind: Kind,
+    alg: Alg,
+    bytes: Vec<u8>,
+) -> Result<Parsed<ManifestEntry>, AllocError>
+    ensures items { IfOk result (λ parsed. IsListOf (on (λ e. e.line) nat_cmp) (IsEntry rules kind alg (lines_of_file bytes.items)) parsed.items) }
+    ensures faults { IfOk result (λ parsed. AreFaults (IsManifestFault rules kind alg bytes.items) parsed.faults) }
+{
+    read_manifest_among(alloc, known, rules, kind, alg, bytes.as_slice())
 }
 
 /// The entry of a path among entries in the order of their paths, found in time log n of these.

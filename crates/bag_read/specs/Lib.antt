@@ -17,4 +17,5 @@ pub mod ManifestReasons
 pub mod Oxum
 pub mod Reason
 pub mod Repeats
+pub mod Spelled
 pub mod TagName

@@ -10,44 +10,64 @@ use bag_text::{Alg, Text};
 use std::alloc::{AllocError, Global};
 use std::marker::Model;
 
-/// How many bytes the longest digest has.
-const MOST_BYTES: usize = 64;
-
-/// A digest that a manifest gives, seen by contracts as its text in lower-case hex. It takes no memory beside its own.
+/// A digest that a manifest gives, seen by contracts as its text in lower-case hex. It takes as much memory as its algorithm
+/// needs, and one of more than 32 bytes has memory of its own.
 #[derive(Debug, Drop)]
 pub struct Digest {
-    alg: Alg,
-    /// The bytes that are spelled, with zeros behind them.
-    bytes: [u8; MOST_BYTES],
+    spelled: Spelled,
+}
+
+/// The bytes that a digest spells, by its algorithm.
+#[derive(Debug, Drop)]
+enum Spelled {
+    Md5([u8; 16]),
+    Sha1([u8; 20]),
+    Sha224([u8; 28]),
+    Sha256([u8; 32]),
+    Sha384(Box<[u8; 48]>),
+    Sha512(Box<[u8; 64]>),
 }
 
 impl Model for Digest {
-    ghost use Rattle.std.specs.Prelude.{ℕ, ◌/◌, List, take};
+    ghost use Rattle.std.specs.Prelude.{ℕ, List};
     ghost use Rattle.hex.specs.Hex.{encode_lower};
-    ghost use Rattle.bag_text.specs.Alg.{hex_len};
+    ghost use Rattle.bag_read.specs.Spelled.{spelled_bytes};
 
     ghost Value = { List ℕ };
 
-    ghost view = { λ digest. encode_lower (take (hex_len digest.alg / 2) digest.bytes) };
+    ghost view = { λ digest. encode_lower (spelled_bytes digest.spelled) };
 }
 
 impl Digest {
     /// The digest of an algorithm that hex digits of either case spell.
-    pub(crate) fn of_digits(alg: Alg, digits: &[u8]) -> Digest
+    pub(crate) fn of_digits(alloc: Global, alg: Alg, digits: &[u8]) -> Result<Digest, AllocError>
         requires digits { list_all is_ascii_hexdigit digits.now ≡ true }
         requires len { length digits.now ≡ hex_len alg }
-        ensures { result ≡ str_to_ascii_lowercase digits.now }
+        ensures { IfOk result (λ digest. digest ≡ str_to_ascii_lowercase digits.now) }
     {
-        let mut bytes = [0; MOST_BYTES];
-        read_pairs(digits, &mut bytes[..alg.hex_len() / 2]);
-        Digest { alg, bytes }
+        let spelled = match alg {
+            Alg::Md5 => Spelled::Md5(bytes_of(digits)),
+            Alg::Sha1 => Spelled::Sha1(bytes_of(digits)),
+            Alg::Sha224 => Spelled::Sha224(bytes_of(digits)),
+            Alg::Sha256 => Spelled::Sha256(bytes_of(digits)),
+            Alg::Sha384 => Spelled::Sha384(Box::new(alloc, bytes_of(digits))?),
+            Alg::Sha512 => Spelled::Sha512(Box::new(alloc, bytes_of(digits))?),
+        };
+        Ok(Digest { spelled })
     }
 
     /// The bytes that it spells.
     pub fn bytes(&self) -> &[u8]
         ensures { encode_lower result.now ≡ self.now }
     {
-        &self.bytes[..self.alg.hex_len() / 2]
+        match &self.spelled {
+            Spelled::Md5(bytes) => bytes,
+            Spelled::Sha1(bytes) => bytes,
+            Spelled::Sha224(bytes) => bytes,
+            Spelled::Sha256(bytes) => bytes,
+            Spelled::Sha384(bytes) => &**bytes,
+            Spelled::Sha512(bytes) => &**bytes,
+        }
     }
 
     /// Its text.
@@ -56,6 +76,17 @@ impl Digest {
     {
         Ok(Text::from_string(hex::encode(alloc, self.bytes())?))
     }
+}
+
+/// The bytes that so many pairs of hex digits of either case spell.
+fn bytes_of<const COUNT: usize>(digits: &[u8]) -> [u8; COUNT]
+    requires digits { list_all is_ascii_hexdigit digits.now ≡ true }
+    requires pairs { length digits.now ≡ 2 * COUNT }
+    ensures { encode_lower result ≡ str_to_ascii_lowercase digits.now }
+{
+    let mut bytes = [0; COUNT];
+    read_pairs(digits, &mut bytes);
+    bytes
 }
 
 /// Reads the bytes that pairs of hex digits of either case spell.

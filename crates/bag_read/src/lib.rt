@@ -37,7 +37,7 @@ pub use fetch::{FetchEntry, read_fetch};
 pub use info::{Element, read_info};
 pub use kind::Kind;
 pub use line_fault::{LineFault, Parsed};
-pub use manifest::{ManifestEntry, read_manifest};
+pub use manifest::{ManifestEntry, read_manifest, read_manifest_among};
 pub use manifest_name::manifest_alg;
 pub use oxum::{Oxum, oxum_of};
 pub use tag_name::TagName;

@@ -11,7 +11,10 @@ ghost use Rattle.bag_text.specs.Lines as cut;
 ghost use Rattle.bag_text.specs.Number as number;
 ghost use Rattle.bag_text.specs.Text as spec;
 
-use bag_text::{Code, Items, PathFault, Rules, Text, is_blank_line, lines, unescape_path};
+use bag_text::{
+    Code, Items, PathFault, Pool, Rules, Text, is_blank_line, is_written_as_itself, lines,
+    unescape_path,
+};
 use std::alloc::{AllocError, Global};
 
 /// A fault of a tag file. Lines count from 1; the line is 0 where the fault is of the whole file.
@@ -73,6 +76,15 @@ pub(crate) fn read_lines<F: LineForm>(
         }
     }
     Ok(Parsed { items, faults })
+}
+
+/// As many as a text has lines, or more.
+pub(crate) fn line_count(text: &str) -> usize {
+    let mut count = 1usize;
+    for byte in text.as_bytes() {
+        count = count.saturating_add(usize::from((*byte == b'\n') | (*byte == b'\r')));
+    }
+    count
 }
 
 /// That a line doesn't read, with a detail that is copied.
@@ -141,6 +153,23 @@ pub(crate) fn decode_path(
         Ok(path) => Ok(Ok(Text::from_string(path))),
         Err(PathFault::BadEscape) => refuse(alloc, bad_escape, spelling),
         Err(PathFault::Memory) => Err(AllocError),
+    }
+}
+
+/// The same, where many paths are known: those of the pool take no memory of their own.
+pub(crate) fn decode_known(
+    alloc: Global,
+    known: &Pool,
+    rules: Rules,
+    spelling: &str,
+    bad_escape: Code,
+) -> Result<Result<Text, Why>, AllocError>
+    ensures { IfOk result (λ path. path ≡ decoded_or bad_escape (unescaped rules spelling.now) spelling.now) }
+{
+    if is_written_as_itself(rules, spelling) {
+        Ok(Ok(known.text(alloc, spelling)?))
+    } else {
+        decode_path(alloc, rules, spelling, bad_escape)
     }
 }
 

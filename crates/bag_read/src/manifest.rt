@@ -12,17 +12,14 @@ ghost use Rattle.bag_read.specs.Manifest.{IsEntry, IsManifestFault};
 ghost use Rattle.bag_read.specs.Repeats.{IsReadOnce};
 
 use crate::line_fault::{
-    LineForm, Parsed, Why, decode_path, read_lines, refuse, unread, without_prefix,
+    LineForm, Parsed, Why, decode_known, line_count, read_lines, refuse, unread, without_prefix,
 };
 use crate::manifest_name::is_manifest_name;
 use crate::repeats::{are_different, repeated_lines};
 use crate::{Digest, Kind};
-use bag_text::{Alg, Code, Rules, Text, check_path, is_payload, split_at_blanks, text_of};
+use bag_text::{Alg, Code, Pool, Rules, Text, check_path, is_payload, split_at_blanks, text_of};
 use std::alloc::{AllocError, Global};
 use std::collections::BTreeSet;
-
-/// The least bytes of a line that reads beside its digest: a blank, a path, and the line's end.
-const SHORTEST_REST: usize = 3;
 
 /// A line of a manifest that reads: the digest, and the path that is named.
 #[derive(Debug, Drop)]
@@ -48,8 +45,23 @@ pub fn read_manifest(
     ensures items { IfOk result (λ parsed. IsListOf (on (λ e. e.line) nat_cmp) (IsEntry rules kind alg (cut.lines_of_file bytes.now)) parsed.items) }
     ensures faults { IfOk result (λ parsed. AreFaults (IsManifestFault rules kind alg bytes.now) parsed.faults) }
 {
+    read_manifest_among(alloc, &Pool::empty(alloc), rules, kind, alg, bytes)
+}
+
+/// The same, where many paths are known: those of the pool take no memory of their own.
+pub fn read_manifest_among(
+    alloc: Global,
+    known: &Pool,
+    rules: Rules,
+    kind: Kind,
+    alg: Alg,
+    bytes: &[u8],
+) -> Result<Parsed<ManifestEntry>, AllocError>
+    ensures items { IfOk result (λ parsed. IsListOf (on (λ e. e.line) nat_cmp) (IsEntry rules kind alg (cut.lines_of_file bytes.now)) parsed.items) }
+    ensures faults { IfOk result (λ parsed. AreFaults (IsManifestFault rules kind alg bytes.now) parsed.faults) }
+{
     match text_of(bytes) {
-        Ok(text) => read_text(alloc, rules, kind, alg, text),
+        Ok(text) => read_text(alloc, known, rules, kind, alg, text),
         Err(_) => unread(alloc),
     }
 }
@@ -57,6 +69,7 @@ pub fn read_manifest(
 /// Reads a text. Where a path may be named again, it is read once more, with the lines known that do.
 fn read_text(
     alloc: Global,
+    known: &Pool,
     rules: Rules,
     kind: Kind,
     alg: Alg,
@@ -64,8 +77,9 @@ fn read_text(
 ) -> Result<Parsed<ManifestEntry>, AllocError>
     ensures { IfOk result (λ parsed. IsReadOnce rules kind alg (cut.lines text.now) parsed.items parsed.faults) }
 {
-    let room = text.len() / (alg.hex_len() + SHORTEST_REST);
+    let room = line_count(text);
     let form = ManifestForm {
+        known,
         rules,
         kind,
         alg,
@@ -76,6 +90,7 @@ fn read_text(
         return Ok(parsed);
     }
     let form = ManifestForm {
+        known,
         rules,
         kind,
         alg,
@@ -86,7 +101,9 @@ fn read_text(
 
 /// How the lines of a manifest read.
 #[derive(Drop)]
-struct ManifestForm {
+struct ManifestForm<'a> {
+    /// Paths that take no memory of their own.
+    known: &'a Pool,
     rules: Rules,
     kind: Kind,
     alg: Alg,
@@ -94,7 +111,7 @@ struct ManifestForm {
     repeated: BTreeSet<u64>,
 }
 
-impl ManifestForm {
+impl<'a> ManifestForm<'a> {
     /// The entry of a line that says this, where it is the first that names the path.
     fn entry(&self, line: u64, digest: Digest, path: Text) -> Result<ManifestEntry, Why>
         ensures { result ≡ spec.entry_unless (contains nat_cmp self.now.repeated line) line (digest, path) }
@@ -107,7 +124,7 @@ impl ManifestForm {
     }
 }
 
-impl LineForm for ManifestForm {
+impl<'a> LineForm for ManifestForm<'a> {
     type Entry = ManifestEntry;
 
     ghost reads = { λ form line content. spec.entry_in (λ n path. contains nat_cmp form.repeated n) form.rules form.kind form.alg line content };
@@ -118,7 +135,7 @@ impl LineForm for ManifestForm {
         number: u64,
         line: &str,
     ) -> Result<Result<ManifestEntry, Why>, AllocError> {
-        match read_line(alloc, self.rules, self.kind, self.alg, line)? {
+        match read_line(alloc, self.known, self.rules, self.kind, self.alg, line)? {
             Ok((digest, path)) => Ok(self.entry(number, digest, path)),
             Err(why) => Ok(Err(why)),
         }
@@ -128,6 +145,7 @@ impl LineForm for ManifestForm {
 /// Reads a line that isn't blank: its digest and its path, or the first reason why it doesn't read.
 fn read_line(
     alloc: Global,
+    known: &Pool,
     rules: Rules,
     kind: Kind,
     alg: Alg,
@@ -136,26 +154,31 @@ fn read_line(
     ensures { IfOk result (λ read. read ≡ spec.manifest_line rules kind alg line.now) }
 {
     let (digest, rest) = split_at_blanks(line);
-    match check_digest(alg, digest, rest) {
-        Ok(read) => read_path(alloc, rules, kind, read, without_marks(rest)),
+    match check_digest(alloc, alg, digest, rest)? {
+        Ok(read) => read_path(alloc, known, rules, kind, read, without_marks(rest)),
         Err((code, detail)) => refuse(alloc, code, detail),
     }
 }
 
 /// The digest, where it is hex of the algorithm's length and something follows it; else the code and the detail of
 /// what is wrong.
-fn check_digest<'a>(alg: Alg, digest: &'a str, rest: &str) -> Result<Digest, (Code, &'a str)>
-    ensures { MatchResult result
+fn check_digest<'a>(
+    alloc: Global,
+    alg: Alg,
+    digest: &'a str,
+    rest: &str,
+) -> Result<Result<Digest, (Code, &'a str)>, AllocError>
+    ensures { IfOk result (λ checked. MatchResult checked
         (λ read. spec.checked_digest alg digest.now rest.now ≡ Ok read)
-        (λ why. spec.checked_digest alg digest.now rest.now ≡ Err (why.0, why.1.now)) }
+        (λ why. spec.checked_digest alg digest.now rest.now ≡ Err (why.0, why.1.now))) }
 {
     if digest.is_empty() || !is_hex(digest.as_bytes()) || rest.is_empty() {
-        return Err((Code::ManifestLine, ""));
+        return Ok(Err((Code::ManifestLine, "")));
     }
     if digest.len() != alg.hex_len() {
-        return Err((Code::DigestLength, digest));
+        return Ok(Err((Code::DigestLength, digest)));
     }
-    Ok(Digest::of_digits(alg, digest.as_bytes()))
+    Ok(Ok(Digest::of_digits(alloc, alg, digest.as_bytes())?))
 }
 
 /// Whether all bytes are hex digits. It takes no branch for a byte, as none could be foretold in a digest.
@@ -185,6 +208,7 @@ fn without_marks(rest: &str) -> &str
 /// A line of which the digest is good, by how its path is spelled.
 fn read_path(
     alloc: Global,
+    known: &Pool,
     rules: Rules,
     kind: Kind,
     digest: Digest,
@@ -192,7 +216,7 @@ fn read_path(
 ) -> Result<Result<(Digest, Text), Why>, AllocError>
     ensures { IfOk result (λ read. read ≡ spec.line_by_spelling rules kind digest spelling.now) }
 {
-    match decode_path(alloc, rules, spelling, Code::ManifestEscape)? {
+    match decode_known(alloc, known, rules, spelling, Code::ManifestEscape)? {
         Ok(path) => Ok(name_path(kind, digest, path)),
         Err(why) => Ok(Err(why)),
     }

@@ -25,7 +25,9 @@ mod items;
 mod label;
 pub mod laws;
 mod line_cut;
+mod part;
 mod path;
+mod pool;
 mod read_text;
 mod rules;
 pub mod said;
@@ -41,7 +43,10 @@ pub use code::Code;
 pub use items::Items;
 pub use label::same_label;
 pub use line_cut::Lines;
-pub use path::{PathFault, Unsafe, check_path, escape_path, is_payload, unescape_path};
+pub use path::{
+    PathFault, Unsafe, check_path, escape_path, is_payload, is_written_as_itself, unescape_path,
+};
+pub use pool::{Pool, Run};
 pub use read_text::{BYTE_ORDER_MARK, NotUtf8, lines, text_of};
 pub use rules::Rules;
 pub use sort_key::{common_front, key_behind};

@@ -149,6 +149,17 @@ pub fn unescape_path(alloc: Global, rules: Rules, text: &str) -> Result<String, 
     }
 }
 
+/// Whether a text is the path that it is written for: by the rules of 1.0 where it has no `%`. By those of 0.97 it isn't
+/// looked at.
+pub fn is_written_as_itself(rules: Rules, text: &str) -> bool
+    ensures { IsTrue result → spelled.unescaped rules text.now ≡ Some text.now }
+{
+    match rules {
+        Rules::V10 => has_no_percent(text.as_bytes()),
+        Rules::V097 => false,
+    }
+}
+
 /// The path that is written so by the rules of 1.0. Judges the escapes before it takes memory, which it does once.
 fn unescape_strictly(alloc: Global, text: &str) -> Result<String, PathFault>
     ensures ok { IfOk result (λ path. spelled.unescaped_strictly text.now ≡ Some (string_bytes path)) }

@@ -13,7 +13,7 @@ use std::alloc::Global;
 const PIECE_BYTES: u64 = 65_536;
 
 /// The most bytes for which room is taken before they are read, as a listing may say more than is there.
-const MOST_ROOM: u64 = 16_777_216;
+const MOST_ROOM: u64 = 67_108_864;
 
 /// The bytes of a listed file, which is opened once at most. More or fewer bytes than it was listed with are `Changed`.
 pub fn read_whole<T: Tree>(

@@ -1,7 +1,7 @@
 use Rattle.bag_read.proofs.Common.{arith}
 use Rattle.bag_read.proofs.ManifestFaults.{entries_of_text, faults_of_text, entries_of_no_text, faults_of_no_text}
 use Rattle.bag_read.proofs.Utf8.{is_no_text, listed_so}
-use Rattle.bag_read.proofs.manifest.read_manifest.Goals as goal
+use Rattle.bag_read.proofs.manifest.read_manifest_among.Goals as goal
 
 pub returns-in-Ok : goal.returns-in-Ok
 returns-in-Ok c = record { items = grind (arith, entries_of_text); faults = grind (arith, faults_of_text) }

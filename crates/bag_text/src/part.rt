@@ -1,0 +1,66 @@
+//! A part of a text that has more than one owner.
+ghost use Rattle.std.specs.Prelude.{◌≡◌, IfOk, IfSome};
+
+use std::alloc::AllocError;
+use std::marker::Model;
+use std::rc::RcStr;
+
+/// A part of a text that has more than one owner, seen by contracts as its bytes.
+#[derive(Debug, Drop)]
+pub(crate) struct Part {
+    whole: RcStr,
+    start: u32,
+    end: u32,
+}
+
+impl Model for Part {
+    ghost use Rattle.std.specs.Prelude.{ℕ, List, ◌≤◌, slice_range};
+    ghost use Rattle.std.specs.Rc.{rc_str_bytes};
+    ghost use Rattle.std.specs.Str.{IsCharBoundary};
+
+    ghost Value = { List ℕ };
+
+    ghost view = { λ part. slice_range (rc_str_bytes part.whole) part.start part.end };
+
+    ghost invariant = { λ part. (part.start ≤ part.end) × IsCharBoundary (rc_str_bytes part.whole) part.start
+        × IsCharBoundary (rc_str_bytes part.whole) part.end };
+}
+
+impl Part {
+    /// The part that stands at a place, where this text does.
+    pub(crate) fn of(whole: &RcStr, place: usize, text: &str) -> Option<Part>
+        ensures { IfSome result (λ part. part ≡ text.now) }
+    {
+        let end = place.checked_add(text.len())?;
+        let all = whole.as_str();
+        if !all.is_char_boundary(place) || !all.is_char_boundary(end) || &all[place..end] != text {
+            return None;
+        }
+        let (Ok(start), Ok(end)) = (u32::try_from(place), u32::try_from(end)) else {
+            return None;
+        };
+        let Ok(whole) = whole.clone() else {
+            return None;
+        };
+        Some(Part { whole, start, end })
+    }
+
+    /// The part, to look at.
+    pub(crate) fn as_str(&self) -> &str
+        ensures { result.now ≡ self.now }
+    {
+        &self.whole.as_str()[self.start as usize..self.end as usize]
+    }
+
+    /// The same part once more, which takes no memory.
+    pub(crate) fn share(&self) -> Result<Part, AllocError>
+        ensures { IfOk result (λ part. part ≡ self.now) }
+    {
+        let whole = self.whole.clone()?;
+        Ok(Part {
+            whole,
+            start: self.start,
+            end: self.end,
+        })
+    }
+}
