@@ -17,7 +17,8 @@ use bag_profile::Profile;
 use bag_read::Kind;
 use std::alloc::{AllocError, Global};
 
-/// Where a bag doesn't conform to a profile, of facts read for more than the declaration. Fails only where memory runs out.
+/// Where a bag doesn't conform to a profile, of facts read for more than the declaration. Fails
+/// only where memory runs out.
 pub fn conformance_faults(
     alloc: Global,
     facts: &Facts,

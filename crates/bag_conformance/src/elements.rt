@@ -22,8 +22,9 @@ use bag_read::Element;
 use bag_text::{Code, Text};
 use std::alloc::{AllocError, Global};
 
-/// The faults of the elements of `bag-info.txt`, by their lines: the profile isn't named, a label is lacking or stands there
-/// again, a value isn't allowed (BagIt Profiles Specification, Bag-Info).
+/// The faults of the elements of `bag-info.txt`, by their lines: the profile isn't named, a label
+/// is lacking or stands there again, a value isn't allowed (BagIt Profiles Specification,
+/// Bag-Info).
 pub(crate) fn element_faults(
     alloc: Global,
     facts: &Facts,

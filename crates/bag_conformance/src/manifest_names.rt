@@ -6,7 +6,8 @@ ghost use Rattle.bag_facts.specs.Facts.{IsFactsOf, OfBag};
 ghost use Rattle.bag_stages.specs.TagFiles.{HasManifest};
 ghost use Rattle.bag_conformance.specs.ConformanceFaults as kinds;
 ghost use Rattle.bag_conformance.specs.ConformanceFaults.{AreAll, IsOfKind};
-ghost use Rattle.bag_conformance.specs.ConformanceStage.{required_manifests, allowed_manifests, LacksManifest, HasOtherManifest};
+ghost use Rattle.bag_conformance.specs.ConformanceStage.{required_manifests, allowed_manifests};
+ghost use Rattle.bag_conformance.specs.ConformanceStage.{LacksManifest, HasOtherManifest};
 ghost use Rattle.bag_conformance.specs.NotAllowed.{IsOtherManifest};
 
 use crate::file_fault::file_fault;
@@ -19,8 +20,8 @@ use bag_read::{Kind, manifest_alg};
 use bag_text::{Code, Text};
 use std::alloc::{AllocError, Global};
 
-/// The faults that manifests of a kind are lacking, or may not be there (BagIt Profiles Specification, Manifests-Required,
-/// Manifests-Allowed and the same of tag manifests).
+/// The faults that manifests of a kind are lacking, or may not be there (BagIt Profiles
+/// Specification, Manifests-Required, Manifests-Allowed and the same of tag manifests).
 pub(crate) fn manifest_faults(
     alloc: Global,
     facts: &Facts,
@@ -34,7 +35,8 @@ pub(crate) fn manifest_faults(
     joined(lacking, others)
 }
 
-/// The faults that manifests must be there, and aren't. A name that no manifest can have is always lacking.
+/// The faults that manifests must be there, and aren't. A name that no manifest can have is always
+/// lacking.
 fn lacking_manifests(
     alloc: Global,
     facts: &Facts,

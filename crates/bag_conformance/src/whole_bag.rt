@@ -1,7 +1,8 @@
 //! What a profile asks of a bag as a whole.
 ghost use Rattle.std.specs.Prelude.{◌≡◌, IfOk, option_and_then};
 ghost use Rattle.std.specs.Option.{option_copied};
-ghost use Rattle.bag_text.specs.declared.code.Code.TheVariants.{VersionNotAccepted, SerializationRequired};
+ghost use Rattle.bag_text.specs.declared.code.Code.TheVariants.{VersionNotAccepted};
+ghost use Rattle.bag_text.specs.declared.code.Code.TheVariants.{SerializationRequired};
 ghost use Rattle.bag_read.specs.Declaration as declared;
 ghost use Rattle.bag_tree.specs.Bag.{Bag, file};
 ghost use Rattle.bag_facts.specs.Facts.{IsFactsOf, OfBag};
@@ -18,8 +19,8 @@ use bag_read::TagName;
 use bag_text::{Code, Text};
 use std::alloc::{AllocError, Global};
 
-/// The faults that the version isn't accepted, and that the bag is to be serialized (BagIt Profiles Specification,
-/// Accept-BagIt-Version, Serialization).
+/// The faults that the version isn't accepted, and that the bag is to be serialized (BagIt Profiles
+/// Specification, Accept-BagIt-Version, Serialization).
 pub(crate) fn whole_faults(
     alloc: Global,
     facts: &Facts,

@@ -1,8 +1,10 @@
 //! The calls of a disk, below a base folder.
-ghost use Rattle.std.specs.Prelude.{◌≡◌, ◌<◌, ◌≤◌, ◌++◌, ◌∷◌, [], List, ℕ, IfOk, OnOk, OnErr, IsErrOf, IsTrue, MatchOption, None, Some, length, is_some, ⊤};
+ghost use Rattle.std.specs.Prelude.{◌≡◌, ◌<◌, ◌≤◌, ◌++◌, ◌∷◌, [], List, ℕ, IfOk, OnOk, OnErr};
+ghost use Rattle.std.specs.Prelude.{IsErrOf, IsTrue, MatchOption, None, Some, length, is_some, ⊤};
 ghost use Rattle.std.specs.Option.{option_map};
 ghost use Rattle.bag_text.specs.Path.{is_path};
-ghost use Rattle.bag_disk.specs.Disk.{DiskState, SameDisk, OnlyLooks, Node, IsDisk, IsReached, IsFolder, AreNamesIn, node, entry_of, IsFileWith, HasUnnamed};
+ghost use Rattle.bag_disk.specs.Disk.{DiskState, SameDisk, OnlyLooks, Node, IsDisk, IsReached};
+ghost use Rattle.bag_disk.specs.Disk.{IsFolder, AreNamesIn, node, entry_of, IsFileWith, HasUnnamed};
 ghost use Rattle.bag_disk.specs.Refusal.{IsCountedAs, at_known, of_name, of_path};
 ghost use Rattle.bag_tree.specs.Tree.{ReadsNext};
 ghost use Rattle.bag_disk.specs.declared.disk.DiskFault.TheVariants.{Name, NotFound};
@@ -36,16 +38,18 @@ pub enum DiskFault {
 
 /// The calls of a disk, below a base folder. A path leads from the base folder.
 ///
-/// What an honest disk answers is what stands below its base folder, which nothing but the disk's own calls alters. Of a path
-/// that leads through a link nothing is said. A disk counts how often its device has refused: each call says which of its
-/// faults are counted, one each, and nothing else is.
+/// What an honest disk answers is what stands below its base folder, which nothing but the disk's
+/// own calls alters. Of a path that leads through a link nothing is said. A disk counts how often
+/// its device has refused: each call says which of its faults are counted, one each, and nothing
+/// else is.
 pub trait Disk {
-    /// What the disk means: what stands at each path, whether it is honest, which files were opened, the rest of the open
-    /// file, the names that are left of the folder that was entered, how often the device has refused, and what it did, where
-    /// it notes that.
+    /// What the disk means: what stands at each path, whether it is honest, which files were
+    /// opened, the rest of the open file, the names that are left of the folder that was entered,
+    /// how often the device has refused, and what it did, where it notes that.
     ghost state: { Self → DiskState };
 
-    /// What stands at a path. A link at its end isn't followed. That nothing stands there isn't counted.
+    /// What stands at a path. A link at its end isn't followed. That nothing stands there isn't
+    /// counted.
     fn entry_at(&mut self, path: &str) -> Result<Entry, DiskFault>
         requires { IsTrue (is_path path.now) }
         ensures looks { OnlyLooks (state self.old) (state self.new) }
@@ -56,8 +60,8 @@ pub trait Disk {
             → node (state self.old).nodes path.now ≡ None }
         ensures failures { IsCountedAs of_path result (state self.old).failures (state self.new).failures };
 
-    /// What stands at the path of what was named last, where a link isn't followed. All faults but `Memory` are counted,
-    /// since something stands there.
+    /// What stands at the path of what was named last, where a link isn't followed. All faults but
+    /// `Memory` are counted, since something stands there.
     fn named_entry(&mut self, path: &str) -> Result<Entry, DiskFault>
         requires { IsTrue (is_path path.now) }
         ensures looks { OnlyLooks (state self.old) (state self.new) }
@@ -66,16 +70,16 @@ pub trait Disk {
             → option_map entry_of (node (state self.old).nodes path.now) ≡ Some entry) }
         ensures failures { IsCountedAs at_known result (state self.old).failures (state self.new).failures };
 
-    /// Enters a folder in place of the one that was entered, so that its names come next. The empty path is the base
-    /// folder. All faults but `Memory` are counted.
+    /// Enters a folder in place of the one that was entered, so that its names come next. The empty
+    /// path is the base folder. All faults but `Memory` are counted.
     fn enter(&mut self, folder: &str) -> Result<(), DiskFault>
         ensures looks { OnlyLooks (state self.old) (state self.new) }
         ensures honest { OnOk result (IsTrue (state self.old).honest → IsFolder (state self.old).nodes folder.now
             → AreNamesIn (state self.old).nodes folder.now (state self.new).names) }
         ensures failures { IsCountedAs at_known result (state self.old).failures (state self.new).failures };
 
-    /// The next name of the folder that was entered; none at its end. `Name` says that it isn't UTF-8. All faults but that
-    /// one and `Memory` are counted. What isn't a path is never given.
+    /// The next name of the folder that was entered; none at its end. `Name` says that it isn't
+    /// UTF-8. All faults but that one and `Memory` are counted. What isn't a path is never given.
     fn next_name(&mut self) -> Result<Option<Text>, DiskFault>
         ensures looks { OnlyLooks (state self.old) (state self.new) }
         ensures unnamed { IsErrOf result Name → IsTrue (state self.old).honest → HasUnnamed (state self.old).names }
@@ -84,8 +88,8 @@ pub trait Disk {
         ensures path { IfOk result (λ next. MatchOption next ⊤ (λ name. IsTrue (is_path name))) }
         ensures failures { IsCountedAs of_name result (state self.old).failures (state self.new).failures };
 
-    /// Opens the file at a path in place of the one that was open. After a refusal nothing is open. That nothing stands there
-    /// isn't counted.
+    /// Opens the file at a path in place of the one that was open. After a refusal nothing is open.
+    /// That nothing stands there isn't counted.
     fn open(&mut self, path: &str) -> Result<(), DiskFault>
         requires { IsTrue (is_path path.now) }
         ensures same { SameDisk (state self.old) (state self.new) }
@@ -110,8 +114,8 @@ pub trait Disk {
         ensures closed { (state self.new).rest ≡ None }
         ensures failures { (state self.new).failures ≡ (state self.old).failures };
 
-    /// Reads the next bytes of the open file; none at its end. A refusal leaves the rest of the file. All faults but `Memory`
-    /// are counted.
+    /// Reads the next bytes of the open file; none at its end. A refusal leaves the rest of the
+    /// file. All faults but `Memory` are counted.
     fn read(&mut self, buffer: &mut [u8]) -> Result<usize, DiskFault>
         requires some { 0 < length buffer.old }
         requires file_open { IsTrue (is_some (state self.old).rest) }

@@ -4,8 +4,8 @@ use crate::{DiskFault, Refusal};
 use bag_text::Text;
 use bag_tree::Heard;
 
-/// How often a device has refused, which only clauses read: it takes no memory. A disk counts each fault by what it means in
-/// its call.
+/// How often a device has refused, which only clauses read: it takes no memory. A disk counts each
+/// fault by what it means in its call.
 #[derive(Drop)]
 pub struct Failures {
     /// A byte for each time.

@@ -1,7 +1,9 @@
 //! A walk over the folders of a disk.
-ghost use Rattle.std.specs.Prelude.{◌≡◌, ◌<◌, ◌≤◌, ◌+◌, ◌∷◌, ◌++◌, [], ℕ, List, IfOk, IfErr, OnOk, IsTrue, vec_len};
+ghost use Rattle.std.specs.Prelude.{◌≡◌, ◌<◌, ◌≤◌, ◌+◌, ◌∷◌, ◌++◌, [], ℕ, List, IfOk, IfErr, OnOk};
+ghost use Rattle.std.specs.Prelude.{IsTrue, vec_len};
 ghost use Rattle.bag_disk.specs.Disk.{Has, HasSpecial, HasUnnamedPath, OnlyLooks};
-ghost use Rattle.bag_disk.specs.FolderWalk.{Walked, AllArePaths, AllStand, IsFolderPath, Listing, files_with, folders_with};
+ghost use Rattle.bag_disk.specs.FolderWalk.{Walked, AllArePaths, AllStand, IsFolderPath, Listing};
+ghost use Rattle.bag_disk.specs.FolderWalk.{files_with, folders_with};
 ghost use Rattle.bag_disk.specs.Location.{path_in};
 ghost use Rattle.bag_disk.specs.declared.disk.Entry.TheVariants.{Other};
 ghost use Rattle.bag_disk.specs.Refusal.{IsCounted, IsDue, IsNoFailure};
@@ -46,7 +48,8 @@ impl FolderWalk {
         })
     }
 
-    /// Adds what stands in one folder. Where there is too much, all that was found so far stands in the walk.
+    /// Adds what stands in one folder. Where there is too much, all that was found so far stands in
+    /// the walk.
     pub(crate) fn list_folder<D: Disk>(&mut self, disk: &mut D, folder: Text) -> Result<(), Refusal>
         requires { IsFolderPath folder }
         ensures paths { OnOk result (AllArePaths self.old.files.items self.old.folders.items → AllArePaths self.new.files.items self.new.folders.items) }

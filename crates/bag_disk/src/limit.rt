@@ -12,7 +12,8 @@ use bag_text::Text;
 use bag_tree::FileEntry;
 use std::alloc::AllocError;
 
-/// Why a walk has no room for what it found: there is too much, or, where the disk named something twice, want of memory.
+/// Why a walk has no room for what it found: there is too much, or, where the disk named something
+/// twice, want of memory.
 pub(crate) fn no_room(walk: FolderWalk) -> Refusal
     ensures quiet { is_device result ≡ false }
     ensures due { IsDue ⊥ ⊥ ⊥ ((nodes : Nodes) → AllStand nodes walk.files.items walk.folders.items walk.listed.items → most_entries < entry_count nodes) result }

@@ -6,7 +6,8 @@ ghost use Rattle.bag_tree.specs.Tree.{most_entries};
 ghost use Rattle.bag_disk.specs.Disk.{OnlyLooks, entry_count, is_plain};
 ghost use Rattle.bag_disk.specs.DiskBag.{bag_of};
 ghost use Rattle.bag_disk.specs.FolderWalk.{ArePaths, Contradiction, IsUnlistable, Walked};
-ghost use Rattle.bag_disk.specs.Refusal.{IsCounted, IsDue, IsDueInListing, IsNoFailure, MeetsSpecial, MeetsUnnamed};
+ghost use Rattle.bag_disk.specs.Refusal.{IsCounted, IsDue, IsDueInListing, IsNoFailure};
+ghost use Rattle.bag_disk.specs.Refusal.{MeetsSpecial, MeetsUnnamed};
 
 use crate::Disk;
 use crate::folder_walk::FolderWalk;

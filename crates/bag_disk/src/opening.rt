@@ -1,5 +1,6 @@
 //! Opening a file of a disk.
-ghost use Rattle.std.specs.Prelude.{◌≡◌, ◌++◌, ◌∷◌, [], None, OnOk, OnErr, IfErr, IsTrue, is_some, Some};
+ghost use Rattle.std.specs.Prelude.{◌≡◌, ◌++◌, ◌∷◌, [], None, OnOk, OnErr, IfErr, IsTrue, is_some};
+ghost use Rattle.std.specs.Prelude.{Some};
 ghost use Rattle.bag_text.specs.Path.{is_path};
 ghost use Rattle.bag_tree.specs.Bag.{file};
 ghost use Rattle.bag_tree.specs.Tree.{IsOpen};
@@ -12,8 +13,8 @@ use crate::path::is_path;
 use crate::refusal::Refusal;
 use crate::{Disk, Entry};
 
-/// Opens the regular file at a path. Links on the way aren't followed, and neither a text that isn't a path nor a folder
-/// has a file.
+/// Opens the regular file at a path. Links on the way aren't followed, and neither a text that
+/// isn't a path nor a folder has a file.
 pub fn open_at<D: Disk>(disk: &mut D, path: &str) -> Result<(), Refusal>
     ensures same { SameDisk (D.state disk.old) (D.state disk.new) }
     ensures opened { OnOk result ((D.state disk.new).openings ≡ (D.state disk.old).openings ++ path.now ∷ []) }

@@ -1,5 +1,6 @@
 //! The system's disk.
-ghost use Rattle.std.specs.Prelude.{◌≡◌, ◌<◌, ◌++◌, ◌∷◌, [], IfOk, IsTrue, None, Ok, OnErr, OnOk, is_some, false, length};
+ghost use Rattle.std.specs.Prelude.{◌≡◌, ◌<◌, ◌++◌, ◌∷◌, [], IfOk, IsTrue, None, Ok, OnErr, OnOk};
+ghost use Rattle.std.specs.Prelude.{is_some, false, length};
 ghost use Rattle.std.specs.Fs.{dir_entry_name};
 ghost use Rattle.bag_disk.specs.SystemDisk.{base_of, system_state, written_state};
 ghost use Rattle.bag_disk.specs.Disk.{empty_disk};
@@ -16,7 +17,8 @@ use std::fs::{DirEntry, OpenFile, ReadDir};
 use std::io::{Read, Write};
 use std::rt::Files;
 
-/// The system's calls, below a base folder, of which nothing is promised. The base folder may be a link to a folder.
+/// The system's calls, below a base folder, of which nothing is promised. The base folder may be a
+/// link to a folder.
 #[derive(Drop)]
 pub struct SystemDisk<R: Files> {
     rt: R,

@@ -1,22 +1,26 @@
 //! The calls of a disk that change what stands on it.
-ghost use Rattle.std.specs.Prelude.{◌≡◌, ◌<◌, ◌≤◌, List, ℕ, IfOk, OnOk, OnErr, IsErrOf, IsTrue, Option, None, Some, is_some, length, take};
+ghost use Rattle.std.specs.Prelude.{◌≡◌, ◌<◌, ◌≤◌, List, ℕ, IfOk, OnOk, OnErr, IsErrOf, IsTrue};
+ghost use Rattle.std.specs.Prelude.{Option, None, Some, is_some, length, take};
 ghost use Rattle.bag_text.specs.Path.{is_path};
 ghost use Rattle.bag_disk.specs.Disk.{Has, IsFolder, IsReached, OnlyLooks, OnlySyncs, node};
 ghost use Rattle.bag_disk.specs.Refusal.{IsCountedAs, at_known, of_making};
-ghost use Rattle.bag_disk.specs.WritableDisk.{Appends, Closes, HasFile, MakesFile, MakesFolder, Moves, Notes};
+ghost use Rattle.bag_disk.specs.WritableDisk.{Appends, Closes, HasFile, MakesFile, MakesFolder};
+ghost use Rattle.bag_disk.specs.WritableDisk.{Moves, Notes};
 ghost use Rattle.bag_tree.specs.Moved.{KeepsOthers};
-ghost use Rattle.bag_tree.specs.declared.event.DeviceEvent.TheVariants.{MakeFolder, Rename, Create, Write, Sync, SyncFolder};
+ghost use Rattle.bag_tree.specs.declared.event.DeviceEvent.TheVariants.{MakeFolder, Rename, Create};
+ghost use Rattle.bag_tree.specs.declared.event.DeviceEvent.TheVariants.{Write, Sync, SyncFolder};
 ghost use Rattle.bag_disk.specs.declared.disk.DiskFault.TheVariants.{Exists, Name, NotFound};
 
 use crate::disk::{Disk, DiskFault};
 
 /// The calls of a disk that make a bag, below a base folder. A path leads from the base folder.
 ///
-/// An honest disk stays honest: what stands there is then what its own calls made of it. A call that is answered closes the
-/// file that is open for reading; one that is refused changes nothing. Of a path that leads through a link nothing is said.
-/// What a call made may be lost in a power cut, until `sync` and `sync_folder` have made it durable. A device that notes what it
-/// does notes each change, and each sync, as one event. All faults are counted but `Memory`, and `Exists` where something is to
-/// be made.
+/// An honest disk stays honest: what stands there is then what its own calls made of it. A call
+/// that is answered closes the file that is open for reading; one that is refused changes nothing.
+/// Of a path that leads through a link nothing is said. What a call made may be lost in a power
+/// cut, until `sync` and `sync_folder` have made it durable. A device that notes what it does notes
+/// each change, and each sync, as one event. All faults are counted but `Memory`, and `Exists`
+/// where something is to be made.
 pub trait WritableDisk: Disk {
     /// The path of the file that is being written.
     ghost written: { Self → Option (List ℕ) };
@@ -37,9 +41,9 @@ pub trait WritableDisk: Disk {
             → OnOk result (Notes (MakeFolder path.now) (Self.state self.old) (Self.state self.new)) }
         ensures failures { IsCountedAs of_making result (Self.state self.old).failures (Self.state self.new).failures };
 
-    /// Moves what stands at one path, with all that is below it, to another, without a copy. Then no file is being written.
-    /// A caller looks first whether something stands at the other: it might be replaced, and then nothing is said of what is
-    /// at or below the two.
+    /// Moves what stands at one path, with all that is below it, to another, without a copy. Then
+    /// no file is being written. A caller looks first whether something stands at the other: it
+    /// might be replaced, and then nothing is said of what is at or below the two.
     fn rename(&mut self, from: &str, to: &str) -> Result<(), DiskFault>
         requires from { IsTrue (is_path from.now) }
         requires to { IsTrue (is_path to.now) }
@@ -81,8 +85,9 @@ pub trait WritableDisk: Disk {
             → OnOk result (written self.new ≡ Some path.now) }
         ensures failures { IsCountedAs of_making result (Self.state self.old).failures (Self.state self.new).failures };
 
-    /// Puts some first bytes, as many as it answers, behind those of the file that is being written; one at least, where there
-    /// are any. An honest disk refuses it by `Memory` or `Device` alone.
+    /// Puts some first bytes, as many as it answers, behind those of the file that is being
+    /// written; one at least, where there are any. An honest disk refuses it by `Memory` or
+    /// `Device` alone.
     fn write(&mut self, bytes: &[u8]) -> Result<usize, DiskFault>
         requires { IsTrue (is_some (written self.old)) }
         ensures within { IfOk result (λ n. n ≤ length bytes.now) }
@@ -100,8 +105,8 @@ pub trait WritableDisk: Disk {
         ensures some { IfOk result (λ n. 0 < length bytes.now → 0 < n) }
         ensures failures { IsCountedAs at_known result (Self.state self.old).failures (Self.state self.new).failures };
 
-    /// Syncs the file that was written, so that its bytes are durable, and ends its writing. Its name isn't durable by that. An
-    /// honest disk refuses it by `Memory` or `Device` alone.
+    /// Syncs the file that was written, so that its bytes are durable, and ends its writing. Its
+    /// name isn't durable by that. An honest disk refuses it by `Memory` or `Device` alone.
     fn sync(&mut self) -> Result<(), DiskFault>
         requires { IsTrue (is_some (written self.old)) }
         ensures held { OnOk result ((Self.state self.new).nodes ≡ (Self.state self.old).nodes) }
@@ -117,9 +122,10 @@ pub trait WritableDisk: Disk {
             → Notes (Sync path) (Self.state self.old) (Self.state self.new)) }
         ensures failures { IsCountedAs at_known result (Self.state self.old).failures (Self.state self.new).failures };
 
-    /// Syncs a folder, so that the names in it are durable: without that what was made in it or moved into it may be lost, and
-    /// what was moved away may be where it was. The empty path is the base folder. An honest disk refuses it, where the folder is
-    /// there, by `Memory` or `Device` alone.
+    /// Syncs a folder, so that the names in it are durable: without that what was made in it or
+    /// moved into it may be lost, and what was moved away may be where it was. The empty path is
+    /// the base folder. An honest disk refuses it, where the folder is there, by `Memory` or
+    /// `Device` alone.
     fn sync_folder(&mut self, folder: &str) -> Result<(), DiskFault>
         ensures syncs { OnlySyncs (Self.state self.old) (Self.state self.new) }
         ensures same { OnErr result (OnlyLooks (Self.state self.old) (Self.state self.new)) }

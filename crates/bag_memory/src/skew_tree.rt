@@ -22,8 +22,8 @@ impl SkewTree {
     ghost use Rattle.std.specs.Prelude.{None};
     ghost use Rattle.bag_memory.specs.SkewTree.{memory_of, listing_of, own_of};
 
-    /// The tree in memory, of which the first `list` answers this listing, or `TooMany` where there is none; each later one is
-    /// `TooMany`.
+    /// The tree in memory, of which the first `list` answers this listing, or `TooMany` where there
+    /// is none; each later one is `TooMany`.
     pub fn new(tree: MemoryTree, listing: Option<Listing>) -> SkewTree
         requires { ForSome listing (λ listing. IsOrdered listing.files) }
         ensures state { ⟦<SkewTree as Tree>⟧.state result ≡ skewed (state_of tree) None }

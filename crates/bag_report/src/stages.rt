@@ -20,8 +20,9 @@ use bag_stages::{
 use bag_text::Code;
 use std::alloc::{AllocError, Global};
 
-/// The faults of one stage that are asked for, in their order. None are where the depth doesn't have the stage, and of the
-/// eighth none are without a profile. The seventh needs the files, so that for it there are none, as for every number above
+/// The faults of one stage that are asked for, in their order. None are where the depth doesn't
+/// have the stage, and of the eighth none are without a profile. The seventh needs the files, so
+/// that for it there are none, as for every number above
 /// 8. Fails only where memory runs out.
 pub fn stage_faults(
     alloc: Global,
@@ -42,7 +43,8 @@ pub fn stage_faults(
     Ok(faults)
 }
 
-/// The faults that a stage looks for, of facts that were read for it: clashes of names only where they are asked for.
+/// The faults that a stage looks for, of facts that were read for it: clashes of names only where
+/// they are asked for.
 fn found_faults(
     alloc: Global,
     facts: &Facts,
@@ -80,8 +82,9 @@ fn profile_faults(
     }
 }
 
-/// Whether a fault is asked for, as one of a stage that the depth has: that there is no `Payload-Oxum` (RFC 8493, 2.2.2) at the
-/// depth `Fast` alone, and clashes of names where they are looked for.
+/// Whether a fault is asked for, as one of a stage that the depth has: that there is no
+/// `Payload-Oxum` (RFC 8493, 2.2.2) at the depth `Fast` alone, and clashes of names where they are
+/// looked for.
 #[tactic(auto, unfolding(crate::specs::Report::asks))]
 fn asks(options: Options, fault: &Fault) -> bool
     ensures { result ≡ asks options fault.now.code }

@@ -58,7 +58,8 @@ fn clashes_among(alloc: Global, names: &[&str]) -> Result<Vec<Fault>, AllocError
     Ok(faults)
 }
 
-/// The fault of a name whose form an earlier name has. A name without one is the first of its form from now on.
+/// The fault of a name whose form an earlier name has. A name without one is the first of its form
+/// from now on.
 fn clash_of<'a>(
     alloc: Global,
     firsts: &mut HashMap<String, &'a str>,

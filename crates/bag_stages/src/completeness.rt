@@ -14,8 +14,8 @@ use crate::unnamed::unlisted_in_all;
 use bag_facts::{Facts, Fault};
 use std::alloc::{AllocError, Global};
 
-/// The faults of completeness (RFC 8493, 3), of facts read for more than the declaration, and where the options ask for
-/// them the clashes of names. Fails only where memory runs out.
+/// The faults of completeness (RFC 8493, 3), of facts read for more than the declaration, and where
+/// the options ask for them the clashes of names. Fails only where memory runs out.
 pub fn completeness_faults(alloc: Global, facts: &Facts) -> Result<Vec<Fault>, AllocError>
     ensures { IfOk result (λ faults. OfBag facts.now (λ bag. IsListOf fault_cmp (IsSoughtInStageSix facts.now.options.clashes bag) faults.items)) }
 {
@@ -26,7 +26,8 @@ pub fn completeness_faults(alloc: Global, facts: &Facts) -> Result<Vec<Fault>, A
     Ok(faults)
 }
 
-/// The faults that files are missing or aren't listed, one manifest after another, and last those of all payload manifests.
+/// The faults that files are missing or aren't listed, one manifest after another, and last those
+/// of all payload manifests.
 fn faults_of_files(alloc: Global, facts: &Facts) -> Result<Vec<Fault>, AllocError>
     ensures { IfOk result (λ faults. OfBag facts.now (λ bag. HasEachOnce (IsIncomplete bag) faults.items)) }
 {
@@ -38,8 +39,8 @@ fn faults_of_files(alloc: Global, facts: &Facts) -> Result<Vec<Fault>, AllocErro
     Ok(faults)
 }
 
-/// The clashes of names where the options ask for them, and else none, in the order of their paths. The facts are read for more
-/// than the declaration. Fails only where memory runs out.
+/// The clashes of names where the options ask for them, and else none, in the order of their paths.
+/// The facts are read for more than the declaration. Fails only where memory runs out.
 pub fn clashes_asked(alloc: Global, facts: &Facts) -> Result<Vec<Fault>, AllocError>
     ensures { IfOk result (λ faults. OfBag facts.now (λ bag. IsListOf fault_cmp (IsSoughtClash facts.now.options.clashes bag) faults.items)) }
 {

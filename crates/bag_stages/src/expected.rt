@@ -26,10 +26,11 @@ pub struct Expected {
     pub digest: GivenDigest,
 }
 
-/// The digests that manifests give for a file (RFC 8493, 2.1.3 and 2.2.1), in the order of their algorithms, of facts read for
-/// more than the declaration: none exactly where no manifest names it. A manifest that names it at the place where it is looked
-/// for first is not searched, and each other takes time log n of its entries. For one file after another in path order, hand
-/// over the places that the call before left.
+/// The digests that manifests give for a file (RFC 8493, 2.1.3 and 2.2.1), in the order of their
+/// algorithms, of facts read for more than the declaration: none exactly where no manifest names
+/// it. A manifest that names it at the place where it is looked for first is not searched, and each
+/// other takes time log n of its entries. For one file after another in path order, hand over the
+/// places that the call before left.
 pub fn expected_of(
     alloc: Global,
     facts: &Facts,
@@ -71,8 +72,8 @@ fn expected_by(
     Some(Expected { alg, digest })
 }
 
-/// The entry of a path among entries in the order of their paths. It is looked for at a place first, and then by a search; the
-/// place is left behind it.
+/// The entry of a path among entries in the order of their paths. It is looked for at a place
+/// first, and then by a search; the place is left behind it.
 fn entry_near<'a>(
     entries: &'a [ManifestEntry],
     path: &Text,

@@ -4,7 +4,9 @@ ghost use Rattle.bag_text.specs.Order.{IsListOf};
 ghost use Rattle.bag_facts.specs.FaultOrder.{fault_cmp};
 ghost use Rattle.bag_facts.specs.Facts.{OfBag};
 ghost use Rattle.bag_facts.specs.TagFacts.{AreByPath};
-ghost use Rattle.bag_stages.specs.FetchFaults.{not_in_manifest, AreByLine, AreFetched, IsNamedByNoneAmong, IsNotInAny, IsNotInManifest, IsNotInSome, IsNotListed, IsNotNamedAmong};
+ghost use Rattle.bag_stages.specs.FetchFaults.{not_in_manifest, AreByLine, AreFetched};
+ghost use Rattle.bag_stages.specs.FetchFaults.{IsNamedByNoneAmong, IsNotInAny, IsNotInManifest};
+ghost use Rattle.bag_stages.specs.FetchFaults.{IsNotInSome, IsNotListed, IsNotNamedAmong};
 ghost use Rattle.bag_stages.specs.FetchStage.{fetch_txt, IsOfFetch};
 
 use crate::named::is_named;
@@ -14,8 +16,9 @@ use bag_read::{FetchEntry, Kind, TagName};
 use bag_text::{Alg, Code, Rules, Text};
 use std::alloc::{AllocError, Global};
 
-/// The faults of `fetch.txt` (RFC 8493, 2.2.3), of facts read for more than the declaration: those of its lines, and the files
-/// that payload manifests leave out. Bytes that aren't UTF-8 have none. Fails only where memory runs out.
+/// The faults of `fetch.txt` (RFC 8493, 2.2.3), of facts read for more than the declaration: those
+/// of its lines, and the files that payload manifests leave out. Bytes that aren't UTF-8 have none.
+/// Fails only where memory runs out.
 pub fn fetch_faults(alloc: Global, facts: &Facts) -> Result<Vec<Fault>, AllocError>
     ensures { IfOk result (λ faults. OfBag facts.now (λ bag. IsListOf fault_cmp (IsOfFetch bag) faults.items)) }
 {
@@ -67,7 +70,8 @@ fn unnamed_in_all(
     Ok(faults)
 }
 
-/// The faults that the payload manifest of an algorithm doesn't name files to fetch, where it is there.
+/// The faults that the payload manifest of an algorithm doesn't name files to fetch, where it is
+/// there.
 fn unnamed_in(
     alloc: Global,
     facts: &Facts,
@@ -103,7 +107,8 @@ fn unnamed_faults(
     Ok(faults)
 }
 
-/// The faults that all payload manifests, of which there is one, leave files to fetch out: what the rules of 0.97 ask.
+/// The faults that all payload manifests, of which there is one, leave files to fetch out: what the
+/// rules of 0.97 ask.
 fn unnamed_by_all(
     alloc: Global,
     facts: &Facts,
@@ -137,7 +142,8 @@ fn named_by_none(
     Ok(faults)
 }
 
-/// The fault that payload manifests leave a file to fetch out; with an algorithm, its manifest does.
+/// The fault that payload manifests leave a file to fetch out; with an algorithm, its manifest
+/// does.
 fn unnamed_fault(
     alloc: Global,
     path: &Text,

@@ -9,7 +9,8 @@ ghost use Rattle.bag_facts.specs.Facts.{IsFactsOf, IsSaid, OfBag};
 ghost use Rattle.bag_facts.specs.TagFacts.{AreByPath};
 ghost use Rattle.bag_facts.specs.Wanted.{paths_of};
 ghost use Rattle.bag_facts.specs.declared.tag_facts.TagFacts.TheVariants as known;
-ghost use Rattle.bag_stages.specs.ManifestFaults.{unnamed, IsAskedUnnamed, IsUnnamedFault, IsUnnamedAmong, IsOfManifest};
+ghost use Rattle.bag_stages.specs.ManifestFaults.{unnamed, IsAskedUnnamed, IsUnnamedFault};
+ghost use Rattle.bag_stages.specs.ManifestFaults.{IsUnnamedAmong, IsOfManifest};
 ghost use Rattle.bag_stages.specs.ManifestsStage.{IsOfManifests};
 
 use crate::tag_file::line_faults;
@@ -19,8 +20,8 @@ use bag_text::{Code, Rules, Text};
 use bag_tree::FileEntry;
 use std::alloc::{AllocError, Global};
 
-/// The faults of manifests (RFC 8493, 2.1.3 and 2.2.1), of facts read for more than the declaration. Fails only where
-/// memory runs out.
+/// The faults of manifests (RFC 8493, 2.1.3 and 2.2.1), of facts read for more than the
+/// declaration. Fails only where memory runs out.
 pub fn manifest_faults(alloc: Global, facts: &Facts) -> Result<Vec<Fault>, AllocError>
     ensures { IfOk result (λ faults. OfBag facts.now (λ bag. IsListOf fault_cmp (IsOfManifests bag) faults.items)) }
 {
@@ -57,7 +58,8 @@ fn faults_of(alloc: Global, facts: &Facts, manifest: &Manifest) -> Result<Vec<Fa
     }
 }
 
-/// The listed payload manifests that the rules ask a tag manifest to name, and that it doesn't: those of 0.97 ask for none.
+/// The listed payload manifests that the rules ask a tag manifest to name, and that it doesn't:
+/// those of 0.97 ask for none.
 fn asked_unnamed(
     alloc: Global,
     facts: &Facts,

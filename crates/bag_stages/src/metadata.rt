@@ -18,8 +18,9 @@ use bag_text::Text;
 use bag_tree::FileEntry;
 use std::alloc::{AllocError, Global};
 
-/// The faults of `bag-info.txt` and of the payload's size in it (RFC 8493, 2.2.2), of facts read for more than the
-/// declaration. That no `Payload-Oxum` is there is one of them. Fails only where memory runs out.
+/// The faults of `bag-info.txt` and of the payload's size in it (RFC 8493, 2.2.2), of facts read
+/// for more than the declaration. That no `Payload-Oxum` is there is one of them. Fails only where
+/// memory runs out.
 pub fn metadata_faults(alloc: Global, facts: &Facts) -> Result<Vec<Fault>, AllocError>
     ensures { IfOk result (λ faults. OfBag facts.now (λ bag. IsListOf fault_cmp (IsOfMetadata bag) faults.items)) }
 {
@@ -30,7 +31,8 @@ pub fn metadata_faults(alloc: Global, facts: &Facts) -> Result<Vec<Fault>, Alloc
     }
 }
 
-/// The faults of metadata that is there: those of its elements and of its lines stand in line order.
+/// The faults of metadata that is there: those of its elements and of its lines stand in line
+/// order.
 fn faults_of(
     alloc: Global,
     path: &Text,

@@ -8,7 +8,8 @@ ghost use Rattle.bag_facts.specs.FaultOrder.{fault_cmp};
 ghost use Rattle.bag_facts.specs.Facts.{OfBag};
 ghost use Rattle.bag_facts.specs.TagFacts.{entry_paths, AreByPath};
 ghost use Rattle.bag_facts.specs.Wanted.{paths_of};
-ghost use Rattle.bag_stages.specs.CompletenessFaults.{missing_code, HasEachOnce, IsMissing, IsMissingFromSome, IsOfPathAmong};
+ghost use Rattle.bag_stages.specs.CompletenessFaults.{missing_code, HasEachOnce, IsMissing};
+ghost use Rattle.bag_stages.specs.CompletenessFaults.{IsMissingFromSome, IsOfPathAmong};
 
 use crate::file_fault::file_fault;
 use crate::seek::seek;
@@ -30,8 +31,9 @@ pub(crate) fn missing_tag_files(alloc: Global, facts: &Facts) -> Result<Vec<Faul
     Ok(faults)
 }
 
-/// The faults that the manifest of an algorithm names files that aren't there, where it is there itself, in the order of their
-/// paths. The facts are read for more than the declaration. Fails only where memory runs out.
+/// The faults that the manifest of an algorithm names files that aren't there, where it is there
+/// itself, in the order of their paths. The facts are read for more than the declaration. Fails
+/// only where memory runs out.
 pub fn missing_of(
     alloc: Global,
     facts: &Facts,

@@ -18,7 +18,8 @@ use bag_text::{Alg, is_payload};
 use bag_tree::FileEntry;
 use std::alloc::{AllocError, Global};
 
-/// The paths of the payload's files, and those that payload manifests name, in no order, and some of them more than once.
+/// The paths of the payload's files, and those that payload manifests name, in no order, and some
+/// of them more than once.
 pub(crate) fn payload_names(alloc: Global, facts: &Facts) -> Result<Vec<&str>, AllocError>
     ensures { IfOk result (λ names. OfBag facts.now (λ bag. (path : List ℕ) → Contains (texts_of names.items) path ↔ IsPayloadName bag path)) }
 {

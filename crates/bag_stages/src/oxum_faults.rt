@@ -11,8 +11,8 @@ use bag_text::{Code, Text, same_label};
 use bag_tree::FileEntry;
 use std::alloc::{AllocError, Global};
 
-/// The faults of the elements that tell the payload's size (RFC 8493, 2.2.2), where the payload is among these files: the
-/// first of them counts, and there should be no other.
+/// The faults of the elements that tell the payload's size (RFC 8493, 2.2.2), where the payload is
+/// among these files: the first of them counts, and there should be no other.
 pub(crate) fn oxum_faults(
     alloc: Global,
     path: &Text,

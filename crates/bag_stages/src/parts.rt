@@ -1,5 +1,6 @@
 //! Stage 2: the parts of a bag.
-ghost use Rattle.std.specs.Prelude.{◌≡◌, ◌≢◌, ◌∷◌, ◌++◌, ◌↔◌, ℕ, List, [], IsTrue, IfOk, MatchOption, if◌then◌else◌};
+ghost use Rattle.std.specs.Prelude.{◌≡◌, ◌≢◌, ◌∷◌, ◌++◌, ◌↔◌, ℕ, List, [], IsTrue, IfOk};
+ghost use Rattle.std.specs.Prelude.{MatchOption, if◌then◌else◌};
 ghost use Rattle.std.specs.List.Sorted.{IsStrictlySortedBy};
 ghost use Rattle.bag_text.specs.Order.{IsListOf, IsOnly};
 ghost use Rattle.bag_text.specs.Text.{text_cmp};
@@ -10,7 +11,8 @@ ghost use Rattle.bag_tree.specs.Bag.{Bag};
 ghost use Rattle.bag_facts.specs.FaultOrder.{fault_cmp};
 ghost use Rattle.bag_facts.specs.Facts.{OfBag};
 ghost use Rattle.bag_facts.specs.Wanted.{paths_of};
-ghost use Rattle.bag_stages.specs.FileFaults.{AreTagsOf, ListsPayloadManifest, HasTextless, IsUnsupported, IsFileFault, IsFaultAmong};
+ghost use Rattle.bag_stages.specs.FileFaults.{AreTagsOf, ListsPayloadManifest, HasTextless};
+ghost use Rattle.bag_stages.specs.FileFaults.{IsUnsupported, IsFileFault, IsFaultAmong};
 ghost use Rattle.bag_stages.specs.PartsStage.{IsOfParts};
 ghost use Rattle.bag_stages.specs.FaultFields.{of_bag};
 ghost use Rattle.bag_stages.specs.TagFiles.{HasNoText};
@@ -22,8 +24,8 @@ use bag_text::{Alg, Code, Text};
 use bag_tree::FileEntry;
 use std::alloc::{AllocError, Global};
 
-/// The faults of the bag's parts (RFC 8493, 2.1, 2.3 and 2.4), of facts read for more than the declaration. Fails only
-/// where memory runs out.
+/// The faults of the bag's parts (RFC 8493, 2.1, 2.3 and 2.4), of facts read for more than the
+/// declaration. Fails only where memory runs out.
 pub fn parts_faults(alloc: Global, facts: &Facts) -> Result<Vec<Fault>, AllocError>
     ensures { IfOk result (λ faults. OfBag facts.now (λ bag. IsListOf fault_cmp (IsOfParts bag) faults.items)) }
 {
@@ -91,8 +93,8 @@ fn file_faults(
     Ok(faults)
 }
 
-/// The fault of a listed file, if it has one: a manifest whose algorithm isn't supported isn't read, and so a file has
-/// one at most.
+/// The fault of a listed file, if it has one: a manifest whose algorithm isn't supported isn't
+/// read, and so a file has one at most.
 fn file_fault(alloc: Global, tags: &[TagFacts], path: &Text) -> Result<Option<Fault>, AllocError>
     ensures { IfOk result (λ fault. (bag : Bag) → AreTagsOf bag tags.now → IsOnly (λ f. (f.path ≡ path.now) × IsFileFault bag f) fault) }
 {

@@ -14,8 +14,8 @@ use bag_text::{Alg, Text, is_payload};
 use bag_tree::FileEntry;
 use std::alloc::{AllocError, Global};
 
-/// The faults that payload manifests name files that aren't there, and that they don't name payload files, one manifest
-/// after another.
+/// The faults that payload manifests name files that aren't there, and that they don't name payload
+/// files, one manifest after another.
 pub(crate) fn payload_faults(alloc: Global, facts: &Facts) -> Result<Vec<Fault>, AllocError>
     ensures { IfOk result (λ faults. OfBag facts.now (λ bag. HasEachOnce (IsWrongOfSome bag) faults.items)) }
 {
@@ -27,7 +27,8 @@ pub(crate) fn payload_faults(alloc: Global, facts: &Facts) -> Result<Vec<Fault>,
     Ok(faults)
 }
 
-/// These faults of the manifest of an algorithm. Most manifests have none, which one look at both lists shows.
+/// These faults of the manifest of an algorithm. Most manifests have none, which one look at both
+/// lists shows.
 fn faults_of(alloc: Global, facts: &Facts, alg: Alg) -> Result<Vec<Fault>, AllocError>
     ensures { IfOk result (λ faults. OfBag facts.now (λ bag. HasEachOnce (IsWrong bag alg) faults.items)) }
 {
@@ -40,8 +41,9 @@ fn faults_of(alloc: Global, facts: &Facts, alg: Alg) -> Result<Vec<Fault>, Alloc
     Ok(faults)
 }
 
-/// Whether the payload manifest of an algorithm is there and names the payload's files and no other, so that it has no fault
-/// of completeness. The facts are read for more than the declaration.
+/// Whether the payload manifest of an algorithm is there and names the payload's files and no
+/// other, so that it has no fault of completeness. The facts are read for more than the
+/// declaration.
 pub fn is_exact(facts: &Facts, alg: Alg) -> bool
     ensures { OfBag facts.now (λ bag. IsTrue result ↔ IsExact bag alg) }
 {
@@ -65,8 +67,8 @@ fn are_named(entries: &[ManifestEntry], files: &[FileEntry]) -> bool
     rest.is_empty()
 }
 
-/// The entries that are left behind a file: all of them where it isn't of the payload, and else those behind the first, which has
-/// its path.
+/// The entries that are left behind a file: all of them where it isn't of the payload, and else
+/// those behind the first, which has its path.
 fn behind<'a>(entries: &'a [ManifestEntry], path: &Text) -> Option<&'a [ManifestEntry]>
     ensures { MatchOption result (StopsAt (entry_paths entries.now) path.now) (λ rest. GoesOn (entry_paths entries.now) path.now (entry_paths rest.now)) }
 {

@@ -1,7 +1,8 @@
 //! Stage 7: digests that differ.
 ghost use Rattle.std.specs.Prelude.{◌≡◌, ℕ, List, Some, IfOk};
 ghost use Rattle.bag_tree.specs.Digest.{digest, sum_at};
-ghost use Rattle.bag_stages.specs.SumFaults.{differing, differing_code, faults_of_bytes, sum_differs, AreSumsBy};
+ghost use Rattle.bag_stages.specs.SumFaults.{differing, differing_code, faults_of_bytes};
+ghost use Rattle.bag_stages.specs.SumFaults.{sum_differs, AreSumsBy};
 ghost use Rattle.bag_stages.specs.ValidityStage.{expected_and_found};
 ghost use Rattle.bag_stages.specs.declared.expected.Expected.{Expected as Given};
 
@@ -13,8 +14,9 @@ use bag_text::{Code, Text};
 use bag_tree::{HexFault, Sums};
 use std::alloc::{AllocError, Global};
 
-/// The faults of a file whose digests are these: one for each that is another than what a manifest gives, in the order in
-/// which they are expected. A digest that is right takes no memory. Fails only where memory runs out.
+/// The faults of a file whose digests are these: one for each that is another than what a manifest
+/// gives, in the order in which they are expected. A digest that is right takes no memory. Fails
+/// only where memory runs out.
 pub fn faults_by(
     alloc: Global,
     path: &Text,
@@ -34,7 +36,8 @@ pub fn faults_by(
     Ok(faults)
 }
 
-/// The fault of a file whose digest isn't the one that is expected; none where it is, or where it wasn't asked for.
+/// The fault of a file whose digest isn't the one that is expected; none where it is, or where it
+/// wasn't asked for.
 fn fault_by(
     alloc: Global,
     path: &Text,

@@ -18,9 +18,9 @@ use bag_text::{Alg, Code, Rules, Text, is_payload};
 use bag_tree::FileEntry;
 use std::alloc::{AllocError, Global};
 
-/// The faults that the payload manifest of an algorithm doesn't name payload files, where it is there, in the order of their
-/// paths; none by the rules of 0.97, which don't ask each manifest for each file. The facts are read for more than the
-/// declaration. Fails only where memory runs out.
+/// The faults that the payload manifest of an algorithm doesn't name payload files, where it is
+/// there, in the order of their paths; none by the rules of 0.97, which don't ask each manifest for
+/// each file. The facts are read for more than the declaration. Fails only where memory runs out.
 pub fn unlisted_of(alloc: Global, facts: &Facts, alg: Alg) -> Result<Vec<Fault>, AllocError>
     ensures { IfOk result (λ faults. OfBag facts.now (λ bag. IsListOf fault_cmp (IsUnlistedFile bag alg) faults.items)) }
 {
@@ -32,7 +32,8 @@ pub fn unlisted_of(alloc: Global, facts: &Facts, alg: Alg) -> Result<Vec<Fault>,
     }
 }
 
-/// The faults that the payload manifest of an algorithm doesn't name payload files, where it is there.
+/// The faults that the payload manifest of an algorithm doesn't name payload files, where it is
+/// there.
 fn left_by_one(alloc: Global, facts: &Facts, alg: Alg) -> Result<Vec<Fault>, AllocError>
     ensures { IfOk result (λ faults. OfBag facts.now (λ bag. IsListOf fault_cmp (IsLeftByOne bag alg) faults.items)) }
 {
@@ -65,7 +66,8 @@ fn unlisted_in(
     Ok(faults)
 }
 
-/// Whether a path that a payload manifest names or doesn't is that of a payload file that it doesn't name.
+/// Whether a path that a payload manifest names or doesn't is that of a payload file that it
+/// doesn't name.
 fn is_unlisted(path: &Text, is_named: bool) -> bool
     ensures { IsTrue result ↔ ((is_payload_path path.now ≡ true) × (is_named ≡ false)) }
 {

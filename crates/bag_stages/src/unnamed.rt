@@ -4,7 +4,8 @@ ghost use Rattle.bag_text.specs.Order.{IsListOf};
 ghost use Rattle.bag_text.specs.declared.alg.Alg.{Alg as Named};
 ghost use Rattle.bag_facts.specs.FaultOrder.{fault_cmp};
 ghost use Rattle.bag_facts.specs.Facts.{OfBag};
-ghost use Rattle.bag_stages.specs.CompletenessFaults.{IsLeftByAll, IsUnlistedInAll, IsUnnamed, IsUnnamedPath};
+ghost use Rattle.bag_stages.specs.CompletenessFaults.{IsLeftByAll, IsUnlistedInAll, IsUnnamed};
+ghost use Rattle.bag_stages.specs.CompletenessFaults.{IsUnnamedPath};
 ghost use Rattle.bag_stages.specs.PayloadNamed.{IsNamedExactly};
 
 use crate::file_fault::file_fault;
@@ -15,8 +16,9 @@ use bag_read::Kind;
 use bag_text::{Alg, Code, Rules, Text, is_payload};
 use std::alloc::{AllocError, Global};
 
-/// The faults that no payload manifest names payload files, where there is one, in the order of their paths: what the rules of
-/// 0.97 ask, and none by those of 1.0. The facts are read for more than the declaration. Fails only where memory runs out.
+/// The faults that no payload manifest names payload files, where there is one, in the order of
+/// their paths: what the rules of 0.97 ask, and none by those of 1.0. The facts are read for more
+/// than the declaration. Fails only where memory runs out.
 pub fn unlisted_in_all(alloc: Global, facts: &Facts) -> Result<Vec<Fault>, AllocError>
     ensures { IfOk result (λ faults. OfBag facts.now (λ bag. IsListOf fault_cmp (IsUnlistedInAll bag) faults.items)) }
 {
@@ -38,8 +40,8 @@ fn left_by_all(alloc: Global, facts: &Facts) -> Result<Vec<Fault>, AllocError>
     unnamed_files(alloc, facts)
 }
 
-/// The faults of payload files that no payload manifest names, in the order of their paths. Mostly there are none, which one
-/// look at a manifest and the files shows.
+/// The faults of payload files that no payload manifest names, in the order of their paths. Mostly
+/// there are none, which one look at a manifest and the files shows.
 fn unnamed_files(alloc: Global, facts: &Facts) -> Result<Vec<Fault>, AllocError>
     ensures { IfOk result (λ faults. OfBag facts.now (λ bag. IsListOf fault_cmp (IsUnnamed bag) faults.items)) }
 {
@@ -62,7 +64,8 @@ fn is_some_exact(facts: &Facts) -> bool
     false
 }
 
-/// The faults of those of the bag's files that are of the payload, and that no payload manifest names.
+/// The faults of those of the bag's files that are of the payload, and that no payload manifest
+/// names.
 fn unnamed_among(alloc: Global, facts: &Facts) -> Result<Vec<Fault>, AllocError>
     ensures { IfOk result (λ faults. OfBag facts.now (λ bag. IsListOf fault_cmp (IsUnnamed bag) faults.items)) }
 {

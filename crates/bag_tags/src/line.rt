@@ -5,8 +5,8 @@ ghost use Rattle.bag_tags.specs.Line.{HasPartOf};
 
 use std::alloc::AllocError;
 
-/// Puts a line at the end: two texts with a third between them, and LF. Where memory runs out, a part of the line may stand
-/// there.
+/// Puts a line at the end: two texts with a third between them, and LF. Where memory runs out, a
+/// part of the line may stand there.
 pub(crate) fn push_line(
     text: &mut String,
     front: &str,

@@ -1,5 +1,6 @@
 //! Manifests (RFC 8493, 2.1.3 and 2.2.1).
-ghost use Rattle.std.specs.Prelude.{◌≡◌, ◌++◌, ◌∷◌, [], IfOk, OnErr, OnOk, IsErrOf, IsTrue, string_bytes};
+ghost use Rattle.std.specs.Prelude.{◌≡◌, ◌++◌, ◌∷◌, [], IfOk, OnErr, OnOk, IsErrOf, IsTrue};
+ghost use Rattle.std.specs.Prelude.{string_bytes};
 ghost use Rattle.std.specs.List.{list_any};
 ghost use Rattle.bag_text.specs.Lines.{line_feed};
 ghost use Rattle.bag_tags.specs.Entry as spec;
@@ -16,11 +17,12 @@ use std::alloc::{AllocError, Global};
 /// What stands between a digest and its path.
 const SEPARATOR: &str = "  ";
 
-/// The bytes of a manifest of an algorithm with these digests and the paths that they are of, in this order: a line for
-/// each with the digest, two spaces, and the path, in which LF, CR and `%` are escaped (RFC 8493, 2.1.3 and 2.2.1).
-/// `BadValue` where a digest isn't lower-case hex of the algorithm's length, where a text isn't a path that a manifest of
-/// this kind may name, where a path begins with `*`, a space or a tab, and where it stands earlier in the list. All but
-/// the last is found before memory is taken. Takes time n log n in the number of entries.
+/// The bytes of a manifest of an algorithm with these digests and the paths that they are of, in
+/// this order: a line for each with the digest, two spaces, and the path, in which LF, CR and `%`
+/// are escaped (RFC 8493, 2.1.3 and 2.2.1). `BadValue` where a digest isn't lower-case hex of the
+/// algorithm's length, where a text isn't a path that a manifest of this kind may name, where a
+/// path begins with `*`, a space or a tab, and where it stands earlier in the list. All but the
+/// last is found before memory is taken. Takes time n log n in the number of entries.
 pub fn write_manifest(
     alloc: Global,
     kind: Kind,
@@ -59,9 +61,9 @@ fn manifest_text(alloc: Global, entries: &[(Text, Text)]) -> Result<String, Allo
     Ok(text)
 }
 
-/// Adds the line of a digest and the path that it is of: the digest, two spaces, and the path, in which LF, CR and `%` are
-/// escaped (RFC 8493, 2.1.3 and 2.2.1). It doesn't ask whether they are read again. Where memory runs out, a part of the line
-/// may stand there.
+/// Adds the line of a digest and the path that it is of: the digest, two spaces, and the path, in
+/// which LF, CR and `%` are escaped (RFC 8493, 2.1.3 and 2.2.1). It doesn't ask whether they are
+/// read again. Where memory runs out, a part of the line may stand there.
 pub fn push_entry(
     alloc: Global,
     text: &mut String,
