@@ -131,7 +131,8 @@ fn entry_at<R: Files>(rt: &R, location: &str) -> Result<Entry, DiskFault> {
 fn entry_of(metadata: &Metadata) -> Entry
     ensures file { IsFile (file_type metadata.now) → result ≡ File (metadata_len metadata.now) }
     ensures folder { IsDir (file_type metadata.now) → result ≡ Folder }
-    ensures other { ¬ IsFile (file_type metadata.now) → ¬ IsDir (file_type metadata.now) → result ≡ Other }
+    ensures other { ¬ IsFile (file_type metadata.now) → ¬ IsDir (file_type metadata.now)
+        → result ≡ Other }
 {
     if metadata.is_file() {
         Entry::File(metadata.len())

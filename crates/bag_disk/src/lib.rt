@@ -38,6 +38,6 @@ pub use failures::Failures;
 pub use listing::list_below;
 pub use location::path_in;
 pub use opening::{check_is_folder, open_at};
-pub use refusal::Refusal;
+pub use refusal::{Refusal, Subject};
 pub use system_disk::SystemDisk;
 pub use writable_disk::WritableDisk;
