@@ -20,7 +20,8 @@ pub struct FailTree<T> {
 impl<T: Tree + Drop> FailTree<T> {
     /// The tree, of which the call of this number is refused, from 1. With 0 none is.
     pub fn new(tree: T, k: u64) -> FailTree<T>
-        ensures state { ⟦<FailTree<T> as Tree>⟧.state result ≡ failing (T.state tree) (before_calls k) }
+        ensures state { ⟦<FailTree<T> as Tree>⟧.state result
+            ≡ failing (T.state tree) (before_calls k) }
         ensures below { below_of result ≡ tree }
         ensures calls { calls_of result ≡ before_calls k }
     {

@@ -22,8 +22,7 @@ use std::alloc::{AllocError, Global};
 
 /// The faults of one stage that are asked for, in their order. None are where the depth doesn't
 /// have the stage, and of the eighth none are without a profile. The seventh needs the files, so
-/// that for it there are none, as for every number above
-/// 8. Fails only where memory runs out.
+/// that for it there are none, as for every number above 8. Fails only where memory runs out.
 pub fn stage_faults(
     alloc: Global,
     facts: &Facts,
