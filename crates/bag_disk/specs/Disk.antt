@@ -164,7 +164,7 @@ HasNothingAt disk path = WhereReached disk path (node disk.nodes path ≡ None)
 abbrev pub HasSomethingAt : DiskState → List ℕ → Type 0
 HasSomethingAt disk path = WhereReached disk path (Has disk.nodes path)
 
--- no honest disk has the folders that lead to the path
+-- where the disk is honest, not all folders on the way to the path are there
 abbrev pub IsUnreached : DiskState → List ℕ → Type 0
 IsUnreached disk path = WhereReached disk path ⊥
 

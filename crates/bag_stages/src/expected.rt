@@ -37,9 +37,12 @@ pub fn expected_of(
     path: &Text,
     places: &mut Places,
 ) -> Result<Items<Expected>, AllocError>
-    ensures algs { IfOk result (λ expected. OfBag facts.now (λ bag. AreNaming bag path.now (map (λ one. one.alg) expected))) }
-    ensures faults { IfOk result (λ expected. OfBag facts.now (λ bag. (content : List ℕ) → file bag path.now ≡ Some content
-        → IsListOf fault_cmp (IsFaultOfFile bag path.now) (faults_of_bytes path.now content expected))) }
+    ensures algs { IfOk result (λ expected.
+        OfBag facts.now (λ bag. AreNaming bag path.now (map (λ one. one.alg) expected))) }
+    ensures faults { IfOk result (λ expected.
+        OfBag facts.now (λ bag. (content : List ℕ) → file bag path.now ≡ Some content
+        → IsListOf fault_cmp (IsFaultOfFile bag path.now)
+        (faults_of_bytes path.now content expected))) }
     ensures count { IfOk result (λ expected. places.new.count ≡ length expected) }
 {
     let kind = kind_of(path.as_str());
@@ -79,7 +82,8 @@ fn entry_near<'a>(
     path: &Text,
     place: &mut usize,
 ) -> Option<&'a ManifestEntry>
-    ensures { AreByPath entries.now → MatchOption (option_copied result) (¬ (Contains (entry_paths entries.now) path.now))
+    ensures { AreByPath entries.now → MatchOption (option_copied result)
+        (¬ (Contains (entry_paths entries.now) path.now))
         (λ entry. Contains entries.now entry × (entry.path ≡ path.now)) }
 {
     if let Some(entry) = entries.get(*place) {

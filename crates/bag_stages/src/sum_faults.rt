@@ -4,7 +4,6 @@ ghost use Rattle.bag_tree.specs.Digest.{digest, sum_at};
 ghost use Rattle.bag_stages.specs.SumFaults.{differing, differing_code, faults_of_bytes};
 ghost use Rattle.bag_stages.specs.SumFaults.{sum_differs, AreSumsBy};
 ghost use Rattle.bag_stages.specs.ValidityStage.{expected_and_found};
-ghost use Rattle.bag_stages.specs.declared.expected.Expected.{Expected as Given};
 
 use crate::Expected;
 use crate::expected::kind_of;
@@ -44,7 +43,8 @@ fn fault_by(
     expected: &Expected,
     sums: &Sums,
 ) -> Result<Option<Fault>, AllocError>
-    ensures { IfOk result (λ fault. (content : List ℕ) → sum_at sums.now expected.now.alg ≡ Some (digest expected.now.alg content)
+    ensures { IfOk result (λ fault. (content : List ℕ)
+        → sum_at sums.now expected.now.alg ≡ Some (digest expected.now.alg content)
         → fault ≡ differing path.now content expected.now) }
 {
     if sums.is_digest(expected.alg, expected.digest.as_slice()) {
