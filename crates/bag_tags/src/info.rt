@@ -18,7 +18,8 @@ const SEPARATOR: &str = ": ";
 /// CR or LF, or begins or ends with a space or a tab; that is found before memory is taken.
 pub fn write_info(alloc: Global, elements: &[(Text, Text)]) -> Result<Vec<u8>, WriteFault>
     ensures text { IfOk result (λ bytes. bytes.items ≡ spec.info_text elements.now) }
-    ensures bad { IsErrOf result WriteFault.BadValue ↔ IsTrue (list_any spec.is_bad_element elements.now) }
+    ensures bad { IsErrOf result WriteFault.BadValue
+        ↔ IsTrue (list_any spec.is_bad_element elements.now) }
 {
     if has_bad_element(elements) {
         return Err(WriteFault::BadValue);

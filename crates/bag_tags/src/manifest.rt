@@ -1,10 +1,9 @@
 //! Manifests (RFC 8493, 2.1.3 and 2.2.1).
-ghost use Rattle.std.specs.Prelude.{◌≡◌, ◌++◌, ◌∷◌, [], IfOk, OnErr, OnOk, IsErrOf, IsTrue};
+ghost use Rattle.std.specs.Prelude.{◌≡◌, IfOk, OnErr, OnOk, IsErrOf, IsTrue};
 ghost use Rattle.std.specs.Prelude.{string_bytes};
 ghost use Rattle.std.specs.List.{list_any};
-ghost use Rattle.bag_text.specs.Lines.{line_feed};
 ghost use Rattle.bag_tags.specs.Entry as spec;
-ghost use Rattle.bag_tags.specs.Line.{HasPartOf};
+ghost use Rattle.bag_tags.specs.Line.{AddsLine, AddsPartOfLine};
 
 use crate::WriteFault;
 use crate::distinct::are_paths_distinct;
@@ -29,9 +28,11 @@ pub fn write_manifest(
     alg: Alg,
     entries: &[(Text, Text)],
 ) -> Result<Vec<u8>, WriteFault>
-    ensures text { IfOk result (λ bytes. spec.CanWrite kind alg entries.now × (bytes.items ≡ spec.manifest_text entries.now)) }
+    ensures text { IfOk result (λ bytes. spec.CanWrite kind alg entries.now
+        × (bytes.items ≡ spec.manifest_text entries.now)) }
     ensures bad { IsErrOf result WriteFault.BadValue → ¬ (spec.CanWrite kind alg entries.now) }
-    ensures bad_entry { IsTrue (list_any (spec.is_bad_entry kind alg) entries.now) → IsErrOf result WriteFault.BadValue }
+    ensures bad_entry { IsTrue (list_any (spec.is_bad_entry kind alg) entries.now)
+        → IsErrOf result WriteFault.BadValue }
 {
     if has_bad_entry(kind, alg, entries) || !are_paths_distinct(alloc, entries)? {
         return Err(WriteFault::BadValue);
@@ -70,8 +71,10 @@ pub fn push_entry(
     digest: &str,
     path: &str,
 ) -> Result<(), AllocError>
-    ensures written { OnOk result (string_bytes text.new ≡ string_bytes text.old ++ spec.entry_line (digest.now, path.now) ++ line_feed ∷ []) }
-    ensures refused { OnErr result (HasPartOf (spec.entry_line (digest.now, path.now) ++ line_feed ∷ []) (string_bytes text.old) (string_bytes text.new)) }
+    ensures written { OnOk result (AddsLine
+        (spec.entry_line (digest.now, path.now)) (string_bytes text.old) (string_bytes text.new)) }
+    ensures refused { OnErr result (AddsPartOfLine
+        (spec.entry_line (digest.now, path.now)) (string_bytes text.old) (string_bytes text.new)) }
 {
     let escaped = escape_path(alloc, path)?;
     push_line(text, digest, SEPARATOR, escaped.as_str())
