@@ -5,10 +5,10 @@ ghost use Rattle.bag_text.specs.declared.code.Code.TheVariants.{VersionNotAccept
 ghost use Rattle.bag_text.specs.declared.code.Code.TheVariants.{SerializationRequired};
 ghost use Rattle.bag_read.specs.Declaration as declared;
 ghost use Rattle.bag_tree.specs.Bag.{Bag, file};
-ghost use Rattle.bag_facts.specs.Facts.{IsFactsOf, OfBag};
+ghost use Rattle.bag_facts.specs.Facts.{IsFactsOf};
 ghost use Rattle.bag_stages.specs.FaultFields.{of_bag};
 ghost use Rattle.bag_stages.specs.TagFiles.{bagit_txt};
-ghost use Rattle.bag_conformance.specs.ConformanceFaults.{AreAll, IsOfWhole};
+ghost use Rattle.bag_conformance.specs.ConformanceFaults.{AreAll, IsOfWhole, AreAllOf};
 ghost use Rattle.bag_conformance.specs.ConformanceStage.{HasOtherVersion};
 ghost use Rattle.bag_conformance.specs.NotAllowed.{other_version};
 
@@ -26,7 +26,8 @@ pub(crate) fn whole_faults(
     facts: &Facts,
     profile: &Profile,
 ) -> Result<Vec<Fault>, AllocError>
-    ensures { IfOk result (λ faults. OfBag facts.now (λ bag. AreAll (IsOfWhole bag profile.now) faults.items)) }
+    ensures { IfOk result (λ faults.
+        AreAllOf facts.now (λ bag. IsOfWhole bag profile.now) faults.items) }
 {
     let mut faults = version_faults(alloc, facts, profile)?;
     if profile.serialization() == Serialization::Required {
@@ -38,7 +39,8 @@ pub(crate) fn whole_faults(
 /// The fault that the bag declares a version that isn't accepted.
 fn version_faults(alloc: Global, facts: &Facts, profile: &Profile) -> Result<Vec<Fault>, AllocError>
     ensures { IfOk result (λ faults. (bag : Bag) → IsFactsOf bag facts.now
-        → AreAll (λ f. (f.code ≡ VersionNotAccepted) × HasOtherVersion bag profile.now f) faults.items) }
+        → AreAll (λ f. (f.code ≡ VersionNotAccepted) × HasOtherVersion bag profile.now f)
+        faults.items) }
 {
     let Some(version) = declared_version(facts) else {
         return Ok(Vec::new(alloc));
