@@ -113,7 +113,7 @@ IsReachedTo nodes path end =
     (folder rest : List ℕ) → path ≡ under folder rest → length folder < end
     → node nodes folder ≡ Some Folder
 
--- The rest holds of a disk that is honest, at a path to which folders lead.
+-- The rest holds where the disk is honest, and each folder on the way to the path is there.
 abbrev pub WhereReached : DiskState → List ℕ → Type 0 → Type 0
 WhereReached disk path P = IsTrue disk.honest → IsReached disk.nodes path → P
 
@@ -151,16 +151,16 @@ entry_of (File bytes) = entry.File (length bytes)
 entry_of Folder = entry.Folder
 entry_of Other = entry.Other
 
--- this stands at the path
+-- this stands at the path, which the disk says only where it is honest and the path is reached
 abbrev pub HasEntryAt : DiskState → List ℕ → Entry → Type 0
 HasEntryAt disk path entry =
     WhereReached disk path (option_map entry_of (node disk.nodes path) ≡ Some entry)
 
--- nothing stands at the path
+-- so nothing stands at the path
 abbrev pub HasNothingAt : DiskState → List ℕ → Type 0
 HasNothingAt disk path = WhereReached disk path (node disk.nodes path ≡ None)
 
--- something stands at the path
+-- so something stands at the path
 abbrev pub HasSomethingAt : DiskState → List ℕ → Type 0
 HasSomethingAt disk path = WhereReached disk path (Has disk.nodes path)
 
@@ -177,12 +177,14 @@ pub record AreNamesIn (nodes : Nodes) (folder : List ℕ) (names : List (List �
   pub there : (name : List ℕ) → Contains names name → Has nodes (path_in folder name)
   pub all : (name : List ℕ) → IsName name → Has nodes (path_in folder name) → Contains names name
 
--- the names that are left of a folder that was entered are those of what stands in it
+-- the names that are left of the folder that was entered are those of what stands in it, where the
+-- disk is honest and has the folder
 abbrev pub HasEntered : DiskState → DiskState → List ℕ → Type 0
 HasEntered old new folder =
     IsTrue old.honest → IsFolder old.nodes folder → AreNamesIn old.nodes folder new.names
 
--- the name was the next that was left of the folder that was entered; no name: none was left
+-- where the disk is honest, the name was the next that was left of the folder that was entered; no
+-- name: none was left
 abbrev pub TakesName : DiskState → DiskState → Option (List ℕ) → Type 0
 TakesName old new next = IsTrue old.honest
     → MatchOption next (old.names ≡ []) (λ name. old.names ≡ name ∷ new.names)
@@ -191,12 +193,12 @@ TakesName old new next = IsTrue old.honest
 abbrev pub IsFileWith : Nodes → List ℕ → List ℕ → Type 0
 IsFileWith nodes path bytes = node nodes path ≡ Some (File bytes)
 
--- the file at the path is open, at its first byte
+-- where the disk is honest and the path is reached, the file there is open, at its first byte
 abbrev pub HasOpened : DiskState → DiskState → List ℕ → Type 0
 HasOpened old new path = WhereReached old path
     ((bytes : List ℕ) → IsFileWith old.nodes path bytes → new.rest ≡ Some bytes)
 
--- the first bytes of the buffer, so many, were the next of the open file
+-- where the disk is honest, the first bytes of the buffer, so many, were the next of the open file
 abbrev pub HasReadNext : DiskState → DiskState → List ℕ → ℕ → Type 0
 HasReadNext old new buffer count = IsTrue old.honest → ReadsNext old.rest new.rest count buffer
 

@@ -33,11 +33,11 @@ pub record MakesFile (old new : Nodes) (path : List ℕ) : Type 0 where
   pub free : node old path ≡ None
   pub made : new ≡ with_file old path []
 
--- a folder was made where nothing stood, where the disk is honest and folders lead there
+-- where the disk is honest and the path is reached, a folder was made, and nothing stood there
 abbrev pub AddsFolder : DiskState → DiskState → List ℕ → Type 0
 AddsFolder old new path = WhereReached old path (MakesFolder old.nodes new.nodes path)
 
--- and so an empty file
+-- so an empty file was made
 abbrev pub AddsFile : DiskState → DiskState → List ℕ → Type 0
 AddsFile old new path = WhereReached old path (MakesFile old.nodes new.nodes path)
 
@@ -46,21 +46,21 @@ pub record Moves (old new : Nodes) (from to : List ℕ) : Type 0 where
   pub there : Has old from
   pub moved : new ≡ moved from to old
 
--- The rest holds of a disk that is honest, at two paths to which folders lead.
+-- The rest holds where the disk is honest, and both paths are reached.
 abbrev pub WhereBothReached : DiskState → List ℕ → List ℕ → Type 0 → Type 0
 WhereBothReached disk from to P =
     IsTrue disk.honest → IsReached disk.nodes from → IsReached disk.nodes to → P
 
--- what stood at one path was moved to another at which nothing stood
+-- so what stood at one path was moved to the other, where nothing stood there
 abbrev pub MovesToFree : DiskState → DiskState → List ℕ → List ℕ → Type 0
 MovesToFree old new from to = WhereBothReached old from to
     (node old.nodes to ≡ None → Moves old.nodes new.nodes from to)
 
--- what is neither at or below the one nor at or below the other stands there as it did
+-- so what is at or below neither of them stands as it did
 abbrev pub MovesOnly : DiskState → DiskState → List ℕ → List ℕ → Type 0
 MovesOnly old new from to = WhereBothReached old from to (KeepsOthers old.nodes new.nodes from to)
 
--- nothing stands where something was to be moved from
+-- so nothing stands where something was to be moved from
 abbrev pub HasNothingToMove : DiskState → List ℕ → List ℕ → Type 0
 HasNothingToMove disk from to = WhereBothReached disk from to (node disk.nodes from ≡ None)
 
