@@ -195,8 +195,8 @@ IsFileWith nodes path bytes = node nodes path ≡ Some (File bytes)
 
 -- where the disk is honest and the path is reached, the file there is open, at its first byte
 abbrev pub HasOpened : DiskState → DiskState → List ℕ → Type 0
-HasOpened old new path = WhereReached old path
-    ((bytes : List ℕ) → IsFileWith old.nodes path bytes → new.rest ≡ Some bytes)
+HasOpened old new path = IsTrue old.honest → IsReached old.nodes path → (bytes : List ℕ)
+    → IsFileWith old.nodes path bytes → new.rest ≡ Some bytes
 
 -- where the disk is honest, the first bytes of the buffer, so many, were the next of the open file
 abbrev pub HasReadNext : DiskState → DiskState → List ℕ → ℕ → Type 0

@@ -46,23 +46,24 @@ pub record Moves (old new : Nodes) (from to : List ℕ) : Type 0 where
   pub there : Has old from
   pub moved : new ≡ moved from to old
 
--- The rest holds where the disk is honest, and both paths are reached.
-abbrev pub WhereBothReached : DiskState → List ℕ → List ℕ → Type 0 → Type 0
-WhereBothReached disk from to P =
-    IsTrue disk.honest → IsReached disk.nodes from → IsReached disk.nodes to → P
-
--- so what stood at one path was moved to the other, where nothing stood there
+-- where the disk is honest and both paths are reached, what stood at one was moved to the other, if
+-- nothing stood there
 abbrev pub MovesToFree : DiskState → DiskState → List ℕ → List ℕ → Type 0
-MovesToFree old new from to = WhereBothReached old from to
-    (node old.nodes to ≡ None → Moves old.nodes new.nodes from to)
+MovesToFree old new from to =
+    IsTrue old.honest → IsReached old.nodes from → IsReached old.nodes to
+    → node old.nodes to ≡ None → Moves old.nodes new.nodes from to
 
 -- so what is at or below neither of them stands as it did
 abbrev pub MovesOnly : DiskState → DiskState → List ℕ → List ℕ → Type 0
-MovesOnly old new from to = WhereBothReached old from to (KeepsOthers old.nodes new.nodes from to)
+MovesOnly old new from to =
+    IsTrue old.honest → IsReached old.nodes from → IsReached old.nodes to
+    → KeepsOthers old.nodes new.nodes from to
 
 -- so nothing stands where something was to be moved from
 abbrev pub HasNothingToMove : DiskState → List ℕ → List ℕ → Type 0
-HasNothingToMove disk from to = WhereBothReached disk from to (node disk.nodes from ≡ None)
+HasNothingToMove disk from to =
+    IsTrue disk.honest → IsReached disk.nodes from → IsReached disk.nodes to
+    → node disk.nodes from ≡ None
 
 -- an honest disk has no such folder
 abbrev pub HasNoFolder : DiskState → List ℕ → Type 0
@@ -78,8 +79,7 @@ pub record Appends (old new : Nodes) (path bytes : List ℕ) : Type 0 where
   pub was : IsFileWith old path content
   pub appended : new ≡ with_file old path (content ++ bytes)
 
--- bytes were put behind those of the file that is being written, where the disk is honest and has
--- it
+-- where the disk is honest and has the file that is being written, bytes were put behind its own
 abbrev pub AppendsTo : Option (List ℕ) → DiskState → DiskState → List ℕ → Type 0
 AppendsTo written old new bytes = IsTrue old.honest → (path : List ℕ) → written ≡ Some path
     → HasFile old.nodes path → Appends old.nodes new.nodes path bytes
