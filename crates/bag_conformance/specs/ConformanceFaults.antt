@@ -1,17 +1,34 @@
--- The faults of a profile by what they are about. Each part is a set: the order of all is made at the end.
+-- The faults of a profile by what they are about. Each part is a set: the order of all is made at
+-- the end.
 use Rattle.std.specs.Prelude.{◌≡◌, ◌⊎◌, ◌↔◌, List, Contains}
 use Rattle.bag_text.specs.declared.code.Code.{Code}
-use Rattle.bag_text.specs.declared.code.Code.TheVariants.{ProfileIdentifier, LabelRequired, LabelRepeated, ValueNotAllowed, ManifestRequired, ManifestNotAllowed, TagmanifestRequired, TagmanifestNotAllowed, TagFileRequired, TagFileNotAllowed, FetchNotAllowed, VersionNotAccepted, SerializationRequired}
+use Rattle.bag_text.specs.declared.code.Code.TheVariants.{ProfileIdentifier, LabelRequired}
+use Rattle.bag_text.specs.declared.code.Code.TheVariants.{LabelRepeated, ValueNotAllowed}
+use Rattle.bag_text.specs.declared.code.Code.TheVariants.{ManifestRequired, ManifestNotAllowed}
+use Rattle.bag_text.specs.declared.code.Code.TheVariants.{TagmanifestRequired}
+use Rattle.bag_text.specs.declared.code.Code.TheVariants.{TagmanifestNotAllowed, TagFileRequired}
+use Rattle.bag_text.specs.declared.code.Code.TheVariants.{TagFileNotAllowed, FetchNotAllowed}
+use Rattle.bag_text.specs.declared.code.Code.TheVariants.{VersionNotAccepted, SerializationRequired}
 use Rattle.bag_read.specs.declared.kind.Kind.{Kind}
 use Rattle.bag_read.specs.declared.kind.Kind.TheVariants.{Payload, Tag}
 use Rattle.bag_tree.specs.Bag.{Bag}
+use Rattle.bag_facts.specs.Facts.{OfBag}
+use Rattle.bag_facts.specs.declared.facts.Facts.{Facts}
 use Rattle.bag_facts.specs.declared.fault.Fault.{Fault}
 use Rattle.bag_profile.specs.Profile.{Profile}
-use Rattle.bag_conformance.specs.ConformanceStage.{LacksIdentifier, LacksLabel, RepeatsLabel, HasOtherValue, LacksManifest, HasOtherManifest, LacksTagFile, HasOtherTagFile, HasFetchFile, HasOtherVersion, IsToBeSerialized}
+use Rattle.bag_conformance.specs.ConformanceStage.{LacksIdentifier, LacksLabel, RepeatsLabel}
+use Rattle.bag_conformance.specs.ConformanceStage.{HasOtherValue, LacksManifest, HasOtherManifest}
+use Rattle.bag_conformance.specs.ConformanceStage.{LacksTagFile, HasOtherTagFile, HasFetchFile}
+use Rattle.bag_conformance.specs.ConformanceStage.{HasOtherVersion, IsToBeSerialized}
 
 -- the members of a list are exactly these
 abbrev pub AreAll : (Fault → Type 0) → List Fault → Type 0
 AreAll Member faults = (f : Fault) → Contains faults f ↔ Member f
+
+-- the members of a list are exactly the faults of the bag of which this holds; the facts were read
+-- beyond the declaration
+abbrev pub AreAllOf : Facts → (Bag → Fault → Type 0) → List Fault → Type 0
+AreAllOf facts IsSo faults = OfBag facts (λ bag. AreAll (IsSo bag) faults)
 
 -- what a manifest of this kind is that must be there, and one that may not
 abbrev pub required_code : Kind → Code

@@ -1,8 +1,16 @@
--- Stage 8: where a bag doesn't conform to a profile (BagIt Profiles Specification, Implementation Details).
-use Rattle.std.specs.Prelude.{ℕ, ◌≡◌, ◌≢◌, true, false, List, [], Option, None, Some, Contains, codes}
+-- Stage 8: where a bag doesn't conform to a profile (BagIt Profiles Specification, Implementation
+-- Details).
+use Rattle.std.specs.Prelude.{ℕ, ◌≡◌, ◌≢◌, true, false, List, [], Option, None, Some, Contains}
+use Rattle.std.specs.Prelude.{codes}
 use Rattle.bag_text.specs.Code.{stage}
 use Rattle.bag_text.specs.declared.code.Code.{Code}
-use Rattle.bag_text.specs.declared.code.Code.TheVariants.{ProfileIdentifier, LabelRequired, LabelRepeated, ValueNotAllowed, ManifestRequired, ManifestNotAllowed, TagmanifestRequired, TagmanifestNotAllowed, TagFileRequired, TagFileNotAllowed, FetchNotAllowed, VersionNotAccepted, SerializationRequired}
+use Rattle.bag_text.specs.declared.code.Code.TheVariants.{ProfileIdentifier, LabelRequired}
+use Rattle.bag_text.specs.declared.code.Code.TheVariants.{LabelRepeated, ValueNotAllowed}
+use Rattle.bag_text.specs.declared.code.Code.TheVariants.{ManifestRequired, ManifestNotAllowed}
+use Rattle.bag_text.specs.declared.code.Code.TheVariants.{TagmanifestRequired}
+use Rattle.bag_text.specs.declared.code.Code.TheVariants.{TagmanifestNotAllowed, TagFileRequired}
+use Rattle.bag_text.specs.declared.code.Code.TheVariants.{TagFileNotAllowed, FetchNotAllowed}
+use Rattle.bag_text.specs.declared.code.Code.TheVariants.{VersionNotAccepted, SerializationRequired}
 use Rattle.bag_read.specs.declared.info.Element.{Element}
 use Rattle.bag_read.specs.Declaration.{declared_version}
 use Rattle.bag_read.specs.ManifestName.{manifest_name}
@@ -15,7 +23,12 @@ use Rattle.bag_facts.specs.declared.fault.Fault.{Fault}
 use Rattle.bag_profile.specs.Profile.{Profile}
 use Rattle.bag_profile.specs.declared.label.LabelRule.{LabelRule}
 use Rattle.bag_profile.specs.declared.rule.ListRule.{ListRule}
-use Rattle.bag_profile.specs.declared.rule.ListRule.TheVariants.{ManifestsRequired, ManifestsAllowed, TagManifestsRequired, TagManifestsAllowed, TagFilesRequired, TagFilesAllowed, AcceptBagItVersion}
+use Rattle.bag_profile.specs.declared.rule.ListRule.TheVariants.{ManifestsRequired}
+use Rattle.bag_profile.specs.declared.rule.ListRule.TheVariants.{ManifestsAllowed}
+use Rattle.bag_profile.specs.declared.rule.ListRule.TheVariants.{TagManifestsRequired}
+use Rattle.bag_profile.specs.declared.rule.ListRule.TheVariants.{TagManifestsAllowed}
+use Rattle.bag_profile.specs.declared.rule.ListRule.TheVariants.{TagFilesRequired, TagFilesAllowed}
+use Rattle.bag_profile.specs.declared.rule.ListRule.TheVariants.{AcceptBagItVersion}
 use Rattle.bag_profile.specs.declared.terms.Serialization.TheVariants.{Required}
 use Rattle.bag_stages.specs.FaultFields.{At}
 use Rattle.bag_stages.specs.HasList.{HasList}
@@ -57,19 +70,22 @@ module _ (bag : Bag) (profile : Profile) (f : Fault) where
   -- an element that may be there once, and isn't the first of its label
   abbrev pub RepeatsLabel : Type 0
   RepeatsLabel =
-      (rule : LabelRule) × (e : Element) × At f bag_info_txt None e.line rule.label × Contains profile.labels rule
+      (rule : LabelRule) × (e : Element) × At f bag_info_txt None e.line rule.label
+      × Contains profile.labels rule
       × (rule.repeatable ≡ false) × HasLater bag rule.label e
 
   -- an element whose value isn't one of those that are allowed; all are where none is named
   abbrev pub HasOtherValue : Type 0
   HasOtherValue =
-      (rule : LabelRule) × (e : Element) × At f bag_info_txt None e.line (pair rule.label e.value) × Contains profile.labels rule
+      (rule : LabelRule) × (e : Element) × At f bag_info_txt None e.line (pair rule.label e.value)
+      × Contains profile.labels rule
       × (rule.values ≢ []) × HasElement bag rule.label e × ¬ (Contains rule.values e.value)
 
   -- a manifest must be there, and isn't
   abbrev pub LacksManifest : Kind → Type 0
   LacksManifest kind =
-      (name : List ℕ) × At f (manifest_name kind name) None 0 [] × Lists profile (required_manifests kind) name
+      (name : List ℕ) × At f (manifest_name kind name) None 0 []
+      × Lists profile (required_manifests kind) name
       × ¬ (HasManifest bag kind name)
 
   -- a manifest is there, of any algorithm, that may not be
@@ -80,16 +96,19 @@ module _ (bag : Bag) (profile : Profile) (f : Fault) where
 
   -- a file must be there, and isn't
   abbrev pub LacksTagFile : Type 0
-  LacksTagFile = At f f.path None 0 [] × Lists profile TagFilesRequired f.path × ¬ (HasFile bag f.path)
+  LacksTagFile =
+      At f f.path None 0 [] × Lists profile TagFilesRequired f.path × ¬ (HasFile bag f.path)
 
   -- a tag file is there that no pattern allows
   abbrev pub HasOtherTagFile : Type 0
   HasOtherTagFile =
-      At f f.path None 0 [] × HasFile bag f.path × IsFreeTagFile f.path × MatchesNone profile TagFilesAllowed f.path
+      At f f.path None 0 [] × HasFile bag f.path × IsFreeTagFile f.path
+      × MatchesNone profile TagFilesAllowed f.path
 
   -- fetch.txt is there, and may not be
   abbrev pub HasFetchFile : Type 0
-  HasFetchFile = At f fetch_txt None 0 [] × (profile.terms.allow_fetch ≡ false) × HasFile bag fetch_txt
+  HasFetchFile =
+      At f fetch_txt None 0 [] × (profile.terms.allow_fetch ≡ false) × HasFile bag fetch_txt
 
   -- the bag declares a version that isn't accepted
   abbrev pub HasOtherVersion : Type 0
@@ -134,8 +153,10 @@ IsOfConformance bag (Some profile) f = IsOfProfile bag profile f
 -- the law: these faults are of the eighth stage
 abbrev pub ConformanceFaultsAreOfStageEight : Type 0
 ConformanceFaultsAreOfStageEight =
-    (bag : Bag) (profile : Option Profile) (f : Fault) → IsOfConformance bag profile f → stage f.code ≡ 8
+    (bag : Bag) (profile : Option Profile) (f : Fault) → IsOfConformance bag profile f
+    → stage f.code ≡ 8
 
 -- the law: every bag and every profile have a list of these faults
 abbrev pub ConformanceFaultsAreListed : Type 0
-ConformanceFaultsAreListed = (bag : Bag) (profile : Option Profile) → HasList (IsOfConformance bag profile)
+ConformanceFaultsAreListed = (bag : Bag) (profile : Option Profile)
+    → HasList (IsOfConformance bag profile)

@@ -1,10 +1,13 @@
--- The faults of the elements of bag-info.txt, rule by rule (BagIt Profiles Specification, Bag-Info).
-use Rattle.std.specs.Prelude.{ℕ, Bool, true, not, List, [], ◌∷◌, ◌++◌, None, bytes_eq, map, filter, drop, if◌then◌else◌}
+-- The faults of the elements of bag-info.txt, rule by rule (BagIt Profiles Specification,
+-- Bag-Info).
+use Rattle.std.specs.Prelude.{ℕ, Bool, true, not, List, [], ◌∷◌, ◌++◌, None, bytes_eq, map, filter}
+use Rattle.std.specs.Prelude.{drop, if◌then◌else◌}
 use Rattle.std.specs.Borrow.{Bor}
 use Rattle.std.specs.List.{flat_map, list_any}
 use Rattle.bag_text.specs.Text.{same_label}
 use Rattle.bag_text.specs.declared.code.Code.{Code}
-use Rattle.bag_text.specs.declared.code.Code.TheVariants.{ProfileIdentifier, LabelRequired, LabelRepeated, ValueNotAllowed}
+use Rattle.bag_text.specs.declared.code.Code.TheVariants.{ProfileIdentifier, LabelRequired}
+use Rattle.bag_text.specs.declared.code.Code.TheVariants.{LabelRepeated, ValueNotAllowed}
 use Rattle.bag_read.specs.declared.info.Element.{Element}
 use Rattle.bag_facts.specs.FaultAt.{of_line}
 use Rattle.bag_facts.specs.declared.fault.Fault.{Fault}
@@ -31,7 +34,8 @@ has_value value e = bytes_eq e.value value
 -- none of the elements that may name the profile does
 abbrev pub identifier_faults : List ℕ → List Element → List Fault
 identifier_faults identifier found =
-    if list_any (has_value identifier) found then [] else in_info ProfileIdentifier 0 identifier ∷ []
+    if list_any (has_value identifier) found then []
+    else in_info ProfileIdentifier 0 identifier ∷ []
 
 -- whether a value is among these; all are where there is none
 abbrev pub allows : List (List ℕ) → List ℕ → Bool
@@ -49,7 +53,8 @@ module _ (rule : LabelRule) where
   required_faults (e ∷ later) = []
 
   abbrev pub repeated_faults : List Element → List Fault
-  repeated_faults found = if rule.repeatable then [] else map (later_fault rule.label) (drop 1 found)
+  repeated_faults found =
+      if rule.repeatable then [] else map (later_fault rule.label) (drop 1 found)
 
   abbrev pub has_other : Element → Bool
   has_other e = not (allows rule.values e.value)
@@ -65,7 +70,8 @@ module _ (rule : LabelRule) where
 
 -- the rules, and all elements
 abbrev pub rules_faults : List Element → List LabelRule → List Fault
-rules_faults elements rules = flat_map (λ rule. rule_faults rule (labelled rule.label elements)) rules
+rules_faults elements rules =
+    flat_map (λ rule. rule_faults rule (labelled rule.label elements)) rules
 
 abbrev pub element_faults : List ℕ → List LabelRule → List Element → List Fault
 element_faults identifier rules elements =

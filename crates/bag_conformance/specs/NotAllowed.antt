@@ -14,7 +14,8 @@ use Rattle.bag_conformance.specs.ProfileRules.{Excludes, MatchesNone, IsFreeTagF
 -- the name of a manifest, of any algorithm, that may not be there
 abbrev pub IsOtherManifest : Profile → Kind → List ℕ → Type 0
 IsOtherManifest profile kind path =
-    (alg : List ℕ) × (is_alg_text alg ≡ true) × (path ≡ manifest_name kind alg) × Excludes profile (allowed_manifests kind) alg
+    (alg : List ℕ) × (is_alg_text alg ≡ true) × (path ≡ manifest_name kind alg)
+    × Excludes profile (allowed_manifests kind) alg
 
 -- a tag file of which other rules don't speak, and that no pattern allows
 abbrev pub IsOtherTagFile : Profile → List ℕ → Type 0

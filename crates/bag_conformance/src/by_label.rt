@@ -8,7 +8,8 @@ use bag_text::same_label;
 use std::alloc::{AllocError, Global};
 use std::cmp::Ordering;
 
-/// The elements in the order of their labels, whatever the case of these; those of one label stay in their order.
+/// The elements in the order of their labels, whatever the case of these; those of one label stay
+/// in their order.
 pub(crate) fn by_label(alloc: Global, elements: &[Element]) -> Result<Vec<&Element>, AllocError>
     ensures labelled { IfOk result (λ sorted. (label : List ℕ)
         → told.labelled label (told.lent sorted.items) ≡ told.labelled label elements.now) }

@@ -1,11 +1,9 @@
 //! Stage 8: what a profile asks of a bag.
-ghost use Rattle.std.specs.Prelude.{◌≡◌, ◌⊎◌, IfOk};
-ghost use Rattle.bag_text.specs.Order.{IsListOf};
+ghost use Rattle.std.specs.Prelude.{◌⊎◌, IfOk};
 ghost use Rattle.bag_read.specs.declared.kind.Kind.TheVariants.{Payload, Tag};
-ghost use Rattle.bag_facts.specs.FaultOrder.{fault_cmp};
-ghost use Rattle.bag_facts.specs.Facts.{OfBag};
-ghost use Rattle.bag_conformance.specs.ConformanceFaults.{AreAll, IsOfKind};
+ghost use Rattle.bag_conformance.specs.ConformanceFaults.{IsOfKind, AreAllOf};
 ghost use Rattle.bag_conformance.specs.ConformanceStage.{IsOfProfile};
+ghost use Rattle.bag_stages.specs.Found.{AreFaultsOf};
 
 use crate::elements::element_faults;
 use crate::joined::joined;
@@ -17,13 +15,15 @@ use bag_profile::Profile;
 use bag_read::Kind;
 use std::alloc::{AllocError, Global};
 
-/// Where a bag doesn't conform to a profile, of facts read for more than the declaration. Fails only where memory runs out.
+/// Where a bag doesn't conform to a profile, of facts read for more than the declaration. Fails
+/// only where memory runs out.
 pub fn conformance_faults(
     alloc: Global,
     facts: &Facts,
     profile: &Profile,
 ) -> Result<Vec<Fault>, AllocError>
-    ensures { IfOk result (λ faults. OfBag facts.now (λ bag. IsListOf fault_cmp (IsOfProfile bag profile.now) faults.items)) }
+    ensures { IfOk result (λ faults.
+        AreFaultsOf facts.now (λ bag. IsOfProfile bag profile.now) faults.items) }
 {
     let mut faults = faults_of_parts(alloc, facts, profile)?;
     // The faults of elements ascend already: a stable sort keeps such runs.
@@ -38,7 +38,8 @@ fn faults_of_parts(
     facts: &Facts,
     profile: &Profile,
 ) -> Result<Vec<Fault>, AllocError>
-    ensures { IfOk result (λ faults. OfBag facts.now (λ bag. AreAll (IsOfProfile bag profile.now) faults.items)) }
+    ensures { IfOk result (λ faults.
+        AreAllOf facts.now (λ bag. IsOfProfile bag profile.now) faults.items) }
 {
     let of_elements = element_faults(alloc, facts, profile)?;
     let of_manifests = faults_of_manifests(alloc, facts, profile)?;
@@ -55,7 +56,8 @@ fn faults_of_manifests(
     facts: &Facts,
     profile: &Profile,
 ) -> Result<Vec<Fault>, AllocError>
-    ensures { IfOk result (λ faults. OfBag facts.now (λ bag. AreAll (λ f. IsOfKind bag profile.now f Payload ⊎ IsOfKind bag profile.now f Tag) faults.items)) }
+    ensures { IfOk result (λ faults. AreAllOf facts.now (λ bag f.
+        IsOfKind bag profile.now f Payload ⊎ IsOfKind bag profile.now f Tag) faults.items) }
 {
     let of_manifests = manifest_faults(alloc, facts, profile, Kind::Payload)?;
     let of_tag_manifests = manifest_faults(alloc, facts, profile, Kind::Tag)?;

@@ -8,7 +8,7 @@ ghost use Rattle.bag_facts.specs.Facts.{rules_in, OfBag};
 ghost use Rattle.bag_profile.specs.TextSet.{IsAscending};
 ghost use Rattle.bag_stages.specs.Metadata.{bag_info_txt};
 ghost use Rattle.bag_stages.specs.TagFiles.{lines_in};
-ghost use Rattle.bag_conformance.specs.ConformanceFaults.{AreAll, IsOfElements};
+ghost use Rattle.bag_conformance.specs.ConformanceFaults.{IsOfElements, AreAllOf};
 ghost use Rattle.bag_conformance.specs.ElementFaults as told;
 ghost use Rattle.bag_conformance.specs.LabelOrder.{IsByLabel};
 
@@ -22,14 +22,16 @@ use bag_read::Element;
 use bag_text::{Code, Text};
 use std::alloc::{AllocError, Global};
 
-/// The faults of the elements of `bag-info.txt`, by their lines: the profile isn't named, a label is lacking or stands there
-/// again, a value isn't allowed (BagIt Profiles Specification, Bag-Info).
+/// The faults of the elements of `bag-info.txt`, by their lines: the profile isn't named, a label
+/// is lacking or stands there again, a value isn't allowed (BagIt Profiles Specification,
+/// Bag-Info).
 pub(crate) fn element_faults(
     alloc: Global,
     facts: &Facts,
     profile: &Profile,
 ) -> Result<Vec<Fault>, AllocError>
-    ensures { IfOk result (λ faults. OfBag facts.now (λ bag. AreAll (IsOfElements bag profile.now) faults.items)) }
+    ensures { IfOk result (λ faults.
+        AreAllOf facts.now (λ bag. IsOfElements bag profile.now) faults.items) }
 {
     let sorted = by_label(alloc, elements_of(facts))?;
     let naming = labelled(sorted.as_slice(), "BagIt-Profile-Identifier");
@@ -42,7 +44,8 @@ pub(crate) fn element_faults(
 
 /// The elements in line order; none where the file isn't there.
 fn elements_of(facts: &Facts) -> &[Element]
-    ensures { OfBag facts.now (λ bag. IsListOf (on (λ e. e.line) nat_cmp) (IsElement (rules_in bag) (lines_in bag bag_info_txt)) result.now) }
+    ensures { OfBag facts.now (λ bag. IsListOf (on (λ e. e.line) nat_cmp)
+        (IsElement (rules_in bag) (lines_in bag bag_info_txt)) result.now) }
 {
     match facts.metadata() {
         Some(metadata) => metadata.elements.as_slice(),
@@ -56,7 +59,8 @@ fn identifier_faults(
     identifier: &str,
     naming: &[&Element],
 ) -> Result<Vec<Fault>, AllocError>
-    ensures { IfOk result (λ faults. faults.items ≡ told.identifier_faults identifier.now (told.lent naming.now)) }
+    ensures { IfOk result (λ faults. faults.items
+        ≡ told.identifier_faults identifier.now (told.lent naming.now)) }
 {
     if has_value(naming, identifier) {
         return Ok(Vec::new(alloc));
@@ -82,7 +86,8 @@ fn rules_faults(
 ) -> Result<Vec<Fault>, AllocError>
     requires sorted { IsByLabel sorted.now }
     requires ascending { AllByRecursion (λ rule. IsAscending rule.values) rules.now }
-    ensures { IfOk result (λ faults. faults.items ≡ told.rules_faults (told.lent sorted.now) rules.now) }
+    ensures { IfOk result (λ faults. faults.items
+        ≡ told.rules_faults (told.lent sorted.now) rules.now) }
 {
     let mut faults = Vec::new(alloc);
     for rule in rules {

@@ -19,7 +19,8 @@ pub(crate) fn rule_faults(
     found: &[&Element],
 ) -> Result<Vec<Fault>, AllocError>
     requires { IsAscending rule.now.values }
-    ensures { IfOk result (λ faults. faults.items ≡ told.rule_faults rule.now (told.lent found.now)) }
+    ensures { IfOk result (λ faults. faults.items
+        ≡ told.rule_faults rule.now (told.lent found.now)) }
 {
     let required = required_faults(alloc, rule, found)?;
     let repeated = repeated_faults(alloc, rule, found)?;
@@ -34,7 +35,8 @@ fn required_faults(
     rule: &LabelRule,
     found: &[&Element],
 ) -> Result<Vec<Fault>, AllocError>
-    ensures { IfOk result (λ faults. faults.items ≡ told.required_faults rule.now (told.lent found.now)) }
+    ensures { IfOk result (λ faults. faults.items
+        ≡ told.required_faults rule.now (told.lent found.now)) }
 {
     if !found.is_empty() || !rule.required {
         return Ok(Vec::new(alloc));
@@ -49,7 +51,8 @@ fn repeated_faults(
     rule: &LabelRule,
     found: &[&Element],
 ) -> Result<Vec<Fault>, AllocError>
-    ensures { IfOk result (λ faults. faults.items ≡ told.repeated_faults rule.now (told.lent found.now)) }
+    ensures { IfOk result (λ faults. faults.items
+        ≡ told.repeated_faults rule.now (told.lent found.now)) }
 {
     if rule.repeatable || found.is_empty() {
         return Ok(Vec::new(alloc));
@@ -59,7 +62,8 @@ fn repeated_faults(
 
 /// The faults of elements that stand there again.
 fn later_faults(alloc: Global, label: &Text, later: &[&Element]) -> Result<Vec<Fault>, AllocError>
-    ensures { IfOk result (λ faults. faults.items ≡ map (told.later_fault label.now) (told.lent later.now)) }
+    ensures { IfOk result (λ faults. faults.items
+        ≡ map (told.later_fault label.now) (told.lent later.now)) }
 {
     let mut faults = Vec::new(alloc);
     for element in later {
@@ -76,7 +80,8 @@ fn value_faults(
     found: &[&Element],
 ) -> Result<Vec<Fault>, AllocError>
     requires { IsAscending rule.now.values }
-    ensures { IfOk result (λ faults. faults.items ≡ told.value_faults rule.now (told.lent found.now)) }
+    ensures { IfOk result (λ faults. faults.items
+        ≡ told.value_faults rule.now (told.lent found.now)) }
 {
     let mut faults = Vec::new(alloc);
     for element in found {

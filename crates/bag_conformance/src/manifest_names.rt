@@ -2,11 +2,12 @@
 ghost use Rattle.std.specs.Prelude.{◌≡◌, ◌↔◌, ℕ, List, IsTrue, IfOk};
 ghost use Rattle.bag_read.specs.ManifestName.{manifest_name};
 ghost use Rattle.bag_tree.specs.Bag.{Bag};
-ghost use Rattle.bag_facts.specs.Facts.{IsFactsOf, OfBag};
+ghost use Rattle.bag_facts.specs.Facts.{IsFactsOf};
 ghost use Rattle.bag_stages.specs.TagFiles.{HasManifest};
 ghost use Rattle.bag_conformance.specs.ConformanceFaults as kinds;
-ghost use Rattle.bag_conformance.specs.ConformanceFaults.{AreAll, IsOfKind};
-ghost use Rattle.bag_conformance.specs.ConformanceStage.{required_manifests, allowed_manifests, LacksManifest, HasOtherManifest};
+ghost use Rattle.bag_conformance.specs.ConformanceFaults.{AreAll, IsOfKind, AreAllOf};
+ghost use Rattle.bag_conformance.specs.ConformanceStage.{required_manifests, allowed_manifests};
+ghost use Rattle.bag_conformance.specs.ConformanceStage.{LacksManifest, HasOtherManifest};
 ghost use Rattle.bag_conformance.specs.NotAllowed.{IsOtherManifest};
 
 use crate::file_fault::file_fault;
@@ -19,22 +20,24 @@ use bag_read::{Kind, manifest_alg};
 use bag_text::{Code, Text};
 use std::alloc::{AllocError, Global};
 
-/// The faults that manifests of a kind are lacking, or may not be there (BagIt Profiles Specification, Manifests-Required,
-/// Manifests-Allowed and the same of tag manifests).
+/// The faults that manifests of a kind are lacking, or may not be there (BagIt Profiles
+/// Specification, Manifests-Required, Manifests-Allowed and the same of tag manifests).
 pub(crate) fn manifest_faults(
     alloc: Global,
     facts: &Facts,
     profile: &Profile,
     kind: Kind,
 ) -> Result<Vec<Fault>, AllocError>
-    ensures { IfOk result (λ faults. OfBag facts.now (λ bag. AreAll (λ f. IsOfKind bag profile.now f kind) faults.items)) }
+    ensures { IfOk result (λ faults.
+        AreAllOf facts.now (λ bag f. IsOfKind bag profile.now f kind) faults.items) }
 {
     let lacking = lacking_manifests(alloc, facts, profile, kind)?;
     let others = other_manifests(alloc, facts, profile, kind)?;
     joined(lacking, others)
 }
 
-/// The faults that manifests must be there, and aren't. A name that no manifest can have is always lacking.
+/// The faults that manifests must be there, and aren't. A name that no manifest can have is always
+/// lacking.
 fn lacking_manifests(
     alloc: Global,
     facts: &Facts,
@@ -42,7 +45,8 @@ fn lacking_manifests(
     kind: Kind,
 ) -> Result<Vec<Fault>, AllocError>
     ensures { IfOk result (λ faults. (bag : Bag) → IsFactsOf bag facts.now
-        → AreAll (λ f. (f.code ≡ kinds.required_code kind) × LacksManifest bag profile.now f kind) faults.items) }
+        → AreAll (λ f. (f.code ≡ kinds.required_code kind) × LacksManifest bag profile.now f kind)
+        faults.items) }
 {
     let code = required_code(kind);
     let required = listed(profile, required_list(kind));
@@ -64,7 +68,8 @@ fn other_manifests(
     kind: Kind,
 ) -> Result<Vec<Fault>, AllocError>
     ensures { IfOk result (λ faults. (bag : Bag) → IsFactsOf bag facts.now
-        → AreAll (λ f. (f.code ≡ kinds.other_code kind) × HasOtherManifest bag profile.now f kind) faults.items) }
+        → AreAll (λ f. (f.code ≡ kinds.other_code kind) × HasOtherManifest bag profile.now f kind)
+        faults.items) }
 {
     let code = other_code(kind);
     let files = facts.files();
@@ -89,7 +94,8 @@ fn is_other_manifest(profile: &Profile, kind: Kind, path: &str) -> bool
 
 /// Whether a bag has the manifest at the path that a name gives.
 fn has_manifest(facts: &Facts, kind: Kind, path: &str) -> bool
-    ensures { (bag : Bag) → IsFactsOf bag facts.now → (name : List ℕ) → path.now ≡ manifest_name kind name
+    ensures { (bag : Bag) → IsFactsOf bag facts.now → (name : List ℕ)
+        → path.now ≡ manifest_name kind name
         → IsTrue result ↔ HasManifest bag kind name }
 {
     manifest_alg(kind, path).is_some() && has_file(facts, path)

@@ -19,7 +19,8 @@ pub(crate) fn listed(profile: &Profile, rule: ListRule) -> &[Text]
     }
 }
 
-/// Whether a list is there and lacks a name: an empty list allows none, and a list that is absent all.
+/// Whether a list is there and lacks a name: an empty list allows none, and a list that is absent
+/// all.
 pub(crate) fn excludes(profile: &Profile, rule: ListRule, name: &str) -> bool
     ensures { IsTrue result ↔ Excludes profile.now rule name.now }
 {

@@ -1,10 +1,12 @@
 //! What a profile asks of tag files that are no manifests.
 ghost use Rattle.std.specs.Prelude.{◌≡◌, ◌↔◌, IsTrue, IfOk};
-ghost use Rattle.bag_text.specs.declared.code.Code.TheVariants.{TagFileRequired, TagFileNotAllowed, FetchNotAllowed};
+ghost use Rattle.bag_text.specs.declared.code.Code.TheVariants.{TagFileRequired, TagFileNotAllowed};
+ghost use Rattle.bag_text.specs.declared.code.Code.TheVariants.{FetchNotAllowed};
 ghost use Rattle.bag_tree.specs.Bag.{Bag};
-ghost use Rattle.bag_facts.specs.Facts.{IsFactsOf, OfBag};
-ghost use Rattle.bag_conformance.specs.ConformanceFaults.{AreAll, IsOfTagFiles};
-ghost use Rattle.bag_conformance.specs.ConformanceStage.{LacksTagFile, HasOtherTagFile, HasFetchFile};
+ghost use Rattle.bag_facts.specs.Facts.{IsFactsOf};
+ghost use Rattle.bag_conformance.specs.ConformanceFaults.{AreAll, IsOfTagFiles, AreAllOf};
+ghost use Rattle.bag_conformance.specs.ConformanceStage.{LacksTagFile, HasOtherTagFile};
+ghost use Rattle.bag_conformance.specs.ConformanceStage.{HasFetchFile};
 ghost use Rattle.bag_conformance.specs.NotAllowed.{IsOtherTagFile};
 
 use crate::file_fault::file_fault;
@@ -17,14 +19,15 @@ use bag_read::TagName;
 use bag_text::Code;
 use std::alloc::{AllocError, Global};
 
-/// The faults that tag files are lacking, or may not be there (BagIt Profiles Specification, Tag-Files-Required,
-/// Tag-Files-Allowed, Allow-Fetch.txt).
+/// The faults that tag files are lacking, or may not be there (BagIt Profiles Specification,
+/// Tag-Files-Required, Tag-Files-Allowed, Allow-Fetch.txt).
 pub(crate) fn tag_file_faults(
     alloc: Global,
     facts: &Facts,
     profile: &Profile,
 ) -> Result<Vec<Fault>, AllocError>
-    ensures { IfOk result (λ faults. OfBag facts.now (λ bag. AreAll (IsOfTagFiles bag profile.now) faults.items)) }
+    ensures { IfOk result (λ faults.
+        AreAllOf facts.now (λ bag. IsOfTagFiles bag profile.now) faults.items) }
 {
     let lacking = lacking_tag_files(alloc, facts, profile)?;
     let others = other_tag_files(alloc, facts, profile)?;
@@ -59,7 +62,8 @@ fn other_tag_files(
     profile: &Profile,
 ) -> Result<Vec<Fault>, AllocError>
     ensures { IfOk result (λ faults. (bag : Bag) → IsFactsOf bag facts.now
-        → AreAll (λ f. (f.code ≡ TagFileNotAllowed) × HasOtherTagFile bag profile.now f) faults.items) }
+        → AreAll (λ f. (f.code ≡ TagFileNotAllowed) × HasOtherTagFile bag profile.now f)
+        faults.items) }
 {
     let files = facts.files();
     let mut faults = Vec::new(alloc);

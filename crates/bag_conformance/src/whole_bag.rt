@@ -1,13 +1,14 @@
 //! What a profile asks of a bag as a whole.
 ghost use Rattle.std.specs.Prelude.{◌≡◌, IfOk, option_and_then};
 ghost use Rattle.std.specs.Option.{option_copied};
-ghost use Rattle.bag_text.specs.declared.code.Code.TheVariants.{VersionNotAccepted, SerializationRequired};
+ghost use Rattle.bag_text.specs.declared.code.Code.TheVariants.{VersionNotAccepted};
+ghost use Rattle.bag_text.specs.declared.code.Code.TheVariants.{SerializationRequired};
 ghost use Rattle.bag_read.specs.Declaration as declared;
 ghost use Rattle.bag_tree.specs.Bag.{Bag, file};
-ghost use Rattle.bag_facts.specs.Facts.{IsFactsOf, OfBag};
+ghost use Rattle.bag_facts.specs.Facts.{IsFactsOf};
 ghost use Rattle.bag_stages.specs.FaultFields.{of_bag};
 ghost use Rattle.bag_stages.specs.TagFiles.{bagit_txt};
-ghost use Rattle.bag_conformance.specs.ConformanceFaults.{AreAll, IsOfWhole};
+ghost use Rattle.bag_conformance.specs.ConformanceFaults.{AreAll, IsOfWhole, AreAllOf};
 ghost use Rattle.bag_conformance.specs.ConformanceStage.{HasOtherVersion};
 ghost use Rattle.bag_conformance.specs.NotAllowed.{other_version};
 
@@ -18,14 +19,15 @@ use bag_read::TagName;
 use bag_text::{Code, Text};
 use std::alloc::{AllocError, Global};
 
-/// The faults that the version isn't accepted, and that the bag is to be serialized (BagIt Profiles Specification,
-/// Accept-BagIt-Version, Serialization).
+/// The faults that the version isn't accepted, and that the bag is to be serialized (BagIt Profiles
+/// Specification, Accept-BagIt-Version, Serialization).
 pub(crate) fn whole_faults(
     alloc: Global,
     facts: &Facts,
     profile: &Profile,
 ) -> Result<Vec<Fault>, AllocError>
-    ensures { IfOk result (λ faults. OfBag facts.now (λ bag. AreAll (IsOfWhole bag profile.now) faults.items)) }
+    ensures { IfOk result (λ faults.
+        AreAllOf facts.now (λ bag. IsOfWhole bag profile.now) faults.items) }
 {
     let mut faults = version_faults(alloc, facts, profile)?;
     if profile.serialization() == Serialization::Required {
@@ -37,7 +39,8 @@ pub(crate) fn whole_faults(
 /// The fault that the bag declares a version that isn't accepted.
 fn version_faults(alloc: Global, facts: &Facts, profile: &Profile) -> Result<Vec<Fault>, AllocError>
     ensures { IfOk result (λ faults. (bag : Bag) → IsFactsOf bag facts.now
-        → AreAll (λ f. (f.code ≡ VersionNotAccepted) × HasOtherVersion bag profile.now f) faults.items) }
+        → AreAll (λ f. (f.code ≡ VersionNotAccepted) × HasOtherVersion bag profile.now f)
+        faults.items) }
 {
     let Some(version) = declared_version(facts) else {
         return Ok(Vec::new(alloc));

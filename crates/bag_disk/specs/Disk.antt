@@ -1,5 +1,8 @@
 -- What stands below a base folder of a disk.
-use Rattle.std.specs.Prelude.{ℕ, ◌≡◌, ◌≢◌, ◌<◌, Bool, true, false, IsTrue, IsUtf8, List, [], ◌∷◌, filter, length, All, Contains, Option, Some, None, is_some}
+use Rattle.std.specs.Prelude.{ℕ, ◌≡◌, ◌≢◌, ◌<◌, Bool, true, false, IsTrue, IsUtf8, List, [], ◌∷◌}
+use Rattle.std.specs.Prelude.{filter, length, All, Contains, MatchOption, Option, Some, None}
+use Rattle.std.specs.Prelude.{is_some}
+use Rattle.std.specs.Option.{option_map}
 use Rattle.std.proofs.Common.{◌∙◌, ap, sym}
 use Rattle.std.proofs.lemmas.Bool.{false≢true}
 use Rattle.std.specs.FinMap as map
@@ -7,12 +10,13 @@ use Rattle.std.specs.List.{list_all}
 use Rattle.bag_text.specs.Text.{text_cmp}
 use Rattle.bag_text.specs.Path.{slash, is_path, under}
 use Rattle.bag_tree.specs.declared.event.DeviceEvent.{DeviceEvent}
+use Rattle.bag_tree.specs.Tree.{ReadsNext}
 use Rattle.bag_disk.specs.Location.{path_in}
 use Rattle.bag_disk.specs.declared.disk.Entry.{Entry}
 use Rattle.bag_disk.specs.declared.disk.Entry.TheVariants as entry
 
--- what stands at a path: a regular file with its bytes, a folder, or something else, as a link, or as what has a name that
--- isn't UTF-8
+-- what stands at a path: a regular file with its bytes, a folder, or something else, as a link, or
+-- as what has a name that isn't UTF-8
 pub data Node : Type 0 where
   File : List ℕ → Node
   Folder : Node
@@ -100,31 +104,42 @@ IsFolder nodes (c ∷ path) = node nodes (c ∷ path) ≡ Some Folder
 
 -- each folder on the way to the path is a folder, and no link
 abbrev pub IsReached : Nodes → List ℕ → Type 0
-IsReached nodes path = (folder rest : List ℕ) → path ≡ under folder rest → node nodes folder ≡ Some Folder
+IsReached nodes path = (folder rest : List ℕ) → path ≡ under folder rest
+    → node nodes folder ≡ Some Folder
 
 -- each folder on the way to the path, up to a length, is a folder
 abbrev pub IsReachedTo : Nodes → List ℕ → ℕ → Type 0
-IsReachedTo nodes path end = (folder rest : List ℕ) → path ≡ under folder rest → length folder < end → node nodes folder ≡ Some Folder
+IsReachedTo nodes path end =
+    (folder rest : List ℕ) → path ≡ under folder rest → length folder < end
+    → node nodes folder ≡ Some Folder
+
+-- The rest holds where the disk is honest, and each folder on the way to the path is there.
+abbrev pub WhereReached : DiskState → List ℕ → Type 0 → Type 0
+WhereReached disk path P = IsTrue disk.honest → IsReached disk.nodes path → P
 
 -- what every disk has: paths, each in a folder, those of files and folders in UTF-8, and bytes
 pub record IsDisk (nodes : Nodes) : Type 0 where
   pub paths : (path : List ℕ) → Has nodes path → IsTrue (is_path path)
   pub texts : (path : List ℕ) (n : Node) → node nodes path ≡ Some n → n ≢ Other → IsUtf8 path
   pub folders : (path : List ℕ) → Has nodes path → IsReached nodes path
-  pub bytes : (path content : List ℕ) → node nodes path ≡ Some (File content) → All (λ b. b < 256) content
+  pub bytes : (path content : List ℕ) → node nodes path ≡ Some (File content)
+      → All (λ b. b < 256) content
 
 -- where nothing stands
 pub empty_disk : IsDisk map.empty
 empty_disk = record {
-  texts = λ path n is. absurd (false≢true (sym (ap is_some (map.get-empty text_cmp path)) ∙ ap is_some is));
+  texts = λ path n is.
+      absurd (false≢true (sym (ap is_some (map.get-empty text_cmp path)) ∙ ap is_some is));
   paths = λ path has. absurd (false≢true (sym (ap is_some (map.get-empty text_cmp path)) ∙ has));
   folders = λ path has. absurd (false≢true (sym (ap is_some (map.get-empty text_cmp path)) ∙ has));
-  bytes = λ path content is. absurd (false≢true (ap is_some (sym (map.get-empty text_cmp path) ∙ is)));
+  bytes = λ path content is.
+      absurd (false≢true (ap is_some (sym (map.get-empty text_cmp path) ∙ is)));
 }
 
 -- the regular files and the folders, without what else stands there
 abbrev pub files_and_folders : Nodes → Nodes
-files_and_folders nodes = map.from_entries (filter (λ entry. is_plain_node entry.1) (map.entries nodes))
+files_and_folders nodes =
+    map.from_entries (filter (λ entry. is_plain_node entry.1) (map.entries nodes))
 
 -- how many files and folders stand there
 abbrev pub entry_count : Nodes → ℕ
@@ -136,6 +151,23 @@ entry_of (File bytes) = entry.File (length bytes)
 entry_of Folder = entry.Folder
 entry_of Other = entry.Other
 
+-- this stands at the path, which the disk says only where it is honest and the path is reached
+abbrev pub HasEntryAt : DiskState → List ℕ → Entry → Type 0
+HasEntryAt disk path entry =
+    WhereReached disk path (option_map entry_of (node disk.nodes path) ≡ Some entry)
+
+-- so nothing stands at the path
+abbrev pub HasNothingAt : DiskState → List ℕ → Type 0
+HasNothingAt disk path = WhereReached disk path (node disk.nodes path ≡ None)
+
+-- so something stands at the path
+abbrev pub HasSomethingAt : DiskState → List ℕ → Type 0
+HasSomethingAt disk path = WhereReached disk path (Has disk.nodes path)
+
+-- where the disk is honest, not all folders on the way to the path are there
+abbrev pub IsUnreached : DiskState → List ℕ → Type 0
+IsUnreached disk path = WhereReached disk path ⊥
+
 -- a name has no slash
 abbrev pub IsName : List ℕ → Type 0
 IsName name = All (λ c. c ≢ slash) name
@@ -145,9 +177,30 @@ pub record AreNamesIn (nodes : Nodes) (folder : List ℕ) (names : List (List �
   pub there : (name : List ℕ) → Contains names name → Has nodes (path_in folder name)
   pub all : (name : List ℕ) → IsName name → Has nodes (path_in folder name) → Contains names name
 
+-- the names that are left of the folder that was entered are those of what stands in it, where the
+-- disk is honest and has the folder
+abbrev pub HasEntered : DiskState → DiskState → List ℕ → Type 0
+HasEntered old new folder =
+    IsTrue old.honest → IsFolder old.nodes folder → AreNamesIn old.nodes folder new.names
+
+-- where the disk is honest, the name was the next that was left of the folder that was entered; no
+-- name: none was left
+abbrev pub TakesName : DiskState → DiskState → Option (List ℕ) → Type 0
+TakesName old new next = IsTrue old.honest
+    → MatchOption next (old.names ≡ []) (λ name. old.names ≡ name ∷ new.names)
+
 -- a regular file with these bytes stands there
 abbrev pub IsFileWith : Nodes → List ℕ → List ℕ → Type 0
 IsFileWith nodes path bytes = node nodes path ≡ Some (File bytes)
+
+-- where the disk is honest and the path is reached, the file there is open, at its first byte
+abbrev pub HasOpened : DiskState → DiskState → List ℕ → Type 0
+HasOpened old new path = IsTrue old.honest → IsReached old.nodes path → (bytes : List ℕ)
+    → IsFileWith old.nodes path bytes → new.rest ≡ Some bytes
+
+-- where the disk is honest, the first bytes of the buffer, so many, were the next of the open file
+abbrev pub HasReadNext : DiskState → DiskState → List ℕ → ℕ → Type 0
+HasReadNext old new buffer count = IsTrue old.honest → ReadsNext old.rest new.rest count buffer
 
 -- one of these names isn't UTF-8
 abbrev pub HasUnnamed : List (List ℕ) → Type 0

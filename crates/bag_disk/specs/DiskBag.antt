@@ -25,7 +25,10 @@ bag_of nodes = record {
   folders = set.from_list (filter_map as_base_folder (map.entries nodes));
 }
 
--- the law: the bag's file at a path is the regular file that stands there, and its folder of a name is the folder there
+-- the law: the bag's file at a path is the regular file that stands there, and its folder of a name
+-- is the folder there
 pub record BagIsWhatStands : Type 0 where
-  pub files : (nodes : Nodes) (path : List ℕ) → file (bag_of nodes) path ≡ bytes_of (node nodes path)
-  pub folders : (nodes : Nodes) (name : List ℕ) → IsTrue (is_base_name name) → has_folder (bag_of nodes) name ≡ is_folder_node (node nodes name)
+  pub files : (nodes : Nodes) (path : List ℕ)
+      → file (bag_of nodes) path ≡ bytes_of (node nodes path)
+  pub folders : (nodes : Nodes) (name : List ℕ) → IsTrue (is_base_name name)
+      → has_folder (bag_of nodes) name ≡ is_folder_node (node nodes name)

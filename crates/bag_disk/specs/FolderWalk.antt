@@ -1,10 +1,16 @@
 -- What a walk over the folders of a disk has found.
-use Rattle.std.specs.Prelude.{ℕ, ◌≡◌, ◌⊎◌, true, List, [], ◌∷◌, ◌++◌, map, Some, length, All, Contains, IsTrue}
+use Rattle.std.specs.Prelude.{ℕ, ◌≡◌, ◌⊎◌, ◌+◌, ◌<◌, true, List, [], ◌∷◌, ◌++◌, map, Some, length}
+use Rattle.std.specs.Prelude.{All, Contains, IsTrue, vec_len}
 use Rattle.std.specs.List.Sorted.{IsPermutation, IsSortedByKey, IsStrictlySortedBy}
 use Rattle.bag_text.specs.Text.{text_cmp}
 use Rattle.bag_text.specs.Path.{is_path, under}
 use Rattle.bag_disk.specs.Location.{path_in}
-use Rattle.bag_disk.specs.Disk.{DiskState, Nodes, node, Has, IsFolder, is_plain_found}
+use Rattle.bag_disk.specs.Disk.{DiskState, Nodes, node, Has, HasSpecial, HasUnnamedPath, IsFolder}
+use Rattle.bag_disk.specs.Disk.{entry_count, is_plain_found}
+use Rattle.bag_disk.specs.Refusal.{IsDue, IsDueInListing, MeetsSpecial, MeetsUnnamed}
+use Rattle.bag_disk.specs.declared.folder_walk.FolderWalk.{FolderWalk}
+use Rattle.bag_disk.specs.declared.refusal.Refusal.{Refusal}
+use Rattle.bag_tree.specs.Tree.{most_entries}
 use Rattle.bag_disk.specs.Disk.Node.{File}
 use Rattle.bag_disk.specs.declared.disk.Entry.{Entry}
 use Rattle.bag_disk.specs.declared.disk.Entry.TheVariants as entry
@@ -21,13 +27,16 @@ IsAtOrBelow top path = (path ≡ top) ⊎ ((rest : List ℕ) × (path ≡ under 
 
 -- the entry is a file of the disk
 abbrev pub IsFileOf : Nodes → FileEntry → Type 0
-IsFileOf nodes entry = (bytes : List ℕ) × (node nodes entry.path ≡ Some (File bytes)) × (entry.size ≡ length bytes)
+IsFileOf nodes entry =
+    (bytes : List ℕ) × (node nodes entry.path ≡ Some (File bytes)) × (entry.size ≡ length bytes)
 
 abbrev pub paths_of : List FileEntry → List (List ℕ)
 paths_of files = map (λ file. file.path) files
 
--- What was found, and what is still to be listed: folders, and in one folder the paths that weren't looked at.
-pub record Walked (nodes : Nodes) (files : List FileEntry) (folders listed pending : List (List ℕ)) : Type 0 where
+-- What was found, and what is still to be listed: folders, and in one folder the paths that weren't
+-- looked at.
+pub record Walked (nodes : Nodes) (files : List FileEntry)
+    (folders listed pending : List (List ℕ)) : Type 0 where
   pub are_files : (entry : FileEntry) → Contains files entry → IsFileOf nodes entry
   pub are_folders : (folder : List ℕ) → Contains folders folder → IsFolder nodes folder
   pub were_folders : (folder : List ℕ) → Contains listed folder → IsFolder nodes folder
@@ -38,20 +47,23 @@ pub record Walked (nodes : Nodes) (files : List FileEntry) (folders listed pendi
 
 -- each of these is a file or a folder that is there
 abbrev pub AreThere : Nodes → List FileEntry → Type 0
-AreThere nodes files = (entry : FileEntry) → Contains files entry → is_plain_found (node nodes entry.path) ≡ true
+AreThere nodes files = (entry : FileEntry) → Contains files entry
+    → is_plain_found (node nodes entry.path) ≡ true
 
 -- each of these is a folder that is there
 abbrev pub AreFolders : Nodes → List (List ℕ) → Type 0
 AreFolders nodes folders = (folder : List ℕ) → Contains folders folder → IsFolder nodes folder
 
 -- all that was found stands there
-pub record AllStand (nodes : Nodes) (files : List FileEntry) (folders listed : List (List ℕ)) : Type 0 where
+pub record AllStand (nodes : Nodes) (files : List FileEntry)
+    (folders listed : List (List ℕ)) : Type 0 where
   pub are_there : AreThere nodes files
   pub are_folders : AreFolders nodes folders
   pub were_folders : AreFolders nodes listed
 
 -- One folder is being listed: these of its names weren't looked at.
-pub record Listing (nodes : Nodes) (files : List FileEntry) (folders listed : List (List ℕ)) (folder : List ℕ) (names : List (List ℕ)) : Type 0 where
+pub record Listing (nodes : Nodes) (files : List FileEntry) (folders listed : List (List ℕ))
+    (folder : List ℕ) (names : List (List ℕ)) : Type 0 where
   pub walked : Walked nodes files folders (listed ++ folder ∷ []) (map (path_in folder) names)
   pub there : (name : List ℕ) → Contains names name → Has nodes (path_in folder name)
 
@@ -79,6 +91,78 @@ ArePaths files = All (λ file. IsTrue (is_path file.path)) files
 abbrev pub AllArePaths : List FileEntry → List (List ℕ) → Type 0
 AllArePaths files folders = ArePaths files × All IsFolderPath folders
 
+-- what was found has paths
+abbrev pub HasPaths : FolderWalk → Type 0
+HasPaths walk = AllArePaths walk.files.items walk.folders.items
+
+-- the folders that are still to be listed, and how many files and folders more can be found
+abbrev pub turns_left : FolderWalk → ℕ
+turns_left walk = vec_len walk.folders + walk.room
+
+-- what the walk found stands there, where it listed these folders
+abbrev pub HasFound : Nodes → FolderWalk → List (List ℕ) → Type 0
+HasFound nodes walk listed = AllStand nodes walk.files.items walk.folders.items listed
+
+-- there is too much wherever all that the walk found stands
+abbrev pub IsTooMuch : FolderWalk → Type 0
+IsTooMuch walk =
+    (nodes : Nodes) → HasFound nodes walk walk.listed.items → most_entries < entry_count nodes
+
+-- the disk has too much, where it is honest
+abbrev pub HasTooMuch : DiskState → Type 0
+HasTooMuch disk = IsTrue disk.honest → most_entries < entry_count disk.nodes
+
+-- The rest holds where the disk is honest, and this folder was the last that was to be listed.
+abbrev pub BeforeFolder : DiskState → FolderWalk → List ℕ → Type 0 → Type 0
+BeforeFolder disk walk folder P = IsTrue disk.honest
+    → Walked disk.nodes walk.files.items (walk.folders.items ++ folder ∷ []) walk.listed.items []
+    → P
+
+-- a folder was listed, so that all stands in the walk or is still to be found by it
+abbrev pub ListsFolder : DiskState → FolderWalk → FolderWalk → List ℕ → Type 0
+ListsFolder disk old new folder = BeforeFolder disk old folder
+    (Walked disk.nodes new.files.items new.folders.items new.listed.items [])
+
+-- the disk may refuse a folder so, or there is too much in what was found
+abbrev pub MayRefuseFolder : DiskState → FolderWalk → FolderWalk → List ℕ → Refusal → Type 0
+MayRefuseFolder disk old new folder = IsDue
+    (BeforeFolder disk old folder (HasSpecial disk.nodes))
+    (BeforeFolder disk old folder (HasUnnamedPath disk.nodes))
+    ⊥
+    (BeforeFolder disk old folder (HasFound disk.nodes new new.listed.items))
+
+-- The rest holds where the disk is honest, and of this folder just these names are left.
+abbrev pub BeforeNames : DiskState → FolderWalk → List ℕ → (List (List ℕ) → Type 0) → Type 0
+BeforeNames disk walk folder P = IsTrue disk.honest → (listed : List (List ℕ))
+    → Listing disk.nodes walk.files.items walk.folders.items listed folder disk.names
+    → P listed
+
+-- what stands at the names was found, so that the folder is listed
+abbrev pub ListsNames : DiskState → FolderWalk → FolderWalk → List ℕ → Type 0
+ListsNames disk old new folder = BeforeNames disk old folder
+    (λ listed. Walked disk.nodes new.files.items new.folders.items (listed ++ folder ∷ []) [])
+
+-- the disk may refuse its names so, or there is too much in what was found
+abbrev pub MayRefuseNames : DiskState → FolderWalk → FolderWalk → List ℕ → Refusal → Type 0
+MayRefuseNames disk old new folder = IsDue
+    (BeforeNames disk old folder (λ _. HasSpecial disk.nodes))
+    (BeforeNames disk old folder (λ _. HasUnnamedPath disk.nodes))
+    ⊥
+    (BeforeNames disk old folder (λ listed. HasFound disk.nodes new (listed ++ folder ∷ [])))
+
+-- what stands at a path was found, where the disk is honest and it was the first that was to be
+-- looked at
+abbrev pub FindsPath : DiskState → FolderWalk → FolderWalk → List ℕ → Type 0
+FindsPath disk old new path = IsTrue disk.honest → Has disk.nodes path
+    → (listed pending : List (List ℕ))
+    → Walked disk.nodes old.files.items old.folders.items listed (path ∷ pending)
+    → Walked disk.nodes new.files.items new.folders.items listed pending
+
+-- the disk may refuse a path so
+abbrev pub MayRefusePath : DiskState → List ℕ → Refusal → Type 0
+MayRefusePath disk path =
+    IsDue (IsTrue disk.honest → Has disk.nodes path → HasSpecial disk.nodes) ⊥ ⊥ ⊥
+
 -- no listing is to be had of what was found: two files have one path
 pub record IsUnlistable (files : List FileEntry) : Type 0 where
   pub sorted : List FileEntry
@@ -92,3 +176,12 @@ pub record Contradiction (disk : DiskState) : Type 0 where
   pub listed : List (List ℕ)
   pub walked : IsTrue disk.honest → Walked disk.nodes files [] listed []
   pub unlistable : IsUnlistable files
+
+-- the disk may refuse a whole walk so
+abbrev pub MayRefuseWalk : DiskState → Refusal → Type 0
+MayRefuseWalk disk = IsDue (MeetsSpecial disk) (MeetsUnnamed disk) ⊥ (HasTooMuch disk)
+
+-- and so the listing
+abbrev pub MayRefuseListing : DiskState → Refusal → Type 0
+MayRefuseListing disk =
+    IsDueInListing (MeetsSpecial disk) (MeetsUnnamed disk) (HasTooMuch disk) (Contradiction disk)

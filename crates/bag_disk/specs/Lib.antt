@@ -4,6 +4,8 @@ pub mod DiskBag
 pub mod Failures
 pub mod FolderWalk
 pub mod Location
+pub mod Opening
 pub mod Refusal
+pub mod Subject
 pub mod SystemDisk
 pub mod WritableDisk

@@ -4,7 +4,10 @@ use Rattle.bag_disk.specs.Disk.{DiskState, HasSpecial, HasUnnamedPath}
 use Rattle.bag_disk.specs.declared.disk.DiskFault.{DiskFault}
 use Rattle.bag_disk.specs.declared.disk.DiskFault.TheVariants as disk
 use Rattle.bag_disk.specs.declared.refusal.Refusal.{Refusal}
-use Rattle.bag_disk.specs.declared.refusal.Refusal.TheVariants.{Device, Special, Name, NotFound, TooMany, Memory, Exists, Contradicts, InTheWay}
+use Rattle.bag_disk.specs.declared.refusal.Refusal.TheVariants.{Device, Special, Name, NotFound}
+use Rattle.bag_disk.specs.declared.refusal.Refusal.TheVariants.{TooMany}
+use Rattle.bag_disk.specs.declared.refusal.Refusal.TheVariants.{Memory, Exists, Contradicts}
+use Rattle.bag_disk.specs.declared.refusal.Refusal.TheVariants.{InTheWay}
 
 -- where the disk is honest, something stands there that is no file and no folder
 abbrev pub MeetsSpecial : DiskState → Type 0
@@ -14,8 +17,9 @@ MeetsSpecial disk = IsTrue disk.honest → HasSpecial disk.nodes
 abbrev pub MeetsUnnamed : DiskState → Type 0
 MeetsUnnamed disk = IsTrue disk.honest → HasUnnamedPath disk.nodes
 
--- The disk may refuse so: `special` says when over something that is no file and no folder, `unnamed` when over a name that
--- isn't UTF-8, `absent` when there is no such file, and `many` when there is too much.
+-- The disk may refuse so: `special` says when over something that is no file and no folder,
+-- `unnamed` when over a name that isn't UTF-8, `absent` when there is no such file, and `many` when
+-- there is too much.
 abbrev pub IsDue : Type 0 → Type 0 → Type 0 → Type 0 → Refusal → Type 0
 IsDue special unnamed absent many Device = Unit {0}
 IsDue special unnamed absent many Special = special
@@ -32,7 +36,8 @@ abbrev pub IsDueInListing : Type 0 → Type 0 → Type 0 → Type 0 → Refusal 
 IsDueInListing special unnamed many contradiction Contradicts = contradiction
 IsDueInListing special unnamed many contradiction refusal = IsDue special unnamed ⊥ many refusal
 
--- A step, which is given the names that it looks at, may be refused so: `taken` says when something is in its way.
+-- A step, which is given the names that it looks at, may be refused so: `taken` says when something
+-- is in its way.
 abbrev pub IsDueInStep : Type 0 → Type 0 → Type 0 → Refusal → Type 0
 IsDueInStep special absent taken Exists = taken
 IsDueInStep special absent taken refusal = IsDue special ⊥ absent ⊥ refusal
@@ -100,11 +105,20 @@ failures_after InTheWay count = count
 
 -- a call whose faults mean this counts a failure where the device refused it, and nothing else
 abbrev pub IsCountedAs : {T : Type 0} → (DiskFault → Refusal) → Result T DiskFault → ℕ → ℕ → Type 0
-IsCountedAs meaning answer before after = MatchResult answer (λ _. after ≡ before) (λ fault. after ≡ failures_after (meaning fault) before)
+IsCountedAs meaning answer before after =
+    MatchResult answer (λ _. after ≡ before) (λ fault.
+    after ≡ failures_after (meaning fault) before)
+
+-- the same between the states of the disk
+abbrev pub CountsAs : {T : Type 0} → (DiskFault → Refusal) → Result T DiskFault → DiskState
+    → DiskState → Type 0
+CountsAs meaning answer old new = IsCountedAs meaning answer old.failures new.failures
 
 -- the same of some calls, which end with the first that is refused
 abbrev pub IsCounted : {T : Type 0} → Result T Refusal → DiskState → DiskState → Type 0
-IsCounted answer old new = MatchResult answer (λ _. new.failures ≡ old.failures) (λ refusal. new.failures ≡ failures_after refusal old.failures)
+IsCounted answer old new = MatchResult answer
+    (λ _. new.failures ≡ old.failures) (λ refusal.
+    new.failures ≡ failures_after refusal old.failures)
 
 -- where these calls are refused, it isn't by the device
 abbrev pub IsNoFailure : {T : Type 0} → Result T Refusal → Type 0

@@ -8,8 +8,9 @@ use Rattle.bag_disk.specs.declared.system_disk.SystemDisk.{SystemDisk}
 abbrev pub base_of : {R F D : Type 0} → SystemDisk R F D → List ℕ
 base_of disk = disk.base.path
 
--- Nothing is promised of what the system's disk holds: it isn't honest. What was opened, whether a file is open and how often
--- the device has refused is known. It notes nothing of what its device does.
+-- Nothing is promised of what the system's disk holds: it isn't honest. What was opened, whether a
+-- file is open and how often the device has refused is known. It notes nothing of what its device
+-- does.
 abbrev pub system_state : List (List ℕ) → Bool → ℕ → DiskState
 system_state openings opened failures = record {
   nodes = map.empty;

@@ -1,9 +1,11 @@
 -- What the calls that change a disk make of what stands there.
-use Rattle.std.specs.Prelude.{ℕ, ◌≡◌, List, [], ◌∷◌, ◌++◌, None, is_some, true}
+use Rattle.std.specs.Prelude.{ℕ, ◌≡◌, IsTrue, List, [], ◌∷◌, ◌++◌, Option, None, Some, is_some}
+use Rattle.std.specs.Prelude.{true}
 use Rattle.std.specs.FinMap as map
 use Rattle.bag_tree.specs.declared.event.DeviceEvent.{DeviceEvent}
-use Rattle.bag_tree.specs.Moved.{MovesAll, moved}
-use Rattle.bag_disk.specs.Disk.{DiskState, Nodes, node, Has, IsDisk, IsFileWith, bytes_of}
+use Rattle.bag_tree.specs.Moved.{KeepsOthers, MovesAll, moved}
+use Rattle.bag_disk.specs.Disk.{DiskState, Nodes, node, Has, IsDisk, IsFileWith, IsFolder}
+use Rattle.bag_disk.specs.Disk.{IsReached, WhereReached, bytes_of}
 use Rattle.bag_disk.specs.Disk.Node.{File, Folder}
 
 -- what stands there, with a folder at the path
@@ -14,9 +16,12 @@ with_folder nodes path = map.insert nodes path Folder
 abbrev pub with_file : Nodes → List ℕ → List ℕ → Nodes
 with_file nodes path bytes = map.insert nodes path (File bytes)
 
--- the law: what stood at a path is moved with all that is below it, where nothing stood at the new one
+-- the law: what stood at a path is moved with all that is below it, where nothing stood at the new
+-- one
 abbrev pub MovedNodesAreThere : Type 0
-MovedNodesAreThere = (nodes : Nodes) (from to : List ℕ) → IsDisk nodes → node nodes to ≡ None → MovesAll nodes (moved from to nodes) from to
+MovedNodesAreThere =
+    (nodes : Nodes) (from to : List ℕ) → IsDisk nodes → node nodes to ≡ None
+    → MovesAll nodes (moved from to nodes) from to
 
 -- a folder was made where nothing stood
 pub record MakesFolder (old new : Nodes) (path : List ℕ) : Type 0 where
@@ -28,10 +33,41 @@ pub record MakesFile (old new : Nodes) (path : List ℕ) : Type 0 where
   pub free : node old path ≡ None
   pub made : new ≡ with_file old path []
 
+-- where the disk is honest and the path is reached, a folder was made, and nothing stood there
+abbrev pub AddsFolder : DiskState → DiskState → List ℕ → Type 0
+AddsFolder old new path = WhereReached old path (MakesFolder old.nodes new.nodes path)
+
+-- so an empty file was made
+abbrev pub AddsFile : DiskState → DiskState → List ℕ → Type 0
+AddsFile old new path = WhereReached old path (MakesFile old.nodes new.nodes path)
+
 -- what stood at one path was moved to another, with all that is below it
 pub record Moves (old new : Nodes) (from to : List ℕ) : Type 0 where
   pub there : Has old from
   pub moved : new ≡ moved from to old
+
+-- where the disk is honest and both paths are reached, what stood at one was moved to the other, if
+-- nothing stood there
+abbrev pub MovesToFree : DiskState → DiskState → List ℕ → List ℕ → Type 0
+MovesToFree old new from to =
+    IsTrue old.honest → IsReached old.nodes from → IsReached old.nodes to
+    → node old.nodes to ≡ None → Moves old.nodes new.nodes from to
+
+-- so what is at or below neither of them stands as it did
+abbrev pub MovesOnly : DiskState → DiskState → List ℕ → List ℕ → Type 0
+MovesOnly old new from to =
+    IsTrue old.honest → IsReached old.nodes from → IsReached old.nodes to
+    → KeepsOthers old.nodes new.nodes from to
+
+-- so nothing stands where something was to be moved from
+abbrev pub HasNothingToMove : DiskState → List ℕ → List ℕ → Type 0
+HasNothingToMove disk from to =
+    IsTrue disk.honest → IsReached disk.nodes from → IsReached disk.nodes to
+    → node disk.nodes from ≡ None
+
+-- an honest disk has no such folder
+abbrev pub HasNoFolder : DiskState → List ℕ → Type 0
+HasNoFolder disk folder = IsTrue disk.honest → IsFolder disk.nodes folder → ⊥
 
 -- a regular file stands there
 abbrev pub HasFile : Nodes → List ℕ → Type 0
@@ -42,6 +78,11 @@ pub record Appends (old new : Nodes) (path bytes : List ℕ) : Type 0 where
   pub content : List ℕ
   pub was : IsFileWith old path content
   pub appended : new ≡ with_file old path (content ++ bytes)
+
+-- where the disk is honest and has the file that is being written, bytes were put behind its own
+abbrev pub AppendsTo : Option (List ℕ) → DiskState → DiskState → List ℕ → Type 0
+AppendsTo written old new bytes = IsTrue old.honest → (path : List ℕ) → written ≡ Some path
+    → HasFile old.nodes path → Appends old.nodes new.nodes path bytes
 
 -- a call closed the file that was open for reading, and left what was opened and the honesty
 pub record Closes (old new : DiskState) : Type 0 where

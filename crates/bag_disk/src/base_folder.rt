@@ -14,7 +14,8 @@ use std::fs;
 use std::fs::{DirEntry, Metadata, OpenFile, OpenOptions, ReadDir};
 use std::rt::Files;
 
-/// A base folder of the system. Each call takes a path below it, and is one call of the system's where that path stands.
+/// A base folder of the system. Each call takes a path below it, and is one call of the system's
+/// where that path stands.
 #[derive(Drop)]
 pub(crate) struct BaseFolder {
     alloc: Global,
@@ -76,7 +77,8 @@ impl BaseFolder {
         Ok(())
     }
 
-    /// Gives a folder the base folder's mode. Where the system refuses, it keeps its own: no byte depends on it.
+    /// Gives a folder the base folder's mode. Where the system refuses, it keeps its own: no byte
+    /// depends on it.
     fn give_mode<R: Files>(&self, rt: &R, location: &str) {
         if let Ok(metadata) = fs::metadata(rt, self.path.as_str()) {
             let _ = fs::set_permissions(rt, location, metadata.permissions());
@@ -129,7 +131,8 @@ fn entry_at<R: Files>(rt: &R, location: &str) -> Result<Entry, DiskFault> {
 fn entry_of(metadata: &Metadata) -> Entry
     ensures file { IsFile (file_type metadata.now) → result ≡ File (metadata_len metadata.now) }
     ensures folder { IsDir (file_type metadata.now) → result ≡ Folder }
-    ensures other { ¬ IsFile (file_type metadata.now) → ¬ IsDir (file_type metadata.now) → result ≡ Other }
+    ensures other { ¬ IsFile (file_type metadata.now) → ¬ IsDir (file_type metadata.now)
+        → result ≡ Other }
 {
     if metadata.is_file() {
         Entry::File(metadata.len())

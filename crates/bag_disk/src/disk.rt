@@ -1,10 +1,11 @@
 //! The calls of a disk, below a base folder.
-ghost use Rattle.std.specs.Prelude.{◌≡◌, ◌<◌, ◌≤◌, ◌++◌, ◌∷◌, [], List, ℕ, IfOk, OnOk, OnErr, IsErrOf, IsTrue, MatchOption, None, Some, length, is_some, ⊤};
-ghost use Rattle.std.specs.Option.{option_map};
+ghost use Rattle.std.specs.Prelude.{◌≡◌, ◌<◌, ◌≤◌, ◌++◌, ◌∷◌, [], IfOk, OnOk, OnErr, IsErrOf};
+ghost use Rattle.std.specs.Prelude.{IsTrue, MatchOption, None, length, is_some, ⊤};
 ghost use Rattle.bag_text.specs.Path.{is_path};
-ghost use Rattle.bag_disk.specs.Disk.{DiskState, SameDisk, OnlyLooks, Node, IsDisk, IsReached, IsFolder, AreNamesIn, node, entry_of, IsFileWith, HasUnnamed};
-ghost use Rattle.bag_disk.specs.Refusal.{IsCountedAs, at_known, of_name, of_path};
-ghost use Rattle.bag_tree.specs.Tree.{ReadsNext};
+ghost use Rattle.bag_disk.specs.Disk.{DiskState, SameDisk, OnlyLooks, IsDisk, HasEntryAt};
+ghost use Rattle.bag_disk.specs.Disk.{HasNothingAt, HasEntered, TakesName, HasUnnamed, HasOpened};
+ghost use Rattle.bag_disk.specs.Disk.{HasReadNext};
+ghost use Rattle.bag_disk.specs.Refusal.{CountsAs, at_known, of_name, of_path};
 ghost use Rattle.bag_disk.specs.declared.disk.DiskFault.TheVariants.{Name, NotFound};
 
 use bag_text::Text;
@@ -36,68 +37,65 @@ pub enum DiskFault {
 
 /// The calls of a disk, below a base folder. A path leads from the base folder.
 ///
-/// What an honest disk answers is what stands below its base folder, which nothing but the disk's own calls alters. Of a path
-/// that leads through a link nothing is said. A disk counts how often its device has refused: each call says which of its
-/// faults are counted, one each, and nothing else is.
+/// What an honest disk answers is what stands below its base folder, which nothing but the disk's
+/// own calls alters. Of a path that leads through a link nothing is said. A disk counts how often
+/// its device has refused: each call says which of its faults are counted, one each, and nothing
+/// else is.
 pub trait Disk {
-    /// What the disk means: what stands at each path, whether it is honest, which files were opened, the rest of the open
-    /// file, the names that are left of the folder that was entered, how often the device has refused, and what it did, where
-    /// it notes that.
+    /// What the disk means: what stands at each path, whether it is honest, which files were
+    /// opened, the rest of the open file, the names that are left of the folder that was entered,
+    /// how often the device has refused, and what it did, where it notes that.
     ghost state: { Self → DiskState };
 
-    /// What stands at a path. A link at its end isn't followed. That nothing stands there isn't counted.
+    /// What stands at a path. A link at its end isn't followed. That nothing stands there isn't
+    /// counted.
     fn entry_at(&mut self, path: &str) -> Result<Entry, DiskFault>
         requires { IsTrue (is_path path.now) }
         ensures looks { OnlyLooks (state self.old) (state self.new) }
         ensures names { (state self.new).names ≡ (state self.old).names }
-        ensures found { IfOk result (λ entry. IsTrue (state self.old).honest → IsReached (state self.old).nodes path.now
-            → option_map entry_of (node (state self.old).nodes path.now) ≡ Some entry) }
-        ensures absent { IsErrOf result NotFound → IsTrue (state self.old).honest → IsReached (state self.old).nodes path.now
-            → node (state self.old).nodes path.now ≡ None }
-        ensures failures { IsCountedAs of_path result (state self.old).failures (state self.new).failures };
+        ensures found { IfOk result (HasEntryAt (state self.old) path.now) }
+        ensures absent { IsErrOf result NotFound → HasNothingAt (state self.old) path.now }
+        ensures failures { CountsAs of_path result (state self.old) (state self.new) };
 
-    /// What stands at the path of what was named last, where a link isn't followed. All faults but `Memory` are counted,
-    /// since something stands there.
+    /// What stands at the path of what was named last, where a link isn't followed. All faults but
+    /// `Memory` are counted, since something stands there.
     fn named_entry(&mut self, path: &str) -> Result<Entry, DiskFault>
         requires { IsTrue (is_path path.now) }
         ensures looks { OnlyLooks (state self.old) (state self.new) }
         ensures names { (state self.new).names ≡ (state self.old).names }
-        ensures found { IfOk result (λ entry. IsTrue (state self.old).honest → IsReached (state self.old).nodes path.now
-            → option_map entry_of (node (state self.old).nodes path.now) ≡ Some entry) }
-        ensures failures { IsCountedAs at_known result (state self.old).failures (state self.new).failures };
+        ensures found { IfOk result (HasEntryAt (state self.old) path.now) }
+        ensures failures { CountsAs at_known result (state self.old) (state self.new) };
 
-    /// Enters a folder in place of the one that was entered, so that its names come next. The empty path is the base
-    /// folder. All faults but `Memory` are counted.
+    /// Enters a folder in place of the one that was entered, so that its names come next. The empty
+    /// path is the base folder. All faults but `Memory` are counted.
     fn enter(&mut self, folder: &str) -> Result<(), DiskFault>
         ensures looks { OnlyLooks (state self.old) (state self.new) }
-        ensures honest { OnOk result (IsTrue (state self.old).honest → IsFolder (state self.old).nodes folder.now
-            → AreNamesIn (state self.old).nodes folder.now (state self.new).names) }
-        ensures failures { IsCountedAs at_known result (state self.old).failures (state self.new).failures };
+        ensures honest { OnOk result (HasEntered (state self.old) (state self.new) folder.now) }
+        ensures failures { CountsAs at_known result (state self.old) (state self.new) };
 
-    /// The next name of the folder that was entered; none at its end. `Name` says that it isn't UTF-8. All faults but that
-    /// one and `Memory` are counted. What isn't a path is never given.
+    /// The next name of the folder that was entered; none at its end. `Name` says that it isn't
+    /// UTF-8. All faults but that one and `Memory` are counted. What isn't a path is never given.
     fn next_name(&mut self) -> Result<Option<Text>, DiskFault>
         ensures looks { OnlyLooks (state self.old) (state self.new) }
-        ensures unnamed { IsErrOf result Name → IsTrue (state self.old).honest → HasUnnamed (state self.old).names }
-        ensures honest { IfOk result (λ next. IsTrue (state self.old).honest
-            → MatchOption next ((state self.old).names ≡ []) (λ name. (state self.old).names ≡ name ∷ (state self.new).names)) }
+        ensures unnamed { IsErrOf result Name → IsTrue (state self.old).honest
+            → HasUnnamed (state self.old).names }
+        ensures honest { IfOk result (TakesName (state self.old) (state self.new)) }
         ensures path { IfOk result (λ next. MatchOption next ⊤ (λ name. IsTrue (is_path name))) }
-        ensures failures { IsCountedAs of_name result (state self.old).failures (state self.new).failures };
+        ensures failures { CountsAs of_name result (state self.old) (state self.new) };
 
-    /// Opens the file at a path in place of the one that was open. After a refusal nothing is open. That nothing stands there
-    /// isn't counted.
+    /// Opens the file at a path in place of the one that was open. After a refusal nothing is open.
+    /// That nothing stands there isn't counted.
     fn open(&mut self, path: &str) -> Result<(), DiskFault>
         requires { IsTrue (is_path path.now) }
         ensures same { SameDisk (state self.old) (state self.new) }
-        ensures opened { OnOk result ((state self.new).openings ≡ (state self.old).openings ++ path.now ∷ []) }
+        ensures opened { OnOk result
+            ((state self.new).openings ≡ (state self.old).openings ++ path.now ∷ []) }
         ensures file_open { OnOk result (IsTrue (is_some (state self.new).rest)) }
-        ensures honest { OnOk result (IsTrue (state self.old).honest → IsReached (state self.old).nodes path.now
-            → (bytes : List ℕ) → IsFileWith (state self.old).nodes path.now bytes → (state self.new).rest ≡ Some bytes) }
-        ensures absent { IsErrOf result NotFound → IsTrue (state self.old).honest → IsReached (state self.old).nodes path.now
-            → node (state self.old).nodes path.now ≡ None }
+        ensures honest { OnOk result (HasOpened (state self.old) (state self.new) path.now) }
+        ensures absent { IsErrOf result NotFound → HasNothingAt (state self.old) path.now }
         ensures closed { OnErr result ((state self.new).rest ≡ None) }
         ensures not_opened { OnErr result ((state self.new).openings ≡ (state self.old).openings) }
-        ensures failures { IsCountedAs of_path result (state self.old).failures (state self.new).failures };
+        ensures failures { CountsAs of_path result (state self.old) (state self.new) };
 
     /// Whether a file is open.
     fn is_open(&self) -> bool
@@ -110,8 +108,8 @@ pub trait Disk {
         ensures closed { (state self.new).rest ≡ None }
         ensures failures { (state self.new).failures ≡ (state self.old).failures };
 
-    /// Reads the next bytes of the open file; none at its end. A refusal leaves the rest of the file. All faults but `Memory`
-    /// are counted.
+    /// Reads the next bytes of the open file; none at its end. A refusal leaves the rest of the
+    /// file. All faults but `Memory` are counted.
     fn read(&mut self, buffer: &mut [u8]) -> Result<usize, DiskFault>
         requires some { 0 < length buffer.old }
         requires file_open { IsTrue (is_some (state self.old).rest) }
@@ -119,9 +117,9 @@ pub trait Disk {
         ensures openings { (state self.new).openings ≡ (state self.old).openings }
         ensures file_open { OnOk result (IsTrue (is_some (state self.new).rest)) }
         ensures within { IfOk result (λ n. n ≤ length buffer.old) }
-        ensures honest { IfOk result (λ n. IsTrue (state self.old).honest → ReadsNext (state self.old).rest (state self.new).rest n buffer.new) }
+        ensures honest { IfOk result (HasReadNext (state self.old) (state self.new) buffer.new) }
         ensures unread { OnErr result ((state self.new).rest ≡ (state self.old).rest) }
-        ensures failures { IsCountedAs at_known result (state self.old).failures (state self.new).failures };
+        ensures failures { CountsAs at_known result (state self.old) (state self.new) };
 
     /// What stands on a disk stands at paths, each in folders that are there.
     ghost is_disk: { (disk : Self) → IsDisk (state disk).nodes };

@@ -1,11 +1,12 @@
 //! How often a device has refused.
 use crate::path::is_path;
+use crate::refusal::Subject;
 use crate::{DiskFault, Refusal};
 use bag_text::Text;
 use bag_tree::Heard;
 
-/// How often a device has refused, which only clauses read: it takes no memory. A disk counts each fault by what it means in
-/// its call.
+/// How often a device has refused, which only clauses read: it takes no memory. A disk counts each
+/// fault by what it means in its call.
 #[derive(Drop)]
 pub struct Failures {
     /// A byte for each time.
@@ -16,8 +17,8 @@ impl Failures {
     ghost use Rattle.std.specs.Prelude.{◌≡◌, ◌+◌, IfErr, IfOk, IsTrue, MatchOption, ⊤};
     ghost use Rattle.bag_text.specs.Path.{is_path};
     ghost use Rattle.bag_disk.specs.Failures.{count_of};
-    ghost use Rattle.bag_disk.specs.Refusal as spec;
-    ghost use Rattle.bag_disk.specs.Refusal.{IsCountedAs, failures_after};
+    ghost use Rattle.bag_disk.specs.Refusal.{IsCountedAs, failures_after, of_name};
+    ghost use Rattle.bag_disk.specs.Subject.{meaning};
     ghost use Rattle.bag_disk.specs.declared.disk.DiskFault.TheVariants.{Device};
 
     /// It hasn't refused yet.
@@ -29,60 +30,20 @@ impl Failures {
         }
     }
 
-    /// Counts what was answered at the path of one file, and gives it.
-    pub fn of_path<T>(&mut self, answer: Result<T, DiskFault>) -> Result<T, DiskFault>
+    /// Counts what a call about this was answered, and gives it.
+    pub fn counted<T>(
+        &mut self,
+        subject: Subject,
+        answer: Result<T, DiskFault>,
+    ) -> Result<T, DiskFault>
         ensures same { result ≡ answer }
-        ensures failures { IsCountedAs spec.of_path result (count_of self.old) (count_of self.new) }
+        ensures failures { IsCountedAs
+            (meaning subject) result (count_of self.old) (count_of self.new) }
     {
-        match answer {
-            Ok(given) => Ok(given),
-            Err(fault) => {
-                self.refuse(Refusal::of_path(fault));
-                Err(fault)
-            }
+        if let Err(fault) = &answer {
+            self.refuse(subject.refusal(*fault));
         }
-    }
-
-    /// Counts what was answered where something is known to be there, and gives it.
-    pub fn at_known<T>(&mut self, answer: Result<T, DiskFault>) -> Result<T, DiskFault>
-        ensures same { result ≡ answer }
-        ensures failures { IsCountedAs spec.at_known result (count_of self.old) (count_of self.new) }
-    {
-        match answer {
-            Ok(given) => Ok(given),
-            Err(fault) => {
-                self.refuse(Refusal::at_known(fault));
-                Err(fault)
-            }
-        }
-    }
-
-    /// Counts what was answered where something is to be made, and gives it.
-    pub fn of_making<T>(&mut self, answer: Result<T, DiskFault>) -> Result<T, DiskFault>
-        ensures same { result ≡ answer }
-        ensures failures { IsCountedAs spec.of_making result (count_of self.old) (count_of self.new) }
-    {
-        match answer {
-            Ok(given) => Ok(given),
-            Err(fault) => {
-                self.refuse(Refusal::of_making(fault));
-                Err(fault)
-            }
-        }
-    }
-
-    /// Counts what was answered in place of a name, and gives it.
-    pub fn of_name<T>(&mut self, answer: Result<T, DiskFault>) -> Result<T, DiskFault>
-        ensures same { result ≡ answer }
-        ensures failures { IsCountedAs spec.of_name result (count_of self.old) (count_of self.new) }
-    {
-        match answer {
-            Ok(given) => Ok(given),
-            Err(fault) => {
-                self.refuse(Refusal::of_name(fault));
-                Err(fault)
-            }
-        }
+        answer
     }
 
     /// A name that a folder gave. One that isn't a path is a failure, since nothing can have it.
@@ -90,7 +51,7 @@ impl Failures {
         ensures given { IfOk result (λ next. next ≡ Some name) }
         ensures path { IfOk result (λ next. MatchOption next ⊤ (λ name. IsTrue (is_path name))) }
         ensures refused { IfErr result (λ fault. fault ≡ Device) }
-        ensures failures { IsCountedAs spec.of_name result (count_of self.old) (count_of self.new) }
+        ensures failures { IsCountedAs of_name result (count_of self.old) (count_of self.new) }
     {
         if !is_path(name.as_str()) {
             self.note();

@@ -1,7 +1,10 @@
 //! A walk over the folders of a disk.
-ghost use Rattle.std.specs.Prelude.{◌≡◌, ◌<◌, ◌≤◌, ◌+◌, ◌∷◌, ◌++◌, [], ℕ, List, IfOk, IfErr, OnOk, IsTrue, vec_len};
-ghost use Rattle.bag_disk.specs.Disk.{Has, HasSpecial, HasUnnamedPath, OnlyLooks};
-ghost use Rattle.bag_disk.specs.FolderWalk.{Walked, AllArePaths, AllStand, IsFolderPath, Listing, files_with, folders_with};
+ghost use Rattle.std.specs.Prelude.{◌≡◌, ◌<◌, ◌≤◌, ◌+◌, ◌∷◌, [], IfOk, IfErr, OnOk, IsTrue};
+ghost use Rattle.std.specs.Prelude.{vec_len};
+ghost use Rattle.bag_disk.specs.Disk.{OnlyLooks};
+ghost use Rattle.bag_disk.specs.FolderWalk.{FindsPath, HasPaths, IsFolderPath, ListsFolder};
+ghost use Rattle.bag_disk.specs.FolderWalk.{ListsNames, MayRefuseFolder, MayRefuseNames};
+ghost use Rattle.bag_disk.specs.FolderWalk.{MayRefusePath, files_with, folders_with, turns_left};
 ghost use Rattle.bag_disk.specs.Location.{path_in};
 ghost use Rattle.bag_disk.specs.declared.disk.Entry.TheVariants.{Other};
 ghost use Rattle.bag_disk.specs.Refusal.{IsCounted, IsDue, IsNoFailure};
@@ -46,26 +49,16 @@ impl FolderWalk {
         })
     }
 
-    /// Adds what stands in one folder. Where there is too much, all that was found so far stands in the walk.
+    /// Adds what stands in one folder. Where there is too much, all that was found so far stands in
+    /// the walk.
     pub(crate) fn list_folder<D: Disk>(&mut self, disk: &mut D, folder: Text) -> Result<(), Refusal>
         requires { IsFolderPath folder }
-        ensures paths { OnOk result (AllArePaths self.old.files.items self.old.folders.items → AllArePaths self.new.files.items self.new.folders.items) }
+        ensures paths { OnOk result (HasPaths self.old → HasPaths self.new) }
         ensures looks { OnlyLooks (D.state disk.old) (D.state disk.new) }
-        ensures walked { OnOk result (IsTrue (D.state disk.old).honest
-            → Walked (D.state disk.old).nodes self.old.files.items (self.old.folders.items ++ folder ∷ []) self.old.listed.items []
-            → Walked (D.state disk.old).nodes self.new.files.items self.new.folders.items self.new.listed.items []) }
-        ensures refused { IfErr result (IsDue
-            (IsTrue (D.state disk.old).honest
-            → Walked (D.state disk.old).nodes self.old.files.items (self.old.folders.items ++ folder ∷ []) self.old.listed.items []
-            → HasSpecial (D.state disk.old).nodes)
-            (IsTrue (D.state disk.old).honest
-            → Walked (D.state disk.old).nodes self.old.files.items (self.old.folders.items ++ folder ∷ []) self.old.listed.items []
-            → HasUnnamedPath (D.state disk.old).nodes)
-            ⊥
-            (IsTrue (D.state disk.old).honest
-            → Walked (D.state disk.old).nodes self.old.files.items (self.old.folders.items ++ folder ∷ []) self.old.listed.items []
-            → AllStand (D.state disk.old).nodes self.new.files.items self.new.folders.items self.new.listed.items)) }
-        ensures left { OnOk result (vec_len self.new.folders + self.new.room ≤ vec_len self.old.folders + self.old.room) }
+        ensures walked { OnOk result (ListsFolder (D.state disk.old) self.old self.new folder) }
+        ensures refused { IfErr result
+            (MayRefuseFolder (D.state disk.old) self.old self.new folder) }
+        ensures left { OnOk result (turns_left self.new ≤ turns_left self.old) }
         ensures failures { IsCounted result (D.state disk.old) (D.state disk.new) }
     {
         match disk.enter(folder.as_str()) {
@@ -88,24 +81,13 @@ impl FolderWalk {
     /// Adds what stands at each name that is left of a folder.
     fn list_names<D: Disk>(&mut self, disk: &mut D, folder: &str) -> Result<(), Refusal>
         requires { IsFolderPath folder.now }
-        ensures paths { OnOk result (AllArePaths self.old.files.items self.old.folders.items → AllArePaths self.new.files.items self.new.folders.items) }
+        ensures paths { OnOk result (HasPaths self.old → HasPaths self.new) }
         ensures looks { OnlyLooks (D.state disk.old) (D.state disk.new) }
-        ensures walked { OnOk result (IsTrue (D.state disk.old).honest → (listed : List (List ℕ))
-            → Listing (D.state disk.old).nodes self.old.files.items self.old.folders.items listed folder.now (D.state disk.old).names
-            → Walked (D.state disk.old).nodes self.new.files.items self.new.folders.items (listed ++ folder.now ∷ []) []) }
-        ensures refused { IfErr result (IsDue
-            (IsTrue (D.state disk.old).honest → (listed : List (List ℕ))
-            → Listing (D.state disk.old).nodes self.old.files.items self.old.folders.items listed folder.now (D.state disk.old).names
-            → HasSpecial (D.state disk.old).nodes)
-            (IsTrue (D.state disk.old).honest → (listed : List (List ℕ))
-            → Listing (D.state disk.old).nodes self.old.files.items self.old.folders.items listed folder.now (D.state disk.old).names
-            → HasUnnamedPath (D.state disk.old).nodes)
-            ⊥
-            (IsTrue (D.state disk.old).honest → (listed : List (List ℕ))
-            → Listing (D.state disk.old).nodes self.old.files.items self.old.folders.items listed folder.now (D.state disk.old).names
-            → AllStand (D.state disk.old).nodes self.new.files.items self.new.folders.items (listed ++ folder.now ∷ []))) }
+        ensures walked { OnOk result (ListsNames (D.state disk.old) self.old self.new folder.now) }
+        ensures refused { IfErr result
+            (MayRefuseNames (D.state disk.old) self.old self.new folder.now) }
         ensures listed { self.new.listed.items ≡ self.old.listed.items }
-        ensures left { OnOk result (vec_len self.new.folders + self.new.room ≤ vec_len self.old.folders + self.old.room) }
+        ensures left { OnOk result (turns_left self.new ≤ turns_left self.old) }
         ensures failures { IsCounted result (D.state disk.old) (D.state disk.new) }
     {
         while self.room > 0 {
@@ -123,18 +105,15 @@ impl FolderWalk {
         requires has_room { 0 < self.old.room }
         requires folder { IsFolderPath folder.now }
         requires name { IsTrue (is_path name.now) }
-        ensures paths { OnOk result (AllArePaths self.old.files.items self.old.folders.items → AllArePaths self.new.files.items self.new.folders.items) }
+        ensures paths { OnOk result (HasPaths self.old → HasPaths self.new) }
         ensures looks { OnlyLooks (D.state disk.old) (D.state disk.new) }
         ensures names { (D.state disk.new).names ≡ (D.state disk.old).names }
-        ensures walked { OnOk result (IsTrue (D.state disk.old).honest → Has (D.state disk.old).nodes (path_in folder.now name.now)
-            → (listed pending : List (List ℕ))
-            → Walked (D.state disk.old).nodes self.old.files.items self.old.folders.items listed (path_in folder.now name.now ∷ pending)
-            → Walked (D.state disk.old).nodes self.new.files.items self.new.folders.items listed pending) }
+        ensures walked { OnOk result
+            (FindsPath (D.state disk.old) self.old self.new (path_in folder.now name.now)) }
         ensures listed { self.new.listed.items ≡ self.old.listed.items }
-        ensures refused { IfErr result (IsDue
-            (IsTrue (D.state disk.old).honest → Has (D.state disk.old).nodes (path_in folder.now name.now) → HasSpecial (D.state disk.old).nodes)
-            ⊥ ⊥ ⊥) }
-        ensures left { OnOk result (vec_len self.new.folders + self.new.room ≤ vec_len self.old.folders + self.old.room) }
+        ensures refused { IfErr result
+            (MayRefusePath (D.state disk.old) (path_in folder.now name.now)) }
+        ensures left { OnOk result (turns_left self.new ≤ turns_left self.old) }
         ensures room { OnOk result (self.new.room + 1 ≡ self.old.room) }
         ensures failures { IsCounted result (D.state disk.old) (D.state disk.new) }
     {
@@ -148,8 +127,10 @@ impl FolderWalk {
 
     /// Adds what stands at a path.
     fn put(&mut self, path: Text, entry: Entry) -> Result<(), Refusal>
-        ensures files { OnOk result (self.new.files.items ≡ files_with self.old.files.items path entry) }
-        ensures folders { OnOk result (self.new.folders.items ≡ folders_with self.old.folders.items path entry) }
+        ensures files { OnOk result
+            (self.new.files.items ≡ files_with self.old.files.items path entry) }
+        ensures folders { OnOk result
+            (self.new.folders.items ≡ folders_with self.old.folders.items path entry) }
         ensures listed { self.new.listed.items ≡ self.old.listed.items }
         ensures other { OnOk result (entry ≡ Other → ⊥) }
         ensures refused { IfErr result (IsDue (entry ≡ Other) ⊥ ⊥ ⊥) }

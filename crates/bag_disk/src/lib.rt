@@ -8,12 +8,13 @@
 //! }
 //! ```
 //!
-//! A `Disk` says what stands at its paths, a `WritableDisk` has the calls that make a bag besides. What an honest disk answers
-//! is what stands there. `SystemDisk` hands each call to the system, of which nothing is promised. Of RFC 8493 it keeps which
-//! files are in a bag, and by which paths (2, 2.1.2): regular files below the base folder, to which no link leads.
+//! A `Disk` says what stands at its paths, a `WritableDisk` has the calls that make a bag besides.
+//! What an honest disk answers is what stands there. `SystemDisk` hands each call to the system, of
+//! which nothing is promised. Of RFC 8493 it keeps which files are in a bag, and by which paths (2,
+//! 2.1.2): regular files below the base folder, to which no link leads.
 //!
-//! Over an honest disk a listing is that of the bag, and the file at the path is opened; each refusal is one that is due, and
-//! no link is followed.
+//! Over an honest disk a listing is that of the bag, and the file at the path is opened; each
+//! refusal is one that is due, and no link is followed.
 #![tactic(auto)]
 
 mod base_folder;
@@ -37,6 +38,6 @@ pub use failures::Failures;
 pub use listing::list_below;
 pub use location::path_in;
 pub use opening::{check_is_folder, open_at};
-pub use refusal::Refusal;
+pub use refusal::{Refusal, Subject};
 pub use system_disk::SystemDisk;
 pub use writable_disk::WritableDisk;

@@ -2,7 +2,7 @@
 ghost use Rattle.std.specs.Prelude.{◌≡◌, ◌<◌, IfOk, IsTrue, false};
 ghost use Rattle.bag_tree.specs.Tree.{most_entries};
 ghost use Rattle.bag_disk.specs.Disk.{Nodes, entry_count};
-ghost use Rattle.bag_disk.specs.FolderWalk.{AllStand, AreFolders, AreThere};
+ghost use Rattle.bag_disk.specs.FolderWalk.{AreFolders, AreThere, HasFound, IsTooMuch};
 ghost use Rattle.bag_disk.specs.Refusal.{IsDue, is_device};
 
 use crate::folder_walk::{FolderWalk, MOST_ENTRIES};
@@ -12,10 +12,11 @@ use bag_text::Text;
 use bag_tree::FileEntry;
 use std::alloc::AllocError;
 
-/// Why a walk has no room for what it found: there is too much, or, where the disk named something twice, want of memory.
+/// Why a walk has no room for what it found: there is too much, or, where the disk named something
+/// twice, want of memory.
 pub(crate) fn no_room(walk: FolderWalk) -> Refusal
     ensures quiet { is_device result ≡ false }
-    ensures due { IsDue ⊥ ⊥ ⊥ ((nodes : Nodes) → AllStand nodes walk.files.items walk.folders.items walk.listed.items → most_entries < entry_count nodes) result }
+    ensures due { IsDue ⊥ ⊥ ⊥ (IsTooMuch walk) result }
 {
     match all_found(walk) {
         Ok(found) => {
@@ -31,7 +32,8 @@ pub(crate) fn no_room(walk: FolderWalk) -> Refusal
 
 /// All that a walk has found, folders too.
 fn all_found(walk: FolderWalk) -> Result<Vec<FileEntry>, AllocError>
-    ensures { IfOk result (λ found. (nodes : Nodes) → AllStand nodes walk.files.items walk.folders.items walk.listed.items → AreThere nodes found.items) }
+    ensures { IfOk result (λ found.
+        (nodes : Nodes) → HasFound nodes walk walk.listed.items → AreThere nodes found.items) }
 {
     let FolderWalk {
         files,
@@ -45,7 +47,8 @@ fn all_found(walk: FolderWalk) -> Result<Vec<FileEntry>, AllocError>
 
 /// The files, and the folders but for the base folder.
 fn with_folders(files: Vec<FileEntry>, folders: Vec<Text>) -> Result<Vec<FileEntry>, AllocError>
-    ensures { IfOk result (λ found. (nodes : Nodes) → AreThere nodes files.items → AreFolders nodes folders.items → AreThere nodes found.items) }
+    ensures { IfOk result (λ found. (nodes : Nodes) → AreThere nodes files.items
+        → AreFolders nodes folders.items → AreThere nodes found.items) }
 {
     let mut found = files;
     let mut folders = folders;
@@ -59,7 +62,8 @@ fn with_folders(files: Vec<FileEntry>, folders: Vec<Text>) -> Result<Vec<FileEnt
 
 /// Whether this is more than a tree may have, none of it twice.
 fn are_too_many(found: Vec<FileEntry>) -> bool
-    ensures { IsTrue result → (nodes : Nodes) → AreThere nodes found.items → most_entries < entry_count nodes }
+    ensures { IsTrue result → (nodes : Nodes) → AreThere nodes found.items
+        → most_entries < entry_count nodes }
 {
     let mut found = found;
     sort_by_path(&mut found);

@@ -1,12 +1,12 @@
 //! The files below the base folder of a disk.
-ghost use Rattle.std.specs.Prelude.{◌≡◌, ◌<◌, [], IfOk, IfErr, OnOk, Any, ◌↔◌, codes, IsTrue};
+ghost use Rattle.std.specs.Prelude.{◌≡◌, [], IfOk, IfErr, OnOk, Any, ◌↔◌, codes, IsTrue};
 ghost use Rattle.std.specs.List.Sorted.{IsPermutation};
 ghost use Rattle.bag_tree.specs.Listing.{IsOrdered, IsListingOf};
-ghost use Rattle.bag_tree.specs.Tree.{most_entries};
-ghost use Rattle.bag_disk.specs.Disk.{OnlyLooks, entry_count, is_plain};
+ghost use Rattle.bag_disk.specs.Disk.{OnlyLooks, is_plain};
 ghost use Rattle.bag_disk.specs.DiskBag.{bag_of};
-ghost use Rattle.bag_disk.specs.FolderWalk.{ArePaths, Contradiction, IsUnlistable, Walked};
-ghost use Rattle.bag_disk.specs.Refusal.{IsCounted, IsDue, IsDueInListing, IsNoFailure, MeetsSpecial, MeetsUnnamed};
+ghost use Rattle.bag_disk.specs.FolderWalk.{ArePaths, IsUnlistable, MayRefuseListing};
+ghost use Rattle.bag_disk.specs.FolderWalk.{MayRefuseWalk, Walked};
+ghost use Rattle.bag_disk.specs.Refusal.{IsCounted, IsDueInListing, IsNoFailure};
 
 use crate::Disk;
 use crate::folder_walk::FolderWalk;
@@ -21,16 +21,15 @@ use std::alloc::Global;
 pub fn list_below<D: Disk>(disk: &mut D, alloc: Global) -> Result<Listing, Refusal>
     ensures looks { OnlyLooks (D.state disk.old) (D.state disk.new) }
     ensures ordered { IfOk result (λ listing. IsOrdered listing.files) }
-    ensures plain { OnOk result (IsTrue (D.state disk.old).honest → IsTrue (is_plain (D.state disk.old).nodes)) }
-    ensures honest { IfOk result (λ listing. IsTrue (D.state disk.old).honest → IsListingOf (bag_of (D.state disk.old).nodes) listing) }
-    ensures refused { IfErr result (IsDueInListing (MeetsSpecial (D.state disk.old)) (MeetsUnnamed (D.state disk.old))
-        (IsTrue (D.state disk.old).honest → most_entries < entry_count (D.state disk.old).nodes) (Contradiction (D.state disk.old))) }
+    ensures plain { OnOk result
+        (IsTrue (D.state disk.old).honest → IsTrue (is_plain (D.state disk.old).nodes)) }
+    ensures honest { IfOk result (λ listing. IsTrue (D.state disk.old).honest
+        → IsListingOf (bag_of (D.state disk.old).nodes) listing) }
+    ensures refused { IfErr result (MayRefuseListing (D.state disk.old)) }
     ensures failures { IsCounted result (D.state disk.old) (D.state disk.new) }
 {
-    match walk(disk, alloc) {
-        Ok(walk) => listing_of(walk),
-        Err(refusal) => Err(refusal),
-    }
+    let found = walk(disk, alloc)?;
+    listing_of(found)
 }
 
 /// Finds all that stands below the base folder.
@@ -39,8 +38,7 @@ fn walk<D: Disk>(disk: &mut D, alloc: Global) -> Result<FolderWalk, Refusal>
     ensures looks { OnlyLooks (D.state disk.old) (D.state disk.new) }
     ensures walked { IfOk result (λ walk. IsTrue (D.state disk.old).honest
         → Walked (D.state disk.old).nodes walk.files.items [] walk.listed.items []) }
-    ensures refused { IfErr result (IsDue (MeetsSpecial (D.state disk.old)) (MeetsUnnamed (D.state disk.old))
-        ⊥ (IsTrue (D.state disk.old).honest → most_entries < entry_count (D.state disk.old).nodes)) }
+    ensures refused { IfErr result (MayRefuseWalk (D.state disk.old)) }
     ensures failures { IsCounted result (D.state disk.old) (D.state disk.new) }
 {
     let mut walk = FolderWalk::new(alloc)?;
@@ -61,7 +59,8 @@ fn listing_of(walk: FolderWalk) -> Result<Listing, Refusal>
     ensures files { IfOk result (λ listing. IsPermutation walk.files.items listing.files) }
     ensures refused { IfErr result (IsDueInListing ⊥ ⊥ ⊥ (IsUnlistable walk.files.items)) }
     ensures quiet { IsNoFailure result }
-    ensures has_data { IfOk result (λ listing. IsTrue listing.has_data ↔ Any (λ folder. folder ≡ codes "data") walk.listed.items) }
+    ensures has_data { IfOk result (λ listing.
+        IsTrue listing.has_data ↔ Any (λ folder. folder ≡ codes "data") walk.listed.items) }
 {
     let FolderWalk { files, listed, .. } = walk;
     let has_data = has_data(listed.as_slice());

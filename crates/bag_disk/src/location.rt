@@ -41,7 +41,8 @@ pub(crate) fn location_below(alloc: Global, base: &str, path: &str) -> Result<Te
     joined(alloc, base, path)
 }
 
-/// Whether a text is where a path below a base folder stands for the system; below an empty base folder nothing does.
+/// Whether a text is where a path below a base folder stands for the system; below an empty base
+/// folder nothing does.
 pub(crate) fn is_location(text: &str, base: &str, path: &str) -> bool
     ensures below_some { IsTrue result → base.now ≢ [] }
     ensures location { IsTrue result → text.now ≡ location_below base.now path.now }

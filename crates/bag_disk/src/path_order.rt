@@ -10,7 +10,8 @@ use std::alloc::AllocError;
 /// What the paths of payload files begin with, which most files are.
 const PAYLOAD: &str = "data/";
 
-/// The key of the least path that begins so, where a key of another is one of `BEHIND_PAYLOAD` or stands below this.
+/// The key of the least path that begins so, where a key of another is one of `BEHIND_PAYLOAD` or
+/// stands below this.
 const IN_PAYLOAD: u128 = 1 << 126;
 
 const BEHIND_PAYLOAD: u128 = 1 << 127;
@@ -41,7 +42,8 @@ fn common_len(files: &[FileEntry]) -> usize {
     }
 }
 
-/// A number that stands in the order of the paths, where those of the payload begin with the same `skipped` bytes.
+/// A number that stands in the order of the paths, where those of the payload begin with the same
+/// `skipped` bytes.
 fn key_of(path: &str, skipped: usize) -> u128 {
     if path.starts_with(PAYLOAD) {
         return IN_PAYLOAD | (key_behind(path.as_bytes(), skipped) >> 2);

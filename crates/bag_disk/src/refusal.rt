@@ -29,6 +29,35 @@ pub enum Refusal {
     InTheWay,
 }
 
+/// What a call of a disk is about, which says what its faults mean.
+#[derive(Clone, Copy)]
+pub enum Subject {
+    /// The path of one file.
+    Path,
+    /// What the disk's own answers named.
+    Known,
+    /// The next name of a folder.
+    Name,
+    /// What is to be made.
+    Making,
+}
+
+impl Subject {
+    ghost use Rattle.bag_disk.specs.Subject.{meaning};
+
+    /// What a fault of the disk means in a call about this.
+    pub fn refusal(self, fault: DiskFault) -> Refusal
+        ensures { result ≡ meaning self fault }
+    {
+        match self {
+            Subject::Path => Refusal::of_path(fault),
+            Subject::Known => Refusal::at_known(fault),
+            Subject::Name => Refusal::of_name(fault),
+            Subject::Making => Refusal::of_making(fault),
+        }
+    }
+}
+
 impl From<AllocError> for Refusal {
     ghost from_gives = { λ _ r. r ≡ Memory };
 
@@ -52,8 +81,7 @@ impl Refusal {
     {
         match fault {
             DiskFault::NotFound => Refusal::NotFound,
-            DiskFault::Exists | DiskFault::Name | DiskFault::Device => Refusal::Device,
-            DiskFault::Memory => Refusal::Memory,
+            other => Refusal::at_known(other),
         }
     }
 
@@ -75,8 +103,7 @@ impl Refusal {
     {
         match fault {
             DiskFault::Name => Refusal::Name,
-            DiskFault::NotFound | DiskFault::Exists | DiskFault::Device => Refusal::Device,
-            DiskFault::Memory => Refusal::Memory,
+            other => Refusal::at_known(other),
         }
     }
 
@@ -86,8 +113,7 @@ impl Refusal {
     {
         match fault {
             DiskFault::Exists => Refusal::Exists,
-            DiskFault::NotFound | DiskFault::Name | DiskFault::Device => Refusal::Device,
-            DiskFault::Memory => Refusal::Memory,
+            other => Refusal::at_known(other),
         }
     }
 

@@ -1,5 +1,6 @@
 //! The system's disk.
-ghost use Rattle.std.specs.Prelude.{◌≡◌, ◌<◌, ◌++◌, ◌∷◌, [], IfOk, IsTrue, None, Ok, OnErr, OnOk, is_some, false, length};
+ghost use Rattle.std.specs.Prelude.{◌≡◌, ◌<◌, ◌++◌, ◌∷◌, [], IfOk, IsTrue, None, Ok, OnErr, OnOk};
+ghost use Rattle.std.specs.Prelude.{is_some, false, length};
 ghost use Rattle.std.specs.Fs.{dir_entry_name};
 ghost use Rattle.bag_disk.specs.SystemDisk.{base_of, system_state, written_state};
 ghost use Rattle.bag_disk.specs.Disk.{empty_disk};
@@ -8,6 +9,7 @@ ghost use Rattle.bag_disk.specs.Failures.{count_of};
 use crate::base_folder::BaseFolder;
 use crate::disk::{Disk, DiskFault, Entry};
 use crate::failures::Failures;
+use crate::refusal::Subject;
 use crate::system_fault::answer_of;
 use crate::writable_disk::WritableDisk;
 use bag_text::{Items, Text};
@@ -16,7 +18,8 @@ use std::fs::{DirEntry, OpenFile, ReadDir};
 use std::io::{Read, Write};
 use std::rt::Files;
 
-/// The system's calls, below a base folder, of which nothing is promised. The base folder may be a link to a folder.
+/// The system's calls, below a base folder, of which nothing is promised. The base folder may be a
+/// link to a folder.
 #[derive(Drop)]
 pub struct SystemDisk<R: Files> {
     rt: R,
@@ -43,15 +46,11 @@ fn written_of(answer: Result<usize, DiskFault>, bytes: &[u8]) -> Result<usize, D
     ensures same { IfOk result (λ count. answer ≡ Ok count) }
     ensures some { IfOk result (λ count. 0 < length bytes.now → 0 < count) }
 {
-    match answer {
-        Ok(count) => {
-            if has_written(count, bytes) {
-                Ok(count)
-            } else {
-                Err(DiskFault::Device)
-            }
-        }
-        Err(fault) => Err(fault),
+    let count = answer?;
+    if has_written(count, bytes) {
+        Ok(count)
+    } else {
+        Err(DiskFault::Device)
     }
 }
 
@@ -86,11 +85,12 @@ impl<R: Files> SystemDisk<R> {
 }
 
 impl<R: Files + AllocGlobal + Clone + Drop> Disk for SystemDisk<R> {
-    ghost state = { λ disk. system_state disk.openings (is_some disk.opened) (count_of disk.failures) };
+    ghost state = { λ disk.
+        system_state disk.openings (is_some disk.opened) (count_of disk.failures) };
 
     fn entry_at(&mut self, path: &str) -> Result<Entry, DiskFault> {
         let found = self.base.entry(&self.rt, path);
-        self.failures.of_path(found)
+        self.failures.counted(Subject::Path, found)
     }
 
     fn named_entry(&mut self, path: &str) -> Result<Entry, DiskFault> {
@@ -98,18 +98,18 @@ impl<R: Files + AllocGlobal + Clone + Drop> Disk for SystemDisk<R> {
             Some(named) => self.base.entry_beside(&self.rt, named, path),
             None => self.base.entry(&self.rt, path),
         };
-        self.failures.at_known(found)
+        self.failures.counted(Subject::Known, found)
     }
 
     fn enter(&mut self, folder: &str) -> Result<(), DiskFault> {
         let entries = self.base.entries(&self.rt, folder);
-        self.entered = Some(self.failures.at_known(entries)?);
+        self.entered = Some(self.failures.counted(Subject::Known, entries)?);
         Ok(())
     }
 
     fn next_name(&mut self) -> Result<Option<Text>, DiskFault> {
         let Some(entered) = &mut self.entered else {
-            return self.failures.of_name(Err(DiskFault::Device));
+            return self.failures.counted(Subject::Name, Err(DiskFault::Device));
         };
         match entered.next() {
             None => Ok(None),
@@ -118,14 +118,16 @@ impl<R: Files + AllocGlobal + Clone + Drop> Disk for SystemDisk<R> {
                 self.named = Some(entry);
                 self.failures.name(name?)
             }
-            Some(Err(error)) => self.failures.of_name(Err(DiskFault::of(&error))),
+            Some(Err(error)) => self
+                .failures
+                .counted(Subject::Name, Err(DiskFault::of(&error))),
         }
     }
 
     fn open(&mut self, path: &str) -> Result<(), DiskFault> {
         self.opened = None;
         let file = self.base.open(&self.rt, path);
-        let file = self.failures.of_path(file)?;
+        let file = self.failures.counted(Subject::Path, file)?;
         self.note(path)?;
         self.opened = Some(file);
         Ok(())
@@ -141,10 +143,12 @@ impl<R: Files + AllocGlobal + Clone + Drop> Disk for SystemDisk<R> {
 
     fn read(&mut self, buffer: &mut [u8]) -> Result<usize, DiskFault> {
         let Some(file) = &mut self.opened else {
-            return self.failures.at_known(Err(DiskFault::Device));
+            return self
+                .failures
+                .counted(Subject::Known, Err(DiskFault::Device));
         };
         let count = answer_of(file.read(buffer));
-        self.failures.at_known(count)
+        self.failures.counted(Subject::Known, count)
     }
 
     ghost is_disk = { λ _. empty_disk };
@@ -155,21 +159,21 @@ impl<R: Files + AllocGlobal + Clone + Drop> WritableDisk for SystemDisk<R> {
 
     fn make_folder(&mut self, path: &str) -> Result<(), DiskFault> {
         let made = self.base.make_folder(&self.rt, path);
-        self.failures.of_making(made)?;
+        self.failures.counted(Subject::Making, made)?;
         self.close_all();
         Ok(())
     }
 
     fn rename(&mut self, from: &str, to: &str) -> Result<(), DiskFault> {
         let renamed = self.base.rename(&self.rt, from, to);
-        self.failures.at_known(renamed)?;
+        self.failures.counted(Subject::Known, renamed)?;
         self.close_all();
         Ok(())
     }
 
     fn create(&mut self, path: &str) -> Result<(), DiskFault> {
         let file = self.base.create(&self.rt, path);
-        let file = self.failures.of_making(file)?;
+        let file = self.failures.counted(Subject::Making, file)?;
         self.opened = None;
         self.written = Some(file);
         Ok(())
@@ -177,27 +181,31 @@ impl<R: Files + AllocGlobal + Clone + Drop> WritableDisk for SystemDisk<R> {
 
     fn write(&mut self, bytes: &[u8]) -> Result<usize, DiskFault> {
         let Some(file) = &mut self.written else {
-            return self.failures.at_known(Err(DiskFault::Device));
+            return self
+                .failures
+                .counted(Subject::Known, Err(DiskFault::Device));
         };
         let count = written_of(answer_of(file.write(bytes)), bytes);
-        let count = self.failures.at_known(count)?;
+        let count = self.failures.counted(Subject::Known, count)?;
         self.opened = None;
         Ok(count)
     }
 
     fn sync(&mut self) -> Result<(), DiskFault> {
         let Some(file) = &self.written else {
-            return self.failures.at_known(Err(DiskFault::Device));
+            return self
+                .failures
+                .counted(Subject::Known, Err(DiskFault::Device));
         };
         let synced = answer_of(file.sync_all());
-        self.failures.at_known(synced)?;
+        self.failures.counted(Subject::Known, synced)?;
         self.close_all();
         Ok(())
     }
 
     fn sync_folder(&mut self, folder: &str) -> Result<(), DiskFault> {
         let synced = self.base.sync(&self.rt, folder);
-        self.failures.at_known(synced)
+        self.failures.counted(Subject::Known, synced)
     }
 }
 
@@ -205,7 +213,8 @@ impl<R: Files + AllocGlobal + Clone + Drop> SystemDisk<R> {
     /// The system's disk below a base folder, at which it doesn't look yet.
     pub fn new(rt: R, alloc: Global, base: &str) -> Result<SystemDisk<R>, AllocError>
         ensures base { IfOk result (λ disk. base_of disk ≡ base.now) }
-        ensures state { IfOk result (λ disk. ⟦<SystemDisk<R> as Disk>⟧.state disk ≡ system_state [] false 0) }
+        ensures state { IfOk result
+            (λ disk. ⟦<SystemDisk<R> as Disk>⟧.state disk ≡ system_state [] false 0) }
     {
         Ok(SystemDisk {
             rt,

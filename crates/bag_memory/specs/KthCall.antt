@@ -4,8 +4,8 @@ use Rattle.std.specs.Fn.{iterate}
 use Rattle.bag_memory.specs.Refusals.{due_at, is_kth, next_due, refused_calls}
 use Rattle.bag_memory.specs.declared.calls.Due.{Due}
 
--- after this number of calls the next one is refused exactly where it is the k-th, and a failure is counted exactly
--- where that one was made
+-- after this number of calls the next one is refused exactly where it is the k-th, and a failure is
+-- counted exactly where that one was made
 pub record RefusesAt (k calls : ℕ) (due : Due) : Type 0 where
   pub refused : is_kth due ≡ true → k ≡ calls + 1
   pub kth : k ≡ calls + 1 → is_kth due ≡ true

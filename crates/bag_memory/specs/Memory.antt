@@ -1,5 +1,6 @@
 -- The bag of a tree in memory.
-use Rattle.std.specs.Prelude.{ℕ, ◌≡◌, ◌+◌, ◌&&◌, Bool, true, false, List, [], length, map, Option, Some, None, drop, nat_lt, if◌then◌else◌}
+use Rattle.std.specs.Prelude.{ℕ, ◌≡◌, ◌+◌, ◌&&◌, Bool, true, false, List, [], length, map, Option}
+use Rattle.std.specs.Prelude.{Some, None, drop, nat_lt, if◌then◌else◌}
 use Rattle.std.specs.List.{list_all}
 use Rattle.std.specs.Option.{option_map}
 use Rattle.std.specs.Str.{is_utf8}
@@ -25,18 +26,21 @@ is_in_folder path = nat_lt 1 (length (components path))
 
 -- the folders, with the one that the path stands in
 abbrev pub folders_for : set.FinSet text_cmp → List ℕ → set.FinSet text_cmp
-folders_for folders path = if is_in_folder path then set.insert folders (first_component path) else folders
+folders_for folders path =
+    if is_in_folder path then set.insert folders (first_component path) else folders
 
 -- the bag with a file in place of what was at the path, and with the folder that it stands in
 abbrev pub with_file : Bag → List ℕ → List ℕ → Bag
-with_file bag path bytes = record { files = fin.insert bag.files path bytes; folders = folders_for bag.folders path }
+with_file bag path bytes =
+    record { files = fin.insert bag.files path bytes; folders = folders_for bag.folders path }
 
 -- the bag with a folder of the base folder
 abbrev pub with_folder : Bag → List ℕ → Bag
 with_folder bag name = record { files = bag.files; folders = set.insert bag.folders name }
 
--- A tree in memory is honest and never fails, and has the files and the folders of its bag and nothing else. Its reads of
--- the open file have given `given` bytes, and its last call answered `last`. It has no device.
+-- A tree in memory is honest and never fails, and has the files and the folders of its bag and
+-- nothing else. Its reads of the open file have given `given` bytes, and its last call answered
+-- `last`. It has no device.
 abbrev pub state_after : Bag → List (List ℕ) → Option (List ℕ) → ℕ → Answer → TreeState
 state_after bag openings rest given last = record {
   bag = bag;
@@ -52,9 +56,19 @@ state_after bag openings rest given last = record {
   noted = false;
 }
 
--- a tree in memory where nothing was read of the open file, and the last call gave what was asked for
+-- a tree in memory where nothing was read of the open file, and the last call gave what was asked
+-- for
 abbrev pub memory_state : Bag → List (List ℕ) → Option (List ℕ) → TreeState
 memory_state bag openings rest = state_after bag openings rest 0 Given
+
+-- the state with a file put in place of what was at the path: then no file is open
+abbrev pub state_with_file : TreeState → List ℕ → List ℕ → TreeState
+state_with_file state path bytes = memory_state (with_file state.bag path bytes) state.openings None
+
+-- the state with a folder of the base folder more: all else stays
+abbrev pub state_with_folder : TreeState → List ℕ → TreeState
+state_with_folder state name =
+    state_after (with_folder state.bag name) state.openings state.rest state.given state.last
 
 -- files by their paths
 abbrev pub file_map : List (List ℕ × List ℕ) → fin.FinMap text_cmp (List ℕ)
@@ -104,5 +118,6 @@ are_bytes content = list_all (λ b. nat_lt b 256) content
 pub record PassesAsBag (bag : Bag) : Type 0 where
   pub paths : (path : List ℕ) → has_file bag path ≡ true → is_text_path path ≡ true
   pub names : (name : List ℕ) → has_folder bag name ≡ true → is_text_name name ≡ true
-  pub parents : (top rest : List ℕ) → is_base_name top ≡ true → has_file bag (under top rest) ≡ true → has_folder bag top ≡ true
+  pub parents : (top rest : List ℕ) → is_base_name top ≡ true → has_file bag (under top rest) ≡ true
+      → has_folder bag top ≡ true
   pub bytes : (path content : List ℕ) → file bag path ≡ Some content → are_bytes content ≡ true

@@ -10,4 +10,6 @@ memory_bag tree = bag_of tree.files.entries tree.folders.keys
 
 -- what a tree in memory means
 abbrev pub state_of : MemoryTree → TreeState
-state_of tree = state_after (memory_bag tree) tree.openings (rest_of (memory_bag tree) tree.open tree.at) tree.at tree.last
+state_of tree =
+    state_after (memory_bag tree) tree.openings (rest_of (memory_bag tree) tree.open tree.at)
+    tree.at tree.last

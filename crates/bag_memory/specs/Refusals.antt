@@ -1,5 +1,6 @@
 -- Which call of a tree is refused, and what that makes of the tree.
-use Rattle.std.specs.Prelude.{ℕ, suc, zero, ◌+◌, Bool, true, false, Option, None, Some, if◌then◌else◌}
+use Rattle.std.specs.Prelude.{ℕ, suc, zero, ◌+◌, Bool, true, false, Option, None, Some}
+use Rattle.std.specs.Prelude.{if◌then◌else◌}
 use Rattle.bag_tree.specs.Tree.{TreeState}
 use Rattle.bag_tree.specs.declared.answer.Answer.{Answer}
 use Rattle.bag_tree.specs.declared.answer.Answer.TheVariants.{Refused, Unlisted}
@@ -54,26 +55,32 @@ own_of_list due = if is_kth due then Some (Unlisted Device) else None
 
 -- after one call more
 abbrev pub after_call : Calls → Calls
-after_call calls = record { due = next_due calls.due; shut = calls.shut; own = own_answer calls.due }
+after_call calls =
+    record { due = next_due calls.due; shut = calls.shut; own = own_answer calls.due }
 
 -- after a `list` more
 abbrev pub after_listing : Calls → Calls
-after_listing calls = record { due = next_due calls.due; shut = calls.shut; own = own_of_list calls.due }
+after_listing calls =
+    record { due = next_due calls.due; shut = calls.shut; own = own_of_list calls.due }
 
 -- after an `open_file` more: nothing is open where it was the refused call
 abbrev pub after_opening : Calls → Calls
-after_opening calls = record { due = next_due calls.due; shut = is_kth calls.due; own = own_answer calls.due }
+after_opening calls =
+    record { due = next_due calls.due; shut = is_kth calls.due; own = own_answer calls.due }
 
 -- what a `read` is answered without asking the tree below
 abbrev pub own_of_read : Calls → Option Answer
-own_of_read calls = if is_kth calls.due then Some (Refused Device) else (if calls.shut then Some (Refused NoneOpen) else None)
+own_of_read calls =
+    if is_kth calls.due then Some (Refused Device)
+    else (if calls.shut then Some (Refused NoneOpen) else None)
 
 -- after a `read` more
 abbrev pub after_read : Calls → Calls
 after_read calls = record { due = next_due calls.due; shut = calls.shut; own = own_of_read calls }
 
--- What a tree means of which a call is refused: what the tree below means, but for the refused call, which is a failure more,
--- for nothing being open after a refused `open_file`, and for the last answer.
+-- What a tree means of which a call is refused: what the tree below means, but for the refused
+-- call, which is a failure more, for nothing being open after a refused `open_file`, and for the
+-- last answer.
 abbrev pub failing : TreeState → Calls → TreeState
 failing below calls = record {
   bag = below.bag;

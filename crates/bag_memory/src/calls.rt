@@ -15,8 +15,8 @@ pub(crate) enum Due {
     Past,
 }
 
-/// Which call of a tree is refused, whether nothing is open since it was, and what the last call was answered without asking
-/// the tree below.
+/// Which call of a tree is refused, whether nothing is open since it was, and what the last call
+/// was answered without asking the tree below.
 #[derive(Clone, Copy)]
 pub(crate) struct Calls {
     pub(crate) due: Due,

@@ -42,10 +42,13 @@ pub(crate) fn add_folder(
     folders: &mut BTreeSet<Text>,
     name: &str,
 ) -> Result<(), TreeFault>
-    ensures added { OnOk result (folder_set folders.new.keys ≡ set.insert (folder_set folders.old.keys) name.now) }
-    ensures free { OnOk result (step.is_taken (bag_of files.now.entries folders.old.keys) name.now ≡ false) }
+    ensures added { OnOk result
+        (folder_set folders.new.keys ≡ set.insert (folder_set folders.old.keys) name.now) }
+    ensures free { OnOk result
+        (step.is_taken (bag_of files.now.entries folders.old.keys) name.now ≡ false) }
     ensures same { OnErr result (folder_set folders.new.keys ≡ folder_set folders.old.keys) }
-    ensures refused { IfErr result (IsChangeFault ⊥ (step.is_taken (bag_of files.now.entries folders.old.keys) name.now ≡ true)) }
+    ensures refused { IfErr result (IsChangeFault ⊥
+        (step.is_taken (bag_of files.now.entries folders.old.keys) name.now ≡ true)) }
 {
     let key = Text::from_str(alloc, name)?;
     if is_taken(files, folders, &key) {
@@ -63,10 +66,13 @@ pub(crate) fn add_file(
     name: &str,
     bytes: &[u8],
 ) -> Result<(), TreeFault>
-    ensures added { OnOk result (file_map files.new.entries ≡ map.insert (file_map files.old.entries) name.now bytes.now) }
-    ensures free { OnOk result (step.is_taken (bag_of files.old.entries folders.now.keys) name.now ≡ false) }
+    ensures added { OnOk result
+        (file_map files.new.entries ≡ map.insert (file_map files.old.entries) name.now bytes.now) }
+    ensures free { OnOk result
+        (step.is_taken (bag_of files.old.entries folders.now.keys) name.now ≡ false) }
     ensures same { OnErr result (file_map files.new.entries ≡ file_map files.old.entries) }
-    ensures refused { IfErr result (IsChangeFault ⊥ (step.is_taken (bag_of files.old.entries folders.now.keys) name.now ≡ true)) }
+    ensures refused { IfErr result (IsChangeFault ⊥
+        (step.is_taken (bag_of files.old.entries folders.now.keys) name.now ≡ true)) }
 {
     let key = Text::from_str(alloc, name)?;
     if is_taken(files, folders, &key) {
@@ -85,14 +91,22 @@ pub(crate) fn move_below(
     top: &str,
     folder: &str,
 ) -> Result<(), TreeFault>
-    ensures files { OnOk result (file_map files.new.entries ≡ moving.moved top.now (under folder.now top.now) (file_map files.old.entries)) }
-    ensures folders { OnOk result (folder_set folders.new.keys ≡ set.remove (folder_set folders.old.keys) top.now) }
-    ensures there { OnOk result (step.lacks_source (bag_of files.old.entries folders.old.keys) top.now folder.now ≡ false) }
-    ensures free { OnOk result (step.has_within (bag_of files.old.entries folders.old.keys) (under folder.now top.now) ≡ false) }
+    ensures files { OnOk result (file_map files.new.entries
+        ≡ moving.moved top.now (under folder.now top.now) (file_map files.old.entries)) }
+    ensures folders { OnOk result
+        (folder_set folders.new.keys ≡ set.remove (folder_set folders.old.keys) top.now) }
+    ensures there { OnOk result
+        (step.lacks_source (bag_of files.old.entries folders.old.keys) top.now folder.now ≡ false) }
+    ensures free { OnOk result
+        (step.has_within (bag_of files.old.entries folders.old.keys) (under folder.now top.now)
+        ≡ false) }
     ensures same_files { OnErr result (file_map files.new.entries ≡ file_map files.old.entries) }
-    ensures same_folders { OnErr result (folder_set folders.new.keys ≡ folder_set folders.old.keys) }
-    ensures refused { IfErr result (IsChangeFault (step.lacks_source (bag_of files.old.entries folders.old.keys) top.now folder.now ≡ true)
-        (step.has_within (bag_of files.old.entries folders.old.keys) (under folder.now top.now) ≡ true)) }
+    ensures same_folders { OnErr result
+        (folder_set folders.new.keys ≡ folder_set folders.old.keys) }
+    ensures refused { IfErr result (IsChangeFault
+        (step.lacks_source (bag_of files.old.entries folders.old.keys) top.now folder.now ≡ true)
+        (step.has_within (bag_of files.old.entries folders.old.keys) (under folder.now top.now)
+        ≡ true)) }
 {
     let name = Text::from_str(alloc, top)?;
     if !(is_folder(folders, &Text::from_str(alloc, folder)?) && is_taken(files, folders, &name)) {
@@ -115,13 +129,19 @@ pub(crate) fn rename_folder(
     from: &str,
     to: &str,
 ) -> Result<(), TreeFault>
-    ensures files { OnOk result (file_map files.new.entries ≡ moving.moved from.now to.now (file_map files.old.entries)) }
-    ensures folders { OnOk result (folder_set folders.new.keys ≡ set.remove (set.insert (folder_set folders.old.keys) to.now) from.now) }
-    ensures there { OnOk result (step.lacks_folder (bag_of files.old.entries folders.old.keys) from.now ≡ false) }
-    ensures free { OnOk result (step.is_taken (bag_of files.old.entries folders.old.keys) to.now ≡ false) }
+    ensures files { OnOk result
+        (file_map files.new.entries ≡ moving.moved from.now to.now (file_map files.old.entries)) }
+    ensures folders { OnOk result (folder_set folders.new.keys
+        ≡ set.remove (set.insert (folder_set folders.old.keys) to.now) from.now) }
+    ensures there { OnOk result
+        (step.lacks_folder (bag_of files.old.entries folders.old.keys) from.now ≡ false) }
+    ensures free { OnOk result
+        (step.is_taken (bag_of files.old.entries folders.old.keys) to.now ≡ false) }
     ensures same_files { OnErr result (file_map files.new.entries ≡ file_map files.old.entries) }
-    ensures same_folders { OnErr result (folder_set folders.new.keys ≡ folder_set folders.old.keys) }
-    ensures refused { IfErr result (IsChangeFault (step.lacks_folder (bag_of files.old.entries folders.old.keys) from.now ≡ true)
+    ensures same_folders { OnErr result
+        (folder_set folders.new.keys ≡ folder_set folders.old.keys) }
+    ensures refused { IfErr result (IsChangeFault
+        (step.lacks_folder (bag_of files.old.entries folders.old.keys) from.now ≡ true)
         (step.is_taken (bag_of files.old.entries folders.old.keys) to.now ≡ true)) }
 {
     let old_name = Text::from_str(alloc, from)?;

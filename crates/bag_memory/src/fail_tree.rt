@@ -8,8 +8,9 @@ use bag_tree::{Answer, Listing, Tree, TreeFault, WriteTree};
 
 /// A tree of which one call is refused as `Device`, without asking the tree that it stands over.
 ///
-/// All calls of `Tree` and `WriteTree` are counted together. A refused `open_file` leaves nothing open: each `read` is
-/// then `NoneOpen`, until the next `open_file`, though the tree below may still have a file open.
+/// All calls of `Tree` and `WriteTree` are counted together. A refused `open_file` leaves nothing
+/// open: each `read` is then `NoneOpen`, until the next `open_file`, though the tree below may
+/// still have a file open.
 #[derive(Drop)]
 pub struct FailTree<T> {
     tree: T,
@@ -19,7 +20,8 @@ pub struct FailTree<T> {
 impl<T: Tree + Drop> FailTree<T> {
     /// The tree, of which the call of this number is refused, from 1. With 0 none is.
     pub fn new(tree: T, k: u64) -> FailTree<T>
-        ensures state { ⟦<FailTree<T> as Tree>⟧.state result ≡ failing (T.state tree) (before_calls k) }
+        ensures state { ⟦<FailTree<T> as Tree>⟧.state result
+            ≡ failing (T.state tree) (before_calls k) }
         ensures below { below_of result ≡ tree }
         ensures calls { calls_of result ≡ before_calls k }
     {
@@ -29,7 +31,8 @@ impl<T: Tree + Drop> FailTree<T> {
         }
     }
 
-    /// How many calls are left before the refused one; none where that is past, or where none is refused.
+    /// How many calls are left before the refused one; none where that is past, or where none is
+    /// refused.
     pub fn calls_left(&self) -> Option<u64>
         ensures { result ≡ calls_left (calls_of self.now).due }
     {
@@ -116,7 +119,8 @@ impl<T: WriteTree + Drop> WriteTree for FailTree<T> {
     ghost use Rattle.bag_text.specs.Path.{is_base_name};
     ghost use Rattle.bag_memory.specs.FailTree.{IfNotKth, RefusesKth};
     ghost use Rattle.bag_memory.specs.Refusals.{after_call};
-    ghost use Rattle.bag_tree.specs.Changes.{Creates, LeavesSameOrBegun, MakesFolder, MovesIn, RenamesFolder};
+    ghost use Rattle.bag_tree.specs.Changes.{Creates, LeavesSameOrBegun, MakesFolder, MovesIn};
+    ghost use Rattle.bag_tree.specs.Changes.{RenamesFolder};
 
     fn make_folder(&mut self, name: &str) -> Result<(), TreeFault>
         requires { IsTrue (is_base_name name.now) }

@@ -7,8 +7,9 @@
 //! let mut refusing = FailTree::new(tree, 3);
 //! ```
 //!
-//! Trees in memory are honest, each call is exact, and a refused step changes nothing. The calls of a tree for tests are those
-//! of the tree below, but for the refused call and for what `list` answers.
+//! Trees in memory are honest, each call is exact, and a refused step changes nothing. The calls of
+//! a tree for tests are those of the tree below, but for the refused call and for what `list`
+//! answers.
 #![tactic(auto)]
 
 mod calls;

@@ -24,7 +24,8 @@ pub(crate) fn joined(alloc: Global, folder: &str, name: &str) -> Result<Text, Al
 
 /// Whether a file stands at a path or below it.
 pub(crate) fn has_within(files: &BTreeMap<Text, Items<u8>>, top: &str) -> bool
-    ensures { result ≡ list_any (λ e. moving.is_within top.now e.0) (entries (file_map files.now.entries)) }
+    ensures { result ≡ list_any
+        (λ e. moving.is_within top.now e.0) (entries (file_map files.now.entries)) }
 {
     for (path, _) in files.iter() {
         if rest_within(top, path.as_str()).is_some() {
@@ -41,7 +42,8 @@ pub(crate) fn moved(
     from: &str,
     to: &str,
 ) -> Result<BTreeMap<Text, Items<u8>>, AllocError>
-    ensures { IfOk result (λ moved. file_map moved.entries ≡ moving.moved from.now to.now (file_map files.now.entries)) }
+    ensures { IfOk result (λ moved.
+        file_map moved.entries ≡ moving.moved from.now to.now (file_map files.now.entries)) }
 {
     let mut moved = BTreeMap::new(alloc);
     for (path, bytes) in files.iter() {

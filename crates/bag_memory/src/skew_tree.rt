@@ -22,8 +22,8 @@ impl SkewTree {
     ghost use Rattle.std.specs.Prelude.{None};
     ghost use Rattle.bag_memory.specs.SkewTree.{memory_of, listing_of, own_of};
 
-    /// The tree in memory, of which the first `list` answers this listing, or `TooMany` where there is none; each later one is
-    /// `TooMany`.
+    /// The tree in memory, of which the first `list` answers this listing, or `TooMany` where there
+    /// is none; each later one is `TooMany`.
     pub fn new(tree: MemoryTree, listing: Option<Listing>) -> SkewTree
         requires { ForSome listing (λ listing. IsOrdered listing.files) }
         ensures state { ⟦<SkewTree as Tree>⟧.state result ≡ skewed (state_of tree) None }
@@ -53,11 +53,15 @@ impl Tree for SkewTree {
     ghost is_bag = { λ tree. passing_is_bag (memory_bag tree.tree) tree.tree.passes };
 
     fn list(&mut self) -> Result<Listing, TreeFault>
-        ensures told { MatchResult result (λ listing. listing_of self.old ≡ Some listing) (λ fault. (listing_of self.old ≡ None) × (fault ≡ TooMany)) }
+        ensures told { MatchResult result
+            (λ listing. listing_of self.old ≡ Some listing)
+            (λ fault. (listing_of self.old ≡ None) × (fault ≡ TooMany)) }
         ensures once { listing_of self.new ≡ None }
         ensures memory { memory_of self.new ≡ memory_of self.old }
         ensures ordered { IfOk result (λ listing. IsOrdered listing.files) }
-        ensures own { MatchResult result (λ _. own_of self.new ≡ Some Given) (λ fault. own_of self.new ≡ Some (Unlisted fault)) }
+        ensures own { MatchResult result
+            (λ _. own_of self.new ≡ Some Given)
+            (λ fault. own_of self.new ≡ Some (Unlisted fault)) }
     {
         match self.listing.take() {
             Some(listing) => {
@@ -82,7 +86,8 @@ impl Tree for SkewTree {
 
     fn read(&mut self, buffer: &mut [u8]) -> Result<usize, TreeFault>
         requires { 0 < length buffer.old }
-        ensures memory { ReadCall (memory_of self.old) (memory_of self.new) (length buffer.old) buffer.new result }
+        ensures memory { ReadCall
+            (memory_of self.old) (memory_of self.new) (length buffer.old) buffer.new result }
         ensures listing { listing_of self.new ≡ listing_of self.old }
         ensures own { own_of self.new ≡ None }
     {

@@ -3,14 +3,16 @@ use Rattle.std.specs.Prelude.{◌≡◌, ◌⊎◌, Option, Some, None, Result, 
 use Rattle.serde_json.specs.Data.{Data}
 use Rattle.serde_json.specs.Find.{get}
 use Rattle.bag_profile.specs.declared.fault.ProfileFault.{ProfileFault}
-use Rattle.bag_profile.specs.declared.fault.ProfileFault.TheVariants.{NoIdentifier, WrongShape, Memory}
+use Rattle.bag_profile.specs.declared.fault.ProfileFault.TheVariants.{NoIdentifier, WrongShape}
+use Rattle.bag_profile.specs.declared.fault.ProfileFault.TheVariants.{Memory}
 use Rattle.bag_profile.specs.declared.key.Key.{Key}
 use Rattle.bag_profile.specs.Key.{key_name}
 use Rattle.bag_profile.specs.Label.{optional}
 
 -- one after the other: the first fault is the answer
 infixl 10 ◌>>=◌
-abbrev pub ◌>>=◌ : {A B : Type 0} → Result A ProfileFault → (A → Result B ProfileFault) → Result B ProfileFault
+abbrev pub ◌>>=◌ : {A B : Type 0} → Result A ProfileFault → (A → Result B ProfileFault)
+    → Result B ProfileFault
 (Ok x) >>= f = f x
 (Err fault) >>= f = Err fault
 

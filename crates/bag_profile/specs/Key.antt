@@ -2,7 +2,12 @@
 use Rattle.std.specs.Prelude.{ℕ, Bool, List, [], ◌∷◌, codes, bytes_eq}
 use Rattle.std.specs.List.{list_any}
 use Rattle.bag_profile.specs.declared.key.Key.{Key}
-use Rattle.bag_profile.specs.declared.key.Key.TheVariants.{Whole, ProfileInfo, ProfileIdentifier, BagInfo, ManifestsRequired, ManifestsAllowed, TagManifestsRequired, TagManifestsAllowed, TagFilesRequired, TagFilesAllowed, AllowFetch, AcceptBagItVersion, Serialization}
+use Rattle.bag_profile.specs.declared.key.Key.TheVariants.{Whole, ProfileInfo, ProfileIdentifier}
+use Rattle.bag_profile.specs.declared.key.Key.TheVariants.{BagInfo, ManifestsRequired}
+use Rattle.bag_profile.specs.declared.key.Key.TheVariants.{ManifestsAllowed, TagManifestsRequired}
+use Rattle.bag_profile.specs.declared.key.Key.TheVariants.{TagManifestsAllowed, TagFilesRequired}
+use Rattle.bag_profile.specs.declared.key.Key.TheVariants.{TagFilesAllowed, AllowFetch}
+use Rattle.bag_profile.specs.declared.key.Key.TheVariants.{AcceptBagItVersion, Serialization}
 
 -- as it stands in a profile; empty for the whole text
 unfoldable pub key_name : Key → List ℕ
@@ -23,7 +28,8 @@ key_name Serialization = codes "Serialization"
 -- the keys of the profile's object that are checked, in this order
 abbrev pub checked_keys : List Key
 checked_keys =
-    ProfileInfo ∷ BagInfo ∷ ManifestsRequired ∷ ManifestsAllowed ∷ TagManifestsRequired ∷ TagManifestsAllowed
+    ProfileInfo ∷ BagInfo ∷ ManifestsRequired ∷ ManifestsAllowed ∷ TagManifestsRequired
+    ∷ TagManifestsAllowed
     ∷ TagFilesRequired ∷ TagFilesAllowed ∷ AllowFetch ∷ AcceptBagItVersion ∷ Serialization ∷ []
 
 unfoldable pub is_checked : List ℕ → Bool

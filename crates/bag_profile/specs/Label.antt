@@ -1,5 +1,7 @@
--- The rules of a profile for the labels of `bag-info.txt` (BagIt Profiles Specification, Bag-Info; RFC 8493, 2.2.2).
-use Rattle.std.specs.Prelude.{ℕ, Bool, true, false, List, [], ◌∷◌, Option, Some, None, codes, is_some, if◌then◌else◌, map, option_map, option_and_then}
+-- The rules of a profile for the labels of `bag-info.txt` (BagIt Profiles Specification, Bag-Info;
+-- RFC 8493, 2.2.2).
+use Rattle.std.specs.Prelude.{ℕ, Bool, true, false, List, [], ◌∷◌, Option, Some, None, codes}
+use Rattle.std.specs.Prelude.{is_some, if◌then◌else◌, map, option_map, option_and_then}
 use Rattle.serde_json.specs.Data.{Data, Members, no_members, member}
 use Rattle.serde_json.specs.Find.{get, as_bool, as_object}
 use Rattle.bag_profile.specs.declared.label.LabelRule.{LabelRule}
@@ -11,7 +13,8 @@ labels rules = map (λ rule. rule.label) rules
 
 -- the labels ascend, and so do the values of each
 abbrev pub IsOrderly : List LabelRule → Type 0
-IsOrderly rules = IsAscending (labels rules) × AllByRecursion (λ rule. IsAscending rule.values) rules
+IsOrderly rules =
+    IsAscending (labels rules) × AllByRecursion (λ rule. IsAscending rule.values) rules
 
 -- what a value that may be absent is
 abbrev pub optional : {A : Type 0} → A → (Data → Option A) → Option Data → Option A
@@ -32,7 +35,8 @@ label_rule label d =
     if is_some (as_object d) then
     option_and_then (λ required.
     option_and_then (λ repeatable.
-    option_map (λ values. record { label = label; required = required; repeatable = repeatable; values = values })
+    option_map (λ values.
+    record { label = label; required = required; repeatable = repeatable; values = values })
     (allowed_values d))
     (flag (codes "repeatable") true d))
     (flag (codes "required") false d)
@@ -40,7 +44,9 @@ label_rule label d =
 
 abbrev pub rules_of : Members → Option (List LabelRule)
 rules_of no_members = Some []
-rules_of (member label x rest) = option_and_then (λ rule. option_map (λ rules. rule ∷ rules) (rules_of rest)) (label_rule label x)
+rules_of (member label x rest) =
+    option_and_then (λ rule. option_map (λ rules. rule ∷ rules) (rules_of rest))
+    (label_rule label x)
 
 -- the rules of labels, in the order of the labels
 unfoldable pub label_rules : Data → Option (List LabelRule)

@@ -1,11 +1,15 @@
--- Which manifests and tag files a bag must have, and which it may have (BagIt Profiles Specification, Manifests-Required,
--- Manifests-Allowed, Tag-Manifests-Required, Tag-Manifests-Allowed, Tag-Files-Required, Tag-Files-Allowed).
+-- Which manifests and tag files a bag must have, and which it may have (BagIt Profiles
+-- Specification, Manifests-Required, Manifests-Allowed, Tag-Manifests-Required,
+-- Tag-Manifests-Allowed, Tag-Files-Required, Tag-Files-Allowed).
 use Rattle.std.specs.Prelude.{ℕ, List, Option, Some, None, Result, Ok, option_map}
 use Rattle.std.specs.Option.{ForSome}
 use Rattle.serde_json.specs.Data.{Data}
 use Rattle.bag_profile.specs.declared.fault.ProfileFault.{ProfileFault}
 use Rattle.bag_profile.specs.declared.key.Key.{Key}
-use Rattle.bag_profile.specs.declared.key.Key.TheVariants.{ManifestsRequired, ManifestsAllowed, TagManifestsRequired, TagManifestsAllowed, TagFilesRequired, TagFilesAllowed}
+use Rattle.bag_profile.specs.declared.key.Key.TheVariants.{ManifestsRequired, ManifestsAllowed}
+use Rattle.bag_profile.specs.declared.key.Key.TheVariants.{TagManifestsRequired}
+use Rattle.bag_profile.specs.declared.key.Key.TheVariants.{TagManifestsAllowed, TagFilesRequired}
+use Rattle.bag_profile.specs.declared.key.Key.TheVariants.{TagFilesAllowed}
 use Rattle.bag_profile.specs.declared.name_lists.NameRules.{NameRules}
 use Rattle.bag_profile.specs.declared.name_lists.NameLists.{NameLists}
 use Rattle.bag_profile.specs.Answer.{◌>>=◌, at}
@@ -35,4 +39,6 @@ abbrev pub IsAscendingPair : NameRules → Type 0
 IsAscendingPair rules = ForSome rules.required IsAscending × ForSome rules.allowed IsAscending
 
 abbrev pub AreAscending : NameLists → Type 0
-AreAscending lists = IsAscendingPair lists.manifests × IsAscendingPair lists.tag_manifests × IsAscendingPair lists.tag_files
+AreAscending lists =
+    IsAscendingPair lists.manifests × IsAscendingPair lists.tag_manifests
+    × IsAscendingPair lists.tag_files

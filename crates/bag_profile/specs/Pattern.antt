@@ -1,5 +1,6 @@
 -- Patterns of file names (BagIt Profiles Specification, Tag-Files-Allowed).
-use Rattle.std.specs.Prelude.{ℕ, ◌≡◌, ◌↔◌, ◌==◌, ◌&&◌, ◌||◌, Bool, true, false, List, [], ◌∷◌, ◌++◌, bytes_eq, if◌then◌else◌}
+use Rattle.std.specs.Prelude.{ℕ, ◌≡◌, ◌↔◌, ◌==◌, ◌&&◌, ◌||◌, Bool, true, false, List, [], ◌∷◌, ◌++◌}
+use Rattle.std.specs.Prelude.{bytes_eq, if◌then◌else◌}
 use Rattle.std.specs.List.{slice_split}
 use Rattle.std.specs.Str.{byte}
 
@@ -33,7 +34,9 @@ IsPieces (piece ∷ []) name = name ≡ piece
 IsPieces (piece ∷ next ∷ pieces) name =
     (gap rest : List ℕ) × (name ≡ piece ++ gap ++ rest) × IsPieces (next ∷ pieces) rest
 
--- the law: a name matches where it is what stands between the stars of the pattern, with some text at each star
+-- the law: a name matches where it is what stands between the stars of the pattern, with some text
+-- at each star
 abbrev pub MatchesArePieces : Type 0
 MatchesArePieces =
-    (pattern name : List ℕ) → (matches pattern name ≡ true) ↔ IsPieces (slice_split (λ c. c == star) pattern) name
+    (pattern name : List ℕ)
+    → (matches pattern name ≡ true) ↔ IsPieces (slice_split (λ c. c == star) pattern) name

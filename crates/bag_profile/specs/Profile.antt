@@ -7,7 +7,12 @@ use Rattle.bag_profile.specs.TextSet.{IsAscending}
 use Rattle.bag_profile.specs.declared.label.LabelRule.{LabelRule}
 use Rattle.bag_profile.specs.declared.name_lists.NameLists.{NameLists}
 use Rattle.bag_profile.specs.declared.rule.ListRule.{ListRule}
-use Rattle.bag_profile.specs.declared.rule.ListRule.TheVariants.{ManifestsRequired, ManifestsAllowed, TagManifestsRequired, TagManifestsAllowed, TagFilesRequired, TagFilesAllowed, AcceptBagItVersion}
+use Rattle.bag_profile.specs.declared.rule.ListRule.TheVariants.{ManifestsRequired}
+use Rattle.bag_profile.specs.declared.rule.ListRule.TheVariants.{ManifestsAllowed}
+use Rattle.bag_profile.specs.declared.rule.ListRule.TheVariants.{TagManifestsRequired}
+use Rattle.bag_profile.specs.declared.rule.ListRule.TheVariants.{TagManifestsAllowed}
+use Rattle.bag_profile.specs.declared.rule.ListRule.TheVariants.{TagFilesRequired, TagFilesAllowed}
+use Rattle.bag_profile.specs.declared.rule.ListRule.TheVariants.{AcceptBagItVersion}
 use Rattle.bag_profile.specs.declared.terms.Terms.{Terms}
 
 pub record Profile : Type 0 where
@@ -32,4 +37,5 @@ names profile AcceptBagItVersion = profile.terms.versions
 -- all lists ascend
 abbrev pub IsOrderly : Profile → Type 0
 IsOrderly profile =
-    label.IsOrderly profile.labels × AreAscending profile.names × ForSome profile.terms.versions IsAscending × IsAscending profile.unchecked
+    label.IsOrderly profile.labels × AreAscending profile.names
+    × ForSome profile.terms.versions IsAscending × IsAscending profile.unchecked

@@ -1,6 +1,7 @@
--- The profile that a JSON value is, or the first thing that is wrong with it (BagIt Profiles Specification, Implementation
--- Details).
-use Rattle.std.specs.Prelude.{ℕ, ◌≡◌, ◌⊎◌, List, [], Option, Some, None, Result, Ok, Err, if◌then◌else◌, option_map}
+-- The profile that a JSON value is, or the first thing that is wrong with it (BagIt Profiles
+-- Specification, Implementation Details).
+use Rattle.std.specs.Prelude.{ℕ, ◌≡◌, ◌⊎◌, List, [], Option, Some, None, Result, Ok, Err}
+use Rattle.std.specs.Prelude.{if◌then◌else◌, option_map}
 use Rattle.std.specs.Str.{is_utf8}
 use Rattle.serde_json.specs.Data.{Data, Members}
 use Rattle.serde_json.specs.Find.{as_str, as_object}
@@ -37,7 +38,13 @@ of_object d members = do
   labels ← labels_of d
   names ← name_lists_of d
   terms ← terms_of d
-  Ok record { identifier = identifier; labels = labels; names = names; terms = terms; unchecked = unchecked_of members }
+  Ok record {
+    identifier = identifier;
+    labels = labels;
+    names = names;
+    terms = terms;
+    unchecked = unchecked_of members;
+  }
 
 -- the profile that a value is
 unfoldable pub profile_of : Data → Result Profile ProfileFault

@@ -1,13 +1,20 @@
--- Which shapes the values of a profile's keys have, and which fault is the first (BagIt Profiles Specification, Implementation
--- Details).
-use Rattle.std.specs.Prelude.{◌≡◌, Bool, true, false, not, ◌&&◌, List, [], ◌∷◌, Option, Some, None, Result, Ok, Err, codes, find, if◌then◌else◌, is_some, option_map, option_and_then}
+-- Which shapes the values of a profile's keys have, and which fault is the first (BagIt Profiles
+-- Specification, Implementation Details).
+use Rattle.std.specs.Prelude.{◌≡◌, Bool, true, false, not, ◌&&◌, List, [], ◌∷◌, Option, Some, None}
+use Rattle.std.specs.Prelude.{Result, Ok, Err, codes, find, if◌then◌else◌, is_some, option_map}
+use Rattle.std.specs.Prelude.{option_and_then}
 use Rattle.std.specs.Option.{option_or}
 use Rattle.serde_json.specs.Data.{Data, Items, no_items, item, Members, no_members, member}
 use Rattle.serde_json.specs.Find.{get, as_bool, as_str, as_array, as_object}
 use Rattle.bag_profile.specs.declared.fault.ProfileFault.{ProfileFault}
 use Rattle.bag_profile.specs.declared.fault.ProfileFault.TheVariants.{NoIdentifier, WrongShape}
 use Rattle.bag_profile.specs.declared.key.Key.{Key}
-use Rattle.bag_profile.specs.declared.key.Key.TheVariants.{Whole, ProfileInfo, ProfileIdentifier, BagInfo, ManifestsRequired, ManifestsAllowed, TagManifestsRequired, TagManifestsAllowed, TagFilesRequired, TagFilesAllowed, AllowFetch, AcceptBagItVersion, Serialization}
+use Rattle.bag_profile.specs.declared.key.Key.TheVariants.{Whole, ProfileInfo, ProfileIdentifier}
+use Rattle.bag_profile.specs.declared.key.Key.TheVariants.{BagInfo, ManifestsRequired}
+use Rattle.bag_profile.specs.declared.key.Key.TheVariants.{ManifestsAllowed, TagManifestsRequired}
+use Rattle.bag_profile.specs.declared.key.Key.TheVariants.{TagManifestsAllowed, TagFilesRequired}
+use Rattle.bag_profile.specs.declared.key.Key.TheVariants.{TagFilesAllowed, AllowFetch}
+use Rattle.bag_profile.specs.declared.key.Key.TheVariants.{AcceptBagItVersion, Serialization}
 use Rattle.bag_profile.specs.Key.{key_name}
 use Rattle.bag_profile.specs.Read.{profile_of}
 use Rattle.bag_profile.specs.Terms.{serialization_named}
@@ -41,7 +48,8 @@ is_list_of_texts d = passes are_texts (as_array d)
 -- an object with `required`, `repeatable` and `values`, each of which may be absent
 abbrev pub is_rule : Data → Bool
 is_rule d =
-    is_object d && may_be is_boolean (get (codes "required") d) && may_be is_boolean (get (codes "repeatable") d)
+    is_object d && may_be is_boolean (get (codes "required") d)
+    && may_be is_boolean (get (codes "repeatable") d)
     && may_be is_list_of_texts (get (codes "values") d)
 
 abbrev pub are_rules : Members → Bool
@@ -75,17 +83,20 @@ needed_fault key (Some d) = if has_shape key d then None else Some (WrongShape k
 -- the keys that may be absent, in their order
 abbrev pub optional_keys : List Key
 optional_keys =
-    BagInfo ∷ ManifestsRequired ∷ ManifestsAllowed ∷ TagManifestsRequired ∷ TagManifestsAllowed ∷ TagFilesRequired
+    BagInfo ∷ ManifestsRequired ∷ ManifestsAllowed ∷ TagManifestsRequired ∷ TagManifestsAllowed
+    ∷ TagFilesRequired
     ∷ TagFilesAllowed ∷ AllowFetch ∷ AcceptBagItVersion ∷ Serialization ∷ []
 
 abbrev pub is_wrong : Data → Key → Bool
 is_wrong d key = not (may_be (has_shape key) (get (key_name key) d))
 
--- the first fault of an object: of what holds the identifier, of the identifier, of the first other key of wrong shape
+-- the first fault of an object: of what holds the identifier, of the identifier, of the first other
+-- key of wrong shape
 abbrev pub first_fault_of_object : Data → Option ProfileFault
 first_fault_of_object d =
     option_or (needed_fault ProfileInfo (get (key_name ProfileInfo) d))
-    (option_or (needed_fault ProfileIdentifier (option_and_then (get (key_name ProfileIdentifier)) (get (key_name ProfileInfo) d)))
+    (option_or (needed_fault ProfileIdentifier
+    (option_and_then (get (key_name ProfileIdentifier)) (get (key_name ProfileInfo) d)))
     (option_map WrongShape (find (is_wrong d) optional_keys)))
 
 -- the first fault of a JSON value

@@ -1,12 +1,14 @@
--- Whether a bag may be fetched, which versions it may have, whether it is serialized (BagIt Profiles Specification,
--- Allow-Fetch.txt, Accept-BagIt-Version, Serialization).
-use Rattle.std.specs.Prelude.{ℕ, Bool, true, List, [], ◌∷◌, Option, Result, Ok, bytes_eq, codes, find, option_and_then}
+-- Whether a bag may be fetched, which versions it may have, whether it is serialized (BagIt
+-- Profiles Specification, Allow-Fetch.txt, Accept-BagIt-Version, Serialization).
+use Rattle.std.specs.Prelude.{ℕ, Bool, true, List, [], ◌∷◌, Option, Result, Ok, bytes_eq, codes}
+use Rattle.std.specs.Prelude.{find, option_and_then}
 use Rattle.serde_json.specs.Data.{Data}
 use Rattle.serde_json.specs.Find.{as_bool, as_str}
 use Rattle.bag_profile.specs.declared.fault.ProfileFault.{ProfileFault}
 use Rattle.bag_profile.specs.declared.key.Key.TheVariants as key
 use Rattle.bag_profile.specs.declared.terms.Serialization.{Serialization}
-use Rattle.bag_profile.specs.declared.terms.Serialization.TheVariants.{Forbidden, Required, Optional}
+use Rattle.bag_profile.specs.declared.terms.Serialization.TheVariants.{Forbidden, Required}
+use Rattle.bag_profile.specs.declared.terms.Serialization.TheVariants.{Optional}
 use Rattle.bag_profile.specs.declared.terms.Terms.{Terms}
 use Rattle.bag_profile.specs.Answer.{◌>>=◌, at}
 use Rattle.bag_profile.specs.NameLists.{texts_at}
@@ -21,11 +23,14 @@ serialization_name Required = codes "required"
 serialization_name Optional = codes "optional"
 
 abbrev pub serialization_named : List ℕ → Option Serialization
-serialization_named text = find (λ serialization. bytes_eq (serialization_name serialization) text) (Forbidden ∷ Required ∷ Optional ∷ [])
+serialization_named text =
+    find (λ serialization. bytes_eq (serialization_name serialization) text)
+    (Forbidden ∷ Required ∷ Optional ∷ [])
 
 -- whether a bag is to be serialized
 unfoldable pub serialization_of : Data → Result Serialization ProfileFault
-serialization_of = at key.Serialization Optional (λ d. option_and_then serialization_named (as_str d))
+serialization_of =
+    at key.Serialization Optional (λ d. option_and_then serialization_named (as_str d))
 
 -- these three, in the order of their keys
 abbrev pub terms_of : Data → Result Terms ProfileFault

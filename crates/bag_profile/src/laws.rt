@@ -19,7 +19,8 @@ pub fn first_fault_is_told()
     ensures { FirstFaultIsTold }
 {}
 
-/// A value that is a profile is one that holds at each key what stands there, and else the key's default.
+/// A value that is a profile is one that holds at each key what stands there, and else the key's
+/// default.
 pub fn profiles_hold_their_keys()
     ensures profile { ProfilesHoldTheirKeys }
     ensures rules { RulesHoldTheirKeys }

@@ -10,10 +10,11 @@
 //! let patterns = profile.names(ListRule::TagFilesAllowed);
 //! ```
 //!
-//! Of the BagIt Profiles Specification 1.x it keeps the keys of "Implementation Details" that `Key` names, and the patterns of
-//! `Tag-Files-Allowed`. It looks at no bag.
+//! Of the BagIt Profiles Specification 1.x it keeps the keys of "Implementation Details" that `Key`
+//! names, and the patterns of `Tag-Files-Allowed`. It looks at no bag.
 //!
-//! A profile is exactly that of the bytes, or the first thing that is wrong with it, but for memory.
+//! A profile is exactly that of the bytes, or the first thing that is wrong with it, but for
+//! memory.
 #![tactic(auto)]
 
 mod fault;

@@ -2,8 +2,9 @@
 ghost use Rattle.std.specs.Prelude.{◌≡◌};
 ghost use Rattle.bag_profile.specs.Pattern as spec;
 
-/// Whether a name matches a pattern, in which `*` stands for any characters, `/` among them, and every other character
-/// for itself (BagIt Profiles Specification, Tag-Files-Allowed). Each piece between stars is sought once, from the left.
+/// Whether a name matches a pattern, in which `*` stands for any characters, `/` among them, and
+/// every other character for itself (BagIt Profiles Specification, Tag-Files-Allowed). Each piece
+/// between stars is sought once, from the left.
 pub fn matches(pattern: &str, name: &str) -> bool
     ensures { result ≡ spec.matches pattern.now name.now }
 {

@@ -44,15 +44,16 @@ impl Model for Profile {
 }
 
 impl Profile {
-    /// The profile's identifier, a URI that no one looks at (`BagIt-Profile-Info`, `BagIt-Profile-Identifier`).
+    /// The profile's identifier, a URI that no one looks at (`BagIt-Profile-Info`,
+    /// `BagIt-Profile-Identifier`).
     pub fn identifier(&self) -> &str
         ensures { result.now ≡ self.now.identifier }
     {
         self.identifier.as_str()
     }
 
-    /// The rules of labels, ascending by the labels' bytes, each label once (`Bag-Info`). Labels that differ by case alone are
-    /// two.
+    /// The rules of labels, ascending by the labels' bytes, each label once (`Bag-Info`). Labels
+    /// that differ by case alone are two.
     pub fn labels(&self) -> &[LabelRule]
         ensures labels { result.now ≡ self.now.labels }
         ensures ascending { label.IsOrderly result.now }
@@ -60,7 +61,8 @@ impl Profile {
         self.labels.as_slice()
     }
 
-    /// The names of a list, ascending by their bytes, each once; none where its key is absent, which isn't the empty list.
+    /// The names of a list, ascending by their bytes, each once; none where its key is absent,
+    /// which isn't the empty list.
     pub fn names(&self, rule: ListRule) -> Option<&[Text]>
         ensures names { option_map (λ names. names.now) result ≡ spec.names self.now rule }
         ensures ascending { IfSome result (λ names. IsAscending names.now) }

@@ -15,12 +15,13 @@ use serde_json::{Map, Value};
 use std::alloc::Global;
 
 impl Profile {
-    /// Reads a profile: a JSON object (RFC 8259) in UTF-8 whose checked keys have their shapes (BagIt Profiles Specification,
-    /// Implementation Details).
+    /// Reads a profile: a JSON object (RFC 8259) in UTF-8 whose checked keys have their shapes
+    /// (BagIt Profiles Specification, Implementation Details).
     ///
-    /// The first thing that is wrong is answered: no JSON, which a byte order mark, text behind the value and more than 127
-    /// nested lists and objects are too; no object; the identifier; then the first wrong key in the order of `Key`. Of a key
-    /// that is there twice the last value counts. `null` is no absence.
+    /// The first thing that is wrong is answered: no JSON, which a byte order mark, text behind the
+    /// value and more than 127 nested lists and objects are too; no object; the identifier; then
+    /// the first wrong key in the order of `Key`. Of a key that is there twice the last value
+    /// counts. `null` is no absence.
     #[tactic(auto, unfolding(crate::specs::Read::profile_in))]
     pub fn read(alloc: Global, bytes: &[u8]) -> Result<Profile, ProfileFault>
         ensures { IsAnswer result (spec.profile_in bytes.now) }

@@ -15,7 +15,8 @@ pub(crate) fn unchecked_of(
     alloc: Global,
     members: &Map<String, Value>,
 ) -> Result<Items<Text>, AllocError>
-    ensures unchecked { IfOk result (λ unchecked. unchecked ≡ spec.unchecked_of (members_view members.now.entries)) }
+    ensures unchecked { IfOk result (λ unchecked.
+        unchecked ≡ spec.unchecked_of (members_view members.now.entries)) }
     ensures ascending { IfOk result IsAscending }
 {
     let mut unchecked = Items::new(alloc);

@@ -12,7 +12,8 @@ use Rattle.bag_stages.specs.MetadataStage.{IsOfMetadata}
 use Rattle.bag_stages.specs.PartsStage.{IsOfParts}
 use Rattle.bag_stages.specs.ValidityStage.{IsOfValidity}
 
--- The fault is one of the bag by a profile, or without one: what its code says holds, at the stage that looks for it.
+-- The fault is one of the bag by a profile, or without one: what its code says holds, at the stage
+-- that looks for it.
 unfoldable pub Is : Bag → Option Profile → Fault → Type 0
 Is bag profile f =
     -- 1: bagit.txt (2.1.1)

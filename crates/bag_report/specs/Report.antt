@@ -1,5 +1,6 @@
 -- The report of a bag: its faults that are asked for, in order.
-use Rattle.std.specs.Prelude.{ℕ, ◌≡◌, ◌&&◌, Bool, true, false, List, Option, Some, None, filter, take}
+use Rattle.std.specs.Prelude.{ℕ, ◌≡◌, ◌&&◌, Bool, true, false, List, Option, Some, None, filter}
+use Rattle.std.specs.Prelude.{take}
 use Rattle.std.specs.Ordering.{is_lt}
 use Rattle.bag_text.specs.Code.{stage}
 use Rattle.bag_text.specs.Order.{IsListOf}
@@ -7,6 +8,7 @@ use Rattle.bag_text.specs.declared.code.Code.{Code}
 use Rattle.bag_text.specs.declared.code.Code.TheVariants.{NoOxum, NameClash}
 use Rattle.bag_tree.specs.Bag.{Bag}
 use Rattle.bag_facts.specs.FaultOrder.{fault_cmp}
+use Rattle.bag_facts.specs.declared.facts.Facts.{Facts}
 use Rattle.bag_facts.specs.declared.fault.Fault.{Fault}
 use Rattle.bag_facts.specs.Options.{reaches}
 use Rattle.bag_facts.specs.declared.options.Depth.{Depth}
@@ -20,6 +22,11 @@ pub record Check : Type 0 where
   pub bag : Bag
   pub profile : Option Profile
   pub options : Options
+
+-- a bag, checked against a profile with the options with which its facts were read
+abbrev pub check_of_facts : Bag → Option Profile → Facts → Check
+check_of_facts bag profile facts =
+    record { bag = bag; profile = profile; options = facts.options }
 
 abbrev pub is_fast : Depth → Bool
 is_fast Fast = true
@@ -58,7 +65,8 @@ first n faults = take n faults
 
 -- the law: a bag has one report
 abbrev pub ReportIsOne : Type 0
-ReportIsOne = (check : Check) (one other : List Fault) → IsReport check one → IsReport check other → one ≡ other
+ReportIsOne = (check : Check) (one other : List Fault) → IsReport check one → IsReport check other
+    → one ≡ other
 
 -- the law: every bag has a report, whatever is asked for
 abbrev pub EachBagHasAReport : Type 0

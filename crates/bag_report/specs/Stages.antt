@@ -9,4 +9,5 @@ use Rattle.bag_report.specs.Is.{Is}
 
 -- a fault of the bag that this stage looks for: a clash of names only where clashes are
 abbrev pub IsFoundAt : Bool → Bag → Option Profile → ℕ → Fault → Type 0
-IsFoundAt clashes bag profile k f = Is bag profile f × (stage f.code ≡ k) × (f.code ≡ NameClash → clashes ≡ true)
+IsFoundAt clashes bag profile k f =
+    Is bag profile f × (stage f.code ≡ k) × (f.code ≡ NameClash → clashes ≡ true)

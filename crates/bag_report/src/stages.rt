@@ -4,11 +4,12 @@ ghost use Rattle.std.specs.Option.{option_copied};
 ghost use Rattle.bag_text.specs.Order.{IsListOf};
 ghost use Rattle.bag_tree.specs.Bag.{Bag};
 ghost use Rattle.bag_facts.specs.FaultOrder.{fault_cmp};
-ghost use Rattle.bag_facts.specs.Facts.{IsFactsOf, OfBag};
+ghost use Rattle.bag_facts.specs.Facts.{IsFactsOf};
 ghost use Rattle.bag_facts.specs.declared.options.Depth.TheVariants.{Declaration};
 ghost use Rattle.bag_conformance.specs.ConformanceStage.{IsOfConformance};
-ghost use Rattle.bag_report.specs.Report.{asks, IsStageOf};
+ghost use Rattle.bag_report.specs.Report.{asks, IsStageOf, check_of_facts};
 ghost use Rattle.bag_report.specs.Stages.{IsFoundAt};
+ghost use Rattle.bag_stages.specs.Found.{AreFaultsOf};
 
 use bag_conformance::conformance_faults;
 use bag_facts::{Depth, Facts, Fault, Options};
@@ -20,9 +21,9 @@ use bag_stages::{
 use bag_text::Code;
 use std::alloc::{AllocError, Global};
 
-/// The faults of one stage that are asked for, in their order. None are where the depth doesn't have the stage, and of the
-/// eighth none are without a profile. The seventh needs the files, so that for it there are none, as for every number above
-/// 8. Fails only where memory runs out.
+/// The faults of one stage that are asked for, in their order. None are where the depth doesn't
+/// have the stage, and of the eighth none are without a profile. The seventh needs the files, so
+/// that for it there are none, as for every number above 8. Fails only where memory runs out.
 pub fn stage_faults(
     alloc: Global,
     facts: &Facts,
@@ -30,7 +31,8 @@ pub fn stage_faults(
     stage: u8,
 ) -> Result<Vec<Fault>, AllocError>
     ensures faults { IfOk result (λ faults. (bag : Bag) → IsFactsOf bag facts.now → stage ≢ 7
-        → IsStageOf (record { bag = bag; profile = option_copied profile.entry; options = facts.now.options }) stage faults.items) }
+        → IsStageOf (check_of_facts bag (option_copied profile.entry) facts.now) stage
+        faults.items) }
     ensures seventh { IfOk result (λ faults. stage ≡ 7 → faults.items ≡ []) }
 {
     let options = facts.options;
@@ -42,7 +44,8 @@ pub fn stage_faults(
     Ok(faults)
 }
 
-/// The faults that a stage looks for, of facts that were read for it: clashes of names only where they are asked for.
+/// The faults that a stage looks for, of facts that were read for it: clashes of names only where
+/// they are asked for.
 fn found_faults(
     alloc: Global,
     facts: &Facts,
@@ -51,7 +54,9 @@ fn found_faults(
 ) -> Result<Vec<Fault>, AllocError>
     ensures faults { IfOk result (λ faults. (bag : Bag) → IsFactsOf bag facts.now
         → stage ≢ 7 → (1 < stage → facts.now.options.depth ≢ Declaration)
-        → IsListOf fault_cmp (IsFoundAt facts.now.options.clashes bag (option_copied profile.entry) stage) faults.items) }
+        → IsListOf fault_cmp
+        (IsFoundAt facts.now.options.clashes bag (option_copied profile.entry) stage)
+        faults.items) }
     ensures seventh { IfOk result (λ faults. stage ≡ 7 → faults.items ≡ []) }
 {
     match stage {
@@ -72,7 +77,8 @@ fn profile_faults(
     facts: &Facts,
     profile: Option<&Profile>,
 ) -> Result<Vec<Fault>, AllocError>
-    ensures { IfOk result (λ faults. OfBag facts.now (λ bag. IsListOf fault_cmp (IsOfConformance bag (option_copied profile.entry)) faults.items)) }
+    ensures { IfOk result (λ faults. AreFaultsOf facts.now
+        (λ bag. IsOfConformance bag (option_copied profile.entry)) faults.items) }
 {
     match profile {
         Some(profile) => conformance_faults(alloc, facts, profile),
@@ -80,8 +86,9 @@ fn profile_faults(
     }
 }
 
-/// Whether a fault is asked for, as one of a stage that the depth has: that there is no `Payload-Oxum` (RFC 8493, 2.2.2) at the
-/// depth `Fast` alone, and clashes of names where they are looked for.
+/// Whether a fault is asked for, as one of a stage that the depth has: that there is no
+/// `Payload-Oxum` (RFC 8493, 2.2.2) at the depth `Fast` alone, and clashes of names where they are
+/// looked for.
 #[tactic(auto, unfolding(crate::specs::Report::asks))]
 fn asks(options: Options, fault: &Fault) -> bool
     ensures { result ≡ asks options fault.now.code }

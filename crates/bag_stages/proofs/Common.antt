@@ -80,11 +80,11 @@ pub use Rattle.hex.specs.Hex.{encode_lower, lower_digits}
 pub use Rattle.bag_stages.specs.ClashFaults.{IsClashAmong, IsClashOf, first_of, first_with, name_clash}
 pub use Rattle.bag_stages.specs.ClashStage.{IsClashFault, IsSoughtClash}
 pub use Rattle.bag_stages.specs.Clashes.{AreAlike, IsLeast, IsLeastAlike, nfc_of}
-pub use Rattle.bag_stages.specs.CompletenessFaults.{HasEachOnce, IsIncomplete, IsLeftByAll, IsLeftByOne, IsMissing, IsMissingFromSome, IsNotListed, IsOfPath, IsOfPathAmong, IsUnlistedAmong, IsUnlistedFile, IsUnlistedInAll, IsUnlistedInSome, IsUnlistedPath, IsUnnamed, IsUnnamedPath, IsWrong, IsWrongOfSome, missing_code}
+pub use Rattle.bag_stages.specs.CompletenessFaults.{HasEachOnce, IsIncomplete, IsFileLeftOutByAll, IsFileLeftOutByOne, IsMissing, IsMissingFromSome, IsFileLeftOut, IsOfPath, IsOfPathAmong, IsLeftOutAmong, IsV10LeftOutByOne, IsV097LeftOutByAll, IsV10LeftOutBySome, IsPathLeftOutOf, IsFileNamedByNone, IsPathNamedByNone, IsWrong, IsWrongOfSome, missing_code}
 pub use Rattle.bag_stages.specs.CompletenessStage.{CompletenessFaultsAreListed, CompletenessFaultsAreOfStageSix, IsOfCompleteness, IsPayloadFile, IsPayloadName, IsSoughtInStageSix}
 pub use Rattle.bag_stages.specs.DeclarationStage.{DeclarationFaultsAreListed, DeclarationFaultsAreOfStageOne, InDeclaration, IsOfDeclaration}
 pub use Rattle.bag_stages.specs.FaultFields.{At, InFile, in_file, in_line, of_bag}
-pub use Rattle.bag_stages.specs.FetchFaults.{AreByLine, AreFetched, IsNamedByNone, IsNamedByNoneAmong, IsNotInAny, IsNotInManifest, IsNotInSome, IsNotNamed, IsNotNamedAmong, not_in_manifest}
+pub use Rattle.bag_stages.specs.FetchFaults.{AreByLine, AreFetched, IsNamedByNone, IsNamedByNoneAmong, IsFetchLeftOutByAll, IsFetchLeftOutByOne, IsFetchLeftOutBySome, IsNotNamed, IsNotNamedAmong, not_in_manifest}
 pub use Rattle.bag_stages.specs.FetchStage.{FetchFaultsAreListed, FetchFaultsAreOfStageFour, HasFetch, IsOfFetch, fetch_txt}
 pub use Rattle.bag_stages.specs.FileFaults.{AreTagsOf, HasTextless, IsFaultAmong, IsFileFault, IsUnsupported, ListsPayloadManifest}
 pub use Rattle.bag_stages.specs.Given.{AreNaming, IsGivenBy, IsSpelledBy}

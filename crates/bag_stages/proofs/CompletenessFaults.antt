@@ -1,5 +1,5 @@
 -- The faults of completeness and of names.
-use Rattle.bag_stages.proofs.Common.{arith, ◌≡◌, ◌⊎◌, inl, inr, ◌++◌, List, [], Bool, None, Some, refl, sym, ap, subst, is_lt, IsPermutation, IsSortedBy, stage, IsListOf, Code, PayloadFileMissing, TagFileMissing, PayloadFileNotListed, NameClash, same_members, Kind, Payload, Tag, Bag, fault_cmp, Fault, rules_in, At, IsLeftOut, IsClashFault, IsSoughtClash, missing_code, HasEachOnce, IsIncomplete, IsMissingFromSome, IsNotListed, IsUnlistedInAll, IsWrongOfSome, CompletenessFaultsAreOfStageSix, IsPayloadFile, IsSoughtInStageSix}
+use Rattle.bag_stages.proofs.Common.{arith, ◌≡◌, ◌⊎◌, inl, inr, ◌++◌, List, [], Bool, None, Some, refl, sym, ap, subst, is_lt, IsPermutation, IsSortedBy, stage, IsListOf, Code, PayloadFileMissing, TagFileMissing, PayloadFileNotListed, NameClash, same_members, Kind, Payload, Tag, Bag, fault_cmp, Fault, rules_in, At, IsLeftOut, IsClashFault, IsSoughtClash, missing_code, HasEachOnce, IsIncomplete, IsMissingFromSome, IsFileLeftOut, IsV097LeftOutByAll, IsWrongOfSome, CompletenessFaultsAreOfStageSix, IsPayloadFile, IsSoughtInStageSix}
 use Rattle.bag_stages.proofs.LeftOut.{by_all, by_one, left_out_by, not_both}
 use Rattle.bag_stages.specs.CompletenessStage.{CompletenessHolds, IsOfCompleteness}
 use Rattle.bag_stages.proofs.FaultFields.{has_fields, made_of}
@@ -15,10 +15,10 @@ module _ (bag : Bag) (f : Fault) where
   missing_code_is : (kind : Kind) → IsMissingFromSome bag kind f → f.code ≡ missing_code kind
   missing_code_is kind (alg, (is, wrong)) = ap (λ (x : Fault). x.code) is
 
-  unlisted_code_is : IsNotListed bag f → f.code ≡ PayloadFileNotListed
+  unlisted_code_is : IsFileLeftOut bag f → f.code ≡ PayloadFileNotListed
   unlisted_code_is h = grind arith
 
-  not_listed : f.code ≡ PayloadFileNotListed → At f f.path f.alg 0 [] → IsPayloadFile bag f.path → IsLeftOut (rules_in bag) bag f.alg f.path → IsNotListed bag f
+  not_listed : f.code ≡ PayloadFileNotListed → At f f.path f.alg 0 [] → IsPayloadFile bag f.path → IsLeftOut (rules_in bag) bag f.alg f.path → IsFileLeftOut bag f
   not_listed e at here out = elim (left_out_by bag f.path (rules_in bag) f.alg out) [
     | inl (by, (alg, is, left)) ↦ inl (alg, (by, (made_of f PayloadFileNotListed f.path (Some alg) 0 [] e (rw (sym is) at), (here, left))))
     | inr (by, is, left) ↦ inr (by, (made_of f PayloadFileNotListed f.path None 0 [] e (rw (sym is) at), (here, left)))
@@ -48,7 +48,7 @@ module _ (bag : Bag) (f : Fault) where
   unfolding IsOfCompleteness
   is_either h = elim (of_holds f.code refl h) [ inl a ↦ inl a | inr e ↦ inr (h, e) ]
 
-  unlisted_apart : IsMissingFromSome bag Payload f ⊎ IsMissingFromSome bag Tag f → IsNotListed bag f → ⊥
+  unlisted_apart : IsMissingFromSome bag Payload f ⊎ IsMissingFromSome bag Tag f → IsFileLeftOut bag f → ⊥
   unlisted_apart h k = grind (arith, missing_code_is, unlisted_code_is)
 
 pub completeness_of_stage_six : CompletenessFaultsAreOfStageSix
@@ -59,24 +59,24 @@ module _ (bag : Bag) where
   abbrev OfOne : Fault → Type 0
   OfOne f = IsWrongOfSome bag f ⊎ IsMissingFromSome bag Tag f
 
-  one_or_all : (f : Fault) → OfOne f ⊎ IsUnlistedInAll bag f → IsIncomplete bag f
+  one_or_all : (f : Fault) → OfOne f ⊎ IsV097LeftOutByAll bag f → IsIncomplete bag f
   one_or_all f h = grind arith
 
-  of_one_or_all : (f : Fault) → IsIncomplete bag f → OfOne f ⊎ IsUnlistedInAll bag f
+  of_one_or_all : (f : Fault) → IsIncomplete bag f → OfOne f ⊎ IsV097LeftOutByAll bag f
   of_one_or_all f h = grind arith
 
   tags_apart : (f : Fault) → IsWrongOfSome bag f → IsMissingFromSome bag Tag f → ⊥
   tags_apart f h k = grind (arith, missing_code_is bag f, unlisted_apart bag f)
 
-  all_apart : (f : Fault) → OfOne f → IsUnlistedInAll bag f → ⊥
+  all_apart : (f : Fault) → OfOne f → IsV097LeftOutByAll bag f → ⊥
   all_apart f h k = grind (arith, unlisted_apart bag f, not_both)
 
   -- what payload manifests are wrong about, then tag manifests, and then all payload manifests at once
-  pub incomplete_once : (payload tag all : List Fault) → HasEachOnce (IsWrongOfSome bag) payload → HasEachOnce (IsMissingFromSome bag Tag) tag → IsListOf fault_cmp (IsUnlistedInAll bag) all
+  pub incomplete_once : (payload tag all : List Fault) → HasEachOnce (IsWrongOfSome bag) payload → HasEachOnce (IsMissingFromSome bag Tag) tag → IsListOf fault_cmp (IsV097LeftOutByAll bag) all
       → HasEachOnce (IsIncomplete bag) ((payload ++ tag) ++ all)
   incomplete_once payload tag all p t a =
       same_once _ _ ((payload ++ tag) ++ all) one_or_all of_one_or_all
-      (both_once OfOne (IsUnlistedInAll bag) (payload ++ tag) all all_apart (both_once _ _ payload tag tags_apart p t) (once_listed _ all a))
+      (both_once OfOne (IsV097LeftOutByAll bag) (payload ++ tag) all all_apart (both_once _ _ payload tag tags_apart p t) (once_listed _ all a))
 
   pub sought_is : (clashes : Bool) (f : Fault) → IsIncomplete bag f ⊎ IsSoughtClash clashes bag f → IsSoughtInStageSix clashes bag f
   sought_is clashes f h = grind (arith, incomplete_is, no_clash)

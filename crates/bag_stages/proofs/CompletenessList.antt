@@ -1,5 +1,5 @@
 -- Every bag has a list of the faults of its completeness and of its names.
-use Rattle.bag_stages.proofs.Common.{◌≡◌, ◌⊎◌, ℕ, List, [], Option, None, Some, refl, Alg, Code, PayloadFileNotListed, Kind, Payload, Tag, Bag, has_file, LacksFile, of_path, rules_in, IsByV10, IsByV097, HasList, IsLeftOutByAll, IsLeftOutByOne, named_in, Names, IsClashFault, missing_code, IsIncomplete, IsLeftByAll, IsLeftByOne, IsMissing, IsMissingFromSome, IsNotListed, IsOfPath, IsUnlistedFile, IsUnlistedInAll, IsUnlistedInSome, CompletenessFaultsAreListed, IsOfCompleteness, IsPayloadFile}
+use Rattle.bag_stages.proofs.Common.{◌≡◌, ◌⊎◌, ℕ, List, [], Option, None, Some, refl, Alg, Code, PayloadFileNotListed, Kind, Payload, Tag, Bag, has_file, LacksFile, of_path, rules_in, IsByV10, IsByV097, HasList, IsLeftOutByAll, IsLeftOutByOne, named_in, Names, IsClashFault, missing_code, IsIncomplete, IsFileLeftOutByAll, IsFileLeftOutByOne, IsMissing, IsMissingFromSome, IsFileLeftOut, IsOfPath, IsV10LeftOutByOne, IsV097LeftOutByAll, IsV10LeftOutBySome, CompletenessFaultsAreListed, IsOfCompleteness, IsPayloadFile}
 use Rattle.bag_stages.proofs.BagLists.{over_algs}
 use Rattle.bag_stages.proofs.HasLists.{Decided, false_or_not, one_where, same_set, either, for_each, where_so}
 use Rattle.bag_stages.proofs.LeftOut.{v097_or_not, v10_or_not, by_all_or_not, by_one_or_not}
@@ -23,17 +23,17 @@ module _ (bag : Bag) where
   left_out : (told : Option Alg) (IsOut : List ℕ → Type 0) → ((path : List ℕ) → Decided (IsOut path)) → HasList (IsOfPath PayloadFileNotListed told (λ path. IsPayloadFile bag path × IsOut path))
   left_out told IsOut decided = of_paths PayloadFileNotListed told (IsPayloadFile bag) IsOut (payload_files_listed bag) decided
 
-  unlisted : (alg : Alg) → HasList (IsUnlistedFile bag alg)
-  unlisted alg = where_so (IsByV10 bag) (IsLeftByOne bag alg) (v10_or_not (rules_in bag)) (left_out (Some alg) (IsLeftOutByOne bag alg) (λ path. by_one_or_not bag path alg))
+  unlisted : (alg : Alg) → HasList (IsV10LeftOutByOne bag alg)
+  unlisted alg = where_so (IsByV10 bag) (IsFileLeftOutByOne bag alg) (v10_or_not (rules_in bag)) (left_out (Some alg) (IsLeftOutByOne bag alg) (λ path. by_one_or_not bag path alg))
 
-  in_all : HasList (IsUnlistedInAll bag)
-  in_all = where_so (IsByV097 bag) (IsLeftByAll bag) (v097_or_not (rules_in bag)) (left_out None (IsLeftOutByAll bag) (by_all_or_not bag))
+  in_all : HasList (IsV097LeftOutByAll bag)
+  in_all = where_so (IsByV097 bag) (IsFileLeftOutByAll bag) (v097_or_not (rules_in bag)) (left_out None (IsLeftOutByAll bag) (by_all_or_not bag))
 
   incomplete : HasList (IsIncomplete bag)
   incomplete =
-      either (λ f. IsMissingFromSome bag Payload f ⊎ IsMissingFromSome bag Tag f) (IsNotListed bag)
+      either (λ f. IsMissingFromSome bag Payload f ⊎ IsMissingFromSome bag Tag f) (IsFileLeftOut bag)
       (either (IsMissingFromSome bag Payload) (IsMissingFromSome bag Tag) (over_algs (IsMissing bag Payload) (missing Payload)) (over_algs (IsMissing bag Tag) (missing Tag)))
-      (either (IsUnlistedInSome bag) (IsUnlistedInAll bag) (over_algs (IsUnlistedFile bag) unlisted) in_all)
+      (either (IsV10LeftOutBySome bag) (IsV097LeftOutByAll bag) (over_algs (IsV10LeftOutByOne bag) unlisted) in_all)
 
 pub completeness_faults_are_listed : CompletenessFaultsAreListed
 completeness_faults_are_listed bag =

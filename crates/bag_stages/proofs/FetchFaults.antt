@@ -1,8 +1,8 @@
 -- The faults of the list of files to fetch.
-use Rattle.bag_stages.proofs.Common.{◌≡◌, ◌↔◌, ◌⊎◌, inl, inr, ◌++◌, ℕ, List, [], Option, None, Some, true, false, map, refl, sym, ap, ◌∙◌, subst, arith, is_lt, Contains, IsPermutation, IsSortedBy, nat_cmp, on, is_utf8, Less, rank_cmp, stage, IsListOf, IsNoText, Alg, Code, NotUtf8, FetchNotInManifest, contains_nothing, nothing_listed, same_members, IsFetch, FetchFault, IsFetchFault, line_fault, LineFault, FetchEntry, entries_of_no_text, faults_of_no_text, Payload, Bag, file, Fault, fault_cmp, rules_in, IsByV10, IsByV097, entry_paths, AreByPath, IsFetchListOf, IsManifestNamed, IsReadOf, Manifest, in_file, in_line, At, AreByLine, AreFetched, IsNotNamedAmong, IsNotInAny, IsNotInManifest, IsNotInSome, not_in_manifest, fetch_txt, FetchFaultsAreOfStageFour, HasFetch, IsLeftOut, IsLeftOutByOne, lines_or_none, manifest_of}
+use Rattle.bag_stages.proofs.Common.{◌≡◌, ◌↔◌, ◌⊎◌, inl, inr, ◌++◌, ℕ, List, [], Option, None, Some, true, false, map, refl, sym, ap, ◌∙◌, subst, arith, is_lt, Contains, IsPermutation, IsSortedBy, nat_cmp, on, is_utf8, Less, rank_cmp, stage, IsListOf, IsNoText, Alg, Code, NotUtf8, FetchNotInManifest, contains_nothing, nothing_listed, same_members, IsFetch, FetchFault, IsFetchFault, line_fault, LineFault, FetchEntry, entries_of_no_text, faults_of_no_text, Payload, Bag, file, Fault, fault_cmp, rules_in, IsByV10, IsByV097, entry_paths, AreByPath, IsFetchListOf, IsManifestNamed, IsReadOf, Manifest, in_file, in_line, At, AreByLine, AreFetched, IsNotNamedAmong, IsFetchLeftOutByAll, IsFetchLeftOutByOne, IsFetchLeftOutBySome, not_in_manifest, fetch_txt, FetchFaultsAreOfStageFour, HasFetch, IsLeftOut, IsLeftOutByOne, lines_or_none, manifest_of}
 use Rattle.bag_read.proofs.FetchLine.{IsReasonCode, reason_code}
 use Rattle.bag_facts.specs.declared.tag_facts.FetchList.{FetchList}
-use Rattle.bag_stages.specs.FetchFaults.{IsNotListed}
+use Rattle.bag_stages.specs.FetchFaults.{IsFetchLeftOut}
 use Rattle.bag_stages.specs.FetchStage.{FetchHolds, IsOfFetch}
 use Rattle.bag_stages.proofs.FaultFields.{made_of}
 use Rattle.bag_stages.proofs.ByItem.{OfSome, IsMade}
@@ -31,30 +31,30 @@ module _ (bag : Bag) (f : Fault) where
   OfLine = IsOfLine bag fetch_txt None 4 (IsFetchFault (rules_in bag)) f
 
   -- payload manifests leave a file out: one does, or all do
-  not_listed : f.code ≡ FetchNotInManifest → (e : FetchEntry) → At f fetch_txt f.alg e.line e.path → HasFetch bag e → IsLeftOut (rules_in bag) bag f.alg e.path → IsNotListed bag f
+  not_listed : f.code ≡ FetchNotInManifest → (e : FetchEntry) → At f fetch_txt f.alg e.line e.path → HasFetch bag e → IsLeftOut (rules_in bag) bag f.alg e.path → IsFetchLeftOut bag f
   not_listed code e at has out = elim (left_out_by bag e.path (rules_in bag) f.alg out) [
     | inl (by, (alg, is, left)) ↦ inl (by, (alg, (code, (e, rw (sym is) at, has, left))))
     | inr (by, is, left) ↦ inr (by, (code, (e, rw (sym is) at, has, left)))
   ]
 
-  listed_code : IsNotListed bag f → f.code ≡ FetchNotInManifest
+  listed_code : IsFetchLeftOut bag f → f.code ≡ FetchNotInManifest
   listed_code h = grind arith
 
-  some_of_holds : (c : Code) → f.code ≡ c → FetchHolds bag f c → OfLine ⊎ IsNotListed bag f
+  some_of_holds : (c : Code) → f.code ≡ c → FetchHolds bag f c → OfLine ⊎ IsFetchLeftOut bag f
   unfolding FetchHolds
   some_of_holds FetchNotInManifest e (entry, at, has, out) = inr (not_listed e entry at has out)
   some_of_holds c e h = grind arith
 
-  pub of_some : IsOfFetch bag f → OfLine ⊎ IsNotListed bag f
+  pub of_some : IsOfFetch bag f → OfLine ⊎ IsFetchLeftOut bag f
   unfolding IsOfFetch
   of_some h = some_of_holds f.code refl h
 
-  pub some_is : OfLine ⊎ IsNotListed bag f → IsOfFetch bag f
+  pub some_is : OfLine ⊎ IsFetchLeftOut bag f → IsOfFetch bag f
   unfolding IsOfFetch FetchHolds
   some_is (inl h) = grind (arith, line_code, in_line)
   some_is (inr h) = grind (arith, listed_code, by_one, by_all)
 
-  lines_apart : OfLine → IsNotListed bag f → ⊥
+  lines_apart : OfLine → IsFetchLeftOut bag f → ⊥
   lines_apart h k = subst (IsReasonCode (rules_in bag)) (listed_code k) (line_code bag f.code h.0.2.0 (in_line f) h.1 h.0.2.2)
 
 pub fetch_of_stage_four : FetchFaultsAreOfStageFour
@@ -93,26 +93,26 @@ module _ (bag : Bag) where
   pub read_manifest_listed : (alg : Alg) (m : Manifest) (path : List ℕ) (entries : List FetchEntry) (faults : List Fault)
       → IsReadOf (IsManifestNamed (rules_in bag) Payload alg) (file bag (manifest_of Payload alg)) (Some m)
       → path ≡ fetch_txt → AreFetched bag entries → (AreByPath m.entries → AreByLine entries → IsListOf fault_cmp (IsNotNamedAmong path m.alg m.entries entries) faults)
-      → IsListOf fault_cmp (IsNotInManifest bag alg) faults
+      → IsListOf fault_cmp (IsFetchLeftOutByOne bag alg) faults
   read_manifest_listed alg m path entries faults read at fetched list =
       left_listed bag (Some alg) (IsLeftOutByOne bag alg) path entries (Contains (entry_paths m.entries)) faults at fetched (λ p out c. out.1 (entry_names bag Payload alg m read p c))
       (λ p lacks. (is_there bag Payload alg m read, (λ named. lacks (names_entry bag Payload alg m read p named))))
       (λ sorted. subst (λ a. IsListOf fault_cmp (IsNotNamedAmong path a m.entries entries) faults) (of_alg bag Payload alg m read) (list (by_path bag Payload alg m read) sorted))
 
   -- one that isn't there lacks nothing
-  pub no_manifest_listed : (alg : Alg) → IsReadOf (IsManifestNamed (rules_in bag) Payload alg) (file bag (manifest_of Payload alg)) None → IsListOf fault_cmp (IsNotInManifest bag alg) []
-  no_manifest_listed alg read = nothing_listed fault_cmp (IsNotInManifest bag alg) (λ f h. is_absent bag Payload alg read h.1.3.0)
+  pub no_manifest_listed : (alg : Alg) → IsReadOf (IsManifestNamed (rules_in bag) Payload alg) (file bag (manifest_of Payload alg)) None → IsListOf fault_cmp (IsFetchLeftOutByOne bag alg) []
+  no_manifest_listed alg read = nothing_listed fault_cmp (IsFetchLeftOutByOne bag alg) (λ f h. is_absent bag Payload alg read h.1.3.0)
 
   -- the manifests, one after another
-  pub less_not_in : (a b : Alg) (x y : Fault) → IsNotInManifest bag a x → IsNotInManifest bag b y → rank_cmp a b ≡ Less → fault_cmp x y ≡ Less
+  pub less_not_in : (a b : Alg) (x y : Fault) → IsFetchLeftOutByOne bag a x → IsFetchLeftOutByOne bag b y → rank_cmp a b ≡ Less → fault_cmp x y ≡ Less
   less_not_in a b x y h k before = grind (arith, less_by_alg)
 
   -- by the rules of the bag one manifest's faults are asked for, or those of all
-  pub listed_by_one : (faults : List Fault) → IsByV10 bag → IsListOf fault_cmp (IsNotInSome bag) faults → IsListOf fault_cmp (IsNotListed bag) faults
+  pub listed_by_one : (faults : List Fault) → IsByV10 bag → IsListOf fault_cmp (IsFetchLeftOutBySome bag) faults → IsListOf fault_cmp (IsFetchLeftOut bag) faults
   listed_by_one faults by list =
       same_members fault_cmp _ _ faults (λ f h. inl (by, h)) (λ f h. elim h [ inl one ↦ one.1 | inr all ↦ absurd (not_both (rules_in bag) by all.0) ]) list
 
-  pub listed_by_all : (faults : List Fault) → IsByV097 bag → IsListOf fault_cmp (IsNotInAny bag) faults → IsListOf fault_cmp (IsNotListed bag) faults
+  pub listed_by_all : (faults : List Fault) → IsByV097 bag → IsListOf fault_cmp (IsFetchLeftOutByAll bag) faults → IsListOf fault_cmp (IsFetchLeftOut bag) faults
   listed_by_all faults by list =
       same_members fault_cmp _ _ faults (λ f h. inr (by, h)) (λ f h. elim h [ inl one ↦ absurd (not_both (rules_in bag) one.0 by) | inr all ↦ all.1 ]) list
 
@@ -121,7 +121,7 @@ module _ (bag : Bag) where
   no_entry None e lacks h = let clash : None ≡ Some h.0 = h.1.1 in cc
   no_entry (Some bytes) e lacks h = contains_nothing e (((entries_of_no_text (rules_in bag) bytes (lacks bytes refl)).members e).1 h)
 
-  listed_entry : (f : Fault) → IsNotListed bag f → (e : FetchEntry) × HasFetch bag e
+  listed_entry : (f : Fault) → IsFetchLeftOut bag f → (e : FetchEntry) × HasFetch bag e
   listed_entry f h = grind arith
 
   pub no_fetch_listed : ((bytes : List ℕ) → file bag fetch_txt ≡ Some bytes → IsNoText bytes) → IsListOf fault_cmp (IsOfFetch bag) []
@@ -130,14 +130,14 @@ module _ (bag : Bag) where
 
   -- what was read of the list tells its faults: those of the lines and those of the manifests, sorted
   pub fetch_list_listed : (list : FetchList) (of_lines of_manifests all : List Fault) → IsReadOf (IsFetchListOf (rules_in bag)) (file bag fetch_txt) (Some list) → list.is_text ≡ true
-      → of_lines ≡ map (in_file fetch_txt None) list.faults → (AreFetched bag list.entries → IsListOf fault_cmp (IsNotListed bag) of_manifests)
+      → of_lines ≡ map (in_file fetch_txt None) list.faults → (AreFetched bag list.entries → IsListOf fault_cmp (IsFetchLeftOut bag) of_manifests)
       → IsPermutation (of_lines ++ of_manifests) all → IsSortedBy (λ x y. is_lt (fault_cmp x y)) all → IsListOf fault_cmp (IsOfFetch bag) all
   fetch_list_listed list of_lines of_manifests all read text is manifests perm sorted =
       let said = read_bytes (IsFetchListOf (rules_in bag)) (file bag fetch_txt) list read in
       let fetched : AreFetched bag list.entries =
       subst (λ content. IsListOf (on (λ e. e.line) nat_cmp) (IsFetch (rules_in bag) (lines_or_none content)) list.entries) (sym said.1) said.2.entries in
       same_members fault_cmp _ _ all (some_is bag) (of_some bag)
-      (sorted_together (OfLine bag) (IsNotListed bag) of_lines of_manifests all (lines_apart bag)
+      (sorted_together (OfLine bag) (IsFetchLeftOut bag) of_lines of_manifests all (lines_apart bag)
       (rw is (lines_listed bag fetch_txt None 4 (IsFetchFault (rules_in bag)) is_utf8 (line_tells bag) said.0 true list.faults said.1
       (sym text ∙ said.2.text) said.2.faults)) (manifests fetched) perm sorted)
 

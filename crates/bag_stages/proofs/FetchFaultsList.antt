@@ -1,6 +1,6 @@
 -- Every bag has a list of the faults of its list of files to fetch.
-use Rattle.bag_stages.proofs.Common.{◌⊎◌, ℕ, List, Option, None, Some, refl, is_utf8, lines_of_file, IsFetchFault, Alg, entry_in, entries_read, faults_read, not_utf8, LineFault, AreFaults, entries_of_lines, faults_of_no_text, faults_of_text, ◌≡◌, ◌∷◌, [], Bool, true, false, Bag, file, rules_in, IsByV10, IsByV097, IsNotInAny, IsNotInManifest, IsNotInSome, not_in_manifest, fetch_txt, FetchFaultsAreListed, HasFetch, IsOfFetch, HasList, IsLeftOutByAll, IsLeftOutByOne, lines_in}
-use Rattle.bag_stages.specs.FetchFaults.{IsNotListed}
+use Rattle.bag_stages.proofs.Common.{◌⊎◌, ℕ, List, Option, None, Some, refl, is_utf8, lines_of_file, IsFetchFault, Alg, entry_in, entries_read, faults_read, not_utf8, LineFault, AreFaults, entries_of_lines, faults_of_no_text, faults_of_text, ◌≡◌, ◌∷◌, [], Bool, true, false, Bag, file, rules_in, IsByV10, IsByV097, IsFetchLeftOutByAll, IsFetchLeftOutByOne, IsFetchLeftOutBySome, not_in_manifest, fetch_txt, FetchFaultsAreListed, HasFetch, IsOfFetch, HasList, IsLeftOutByAll, IsLeftOutByOne, lines_in}
+use Rattle.bag_stages.specs.FetchFaults.{IsFetchLeftOut}
 use Rattle.bag_stages.proofs.BagLists.{over_algs}
 use Rattle.bag_stages.proofs.FetchFaults.{IsLeft, IsLeftAt, OfLine, from_left, line_tells, of_some, some_is, to_left}
 use Rattle.bag_stages.proofs.HasLists.{Decided, one_where, same_set, either, for_each, where_so}
@@ -26,12 +26,12 @@ module _ (bag : Bag) where
       same_set _ (IsLeft bag told IsOut) (to_left bag told IsOut) (from_left bag told IsOut)
       (for_each (IsLeftAt bag told IsOut) (λ e. one_where (not_in_manifest fetch_txt told e) (IsOut e.path) (decided e.path)) (HasFetch bag) fetched)
 
-  not_listed : HasList (IsNotListed bag)
+  not_listed : HasList (IsFetchLeftOut bag)
   not_listed =
-      either _ _ (where_so (IsByV10 bag) (IsNotInSome bag) (v10_or_not (rules_in bag))
-      (over_algs (IsNotInManifest bag) (λ alg. left (Some alg) (IsLeftOutByOne bag alg) (λ path. by_one_or_not bag path alg))))
-      (where_so (IsByV097 bag) (IsNotInAny bag) (v097_or_not (rules_in bag)) (left None (IsLeftOutByAll bag) (by_all_or_not bag)))
+      either _ _ (where_so (IsByV10 bag) (IsFetchLeftOutBySome bag) (v10_or_not (rules_in bag))
+      (over_algs (IsFetchLeftOutByOne bag) (λ alg. left (Some alg) (IsLeftOutByOne bag alg) (λ path. by_one_or_not bag path alg))))
+      (where_so (IsByV097 bag) (IsFetchLeftOutByAll bag) (v097_or_not (rules_in bag)) (left None (IsLeftOutByAll bag) (by_all_or_not bag)))
 
 pub fetch_faults_are_listed : FetchFaultsAreListed
 fetch_faults_are_listed bag =
-    same_set (λ f. OfLine bag f ⊎ IsNotListed bag f) (IsOfFetch bag) (some_is bag) (of_some bag) (either (OfLine bag) (IsNotListed bag) (of_lines bag) (not_listed bag))
+    same_set (λ f. OfLine bag f ⊎ IsFetchLeftOut bag f) (IsOfFetch bag) (some_is bag) (of_some bag) (either (OfLine bag) (IsFetchLeftOut bag) (of_lines bag) (not_listed bag))

@@ -1,5 +1,5 @@
 -- Manifests that name the payload's files and no other.
-use Rattle.bag_stages.proofs.Common.{◌≡◌, ◌≢◌, ◌↔◌, Bool, ◌<◌, ◌≤◌, ◌+◌, inl, inr, ℕ, List, [], ◌∷◌, ◌++◌, true, false, cond, length, take, drop, get_or, Some, None, sym, ap, ◌∙◌, subst, append_assoc, append-nil, take-append-drop, IsTrue, ◌==◌, arith, nat_tests, append_cancel_left, map-append, filter-append, IsStrictlySortedBy-filter, nat_list_cmp_total, text_cmp, is_payload_path, Alg, PayloadFileMissing, PayloadFileNotListed, same_lists, Payload, Tag, ManifestEntry, Bag, file, IsOrdered, FileEntry, Fault, rules_in, entry_paths, IsManifestNamed, IsReadOf, AreListed, paths_of, Manifest, file_listed, listed_file, paths_ascend, kept, passed, take_one_more, manifest_of, Names, IsMissing, IsUnlistedFile, IsWrong, GoesOn, IsExact, IsNamedExactly, payload_paths, StopsAt}
+use Rattle.bag_stages.proofs.Common.{◌≡◌, ◌≢◌, ◌↔◌, Bool, ◌<◌, ◌≤◌, ◌+◌, inl, inr, ℕ, List, [], ◌∷◌, ◌++◌, true, false, cond, length, take, drop, get_or, Some, None, sym, ap, ◌∙◌, subst, append_assoc, append-nil, take-append-drop, IsTrue, ◌==◌, arith, nat_tests, append_cancel_left, map-append, filter-append, IsStrictlySortedBy-filter, nat_list_cmp_total, text_cmp, is_payload_path, Alg, PayloadFileMissing, PayloadFileNotListed, same_lists, Payload, Tag, ManifestEntry, Bag, file, IsOrdered, FileEntry, Fault, rules_in, entry_paths, IsManifestNamed, IsReadOf, AreListed, paths_of, Manifest, file_listed, listed_file, paths_ascend, kept, passed, take_one_more, manifest_of, Names, IsMissing, IsV10LeftOutByOne, IsWrong, GoesOn, IsExact, IsNamedExactly, payload_paths, StopsAt}
 use Rattle.std.proofs.Common.{if◌then◌else◌, take_all}
 use Rattle.bag_stages.proofs.NamesByKind.{names_by_kind}
 use Rattle.bag_stages.proofs.ReadManifest.{by_path, entry_names, is_absent, is_there, names_entry}
@@ -84,5 +84,5 @@ module _ (bag : Bag) (alg : Alg) where
   pub told : (f : Fault) → IsWrong bag alg f → f.alg ≡ Some alg
   told f h = grind arith
 
-  pub apart : (f : Fault) → IsMissing bag Payload alg f → IsUnlistedFile bag alg f → ⊥
+  pub apart : (f : Fault) → IsMissing bag Payload alg f → IsV10LeftOutByOne bag alg f → ⊥
   apart f h k = let clash : PayloadFileMissing ≡ PayloadFileNotListed = sym (ap (λ (x : Fault). x.code) h.0) ∙ ap (λ (x : Fault). x.code) k.1.0 in cc

@@ -18,10 +18,12 @@ IsClashFault bag f = IsOfCompleteness bag f × (f.code ≡ NameClash)
 abbrev pub IsSoughtClash : Bool → Bag → Fault → Type 0
 IsSoughtClash clashes bag f = IsClashFault bag f × (clashes ≡ true)
 
--- the law: the names of these faults and the least names of the classes are together all names, none twice
+-- the law: the names of these faults and the least names of the classes are together all names,
+-- none twice
 abbrev pub ClashesAndLeastsAreAllNames : Type 0
 ClashesAndLeastsAreAllNames =
     (bag : Bag) (names leasts : List (List ℕ)) (faults : List Fault)
-    → IsListOf text_cmp (IsPayloadName bag) names → IsListOf text_cmp (IsLeast (IsPayloadName bag)) leasts
+    → IsListOf text_cmp (IsPayloadName bag) names
+    → IsListOf text_cmp (IsLeast (IsPayloadName bag)) leasts
     → IsListOf fault_cmp (IsClashFault bag) faults
     → IsPermutation (map (λ f. f.path) faults ++ leasts) names

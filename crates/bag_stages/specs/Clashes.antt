@@ -32,4 +32,5 @@ module _ (IsName : List ℕ → Type 0) where
 pub record AlikeIsAnEquivalence : Type 0 where
   pub reflexive : (text : List ℕ) → AreAlike text text
   pub symmetric : (one other : List ℕ) → AreAlike one other → AreAlike other one
-  pub transitive : (one other third : List ℕ) → AreAlike one other → AreAlike other third → AreAlike one third
+  pub transitive : (one other third : List ℕ) → AreAlike one other → AreAlike other third
+      → AreAlike one third

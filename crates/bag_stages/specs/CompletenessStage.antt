@@ -1,10 +1,12 @@
--- Stage 6: what keeps a bag from being complete (RFC 8493, 3), and names that differ by normal form alone.
+-- Stage 6: what keeps a bag from being complete (RFC 8493, 3), and names that differ by normal form
+-- alone.
 use Rattle.std.specs.Prelude.{ℕ, ◌≡◌, ◌⊎◌, Bool, true, List, [], None, Some}
 use Rattle.bag_text.specs.Code.{stage}
 use Rattle.bag_text.specs.Path.{is_payload_path}
 use Rattle.bag_text.specs.declared.alg.Alg.{Alg}
 use Rattle.bag_text.specs.declared.code.Code.{Code}
-use Rattle.bag_text.specs.declared.code.Code.TheVariants.{PayloadFileMissing, TagFileMissing, PayloadFileNotListed, NameClash}
+use Rattle.bag_text.specs.declared.code.Code.TheVariants.{PayloadFileMissing, TagFileMissing}
+use Rattle.bag_text.specs.declared.code.Code.TheVariants.{PayloadFileNotListed, NameClash}
 use Rattle.bag_read.specs.declared.kind.Kind.{Kind}
 use Rattle.bag_read.specs.declared.kind.Kind.TheVariants.{Payload, Tag}
 use Rattle.bag_tree.specs.Bag.{Bag, HasFile, LacksFile}
@@ -28,7 +30,8 @@ IsPayloadName bag path = IsPayloadFile bag path ⊎ ((alg : Alg) × Names bag Pa
 module _ (bag : Bag) (f : Fault) where
   -- a manifest names a file that isn't there
   abbrev pub Missing : Kind → Type 0
-  Missing kind = (alg : Alg) × At f f.path (Some alg) 0 [] × Names bag kind alg f.path × LacksFile bag f.path
+  Missing kind =
+      (alg : Alg) × At f f.path (Some alg) 0 [] × Names bag kind alg f.path × LacksFile bag f.path
 
   unfoldable pub CompletenessHolds : Code → Type 0
   -- every file that a manifest names is there
@@ -53,7 +56,8 @@ IsSoughtInStageSix clashes bag f = IsOfCompleteness bag f × (f.code ≡ NameCla
 
 -- the law: these faults are of the sixth stage
 abbrev pub CompletenessFaultsAreOfStageSix : Type 0
-CompletenessFaultsAreOfStageSix = (bag : Bag) (f : Fault) → IsOfCompleteness bag f → stage f.code ≡ 6
+CompletenessFaultsAreOfStageSix = (bag : Bag) (f : Fault) → IsOfCompleteness bag f
+    → stage f.code ≡ 6
 
 -- the law: every bag has a list of these faults
 abbrev pub CompletenessFaultsAreListed : Type 0

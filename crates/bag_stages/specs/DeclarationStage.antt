@@ -2,7 +2,9 @@
 use Rattle.std.specs.Prelude.{◌≡◌, [], None}
 use Rattle.bag_text.specs.Code.{stage}
 use Rattle.bag_text.specs.declared.code.Code.{Code}
-use Rattle.bag_text.specs.declared.code.Code.TheVariants.{NoDeclaration, DeclarationNotUtf8, DeclarationLineCount, DeclarationLine, VersionUnsupported, EncodingUnsupported}
+use Rattle.bag_text.specs.declared.code.Code.TheVariants.{NoDeclaration, DeclarationNotUtf8}
+use Rattle.bag_text.specs.declared.code.Code.TheVariants.{DeclarationLineCount, DeclarationLine}
+use Rattle.bag_text.specs.declared.code.Code.TheVariants.{VersionUnsupported, EncodingUnsupported}
 use Rattle.bag_read.specs.Declaration.{IsDeclarationFault}
 use Rattle.bag_tree.specs.Bag.{Bag, LacksFile}
 use Rattle.bag_facts.specs.declared.fault.Fault.{Fault}

@@ -8,7 +8,8 @@ use Rattle.bag_facts.specs.FaultAt.{of_line, of_path}
 use Rattle.bag_facts.specs.declared.fault.Fault.{Fault}
 
 -- the fields of a fault beside its code
-pub record At (f : Fault) (path : List ℕ) (alg : Option Alg) (line : ℕ) (detail : List ℕ) : Type 0 where
+pub record At (f : Fault) (path : List ℕ) (alg : Option Alg) (line : ℕ)
+    (detail : List ℕ) : Type 0 where
   pub path_is : f.path ≡ path
   pub alg_is : f.alg ≡ alg
   pub line_is : f.line ≡ line
@@ -21,7 +22,8 @@ in_line f = record { line = f.line; code = f.code; detail = f.detail }
 -- the file is there, and this is wrong with its bytes
 abbrev pub InFile : Bag → Fault → List ℕ → Option Alg → (List ℕ → LineFault → Type 0) → Type 0
 InFile bag f path alg IsWrong =
-    (f.path ≡ path) × (f.alg ≡ alg) × ((bytes : List ℕ) × (file bag path ≡ Some bytes) × IsWrong bytes (in_line f))
+    (f.path ≡ path) × (f.alg ≡ alg)
+    × ((bytes : List ℕ) × (file bag path ≡ Some bytes) × IsWrong bytes (in_line f))
 
 -- the fault of a line of the file at a path
 abbrev pub in_file : List ℕ → Option Alg → LineFault → Fault

@@ -30,21 +30,24 @@ not_in_manifest path alg e = of_line FetchNotInManifest path alg e.line e.path
 
 -- that fault of a file that is at the path of none of the manifest's entries
 abbrev pub IsNotNamed : List ℕ → Alg → List ManifestEntry → FetchEntry → Fault → Type 0
-IsNotNamed path alg named e f = (f ≡ not_in_manifest path (Some alg) e) × ¬ (Contains (entry_paths named) e.path)
+IsNotNamed path alg named e f =
+    (f ≡ not_in_manifest path (Some alg) e) × ¬ (Contains (entry_paths named) e.path)
 
 -- that fault of a file among these
 abbrev pub IsNotNamedAmong : List ℕ → Alg → List ManifestEntry → List FetchEntry → Fault → Type 0
-IsNotNamedAmong path alg named entries f = (e : FetchEntry) × Contains entries e × IsNotNamed path alg named e f
+IsNotNamedAmong path alg named entries f =
+    (e : FetchEntry) × Contains entries e × IsNotNamed path alg named e f
 
 -- the payload manifest of an algorithm doesn't name a file to fetch
-abbrev pub IsNotInManifest : Bag → Alg → Fault → Type 0
-IsNotInManifest bag alg f =
+abbrev pub IsFetchLeftOutByOne : Bag → Alg → Fault → Type 0
+IsFetchLeftOutByOne bag alg f =
     (f.code ≡ FetchNotInManifest)
-    × ((e : FetchEntry) × At f fetch_txt (Some alg) e.line e.path × HasFetch bag e × IsLeftOutByOne bag alg e.path)
+    × ((e : FetchEntry) × At f fetch_txt (Some alg) e.line e.path × HasFetch bag e
+    × IsLeftOutByOne bag alg e.path)
 
 -- the payload manifest of some algorithm doesn't name it
-abbrev pub IsNotInSome : Bag → Fault → Type 0
-IsNotInSome bag f = (alg : Alg) × IsNotInManifest bag alg f
+abbrev pub IsFetchLeftOutBySome : Bag → Fault → Type 0
+IsFetchLeftOutBySome bag f = (alg : Alg) × IsFetchLeftOutByOne bag alg f
 
 -- that fault of a file that no payload manifest names
 abbrev pub IsNamedByNone : Bag → List ℕ → FetchEntry → Fault → Type 0
@@ -52,14 +55,17 @@ IsNamedByNone bag path e f = (f ≡ not_in_manifest path None e) × ¬ (IsNamedB
 
 -- that fault of a file among these
 abbrev pub IsNamedByNoneAmong : Bag → List ℕ → List FetchEntry → Fault → Type 0
-IsNamedByNoneAmong bag path entries f = (e : FetchEntry) × Contains entries e × IsNamedByNone bag path e f
+IsNamedByNoneAmong bag path entries f =
+    (e : FetchEntry) × Contains entries e × IsNamedByNone bag path e f
 
 -- all payload manifests, of which there is one, leave a file to fetch out
-abbrev pub IsNotInAny : Bag → Fault → Type 0
-IsNotInAny bag f =
+abbrev pub IsFetchLeftOutByAll : Bag → Fault → Type 0
+IsFetchLeftOutByAll bag f =
     (f.code ≡ FetchNotInManifest)
-    × ((e : FetchEntry) × At f fetch_txt None e.line e.path × HasFetch bag e × IsLeftOutByAll bag e.path)
+    × ((e : FetchEntry) × At f fetch_txt None e.line e.path × HasFetch bag e
+    × IsLeftOutByAll bag e.path)
 
 -- payload manifests leave a file to fetch out, by the bag's rules
-abbrev pub IsNotListed : Bag → Fault → Type 0
-IsNotListed bag f = (IsByV10 bag × IsNotInSome bag f) ⊎ (IsByV097 bag × IsNotInAny bag f)
+abbrev pub IsFetchLeftOut : Bag → Fault → Type 0
+IsFetchLeftOut bag f = (IsByV10 bag × IsFetchLeftOutBySome bag f)
+    ⊎ (IsByV097 bag × IsFetchLeftOutByAll bag f)

@@ -2,7 +2,8 @@
 use Rattle.std.specs.Prelude.{ℕ, ◌≡◌, List, None}
 use Rattle.bag_text.specs.Code.{stage}
 use Rattle.bag_text.specs.declared.code.Code.{Code}
-use Rattle.bag_text.specs.declared.code.Code.TheVariants.{FetchLine, FetchEscape, FetchUnsafePath, FetchOutsidePayload, FetchNotInManifest}
+use Rattle.bag_text.specs.declared.code.Code.TheVariants.{FetchLine, FetchEscape, FetchUnsafePath}
+use Rattle.bag_text.specs.declared.code.Code.TheVariants.{FetchOutsidePayload, FetchNotInManifest}
 use Rattle.bag_read.specs.Fetch.{IsFetch, IsFetchFault}
 use Rattle.bag_read.specs.declared.fetch.FetchEntry.{FetchEntry}
 use Rattle.bag_read.specs.TagName.{tag_path}
@@ -36,7 +37,8 @@ module _ (bag : Bag) (f : Fault) where
   FetchHolds FetchOutsidePayload = InFetch
   -- payload manifests leave out the file that is to be fetched
   FetchHolds FetchNotInManifest =
-      (e : FetchEntry) × At f fetch_txt f.alg e.line e.path × HasFetch bag e × IsLeftOut (rules_in bag) bag f.alg e.path
+      (e : FetchEntry) × At f fetch_txt f.alg e.line e.path × HasFetch bag e
+      × IsLeftOut (rules_in bag) bag f.alg e.path
   -- codes of other stages
   FetchHolds other = ⊥
 

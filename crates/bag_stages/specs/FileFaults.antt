@@ -19,17 +19,20 @@ use Rattle.bag_stages.specs.TagFiles.{HasNoText}
 
 -- each tag file of the bag is among these, and what is known of each is what its bytes say
 pub record AreTagsOf (bag : Bag) (tags : List TagFacts) : Type 0 where
-  pub there : (name : TagName) → HasFile bag (tag_path name) → (tag : TagFacts) × Contains tags tag × (name_of tag ≡ name)
+  pub there : (name : TagName) → HasFile bag (tag_path name)
+      → (tag : TagFacts) × Contains tags tag × (name_of tag ≡ name)
   pub said : (tag : TagFacts) → Contains tags tag → IsSaid bag tag
 
 -- among these is what is known of a tag file, and it isn't UTF-8
 abbrev pub HasTextless : List TagFacts → TagName → Type 0
-HasTextless tags name = (tag : TagFacts) × Contains tags tag × (name_of tag ≡ name) × (text_test tag ≡ Some false)
+HasTextless tags name =
+    (tag : TagFacts) × Contains tags tag × (name_of tag ≡ name) × (text_test tag ≡ Some false)
 
 -- the name of a manifest of an algorithm that isn't supported
 abbrev pub IsUnsupported : List ℕ → List ℕ → Type 0
 IsUnsupported path alg =
-    (kind : Kind) × (is_alg_text alg ≡ true) × (path ≡ manifest_name kind alg) × (alg_named alg ≡ None)
+    (kind : Kind) × (is_alg_text alg ≡ true) × (path ≡ manifest_name kind alg)
+    × (alg_named alg ≡ None)
 
 -- a fault of one listed file
 abbrev pub IsFileFault : Bag → Fault → Type 0
@@ -43,4 +46,6 @@ IsFaultAmong bag paths f = Contains paths f.path × IsFileFault bag f
 
 -- a payload manifest is among these files
 abbrev pub ListsPayloadManifest : List FileEntry → Type 0
-ListsPayloadManifest files = (alg : List ℕ) × (is_alg_text alg ≡ true) × Contains (paths_of files) (manifest_name Payload alg)
+ListsPayloadManifest files =
+    (alg : List ℕ) × (is_alg_text alg ≡ true)
+    × Contains (paths_of files) (manifest_name Payload alg)

@@ -23,4 +23,6 @@ pub record IsSpelledBy (bag : Bag) (path : List ℕ) (kind : Kind) (one : Expect
 
 -- what the manifest of a kind and an algorithm gives for the path; nothing where it doesn't name it
 abbrev pub IsGivenBy : Bag → List ℕ → Kind → Alg → Option Expected → Type 0
-IsGivenBy bag path kind alg given = MatchOption given (¬ (Names bag kind alg path)) (λ one. (one.alg ≡ alg) × IsSpelledBy bag path kind one)
+IsGivenBy bag path kind alg given =
+    MatchOption given (¬ (Names bag kind alg path)) (λ one.
+    (one.alg ≡ alg) × IsSpelledBy bag path kind one)

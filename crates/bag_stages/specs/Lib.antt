@@ -8,6 +8,7 @@ pub mod FaultFields
 pub mod FetchFaults
 pub mod FetchStage
 pub mod FileFaults
+pub mod Found
 pub mod Given
 pub mod HasList
 pub mod LeftOut

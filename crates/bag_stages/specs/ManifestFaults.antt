@@ -21,34 +21,40 @@ abbrev pub unnamed : List ℕ → Alg → List ℕ → Fault
 unnamed path alg file = of_path PayloadManifestNotListed path (Some alg) file
 
 -- a payload manifest, of any algorithm's name, that is at no entry's path
-abbrev pub IsUnnamed : List ManifestEntry → List ℕ → Type 0
-IsUnnamed entries file =
-    ((other : List ℕ) × (is_alg_text other ≡ true) × (file ≡ manifest_name Payload other)) × ¬ (Contains (entry_paths entries) file)
+abbrev pub IsManifestUnnamed : List ManifestEntry → List ℕ → Type 0
+IsManifestUnnamed entries file =
+    ((other : List ℕ) × (is_alg_text other ≡ true) × (file ≡ manifest_name Payload other))
+    × ¬ (Contains (entry_paths entries) file)
 
 -- that fault of a payload manifest that is at no entry's path
 abbrev pub IsUnnamedFault : List ℕ → Alg → List ManifestEntry → Fault → Type 0
-IsUnnamedFault path alg entries f = (f ≡ unnamed path alg f.detail) × IsUnnamed entries f.detail
+IsUnnamedFault path alg entries f =
+    (f ≡ unnamed path alg f.detail) × IsManifestUnnamed entries f.detail
 
 -- that fault of a file among these
 abbrev pub IsUnnamedAmong : List ℕ → Alg → List ManifestEntry → List (List ℕ) → Fault → Type 0
-IsUnnamedAmong path alg entries files f = Contains files f.detail × IsUnnamedFault path alg entries f
+IsUnnamedAmong path alg entries files f =
+    Contains files f.detail × IsUnnamedFault path alg entries f
 
 -- those faults that the bag's rules ask for: those of 0.97 ask for no name
 abbrev pub IsAskedUnnamed : Bag → List ℕ → Alg → List ManifestEntry → List (List ℕ) → Fault → Type 0
 IsAskedUnnamed bag path alg entries files f = IsByV10 bag × IsUnnamedAmong path alg entries files f
 
--- a tag manifest names the payload manifests that are there, by the rules of 1.0 alone, and a payload manifest needs to name
--- none
+-- a tag manifest names the payload manifests that are there, by the rules of 1.0 alone, and a
+-- payload manifest needs to name none
 abbrev pub IsUnlistedManifest : Bag → Kind → Alg → Fault → Type 0
 IsUnlistedManifest bag Payload alg f = ⊥
 IsUnlistedManifest bag Tag alg f =
     IsByV10 bag × (f.code ≡ PayloadManifestNotListed)
     × ((other : List ℕ) × At f (manifest_of Tag alg) (Some alg) 0 (manifest_name Payload other)
-    × HasSupported bag Tag alg × HasManifest bag Payload other × ¬ (Names bag Tag alg (manifest_name Payload other)))
+    × HasSupported bag Tag alg × HasManifest bag Payload other
+    × ¬ (Names bag Tag alg (manifest_name Payload other)))
 
 -- a fault of a line of a manifest
 abbrev pub IsLineFault : Bag → Kind → Alg → Fault → Type 0
-IsLineFault bag kind alg f = InFile bag f (manifest_of kind alg) (Some alg) (IsManifestFault (rules_in bag) kind alg) × (stage f.code ≡ 5)
+IsLineFault bag kind alg f =
+    InFile bag f (manifest_of kind alg) (Some alg) (IsManifestFault (rules_in bag) kind alg)
+    × (stage f.code ≡ 5)
 
 -- a fault of one manifest
 abbrev pub IsOfManifest : Bag → Kind → Alg → Fault → Type 0

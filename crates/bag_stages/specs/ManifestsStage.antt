@@ -1,9 +1,15 @@
--- Stage 5: what is a fault of the manifests (RFC 8493, 2.1.3 and 2.2.1), where all but the digests is looked at.
+-- Stage 5: what is a fault of the manifests (RFC 8493, 2.1.3 and 2.2.1), where all but the digests
+-- is looked at.
 use Rattle.std.specs.Prelude.{ℕ, ◌≡◌, List, Some}
 use Rattle.bag_text.specs.Code.{stage}
 use Rattle.bag_text.specs.declared.alg.Alg.{Alg}
 use Rattle.bag_text.specs.declared.code.Code.{Code}
-use Rattle.bag_text.specs.declared.code.Code.TheVariants.{ManifestLine, DigestLength, ManifestEscape, ManifestUnsafePath, ManifestOutsidePayload, TagmanifestNamesPayload, TagmanifestNamesTagmanifest, NamedAgain, PayloadManifestNotListed}
+use Rattle.bag_text.specs.declared.code.Code.TheVariants.{ManifestLine, DigestLength}
+use Rattle.bag_text.specs.declared.code.Code.TheVariants.{ManifestEscape, ManifestUnsafePath}
+use Rattle.bag_text.specs.declared.code.Code.TheVariants.{ManifestOutsidePayload}
+use Rattle.bag_text.specs.declared.code.Code.TheVariants.{TagmanifestNamesPayload}
+use Rattle.bag_text.specs.declared.code.Code.TheVariants.{TagmanifestNamesTagmanifest, NamedAgain}
+use Rattle.bag_text.specs.declared.code.Code.TheVariants.{PayloadManifestNotListed}
 use Rattle.bag_read.specs.Manifest.{IsManifestFault}
 use Rattle.bag_read.specs.ManifestName.{manifest_name}
 use Rattle.bag_read.specs.declared.kind.Kind.{Kind}
@@ -19,7 +25,9 @@ use Rattle.bag_stages.specs.TagFiles.{manifest_of, HasManifest, HasSupported, Na
 module _ (bag : Bag) (f : Fault) where
   -- this is wrong with a line of a manifest
   abbrev pub InManifest : Type 0
-  InManifest = (kind : Kind) × (alg : Alg) × InFile bag f (manifest_of kind alg) (Some alg) (IsManifestFault (rules_in bag) kind alg)
+  InManifest =
+      (kind : Kind) × (alg : Alg)
+      × InFile bag f (manifest_of kind alg) (Some alg) (IsManifestFault (rules_in bag) kind alg)
 
   unfoldable pub ManifestHolds : Code → Type 0
   -- the form of a line (2.1.3)
@@ -32,10 +40,13 @@ module _ (bag : Bag) (f : Fault) where
   ManifestHolds TagmanifestNamesPayload = InManifest
   ManifestHolds TagmanifestNamesTagmanifest = InManifest
   ManifestHolds NamedAgain = InManifest
-  -- a tag manifest names the payload manifests that are there (2.2.1); the rules of 0.97 don't ask it
+  -- a tag manifest names the payload manifests that are there (2.2.1); the rules of 0.97 don't ask
+  -- it
   ManifestHolds PayloadManifestNotListed =
-      IsByV10 bag × (alg : Alg) × (other : List ℕ) × At f (manifest_of Tag alg) (Some alg) 0 (manifest_name Payload other)
-      × HasSupported bag Tag alg × HasManifest bag Payload other × ¬ (Names bag Tag alg (manifest_name Payload other))
+      IsByV10 bag × (alg : Alg) × (other : List ℕ)
+      × At f (manifest_of Tag alg) (Some alg) 0 (manifest_name Payload other)
+      × HasSupported bag Tag alg × HasManifest bag Payload other
+      × ¬ (Names bag Tag alg (manifest_name Payload other))
   -- codes of other stages
   ManifestHolds other = ⊥
 

@@ -12,12 +12,16 @@ use Rattle.bag_stages.specs.TagFiles.{lines_in}
 abbrev pub bag_info_txt : List ℕ
 bag_info_txt = tag_path Info
 
--- the elements of bag-info.txt that have a label, whatever its case: each, the first, and each later one
+-- the elements of bag-info.txt that have a label, whatever its case: each, the first, and each
+-- later one
 abbrev pub HasElement : Bag → List ℕ → Element → Type 0
-HasElement bag label e = IsElement (rules_in bag) (lines_in bag bag_info_txt) e × (same_label e.label label ≡ true)
+HasElement bag label e =
+    IsElement (rules_in bag) (lines_in bag bag_info_txt) e × (same_label e.label label ≡ true)
 
 abbrev pub HasFirst : Bag → List ℕ → Element → Type 0
-HasFirst bag label e = HasElement bag label e × ((d : Element) → HasElement bag label d → e.line ≤ d.line)
+HasFirst bag label e =
+    HasElement bag label e × ((d : Element) → HasElement bag label d → e.line ≤ d.line)
 
 abbrev pub HasLater : Bag → List ℕ → Element → Type 0
-HasLater bag label e = HasElement bag label e × ((d : Element) × HasElement bag label d × (d.line < e.line))
+HasLater bag label e =
+    HasElement bag label e × ((d : Element) × HasElement bag label d × (d.line < e.line))

@@ -2,7 +2,8 @@
 use Rattle.std.specs.Prelude.{ℕ, ◌≡◌, ◌≢◌, ◌++◌, List, [], None, Some, codes}
 use Rattle.bag_text.specs.Code.{stage}
 use Rattle.bag_text.specs.declared.code.Code.{Code}
-use Rattle.bag_text.specs.declared.code.Code.TheVariants.{InfoLine, OxumMalformed, OxumAgain, OxumDiffers, NoOxum}
+use Rattle.bag_text.specs.declared.code.Code.TheVariants.{InfoLine, OxumMalformed, OxumAgain}
+use Rattle.bag_text.specs.declared.code.Code.TheVariants.{OxumDiffers, NoOxum}
 use Rattle.bag_read.specs.Info.{IsInfoFault}
 use Rattle.bag_read.specs.Oxum.{oxum_of}
 use Rattle.bag_read.specs.declared.info.Element.{Element}
@@ -30,15 +31,19 @@ module _ (bag : Bag) (f : Fault) where
   MetadataHolds InfoLine = InFile bag f bag_info_txt None (IsInfoFault (rules_in bag))
   -- the first Payload-Oxum doesn't read
   MetadataHolds OxumMalformed =
-      (e : Element) × At f bag_info_txt None e.line e.value × HasFirst bag oxum_label e × (oxum_of e.value ≡ None)
+      (e : Element) × At f bag_info_txt None e.line e.value × HasFirst bag oxum_label e
+      × (oxum_of e.value ≡ None)
   -- there is a second one
-  MetadataHolds OxumAgain = (e : Element) × At f bag_info_txt None e.line e.value × HasLater bag oxum_label e
+  MetadataHolds OxumAgain =
+      (e : Element) × At f bag_info_txt None e.line e.value × HasLater bag oxum_label e
   -- the first one reads, and the payload has another size
   MetadataHolds OxumDiffers =
-      (e : Element) × (sums : Oxum) × At f bag_info_txt None e.line (pair e.value (oxum_text (oxum bag)))
+      (e : Element) × (sums : Oxum)
+      × At f bag_info_txt None e.line (pair e.value (oxum_text (oxum bag)))
       × HasFirst bag oxum_label e × (oxum_of e.value ≡ Some sums) × (sums ≢ oxum bag)
   -- there is none
-  MetadataHolds NoOxum = At f bag_info_txt None 0 [] × ((e : Element) → ¬ (HasElement bag oxum_label e))
+  MetadataHolds NoOxum =
+      At f bag_info_txt None 0 [] × ((e : Element) → ¬ (HasElement bag oxum_label e))
   -- codes of other stages
   MetadataHolds other = ⊥
 

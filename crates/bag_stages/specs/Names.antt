@@ -12,4 +12,5 @@ texts_of names = map (λ name. name.now) names
 
 -- a file of the payload, or a path that the payload manifest of one of these algorithms names
 abbrev pub IsNameOf : Bag → List Alg → List ℕ → Type 0
-IsNameOf bag algs path = IsPayloadFile bag path ⊎ ((alg : Alg) × Contains algs alg × Names bag Payload alg path)
+IsNameOf bag algs path = IsPayloadFile bag path
+    ⊎ ((alg : Alg) × Contains algs alg × Names bag Payload alg path)

@@ -1,8 +1,10 @@
 -- The faults of the elements of the label Payload-Oxum (RFC 8493, 2.2.2), of the payload's size.
-use Rattle.std.specs.Prelude.{ℕ, ◌==◌, ◌&&◌, Bool, List, [], ◌∷◌, ◌++◌, Option, None, Some, map, filter, if◌then◌else◌}
+use Rattle.std.specs.Prelude.{ℕ, ◌==◌, ◌&&◌, Bool, List, [], ◌∷◌, ◌++◌, Option, None, Some, map}
+use Rattle.std.specs.Prelude.{filter, if◌then◌else◌}
 use Rattle.bag_text.specs.Text.{same_label}
 use Rattle.bag_text.specs.declared.code.Code.{Code}
-use Rattle.bag_text.specs.declared.code.Code.TheVariants.{OxumMalformed, OxumAgain, OxumDiffers, NoOxum}
+use Rattle.bag_text.specs.declared.code.Code.TheVariants.{OxumMalformed, OxumAgain, OxumDiffers}
+use Rattle.bag_text.specs.declared.code.Code.TheVariants.{NoOxum}
 use Rattle.bag_read.specs.Oxum.{oxum_of}
 use Rattle.bag_read.specs.declared.info.Element.{Element}
 use Rattle.bag_read.specs.declared.oxum.Oxum.{Oxum}

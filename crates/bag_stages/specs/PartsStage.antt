@@ -3,7 +3,8 @@ use Rattle.std.specs.Prelude.{ℕ, ◌≡◌, false, List, [], None, codes}
 use Rattle.bag_text.specs.Alg.{alg_named}
 use Rattle.bag_text.specs.Code.{stage}
 use Rattle.bag_text.specs.declared.code.Code.{Code}
-use Rattle.bag_text.specs.declared.code.Code.TheVariants.{NoPayloadFolder, NoPayloadManifest, AlgorithmUnsupported, NotUtf8}
+use Rattle.bag_text.specs.declared.code.Code.TheVariants.{NoPayloadFolder, NoPayloadManifest}
+use Rattle.bag_text.specs.declared.code.Code.TheVariants.{AlgorithmUnsupported, NotUtf8}
 use Rattle.bag_read.specs.ManifestName.{manifest_name}
 use Rattle.bag_read.specs.declared.kind.Kind.{Kind}
 use Rattle.bag_read.specs.declared.kind.Kind.TheVariants.{Payload}
@@ -19,7 +20,8 @@ module _ (bag : Bag) (f : Fault) where
   -- there is no folder data (2.1.2)
   PartHolds NoPayloadFolder = At f [] None 0 [] × (has_folder bag (codes "data") ≡ false)
   -- there is no payload manifest, of any algorithm (2.1.3)
-  PartHolds NoPayloadManifest = At f [] None 0 [] × ((alg : List ℕ) → ¬ (HasManifest bag Payload alg))
+  PartHolds NoPayloadManifest =
+      At f [] None 0 [] × ((alg : List ℕ) → ¬ (HasManifest bag Payload alg))
   -- a manifest of an algorithm that isn't supported (2.4)
   PartHolds AlgorithmUnsupported =
       (kind : Kind) × (alg : List ℕ) × At f (manifest_name kind alg) None 0 alg

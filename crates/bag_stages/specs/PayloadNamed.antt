@@ -13,7 +13,8 @@ payload_paths paths = filter is_payload_path paths
 
 -- the rest of the names behind a path: it is the first of them, or no payload file's
 abbrev pub GoesOn : List (List ℕ) → List ℕ → List (List ℕ) → Type 0
-GoesOn names path rest = ((is_payload_path path ≡ true) × (names ≡ path ∷ rest)) ⊎ ((is_payload_path path ≡ false) × (rest ≡ names))
+GoesOn names path rest = ((is_payload_path path ≡ true) × (names ≡ path ∷ rest))
+    ⊎ ((is_payload_path path ≡ false) × (rest ≡ names))
 
 -- there is none: the path is a payload file's, and not the first of the names
 abbrev pub StopsAt : List (List ℕ) → List ℕ → Type 0

@@ -10,4 +10,8 @@ payload_entries files = filter (λ entry. is_payload_path entry.path) files
 
 -- their bytes, and their number
 abbrev pub listed_oxum : List FileEntry → Oxum
-listed_oxum files = record { octets = sum_by (λ entry. entry.size) (payload_entries files); streams = length (payload_entries files) }
+listed_oxum files =
+    record {
+      octets = sum_by (λ entry. entry.size) (payload_entries files);
+      streams = length (payload_entries files);
+    }

@@ -1,5 +1,6 @@
 -- The faults of a file whose digests aren't those that manifests give.
-use Rattle.std.specs.Prelude.{ℕ, ◌≡◌, List, Option, None, Some, Contains, bytes_eq, filter_map, if◌then◌else◌}
+use Rattle.std.specs.Prelude.{ℕ, ◌≡◌, List, Option, None, Some, Contains, bytes_eq, filter_map}
+use Rattle.std.specs.Prelude.{if◌then◌else◌}
 use Rattle.hex.specs.Hex.{encode_lower}
 use Rattle.bag_text.specs.declared.code.Code.{Code}
 use Rattle.bag_text.specs.declared.code.Code.TheVariants.{PayloadSumDiffers, TagSumDiffers}
@@ -20,12 +21,14 @@ differing_code Tag = TagSumDiffers
 -- the fault that a file's digest is this one, and not the expected one
 abbrev pub sum_differs : List ℕ → Expected → List ℕ → Fault
 sum_differs path expected found =
-    of_path (differing_code (kind_of path)) path (Some expected.alg) (expected_and_found (encode_lower expected.digest) found)
+    of_path (differing_code (kind_of path)) path (Some expected.alg)
+    (expected_and_found (encode_lower expected.digest) found)
 
 -- that fault of a file with these bytes, where its digest differs
 abbrev pub differing : List ℕ → List ℕ → Expected → Option Fault
 differing path content expected =
-    if bytes_eq (encode_lower expected.digest) (digest expected.alg content) then None else Some (sum_differs path expected (digest expected.alg content))
+    if bytes_eq (encode_lower expected.digest) (digest expected.alg content) then None
+    else Some (sum_differs path expected (digest expected.alg content))
 
 -- the faults of a file with these bytes, one for each digest that differs
 abbrev pub faults_of_bytes : List ℕ → List ℕ → List Expected → List Fault
@@ -33,4 +36,5 @@ faults_of_bytes path content expected = filter_map (differing path content) expe
 
 -- these are the digests of the bytes, by each algorithm by which one is expected
 abbrev pub AreSumsBy : List Expected → List ℕ → List (Option (List ℕ)) → Type 0
-AreSumsBy expected content sums = (one : Expected) → Contains expected one → sum_at sums one.alg ≡ Some (digest one.alg content)
+AreSumsBy expected content sums = (one : Expected) → Contains expected one
+    → sum_at sums one.alg ≡ Some (digest one.alg content)

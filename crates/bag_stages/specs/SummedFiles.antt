@@ -7,7 +7,8 @@ use Rattle.bag_read.specs.declared.kind.Kind.TheVariants.{Payload, Tag}
 use Rattle.bag_tree.specs.Bag.{Bag, HasFile}
 use Rattle.bag_stages.specs.TagFiles.{Names}
 
--- the kind of the manifests that may name a path: payload manifests name payload files, and tag manifests the others
+-- the kind of the manifests that may name a path: payload manifests name payload files, and tag
+-- manifests the others
 abbrev pub kind_of : List ℕ → Kind
 kind_of path = if is_payload_path path then Payload else Tag
 
@@ -21,4 +22,5 @@ IsSummed bag path = HasFile bag path × IsNamed bag path
 
 -- the law: only manifests of this kind name a path
 abbrev pub NamesByKind : Type 0
-NamesByKind = (bag : Bag) (kind : Kind) (alg : Alg) (path : List ℕ) → Names bag kind alg path → kind ≡ kind_of path
+NamesByKind = (bag : Bag) (kind : Kind) (alg : Alg) (path : List ℕ) → Names bag kind alg path
+    → kind ≡ kind_of path

@@ -49,4 +49,5 @@ IsRead path = (name : TagName) × (name ≢ Declaration) × (tag_path name ≡ p
 
 -- such a file that is there and isn't UTF-8
 abbrev pub HasNoText : Bag → List ℕ → Type 0
-HasNoText bag path = IsRead path × ((bytes : List ℕ) × (file bag path ≡ Some bytes) × IsNoText bytes)
+HasNoText bag path =
+    IsRead path × ((bytes : List ℕ) × (file bag path ≡ Some bytes) × IsNoText bytes)

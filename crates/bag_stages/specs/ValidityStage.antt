@@ -1,4 +1,5 @@
--- Stage 7: what keeps a complete bag from being valid (RFC 8493, 3): files whose digests aren't those that manifests give.
+-- Stage 7: what keeps a complete bag from being valid (RFC 8493, 3): files whose digests aren't
+-- those that manifests give.
 use Rattle.std.specs.Prelude.{ℕ, ◌≡◌, ◌≢◌, ◌++◌, List, Some, codes}
 use Rattle.bag_text.specs.Code.{stage}
 use Rattle.bag_text.specs.declared.alg.Alg.{Alg}
@@ -18,7 +19,8 @@ use Rattle.bag_stages.specs.TagFiles.{lines_in, manifest_of}
 
 -- the entry is one of the bag's manifest of this kind and algorithm, by the bag's rules
 abbrev pub IsEntryIn : Bag → Kind → Alg → ManifestEntry → Type 0
-IsEntryIn bag kind alg entry = IsEntry (rules_in bag) kind alg (lines_in bag (manifest_of kind alg)) entry
+IsEntryIn bag kind alg entry =
+    IsEntry (rules_in bag) kind alg (lines_in bag (manifest_of kind alg)) entry
 
 -- the digest that was expected, a colon, and the digest that was found
 abbrev pub expected_and_found : List ℕ → List ℕ → List ℕ
@@ -30,7 +32,8 @@ module _ (bag : Bag) (f : Fault) where
   abbrev pub Differs : Kind → Type 0
   Differs kind =
       (alg : Alg) × (entry : ManifestEntry) × (content : List ℕ)
-      × IsEntryIn bag kind alg entry × (file bag entry.path ≡ Some content) × (entry.digest ≢ digest alg content)
+      × IsEntryIn bag kind alg entry × (file bag entry.path ≡ Some content)
+      × (entry.digest ≢ digest alg content)
       × At f entry.path (Some alg) 0 (expected_and_found entry.digest (digest alg content))
 
   unfoldable pub ValidityHolds : Code → Type 0

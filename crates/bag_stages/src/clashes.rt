@@ -6,11 +6,11 @@ ghost use Rattle.std.specs.Str.{IsAscii};
 ghost use Rattle.bag_text.specs.Order.{IsListOf};
 ghost use Rattle.bag_text.specs.Text.{text_cmp};
 ghost use Rattle.bag_facts.specs.FaultOrder.{fault_cmp};
-ghost use Rattle.bag_facts.specs.Facts.{OfBag};
 ghost use Rattle.bag_stages.specs.Clashes.{nfc_of};
 ghost use Rattle.bag_stages.specs.ClashFaults.{first_of, first_with, name_clash, IsClashAmong};
 ghost use Rattle.bag_stages.specs.ClashStage.{IsClashFault};
 ghost use Rattle.bag_stages.specs.Names.{texts_of};
+ghost use Rattle.bag_stages.specs.Found.{AreFaultsOf};
 
 use crate::names::{in_order, payload_names};
 use bag_facts::{Facts, Fault};
@@ -21,7 +21,7 @@ use unicode_normalization::to_nfc;
 
 /// The faults that names of the payload aren't the least of those with their NFC form.
 pub(crate) fn clash_faults(alloc: Global, facts: &Facts) -> Result<Vec<Fault>, AllocError>
-    ensures { IfOk result (λ faults. OfBag facts.now (λ bag. IsListOf fault_cmp (IsClashFault bag) faults.items)) }
+    ensures { IfOk result (λ faults. AreFaultsOf facts.now IsClashFault faults.items) }
 {
     let names = payload_names(alloc, facts)?;
     if are_ascii(names.as_slice()) {
@@ -33,7 +33,8 @@ pub(crate) fn clash_faults(alloc: Global, facts: &Facts) -> Result<Vec<Fault>, A
 
 /// Whether all names are ASCII, so that each is its own NFC form.
 fn are_ascii(names: &[&str]) -> bool
-    ensures { IsTrue result ↔ ((name : List ℕ) → Contains (texts_of names.now) name → IsAscii name) }
+    ensures { IsTrue result
+        ↔ ((name : List ℕ) → Contains (texts_of names.now) name → IsAscii name) }
 {
     for name in names {
         if !name.is_ascii() {
@@ -58,14 +59,17 @@ fn clashes_among(alloc: Global, names: &[&str]) -> Result<Vec<Fault>, AllocError
     Ok(faults)
 }
 
-/// The fault of a name whose form an earlier name has. A name without one is the first of its form from now on.
+/// The fault of a name whose form an earlier name has. A name without one is the first of its form
+/// from now on.
 fn clash_of<'a>(
     alloc: Global,
     firsts: &mut HashMap<String, &'a str>,
     name: &'a str,
 ) -> Result<Option<Fault>, AllocError>
-    ensures fault { IfOk result (λ fault. fault ≡ option_map (name_clash name.now) (first_of firsts.old (nfc_of name.now))) }
-    ensures firsts { OnOk result ((form : List ℕ) → first_of firsts.new form ≡ first_with (first_of firsts.old form) name.now form) }
+    ensures fault { IfOk result (λ fault.
+        fault ≡ option_map (name_clash name.now) (first_of firsts.old (nfc_of name.now))) }
+    ensures firsts { OnOk result ((form : List ℕ)
+        → first_of firsts.new form ≡ first_with (first_of firsts.old form) name.now form) }
 {
     let form = nfc_form(alloc, name)?;
     if let Some(first) = firsts.get(form.as_str()) {

@@ -1,23 +1,22 @@
 //! Stage 6: completeness, and clashes of names.
-ghost use Rattle.std.specs.Prelude.{◌≡◌, IfOk};
-ghost use Rattle.bag_text.specs.Order.{IsListOf};
-ghost use Rattle.bag_facts.specs.FaultOrder.{fault_cmp};
-ghost use Rattle.bag_facts.specs.Facts.{OfBag};
+ghost use Rattle.std.specs.Prelude.{IfOk};
 ghost use Rattle.bag_stages.specs.ClashStage.{IsSoughtClash};
-ghost use Rattle.bag_stages.specs.CompletenessFaults.{HasEachOnce, IsIncomplete};
+ghost use Rattle.bag_stages.specs.CompletenessFaults.{IsIncomplete};
 ghost use Rattle.bag_stages.specs.CompletenessStage.{IsSoughtInStageSix};
+ghost use Rattle.bag_stages.specs.Found.{AreFaultsOf, AreEachOnceOf};
 
 use crate::clashes::clash_faults;
+use crate::left_out::left_out_by_all;
 use crate::missing::missing_tag_files;
 use crate::payload_named::payload_faults;
-use crate::unnamed::unlisted_in_all;
 use bag_facts::{Facts, Fault};
 use std::alloc::{AllocError, Global};
 
-/// The faults of completeness (RFC 8493, 3), of facts read for more than the declaration, and where the options ask for
-/// them the clashes of names. Fails only where memory runs out.
+/// The faults of completeness (RFC 8493, 3), of facts read for more than the declaration, and where
+/// the options ask for them the clashes of names. Fails only where memory runs out.
 pub fn completeness_faults(alloc: Global, facts: &Facts) -> Result<Vec<Fault>, AllocError>
-    ensures { IfOk result (λ faults. OfBag facts.now (λ bag. IsListOf fault_cmp (IsSoughtInStageSix facts.now.options.clashes bag) faults.items)) }
+    ensures { IfOk result (λ faults.
+        AreFaultsOf facts.now (IsSoughtInStageSix facts.now.options.clashes) faults.items) }
 {
     let mut faults = faults_of_files(alloc, facts)?;
     let mut of_names = clashes_asked(alloc, facts)?;
@@ -26,22 +25,24 @@ pub fn completeness_faults(alloc: Global, facts: &Facts) -> Result<Vec<Fault>, A
     Ok(faults)
 }
 
-/// The faults that files are missing or aren't listed, one manifest after another, and last those of all payload manifests.
+/// The faults that files are missing or aren't listed, one manifest after another, and last those
+/// of all payload manifests.
 fn faults_of_files(alloc: Global, facts: &Facts) -> Result<Vec<Fault>, AllocError>
-    ensures { IfOk result (λ faults. OfBag facts.now (λ bag. HasEachOnce (IsIncomplete bag) faults.items)) }
+    ensures { IfOk result (λ faults. AreEachOnceOf facts.now IsIncomplete faults.items) }
 {
     let mut faults = payload_faults(alloc, facts)?;
     let mut of_tags = missing_tag_files(alloc, facts)?;
     faults.append(&mut of_tags)?;
-    let mut of_all = unlisted_in_all(alloc, facts)?;
+    let mut of_all = left_out_by_all(alloc, facts)?;
     faults.append(&mut of_all)?;
     Ok(faults)
 }
 
-/// The clashes of names where the options ask for them, and else none, in the order of their paths. The facts are read for more
-/// than the declaration. Fails only where memory runs out.
+/// The clashes of names where the options ask for them, and else none, in the order of their paths.
+/// The facts are read for more than the declaration. Fails only where memory runs out.
 pub fn clashes_asked(alloc: Global, facts: &Facts) -> Result<Vec<Fault>, AllocError>
-    ensures { IfOk result (λ faults. OfBag facts.now (λ bag. IsListOf fault_cmp (IsSoughtClash facts.now.options.clashes bag) faults.items)) }
+    ensures { IfOk result (λ faults.
+        AreFaultsOf facts.now (IsSoughtClash facts.now.options.clashes) faults.items) }
 {
     let is_asked = facts.options.clashes;
     if is_asked {

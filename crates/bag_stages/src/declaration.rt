@@ -14,7 +14,8 @@ use std::alloc::{AllocError, Global};
 
 /// The faults of `bagit.txt` (RFC 8493, 2.1.1). Fails only where memory runs out.
 pub fn declaration_faults(alloc: Global, facts: &Facts) -> Result<Vec<Fault>, AllocError>
-    ensures { IfOk result (λ faults. (bag : Bag) → IsFactsOf bag facts.now → IsListOf fault_cmp (IsOfDeclaration bag) faults.items) }
+    ensures { IfOk result (λ faults. (bag : Bag) → IsFactsOf bag facts.now
+        → IsListOf fault_cmp (IsOfDeclaration bag) faults.items) }
 {
     let path = TagName::Declaration.path(alloc)?;
     match facts.declaration() {

@@ -26,19 +26,23 @@ pub struct Expected {
     pub digest: GivenDigest,
 }
 
-/// The digests that manifests give for a file (RFC 8493, 2.1.3 and 2.2.1), in the order of their algorithms, of facts read for
-/// more than the declaration: none exactly where no manifest names it. A manifest that names it at the place where it is looked
-/// for first is not searched, and each other takes time log n of its entries. For one file after another in path order, hand
-/// over the places that the call before left.
+/// The digests that manifests give for a file (RFC 8493, 2.1.3 and 2.2.1), in the order of their
+/// algorithms, of facts read for more than the declaration: none exactly where no manifest names
+/// it. A manifest that names it at the place where it is looked for first is not searched, and each
+/// other takes time log n of its entries. For one file after another in path order, hand over the
+/// places that the call before left.
 pub fn expected_of(
     alloc: Global,
     facts: &Facts,
     path: &Text,
     places: &mut Places,
 ) -> Result<Items<Expected>, AllocError>
-    ensures algs { IfOk result (λ expected. OfBag facts.now (λ bag. AreNaming bag path.now (map (λ one. one.alg) expected))) }
-    ensures faults { IfOk result (λ expected. OfBag facts.now (λ bag. (content : List ℕ) → file bag path.now ≡ Some content
-        → IsListOf fault_cmp (IsFaultOfFile bag path.now) (faults_of_bytes path.now content expected))) }
+    ensures algs { IfOk result (λ expected.
+        OfBag facts.now (λ bag. AreNaming bag path.now (map (λ one. one.alg) expected))) }
+    ensures faults { IfOk result (λ expected.
+        OfBag facts.now (λ bag. (content : List ℕ) → file bag path.now ≡ Some content
+        → IsListOf fault_cmp (IsFaultOfFile bag path.now)
+        (faults_of_bytes path.now content expected))) }
     ensures count { IfOk result (λ expected. places.new.count ≡ length expected) }
 {
     let kind = kind_of(path.as_str());
@@ -71,14 +75,15 @@ fn expected_by(
     Some(Expected { alg, digest })
 }
 
-/// The entry of a path among entries in the order of their paths. It is looked for at a place first, and then by a search; the
-/// place is left behind it.
+/// The entry of a path among entries in the order of their paths. It is looked for at a place
+/// first, and then by a search; the place is left behind it.
 fn entry_near<'a>(
     entries: &'a [ManifestEntry],
     path: &Text,
     place: &mut usize,
 ) -> Option<&'a ManifestEntry>
-    ensures { AreByPath entries.now → MatchOption (option_copied result) (¬ (Contains (entry_paths entries.now) path.now))
+    ensures { AreByPath entries.now → MatchOption (option_copied result)
+        (¬ (Contains (entry_paths entries.now) path.now))
         (λ entry. Contains entries.now entry × (entry.path ≡ path.now)) }
 {
     if let Some(entry) = entries.get(*place) {

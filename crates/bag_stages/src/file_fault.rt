@@ -6,7 +6,8 @@ use bag_facts::Fault;
 use bag_text::{Alg, Code, Text};
 use std::alloc::{AllocError, Global};
 
-/// The fault of a file that the manifest of an algorithm is wrong about, or all where no algorithm is told.
+/// The fault of a file that the manifest of an algorithm is wrong about, or all where no algorithm
+/// is told.
 pub(crate) fn file_fault(
     alloc: Global,
     code: Code,

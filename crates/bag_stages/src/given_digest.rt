@@ -6,7 +6,8 @@ use std::marker::Model;
 /// How many bytes the longest digest has.
 const MOST_BYTES: usize = 64;
 
-/// The bytes of a digest that a manifest gives, seen by contracts as their list. They take no memory beside their own.
+/// The bytes of a digest that a manifest gives, seen by contracts as their list. They take no
+/// memory beside their own.
 #[derive(Debug, Drop)]
 pub struct GivenDigest {
     count: u8,

@@ -7,15 +7,16 @@
 //! }
 //! ```
 //!
-//! Of RFC 8493 it keeps the declaration (2.1.1), the parts of a bag (2.1, 2.3 and 2.4), the metadata and the payload's
-//! size in it (2.2.2), the list of files to fetch (2.2.3), manifests whose lines are right (2.1.3, 2.2.1), and complete and
-//! valid bags (3). The module of a stage finds its faults, and the page of `specs` with its name and `Stage` says what they
-//! are; of the seventh `sum_faults` and `ValidityStage`. No file is opened: the stage of digests takes those of one file after
-//! the other.
+//! Of RFC 8493 it keeps the declaration (2.1.1), the parts of a bag (2.1, 2.3 and 2.4), the
+//! metadata and the payload's size in it (2.2.2), the list of files to fetch (2.2.3), manifests
+//! whose lines are right (2.1.3, 2.2.1), and complete and valid bags (3). The module of a stage
+//! finds its faults, and the page of `specs` with its name and `Stage` says what they are; of the
+//! seventh `sum_faults` and `ValidityStage`. No file is opened: the stage of digests takes those of
+//! one file after the other.
 //!
-//! Each stage's faults are found exactly. Only clashes of names depend on an option, and only stage 1 can do with facts of
-//! the declaration alone. The algorithms whose manifests name a file are exactly the expected ones, and of its digests
-//! the seventh stage's faults are found exactly.
+//! Each stage's faults are found exactly. Only clashes of names depend on an option, and only stage
+//! 1 can do with facts of the declaration alone. The algorithms whose manifests name a file are
+//! exactly the expected ones, and of its digests the seventh stage's faults are found exactly.
 #![tactic(auto)]
 
 mod clashes;
@@ -26,6 +27,7 @@ mod fetch;
 mod file_fault;
 mod given_digest;
 pub mod laws;
+mod left_out;
 mod manifests;
 mod metadata;
 mod missing;
@@ -39,14 +41,13 @@ mod places;
 mod seek;
 mod sum_faults;
 mod tag_file;
-mod unlisted;
-mod unnamed;
 
 pub use completeness::{clashes_asked, completeness_faults};
 pub use declaration::declaration_faults;
 pub use expected::{Expected, expected_of};
 pub use fetch::fetch_faults;
 pub use given_digest::GivenDigest;
+pub use left_out::{left_out_by_all, left_out_by_one};
 pub use manifests::manifest_faults;
 pub use metadata::metadata_faults;
 pub use missing::missing_of;
@@ -54,5 +55,3 @@ pub use parts::parts_faults;
 pub use payload_named::is_exact;
 pub use places::Places;
 pub use sum_faults::faults_by;
-pub use unlisted::unlisted_of;
-pub use unnamed::unlisted_in_all;

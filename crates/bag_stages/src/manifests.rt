@@ -5,12 +5,14 @@ ghost use Rattle.bag_text.specs.Order.{IsListOf, IsOnly};
 ghost use Rattle.bag_text.specs.Text.{text_cmp};
 ghost use Rattle.bag_tree.specs.Bag.{Bag};
 ghost use Rattle.bag_facts.specs.FaultOrder.{fault_cmp};
-ghost use Rattle.bag_facts.specs.Facts.{IsFactsOf, IsSaid, OfBag};
+ghost use Rattle.bag_facts.specs.Facts.{IsFactsOf, IsSaid};
 ghost use Rattle.bag_facts.specs.TagFacts.{AreByPath};
 ghost use Rattle.bag_facts.specs.Wanted.{paths_of};
 ghost use Rattle.bag_facts.specs.declared.tag_facts.TagFacts.TheVariants as known;
-ghost use Rattle.bag_stages.specs.ManifestFaults.{unnamed, IsAskedUnnamed, IsUnnamedFault, IsUnnamedAmong, IsOfManifest};
+ghost use Rattle.bag_stages.specs.ManifestFaults.{unnamed, IsAskedUnnamed, IsUnnamedFault};
+ghost use Rattle.bag_stages.specs.ManifestFaults.{IsUnnamedAmong, IsOfManifest};
 ghost use Rattle.bag_stages.specs.ManifestsStage.{IsOfManifests};
+ghost use Rattle.bag_stages.specs.Found.{AreFaultsOf};
 
 use crate::tag_file::line_faults;
 use bag_facts::{Facts, Fault, Manifest, TagFacts};
@@ -19,10 +21,10 @@ use bag_text::{Code, Rules, Text};
 use bag_tree::FileEntry;
 use std::alloc::{AllocError, Global};
 
-/// The faults of manifests (RFC 8493, 2.1.3 and 2.2.1), of facts read for more than the declaration. Fails only where
-/// memory runs out.
+/// The faults of manifests (RFC 8493, 2.1.3 and 2.2.1), of facts read for more than the
+/// declaration. Fails only where memory runs out.
 pub fn manifest_faults(alloc: Global, facts: &Facts) -> Result<Vec<Fault>, AllocError>
-    ensures { IfOk result (λ faults. OfBag facts.now (λ bag. IsListOf fault_cmp (IsOfManifests bag) faults.items)) }
+    ensures { IfOk result (λ faults. AreFaultsOf facts.now IsOfManifests faults.items) }
 {
     let mut faults = Vec::new(alloc);
     for tag in facts.tags.as_slice() {
@@ -36,7 +38,8 @@ pub fn manifest_faults(alloc: Global, facts: &Facts) -> Result<Vec<Fault>, Alloc
 
 /// The faults of one manifest: what it doesn't name stands before the faults of its lines.
 fn faults_of(alloc: Global, facts: &Facts, manifest: &Manifest) -> Result<Vec<Fault>, AllocError>
-    ensures { IfOk result (λ faults. (bag : Bag) → IsFactsOf bag facts.now → IsSaid bag (known.Manifest manifest.now)
+    ensures { IfOk result (λ faults. (bag : Bag) → IsFactsOf bag facts.now
+        → IsSaid bag (known.Manifest manifest.now)
         → IsListOf fault_cmp (IsOfManifest bag manifest.now.kind manifest.now.alg) faults.items) }
 {
     let path = TagName::Manifest(manifest.kind, manifest.alg).path(alloc)?;
@@ -57,15 +60,19 @@ fn faults_of(alloc: Global, facts: &Facts, manifest: &Manifest) -> Result<Vec<Fa
     }
 }
 
-/// The listed payload manifests that the rules ask a tag manifest to name, and that it doesn't: those of 0.97 ask for none.
+/// The listed payload manifests that the rules ask a tag manifest to name, and that it doesn't:
+/// those of 0.97 ask for none.
 fn asked_unnamed(
     alloc: Global,
     facts: &Facts,
     path: &Text,
     manifest: &Manifest,
 ) -> Result<Vec<Fault>, AllocError>
-    ensures { IfOk result (λ faults. (bag : Bag) → IsFactsOf bag facts.now → AreByPath manifest.now.entries
-        → IsListOf fault_cmp (IsAskedUnnamed bag path.now manifest.now.alg manifest.now.entries (paths_of facts.now.listing.files)) faults.items) }
+    ensures { IfOk result (λ faults. (bag : Bag) → IsFactsOf bag facts.now
+        → AreByPath manifest.now.entries → IsListOf fault_cmp
+        (IsAskedUnnamed bag path.now manifest.now.alg manifest.now.entries
+        (paths_of facts.now.listing.files))
+        faults.items) }
 {
     match facts.rules() {
         Rules::V10 => unnamed_faults(alloc, facts.files(), path, manifest),
@@ -80,8 +87,10 @@ fn unnamed_faults(
     path: &Text,
     manifest: &Manifest,
 ) -> Result<Vec<Fault>, AllocError>
-    ensures { IfOk result (λ faults. AreByPath manifest.now.entries → IsStrictlySortedBy text_cmp (paths_of files.now)
-        → IsListOf fault_cmp (IsUnnamedAmong path.now manifest.now.alg manifest.now.entries (paths_of files.now)) faults.items) }
+    ensures { IfOk result (λ faults. AreByPath manifest.now.entries
+        → IsStrictlySortedBy text_cmp (paths_of files.now) → IsListOf fault_cmp
+        (IsUnnamedAmong path.now manifest.now.alg manifest.now.entries (paths_of files.now))
+        faults.items) }
 {
     let mut faults = Vec::new(alloc);
     for entry in files {
@@ -100,7 +109,8 @@ fn unnamed_fault(
     file: &Text,
 ) -> Result<Option<Fault>, AllocError>
     ensures { IfOk result (λ fault. AreByPath manifest.now.entries
-        → IsOnly (λ f. (f.detail ≡ file.now) × IsUnnamedFault path.now manifest.now.alg manifest.now.entries f) fault) }
+        → IsOnly (λ f. (f.detail ≡ file.now)
+        × IsUnnamedFault path.now manifest.now.alg manifest.now.entries f) fault) }
 {
     if manifest_alg(Kind::Payload, file.as_str()).is_none() || manifest.names(file) {
         return Ok(None);

@@ -3,12 +3,13 @@ ghost use Rattle.std.specs.Prelude.{◌≡◌, IfOk};
 ghost use Rattle.bag_text.specs.Order.{IsListOf};
 ghost use Rattle.bag_tree.specs.Bag.{Bag};
 ghost use Rattle.bag_facts.specs.FaultOrder.{fault_cmp};
-ghost use Rattle.bag_facts.specs.Facts.{OfBag, IsSaid};
+ghost use Rattle.bag_facts.specs.Facts.{IsSaid};
 ghost use Rattle.bag_facts.specs.declared.tag_facts.TagFacts.TheVariants as known;
 ghost use Rattle.bag_stages.specs.Metadata.{bag_info_txt};
 ghost use Rattle.bag_stages.specs.MetadataStage.{IsOfMetadata};
 ghost use Rattle.bag_stages.specs.Payload.{oxum};
 ghost use Rattle.bag_stages.specs.PayloadSize.{listed_oxum};
+ghost use Rattle.bag_stages.specs.Found.{AreFaultsOf};
 
 use crate::oxum_faults::{no_oxum, oxum_faults};
 use crate::tag_file::line_faults;
@@ -18,10 +19,11 @@ use bag_text::Text;
 use bag_tree::FileEntry;
 use std::alloc::{AllocError, Global};
 
-/// The faults of `bag-info.txt` and of the payload's size in it (RFC 8493, 2.2.2), of facts read for more than the
-/// declaration. That no `Payload-Oxum` is there is one of them. Fails only where memory runs out.
+/// The faults of `bag-info.txt` and of the payload's size in it (RFC 8493, 2.2.2), of facts read
+/// for more than the declaration. That no `Payload-Oxum` is there is one of them. Fails only where
+/// memory runs out.
 pub fn metadata_faults(alloc: Global, facts: &Facts) -> Result<Vec<Fault>, AllocError>
-    ensures { IfOk result (λ faults. OfBag facts.now (λ bag. IsListOf fault_cmp (IsOfMetadata bag) faults.items)) }
+    ensures { IfOk result (λ faults. AreFaultsOf facts.now IsOfMetadata faults.items) }
 {
     let path = TagName::Info.path(alloc)?;
     match facts.metadata() {
@@ -30,15 +32,17 @@ pub fn metadata_faults(alloc: Global, facts: &Facts) -> Result<Vec<Fault>, Alloc
     }
 }
 
-/// The faults of metadata that is there: those of its elements and of its lines stand in line order.
+/// The faults of metadata that is there: those of its elements and of its lines stand in line
+/// order.
 fn faults_of(
     alloc: Global,
     path: &Text,
     metadata: &Metadata,
     files: &[FileEntry],
 ) -> Result<Vec<Fault>, AllocError>
-    ensures { IfOk result (λ faults. (bag : Bag) → path.now ≡ bag_info_txt → listed_oxum files.now ≡ oxum bag
-        → IsSaid bag (known.Info metadata.now) → IsListOf fault_cmp (IsOfMetadata bag) faults.items) }
+    ensures { IfOk result (λ faults. (bag : Bag) → path.now ≡ bag_info_txt
+        → listed_oxum files.now ≡ oxum bag → IsSaid bag (known.Info metadata.now)
+        → IsListOf fault_cmp (IsOfMetadata bag) faults.items) }
 {
     let mut faults = oxum_faults(alloc, path, metadata.elements.as_slice(), files)?;
     let mut of_lines = line_faults(

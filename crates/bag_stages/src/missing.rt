@@ -1,14 +1,15 @@
 //! Files that manifests name and that aren't there.
-ghost use Rattle.std.specs.Prelude.{◌≡◌, IfOk, Contains, Some};
+ghost use Rattle.std.specs.Prelude.{◌≡◌, IfOk, Some};
 ghost use Rattle.std.specs.List.Sorted.{IsStrictlySortedBy};
 ghost use Rattle.bag_text.specs.Order.{IsListOf};
 ghost use Rattle.bag_text.specs.Text.{text_cmp};
 ghost use Rattle.bag_read.specs.declared.kind.Kind.TheVariants.{Tag};
 ghost use Rattle.bag_facts.specs.FaultOrder.{fault_cmp};
-ghost use Rattle.bag_facts.specs.Facts.{OfBag};
-ghost use Rattle.bag_facts.specs.TagFacts.{entry_paths, AreByPath};
+ghost use Rattle.bag_facts.specs.TagFacts.{AreByPath};
 ghost use Rattle.bag_facts.specs.Wanted.{paths_of};
-ghost use Rattle.bag_stages.specs.CompletenessFaults.{missing_code, HasEachOnce, IsMissing, IsMissingFromSome, IsOfPathAmong};
+ghost use Rattle.bag_stages.specs.CompletenessFaults.{missing_code, IsMissing};
+ghost use Rattle.bag_stages.specs.CompletenessFaults.{IsMissingFromSome, IsMissingAmong};
+ghost use Rattle.bag_stages.specs.Found.{AreFaultsOf, AreEachOnceOf};
 
 use crate::file_fault::file_fault;
 use crate::seek::seek;
@@ -20,7 +21,8 @@ use std::alloc::{AllocError, Global};
 
 /// The faults that tag manifests name files that aren't there, one manifest after another.
 pub(crate) fn missing_tag_files(alloc: Global, facts: &Facts) -> Result<Vec<Fault>, AllocError>
-    ensures { IfOk result (λ faults. OfBag facts.now (λ bag. HasEachOnce (IsMissingFromSome bag Tag) faults.items)) }
+    ensures { IfOk result (λ faults.
+        AreEachOnceOf facts.now (λ bag. IsMissingFromSome bag Tag) faults.items) }
 {
     let mut faults = Vec::new(alloc);
     for alg in Alg::ALL {
@@ -30,15 +32,17 @@ pub(crate) fn missing_tag_files(alloc: Global, facts: &Facts) -> Result<Vec<Faul
     Ok(faults)
 }
 
-/// The faults that the manifest of an algorithm names files that aren't there, where it is there itself, in the order of their
-/// paths. The facts are read for more than the declaration. Fails only where memory runs out.
+/// The faults that the manifest of an algorithm names files that aren't there, where it is there
+/// itself, in the order of their paths. The facts are read for more than the declaration. Fails
+/// only where memory runs out.
 pub fn missing_of(
     alloc: Global,
     facts: &Facts,
     kind: Kind,
     alg: Alg,
 ) -> Result<Vec<Fault>, AllocError>
-    ensures { IfOk result (λ faults. OfBag facts.now (λ bag. IsListOf fault_cmp (IsMissing bag kind alg) faults.items)) }
+    ensures { IfOk result (λ faults.
+        AreFaultsOf facts.now (λ bag. IsMissing bag kind alg) faults.items) }
 {
     let code = missing_code(kind);
     let files = facts.listing.files.as_slice();
@@ -56,8 +60,9 @@ fn missing_in(
     entries: &[ManifestEntry],
     files: &[FileEntry],
 ) -> Result<Vec<Fault>, AllocError>
-    ensures { IfOk result (λ faults. AreByPath entries.now → IsStrictlySortedBy text_cmp (paths_of files.now)
-        → IsListOf fault_cmp (IsOfPathAmong code (Some alg) (λ path. ¬ (Contains (paths_of files.now) path)) (entry_paths entries.now)) faults.items) }
+    ensures { IfOk result (λ faults. AreByPath entries.now
+        → IsStrictlySortedBy text_cmp (paths_of files.now)
+        → IsListOf fault_cmp (IsMissingAmong code alg entries.now files.now) faults.items) }
 {
     let mut faults = Vec::new(alloc);
     let mut rest = files;

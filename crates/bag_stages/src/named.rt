@@ -9,7 +9,8 @@ use bag_facts::Facts;
 use bag_read::Kind;
 use bag_text::{Alg, Text};
 
-/// Whether some payload manifest names a path, of facts read for more than the declaration. Takes no memory.
+/// Whether some payload manifest names a path, of facts read for more than the declaration. Takes
+/// no memory.
 pub(crate) fn is_named(facts: &Facts, path: &Text) -> bool
     ensures named { OfBag facts.now (λ bag. IsTrue result → IsNamedBySome bag path.now) }
     ensures unnamed { OfBag facts.now (λ bag. IsNamedBySome bag path.now → IsTrue result) }

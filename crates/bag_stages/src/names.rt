@@ -18,9 +18,11 @@ use bag_text::{Alg, is_payload};
 use bag_tree::FileEntry;
 use std::alloc::{AllocError, Global};
 
-/// The paths of the payload's files, and those that payload manifests name, in no order, and some of them more than once.
+/// The paths of the payload's files, and those that payload manifests name, in no order, and some
+/// of them more than once.
 pub(crate) fn payload_names(alloc: Global, facts: &Facts) -> Result<Vec<&str>, AllocError>
-    ensures { IfOk result (λ names. OfBag facts.now (λ bag. (path : List ℕ) → Contains (texts_of names.items) path ↔ IsPayloadName bag path)) }
+    ensures { IfOk result (λ names. OfBag facts.now (λ bag.
+        (path : List ℕ) → Contains (texts_of names.items) path ↔ IsPayloadName bag path)) }
 {
     let mut names = payload_files(alloc, facts.listing.files.as_slice())?;
     for alg in Alg::ALL {
@@ -31,7 +33,8 @@ pub(crate) fn payload_names(alloc: Global, facts: &Facts) -> Result<Vec<&str>, A
 
 /// The names in the order of their bytes, each once.
 pub(crate) fn in_order(mut names: Vec<&str>) -> Result<Vec<&str>, AllocError>
-    ensures { IfOk result (λ sorted. IsListOf text_cmp (Contains (texts_of names.entry.items)) (texts_of sorted.items)) }
+    ensures { IfOk result (λ sorted.
+        IsListOf text_cmp (Contains (texts_of names.entry.items)) (texts_of sorted.items)) }
 {
     names.sort()?;
     names.dedup();
@@ -40,7 +43,8 @@ pub(crate) fn in_order(mut names: Vec<&str>) -> Result<Vec<&str>, AllocError>
 
 /// The paths of those files that are of the payload.
 fn payload_files(alloc: Global, files: &[FileEntry]) -> Result<Vec<&str>, AllocError>
-    ensures { IfOk result (λ names. texts_of names.items ≡ filter is_payload_path (paths_of files.now)) }
+    ensures { IfOk result (λ names.
+        texts_of names.items ≡ filter is_payload_path (paths_of files.now)) }
 {
     let mut names = Vec::new(alloc);
     for entry in files {
@@ -55,7 +59,8 @@ fn payload_files(alloc: Global, files: &[FileEntry]) -> Result<Vec<&str>, AllocE
 /// Adds the paths that the payload manifest of an algorithm names, where it is there.
 fn push_named<'a>(names: &mut Vec<&'a str>, facts: &'a Facts, alg: Alg) -> Result<(), AllocError>
     ensures { OnOk result (OfBag facts.now (λ bag.
-        (path : List ℕ) → Contains (texts_of names.new.items) path ↔ (Contains (texts_of names.old.items) path ⊎ Names bag Payload alg path))) }
+        (path : List ℕ) → Contains (texts_of names.new.items) path
+        ↔ (Contains (texts_of names.old.items) path ⊎ Names bag Payload alg path))) }
 {
     match facts.manifest(Kind::Payload, alg) {
         Some(manifest) => push_paths(names, manifest.entries.as_slice()),
@@ -65,7 +70,8 @@ fn push_named<'a>(names: &mut Vec<&'a str>, facts: &'a Facts, alg: Alg) -> Resul
 
 /// Adds the paths of entries.
 fn push_paths<'a>(names: &mut Vec<&'a str>, entries: &'a [ManifestEntry]) -> Result<(), AllocError>
-    ensures { OnOk result (texts_of names.new.items ≡ texts_of names.old.items ++ entry_paths entries.now) }
+    ensures { OnOk result
+        (texts_of names.new.items ≡ texts_of names.old.items ++ entry_paths entries.now) }
 {
     for entry in entries {
         names.push(entry.path.as_str())?;

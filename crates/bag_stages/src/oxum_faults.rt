@@ -11,15 +11,16 @@ use bag_text::{Code, Text, same_label};
 use bag_tree::FileEntry;
 use std::alloc::{AllocError, Global};
 
-/// The faults of the elements that tell the payload's size (RFC 8493, 2.2.2), where the payload is among these files: the
-/// first of them counts, and there should be no other.
+/// The faults of the elements that tell the payload's size (RFC 8493, 2.2.2), where the payload is
+/// among these files: the first of them counts, and there should be no other.
 pub(crate) fn oxum_faults(
     alloc: Global,
     path: &Text,
     elements: &[Element],
     files: &[FileEntry],
 ) -> Result<Vec<Fault>, AllocError>
-    ensures { IfOk result (λ faults. faults.items ≡ told.oxum_faults path.now (listed_oxum files.now) (told.oxums elements.now)) }
+    ensures { IfOk result (λ faults. faults.items
+        ≡ told.oxum_faults path.now (listed_oxum files.now) (told.oxums elements.now)) }
 {
     let Some(at) = first_oxum(elements) else {
         return no_oxum(alloc, path);
@@ -58,7 +59,8 @@ fn first_faults(
     element: &Element,
     files: &[FileEntry],
 ) -> Result<Vec<Fault>, AllocError>
-    ensures { IfOk result (λ faults. faults.items ≡ told.first_faults path.now (listed_oxum files.now) element.now) }
+    ensures { IfOk result (λ faults. faults.items
+        ≡ told.first_faults path.now (listed_oxum files.now) element.now) }
 {
     let Some(size) = oxum_of(element.value.as_str()) else {
         return Ok(vec![in alloc; value_fault(alloc, Code::OxumMalformed, path, element)?]?);
@@ -72,7 +74,8 @@ fn first_faults(
 
 /// The faults of the later elements that tell the payload's size.
 fn later_faults(alloc: Global, path: &Text, elements: &[Element]) -> Result<Vec<Fault>, AllocError>
-    ensures { IfOk result (λ faults. faults.items ≡ map (told.again path.now) (told.oxums elements.now)) }
+    ensures { IfOk result (λ faults.
+        faults.items ≡ map (told.again path.now) (told.oxums elements.now)) }
 {
     let mut faults = Vec::new(alloc);
     for element in elements {
@@ -90,7 +93,8 @@ fn value_fault(
     path: &Text,
     element: &Element,
 ) -> Result<Fault, AllocError>
-    ensures { IfOk result (λ fault. fault ≡ told.of_element path.now code element.now element.now.value) }
+    ensures { IfOk result (λ fault.
+        fault ≡ told.of_element path.now code element.now element.now.value) }
 {
     let detail = element.value.copy(alloc)?;
     Ok(Fault::of_line(code, path.copy(alloc)?, None, element.line, detail))

@@ -1,5 +1,6 @@
 //! Stage 2: the parts of a bag.
-ghost use Rattle.std.specs.Prelude.{◌≡◌, ◌≢◌, ◌∷◌, ◌++◌, ◌↔◌, ℕ, List, [], IsTrue, IfOk, MatchOption, if◌then◌else◌};
+ghost use Rattle.std.specs.Prelude.{◌≡◌, ◌≢◌, ◌∷◌, ◌++◌, ◌↔◌, ℕ, List, [], IsTrue, IfOk};
+ghost use Rattle.std.specs.Prelude.{MatchOption, if◌then◌else◌};
 ghost use Rattle.std.specs.List.Sorted.{IsStrictlySortedBy};
 ghost use Rattle.bag_text.specs.Order.{IsListOf, IsOnly};
 ghost use Rattle.bag_text.specs.Text.{text_cmp};
@@ -8,12 +9,13 @@ ghost use Rattle.bag_read.specs.ManifestName.{is_alg_text, manifest_name};
 ghost use Rattle.bag_read.specs.declared.kind.Kind.{Kind};
 ghost use Rattle.bag_tree.specs.Bag.{Bag};
 ghost use Rattle.bag_facts.specs.FaultOrder.{fault_cmp};
-ghost use Rattle.bag_facts.specs.Facts.{OfBag};
 ghost use Rattle.bag_facts.specs.Wanted.{paths_of};
-ghost use Rattle.bag_stages.specs.FileFaults.{AreTagsOf, ListsPayloadManifest, HasTextless, IsUnsupported, IsFileFault, IsFaultAmong};
+ghost use Rattle.bag_stages.specs.FileFaults.{AreTagsOf, ListsPayloadManifest, HasTextless};
+ghost use Rattle.bag_stages.specs.FileFaults.{IsUnsupported, IsFileFault, IsFaultAmong};
 ghost use Rattle.bag_stages.specs.PartsStage.{IsOfParts};
 ghost use Rattle.bag_stages.specs.FaultFields.{of_bag};
 ghost use Rattle.bag_stages.specs.TagFiles.{HasNoText};
+ghost use Rattle.bag_stages.specs.Found.{AreFaultsOf};
 
 use crate::tag_file::whole_file;
 use bag_facts::{Facts, Fault, TagFacts};
@@ -22,10 +24,10 @@ use bag_text::{Alg, Code, Text};
 use bag_tree::FileEntry;
 use std::alloc::{AllocError, Global};
 
-/// The faults of the bag's parts (RFC 8493, 2.1, 2.3 and 2.4), of facts read for more than the declaration. Fails only
-/// where memory runs out.
+/// The faults of the bag's parts (RFC 8493, 2.1, 2.3 and 2.4), of facts read for more than the
+/// declaration. Fails only where memory runs out.
 pub fn parts_faults(alloc: Global, facts: &Facts) -> Result<Vec<Fault>, AllocError>
-    ensures { IfOk result (λ faults. OfBag facts.now (λ bag. IsListOf fault_cmp (IsOfParts bag) faults.items)) }
+    ensures { IfOk result (λ faults. AreFaultsOf facts.now IsOfParts faults.items) }
 {
     let files = facts.listing.files.as_slice();
     let mut faults = missing_parts(alloc, facts.listing.has_data, has_payload_manifest(files))?;
@@ -41,7 +43,8 @@ fn missing_parts(
     has_manifest: bool,
 ) -> Result<Vec<Fault>, AllocError>
     ensures { IfOk result (λ faults. faults.items ≡
-        (if has_data then [] else of_bag NoPayloadFolder ∷ []) ++ (if has_manifest then [] else of_bag NoPayloadManifest ∷ [])) }
+        (if has_data then [] else of_bag NoPayloadFolder ∷ [])
+        ++ (if has_manifest then [] else of_bag NoPayloadManifest ∷ [])) }
 {
     let mut faults = Vec::new(alloc);
     if !has_data {
@@ -79,7 +82,8 @@ fn file_faults(
     files: &[FileEntry],
     tags: &[TagFacts],
 ) -> Result<Vec<Fault>, AllocError>
-    ensures { IfOk result (λ faults. (bag : Bag) → AreTagsOf bag tags.now → IsStrictlySortedBy text_cmp (paths_of files.now)
+    ensures { IfOk result (λ faults. (bag : Bag) → AreTagsOf bag tags.now
+        → IsStrictlySortedBy text_cmp (paths_of files.now)
         → IsListOf fault_cmp (IsFaultAmong bag (paths_of files.now)) faults.items) }
 {
     let mut faults = Vec::new(alloc);
@@ -91,10 +95,11 @@ fn file_faults(
     Ok(faults)
 }
 
-/// The fault of a listed file, if it has one: a manifest whose algorithm isn't supported isn't read, and so a file has
-/// one at most.
+/// The fault of a listed file, if it has one: a manifest whose algorithm isn't supported isn't
+/// read, and so a file has one at most.
 fn file_fault(alloc: Global, tags: &[TagFacts], path: &Text) -> Result<Option<Fault>, AllocError>
-    ensures { IfOk result (λ fault. (bag : Bag) → AreTagsOf bag tags.now → IsOnly (λ f. (f.path ≡ path.now) × IsFileFault bag f) fault) }
+    ensures { IfOk result (λ fault. (bag : Bag) → AreTagsOf bag tags.now
+        → IsOnly (λ f. (f.path ≡ path.now) × IsFileFault bag f) fault) }
 {
     if let Some(alg) = unsupported(path.as_str()) {
         return Ok(Some(whole_file(alloc, Code::AlgorithmUnsupported, path, alg)?));
@@ -130,7 +135,9 @@ fn is_textless(tags: &[TagFacts], name: TagName) -> bool
 
 /// The text of the algorithm in the name of a manifest, where the algorithm isn't supported.
 fn unsupported(path: &str) -> Option<&str>
-    ensures { MatchOption result ((alg : List ℕ) → ¬ (IsUnsupported path.now alg)) (λ alg. IsUnsupported path.now alg.now) }
+    ensures { MatchOption result
+        ((alg : List ℕ) → ¬ (IsUnsupported path.now alg))
+        (λ alg. IsUnsupported path.now alg.now) }
 {
     let Some(alg) = alg_text(path) else {
         return None;
@@ -143,11 +150,14 @@ fn unsupported(path: &str) -> Option<&str>
 
 /// The text of the algorithm in the name of a manifest.
 fn alg_text(path: &str) -> Option<&str>
-    ensures { MatchOption result ((kind : Kind) (alg : List ℕ) → IsTrue (is_alg_text alg) → path.now ≢ manifest_name kind alg)
-        (λ alg. (kind : Kind) × IsTrue (is_alg_text alg.now) × (path.now ≡ manifest_name kind alg.now)) }
+    ensures { MatchOption result
+        ((kind : Kind) (alg : List ℕ) → IsTrue (is_alg_text alg)
+        → path.now ≢ manifest_name kind alg)
+        (λ alg. (kind : Kind) × IsTrue (is_alg_text alg.now)
+        × (path.now ≡ manifest_name kind alg.now)) }
 {
-    match manifest_alg(Kind::Payload, path) {
-        Some(alg) => Some(alg),
-        None => manifest_alg(Kind::Tag, path),
+    if let Some(alg) = manifest_alg(Kind::Payload, path) {
+        return Some(alg);
     }
+    manifest_alg(Kind::Tag, path)
 }

@@ -3,21 +3,22 @@ ghost use Rattle.std.specs.Prelude.{◌≡◌, ◌↔◌, IfOk, IsTrue, MatchOpt
 ghost use Rattle.bag_facts.specs.Facts.{OfBag};
 ghost use Rattle.bag_facts.specs.TagFacts.{entry_paths};
 ghost use Rattle.bag_facts.specs.Wanted.{paths_of};
-ghost use Rattle.bag_stages.specs.CompletenessFaults.{HasEachOnce, IsWrong, IsWrongOfSome};
+ghost use Rattle.bag_stages.specs.CompletenessFaults.{IsWrong, IsWrongOfSome};
 ghost use Rattle.bag_stages.specs.PayloadNamed.{GoesOn, IsExact, payload_paths, StopsAt};
+ghost use Rattle.bag_stages.specs.Found.{AreEachOnceOf};
 
+use crate::left_out::left_out_by_one;
 use crate::missing::missing_of;
-use crate::unlisted::unlisted_of;
 use bag_facts::{Facts, Fault};
 use bag_read::{Kind, ManifestEntry};
 use bag_text::{Alg, Text, is_payload};
 use bag_tree::FileEntry;
 use std::alloc::{AllocError, Global};
 
-/// The faults that payload manifests name files that aren't there, and that they don't name payload files, one manifest
-/// after another.
+/// The faults that payload manifests name files that aren't there, and that they don't name payload
+/// files, one manifest after another.
 pub(crate) fn payload_faults(alloc: Global, facts: &Facts) -> Result<Vec<Fault>, AllocError>
-    ensures { IfOk result (λ faults. OfBag facts.now (λ bag. HasEachOnce (IsWrongOfSome bag) faults.items)) }
+    ensures { IfOk result (λ faults. AreEachOnceOf facts.now IsWrongOfSome faults.items) }
 {
     let mut faults = Vec::new(alloc);
     for alg in Alg::ALL {
@@ -27,21 +28,24 @@ pub(crate) fn payload_faults(alloc: Global, facts: &Facts) -> Result<Vec<Fault>,
     Ok(faults)
 }
 
-/// These faults of the manifest of an algorithm. Most manifests have none, which one look at both lists shows.
+/// These faults of the manifest of an algorithm. Most manifests have none, which one look at both
+/// lists shows.
 fn faults_of(alloc: Global, facts: &Facts, alg: Alg) -> Result<Vec<Fault>, AllocError>
-    ensures { IfOk result (λ faults. OfBag facts.now (λ bag. HasEachOnce (IsWrong bag alg) faults.items)) }
+    ensures { IfOk result (λ faults.
+        AreEachOnceOf facts.now (λ bag. IsWrong bag alg) faults.items) }
 {
     if is_exact(facts, alg) {
         return Ok(Vec::new(alloc));
     }
     let mut faults = missing_of(alloc, facts, Kind::Payload, alg)?;
-    let mut of_files = unlisted_of(alloc, facts, alg)?;
+    let mut of_files = left_out_by_one(alloc, facts, alg)?;
     faults.append(&mut of_files)?;
     Ok(faults)
 }
 
-/// Whether the payload manifest of an algorithm is there and names the payload's files and no other, so that it has no fault
-/// of completeness. The facts are read for more than the declaration.
+/// Whether the payload manifest of an algorithm is there and names the payload's files and no
+/// other, so that it has no fault of completeness. The facts are read for more than the
+/// declaration.
 pub fn is_exact(facts: &Facts, alg: Alg) -> bool
     ensures { OfBag facts.now (λ bag. IsTrue result ↔ IsExact bag alg) }
 {
@@ -65,10 +69,12 @@ fn are_named(entries: &[ManifestEntry], files: &[FileEntry]) -> bool
     rest.is_empty()
 }
 
-/// The entries that are left behind a file: all of them where it isn't of the payload, and else those behind the first, which has
-/// its path.
+/// The entries that are left behind a file: all of them where it isn't of the payload, and else
+/// those behind the first, which has its path.
 fn behind<'a>(entries: &'a [ManifestEntry], path: &Text) -> Option<&'a [ManifestEntry]>
-    ensures { MatchOption result (StopsAt (entry_paths entries.now) path.now) (λ rest. GoesOn (entry_paths entries.now) path.now (entry_paths rest.now)) }
+    ensures { MatchOption result
+        (StopsAt (entry_paths entries.now) path.now)
+        (λ rest. GoesOn (entry_paths entries.now) path.now (entry_paths rest.now)) }
 {
     if !is_payload(path.as_str()) {
         return Some(entries);

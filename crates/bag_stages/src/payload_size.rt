@@ -6,7 +6,8 @@ use bag_text::is_payload;
 use bag_tree::FileEntry;
 use std::marker::Model;
 
-/// How many bytes a payload has, and how many files. The sum of sizes that each fit 64 bits need not fit them.
+/// How many bytes a payload has, and how many files. The sum of sizes that each fit 64 bits need
+/// not fit them.
 #[derive(Drop)]
 pub(crate) struct PayloadSize {
     /// Bytes of all payload files.

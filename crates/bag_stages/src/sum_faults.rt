@@ -1,9 +1,9 @@
 //! Stage 7: digests that differ.
 ghost use Rattle.std.specs.Prelude.{◌≡◌, ℕ, List, Some, IfOk};
 ghost use Rattle.bag_tree.specs.Digest.{digest, sum_at};
-ghost use Rattle.bag_stages.specs.SumFaults.{differing, differing_code, faults_of_bytes, sum_differs, AreSumsBy};
+ghost use Rattle.bag_stages.specs.SumFaults.{differing, differing_code, faults_of_bytes};
+ghost use Rattle.bag_stages.specs.SumFaults.{sum_differs, AreSumsBy};
 ghost use Rattle.bag_stages.specs.ValidityStage.{expected_and_found};
-ghost use Rattle.bag_stages.specs.declared.expected.Expected.{Expected as Given};
 
 use crate::Expected;
 use crate::expected::kind_of;
@@ -13,8 +13,9 @@ use bag_text::{Code, Text};
 use bag_tree::{HexFault, Sums};
 use std::alloc::{AllocError, Global};
 
-/// The faults of a file whose digests are these: one for each that is another than what a manifest gives, in the order in
-/// which they are expected. A digest that is right takes no memory. Fails only where memory runs out.
+/// The faults of a file whose digests are these: one for each that is another than what a manifest
+/// gives, in the order in which they are expected. A digest that is right takes no memory. Fails
+/// only where memory runs out.
 pub fn faults_by(
     alloc: Global,
     path: &Text,
@@ -34,14 +35,16 @@ pub fn faults_by(
     Ok(faults)
 }
 
-/// The fault of a file whose digest isn't the one that is expected; none where it is, or where it wasn't asked for.
+/// The fault of a file whose digest isn't the one that is expected; none where it is, or where it
+/// wasn't asked for.
 fn fault_by(
     alloc: Global,
     path: &Text,
     expected: &Expected,
     sums: &Sums,
 ) -> Result<Option<Fault>, AllocError>
-    ensures { IfOk result (λ fault. (content : List ℕ) → sum_at sums.now expected.now.alg ≡ Some (digest expected.now.alg content)
+    ensures { IfOk result (λ fault. (content : List ℕ)
+        → sum_at sums.now expected.now.alg ≡ Some (digest expected.now.alg content)
         → fault ≡ differing path.now content expected.now) }
 {
     if sums.is_digest(expected.alg, expected.digest.as_slice()) {

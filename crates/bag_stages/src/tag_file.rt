@@ -32,7 +32,8 @@ pub(crate) fn line_faults(
     is_text: bool,
     faults: &[LineFault],
 ) -> Result<Vec<Fault>, AllocError>
-    ensures { IfOk result (λ all. all.items ≡ (if is_text then map (in_file path.now alg) faults.now else [])) }
+    ensures { IfOk result (λ all.
+        all.items ≡ (if is_text then map (in_file path.now alg) faults.now else [])) }
 {
     if !is_text {
         return Ok(Vec::new(alloc));

@@ -5,4 +5,5 @@ use Rattle.bag_text.specs.Lines.{line_feed}
 -- version 1.0, and UTF-8
 abbrev pub declaration_text : List ℕ
 declaration_text =
-    codes "BagIt-Version: 1.0" ++ line_feed ∷ codes "Tag-File-Character-Encoding: UTF-8" ++ line_feed ∷ []
+    codes "BagIt-Version: 1.0" ++ line_feed ∷ codes "Tag-File-Character-Encoding: UTF-8"
+    ++ line_feed ∷ []

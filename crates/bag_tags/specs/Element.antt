@@ -22,9 +22,12 @@ info_text elements = flat_map (λ element. info_line element ++ line_feed ∷ []
 abbrev pub has_outer_blank : List ℕ → Bool
 has_outer_blank t = not (bytes_eq (trim t) t)
 
--- a label that is empty, has a colon or a line end, begins or ends with a blank, or begins with a byte order mark
+-- a label that is empty, has a colon or a line end, begins or ends with a blank, or begins with a
+-- byte order mark
 abbrev pub is_bad_label : List ℕ → Bool
-is_bad_label t = bytes_eq t [] || list_any is_colon t || list_any is_line_end t || has_outer_blank t || has_mark t
+is_bad_label t =
+    bytes_eq t [] || list_any is_colon t || list_any is_line_end t || has_outer_blank t
+    || has_mark t
 
 -- a value that has a line end, or begins or ends with a blank
 abbrev pub is_bad_value : List ℕ → Bool

@@ -1,5 +1,6 @@
 -- The entries that are written to a manifest (RFC 8493, 2.1.3 and 2.2.1).
-use Rattle.std.specs.Prelude.{ℕ, ◌≡◌, ◌==◌, ◌&&◌, ◌||◌, Bool, false, not, List, ◌∷◌, [], ◌++◌, Option, Some, None, length, bytes_eq, codes, flat_map, map, slice_get}
+use Rattle.std.specs.Prelude.{ℕ, ◌≡◌, ◌==◌, ◌&&◌, ◌||◌, Bool, false, not, List, ◌∷◌, [], ◌++◌}
+use Rattle.std.specs.Prelude.{Option, Some, None, length, bytes_eq, codes, flat_map, map, slice_get}
 use Rattle.std.specs.Char.{is_ascii_hexdigit, is_ascii_uppercase}
 use Rattle.std.specs.List.{list_all, list_any, IsDistinct}
 use Rattle.std.specs.Str.{byte}
@@ -65,4 +66,5 @@ NamesEachOnce entries = IsDistinct bytes_eq (paths entries)
 
 -- entries that can be written: each by itself, and each path once
 abbrev pub CanWrite : Kind → Alg → List NewEntry → Type 0
-CanWrite kind alg entries = (list_any (is_bad_entry kind alg) entries ≡ false) × NamesEachOnce entries
+CanWrite kind alg entries =
+    (list_any (is_bad_entry kind alg) entries ≡ false) × NamesEachOnce entries

@@ -1,5 +1,5 @@
--- The laws of what is written: by the rules of 1.0, which the declaration that is written declares, it is read again as the same,
--- and nothing else, with no fault.
+-- The laws of what is written: by the rules of 1.0, which the declaration that is written declares,
+-- it is read again as the same, and nothing else, with no fault.
 use Rattle.std.specs.Prelude.{ℕ, ◌≡◌, ◌+◌, ◌↔◌, false, List, Some, codes, slice_get, All}
 use Rattle.std.specs.List.{list_any}
 use Rattle.bag_text.specs.Lines.{lines_of_file}
@@ -33,12 +33,17 @@ abbrev pub InfoIsReadAgain : Type 0
 InfoIsReadAgain =
     (elements : List NewElement) → All (λ element. IsText element.0 × IsText element.1) elements
     → list_any is_bad_element elements ≡ false
-    → ((e : Element) → IsElement V10 (lines_of_file (info_text elements)) e ↔ StandsOn elements e.line (e.label, e.value))
+    → ((e : Element)
+    → IsElement V10 (lines_of_file (info_text elements)) e
+    ↔ StandsOn elements e.line (e.label, e.value))
     × ((f : LineFault) → ¬ (IsInfoFault V10 (info_text elements) f))
 
 -- a manifest is read as these entries
 abbrev pub ManifestIsReadAgain : Type 0
 ManifestIsReadAgain =
-    (kind : Kind) (alg : Alg) (entries : List NewEntry) → All (λ entry. IsText entry.1) entries → CanWrite kind alg entries
-    → ((e : ManifestEntry) → IsEntry V10 kind alg (lines_of_file (manifest_text entries)) e ↔ StandsOn entries e.line (e.digest, e.path))
+    (kind : Kind) (alg : Alg) (entries : List NewEntry) → All (λ entry. IsText entry.1) entries
+    → CanWrite kind alg entries
+    → ((e : ManifestEntry)
+    → IsEntry V10 kind alg (lines_of_file (manifest_text entries)) e
+    ↔ StandsOn entries e.line (e.digest, e.path))
     × ((f : LineFault) → ¬ (IsManifestFault V10 kind alg (manifest_text entries) f))

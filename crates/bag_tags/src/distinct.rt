@@ -6,7 +6,8 @@ ghost use Rattle.bag_tags.specs.Entry as spec;
 use bag_text::Text;
 use std::alloc::{AllocError, Global};
 
-/// Whether no path stands twice among the entries of a manifest. Takes time n log n in their number.
+/// Whether no path stands twice among the entries of a manifest. Takes time n log n in their
+/// number.
 pub(crate) fn are_paths_distinct(
     alloc: Global,
     entries: &[(Text, Text)],

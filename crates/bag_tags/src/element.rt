@@ -6,15 +6,16 @@ ghost use Rattle.bag_tags.specs.Element as spec;
 
 use bag_text::{BYTE_ORDER_MARK, Text, trim};
 
-/// Whether a label and its value can't be written to `bag-info.txt`, since they would not be read again as they are
-/// (RFC 8493, 2.2.2), by the conditions of `write_info`.
+/// Whether a label and its value can't be written to `bag-info.txt`, since they would not be read
+/// again as they are (RFC 8493, 2.2.2), by the conditions of `write_info`.
 pub fn is_bad_element(element: &(Text, Text)) -> bool
     ensures { result ≡ spec.is_bad_element element.now }
 {
     is_bad_label(element.0.as_str()) || is_bad_value(element.1.as_str())
 }
 
-/// A label that is empty, has a colon or a line end, begins or ends with a blank, or begins with a byte order mark.
+/// A label that is empty, has a colon or a line end, begins or ends with a blank, or begins with a
+/// byte order mark.
 fn is_bad_label(label: &str) -> bool
     ensures { result ≡ spec.is_bad_label label.now }
 {

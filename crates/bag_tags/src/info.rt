@@ -12,13 +12,14 @@ use std::alloc::{AllocError, Global};
 /// What stands between a label and its value.
 const SEPARATOR: &str = ": ";
 
-/// The bytes of `bag-info.txt` with these labels and their values, in this order: a line `LABEL: VALUE` for each
-/// (RFC 8493, 2.2.2). `BadValue` where a label is empty, has a colon, CR or LF, begins or ends with a space or a tab, or
-/// begins with a byte order mark, or where a value has CR or LF, or begins or ends with a space or a tab; that is found
-/// before memory is taken.
+/// The bytes of `bag-info.txt` with these labels and their values, in this order: a line
+/// `LABEL: VALUE` for each (RFC 8493, 2.2.2). `BadValue` where a label is empty, has a colon, CR or
+/// LF, begins or ends with a space or a tab, or begins with a byte order mark, or where a value has
+/// CR or LF, or begins or ends with a space or a tab; that is found before memory is taken.
 pub fn write_info(alloc: Global, elements: &[(Text, Text)]) -> Result<Vec<u8>, WriteFault>
     ensures text { IfOk result (λ bytes. bytes.items ≡ spec.info_text elements.now) }
-    ensures bad { IsErrOf result WriteFault.BadValue ↔ IsTrue (list_any spec.is_bad_element elements.now) }
+    ensures bad { IsErrOf result WriteFault.BadValue
+        ↔ IsTrue (list_any spec.is_bad_element elements.now) }
 {
     if has_bad_element(elements) {
         return Err(WriteFault::BadValue);

@@ -6,11 +6,11 @@
 //! let manifest = write_manifest(alloc, Kind::Payload, Alg::Sha256, &entries)?;
 //! ```
 //!
-//! Of RFC 8493 it keeps the declaration (2.1.1), payload manifests (2.1.3), the metadata (2.2.2) and tag manifests (2.2.1).
-//! What reads them is in `bag_read`, and is shown here.
+//! Of RFC 8493 it keeps the declaration (2.1.1), payload manifests (2.1.3), the metadata (2.2.2)
+//! and tag manifests (2.2.1). What reads them is in `bag_read`, and is shown here.
 //!
-//! A text is written exactly, or refused where it wouldn't be read again as what was given. What is written is read again, by
-//! the rules of 1.0, as the same and nothing else, with no fault.
+//! A text is written exactly, or refused where it wouldn't be read again as what was given. What is
+//! written is read again, by the rules of 1.0, as the same and nothing else, with no fault.
 #![tactic(auto)]
 
 mod declaration;

@@ -1,9 +1,9 @@
 //! Manifests (RFC 8493, 2.1.3 and 2.2.1).
-ghost use Rattle.std.specs.Prelude.{◌≡◌, ◌++◌, ◌∷◌, [], IfOk, OnErr, OnOk, IsErrOf, IsTrue, string_bytes};
+ghost use Rattle.std.specs.Prelude.{◌≡◌, IfOk, OnErr, OnOk, IsErrOf, IsTrue};
+ghost use Rattle.std.specs.Prelude.{string_bytes};
 ghost use Rattle.std.specs.List.{list_any};
-ghost use Rattle.bag_text.specs.Lines.{line_feed};
 ghost use Rattle.bag_tags.specs.Entry as spec;
-ghost use Rattle.bag_tags.specs.Line.{HasPartOf};
+ghost use Rattle.bag_tags.specs.Line.{AddsLine, AddsPartOfLine};
 
 use crate::WriteFault;
 use crate::distinct::are_paths_distinct;
@@ -16,20 +16,23 @@ use std::alloc::{AllocError, Global};
 /// What stands between a digest and its path.
 const SEPARATOR: &str = "  ";
 
-/// The bytes of a manifest of an algorithm with these digests and the paths that they are of, in this order: a line for
-/// each with the digest, two spaces, and the path, in which LF, CR and `%` are escaped (RFC 8493, 2.1.3 and 2.2.1).
-/// `BadValue` where a digest isn't lower-case hex of the algorithm's length, where a text isn't a path that a manifest of
-/// this kind may name, where a path begins with `*`, a space or a tab, and where it stands earlier in the list. All but
-/// the last is found before memory is taken. Takes time n log n in the number of entries.
+/// The bytes of a manifest of an algorithm with these digests and the paths that they are of, in
+/// this order: a line for each with the digest, two spaces, and the path, in which LF, CR and `%`
+/// are escaped (RFC 8493, 2.1.3 and 2.2.1). `BadValue` where a digest isn't lower-case hex of the
+/// algorithm's length, where a text isn't a path that a manifest of this kind may name, where a
+/// path begins with `*`, a space or a tab, and where it stands earlier in the list. All but the
+/// last is found before memory is taken. Takes time n log n in the number of entries.
 pub fn write_manifest(
     alloc: Global,
     kind: Kind,
     alg: Alg,
     entries: &[(Text, Text)],
 ) -> Result<Vec<u8>, WriteFault>
-    ensures text { IfOk result (λ bytes. spec.CanWrite kind alg entries.now × (bytes.items ≡ spec.manifest_text entries.now)) }
+    ensures text { IfOk result (λ bytes. spec.CanWrite kind alg entries.now
+        × (bytes.items ≡ spec.manifest_text entries.now)) }
     ensures bad { IsErrOf result WriteFault.BadValue → ¬ (spec.CanWrite kind alg entries.now) }
-    ensures bad_entry { IsTrue (list_any (spec.is_bad_entry kind alg) entries.now) → IsErrOf result WriteFault.BadValue }
+    ensures bad_entry { IsTrue (list_any (spec.is_bad_entry kind alg) entries.now)
+        → IsErrOf result WriteFault.BadValue }
 {
     if has_bad_entry(kind, alg, entries) || !are_paths_distinct(alloc, entries)? {
         return Err(WriteFault::BadValue);
@@ -59,17 +62,19 @@ fn manifest_text(alloc: Global, entries: &[(Text, Text)]) -> Result<String, Allo
     Ok(text)
 }
 
-/// Adds the line of a digest and the path that it is of: the digest, two spaces, and the path, in which LF, CR and `%` are
-/// escaped (RFC 8493, 2.1.3 and 2.2.1). It doesn't ask whether they are read again. Where memory runs out, a part of the line
-/// may stand there.
+/// Adds the line of a digest and the path that it is of: the digest, two spaces, and the path, in
+/// which LF, CR and `%` are escaped (RFC 8493, 2.1.3 and 2.2.1). It doesn't ask whether they are
+/// read again. Where memory runs out, a part of the line may stand there.
 pub fn push_entry(
     alloc: Global,
     text: &mut String,
     digest: &str,
     path: &str,
 ) -> Result<(), AllocError>
-    ensures written { OnOk result (string_bytes text.new ≡ string_bytes text.old ++ spec.entry_line (digest.now, path.now) ++ line_feed ∷ []) }
-    ensures refused { OnErr result (HasPartOf (spec.entry_line (digest.now, path.now) ++ line_feed ∷ []) (string_bytes text.old) (string_bytes text.new)) }
+    ensures written { OnOk result (AddsLine
+        (spec.entry_line (digest.now, path.now)) (string_bytes text.old) (string_bytes text.new)) }
+    ensures refused { OnErr result (AddsPartOfLine
+        (spec.entry_line (digest.now, path.now)) (string_bytes text.old) (string_bytes text.new)) }
 {
     let escaped = escape_path(alloc, path)?;
     push_line(text, digest, SEPARATOR, escaped.as_str())

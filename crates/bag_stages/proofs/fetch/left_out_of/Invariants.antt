@@ -1,5 +1,5 @@
 use Rattle.bag_stages.proofs.Common.{take, IsListOf, fault_cmp, AreByPath, AreByLine, IsNotNamedAmong}
-use Rattle.bag_stages.proofs.fetch.unnamed_faults.Given as goal
+use Rattle.bag_stages.proofs.fetch.left_out_of.Given as goal
 
 abbrev pub invariant-loop-entry : goal.invariant-loop-entry
 invariant-loop-entry l =

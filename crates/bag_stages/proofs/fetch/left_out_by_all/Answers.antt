@@ -1,12 +1,12 @@
-use Rattle.bag_stages.proofs.Common.{◌≡◌, true, false, sym, ◌∙◌, IfOk-weaker, contains_nothing, nothing_listed, fault_cmp, IsLeftOutByAll, IsNamedBySome, IsNotInAny, None}
+use Rattle.bag_stages.proofs.Common.{◌≡◌, true, false, sym, ◌∙◌, IfOk-weaker, contains_nothing, nothing_listed, fault_cmp, IsLeftOutByAll, IsNamedBySome, IsFetchLeftOutByAll, None}
 use Rattle.bag_stages.proofs.FetchFaults.{left_listed}
 use Rattle.bag_stages.proofs.LeftOut.{some_member}
-use Rattle.bag_stages.proofs.fetch.unnamed_by_all.Goals as goal
+use Rattle.bag_stages.proofs.fetch.left_out_by_all.Goals as goal
 
 pub returns-then-is_empty : goal.returns-then-is_empty
 returns-then-is_empty c = λ bag facts deep at fetched.
     rw c.new.ensures.items
-    (nothing_listed fault_cmp (IsNotInAny bag) (λ f h. let some = h.1.3.0 in contains_nothing some.0
+    (nothing_listed fault_cmp (IsFetchLeftOutByAll bag) (λ f h. let some = h.1.3.0 in contains_nothing some.0
     (rw (c.is_empty.ensures.0 c.if-is_empty.true) at ((c.algs.ensures bag facts some.0).1 some.1))))
 
 pub returns : goal.returns

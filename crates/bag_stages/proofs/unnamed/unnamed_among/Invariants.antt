@@ -1,9 +1,0 @@
-use Rattle.bag_stages.proofs.Common.{None, take, IsListOf, PayloadFileNotListed, fault_cmp, OfBag, IsUnnamedPath}
-use Rattle.bag_stages.proofs.ByItem.{OfSome}
-use Rattle.bag_stages.proofs.ByPath.{WrongAt}
-use Rattle.bag_stages.proofs.unnamed.unnamed_among.Given as goal
-
-abbrev pub invariant-loop-entry : goal.invariant-loop-entry
-invariant-loop-entry l =
-    OfBag l.facts (λ bag.
-    IsListOf fault_cmp (OfSome (WrongAt PayloadFileNotListed None (IsUnnamedPath bag) (λ e. e.path)) (take l.entry-index l.entry-items)) l.faults.items)
