@@ -1,7 +1,10 @@
 -- What is given on the command line, by the matches of the words.
-use Rattle.std.specs.Prelude.{ℕ, ◌≡◌, ◌<◌, ◌≤◌, ◌^◌, Bool, ◌&&◌, ◌||◌, List, [], ◌∷◌, ◌++◌, Option, Some, None, bytes_eq, codes, unwrap_or, option_map, is_some, if◌then◌else◌, find, filter, filter_map, length, nat_lt}
+use Rattle.std.specs.Prelude.{ℕ, ◌≡◌, ◌<◌, ◌≤◌, ◌^◌, Bool, ◌&&◌, ◌||◌, List, [], ◌∷◌, ◌++◌}
+use Rattle.std.specs.Prelude.{Option, Some, None, option_map, is_some, unwrap_or, if◌then◌else◌}
+use Rattle.std.specs.Prelude.{bytes_eq, codes, filter, filter_map, find, length, nat_lt}
 use Rattle.std.specs.Str.Parse.{IsNumeral, digits_value, without_leading_plus}
-use Rattle.clap.specs.Words.{Row, Text, all_of, first_of, one_of}
+use Rattle.clap.specs.Words.{Row, Text, all_of, first_of, found_of, one_of, rows_of}
+use Rattle.clap.specs.declared.parser.matches.ArgMatches.{ArgMatches}
 use Rattle.bag_text.specs.Text.{trim}
 use Rattle.bag_text.specs.Alg.{algs, name}
 use Rattle.bag_text.specs.declared.alg.Alg.{Alg}
@@ -13,6 +16,10 @@ use Rattle.bag_arguments.specs.declared.label.Label.{Label}
 use Rattle.bag_arguments.specs.declared.plan.InfoItem.{InfoItem}
 use Rattle.bag_arguments.specs.declared.check_option.CheckOption.{CheckOption}
 use Rattle.bag_arguments.specs.declared.check_option.CheckOption.TheVariants as check
+
+-- what the matches hold: each argument that is given, with its values
+abbrev pub rows_in : ArgMatches → List Row
+rows_in found = rows_of (found_of found)
 
 -- whether an option without a value is given
 abbrev pub is_given : List Row → Text → Bool
@@ -37,8 +44,8 @@ directories rows = values rows (codes "directory")
 -- in the order in which they are looked at
 abbrev pub check_options : List CheckOption
 check_options =
-    check.DeclarationOnly ∷ check.Fast ∷ check.CompletenessOnly ∷ check.Profile ∷ check.After ∷ check.MaxFaults
-    ∷ check.Clashes ∷ []
+    check.DeclarationOnly ∷ check.Fast ∷ check.CompletenessOnly
+    ∷ check.Profile ∷ check.After ∷ check.MaxFaults ∷ check.Clashes ∷ []
 
 -- the name of its argument
 abbrev pub check_id : CheckOption → Text
@@ -114,7 +121,8 @@ named_algs rows = filter (λ alg. is_given rows (name alg)) algs
 -- the element of a label, its value without the blanks at both ends
 abbrev pub element : List Row → Label → Option InfoItem
 element rows label =
-    option_map (λ text. record { label = label_name label; value = trim text }) (value rows (label_option label))
+    option_map (λ text. record { label = label_name label; value = trim text })
+    (value rows (label_option label))
 
 -- the items of a list with one place
 abbrev pub listed : {X : Type 0} → Option X → List X

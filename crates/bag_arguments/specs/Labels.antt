@@ -3,14 +3,24 @@ use Rattle.std.specs.Prelude.{List, [], ◌∷◌, codes}
 use Rattle.std.specs.Str.{str_to_ascii_lowercase}
 use Rattle.clap.specs.Words.{Text}
 use Rattle.bag_arguments.specs.declared.label.Label.{Label}
-use Rattle.bag_arguments.specs.declared.label.Label.TheVariants.{SourceOrganization, OrganizationAddress, ContactName, ContactPhone, ContactEmail, ExternalDescription, ExternalIdentifier, BagSize, BagGroupIdentifier, BagCount, InternalSenderIdentifier, InternalSenderDescription, BagItProfileIdentifier, BaggingDate}
+use Rattle.bag_arguments.specs.declared.label.Label.TheVariants.{SourceOrganization}
+use Rattle.bag_arguments.specs.declared.label.Label.TheVariants.{OrganizationAddress, ContactName}
+use Rattle.bag_arguments.specs.declared.label.Label.TheVariants.{ContactPhone, ContactEmail}
+use Rattle.bag_arguments.specs.declared.label.Label.TheVariants.{ExternalDescription}
+use Rattle.bag_arguments.specs.declared.label.Label.TheVariants.{ExternalIdentifier, BagSize}
+use Rattle.bag_arguments.specs.declared.label.Label.TheVariants.{BagGroupIdentifier, BagCount}
+use Rattle.bag_arguments.specs.declared.label.Label.TheVariants.{InternalSenderIdentifier}
+use Rattle.bag_arguments.specs.declared.label.Label.TheVariants.{InternalSenderDescription}
+use Rattle.bag_arguments.specs.declared.label.Label.TheVariants.{BagItProfileIdentifier}
+use Rattle.bag_arguments.specs.declared.label.Label.TheVariants.{BaggingDate}
 
 -- in the order in which their elements are written
 abbrev pub labels : List Label
 labels =
-    SourceOrganization ∷ OrganizationAddress ∷ ContactName ∷ ContactPhone ∷ ContactEmail ∷ ExternalDescription
-    ∷ ExternalIdentifier ∷ BagSize ∷ BagGroupIdentifier ∷ BagCount ∷ InternalSenderIdentifier
-    ∷ InternalSenderDescription ∷ BagItProfileIdentifier ∷ BaggingDate ∷ []
+    SourceOrganization ∷ OrganizationAddress ∷ ContactName ∷ ContactPhone ∷ ContactEmail
+    ∷ ExternalDescription ∷ ExternalIdentifier ∷ BagSize ∷ BagGroupIdentifier ∷ BagCount
+    ∷ InternalSenderIdentifier ∷ InternalSenderDescription ∷ BagItProfileIdentifier ∷ BaggingDate
+    ∷ []
 
 -- as it is written
 abbrev pub label_name : Label → Text

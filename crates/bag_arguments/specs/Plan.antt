@@ -1,18 +1,23 @@
 -- The plan of the words.
-use Rattle.std.specs.Prelude.{ℕ, ◌≡◌, ◌≢◌, ⊤, false, List, [], ◌∷◌, Option, Some, None, Result, Ok, Err, option_map, is_some, codes, if◌then◌else◌}
+use Rattle.std.specs.Prelude.{ℕ, ◌≡◌, ◌≢◌, ◌⊎◌, ⊤, false, List, [], ◌∷◌, codes, if◌then◌else◌}
+use Rattle.std.specs.Prelude.{Option, Some, None, Result, Ok, Err, option_map, is_some}
 use Rattle.clap.specs.Words.{Kinds, Row, Text}
 use Rattle.clap.specs.declared.error.kind.ErrorKind.{ErrorKind}
 use Rattle.clap.specs.declared.error.kind.ErrorKind.TheVariants.{DisplayHelp}
 use Rattle.bag_facts.specs.FaultLine.{IsLineOf}
 use Rattle.bag_facts.specs.declared.fault.Fault.{Fault}
 use Rattle.bag_facts.specs.declared.options.Depth.TheVariants.{Declaration}
-use Rattle.bag_arguments.specs.Given.{validates, directories, out_of_place, has_two_depths, depth, has_after_several, IsLimit, named_algs, or_default, info, is_given, value}
+use Rattle.bag_arguments.specs.Given.{validates, directories, depth, is_given, value, IsLimit}
+use Rattle.bag_arguments.specs.Given.{named_algs, or_default, info}
+use Rattle.bag_arguments.specs.Given.{out_of_place, has_two_depths, has_after_several}
 use Rattle.bag_arguments.specs.Words.{refusals, matches}
 use Rattle.bag_arguments.specs.declared.plan.Action.{Action}
 use Rattle.bag_arguments.specs.declared.plan.Action.TheVariants.{Sample, Help, Check, Make}
 use Rattle.bag_arguments.specs.declared.plan.Plan.{Plan}
 use Rattle.bag_arguments.specs.declared.usage.Usage.{Usage}
-use Rattle.bag_arguments.specs.declared.usage.Usage.TheVariants.{Refused, NeedsValidate, TwoDepths, AfterSeveral, AfterNotALine, Memory}
+use Rattle.bag_arguments.specs.declared.usage.Usage.TheVariants.{Refused, Memory}
+use Rattle.bag_arguments.specs.declared.usage.Usage.TheVariants.{NeedsValidate, TwoDepths}
+use Rattle.bag_arguments.specs.declared.usage.Usage.TheVariants.{AfterSeveral, AfterNotALine}
 
 -- a cursor is given by its line
 abbrev pub IsCursor : Option Text → Option Fault → Type 0
@@ -24,6 +29,12 @@ IsCursor (Some line) (Some fault) = IsLineOf line fault
 abbrev pub IsNoCursor : Option Text → Type 0
 IsNoCursor None = ⊥
 IsNoCursor (Some line) = (fault : Fault) → ¬ (IsLineOf line fault)
+
+-- the cursor that a text gives, or why there is none
+abbrev pub GivesCursor : Option Text → Result (Option Fault) Usage → Type 0
+GivesCursor text (Ok after) = IsCursor text after
+GivesCursor text (Err usage) =
+    (usage ≡ Memory) ⊎ ((usage ≡ AfterNotALine) × IsNoCursor text)
 
 -- the first thing that is wrong with what is given, but for the cursor's text
 abbrev pub misuse : List Row → Option Usage

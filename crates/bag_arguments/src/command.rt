@@ -35,7 +35,8 @@ pub(crate) fn command<'a>(alloc: Global) -> Result<Command<'a>, AllocError>
 
 /// What is done, how much is said, and to which folders.
 fn with_main_arguments<'a>(alloc: Global, command: Command<'a>) -> Result<Command<'a>, AllocError>
-    ensures { IfOk result (λ c. app_of c ≡ spec.with_rules (app_of command.entry) spec.main_arguments) }
+    ensures { IfOk result (λ c.
+        app_of c ≡ spec.with_rules (app_of command.entry) spec.main_arguments) }
 {
     command
         .arg(flag(alloc, "validate", "Check bags, and make none"))?
@@ -54,7 +55,8 @@ fn with_main_arguments<'a>(alloc: Global, command: Command<'a>) -> Result<Comman
 
 /// The options that need `--validate`.
 fn with_check_arguments<'a>(alloc: Global, command: Command<'a>) -> Result<Command<'a>, AllocError>
-    ensures { IfOk result (λ c. app_of c ≡ spec.with_rules (app_of command.entry) spec.check_arguments) }
+    ensures { IfOk result (λ c.
+        app_of c ≡ spec.with_rules (app_of command.entry) spec.check_arguments) }
 {
     command
         .arg(flag(
@@ -90,7 +92,8 @@ fn with_check_arguments<'a>(alloc: Global, command: Command<'a>) -> Result<Comma
 
 /// The options that choose algorithms.
 fn with_alg_arguments<'a>(alloc: Global, command: Command<'a>) -> Result<Command<'a>, AllocError>
-    ensures { IfOk result (λ c. app_of c ≡ spec.with_rules (app_of command.entry) spec.alg_arguments) }
+    ensures { IfOk result (λ c.
+        app_of c ≡ spec.with_rules (app_of command.entry) spec.alg_arguments) }
 {
     let mut extended = command;
     for alg in Alg::ALL {

@@ -1,6 +1,6 @@
 //! What is given on the command line, read from the matches of clap.
-ghost use Rattle.std.specs.Prelude.{◌≡◌, ◌++◌, map, filter_map, find, option_map, IfOk, OnOk, Some, None, codes, length, if◌then◌else◌};
-ghost use Rattle.clap.specs.Words.{found_of, rows_of};
+ghost use Rattle.std.specs.Prelude.{◌≡◌, ◌++◌, map, filter_map, find, option_map, codes, length};
+ghost use Rattle.std.specs.Prelude.{IfOk, OnOk, Some, None, if◌then◌else◌};
 ghost use Rattle.bag_arguments.specs.Given as spec;
 ghost use Rattle.bag_text.specs.Alg.{name};
 ghost use Rattle.bag_text.specs.AlgList.{with_member};
@@ -14,14 +14,14 @@ use std::alloc::{AllocError, Global};
 
 /// Whether an option without a value is given.
 pub(crate) fn is_given(matches: &ArgMatches<'_>, id: &str) -> bool
-    ensures { result ≡ spec.is_given (rows_of (found_of matches.now)) id.now }
+    ensures { result ≡ spec.is_given (spec.rows_in matches.now) id.now }
 {
     matches.get_one::<bool>(id).unwrap_or(false)
 }
 
 /// The value of an option.
 pub(crate) fn value<'a>(matches: &ArgMatches<'a>, id: &str) -> Option<&'a str>
-    ensures { option_map (λ text. text.now) result ≡ spec.value (rows_of (found_of matches.now)) id.now }
+    ensures { option_map (λ text. text.now) result ≡ spec.value (spec.rows_in matches.now) id.now }
 {
     matches.get_str(id)
 }
@@ -32,7 +32,7 @@ pub(crate) fn text_value(
     matches: &ArgMatches<'_>,
     id: &str,
 ) -> Result<Option<Text>, AllocError>
-    ensures { IfOk result (λ text. text ≡ spec.value (rows_of (found_of matches.now)) id.now) }
+    ensures { IfOk result (λ text. text ≡ spec.value (spec.rows_in matches.now) id.now) }
 {
     match value(matches, id) {
         None => Ok(None),
@@ -45,7 +45,7 @@ pub(crate) fn directories(
     alloc: Global,
     matches: &ArgMatches<'_>,
 ) -> Result<Items<Text>, AllocError>
-    ensures { IfOk result (λ items. items ≡ spec.directories (rows_of (found_of matches.now))) }
+    ensures { IfOk result (λ items. items ≡ spec.directories (spec.rows_in matches.now)) }
 {
     match matches.get_strs("directory") {
         None => Ok(Items::new(alloc)),
@@ -55,7 +55,7 @@ pub(crate) fn directories(
 
 /// How many folders are given.
 fn directory_count(matches: &ArgMatches<'_>) -> usize
-    ensures { result ≡ length (spec.directories (rows_of (found_of matches.now))) }
+    ensures { result ≡ length (spec.directories (spec.rows_in matches.now)) }
 {
     match matches.get_strs("directory") {
         None => 0,
@@ -76,7 +76,7 @@ pub(crate) fn texts(alloc: Global, words: &[&str]) -> Result<Items<Text>, AllocE
 
 /// Whether an option that needs `--validate` is given.
 fn has_check_option(matches: &ArgMatches<'_>, option: CheckOption) -> bool
-    ensures { result ≡ spec.has_check_option (rows_of (found_of matches.now)) option }
+    ensures { result ≡ spec.has_check_option (spec.rows_in matches.now) option }
 {
     match option {
         CheckOption::Profile | CheckOption::After | CheckOption::MaxFaults => {
@@ -88,7 +88,7 @@ fn has_check_option(matches: &ArgMatches<'_>, option: CheckOption) -> bool
 
 /// The first of these options that is given.
 fn first_check_option(matches: &ArgMatches<'_>, options: &[CheckOption]) -> Option<CheckOption>
-    ensures { result ≡ find (spec.has_check_option (rows_of (found_of matches.now))) options.now }
+    ensures { result ≡ find (spec.has_check_option (spec.rows_in matches.now)) options.now }
 {
     options
         .iter()
@@ -98,7 +98,7 @@ fn first_check_option(matches: &ArgMatches<'_>, options: &[CheckOption]) -> Opti
 
 /// The first option that stands without the `--validate` that it needs.
 pub(crate) fn out_of_place(matches: &ArgMatches<'_>) -> Option<CheckOption>
-    ensures { result ≡ spec.out_of_place (rows_of (found_of matches.now)) }
+    ensures { result ≡ spec.out_of_place (spec.rows_in matches.now) }
 {
     if is_given(matches, "validate") {
         None
@@ -109,7 +109,7 @@ pub(crate) fn out_of_place(matches: &ArgMatches<'_>) -> Option<CheckOption>
 
 /// Whether more than one depth is given.
 pub(crate) fn has_two_depths(matches: &ArgMatches<'_>) -> bool
-    ensures { result ≡ spec.has_two_depths (rows_of (found_of matches.now)) }
+    ensures { result ≡ spec.has_two_depths (spec.rows_in matches.now) }
 {
     let declaration = is_given(matches, "declaration-only");
     let fast = is_given(matches, "fast");
@@ -119,7 +119,7 @@ pub(crate) fn has_two_depths(matches: &ArgMatches<'_>) -> bool
 
 /// The depth.
 pub(crate) fn depth(matches: &ArgMatches<'_>) -> Depth
-    ensures { result ≡ spec.depth (rows_of (found_of matches.now)) }
+    ensures { result ≡ spec.depth (spec.rows_in matches.now) }
 {
     if is_given(matches, "declaration-only") {
         Depth::Declaration
@@ -134,15 +134,15 @@ pub(crate) fn depth(matches: &ArgMatches<'_>) -> Depth
 
 /// Whether a cursor is given for several folders.
 pub(crate) fn has_after_several(matches: &ArgMatches<'_>) -> bool
-    ensures { result ≡ spec.has_after_several (rows_of (found_of matches.now)) }
+    ensures { result ≡ spec.has_after_several (spec.rows_in matches.now) }
 {
     value(matches, "after").is_some() && directory_count(matches) > 1
 }
 
 /// The limit, 1 or more.
 pub(crate) fn limit(matches: &ArgMatches<'_>) -> Option<u64>
-    requires { spec.HasLimit (rows_of (found_of matches.now)) }
-    ensures { spec.IsLimit (spec.value (rows_of (found_of matches.now)) (codes "max-faults")) result }
+    requires { spec.HasLimit (spec.rows_in matches.now) }
+    ensures { spec.IsLimit (spec.value (spec.rows_in matches.now) (codes "max-faults")) result }
 {
     match value(matches, "max-faults") {
         None => None,
@@ -152,7 +152,8 @@ pub(crate) fn limit(matches: &ArgMatches<'_>) -> Option<u64>
 
 /// The set with an algorithm more where its option is given.
 fn with_named(set: AlgSet, matches: &ArgMatches<'_>, alg: Alg) -> AlgSet
-    ensures { result ≡ (if spec.is_given (rows_of (found_of matches.now)) (name alg) then with_member set alg else set) }
+    ensures { result ≡
+        (if spec.is_given (spec.rows_in matches.now) (name alg) then with_member set alg else set) }
 {
     if is_given(matches, alg.name()) {
         set.with(alg)
@@ -163,7 +164,7 @@ fn with_named(set: AlgSet, matches: &ArgMatches<'_>, alg: Alg) -> AlgSet
 
 /// The algorithms that are named.
 fn named_algs(matches: &ArgMatches<'_>) -> AlgSet
-    ensures { result ≡ spec.named_algs (rows_of (found_of matches.now)) }
+    ensures { result ≡ spec.named_algs (spec.rows_in matches.now) }
 {
     let mut set = AlgSet::empty();
     for alg in Alg::ALL {
@@ -174,7 +175,7 @@ fn named_algs(matches: &ArgMatches<'_>) -> AlgSet
 
 /// The algorithms that are named, or SHA-256 and SHA-512 where none is.
 pub(crate) fn algs(matches: &ArgMatches<'_>) -> AlgSet
-    ensures { result ≡ spec.or_default (spec.named_algs (rows_of (found_of matches.now))) }
+    ensures { result ≡ spec.or_default (spec.named_algs (spec.rows_in matches.now)) }
 {
     let named = named_algs(matches);
     if named.is_empty() {
@@ -190,7 +191,7 @@ fn element(
     matches: &ArgMatches<'_>,
     label: Label,
 ) -> Result<Option<InfoItem>, AllocError>
-    ensures { IfOk result (λ item. item ≡ spec.element (rows_of (found_of matches.now)) label) }
+    ensures { IfOk result (λ item. item ≡ spec.element (spec.rows_in matches.now) label) }
 {
     match value(matches, label.option()) {
         None => Ok(None),
@@ -217,7 +218,8 @@ pub(crate) fn info(
     matches: &ArgMatches<'_>,
     labels: &[Label],
 ) -> Result<Items<InfoItem>, AllocError>
-    ensures { IfOk result (λ items. items ≡ filter_map (spec.element (rows_of (found_of matches.now))) labels.now) }
+    ensures { IfOk result (λ items.
+        items ≡ filter_map (spec.element (spec.rows_in matches.now)) labels.now) }
 {
     let mut items = Items::new(alloc);
     for label in labels {

@@ -1,7 +1,7 @@
 //! The plan of the words.
-ghost use Rattle.std.specs.Prelude.{◌≡◌, ◌⊎◌, option_map, IfErr, IfOk, MatchResult, Some, None, codes, true};
-ghost use Rattle.clap.specs.Words.{FailsBy, found_of, kind_of, rows_of};
-ghost use Rattle.bag_arguments.specs.Given.{HasLimit, value as value_of};
+ghost use Rattle.std.specs.Prelude.{◌≡◌, IfErr, IfOk, MatchResult, Some, None, codes, true};
+ghost use Rattle.clap.specs.Words.{FailsBy, kind_of};
+ghost use Rattle.bag_arguments.specs.Given.{HasLimit, rows_in, value as value_of};
 ghost use Rattle.bag_arguments.specs.Plan as spec;
 ghost use Rattle.bag_arguments.specs.Plan.{IsNotRefused};
 ghost use Rattle.bag_arguments.specs.Words.{is_taken, matches as matches_of_words, refusals, texts};
@@ -31,10 +31,11 @@ pub fn plan_of(alloc: Global, words: &[&str]) -> Result<Plan, Usage>
 
 /// What clap makes of the words.
 fn parse<'a>(alloc: Global, words: &'a [&'a str]) -> Result<ArgMatches<'a>, Error>
-    ensures matches { IfOk result (λ m. rows_of (found_of m) ≡ matches_of_words (texts words.entry.now)) }
+    ensures matches { IfOk result (λ m. rows_in m ≡ matches_of_words (texts words.entry.now)) }
     ensures refusals { FailsBy (refusals (texts words.entry.now)) result }
-    ensures limit { IfOk result (λ m. HasLimit (rows_of (found_of m))) }
-    ensures taken { IfErr result (λ e. is_taken (texts words.entry.now) ≡ true → kind_of e ≡ ErrorKind.OutOfMemory) }
+    ensures limit { IfOk result (λ m. HasLimit (rows_in m)) }
+    ensures taken { IfErr result (λ e.
+        is_taken (texts words.entry.now) ≡ true → kind_of e ≡ ErrorKind.OutOfMemory) }
 {
     command(alloc)?.try_get_matches_from(words)
 }
@@ -78,8 +79,8 @@ fn plan_without_words(alloc: Global, action: Action) -> Plan
 
 /// The plan of what is given, or the first thing that is wrong with it.
 fn plan_of_matches(alloc: Global, matches: &ArgMatches<'_>) -> Result<Plan, Usage>
-    requires { HasLimit (rows_of (found_of matches.now)) }
-    ensures { spec.Plans (rows_of (found_of matches.now)) result }
+    requires { HasLimit (rows_in matches.now) }
+    ensures { spec.Plans (rows_in matches.now) result }
 {
     refuse_misuse(matches)?;
     let after = cursor(alloc, matches)?;
@@ -106,8 +107,8 @@ fn plan_of_matches(alloc: Global, matches: &ArgMatches<'_>) -> Result<Plan, Usag
 
 /// Refuses the first thing that is wrong with what is given, but for the cursor's text.
 fn refuse_misuse(matches: &ArgMatches<'_>) -> Result<(), Usage>
-    ensures { MatchResult result (λ _. spec.misuse (rows_of (found_of matches.now)) ≡ None)
-        (λ usage. spec.misuse (rows_of (found_of matches.now)) ≡ Some usage) }
+    ensures { MatchResult result (λ _. spec.misuse (rows_in matches.now) ≡ None)
+        (λ usage. spec.misuse (rows_in matches.now) ≡ Some usage) }
 {
     if let Some(option) = given::out_of_place(matches) {
         return Err(Usage::NeedsValidate(option));
@@ -123,9 +124,7 @@ fn refuse_misuse(matches: &ArgMatches<'_>) -> Result<(), Usage>
 
 /// The cursor, given by its line.
 fn cursor(alloc: Global, matches: &ArgMatches<'_>) -> Result<Option<Fault>, Usage>
-    ensures { MatchResult result (spec.IsCursor (value_of (rows_of (found_of matches.now)) (codes "after")))
-        (λ usage. (usage ≡ Usage.Memory)
-        ⊎ ((usage ≡ Usage.AfterNotALine) × spec.IsNoCursor (value_of (rows_of (found_of matches.now)) (codes "after")))) }
+    ensures { spec.GivesCursor (value_of (rows_in matches.now) (codes "after")) result }
 {
     let Some(line) = given::value(matches, "after") else {
         return Ok(None);

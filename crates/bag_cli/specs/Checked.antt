@@ -1,50 +1,53 @@
 -- What checks write, and the exit status after them.
-use Rattle.std.specs.Prelude.{ℕ, ◌≡◌, ◌⊎◌, Bool, true, false, List, [], ◌∷◌, Option, Some, None, codes, ⊤}
+use Rattle.std.specs.Prelude.{ℕ, ◌≡◌, ◌⊎◌, ⊤, Bool, true, false, List, [], ◌∷◌, codes}
+use Rattle.std.specs.Prelude.{Option, None, Result, MatchResult}
 use Rattle.bag_tree.specs.Out.{OutState}
-use Rattle.bag_tree.specs.Tree.{Keeps, TreeState}
+use Rattle.bag_tree.specs.Tree.{TreeState}
 use Rattle.bag_cli.specs.Visits.{Event, Entered, NotGiven, Left, Read}
 use Rattle.bag_walk.specs.Closing.{status}
 use Rattle.bag_walk.specs.declared.outcome.Outcome.{Outcome}
-use Rattle.bag_walk.specs.declared.outcome.Outcome.TheVariants.{Clean, Faults, Stopped, Rest, Unread, Unwritten}
+use Rattle.bag_walk.specs.declared.outcome.Outcome.TheVariants.{Clean, Faults, Stopped}
+use Rattle.bag_walk.specs.declared.outcome.Outcome.TheVariants.{Rest, Unread, Unwritten}
 use Rattle.bag_walk.specs.declared.outcome.Request.{Request}
 use Rattle.bag_profile.specs.Profile.{Profile}
-use Rattle.bag_walk.specs.RunOpenings.{LooksNoFurther, OpensInRun, OpensInTurn, OpensListed, OpensNonePassed, StopsInTurn}
-use Rattle.bag_walk.specs.Run.{IsRun, IsRunByReport}
+use Rattle.bag_walk.specs.WholeRun.{IsRunOver}
 use Rattle.bag_arguments.specs.declared.plan.Plan.{Plan}
-use Rattle.bag_cli.specs.InTurn.{AreInTurn}
+use Rattle.bag_cli.specs.InTurn.{AreInTurn, Deed}
 use Rattle.bag_cli.specs.Sample.{sample_state}
 
 -- what a plan's check of the bag of this name asks for
 abbrev pub request_of : Plan → List ℕ → Request
-request_of plan name = record { options = plan.options; after = plan.after; limit = plan.limit; quiet = plan.quiet; name = name }
-
--- All that is promised of a run over a tree, by a profile or without one, which left it as `new`: it shows the faults of the
--- tree's bag wherever the tree is honest, changes nothing, opens no more than it has to and only in its turn, and stops at its
--- device only where that failed.
-pub record IsRunOver (tree new : TreeState) (profile : Option Profile) (request : Request) (before after : OutState) (outcome : Outcome) : Type 0 where
-  pub keeps : Keeps tree new
-  pub opens : OpensInRun request.options tree new
-  pub payload : OpensListed request.options tree new
-  pub none_passed : OpensNonePassed request.after tree new
-  pub in_turn : OpensInTurn tree new profile request outcome
-  pub stopped : StopsInTurn tree new profile request outcome
-  pub unlooked : LooksNoFurther tree new profile request
-  pub untouched : request.limit ≡ Some 0 → new ≡ tree
-  pub run : IsRun tree new profile request before after outcome
-  pub by_report : IsRunByReport tree new profile request before after outcome
+request_of plan name = record {
+  options = plan.options;
+  after = plan.after;
+  limit = plan.limit;
+  quiet = plan.quiet;
+  name = name;
+}
 
 -- a check of a tree
-abbrev pub IsCheckOf : Plan → Option Profile → TreeState → TreeState → List ℕ → OutState → OutState → Outcome → Type 0
-IsCheckOf plan profile tree new name before after outcome = IsRunOver tree new profile (request_of plan name) before after outcome
+abbrev pub IsCheckOf : Plan → Option Profile → TreeState → TreeState → List ℕ
+    → OutState → OutState → Outcome → Type 0
+IsCheckOf plan profile tree new name before after outcome =
+    IsRunOver tree new profile (request_of plan name) before after outcome
+
+-- the tree was checked under this name; or memory for what is asked for ran out, and nothing was done
+abbrev pub ChecksTree : {E : Type 0} → Plan → Option Profile → TreeState → TreeState → List ℕ
+    → OutState → OutState → Result Outcome E → Type 0
+ChecksTree plan profile tree new name before after checked = MatchResult checked
+    (λ outcome. IsCheckOf plan profile tree new name before after outcome)
+    (λ _. (after ≡ before) × (new ≡ tree))
 
 -- the folder was looked into once, and its tree was left as this
 abbrev pub visit_of : List ℕ → TreeState → List Event
 visit_of name new = Entered name ∷ Left new ∷ []
 
 -- a check of the tree that was given for a folder, and that was left as the check leaves it
-abbrev pub IsVisitToCheck : Plan → Option Profile → TreeState → List ℕ → OutState → OutState → List Event → Outcome → Type 0
+abbrev pub IsVisitToCheck : Plan → Option Profile → TreeState → List ℕ
+    → OutState → OutState → List Event → Outcome → Type 0
 IsVisitToCheck plan profile tree name before after visits outcome =
-    (new : TreeState) × (visits ≡ visit_of name new) × IsCheckOf plan profile tree new name before after outcome
+    (new : TreeState) × (visits ≡ visit_of name new)
+    × IsCheckOf plan profile tree new name before after outcome
 
 -- the output took the whole report
 abbrev pub is_written : Outcome → Bool
@@ -56,7 +59,8 @@ is_written (Unread n stop) = true
 is_written (Unwritten n) = false
 
 -- a check whose whole report was written, its visit, and its status
-pub record IsWholeCheck (plan : Plan) (profile : Option Profile) (tree : TreeState) (name : List ℕ) (before after : OutState) (visits : List Event) (n : ℕ) : Type 0 where
+pub record IsWholeCheck (plan : Plan) (profile : Option Profile) (tree : TreeState)
+    (name : List ℕ) (before after : OutState) (visits : List Event) (n : ℕ) : Type 0 where
   pub outcome : Outcome
   pub check : IsVisitToCheck plan profile tree name before after visits outcome
   pub written : is_written outcome ≡ true
@@ -65,23 +69,36 @@ pub record IsWholeCheck (plan : Plan) (profile : Option Profile) (tree : TreeSta
 -- Memory ran out for a folder, and nothing was written: it was asked for and couldn't be given, or it was given, and its tree was
 -- left as it was.
 abbrev pub HasRunOut : TreeState → List ℕ → OutState → OutState → List Event → Type 0
-HasRunOut tree name before after visits = (after ≡ before) × ((visits ≡ NotGiven name ∷ []) ⊎ (visits ≡ visit_of name tree))
+HasRunOut tree name before after visits =
+    (after ≡ before) × ((visits ≡ NotGiven name ∷ []) ⊎ (visits ≡ visit_of name tree))
+
+-- the folder was looked into and its bag checked, or memory ran out for it
+abbrev pub ChecksFolder : {E : Type 0} → Plan → Option Profile → TreeState → List ℕ
+    → OutState → OutState → List Event → Result Outcome E → Type 0
+ChecksFolder plan profile tree name before after visits checked = MatchResult checked
+    (λ outcome. IsVisitToCheck plan profile tree name before after visits outcome)
+    (λ _. HasRunOut tree name before after visits)
 
 -- a check that is the last: the output refused, or memory ran out for the folder, which was asked for
-abbrev pub IsLastCheck : Plan → Option Profile → TreeState → List ℕ → OutState → OutState → List Event → Type 0
+abbrev pub IsLastCheck : Plan → Option Profile → TreeState → List ℕ
+    → OutState → OutState → List Event → Type 0
 IsLastCheck plan profile tree name before after visits =
-    ((count : ℕ) × IsVisitToCheck plan profile tree name before after visits (Unwritten count)) ⊎ HasRunOut tree name before after visits
+    ((count : ℕ) × IsVisitToCheck plan profile tree name before after visits (Unwritten count))
+    ⊎ HasRunOut tree name before after visits
 
 -- The checks of the bags of these names in the trees that they name, one after the other, each with the plan's limit. After
 -- one that couldn't be read or has faults comes the next; after one that couldn't be written comes none.
-abbrev pub AreChecksOf : Plan → Option Profile → (List ℕ → TreeState) → List (List ℕ) → OutState → OutState → List Event → ℕ → Type 0
+abbrev pub AreChecksOf : Plan → Option Profile → (List ℕ → TreeState) → List (List ℕ) → Deed
 AreChecksOf plan profile tree_of names before after visits n =
-    AreInTurn (λ name. IsLastCheck plan profile (tree_of name) name) (λ name. IsWholeCheck plan profile (tree_of name) name) names before after visits n
+    AreInTurn (λ name. IsLastCheck plan profile (tree_of name) name)
+    (λ name. IsWholeCheck plan profile (tree_of name) name)
+    names before after visits n
 
 -- a check of the sample, whose device never fails
 abbrev pub IsCheckOfSample : Plan → OutState → OutState → Outcome → Type 0
 IsCheckOfSample plan before after outcome =
-    (new : TreeState) × (new.failures ≡ 0) × IsCheckOf plan None sample_state new (codes "sample") before after outcome
+    (new : TreeState) × (new.failures ≡ 0)
+    × IsCheckOf plan None sample_state new (codes "sample") before after outcome
 
 -- no device had failed when its tree was left
 abbrev pub AreCalm : List Event → Type 0
@@ -95,4 +112,5 @@ AreCalm (Read path answer ∷ visits) = AreCalm visits
 -- of a folder.
 abbrev pub IsSampleChecked : Plan → OutState → OutState → ℕ → Type 0
 IsSampleChecked plan before after n =
-    (visits : List Event) × AreCalm visits × AreChecksOf plan None (λ _. sample_state) (codes "sample" ∷ []) before after visits n
+    (visits : List Event) × AreCalm visits
+    × AreChecksOf plan None (λ _. sample_state) (codes "sample" ∷ []) before after visits n

@@ -1,5 +1,8 @@
 -- The folders that disks reach.
-use Rattle.std.specs.Prelude.{List}
+use Rattle.std.specs.Prelude.{ℕ, ◌≡◌, List, [], ◌∷◌, ◌++◌}
+use Rattle.bag_disk.specs.Disk.{DiskState}
+use Rattle.bag_store.specs.FileTree.{tree_state}
+use Rattle.bag_tree.specs.Tree.{TreeState}
 use Rattle.bag_cli.specs.Visits.{Event}
 use Rattle.bag_cli.specs.declared.folders.Folders.{Folders}
 use Rattle.bag_cli.specs.declared.visits.Visits.{Visits}
@@ -8,6 +11,14 @@ use Rattle.bag_cli.specs.declared.visits.Visits.{Visits}
 abbrev pub disks_of : {D : Type 0} → Folders D → D
 disks_of folders = folders.disks.now
 
+-- the tree of the files in a folder, as it is when it is given
+abbrev pub tree_in : {D : Type 0} → (D → List ℕ → DiskState) → Folders D → List ℕ → TreeState
+tree_in below folders name = tree_state (below (disks_of folders) name) 0
+
 -- what was done with folders, in order
 abbrev pub visits_of : {D : Type 0} → Visits D → List Event
 visits_of visits = visits.record.events
+
+-- this was done with them, and no more
+abbrev pub Notes : {D : Type 0} → Visits D → Visits D → Event → Type 0
+Notes old new event = visits_of new ≡ visits_of old ++ event ∷ []

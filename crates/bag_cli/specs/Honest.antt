@@ -39,6 +39,8 @@ pub record IsToldNotMade (name : List ℕ) (algs : List Alg) (info : List NewEle
 -- the law: of an honest folder, where the output didn't refuse, one of the two
 abbrev pub HonestFoldersAreTold : Type 0
 HonestFoldersAreTold =
-    (name : List ℕ) (algs : List Alg) (info : List NewElement) (quiet : Bool) (old new : TreeState) (before after : OutState) (n : ℕ) → IsTrue old.honest
+    (name : List ℕ) (algs : List Alg) (info : List NewElement) (quiet : Bool)
+    (old new : TreeState) (before after : OutState) (n : ℕ) → IsTrue old.honest
     → IsMaking name algs info quiet old new before after (Ok n)
-    → IsToldMade name algs info quiet old new before after n ⊎ IsToldNotMade name algs info old new before after n
+    → IsToldMade name algs info quiet old new before after n
+    ⊎ IsToldNotMade name algs info old new before after n

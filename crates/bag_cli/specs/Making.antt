@@ -1,5 +1,6 @@
 -- Making a folder a bag, and what is told of it.
-use Rattle.std.specs.Prelude.{ℕ, ◌≡◌, ◌⊎◌, ◌≤◌, Bool, true, IsTrue, List, [], Result, MatchResult, IfErr, OnOk}
+use Rattle.std.specs.Prelude.{ℕ, ◌≡◌, ◌⊎◌, ◌≤◌, Bool, true, IsTrue, List, []}
+use Rattle.std.specs.Prelude.{Result, MatchResult, IfErr, OnOk}
 use Rattle.std.specs.List.{list_any}
 use Rattle.std.specs.Io.KnownBytes.{Appends}
 use Rattle.bag_text.specs.declared.alg.Alg.{Alg}
@@ -16,7 +17,8 @@ use Rattle.bag_make.specs.declared.fault.MakeFault.{MakeFault}
 use Rattle.bag_cli.specs.MakingLine.{line, status}
 
 -- all that is promised of making a bag of a folder
-pub record IsMake (algs : List Alg) (info : List NewElement) (old new : TreeState) (made : Result (Unit {0}) MakeFault) : Type 0 where
+pub record IsMake (algs : List Alg) (info : List NewElement) (old new : TreeState)
+    (made : Result (Unit {0}) MakeFault) : Type 0 where
   pub honest : new.honest ≡ old.honest
   pub failures : old.failures ≤ new.failures
   pub untouched : (algs ≡ []) ⊎ (list_any is_refused info ≡ true) → new ≡ old
@@ -30,14 +32,16 @@ pub record IsMake (algs : List Alg) (info : List NewElement) (old new : TreeStat
   pub lasting : OnOk made (LastsForGood algs info old new)
 
 -- the output took the line, and this is the status; or it refused, and took a proper prefix
-abbrev pub TellsMaking : List ℕ → Result (Unit {0}) MakeFault → Bool → OutState → OutState → Result ℕ Refused → Type 0
+abbrev pub TellsMaking : List ℕ → Result (Unit {0}) MakeFault → Bool
+    → OutState → OutState → Result ℕ Refused → Type 0
 TellsMaking name made quiet before after told =
     MatchResult told
     (λ n. (n ≡ status made) × Appends before.taken after.taken (line name made quiet))
     (λ _. IsCut before.taken after.taken (line name made quiet) × (after.has_refused ≡ true))
 
 -- the folder was made a bag, or it wasn't, and that was told under this name
-pub record IsMaking (name : List ℕ) (algs : List Alg) (info : List NewElement) (quiet : Bool) (old new : TreeState) (before after : OutState) (told : Result ℕ Refused) : Type 0 where
+pub record IsMaking (name : List ℕ) (algs : List Alg) (info : List NewElement) (quiet : Bool)
+    (old new : TreeState) (before after : OutState) (told : Result ℕ Refused) : Type 0 where
   pub made : Result (Unit {0}) MakeFault
   pub make : IsMake algs info old new made
   pub tells : TellsMaking name made quiet before after told

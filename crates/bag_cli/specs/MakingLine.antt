@@ -6,15 +6,16 @@ use Rattle.bag_tree.specs.declared.tree_fault.Stop.{Stop}
 use Rattle.bag_tree.specs.declared.tree_fault.TreeFault.{TreeFault}
 use Rattle.bag_facts.specs.FaultLine.{field}
 use Rattle.bag_make.specs.declared.fault.MakeFault.{MakeFault}
-use Rattle.bag_make.specs.declared.fault.MakeFault.TheVariants.{NoAlgorithm, InTheWay, BadValue, ReadStopped, Memory, StepRefused}
+use Rattle.bag_make.specs.declared.fault.MakeFault.TheVariants.{NoAlgorithm, InTheWay, BadValue}
+use Rattle.bag_make.specs.declared.fault.MakeFault.TheVariants.{ReadStopped, Memory, StepRefused}
 
 -- a file, none where it is the listing, and why it couldn't be read
-abbrev pub stopped_at : Stop → List ℕ
-stopped_at stop = field stop.path ++ (codes " " ++ word stop.cause)
+abbrev pub unread_file : Stop → List ℕ
+unread_file stop = field stop.path ++ (codes " " ++ word stop.cause)
 
 -- what couldn't be read
 abbrev pub unread : Stop → List ℕ
-unread stop = codes "read " ++ stopped_at stop
+unread stop = codes "read " ++ unread_file stop
 
 -- the step that was refused, from 1, and the cause
 abbrev pub refused_step : ℕ → TreeFault → List ℕ

@@ -1,5 +1,6 @@
 -- What the program does by a plan, and which folders it looks into and which files it reads meanwhile.
-use Rattle.std.specs.Prelude.{ℕ, ◌≡◌, ◌≢◌, ◌⊎◌, Bool, true, List, [], ◌∷◌, Option, Some, None, Result, Ok, Err, if◌then◌else◌}
+use Rattle.std.specs.Prelude.{ℕ, ◌≡◌, ◌≢◌, ◌⊎◌, Bool, true, List, [], ◌∷◌, if◌then◌else◌}
+use Rattle.std.specs.Prelude.{Option, Some, None, Result, Ok, Err}
 use Rattle.std.specs.Io.KnownBytes.{Appends}
 use Rattle.bag_disk.specs.Disk.{DiskState}
 use Rattle.bag_tree.specs.Out.{OutState}
@@ -7,7 +8,7 @@ use Rattle.bag_cli.specs.Visits.{Event, Read}
 use Rattle.bag_store.specs.FileTree.{tree_state}
 use Rattle.bag_walk.specs.Write.{IsCut}
 use Rattle.bag_profile.specs.Profile.{Profile}
-use Rattle.bag_cli.specs.ProfileFile.{IsAnswer, IsRead}
+use Rattle.bag_cli.specs.ProfileFile.{IsAnswer, IsReadAs}
 use Rattle.bag_cli.specs.ProfileRefusal.{refusal_status}
 use Rattle.bag_cli.specs.UncheckedKeys.{unchecked_lines}
 use Rattle.bag_cli.specs.declared.profile_refusal.ProfileRefusal.{ProfileRefusal}
@@ -16,57 +17,84 @@ use Rattle.bag_arguments.specs.declared.plan.Action.{Action}
 use Rattle.bag_arguments.specs.declared.plan.Action.TheVariants.{Sample, Help, Check, Make}
 use Rattle.bag_arguments.specs.declared.plan.Plan.{Plan}
 use Rattle.bag_cli.specs.Checked.{AreChecksOf, IsSampleChecked}
+use Rattle.bag_cli.specs.InTurn.{Deed}
 use Rattle.bag_cli.specs.Makings.{AreMakingsOf}
 
+-- what stands on the disk below each base folder
+abbrev pub Below : Type 0
+Below = List ℕ → DiskState
+
+-- that the file at a path has these bytes, or none where there is no file that can be read
+abbrev pub Files : Type 1
+Files = List ℕ → Option (List ℕ) → Type 0
+
+-- nothing was written and no folder looked into, and this is the status
+abbrev pub IsNothing : ℕ → Deed
+IsNothing status before after visits n = (n ≡ status) × (after ≡ before) × (visits ≡ [])
+
 -- the output refused in the midst of this text
-abbrev pub IsCutOff : List ℕ → OutState → OutState → List Event → ℕ → Type 0
-IsCutOff text before after visits n = (n ≡ 3) × (after.has_refused ≡ true) × (visits ≡ []) × IsCut before.taken after.taken text
+abbrev pub IsCutOff : List ℕ → Deed
+IsCutOff text before after visits n =
+    (n ≡ 3) × (after.has_refused ≡ true) × (visits ≡ []) × IsCut before.taken after.taken text
 
 -- a text was written, or the output refused it
-abbrev pub IsSaid : List ℕ → OutState → OutState → List Event → ℕ → Type 0
-IsSaid text before after visits n = ((n ≡ 0) × (visits ≡ []) × Appends before.taken after.taken text) ⊎ IsCutOff text before after visits n
+abbrev pub IsSaid : List ℕ → Deed
+IsSaid text before after visits n =
+    ((n ≡ 0) × (visits ≡ []) × Appends before.taken after.taken text)
+    ⊎ IsCutOff text before after visits n
 
 -- the folders of a plan were checked, on disks that hold this below each base folder
-abbrev pub AreChecked : (List ℕ → DiskState) → Plan → Option Profile → OutState → OutState → List Event → ℕ → Type 0
+abbrev pub AreChecked : Below → Plan → Option Profile → Deed
 AreChecked below plan profile before after visits n =
-    AreChecksOf plan profile (λ name. tree_state (below name) 0) plan.directories before after visits n
+    AreChecksOf plan profile (λ name. tree_state (below name) 0) plan.directories
+    before after visits n
 
 -- the lines that come before the checks by a profile
 abbrev pub lines_before : Bool → Profile → List ℕ
 lines_before quiet profile = if quiet then [] else unchecked_lines profile.unchecked
 
 -- its unchecked keys were written, and then the folders were checked by it; or the output refused these lines
-abbrev pub AreCheckedBy : (List ℕ → DiskState) → Plan → Profile → OutState → OutState → List Event → ℕ → Type 0
+abbrev pub AreCheckedBy : Below → Plan → Profile → Deed
 AreCheckedBy below plan profile before after visits n =
     IsCutOff (lines_before plan.quiet profile) before after visits n
-    ⊎ ((mid : OutState) × Appends before.taken mid.taken (lines_before plan.quiet profile) × AreChecked below plan (Some profile) mid after visits n)
+    ⊎ ((mid : OutState) × Appends before.taken mid.taken (lines_before plan.quiet profile)
+    × AreChecked below plan (Some profile) mid after visits n)
 
 -- the folders were checked by the profile that was read; where none was, nothing is written
-abbrev pub IsCheckedFor : (List ℕ → DiskState) → Plan → Result Profile ProfileRefusal → OutState → OutState → List Event → ℕ → Type 0
-IsCheckedFor below plan (Ok profile) before after visits n = AreCheckedBy below plan profile before after visits n
-IsCheckedFor below plan (Err refusal) before after visits n = (n ≡ refusal_status refusal) × (after ≡ before) × (visits ≡ [])
+abbrev pub IsCheckedFor : Below → Plan → Result Profile ProfileRefusal → Deed
+IsCheckedFor below plan (Ok profile) before after visits n =
+    AreCheckedBy below plan profile before after visits n
+IsCheckedFor below plan (Err refusal) before after visits n =
+    IsNothing (refusal_status refusal) before after visits n
 
 -- the folders were checked, by the profile of a file where there is a path of one, which was read by one call, before them
-abbrev pub IsChecked : (List ℕ → DiskState) → (List ℕ → Option (List ℕ) → Type 0) → Plan → Option (List ℕ) → OutState → OutState → List Event → ℕ → Type 0
-IsChecked below file plan None before after visits n = AreChecked below plan None before after visits n
+abbrev pub IsChecked : Below → Files → Plan → Option (List ℕ) → Deed
+IsChecked below file plan None before after visits n =
+    AreChecked below plan None before after visits n
 IsChecked below file plan (Some path) before after visits n =
-    (answer : Result (List ℕ) ReadFault) × (read : Result Profile ProfileRefusal) × (own : List Event)
-    × (visits ≡ Read path answer ∷ own) × IsAnswer (file path) answer × IsRead answer read
+    (answer : Result (List ℕ) ReadFault) × (read : Result Profile ProfileRefusal)
+    × (own : List Event) × (visits ≡ Read path answer ∷ own)
+    × IsAnswer (file path) answer × IsReadAs answer read
     × IsCheckedFor below plan read before after own n
 
 -- the folders of a plan were made bags, on disks that hold this below each base folder; or memory for the elements, of which
 -- there are some, ran out
-abbrev pub AreMade : (List ℕ → DiskState) → Plan → OutState → OutState → List Event → ℕ → Type 0
+abbrev pub AreMade : Below → Plan → Deed
 AreMade below plan before after visits n =
-    ((n ≡ 3) × (after ≡ before) × (visits ≡ []) × (plan.info ≢ [])) ⊎ AreMakingsOf plan (λ name. tree_state (below name) 0) plan.directories before after visits n
+    ((n ≡ 3) × (after ≡ before) × (visits ≡ []) × (plan.info ≢ []))
+    ⊎ AreMakingsOf plan (λ name. tree_state (below name) 0) plan.directories
+    before after visits n
 
 -- this was done for a plan, on disks that hold this below each base folder, where files have these bytes
-abbrev pub IsDoneBy : Action → (List ℕ → DiskState) → (List ℕ → Option (List ℕ) → Type 0) → Plan → OutState → OutState → List Event → ℕ → Type 0
-IsDoneBy Sample below file plan before after visits n = IsSampleChecked plan before after n × (visits ≡ [])
+abbrev pub IsDoneBy : Action → Below → Files → Plan → Deed
+IsDoneBy Sample below file plan before after visits n =
+    IsSampleChecked plan before after n × (visits ≡ [])
 IsDoneBy (Help text) below file plan before after visits n = IsSaid text before after visits n
-IsDoneBy Check below file plan before after visits n = IsChecked below file plan plan.profile before after visits n
+IsDoneBy Check below file plan before after visits n =
+    IsChecked below file plan plan.profile before after visits n
 IsDoneBy Make below file plan before after visits n = AreMade below plan before after visits n
 
 -- what a plan says was done, on disks that hold this below each base folder, where files have these bytes
-abbrev pub IsPerformed : (List ℕ → DiskState) → (List ℕ → Option (List ℕ) → Type 0) → Plan → OutState → OutState → List Event → ℕ → Type 0
-IsPerformed below file plan before after visits n = IsDoneBy plan.action below file plan before after visits n
+abbrev pub IsPerformed : Below → Files → Plan → Deed
+IsPerformed below file plan before after visits n =
+    IsDoneBy plan.action below file plan before after visits n

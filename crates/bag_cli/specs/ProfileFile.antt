@@ -1,5 +1,6 @@
 -- What the file of a profile is read as.
-use Rattle.std.specs.Prelude.{ℕ, ◌≡◌, ◌≤◌, ◌⊎◌, ◌∷◌, ◌++◌, [], List, length, Option, Some, Result, Ok, Err}
+use Rattle.std.specs.Prelude.{ℕ, ◌≡◌, ◌≤◌, ◌⊎◌, List, [], ◌∷◌, ◌++◌, length}
+use Rattle.std.specs.Prelude.{Option, Some, Result, Ok, Err}
 use Rattle.bag_cli.specs.SystemFile.{MayBeUnread}
 use Rattle.bag_cli.specs.Visits.{Event, Read}
 use Rattle.bag_cli.specs.ProfileRefusal.{unread_as}
@@ -23,11 +24,11 @@ IsAnswer file (Err none.Memory) = Unit {0}
 
 -- What is read of that answer: the profile that the bytes are, or the cause for which they are none, or memory ran out; and where
 -- there are no bytes, why.
-abbrev pub IsRead : Result (List ℕ) ReadFault → Result Profile ProfileRefusal → Type 0
-IsRead (Ok bytes) (Ok profile) = profile_in bytes ≡ Ok profile
-IsRead (Ok bytes) (Err Unread) = ⊥
-IsRead (Ok bytes) (Err (Refused fault)) = (fault ≡ Memory) ⊎ (profile_in bytes ≡ Err fault)
-IsRead (Err fault) read = read ≡ Err (unread_as fault)
+abbrev pub IsReadAs : Result (List ℕ) ReadFault → Result Profile ProfileRefusal → Type 0
+IsReadAs (Ok bytes) (Ok profile) = profile_in bytes ≡ Ok profile
+IsReadAs (Ok bytes) (Err Unread) = ⊥
+IsReadAs (Ok bytes) (Err (Refused fault)) = (fault ≡ Memory) ⊎ (profile_in bytes ≡ Err fault)
+IsReadAs (Err fault) read = read ≡ Err (unread_as fault)
 
 -- the file at the path was read, by one call, and this is what is read of its answer
 pub record ReadsProfile (file : Option (List ℕ) → Type 0) (path : List ℕ) (before after : List Event)
@@ -35,4 +36,4 @@ pub record ReadsProfile (file : Option (List ℕ) → Type 0) (path : List ℕ) 
   pub answer : Result (List ℕ) ReadFault
   pub visits : after ≡ before ++ Read path answer ∷ []
   pub is_answer : IsAnswer file answer
-  pub is_read : IsRead answer read
+  pub is_read : IsReadAs answer read

@@ -4,7 +4,8 @@ use Rattle.bag_cli.specs.declared.read_fault.ReadFault.{ReadFault}
 use Rattle.bag_cli.specs.declared.read_fault.ReadFault.TheVariants as read
 use Rattle.bag_facts.specs.FaultLine.{field}
 use Rattle.bag_profile.specs.Key.{key_name}
-use Rattle.bag_profile.specs.declared.fault.ProfileFault.TheVariants.{NotJson, NoIdentifier, WrongShape, Memory}
+use Rattle.bag_profile.specs.declared.fault.ProfileFault.TheVariants.{NotJson, NoIdentifier}
+use Rattle.bag_profile.specs.declared.fault.ProfileFault.TheVariants.{WrongShape, Memory}
 use Rattle.bag_cli.specs.declared.profile_refusal.ProfileRefusal.{ProfileRefusal}
 use Rattle.bag_cli.specs.declared.profile_refusal.ProfileRefusal.TheVariants.{Unread, Refused}
 

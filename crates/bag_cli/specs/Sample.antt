@@ -10,7 +10,9 @@ declaration = codes "BagIt-Version: 1.0\nTag-File-Character-Encoding: UTF-8\n"
 
 -- a declaration, an empty manifest, and an empty payload folder
 abbrev pub sample_bag : Bag
-sample_bag = with_folder (with_file (with_file empty_bag (codes "bagit.txt") declaration) (codes "manifest-sha256.txt") []) (codes "data")
+sample_bag =
+    let declared = with_file empty_bag (codes "bagit.txt") declaration in
+    with_folder (with_file declared (codes "manifest-sha256.txt") []) (codes "data")
 
 -- the sample is honest, and nothing of it is open
 abbrev pub sample_state : TreeState

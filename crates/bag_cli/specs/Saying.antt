@@ -6,7 +6,9 @@ use Rattle.bag_walk.specs.Write.{IsCut}
 
 -- all of the text was taken; or a proper front of it, and then a refusal
 abbrev pub Says : OutState → OutState → List ℕ → Type 0
-Says before after text = Appends before.taken after.taken text ⊎ (IsCut before.taken after.taken text × (after.has_refused ≡ true))
+Says before after text =
+    Appends before.taken after.taken text
+    ⊎ (IsCut before.taken after.taken text × (after.has_refused ≡ true))
 
 -- the line where the output refused
 abbrev pub output_refused : List ℕ

@@ -1,7 +1,8 @@
 -- The exit status of the program.
 use Rattle.std.specs.Prelude.{ℕ, Option, Some, None, Result, Ok, Err}
 use Rattle.bag_walk.specs.declared.outcome.Outcome.{Outcome}
-use Rattle.bag_walk.specs.declared.outcome.Outcome.TheVariants.{Clean, Faults, Stopped, Rest, Unread, Unwritten}
+use Rattle.bag_walk.specs.declared.outcome.Outcome.TheVariants.{Clean, Faults, Stopped, Rest}
+use Rattle.bag_walk.specs.declared.outcome.Outcome.TheVariants.{Unread, Unwritten}
 
 -- the status of a check whose whole report was written
 abbrev pub whole_status : {E : Type 0} → Result Outcome E → Option ℕ

@@ -34,15 +34,17 @@ told_lines request faults = lines_of_run request (shown_of request faults) (idea
 -- limit, and the closing line, and the status tells whether there are faults.
 abbrev pub TellsReport : Plan → Option Profile → Bag → List ℕ → OutState → OutState → ℕ → Type 0
 TellsReport plan profile bag name before after n =
-    n ≢ 3 → (report : List Fault) → IsReport (check_of bag profile (request_of plan name)) report
-    → (n ≡ status (ideal (request_of plan name) (above plan.after report)))
-    × Appends before.taken after.taken (concat (told_lines (request_of plan name) (above plan.after report)))
+    let request = request_of plan name in
+    n ≢ 3 → (report : List Fault) → IsReport (check_of bag profile request) report
+    → (n ≡ status (ideal request (above plan.after report)))
+    × Appends before.taken after.taken (concat (told_lines request (above plan.after report)))
 
 -- the law: over an honest disk, the check of one directory tells the report of the bag that stands there
 abbrev pub HonestDisksAreTold : Type 0
 HonestDisksAreTold =
-    (plan : Plan) (profile : Option Profile) (below : List ℕ → DiskState) (name : List ℕ) (before after : OutState) (visits : List Event) (n : ℕ)
-    → IsTrue (below name).honest → AreChecksOf plan profile (λ name. tree_state (below name) 0) (name ∷ []) before after visits n
+    (plan : Plan) (profile : Option Profile) (below : List ℕ → DiskState) (name : List ℕ)
+    (before after : OutState) (visits : List Event) (n : ℕ) → IsTrue (below name).honest
+    → AreChecksOf plan profile (λ name. tree_state (below name) 0) (name ∷ []) before after visits n
     → TellsReport plan profile (bag_of (below name).nodes) name before after n
 
 -- The folder's tree was left as the bag that the plan makes of what stood there, which has no fault
@@ -55,10 +57,12 @@ TellsMade plan tree name before after visits =
 -- the law: over an honest disk, the making of one directory with status 0 left it a bag, and told that
 abbrev pub HonestFoldersAreMade : Type 0
 HonestFoldersAreMade =
-    (plan : Plan) (below : List ℕ → DiskState) (name : List ℕ) (before after : OutState) (visits : List Event)
-    → IsTrue (below name).honest → AreMakingsOf plan (λ name. tree_state (below name) 0) (name ∷ []) before after visits 0
+    (plan : Plan) (below : List ℕ → DiskState) (name : List ℕ)
+    (before after : OutState) (visits : List Event) → IsTrue (below name).honest
+    → AreMakingsOf plan (λ name. tree_state (below name) 0) (name ∷ []) before after visits 0
     → TellsMade plan (tree_state (below name) 0) name before after visits
 
 -- a plan that checks one directory, without a profile
 abbrev pub IsCheckOfOne : Plan → List ℕ → Type 0
-IsCheckOfOne plan name = (plan.action ≡ Check) × (plan.profile ≡ None) × (plan.directories ≡ name ∷ [])
+IsCheckOfOne plan name =
+    (plan.action ≡ Check) × (plan.profile ≡ None) × (plan.directories ≡ name ∷ [])

@@ -1,7 +1,8 @@
 -- Which folders were looked into, as what their trees were left, which couldn't be given, and which files were read beside them.
 use Rattle.std.specs.Prelude.{ℕ, ◌≡◌, ◌⊎◌, Bool, List, Option, Result, refl}
 use mathlib.Core.Logic.{inl, inr}
-use Rattle.std.specs.Coded.{Coded, code_by, coded×, coded⊎, coded_ℕ, coded_bool, coded_list, coded_option, coded_result}
+use Rattle.std.specs.Coded.{Coded, code_by, coded×, coded⊎, coded_ℕ, coded_bool, coded_list}
+use Rattle.std.specs.Coded.{coded_option, coded_result}
 use Rattle.std.specs.FinMap as map
 use Rattle.std.specs.FinSet as set
 use Rattle.bag_text.specs.Text.{text_cmp}
@@ -29,8 +30,10 @@ coded_text = coded_list coded_ℕ
 
 abbrev coded_bag : Coded Bag
 coded_bag =
-    code_by (map.FinMap text_cmp (List ℕ) × set.FinSet text_cmp) (coded× (map.code coded_text coded_text) (set.code coded_text))
-    (λ bag. (bag.files, bag.folders)) (λ parts. record { files = parts.0; folders = parts.1 }) (λ _. refl)
+    code_by (map.FinMap text_cmp (List ℕ) × set.FinSet text_cmp)
+    (coded× (map.code coded_text coded_text) (set.code coded_text))
+    (λ bag. (bag.files, bag.folders)) (λ parts. record { files = parts.0; folders = parts.1 })
+    (λ _. refl)
 
 abbrev Reads : Type 0
 Reads = List (List ℕ) × (Option (List ℕ) × (ℕ × Answer))
@@ -76,7 +79,8 @@ state_of (kept, (reads, noted)) = record {
 }
 
 abbrev coded_state : Coded TreeState
-coded_state = code_by Parts (coded× coded_kept (coded× coded_reads coded_noted)) parts_of state_of (λ _. refl)
+coded_state =
+    code_by Parts (coded× coded_kept (coded× coded_reads coded_noted)) parts_of state_of (λ _. refl)
 
 abbrev Kinds : Type 0
 Kinds = List ℕ ⊎ (List ℕ ⊎ (TreeState ⊎ (List ℕ × Result (List ℕ) ReadFault)))
@@ -101,4 +105,6 @@ join_split (Read path given) = refl
 
 abbrev pub coded_event : Coded Event
 coded_event =
-    code_by Kinds (coded⊎ coded_text (coded⊎ coded_text (coded⊎ coded_state (coded× coded_text (coded_result coded_text read_fault.the_row.coded))))) split join join_split
+    let coded_read = coded× coded_text (coded_result coded_text read_fault.the_row.coded) in
+    code_by Kinds (coded⊎ coded_text (coded⊎ coded_text (coded⊎ coded_state coded_read)))
+    split join join_split

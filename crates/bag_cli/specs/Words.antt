@@ -1,5 +1,6 @@
 -- The words that the program was started with.
-use Rattle.std.specs.Prelude.{ℕ, ◌≡◌, ◌⊎◌, List, Result, Ok, Err, String, Vec, ⊤, codes, drop, map, string_bytes}
+use Rattle.std.specs.Prelude.{ℕ, ◌≡◌, ◌⊎◌, List, Result, Ok, Err, String, Vec, ⊤, codes, drop, map}
+use Rattle.std.specs.Prelude.{string_bytes}
 use Rattle.std.specs.declared.alloc.Global.{Global}
 use Rattle.std.specs.declared.vec.IntoIter.{IntoIter}
 use Rattle.std.specs.Vec.Iter.{into_iter_items}
@@ -22,6 +23,8 @@ MayAnswer (Err usage) = IsUnread usage
 
 -- what is asked are the answered words without the program's name; there are none where that was answered, or for want of
 -- memory
-abbrev pub MayHaveAsked : (Result (List (List ℕ)) Usage → Type 0) → Result (Vec (String Global) Global) Usage → Type 0
-MayHaveAsked answers (Ok asked) = (words : List (List ℕ)) × answers (Ok words) × (map string_bytes asked.items ≡ drop 1 words)
+abbrev pub MayHaveAsked : (Result (List (List ℕ)) Usage → Type 0)
+    → Result (Vec (String Global) Global) Usage → Type 0
+MayHaveAsked answers (Ok asked) =
+    (words : List (List ℕ)) × answers (Ok words) × (map string_bytes asked.items ≡ drop 1 words)
 MayHaveAsked answers (Err usage) = answers (Err usage) ⊎ (usage ≡ Memory)

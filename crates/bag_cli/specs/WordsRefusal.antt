@@ -3,7 +3,9 @@ use Rattle.std.specs.Prelude.{ℕ, ◌==◌, ◌++◌, List, codes, if◌then◌
 use Rattle.std.specs.List.{ends_with}
 use Rattle.bag_arguments.specs.Given.{check_name}
 use Rattle.bag_arguments.specs.declared.usage.Usage.{Usage}
-use Rattle.bag_arguments.specs.declared.usage.Usage.TheVariants.{Refused, NeedsValidate, TwoDepths, AfterSeveral, AfterNotALine, Memory}
+use Rattle.bag_arguments.specs.declared.usage.Usage.TheVariants.{Refused, NeedsValidate, TwoDepths}
+use Rattle.bag_arguments.specs.declared.usage.Usage.TheVariants.{AfterSeveral, AfterNotALine}
+use Rattle.bag_arguments.specs.declared.usage.Usage.TheVariants.{Memory}
 
 -- a text with a line end at its end: its own, or else one behind it
 abbrev pub ended : List ℕ → List ℕ
@@ -12,7 +14,8 @@ ended text = if ends_with ◌==◌ text (codes "\n") then text else text ++ code
 -- the line with its end, of clap some lines
 abbrev pub usage_line : Usage → List ℕ
 usage_line (Refused text) = ended text
-usage_line (NeedsValidate option) = codes "bagit: " ++ (check_name option ++ codes " needs --validate\n")
+usage_line (NeedsValidate option) =
+    codes "bagit: " ++ (check_name option ++ codes " needs --validate\n")
 usage_line TwoDepths = codes "bagit: more than one of --declaration-only, --fast, --completeness-only\n"
 usage_line AfterSeveral = codes "bagit: --after takes one directory\n"
 usage_line AfterNotALine = codes "bagit: --after is not a fault line\n"

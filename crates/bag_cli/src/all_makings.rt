@@ -1,11 +1,9 @@
 //! Bags that are made of folders, one after the other.
-ghost use Rattle.std.specs.Prelude.{◌≡◌, ◌≢◌, ◌∷◌, [], IfOk, OnErr, MatchResult, map};
-ghost use Rattle.bag_cli.specs.Folders.{disks_of, visits_of};
-ghost use Rattle.bag_store.specs.FileTree.{tree_state};
-ghost use Rattle.bag_cli.specs.InTurn.{HasVisited};
-ghost use Rattle.bag_cli.specs.Makings.{IsTold, element_of};
+ghost use Rattle.std.specs.Prelude.{◌≡◌, ◌≢◌, [], IfOk, OnErr, map};
+ghost use Rattle.bag_cli.specs.Folders.{disks_of, tree_in, visits_of};
+ghost use Rattle.bag_cli.specs.InTurn.{Does, HasVisited};
+ghost use Rattle.bag_cli.specs.Makings.{element_of, MakesFolder};
 ghost use Rattle.bag_cli.specs.Performed.{AreMade};
-ghost use Rattle.bag_cli.specs.Visits.{NotGiven};
 
 use crate::in_turn::{Task, do_in_turn};
 use crate::performing::REFUSED;
@@ -29,8 +27,8 @@ where
     D: Disks,
     O: Out,
     E: Out,
-    ensures { HasVisited (visits_of visits.old) (visits_of visits.new)
-        (λ own. AreMade (D.below (disks_of folders.now)) plan.now (O.state out.old) (O.state out.new) own result) }
+    ensures { Does O.Out visits.old visits.new out.old out.new result
+        (AreMade (D.below (disks_of folders.now)) plan.now) }
 {
     match elements(alloc, plan.info.as_slice()) {
         Ok(info) => {
@@ -74,10 +72,10 @@ impl Makings<'_> {
         visits: &mut Visits<D>,
         out: &mut O,
     ) -> Result<Result<u8, Refused>, AllocError>
-        ensures { HasVisited (visits_of visits.old) (visits_of visits.new) (λ own. MatchResult result
-            (λ told. IsTold self.now.plan.now self.now.info.now (tree_state (D.below (disks_of folders.now) directory.now) 0) directory.now
-            (O.state out.old) (O.state out.new) own told)
-            (λ _. (O.state out.new ≡ O.state out.old) × (own ≡ NotGiven directory.now ∷ []))) }
+        ensures { HasVisited (visits_of visits.old) (visits_of visits.new) (λ own.
+            MakesFolder self.now.plan.now self.now.info.now
+            (tree_in D.below folders.now directory.now) directory.now
+            (O.state out.old) (O.state out.new) own result) }
     {
         let plan = self.plan;
         let tree = folders.enter(alloc, directory, visits)?;

@@ -1,7 +1,7 @@
 //! Checks by the profile of a plan.
-ghost use Rattle.bag_cli.specs.InTurn.{HasVisited};
+ghost use Rattle.bag_cli.specs.Folders.{disks_of};
+ghost use Rattle.bag_cli.specs.InTurn.{Does};
 ghost use Rattle.bag_cli.specs.Performed.{AreCheckedBy, IsChecked, lines_before};
-ghost use Rattle.bag_cli.specs.Folders.{disks_of, visits_of};
 ghost use Rattle.bag_walk.specs.Write.{Writes};
 
 use crate::all_checks::Checks;
@@ -27,8 +27,9 @@ where
     D: Disks,
     O: Out,
     E: Out,
-    ensures { HasVisited (visits_of visits.old) (visits_of visits.new) (λ own. IsChecked (D.below (disks_of folders.now)) (D.file (disks_of folders.now)) plan.now
-        plan.now.profile (O.state out.old) (O.state out.new) own result) }
+    ensures { Does O.Out visits.old visits.new out.old out.new result
+        (IsChecked (D.below (disks_of folders.now)) (D.file (disks_of folders.now))
+        plan.now plan.now.profile) }
 {
     let Some(path) = &plan.profile else {
         let checks = Checks {
@@ -58,8 +59,8 @@ where
     D: Disks,
     O: Out,
     E: Out,
-    ensures { HasVisited (visits_of visits.old) (visits_of visits.new)
-        (λ own. AreCheckedBy (D.below (disks_of folders.now)) plan.now profile.now (O.state out.old) (O.state out.new) own result) }
+    ensures { Does O.Out visits.old visits.new out.old out.new result
+        (AreCheckedBy (D.below (disks_of folders.now)) plan.now profile.now) }
 {
     match say_unchecked(plan.quiet, profile, out) {
         Ok(()) => {

@@ -1,9 +1,8 @@
 //! One check: the report of one bag.
 ghost use Rattle.std.specs.Prelude.{◌≡◌, IfOk, MatchResult};
 ghost use Rattle.std.specs.Option.{option_copied};
-ghost use Rattle.bag_cli.specs.Folders.{disks_of, visits_of};
-ghost use Rattle.bag_store.specs.FileTree.{tree_state};
-ghost use Rattle.bag_cli.specs.Checked.{HasRunOut, IsCheckOf, IsCheckOfSample, IsVisitToCheck, request_of};
+ghost use Rattle.bag_cli.specs.Folders.{tree_in, visits_of};
+ghost use Rattle.bag_cli.specs.Checked.{request_of, ChecksFolder, ChecksTree, IsCheckOfSample};
 ghost use Rattle.bag_cli.specs.InTurn.{HasVisited};
 
 use crate::sample::sample_tree;
@@ -26,10 +25,10 @@ pub(crate) fn check_folder<D: Disks, O: Out>(
     visits: &mut Visits<D>,
     out: &mut O,
 ) -> Result<Outcome, AllocError>
-    ensures { HasVisited (visits_of visits.old) (visits_of visits.new) (λ own. MatchResult result
-        (λ outcome. IsVisitToCheck plan.now (option_copied profile.entry) (tree_state (D.below (disks_of folders.now) directory.now) 0) directory.now
-        (O.state out.old) (O.state out.new) own outcome)
-        (λ _. HasRunOut (tree_state (D.below (disks_of folders.now) directory.now) 0) directory.now (O.state out.old) (O.state out.new) own)) }
+    ensures { HasVisited (visits_of visits.old) (visits_of visits.new) (λ own.
+        ChecksFolder plan.now (option_copied profile.entry)
+        (tree_in D.below folders.now directory.now) directory.now
+        (O.state out.old) (O.state out.new) own result) }
 {
     let tree = folders.enter(alloc, directory, visits)?;
     let (tree, checked) = check_tree(alloc, tree, plan, profile, directory, out);
@@ -61,10 +60,9 @@ fn check_tree<T: Tree, O: Out>(
     name: &str,
     out: &mut O,
 ) -> (T, Result<Outcome, AllocError>)
-    ensures { MatchResult result.1
-        (λ outcome. IsCheckOf plan.now (option_copied profile.entry) (T.state tree) (T.state result.0) name.now
-        (O.state out.old) (O.state out.new) outcome)
-        (λ _. (O.state out.new ≡ O.state out.old) × (T.state result.0 ≡ T.state tree)) }
+    ensures { ChecksTree plan.now (option_copied profile.entry)
+        (T.state tree) (T.state result.0) name.now
+        (O.state out.old) (O.state out.new) result.1 }
 {
     match request_for(alloc, plan, name) {
         Ok(request) => {

@@ -1,5 +1,6 @@
 //! What gives the disks that the program looks at.
-ghost use Rattle.std.specs.Prelude.{◌≡◌, ◌≤◌, List, ℕ, Option, Some, IfOk, IsErrOf, [], false, ⊤, vec_len};
+ghost use Rattle.std.specs.Prelude.{ℕ, ◌≡◌, ◌≤◌, ⊤, false, List, [], vec_len};
+ghost use Rattle.std.specs.Prelude.{Option, Some, IfOk, IsErrOf};
 ghost use Rattle.bag_disk.specs.Disk.{DiskState};
 ghost use Rattle.bag_disk.specs.SystemDisk.{base_of, system_state};
 ghost use Rattle.bag_cli.specs.SystemFile.{MayBeUnread};

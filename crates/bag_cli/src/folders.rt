@@ -1,9 +1,9 @@
 //! The folders that a program looks into.
-ghost use Rattle.std.specs.Prelude.{◌≡◌, ◌≤◌, ◌∷◌, ◌++◌, [], Some, IfOk, IsErrOf, OnOk, OnErr, vec_len};
+ghost use Rattle.std.specs.Prelude.{◌≡◌, ◌≤◌, [], Some, IfOk, IsErrOf, OnOk, OnErr, vec_len};
 ghost use Rattle.std.specs.Result.{result_map_both};
-ghost use Rattle.bag_store.specs.FileTree.{disk_of, tree_state};
+ghost use Rattle.bag_store.specs.FileTree.{disk_of};
 ghost use Rattle.bag_cli.specs.SystemFile.{MayBeUnread};
-ghost use Rattle.bag_cli.specs.Folders.{disks_of, visits_of};
+ghost use Rattle.bag_cli.specs.Folders.{disks_of, tree_in, visits_of, Notes};
 ghost use Rattle.bag_cli.specs.Visits.{Entered, NotGiven, Left, Read};
 ghost use Rattle.bag_cli.specs.declared.read_fault.ReadFault.TheVariants.{Unread};
 
@@ -39,10 +39,11 @@ impl<'d, D: Disks> Folders<'d, D> {
         name: &str,
         visits: &mut Visits<D>,
     ) -> Result<FileTree<D::Disk>, AllocError>
-        ensures state { IfOk result (λ tree. ⟦<FileTree<D::Disk> as bag_tree::Tree>⟧.state tree ≡ tree_state (D.below (disks_of self.now) name.now) 0) }
+        ensures state { IfOk result (λ tree. ⟦<FileTree<D::Disk> as bag_tree::Tree>⟧.state tree
+            ≡ tree_in D.below self.now name.now) }
         ensures base { IfOk result (λ tree. D.is_below (disk_of tree) name.now) }
-        ensures entered { OnOk result (visits_of visits.new ≡ visits_of visits.old ++ Entered name.now ∷ []) }
-        ensures refused { OnErr result (visits_of visits.new ≡ visits_of visits.old ++ NotGiven name.now ∷ []) }
+        ensures entered { OnOk result (Notes visits.old visits.new (Entered name.now)) }
+        ensures refused { OnErr result (Notes visits.old visits.new (NotGiven name.now)) }
     {
         match self.disks.disk(alloc, name) {
             Ok(disk) => {
@@ -58,7 +59,8 @@ impl<'d, D: Disks> Folders<'d, D> {
 
     /// Drops a tree, which is left as it is now.
     pub fn leave(&self, tree: FileTree<D::Disk>, visits: &mut Visits<D>)
-        ensures { visits_of visits.new ≡ visits_of visits.old ++ Left (⟦<FileTree<D::Disk> as bag_tree::Tree>⟧.state tree) ∷ [] }
+        ensures { Notes visits.old visits.new
+            (Left (⟦<FileTree<D::Disk> as bag_tree::Tree>⟧.state tree)) }
     {
         visits.note_of(&tree);
     }
@@ -73,11 +75,13 @@ impl<'d, D: Disks> Folders<'d, D> {
         most: u32,
         visits: &mut Visits<D>,
     ) -> Result<Vec<u8>, ReadFault>
-        ensures whole { IfOk result (λ bytes. D.file (disks_of self.now) path.now (Some bytes.items)) }
+        ensures whole { IfOk result (λ bytes.
+            D.file (disks_of self.now) path.now (Some bytes.items)) }
         ensures within { IfOk result (λ bytes. vec_len bytes ≤ most) }
-        ensures unread { IsErrOf result Unread → MayBeUnread (D.file (disks_of self.now) path.now) most }
-        ensures read { visits_of visits.new ≡ visits_of visits.old
-            ++ Read path.now (result_map_both (λ bytes. bytes.items) (λ fault. fault) result) ∷ [] }
+        ensures unread { IsErrOf result Unread →
+            MayBeUnread (D.file (disks_of self.now) path.now) most }
+        ensures read { Notes visits.old visits.new
+            (Read path.now (result_map_both (λ bytes. bytes.items) (λ fault. fault) result)) }
     {
         let answer = self.disks.read_file(alloc, path, most);
         visits.note_of(&(path, &answer));
@@ -87,7 +91,7 @@ impl<'d, D: Disks> Folders<'d, D> {
 
 /// Notes that a folder was asked for and couldn't be given.
 fn note_not_given<D>(name: &str, visits: &mut Visits<D>)
-    ensures { visits_of visits.new ≡ visits_of visits.old ++ NotGiven name.now ∷ [] }
+    ensures { Notes visits.old visits.new (NotGiven name.now) }
 {
     visits.note_of(&name);
 }

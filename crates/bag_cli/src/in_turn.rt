@@ -2,10 +2,9 @@
 ghost use Rattle.std.specs.Prelude.{◌≤◌, ℕ, List, IfSome, MatchOption};
 ghost use Rattle.bag_tree.specs.Out.{OutState};
 ghost use Rattle.bag_tree.specs.Tree.{TreeState};
-ghost use Rattle.bag_cli.specs.Folders.{disks_of, visits_of};
+ghost use Rattle.bag_cli.specs.Folders.{tree_in, visits_of};
+ghost use Rattle.bag_cli.specs.InTurn.{AreInTurn, Deed, Does, HasVisited};
 ghost use Rattle.bag_cli.specs.Visits.{Event};
-ghost use Rattle.bag_store.specs.FileTree.{tree_state};
-ghost use Rattle.bag_cli.specs.InTurn.{AreInTurn, HasVisited};
 
 use crate::performing::REFUSED;
 use crate::{Disks, Folders, Visits};
@@ -20,7 +19,7 @@ pub(crate) trait Task {
     ghost ends: { Self → TreeState → List ℕ → OutState → OutState → List Event → Type 0 };
 
     /// What was done with it where the next folder comes, with its status.
-    ghost goes: { Self → TreeState → List ℕ → OutState → OutState → List Event → ℕ → Type 0 };
+    ghost goes: { Self → TreeState → List ℕ → Deed };
 
     /// Does it with a folder, and says on `err` what was refused beside what it writes to `out`. Gives the status where all of that
     /// was written.
@@ -34,9 +33,10 @@ pub(crate) trait Task {
         err: &mut E,
     ) -> Option<u8>
         ensures status { IfSome result (λ status. status ≤ 3) }
-        ensures done { HasVisited (visits_of visits.old) (visits_of visits.new) (λ own. MatchOption result
-            (ends self.now (tree_state (D.below (disks_of folders.now) directory.now) 0) directory.now (O.state out.old) (O.state out.new) own)
-            (λ status. goes self.now (tree_state (D.below (disks_of folders.now) directory.now) 0) directory.now (O.state out.old) (O.state out.new) own status)) };
+        ensures done { HasVisited (visits_of visits.old) (visits_of visits.new) (λ own.
+            let tree = tree_in D.below folders.now directory.now in MatchOption result
+            (ends self.now tree directory.now (O.state out.old) (O.state out.new) own)
+            (goes self.now tree directory.now (O.state out.old) (O.state out.new) own)) };
 }
 
 /// Does a task with folders, one after the other, up to the first of which not all was written. Gives the greatest status.
@@ -54,10 +54,9 @@ where
     D: Disks,
     O: Out,
     E: Out,
-    ensures { HasVisited (visits_of visits.old) (visits_of visits.new) (λ own. AreInTurn
-        (λ name. T.ends task.now (tree_state (D.below (disks_of folders.now) name) 0) name)
-        (λ name. T.goes task.now (tree_state (D.below (disks_of folders.now) name) 0) name)
-        directories.now (O.state out.old) (O.state out.new) own result) }
+    ensures { Does O.Out visits.old visits.new out.old out.new result (AreInTurn
+        (λ name. T.ends task.now (tree_in D.below folders.now name) name)
+        (λ name. T.goes task.now (tree_in D.below folders.now name) name) directories.now) }
 {
     let mut greatest = 0;
     for directory in directories {

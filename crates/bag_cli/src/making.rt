@@ -23,7 +23,8 @@ pub fn make_and_tell<T: WriteTree, W: Out>(
     quiet: bool,
     out: &mut W,
 ) -> (T, Result<u8, Refused>)
-    ensures { IsMaking name.now algs info.now quiet (T.state tree) (T.state result.0) (W.state out.old) (W.state out.new) result.1 }
+    ensures { IsMaking name.now algs info.now quiet (T.state tree) (T.state result.0)
+        (W.state out.old) (W.state out.new) result.1 }
 {
     let (tree, made) = make(alloc, tree, algs, info);
     let told = tell(name, &made, quiet, out);

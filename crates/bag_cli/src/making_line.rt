@@ -17,7 +17,8 @@ pub fn put_making<W: Out>(
     quiet: bool,
     out: &mut W,
 ) -> Result<(), Refused>
-    ensures { Writes (W.state out.old) (W.state out.new) (spec.line name.now made.now quiet) result }
+    ensures { Writes (W.state out.old) (W.state out.new)
+        (spec.line name.now made.now quiet) result }
 {
     match made {
         Ok(()) => {
@@ -32,7 +33,8 @@ pub fn put_making<W: Out>(
 }
 
 fn put_not_made<W: Out>(name: &str, fault: &MakeFault, out: &mut W) -> Result<(), Refused>
-    ensures { Writes (W.state out.old) (W.state out.new) (spec.not_made name.now (spec.reason fault.now)) result }
+    ensures { Writes (W.state out.old) (W.state out.new)
+        (spec.not_made name.now (spec.reason fault.now)) result }
 {
     match fault {
         MakeFault::NoAlgorithm => put_reason(name, said::NO_ALGORITHM, out),
@@ -51,20 +53,23 @@ fn put_reason<W: Out>(name: &str, reason: &str, out: &mut W) -> Result<(), Refus
 }
 
 fn put_unread<W: Out>(name: &str, stop: &Stop, out: &mut W) -> Result<(), Refused>
-    ensures { Writes (W.state out.old) (W.state out.new) (spec.not_made name.now (spec.unread stop.now)) result }
+    ensures { Writes (W.state out.old) (W.state out.new)
+        (spec.not_made name.now (spec.unread stop.now)) result }
 {
     put_line(name, &[said::NOT_MADE, said::READ], out)?;
     put_cause(stop, out)
 }
 
 fn put_cause<W: Out>(stop: &Stop, out: &mut W) -> Result<(), Refused>
-    ensures { Writes (W.state out.old) (W.state out.new) (spec.stopped_at stop.now ++ codes "\n") result }
+    ensures { Writes (W.state out.old) (W.state out.new)
+        (spec.unread_file stop.now ++ codes "\n") result }
 {
     put_line(stop.path.as_str(), &[" ", stop.cause.word(), "\n"], out)
 }
 
 fn put_step<W: Out>(name: &str, place: u64, cause: TreeFault, out: &mut W) -> Result<(), Refused>
-    ensures { Writes (W.state out.old) (W.state out.new) (spec.not_made name.now (spec.refused_step place cause)) result }
+    ensures { Writes (W.state out.old) (W.state out.new)
+        (spec.not_made name.now (spec.refused_step place cause)) result }
 {
     let mut digits = Buffer::new();
     put_line(

@@ -1,7 +1,7 @@
 //! Does what a plan says.
 ghost use Rattle.std.specs.Prelude.{◌≡◌, ◌≤◌, []};
-ghost use Rattle.bag_cli.specs.Folders.{disks_of, visits_of};
-ghost use Rattle.bag_cli.specs.InTurn.{HasVisited};
+ghost use Rattle.bag_cli.specs.Folders.{disks_of};
+ghost use Rattle.bag_cli.specs.InTurn.{Does};
 ghost use Rattle.bag_cli.specs.Performed.{IsPerformed, IsSaid};
 
 use crate::all_checks::report_sample;
@@ -41,8 +41,8 @@ where
     O: Out,
     E: Out,
     ensures status { result ≤ 3 }
-    ensures performed { HasVisited (visits_of visits.old) (visits_of visits.new)
-        (λ own. IsPerformed (D.below (disks_of folders.now)) (D.file (disks_of folders.now)) plan.now (O.state out.old) (O.state out.new) own result) }
+    ensures performed { Does O.Out visits.old visits.new out.old out.new result
+        (IsPerformed (D.below (disks_of folders.now)) (D.file (disks_of folders.now)) plan.now) }
 {
     match &plan.action {
         Action::Sample => report_sample(alloc, plan, out, err),

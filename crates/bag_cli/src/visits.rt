@@ -1,6 +1,6 @@
 //! Which folders were looked into.
-ghost use Rattle.std.specs.Prelude.{◌≡◌, ◌∷◌, ◌++◌, []};
-ghost use Rattle.bag_cli.specs.Folders.{visits_of};
+ghost use Rattle.std.specs.Prelude.{◌≡◌, []};
+ghost use Rattle.bag_cli.specs.Folders.{visits_of, Notes};
 ghost use Rattle.bag_cli.specs.Visits.{Event};
 
 use crate::record::Record;
@@ -30,7 +30,7 @@ impl<D> Visits<D> {
     /// Notes an event. Its value is given so that a proof can name the event by it.
     pub(crate) fn note_of<T>(&mut self, _value: &T)
         ghost event: { Event }
-        ensures { visits_of self.new ≡ visits_of self.old ++ event ∷ [] }
+        ensures { Notes self.old self.new event }
     {
         self.record.note();
     }

@@ -1,9 +1,9 @@
 //! The whole program.
 ghost use Rattle.bag_arguments.specs.Words.{texts};
 ghost use Rattle.std.specs.Prelude.{map, string_bytes};
-ghost use Rattle.bag_cli.specs.Folders.{disks_of, visits_of};
-ghost use Rattle.bag_cli.specs.InTurn.{HasVisited};
-ghost use Rattle.bag_cli.specs.Program.{IsProgram, IsProgramOrNone, IsStarted};
+ghost use Rattle.bag_cli.specs.Folders.{disks_of};
+ghost use Rattle.bag_cli.specs.InTurn.{Does};
+ghost use Rattle.bag_cli.specs.Program.{IsProgram, IsProgramOrNone, IsWholeProgram};
 
 use crate::performing::perform;
 use crate::words::{Words, asked_words, texts_of};
@@ -28,8 +28,9 @@ where
     D: Disks,
     O: Out,
     E: Out,
-    ensures { HasVisited (visits_of visits.old) (visits_of visits.new)
-        (λ own. IsProgram (D.below (disks_of folders.now)) (D.file (disks_of folders.now)) (texts words.now) (O.state out.old) (O.state out.new) own result) }
+    ensures { Does O.Out visits.old visits.new out.old out.new result
+        (IsProgram (D.below (disks_of folders.now)) (D.file (disks_of folders.now))
+        (texts words.now)) }
 {
     match plan_of(alloc, words) {
         Ok(plan) => perform(alloc, folders, &plan, visits, out, err),
@@ -52,8 +53,9 @@ where
     D: Disks,
     O: Out,
     E: Out,
-    ensures { HasVisited (visits_of visits.old) (visits_of visits.new)
-        (λ own. IsStarted (R.answers rt.now) (D.below (disks_of folders.now)) (D.file (disks_of folders.now)) (O.state out.old) (O.state out.new) own result) }
+    ensures { Does O.Out visits.old visits.new out.old out.new result
+        (IsWholeProgram (R.answers rt.now)
+        (D.below (disks_of folders.now)) (D.file (disks_of folders.now))) }
 {
     match asked_words(rt.alloc(), rt) {
         Ok(words) => run_words(rt, folders, &words, visits, out, err),
@@ -75,8 +77,9 @@ where
     D: Disks,
     O: Out,
     E: Out,
-    ensures { HasVisited (visits_of visits.old) (visits_of visits.new)
-        (λ own. IsProgramOrNone (D.below (disks_of folders.now)) (D.file (disks_of folders.now)) (map string_bytes words.now) (O.state out.old) (O.state out.new) own result) }
+    ensures { Does O.Out visits.old visits.new out.old out.new result
+        (IsProgramOrNone (D.below (disks_of folders.now)) (D.file (disks_of folders.now))
+        (map string_bytes words.now)) }
 {
     match texts_of(rt.alloc(), words) {
         Ok(texts) => program(rt.alloc(), folders, &texts, visits, out, err),

@@ -77,7 +77,7 @@ pub use Rattle.bag_tree.specs.declared.tree_fault.Stop.{Stop}
 pub use Rattle.bag_tree.specs.declared.tree_fault.TreeFault.{TreeFault}
 pub use Rattle.bag_tree.specs.declared.tree_fault.TreeFault.TheVariants.{Changed, Memory}
 pub use Rattle.bag_walk.specs.Closing.{closing, count_of}
-pub use Rattle.bag_walk.specs.Completeness.{IsAbove, IsOfAlg, IsOfSomeAlg, IsSoughtAbove, IsStageAbove, TakesLeast}
+pub use Rattle.bag_walk.specs.Completeness.{AreAbove, IsAbove, IsOfAlg, IsOfSomeAlg, IsStageAbove, TakesLeast}
 pub use Rattle.bag_walk.specs.Ending.{IsAnswered, IsCutAt, MayEnd, ReachesEnd, Wrote, ended, ideal, limit_of, lines_of_run, written, written_line}
 pub use Rattle.bag_walk.specs.Files.{AreToSum, IsNamedAhead, IsToSum, TellsItsFaults}
 pub use Rattle.bag_walk.specs.Filled.{awaits_second, is_both}
@@ -89,7 +89,7 @@ pub use Rattle.bag_walk.specs.RunOpenings.{AreEarly, IsListed, LooksNoFurther, O
 pub use Rattle.bag_walk.specs.Segment.{ClosesSegment, EndsSegment, IfUnread, IsRead, IsSegment, MayStopRun, MayStopWalk, StopsAt, WritesCalmly, WroteFirst, looked_past, still_to_come}
 pub use Rattle.bag_walk.specs.SegmentOpenings.{AreListed, EachBagHasListedFiles, IsListedFile, OpensFew, OpensInSegment, not_passed}
 pub use Rattle.bag_walk.specs.SegmentChain.{Chain, Progress, RunsInSegments, RunsSegment, before_segments}
-pub use Rattle.bag_walk.specs.Segments.{AreSegments, ForReport, ForReportFrom, GoesOn, IsStopped, MayLose, RunsOfSegments, SegmentsFrom, SegmentsJoin, WroteSegments, cost, is_last, outcome_at}
+pub use Rattle.bag_walk.specs.Segments.{AreSegments, ForReport, ForReportFrom, ContinuesReport, IsStopped, MayLose, RunsOfSegments, SegmentsFrom, SegmentsJoin, WroteSegments, cost, is_last, outcome_at}
 pub use Rattle.bag_walk.specs.Shown.{front_is, none_is}
 pub use Rattle.bag_walk.specs.Source.{AllBelow, MayStopAnyway, MayStopFilling, Sees, Where, first_of, rest_of}
 pub use Rattle.bag_walk.specs.Start.{AreAheadBefore, IsListedToOpen, IsStarted, IsToOpen}

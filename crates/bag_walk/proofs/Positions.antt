@@ -1,5 +1,5 @@
 -- A walk over a report.
-use Rattle.bag_walk.proofs.Common.{arith, ◌≡◌, ◌++◌, ◌∷◌, inl, inr, ℕ, List, [], true, Option, Some, Contains, ap, subst, is_lt, Less, contains_behind, contains_cases, contains_either, contains_first, contains_front, contains_nothing, member_has, TreeState, fault_cmp, Fault, not_less_than_itself, fault_cmp_total, Check, is_above, Opens, OpensAgain, OpensNoneBehind, StillWait, first_of, rest_of, Gives, StandsAt, Result, Ok, Err, IfErr, IfOk, MatchResult, OnErr, Bor, option_copied, Keeps, Stop, MayStopAnyway, MayStopFilling, went, IsNextOf, MayStopStep}
+use Rattle.bag_walk.proofs.Common.{arith, ◌≡◌, ◌++◌, ◌∷◌, inl, inr, ℕ, List, [], true, Option, None, Some, Contains, ap, subst, is_lt, Less, contains_behind, contains_cases, contains_either, contains_first, contains_front, contains_nothing, member_has, TreeState, fault_cmp, Fault, not_less_than_itself, fault_cmp_total, Check, is_above, Opens, OpensAgain, OpensNoneBehind, StillWait, first_of, rest_of, Gives, StandsAt, Result, Ok, Err, IfErr, IfOk, MatchResult, OnErr, OnOk, Bor, option_copied, Keeps, Stop, MayStopAnyway, MayStopFilling, went, IsNextOf, MayStopStep}
 use Rattle.std.specs.List.Sorted.{IsStrictlySortedBy}
 use Rattle.bag_walk.proofs.Chosen.{less_is}
 
@@ -36,6 +36,15 @@ module _ (check : Check) (position : Option Fault) where
   pub gives : (left after : List Fault) (shown : Option Fault) → shown ≡ first_of left → after ≡ rest_of left → StandsAt check position left → Gives check position shown after
   gives left after shown e d h = grind (arith, gives_first)
 
+  -- so it is after a step, and after a refusal the position is the same
+  pub gives_on : (answer : Result (Unit {0}) Stop) (left after : List Fault) (shown : Option Fault)
+      → MatchResult answer (λ _. (shown ≡ first_of left) × (after ≡ rest_of left))
+      (λ _. (shown ≡ None) × (after ≡ left))
+      → StandsAt check position left
+      → MatchResult answer (λ _. Gives check position shown after) (λ _. StandsAt check position after)
+  gives_on (Ok _) left after shown next stands = gives left after shown next.0 next.1 stands
+  gives_on (Err stop) left after shown next stands = rw next.1 stands
+
 -- files before which a fault stands wait on
 module _ (files : List (List ℕ)) {before after : List (List ℕ)} (left : List Fault) {old new : TreeState} (behind : OpensNoneBehind left old new) where
   pub still_wait : Opens before after old new → StillWait files left before → StillWait files left after
@@ -52,6 +61,17 @@ module _ (files : List (List ℕ)) {before after : List (List ℕ)} (left : List
     ])
     | inr v ↦ v
   ]
+
+-- so it is after a step, and after a refusal
+pub wait_on : (files before after : List (List ℕ)) (left : List Fault) (old new : TreeState)
+    (answer : Result (Unit {0}) Stop)
+    → OpensNoneBehind left old new → OnOk answer (Opens before after old new)
+    → OnErr answer (OpensAgain before after old new)
+    → StillWait files left before → StillWait files left after
+wait_on files before after left old new (Ok _) behind opens again waits =
+    still_wait files left behind opens waits
+wait_on files before after left old new (Err stop) behind opens again waits =
+    wait_again files left behind again waits
 
 -- what a walk lends: the fault that is lent is the next
 pub lends_next : (check : Check) (position : Option Fault) (answer : Result (Option (Bor Fault)) Stop) (shown : Option Fault) (after : List Fault) (Q : Type 0)

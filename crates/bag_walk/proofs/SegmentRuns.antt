@@ -1,5 +1,5 @@
 -- The segment of one limit as a run of its own, and what a chain of segments gains by it.
-use Rattle.bag_walk.proofs.Common.{◌≡◌, ◌≤◌, ◌+◌, ◌-◌, ◌∙◌, ◌∷◌, inl, inr, ℕ, List, Option, length, drop, true, false, refl, sym, arith, length-drop, OutState, RefusesNothing, TreeState, Keeps, Fault, Options, Profile, IsLastLine, IsRead, IfUnread, EndsSegment, IsSegment, AreListed, OpensInSegment, ForReport, ForReportFrom, GoesOn, MayStop, Outcome, Chain, Progress, RunsSegment, Segment, SegmentEnd, cursor_behind, is_last, outcome_at}
+use Rattle.bag_walk.proofs.Common.{◌≡◌, ◌≤◌, ◌+◌, ◌-◌, ◌∙◌, ◌∷◌, inl, inr, ℕ, List, Option, length, drop, true, false, refl, sym, arith, length-drop, OutState, RefusesNothing, TreeState, Keeps, Fault, Options, Profile, IsLastLine, IsRead, IfUnread, EndsSegment, IsSegment, AreListed, OpensInSegment, ForReport, ForReportFrom, ContinuesReport, MayStop, Outcome, Chain, Progress, RunsSegment, Segment, SegmentEnd, cursor_behind, is_last, outcome_at}
 
 written_within : (faults : List Fault) (limit n : ℕ) (end : SegmentEnd) → EndsSegment faults limit n end → n ≤ length faults
 written_within faults limit n end e = grind arith
@@ -17,7 +17,7 @@ module _ (profile : Option Profile) (options : Options) {start now : TreeState} 
       holds honest report is n at.0 at.1
 
   module _ {limit : ℕ} {before after : OutState} {next : List ℕ} (segment : Segment)
-      (goes : ForReportFrom now profile options line (λ report n. GoesOn report n limit before after next segment)) where
+      (goes : ForReportFrom now profile options line (λ report n. ContinuesReport report n limit before after next segment)) where
     -- and then the report was written so far
     pub written_on : ForReport start profile options (IsWrittenTo (n + segment.written) next)
     written_on = λ honest report is.
@@ -45,7 +45,7 @@ module _ (profile : Option Profile) (options : Options) {start now : TreeState} 
         calm = calm;
         stop = stop;
         wrote = unseen;
-        next = λ honest report is. (from_here (λ report n. GoesOn report n limit before after next segment) goes honest report is).writes;
+        next = λ honest report is. (from_here (λ report n. ContinuesReport report n limit before after next segment) goes honest report is).writes;
         opens = from_here (λ report n. (listed : List (List ℕ)) → AreListed options now.bag listed → OpensInSegment listed report n segment now new) opens;
       }
 

@@ -1,5 +1,5 @@
 -- A segment over a walk that was started behind others.
-use Rattle.bag_walk.proofs.Common.{arith, ◌≡◌, ◌≤◌, ℕ, inl, true, List, [], length, drop, filter, Option, None, IsTrue, sym, ap, ◌∙◌, subst, nat_list_cmp_total, is_payload_path, text_cmp, one_list, OutState, Bag, RefusesNothing, TreeState, Keeps, fault_cmp, Fault, fault_cmp_total, OpensWanted, Options, Profile, Check, IsReport, above, Request, OpensAgain, OpensNoneBehind, Sees, IsListedToOpen, IsStarted, IsLastLine, IsLastOf, IsAsked, IfUnread, IsSegment, MayStopRun, still_to_come, AreListed, OpensInSegment, not_passed, cursor_behind, GoesOn, MayStop, Segment, SegmentEnd}
+use Rattle.bag_walk.proofs.Common.{arith, ◌≡◌, ◌≤◌, ℕ, inl, true, List, [], length, drop, filter, Option, None, IsTrue, sym, ap, ◌∙◌, subst, nat_list_cmp_total, is_payload_path, text_cmp, one_list, OutState, Bag, RefusesNothing, TreeState, Keeps, fault_cmp, Fault, fault_cmp_total, OpensWanted, Options, Profile, Check, IsReport, above, Request, OpensAgain, OpensNoneBehind, Sees, IsListedToOpen, IsStarted, IsLastLine, IsLastOf, IsAsked, IfUnread, IsSegment, MayStopRun, still_to_come, AreListed, OpensInSegment, not_passed, cursor_behind, ContinuesReport, MayStop, Segment, SegmentEnd}
 use Rattle.bag_walk.specs.declared.segment.SegmentEnd.TheVariants.{Unread}
 use Rattle.bag_walk.proofs.Running.{sees_of, stop_of_walk}
 use Rattle.bag_walk.proofs.SegmentOpenings.{not_passed_listed, opens_front}
@@ -28,7 +28,7 @@ module _ {old mid : TreeState} (new : TreeState) {profile : Option Profile} {opt
     pub goes_on : (limit : ℕ) (before then : OutState) (line next : List ℕ) (segment : Segment) → IsLastLine (cursor_behind n report) line
         → ((bag : Bag) → IsOf bag → Sees mid todo bag → IsSegment (left bag) limit before then segment)
         → ((bag : Bag) → IsOf bag → Sees mid todo bag → IsLastOf (left bag) segment.written line next)
-        → GoesOn report n limit before then next segment
+        → ContinuesReport report n limit before then next segment
     goes_on limit before then line next segment was seen last = grind (arith, sees_of, left_behind, last_later)
 
     abbrev check_seen : Check

@@ -1,5 +1,5 @@
 -- The faults of completeness and of names above a cursor.
-use Rattle.bag_walk.proofs.Common.{◌≡◌, ◌⊎◌, inl, inr, ◌<◌, ◌≤◌, ◌+◌, ◌++◌, ◌∷◌, ℕ, List, [], length, take, get_or, Bool, true, false, Option, arith, refl, sym, subst, get_or_default, algs, stage, IsListOf, Code, NameClash, contains_nothing, nothing_listed, same_members, Bag, fault_cmp, Fault, take_one_more, reaches, Options, OfSome, of_last_or_before, of_one_more, IsSoughtClash, IsIncomplete, IsUnlistedInAll, IsWrong, Check, is_above, IsReported, asked_clash, not_reached, filtered_list, is_of_completeness, of_completeness, IsAbove, IsOfAlg, IsOfSomeAlg, IsSoughtAbove, IsStageAbove, union, cases_Bool}
+use Rattle.bag_walk.proofs.Common.{◌≡◌, ◌⊎◌, inl, inr, ◌<◌, ◌≤◌, ◌+◌, ◌++◌, ◌∷◌, ℕ, List, [], length, take, get_or, Bool, true, false, Option, arith, refl, sym, subst, get_or_default, algs, stage, IsListOf, Code, NameClash, contains_nothing, nothing_listed, same_members, Bag, fault_cmp, Fault, take_one_more, reaches, Options, OfSome, of_last_or_before, of_one_more, IsSoughtClash, IsIncomplete, IsUnlistedInAll, IsWrong, Check, is_above, IsReported, asked_clash, not_reached, filtered_list, is_of_completeness, of_completeness, IsAbove, IsOfAlg, IsOfSomeAlg, AreAbove, IsStageAbove, union, cases_Bool}
 use Rattle.bag_text.specs.declared.alg.Alg.{Alg}
 use Rattle.bag_text.proofs.AlgSets.{each_is_listed}
 use Rattle.bag_stages.proofs.ByPath.{take_whole}
@@ -58,7 +58,7 @@ module _ (after : Option Fault) (bag : Bag) where
 
   -- and the clashes of names
   pub all_sought : (clashes : Bool) (files names : List Fault) → IsListOf fault_cmp (IsAbove after (IsIncomplete bag)) files
-      → IsListOf fault_cmp (IsAbove after (IsSoughtClash clashes bag)) names → IsListOf fault_cmp (IsSoughtAbove clashes bag after) (union files names)
+      → IsListOf fault_cmp (IsAbove after (IsSoughtClash clashes bag)) names → AreAbove after (IsSoughtInStageSix clashes bag) (union files names)
   all_sought clashes files names p q =
       same_above after (λ f. IsIncomplete bag f ⊎ IsSoughtClash clashes bag f) (IsSoughtInStageSix clashes bag) (union files names) (sought_is bag clashes) (is_sought bag clashes)
       (united after (IsIncomplete bag) (IsSoughtClash clashes bag) p q)
@@ -70,7 +70,7 @@ asked_at_six options c reach at sought = grind arith
 
 module _ (check : Check) (after : Option Fault) (faults : List Fault) where
   reached_part : reaches check.options.depth 6 ≡ true
-      → IsListOf fault_cmp (IsSoughtAbove check.options.clashes check.bag after) faults → IsStageAbove check 6 after faults
+      → AreAbove after (IsSoughtInStageSix check.options.clashes check.bag) faults → IsStageAbove check 6 after faults
   reached_part reach list =
       same_above after (IsSoughtInStageSix check.options.clashes check.bag) (λ f. IsReported check f × (stage f.code ≡ 6)) faults
       (λ f h. let at : stage f.code ≡ 6 = completeness_of_stage_six check.bag f h.0 in
@@ -79,7 +79,7 @@ module _ (check : Check) (after : Option Fault) (faults : List Fault) where
       list
 
   -- both as the part of the report
-  pub part_of_report : (reaches check.options.depth 6 ≡ true → IsListOf fault_cmp (IsSoughtAbove check.options.clashes check.bag after) faults)
+  pub part_of_report : (reaches check.options.depth 6 ≡ true → AreAbove after (IsSoughtInStageSix check.options.clashes check.bag) faults)
       → (reaches check.options.depth 6 ≡ false → faults ≡ []) → IsStageAbove check 6 after faults
   part_of_report sought none = elim (cases_Bool (reaches check.options.depth 6)) [
     | inl e ↦ reached_part e (sought e)

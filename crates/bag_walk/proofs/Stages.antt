@@ -1,6 +1,8 @@
 -- The report above a cursor, one source after another.
 use Rattle.bag_walk.proofs.Common.{◌≡◌, ◌≢◌, ◌<◌, ◌≤◌, ◌+◌, ◌++◌, ◌⊎◌, inl, inr, ℕ, List, [], Option, Contains, true, false, sym, ◌∙◌, subst, append_assoc, arith, stage, IsListOf, Code, contains_either, contains_nothing, joined, nothing_listed, same_members, fault_cmp, Fault, reaches, Full, IsOfValidity, validity_of_stage_seven, Check, above, is_above, IsReported, IsStageOf, asked_at_full, asked_is_reached, seven_not_reached, filtered_list, is_of_validity, of_validity, IsStageAbove, NoneBehind, AllBelow, AreAheadBefore, IsAhead, StandsAt, cases_lt, Bool, true≢false, refl, ap, filter, if◌then◌else◌, is_payload_path, text_cmp, Payload, Tag, Bag, IsBag, TreeState, IsFactsOf, Facts, Options, Profile, Names, IsSummed, names_by_kind, IsListedToOpen, IsStarted, IsToOpen, is_passed, IsTrue}
 use Rattle.bag_walk.proofs.Chosen.{less_by_stage, full_or_not}
+use Rattle.bag_walk.specs.Start.{AreSources}
+use Rattle.bag_walk.specs.declared.source.Source as Source
 
 -- no stage has the number 0, or one above 8
 from_one : (c : Code) → 1 ≤ stage c
@@ -150,3 +152,16 @@ module _ (old : TreeState) (profile : Option Profile) (options : Options) (after
         files = opens;
         payload = payload_to_open (check_by bag options) after todo opens;
       }
+
+-- so a walk over the sources of these facts is started
+pub sources_started : {T S : Type 0} (source : Source.Ghosts S T) (old : TreeState)
+    (profile : Option Profile) (options : Options) (after : Option Fault) (facts : Facts)
+    (sources : S) → IsBag old.bag → (IsTrue old.honest → IsFactsOf old.bag facts)
+    → ((bag : Bag) × IsBag bag × IsFactsOf bag facts) → facts.options ≡ options
+    → AreSources source facts profile after sources
+    → IsStarted old profile options after (λ bag. source.is_of bag sources)
+    (λ bag. source.remaining bag sources) (source.todo sources)
+sources_started source old profile options after facts sources is_bag are seen same of =
+    started old profile options after facts (λ bag. source.is_of bag sources)
+    (λ bag. source.remaining bag sources) (source.todo sources)
+    is_bag are seen same of.of of.stands of.files

@@ -6,7 +6,8 @@ use Rattle.bag_facts.specs.FaultLine.{field}
 use Rattle.bag_facts.specs.declared.options.Depth.{Depth}
 use Rattle.bag_facts.specs.declared.options.Depth.TheVariants.{Declaration, Fast, Complete, Full}
 use Rattle.bag_walk.specs.declared.outcome.Outcome.{Outcome}
-use Rattle.bag_walk.specs.declared.outcome.Outcome.TheVariants.{Clean, Faults, Stopped, Rest, Unread, Unwritten}
+use Rattle.bag_walk.specs.declared.outcome.Outcome.TheVariants.{Clean, Faults, Stopped}
+use Rattle.bag_walk.specs.declared.outcome.Outcome.TheVariants.{Rest, Unread, Unwritten}
 use Rattle.bag_walk.specs.declared.outcome.Request.{Request}
 
 -- what is said of a bag without faults
@@ -26,7 +27,9 @@ about_count name text n = field name ++ (text ++ (decimal n ++ codes "\n"))
 
 -- the file and the cause of a stop, and a number of faults
 abbrev pub stopped_at : Stop → ℕ → List ℕ
-stopped_at stop n = field stop.path ++ (codes " " ++ (word stop.cause ++ (codes ", faults: " ++ (decimal n ++ codes "\n"))))
+stopped_at stop n =
+    field stop.path ++ (codes " " ++ (word stop.cause
+    ++ (codes ", faults: " ++ (decimal n ++ codes "\n"))))
 
 -- the line for a refused read
 abbrev pub unread_line : List ℕ → Stop → ℕ → List ℕ
@@ -34,7 +37,8 @@ unread_line name stop n = field name ++ (codes " unread " ++ stopped_at stop n)
 
 -- the closing line with its end, or nothing where there is none
 abbrev pub closing : Request → Outcome → List ℕ
-closing request Clean = if request.quiet then [] else about request.name (verdict request.options.depth)
+closing request Clean =
+    if request.quiet then [] else about request.name (verdict request.options.depth)
 closing request (Faults n) = about_count request.name (codes " has faults: ") n
 closing request (Stopped n) = about_count request.name (codes " stopped, faults: ") n
 closing request (Rest n) = about_count request.name (codes " rest done, faults: ") n

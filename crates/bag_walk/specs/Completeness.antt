@@ -1,5 +1,5 @@
 -- What is left of a bag's completeness above a cursor, and how two lists of faults become one.
-use Rattle.std.specs.Prelude.{ℕ, ◌≡◌, ◌⊎◌, Bool, true, List, Option}
+use Rattle.std.specs.Prelude.{ℕ, ◌≡◌, ◌⊎◌, true, List, Option}
 use Rattle.std.specs.List.Sorted.{IsStrictlySortedBy}
 use Rattle.bag_text.specs.Code.{stage}
 use Rattle.bag_text.specs.Order.{IsListOf}
@@ -7,16 +7,23 @@ use Rattle.bag_text.specs.declared.alg.Alg.{Alg}
 use Rattle.bag_read.specs.declared.kind.Kind.TheVariants.{Tag}
 use Rattle.bag_tree.specs.Bag.{Bag}
 use Rattle.bag_facts.specs.FaultOrder.{fault_cmp}
+use Rattle.bag_facts.specs.Options.{reaches}
+use Rattle.bag_facts.specs.declared.facts.Facts.{Facts}
 use Rattle.bag_facts.specs.declared.fault.Fault.{Fault}
 use Rattle.bag_stages.specs.CompletenessFaults.{IsMissing, IsWrong}
 use Rattle.bag_stages.specs.CompletenessStage.{IsSoughtInStageSix}
 use Rattle.bag_report.specs.Report.{Check, IsReported, is_above}
+use Rattle.bag_walk.specs.FactsOf.{ForBagOf}
 use Rattle.bag_walk.specs.Merge.{union}
 use Rattle.bag_walk.specs.Source.{first_of, rest_of}
 
 -- one of these faults, above a cursor
 abbrev pub IsAbove : Option Fault → (Fault → Type 0) → Fault → Type 0
 IsAbove after IsOne f = IsOne f × (is_above after f ≡ true)
+
+-- these are those of this kind that stand above a cursor, in their order
+abbrev pub AreAbove : Option Fault → (Fault → Type 0) → List Fault → Type 0
+AreAbove after IsOne faults = IsListOf fault_cmp (IsAbove after IsOne) faults
 
 -- a manifest of an algorithm is wrong about a file
 abbrev pub IsOfAlg : Bag → Alg → Fault → Type 0
@@ -26,16 +33,19 @@ IsOfAlg bag alg f = IsWrong bag alg f ⊎ IsMissing bag Tag alg f
 abbrev pub IsOfSomeAlg : Bag → Fault → Type 0
 IsOfSomeAlg bag f = (alg : Alg) × IsOfAlg bag alg f
 
--- a fault of completeness or of names that is looked for, above a cursor
-abbrev pub IsSoughtAbove : Bool → Bag → Option Fault → Fault → Type 0
-IsSoughtAbove clashes bag after f = IsSoughtInStageSix clashes bag f × (is_above after f ≡ true)
+-- where the depth has stage 6: the faults that are looked for in it, of completeness or of names, above a cursor
+abbrev pub AreSought : Facts → Option Fault → List Fault → Type 0
+AreSought facts after faults = ForBagOf facts (λ bag. reaches facts.options.depth 6 ≡ true
+    → AreAbove after (IsSoughtInStageSix facts.options.clashes bag) faults)
 
 -- the part of a report that is of one stage and above a cursor
 abbrev pub IsStageAbove : Check → ℕ → Option Fault → List Fault → Type 0
-IsStageAbove check k after faults = IsListOf fault_cmp (λ f. (IsReported check f × (stage f.code ≡ k)) × (is_above after f ≡ true)) faults
+IsStageAbove check k after faults =
+    AreAbove after (λ f. IsReported check f × (stage f.code ≡ k)) faults
 
 -- The least fault of two ascending lists, and what they leave.
-pub record TakesLeast (faults others : List Fault) (least : Option Fault) (left others_left : List Fault) : Type 0 where
+pub record TakesLeast (faults others : List Fault) (least : Option Fault)
+    (left others_left : List Fault) : Type 0 where
   pub first : first_of (union faults others) ≡ least
   pub rest : union left others_left ≡ rest_of (union faults others)
   pub ascends : IsStrictlySortedBy fault_cmp left

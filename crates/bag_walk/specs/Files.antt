@@ -19,7 +19,8 @@ IsNamedAhead bag after path = IsNamed bag path × (is_passed after path ≡ fals
 
 -- the faults that its digests have are those of the file in the bag
 abbrev pub TellsItsFaults : Bag → ToSum → Type 0
-TellsItsFaults bag to_sum = IsListOf fault_cmp (IsFaultOfFile bag to_sum.file.path) (faults_in bag to_sum)
+TellsItsFaults bag to_sum =
+    IsListOf fault_cmp (IsFaultOfFile bag to_sum.file.path) (faults_in bag to_sum)
 
 -- the file, where it is ahead of a cursor
 abbrev pub IsToSum : Bag → Option Fault → FileEntry → Option ToSum → Type 0
@@ -28,7 +29,9 @@ IsToSum bag after file chosen =
     (λ to_sum. (to_sum.file ≡ file) × IsNamedAhead bag after file.path × TellsItsFaults bag to_sum)
 
 -- these are the files, among some, that are ahead of a cursor
-pub record AreToSum (bag : Bag) (after : Option Fault) (files : List FileEntry) (chosen : List ToSum) : Type 0 where
-  pub paths : IsListOf text_cmp (λ path. Contains (paths_of files) path × IsNamedAhead bag after path) (paths_to_sum chosen)
+pub record AreToSum (bag : Bag) (after : Option Fault) (files : List FileEntry)
+    (chosen : List ToSum) : Type 0 where
+  pub paths : IsListOf text_cmp
+      (λ path. Contains (paths_of files) path × IsNamedAhead bag after path) (paths_to_sum chosen)
   pub listed : (to_sum : ToSum) → Contains chosen to_sum → Contains files to_sum.file
   pub faults : (to_sum : ToSum) → Contains chosen to_sum → TellsItsFaults bag to_sum

@@ -2,6 +2,7 @@ pub mod Closing
 pub mod Completeness
 pub mod Cursor
 pub mod Ending
+pub mod FactsOf
 pub mod Files
 pub mod Filled
 pub mod Lines
@@ -23,5 +24,6 @@ pub mod Stops
 pub mod ToSum
 pub mod Union
 pub mod Validity
+pub mod WholeRun
 pub mod Write
 pub mod Writer

@@ -17,4 +17,5 @@ IsLastLine (Some f) line = IsFault f × (line ≡ written_line f)
 -- it is the line of the last of the first n faults, or the same as before where n is 0
 abbrev pub IsLastOf : List Fault → ℕ → List ℕ → List ℕ → Type 0
 IsLastOf faults zero old new = new ≡ old
-IsLastOf faults (suc n) old new = (f : Fault) × (slice_get faults n ≡ Some f) × IsLastLine (Some f) new
+IsLastOf faults (suc n) old new =
+    (f : Fault) × (slice_get faults n ≡ Some f) × IsLastLine (Some f) new

@@ -1,5 +1,6 @@
 -- What a run opens.
-use Rattle.std.specs.Prelude.{ℕ, ◌≡◌, ◌≢◌, ◌++◌, ◌∷◌, ◌⊎◌, ◌-◌, ◌<◌, ◌≤◌, List, [], Option, All, IsTrue, true, false, drop, filter, length, min}
+use Rattle.std.specs.Prelude.{ℕ, ◌≡◌, ◌≢◌, ◌++◌, ◌∷◌, ◌⊎◌, ◌-◌, ◌<◌, ◌≤◌, List, [], Option}
+use Rattle.std.specs.Prelude.{All, IsTrue, true, false, drop, filter, length, min}
 use Rattle.std.specs.List.Sorted.{IsStrictlySortedBy}
 use Rattle.bag_text.specs.Code.{stage}
 use Rattle.bag_text.specs.Order.{IsListOf}
@@ -18,15 +19,15 @@ use Rattle.bag_facts.specs.declared.options.Options.{Options}
 use Rattle.bag_profile.specs.Profile.{Profile}
 use Rattle.bag_stages.specs.TagFiles.{Names}
 use Rattle.bag_stages.specs.SummedFiles.{IsSummed}
-use Rattle.bag_report.specs.Report.{IsReport, above}
+use Rattle.bag_report.specs.Report.{above}
 use Rattle.bag_walk.specs.Closing.{count_of}
 use Rattle.bag_walk.specs.Ending.{limit_of}
 use Rattle.bag_walk.specs.declared.outcome.Outcome.{Outcome}
 use Rattle.bag_walk.specs.declared.outcome.Request.{Request}
 use Rattle.bag_walk.specs.Openings.{NoneBehind}
-use Rattle.bag_walk.specs.Start.{IsToOpen}
+use Rattle.bag_walk.specs.Start.{AreToOpen}
 use Rattle.bag_walk.specs.Validity.{is_passed}
-use Rattle.bag_walk.specs.Run.{check_of, IsAsked}
+use Rattle.bag_walk.specs.Run.{check_of, ForReportAsked, IsAsked}
 use Rattle.bag_walk.specs.Stops.{IfStopped}
 
 -- Tag files were read, each once at most and in path order, and then at depth Full files were summed, each once at most and
@@ -52,7 +53,8 @@ pub record OpensListed (options : Options) (old new : TreeState) : Type 0 where
   pub opened : new.openings ≡ old.openings ++ paths
   pub in_order : IsStrictlySortedBy text_cmp (filter is_payload_path paths)
   pub only_at_full : options.depth ≢ Full → filter is_payload_path paths ≡ []
-  pub are_listed : IsTrue old.honest → All (λ path. is_payload_path path ≡ true → IsListed old.bag path) paths
+  pub are_listed : IsTrue old.honest
+      → All (λ path. is_payload_path path ≡ true → IsListed old.bag path) paths
 
 -- of the payload no file was opened that the cursor has passed: none before the file of a fault of the seventh stage, and
 -- where it is of a later stage none
@@ -68,16 +70,17 @@ written_before request outcome = min (count_of outcome) (limit_of request - 1)
 -- The lines of faults were written before the next file was opened: of the payload no file was opened before which a fault
 -- stands whose line wasn't written, and where the limit was reached none behind the file of the last line.
 abbrev pub OpensInTurn : TreeState → TreeState → Option Profile → Request → Outcome → Type 0
-OpensInTurn old new profile request outcome =
-    IsTrue old.honest → (report : List Fault) → IsReport (check_of old.bag profile request) report
-    → (read : List (List ℕ)) × (summed : List (List ℕ)) × (new.openings ≡ old.openings ++ (read ++ summed))
+OpensInTurn old new profile request outcome = ForReportAsked old profile request (λ report.
+    (read : List (List ℕ)) × (summed : List (List ℕ))
+    × (new.openings ≡ old.openings ++ (read ++ summed))
     × IsStrictlySortedBy text_cmp read × All (IsWanted request.options) read
-    × NoneBehind (drop (written_before request outcome) (above request.after report)) summed
+    × NoneBehind (drop (written_before request outcome) (above request.after report)) summed)
 
 -- The run stopped at a file whose digests were to be compared, when n faults had been written: it was refused when all the tag
 -- files that are wanted had been read, and then of those files the ones before it had been opened, each once and in path order,
 -- and no other; and each fault that stands before it had been written, as those of earlier stages.
-pub record OpensUpToSummed (old new : TreeState) (profile : Option Profile) (request : Request) (n : ℕ) (path : List ℕ) : Type 0 where
+pub record OpensUpToSummed (old new : TreeState) (profile : Option Profile) (request : Request)
+    (n : ℕ) (path : List ℕ) : Type 0 where
   pub read : List (List ℕ)
   pub before : List (List ℕ)
   pub behind : List (List ℕ)
@@ -85,24 +88,27 @@ pub record OpensUpToSummed (old new : TreeState) (profile : Option Profile) (req
   pub wanted : All (IsWanted request.options) read
   pub all_read : ForListing old (λ files. AreWanted request.options files read)
   pub in_order : IsStrictlySortedBy text_cmp (before ++ path ∷ behind)
-  pub to_open : IsTrue old.honest → IsListOf text_cmp (IsToOpen (check_of old.bag profile request) request.after) (before ++ path ∷ behind)
+  pub to_open : IsTrue old.honest
+      → AreToOpen (check_of old.bag profile request) request.after (before ++ path ∷ behind)
   pub refused : IsRefusedAt (old.openings ++ (read ++ before)) path new
-  pub written : IsTrue old.honest → (report : List Fault) → IsReport (check_of old.bag profile request) report
-      → NoneBehind (drop n (above request.after report)) (path ∷ [])
+  pub written : ForReportAsked old profile request (λ report.
+      NoneBehind (drop n (above request.after report)) (path ∷ []))
 
 -- A run that is answered with the file at which it stopped has opened those before it: the tag files that are read, or also
 -- those whose digests are compared.
 abbrev pub StopsInTurn : TreeState → TreeState → Option Profile → Request → Outcome → Type 0
 StopsInTurn old new profile request outcome =
     IfStopped outcome (λ stop. stop.path ≢ []
-    → ForListing old (λ files. OpensUpTo request.options files stop.path old new) ⊎ OpensUpToSummed old new profile request (count_of outcome) stop.path)
+    → ForListing old (λ files. OpensUpTo request.options files stop.path old new)
+    ⊎ OpensUpToSummed old new profile request (count_of outcome) stop.path)
 
 -- the part of what the request asks for below the seventh stage, whose faults need further files
 abbrev pub AreEarly : Bag → Option Profile → Request → List Fault → Type 0
-AreEarly bag profile request faults = IsListOf fault_cmp (λ f. IsAsked bag profile request f × (stage f.code < 7)) faults
+AreEarly bag profile request faults =
+    IsListOf fault_cmp (λ f. IsAsked bag profile request f × (stage f.code < 7)) faults
 
 -- where the faults of stages 1 to 6 that the request asks for reach its limit, tag files alone were read
 abbrev pub LooksNoFurther : TreeState → TreeState → Option Profile → Request → Type 0
 LooksNoFurther old new profile request =
-    IsTrue old.honest → (early : List Fault) → AreEarly old.bag profile request early → limit_of request ≤ length early
-    → OpensWanted request.options old new
+    IsTrue old.honest → (early : List Fault) → AreEarly old.bag profile request early
+    → limit_of request ≤ length early → OpensWanted request.options old new

@@ -1,7 +1,5 @@
 -- A segment of a report: the lines of its first faults.
-use Rattle.std.specs.Prelude.{ℕ, ◌-◌, ◌<◌, ◌≤◌, ◌≡◌, ⊤, ◌⊎◌, true, List, [], length, take, drop}
-use Rattle.std.specs.Io.KnownBytes.{Appends}
-use Rattle.std.specs.List.{concat}
+use Rattle.std.specs.Prelude.{ℕ, ◌-◌, ◌<◌, ◌≤◌, ◌≡◌, ⊤, ◌⊎◌, List, [], length, take, drop}
 use Rattle.bag_tree.specs.Calm.{MayTellMemory, RefusesNothing}
 use Rattle.bag_tree.specs.Out.{OutState}
 use Rattle.bag_tree.specs.Tree.{TreeState, CameFromFile}
@@ -9,7 +7,7 @@ use Rattle.bag_tree.specs.declared.tree_fault.Stop.{Stop}
 use Rattle.bag_tree.specs.declared.tree_fault.TreeFault.TheVariants.{Memory}
 use Rattle.bag_facts.specs.declared.fault.Fault.{Fault}
 use Rattle.bag_facts.specs.Stops.{IsOutOfMemory, MayRefuseFacts}
-use Rattle.bag_walk.specs.Ending.{IsAnswered, IsCutAt, written}
+use Rattle.bag_walk.specs.Ending.{written, IsAnswered, TookAll, TookPart}
 use Rattle.bag_walk.specs.Openings.{IsReached}
 use Rattle.bag_walk.specs.Writer.{WritesReport}
 use Rattle.bag_walk.specs.declared.outcome.Outcome.{Outcome}
@@ -28,12 +26,12 @@ EndsSegment faults limit n Unwritten = (n < limit) × (n < length faults)
 
 -- the lines of the first n faults were written, and where the output refused a proper part of the next line
 abbrev pub WroteFirst : List Fault → ℕ → OutState → OutState → SegmentEnd → Type 0
-WroteFirst faults n before after Unwritten =
-    (after.has_refused ≡ true) × ((bytes : List ℕ) × IsCutAt n (written faults) bytes × Appends before.taken after.taken bytes)
-WroteFirst faults n before after end = Appends before.taken after.taken (concat (written (take n faults)))
+WroteFirst faults n before after Unwritten = TookPart n (written faults) before after
+WroteFirst faults n before after end = TookAll (written (take n faults)) before after
 
 -- a segment of these faults
-pub record IsSegment (faults : List Fault) (limit : ℕ) (before after : OutState) (segment : Segment) : Type 0 where
+pub record IsSegment (faults : List Fault) (limit : ℕ) (before after : OutState)
+    (segment : Segment) : Type 0 where
   pub ends : EndsSegment faults limit segment.written segment.end
   pub wrote : WroteFirst faults segment.written before after segment.end
 
@@ -53,8 +51,11 @@ RunsOut old new stop = IsOutOfMemory stop × MayTellMemory old new
 
 -- Why a walk stops: for want of memory, or at the next file to be opened, and more is said where its source is of an honest
 -- tree's bag.
-abbrev pub MayStopWalk : Type 0 → List (List ℕ) → List (List ℕ) → TreeState → TreeState → Stop → Type 0
-MayStopWalk IsOf todo left old new stop = RunsOut old new stop ⊎ (IsReached todo old new stop.path × (IsOf → MayStopFilling left old new stop))
+abbrev pub MayStopWalk : Type 0 → List (List ℕ) → List (List ℕ)
+    → TreeState → TreeState → Stop → Type 0
+MayStopWalk IsOf todo left old new stop =
+    RunsOut old new stop
+    ⊎ (IsReached todo old new stop.path × (IsOf → MayStopFilling left old new stop))
 
 -- how many faults are less than the one that was looked for last, where n were written
 abbrev pub looked_past : SegmentEnd → ℕ → ℕ
@@ -89,6 +90,8 @@ abbrev pub MayStopRun : Type 0 → List (List ℕ) → TreeState → TreeState �
 MayStopRun IsOf todo old new stop = RunsOut old new stop ⊎ (IsOf → StopsWalk todo old new stop)
 
 -- the lines of the first of these faults and a closing line were written, and nothing was refused where the run was answered
-abbrev pub WritesCalmly : Request → List Fault → (Stop → Type 0) → TreeState → TreeState → OutState → OutState → Outcome → Type 0
+abbrev pub WritesCalmly : Request → List Fault → (Stop → Type 0)
+    → TreeState → TreeState → OutState → OutState → Outcome → Type 0
 WritesCalmly request faults Stops old new before after outcome =
-    (writes : WritesReport request faults Stops before after outcome) × (IsAnswered writes.ending → RefusesNothing old new)
+    (writes : WritesReport request faults Stops before after outcome)
+    × (IsAnswered writes.ending → RefusesNothing old new)

@@ -19,7 +19,8 @@ use Rattle.bag_walk.specs.declared.segment.Segment.{Segment}
 -- A payload file whose digests are compared: at depth Full one that is there and that a payload manifest names (RFC 8493,
 -- 2.1.3).
 abbrev pub IsListedFile : Options → Bag → List ℕ → Type 0
-IsListedFile options bag path = (options.depth ≡ Full) × (is_payload_path path ≡ true) × HasFile bag path × IsListed bag path
+IsListedFile options bag path =
+    (options.depth ≡ Full) × (is_payload_path path ≡ true) × HasFile bag path × IsListed bag path
 
 -- these files, in path order
 abbrev pub AreListed : Options → Bag → List (List ℕ) → Type 0
@@ -27,7 +28,8 @@ AreListed options bag listed = IsListOf text_cmp (IsListedFile options bag) list
 
 -- the law: every bag has a list of these files, whatever is asked for
 abbrev pub EachBagHasListedFiles : Type 0
-EachBagHasListedFiles = (options : Options) (bag : Bag) → (listed : List (List ℕ)) × AreListed options bag listed
+EachBagHasListedFiles =
+    (options : Options) (bag : Bag) → (listed : List (List ℕ)) × AreListed options bag listed
 
 -- those of them that a cursor hasn't passed
 abbrev pub not_passed : Option Fault → List (List ℕ) → List (List ℕ)
@@ -52,5 +54,6 @@ pub record OpensFew (listed : List (List ℕ)) (segments unread : ℕ) (old new 
     : Type 0 where
   pub opened : List (List ℕ)
   pub openings : new.openings ≡ old.openings ++ opened
-  pub only_listed : (path : List ℕ) → Contains (filter is_payload_path opened) path → Contains listed path
+  pub only_listed : (path : List ℕ)
+      → Contains (filter is_payload_path opened) path → Contains listed path
   pub few : length (filter is_payload_path opened) ≤ (unread + 1) * length listed + (segments - 1)

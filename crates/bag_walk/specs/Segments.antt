@@ -1,8 +1,7 @@
 -- A report in segments, each with a limit of its own.
-use Rattle.std.specs.Prelude.{ℕ, ◌+◌, ◌-◌, ◌<◌, ◌≤◌, ◌≡◌, ◌⊎◌, ◌++◌, Bool, true, false, IsTrue, List, [], ◌∷◌, Option, None, length, drop, sum}
-use Rattle.std.specs.List.{concat}
+use Rattle.std.specs.Prelude.{ℕ, ◌+◌, ◌-◌, ◌<◌, ◌≤◌, ◌≡◌, ◌⊎◌, ◌++◌, Bool, true, false, IsTrue}
+use Rattle.std.specs.Prelude.{List, [], ◌∷◌, length, drop, sum, Option, None}
 use Rattle.std.specs.List.Sorted.{IsStrictlySortedBy}
-use Rattle.std.specs.Io.KnownBytes.{Appends}
 use Rattle.bag_tree.specs.Calm.{MayTellMemory}
 use Rattle.bag_tree.specs.Out.{OutState}
 use Rattle.bag_tree.specs.Tree.{TreeState}
@@ -15,7 +14,7 @@ use Rattle.bag_facts.specs.Stops.{IsRefusedFile, MayRefuseFacts, TellsAnswer}
 use Rattle.bag_facts.specs.declared.options.Options.{Options}
 use Rattle.bag_profile.specs.Profile.{Profile}
 use Rattle.bag_report.specs.Report.{IsReport, above, first}
-use Rattle.bag_walk.specs.Ending.{IsCutAt, ended, written}
+use Rattle.bag_walk.specs.Ending.{ended, written, TookAll, TookPart}
 use Rattle.bag_walk.specs.declared.outcome.Outcome.{Outcome}
 use Rattle.bag_walk.specs.declared.outcome.Outcome.TheVariants.{Stopped, Unread, Unwritten}
 use Rattle.bag_walk.specs.Lines.{IsLastLine, cursor_behind}
@@ -41,29 +40,35 @@ cost other = 0
 
 -- From where r limits were unread, u of them lost to the device, and n faults written, and the last segment ended so, the
 -- segments of these limits lead to u', r', n' and outcome'. Each limit is in order one of four.
-abbrev pub SegmentsFrom : List Fault → (Stop → Type 0) → ℕ → ℕ → ℕ → Outcome → List ℕ → ℕ → ℕ → ℕ → Outcome → Type 0
-SegmentsFrom report Stops u r n outcome [] u' r' n' outcome' = (u' ≡ u) × (r' ≡ r) × (n' ≡ n) × (outcome' ≡ outcome)
+abbrev pub SegmentsFrom : List Fault → (Stop → Type 0)
+    → ℕ → ℕ → ℕ → Outcome → List ℕ → ℕ → ℕ → ℕ → Outcome → Type 0
+SegmentsFrom report Stops u r n outcome [] u' r' n' outcome' =
+    (u' ≡ u) × (r' ≡ r) × (n' ≡ n) × (outcome' ≡ outcome)
 SegmentsFrom report Stops u r n outcome (m ∷ limits) u' r' n' outcome' =
     -- full: as many faults are left as the limit allows
-    ((m ≤ length report - n) × SegmentsFrom report Stops u r (n + m) (Stopped (n + m)) limits u' r' n' outcome')
+    ((m ≤ length report - n)
+    × SegmentsFrom report Stops u r (n + m) (Stopped (n + m)) limits u' r' n' outcome')
     -- the end: fewer are left, and no further limit is looked at
-    ⊎ ((length report - n < m) × (u' ≡ u) × (r' ≡ r) × (n' ≡ length report) × (outcome' ≡ ended None (length report)))
+    ⊎ ((length report - n < m) × (u' ≡ u) × (r' ≡ r)
+    × (n' ≡ length report) × (outcome' ≡ ended None (length report)))
     -- unread: the tree or memory refused behind fewer faults
     ⊎ ((j : ℕ) × (stop : Stop) × (j < m) × (n + j ≤ length report) × Stops stop
-    × SegmentsFrom report Stops (u + cost stop.cause) (r + 1) (n + j) (Unread (n + j) stop) limits u' r' n' outcome')
+    × SegmentsFrom report Stops (u + cost stop.cause) (r + 1) (n + j) (Unread (n + j) stop)
+    limits u' r' n' outcome')
     -- unwritten: the output refused the line of a fault, and no further limit is looked at
-    ⊎ ((j : ℕ) × (j < m) × (n + j < length report) × (u' ≡ u) × (r' ≡ r) × (n' ≡ n + j) × (outcome' ≡ Unwritten (n + j)))
+    ⊎ ((j : ℕ) × (j < m) × (n + j < length report) × (u' ≡ u) × (r' ≡ r)
+    × (n' ≡ n + j) × (outcome' ≡ Unwritten (n + j)))
 
 -- The segments of these limits write n faults of the report, r of them are unread and u of these lost to the device, and the
 -- last ends so.
 abbrev pub AreSegments : List Fault → (Stop → Type 0) → List ℕ → ℕ → ℕ → ℕ → Outcome → Type 0
-AreSegments report Stops limits u r n outcome = SegmentsFrom report Stops 0 0 0 (Stopped 0) limits u r n outcome
+AreSegments report Stops limits u r n outcome =
+    SegmentsFrom report Stops 0 0 0 (Stopped 0) limits u r n outcome
 
 -- the lines of the first n faults were written, and where the output refused a proper part of the next line
 abbrev pub WroteSegments : ℕ → List Fault → OutState → OutState → Outcome → Type 0
-WroteSegments n report before after (Unwritten k) =
-    (after.has_refused ≡ true) × ((bytes : List ℕ) × IsCutAt n (written report) bytes × Appends before.taken after.taken bytes)
-WroteSegments n report before after outcome = Appends before.taken after.taken (concat (written (first n report)))
+WroteSegments n report before after (Unwritten k) = TookPart n (written report) before after
+WroteSegments n report before after outcome = TookAll (written (first n report)) before after
 
 -- why a segment may stop, by what the tree was before all of them and after: it names a file that a run reads, or none
 pub record MayLose (options : Options) (old new : TreeState) (stop : Stop) : Type 0 where
@@ -75,7 +80,8 @@ pub record MayLose (options : Options) (old new : TreeState) (stop : Stop) : Typ
 -- but for want of memory; where these limits are all 0 want of memory is told only where the tree told it or refused nothing.
 abbrev pub IsStopped : Options → List ℕ → TreeState → TreeState → Outcome → Type 0
 IsStopped options before old new outcome =
-    IfStopped outcome (λ stop. MayLose options old new stop × TellsAnswer new stop × (sum before ≡ 0 → stop.cause ≡ Memory → MayTellMemory old new))
+    IfStopped outcome (λ stop. MayLose options old new stop × TellsAnswer new stop
+    × (sum before ≡ 0 → stop.cause ≡ Memory → MayTellMemory old new))
 
 -- What the segments of these limits write of a report, how the last ends, and which payload files
 -- they open. Each failure of the device costs one limit at most.
@@ -105,7 +111,8 @@ outcome_at n (end_of.Unread stop) = Unread n stop
 outcome_at n end_of.Unwritten = Unwritten n
 
 -- A segment behind the first n faults of a report, which leaves the line of the last fault that was written.
-pub record GoesOn (report : List Fault) (n limit : ℕ) (before after : OutState) (line : List ℕ) (segment : Segment) : Type 0 where
+pub record ContinuesReport (report : List Fault) (n limit : ℕ) (before after : OutState)
+    (line : List ℕ) (segment : Segment) : Type 0 where
   pub writes : IsSegment (drop n report) limit before after segment
   pub last : IsLastLine (cursor_behind (n + segment.written) report) line
 

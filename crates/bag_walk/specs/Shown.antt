@@ -3,7 +3,8 @@ use Rattle.std.proofs.Common.{◌≡◌, ◌++◌, ◌∷◌, List, [], None, So
 use Rattle.bag_facts.specs.declared.fault.Fault.{Fault}
 use Rattle.bag_walk.specs.Source.{first_of, rest_of}
 
-pub first_shown : (fs gs : List Fault) (f : Fault) → first_of fs ≡ Some f → first_of (fs ++ gs) ≡ Some f
+pub first_shown : (fs gs : List Fault) (f : Fault)
+    → first_of fs ≡ Some f → first_of (fs ++ gs) ≡ Some f
 first_shown [] gs f e = let none : None ≡ Some f = e in cc
 first_shown (x ∷ fs) gs f e = e
 

@@ -1,5 +1,6 @@
 -- Lists of faults that are found as they are asked for.
-use Rattle.std.specs.Prelude.{ℕ, ⊤, ◌≡◌, ◌⊎◌, ◌∷◌, Bool, true, false, List, [], Option, None, Some, IsTrue, Contains}
+use Rattle.std.specs.Prelude.{ℕ, ⊤, ◌≡◌, ◌⊎◌, ◌∷◌, Bool, true, false, IsTrue}
+use Rattle.std.specs.Prelude.{List, [], Contains, Option, None, Some}
 use Rattle.std.specs.declared.cmp.Ordering.TheVariants.{Less}
 use Rattle.bag_tree.specs.Bag.{Bag, HasFile}
 use Rattle.bag_tree.specs.Calm.{MayTellMemory}
@@ -37,7 +38,8 @@ module _ {S : Type 0} (is_of : Bag → S → Type 0) where
 
 -- each of the first faults is less than each of the second
 abbrev pub AllBelow : List Fault → List Fault → Type 0
-AllBelow faults others = (f g : Fault) → Contains faults f → Contains others g → fault_cmp f g ≡ Less
+AllBelow faults others =
+    (f g : Fault) → Contains faults f → Contains others g → fault_cmp f g ≡ Less
 
 -- so it is where the test holds
 abbrev pub Where : Bool → Type 0 → Type 0
@@ -46,7 +48,8 @@ Where false P = ⊤
 
 -- the file that was refused is the next to be opened, and stands in an honest tree's bag
 abbrev pub IsNext : List (List ℕ) → TreeState → List ℕ → Type 0
-IsNext todo old path = ((rest : List (List ℕ)) × (todo ≡ path ∷ rest)) × (IsTrue old.honest → HasFile old.bag path)
+IsNext todo old path =
+    ((rest : List (List ℕ)) × (todo ≡ path ∷ rest)) × (IsTrue old.honest → HasFile old.bag path)
 
 -- Finding the first fault stopped: at the next file, or for want of memory. The cause is the tree's own answer, but for want
 -- of memory, which is told only where the tree told it or refused nothing.

@@ -1,5 +1,6 @@
 -- A walk that was started.
-use Rattle.std.specs.Prelude.{ℕ, ◌≡◌, ◌≢◌, ◌⊎◌, ◌<◌, false, true, List, [], Option, Result, Ok, Err, IsTrue, filter}
+use Rattle.std.specs.Prelude.{ℕ, ◌≡◌, ◌≢◌, ◌⊎◌, ◌<◌, false, true, List, [], filter}
+use Rattle.std.specs.Prelude.{Option, Result, Ok, Err, IsTrue}
 use Rattle.bag_text.specs.Code.{stage}
 use Rattle.bag_text.specs.Order.{IsListOf}
 use Rattle.bag_text.specs.Path.{is_payload_path}
@@ -7,11 +8,12 @@ use Rattle.bag_text.specs.Text.{text_cmp}
 use Rattle.bag_text.specs.declared.alg.Alg.{Alg}
 use Rattle.bag_read.specs.declared.kind.Kind.TheVariants.{Payload}
 use Rattle.bag_tree.specs.Bag.{Bag, HasFile, IsBag}
+use Rattle.bag_tree.specs.Calm.{RefusesNothing}
 use Rattle.bag_tree.specs.Tree.{TreeState}
 use Rattle.bag_tree.specs.declared.tree.Tree as Tree
 use Rattle.bag_tree.specs.declared.tree_fault.Stop.{Stop}
-use Rattle.bag_facts.specs.Facts.{IsFactsOf}
 use Rattle.bag_facts.specs.FaultOrder.{fault_cmp}
+use Rattle.bag_facts.specs.Stops.{MayStopReading}
 use Rattle.bag_facts.specs.Wanted.{ForListing, OpensAll, OpensFirst, OpensUpTo}
 use Rattle.bag_facts.specs.declared.facts.Facts.{Facts}
 use Rattle.bag_facts.specs.declared.fault.Fault.{Fault}
@@ -21,6 +23,7 @@ use Rattle.bag_profile.specs.Profile.{Profile}
 use Rattle.bag_report.specs.Report.{Check}
 use Rattle.bag_stages.specs.TagFiles.{Names}
 use Rattle.bag_stages.specs.SummedFiles.{IsSummed}
+use Rattle.bag_walk.specs.FactsOf.{check_with, ForBagOf, ForCheckOf}
 use Rattle.bag_walk.specs.declared.source.Source as Source
 use Rattle.bag_walk.specs.declared.steps.Steps.{Steps}
 use Rattle.bag_walk.specs.Steps.{left, to_open, IsAhead, StandsAt}
@@ -28,12 +31,18 @@ use Rattle.bag_walk.specs.Validity.{is_passed}
 
 -- the part of a report that is of the stages before this one and above a cursor
 abbrev pub AreAheadBefore : Check → ℕ → Option Fault → List Fault → Type 0
-AreAheadBefore check k after faults = IsListOf fault_cmp (λ f. IsAhead check after f × (stage f.code < k)) faults
+AreAheadBefore check k after faults =
+    IsListOf fault_cmp (λ f. IsAhead check after f × (stage f.code < k)) faults
 
 -- A file whose digests are still to be compared: at depth Full one that is there and that a manifest names, and that the
 -- cursor hasn't passed.
 abbrev pub IsToOpen : Check → Option Fault → List ℕ → Type 0
-IsToOpen check after path = (check.options.depth ≡ Full) × IsSummed check.bag path × (is_passed after path ≡ false)
+IsToOpen check after path =
+    (check.options.depth ≡ Full) × IsSummed check.bag path × (is_passed after path ≡ false)
+
+-- these are they, in path order
+abbrev pub AreToOpen : Check → Option Fault → List (List ℕ) → Type 0
+AreToOpen check after files = IsListOf text_cmp (IsToOpen check after) files
 
 -- and of the payload one that a payload manifest names (RFC 8493, 2.1.3)
 abbrev pub IsListedToOpen : Check → Option Fault → List ℕ → Type 0
@@ -41,28 +50,22 @@ IsListedToOpen check after path =
     (check.options.depth ≡ Full) × (is_payload_path path ≡ true) × HasFile check.bag path
     × ((alg : Alg) × Names check.bag Payload alg path) × (is_passed after path ≡ false)
 
+abbrev pub AreListedToOpen : Check → Option Fault → List (List ℕ) → Type 0
+AreListedToOpen check after files = IsListOf text_cmp (IsListedToOpen check after) files
+
 -- A walk has given nothing yet: what its source holds is of a bag that was seen, which is an honest tree's; what is left is
 -- the report of that bag above the cursor, and the files still to be opened are in path order those that it needs.
-pub record IsStarted (old : TreeState) (profile : Option Profile) (options : Options) (after : Option Fault) (IsOf : Bag → Type 0) (left : Bag → List Fault) (todo : List (List ℕ)) : Type 0 where
+pub record IsStarted (old : TreeState) (profile : Option Profile) (options : Options)
+    (after : Option Fault) (IsOf : Bag → Type 0) (left : Bag → List Fault)
+    (todo : List (List ℕ)) : Type 0 where
   pub seen : Bag
   pub is_bag : IsBag seen
   pub honest : IsTrue old.honest → seen ≡ old.bag
   pub of : IsOf seen
-  pub stands : StandsAt (record { bag = seen; profile = profile; options = options }) after (left seen)
-  pub files : IsListOf text_cmp (IsToOpen (record { bag = seen; profile = profile; options = options }) after) todo
-  pub payload : IsListOf text_cmp (IsListedToOpen (record { bag = seen; profile = profile; options = options }) after) (filter is_payload_path todo)
-
--- a bag, checked against a profile with the options with which its facts were read
-abbrev pub check_of : Bag → Option Profile → Facts → Check
-check_of bag profile facts = record { bag = bag; profile = profile; options = facts.options }
-
--- so it is for each bag of which these are the facts
-abbrev pub ForBagOf : Facts → (Bag → Type 0) → Type 0
-ForBagOf facts Holds = (bag : Bag) → IsFactsOf bag facts → Holds bag
-
--- these are the files still to be opened, in path order
-abbrev pub AreToOpen : Check → Option Fault → List (List ℕ) → Type 0
-AreToOpen check after files = IsListOf text_cmp (IsToOpen check after) files
+  pub stands : StandsAt (check_with seen profile options) after (left seen)
+  pub files : AreToOpen (check_with seen profile options) after todo
+  pub payload : AreListedToOpen (check_with seen profile options) after
+      (filter is_payload_path todo)
 
 -- all the tag files that are to be read were opened
 abbrev pub OpensAllListed : Options → TreeState → TreeState → Type 0
@@ -83,16 +86,38 @@ abbrev pub state_after : {T S : Type 0} → Tree.Ghosts T → Result (Steps T S)
 state_after tree (Ok walk) = tree.state walk.tree
 state_after tree (Err refused) = tree.state refused.0
 
-module _ {T S : Type 0} (source : Source.Ghosts S T)
-    (old : TreeState) (profile : Option Profile) (options : Options) (after : Option Fault) where
-  -- the sources of the faults of a tree's bag above a cursor
-  abbrev pub SourcesStartAt : S → Type 0
-  SourcesStartAt s =
-      IsStarted old profile options after
-      (λ bag. source.is_of bag s) (λ bag. source.remaining bag s) (source.todo s)
+-- These sources hold the faults of a bag of which these are the facts, above a cursor: what is left of
+-- them is what stands above it, and the files that they open are those still to be opened.
+pub record AreSources {T S : Type 0} (source : Source.Ghosts S T)
+    (facts : Facts) (profile : Option Profile) (after : Option Fault) (sources : S) : Type 0 where
+  pub of : ForBagOf facts (λ bag. source.is_of bag sources)
+  pub stands : ForCheckOf facts profile (λ check.
+      StandsAt check after (source.remaining check.bag sources))
+  pub files : ForCheckOf facts profile (λ check. AreToOpen check after (source.todo sources))
 
-  -- a walk over them that has given nothing yet
-  abbrev pub StartsAt : Steps T S → Type 0
-  StartsAt walk =
-      IsStarted old profile options after
-      (λ bag. source.is_of bag walk.source) (λ bag. left source bag walk) (to_open source walk)
+-- a walk over the faults of a tree's bag above a cursor, which has given nothing yet
+abbrev pub StartsAt : {T S : Type 0} → Source.Ghosts S T
+    → TreeState → Option Profile → Options → Option Fault → Steps T S → Type 0
+StartsAt source old profile options after walk =
+    IsStarted old profile options after
+    (λ bag. source.is_of bag walk.source) (λ bag. left source bag walk) (to_open source walk)
+
+-- A walk was started: nothing was refused, all the tag files that are to be read were opened, and of an
+-- honest tree it is known that only files and folders stand there. It has given nothing yet, and has all
+-- faults of the report above the cursor still to give.
+pub record Starts {T S : Type 0} (tree : Tree.Ghosts T) (source : Source.Ghosts S T)
+    (old : TreeState) (profile : Option Profile) (options : Options) (after : Option Fault)
+    (walk : Steps T S) : Type 0 where
+  pub calm : RefusesNothing old (tree.state walk.tree)
+  pub plain : IsTrue old.honest → IsTrue old.plain
+  pub opened : OpensAllListed options old (tree.state walk.tree)
+  pub shown : walk.is_shown ≡ false
+  pub started : StartsAt source old profile options after walk
+
+-- Or none was, and the tree comes back: of the tag files the first were opened, and where a file was
+-- refused those up to it; and it stopped as reading the facts may.
+pub record IsNotStarted {T : Type 0} (tree : Tree.Ghosts T) (options : Options) (old : TreeState)
+    (refused : T × Stop) : Type 0 where
+  pub opened_first : OpensNoneOrFirst options old (tree.state refused.0)
+  pub refused_at : OpensUpToRefused options refused.1 old (tree.state refused.0)
+  pub stop : MayStopReading options old (tree.state refused.0) refused.1

@@ -1,5 +1,7 @@
 -- A walk over the faults of a source.
-use Rattle.std.specs.Prelude.{ℕ, ◌≡◌, ◌⊎◌, Bool, true, List, [], Option, None, Some, Result, Ok, Err, IfErr, IfOk, IsTrue, MatchResult, OnErr, OnOk, if◌then◌else◌}
+use Rattle.std.specs.Prelude.{ℕ, ◌≡◌, ◌⊎◌, Bool, true, List, [], Option, None, Some}
+use Rattle.std.specs.Prelude.{Result, Ok, Err, IfErr, IfOk, IsTrue, MatchResult, OnErr, OnOk}
+use Rattle.std.specs.Prelude.{if◌then◌else◌}
 use Rattle.std.specs.Borrow.{Bor}
 use Rattle.std.specs.Option.{option_copied}
 use Rattle.std.specs.declared.cmp.Ordering.TheVariants.{Less}
@@ -39,7 +41,9 @@ StandsAt check position faults = IsListOf fault_cmp (IsAhead check position) fau
 -- it is the least fault above the position, or none stands above it
 abbrev pub IsNextOf : Check → Option Fault → Option Fault → Type 0
 IsNextOf check position None = (f : Fault) → ¬ (IsAhead check position f)
-IsNextOf check position (Some f) = IsAhead check position f × ((g : Fault) → IsAhead check position g → (f ≡ g) ⊎ (fault_cmp f g ≡ Less))
+IsNextOf check position (Some f) =
+    IsAhead check position f
+    × ((g : Fault) → IsAhead check position g → (f ≡ g) ⊎ (fault_cmp f g ≡ Less))
 
 -- the position after what was given: that, or where none was given the one before it
 abbrev pub next_position : Option Fault → Option Fault → Option Fault
@@ -48,7 +52,8 @@ next_position position (Some f) = Some f
 
 -- The least fault above the position was given, and is the position now; or none is above it, and the position stays.
 abbrev pub Gives : Check → Option Fault → Option Fault → List Fault → Type 0
-Gives check position given faults = IsNextOf check position given × StandsAt check (next_position position given) faults
+Gives check position given faults =
+    IsNextOf check position given × StandsAt check (next_position position given) faults
 
 -- whether a call was refused, whatever it gives
 abbrev pub went : {A : Type 0} → Result A Stop → Result (Unit {0}) Stop
@@ -57,7 +62,8 @@ went (Err stop) = Err stop
 
 -- A step of a walk may stop so: at one of the files that were to be opened, after those before it, or for want of memory.
 -- More is said where the source is of an honest tree's bag.
-pub record MayStopStep (todo : List (List ℕ)) (old : TreeState) (IsOf : Type 0) (stop : Stop) : Type 0 where
+pub record MayStopStep (todo : List (List ℕ)) (old : TreeState) (IsOf : Type 0) (stop : Stop)
+    : Type 0 where
   pub new : TreeState
   pub left : List (List ℕ)
   pub keeps : Keeps old new
@@ -96,7 +102,8 @@ module _ {T S : Type 0} (tree : Tree.Ghosts T) (source : Source.Ghosts S T) wher
   -- so it is for each bag that the walk is over
   abbrev pub ForEachBag : Steps T S → (Bag → Type 0) → Type 0
   ForEachBag walk Holds =
-      (bag : Bag) → source.is_of bag walk.source → Sees (state walk) (to_open source walk) bag → Holds bag
+      (bag : Bag) → source.is_of bag walk.source → Sees (state walk) (to_open source walk) bag
+      → Holds bag
 
   -- if its tree is honest, its source is of that tree's bag
   abbrev pub IsOfHonest : Steps T S → Type 0
@@ -163,6 +170,10 @@ module _ {T S : Type 0} (tree : Tree.Ghosts T) (source : Source.Ghosts S T) wher
         → StillWait files (left source bag old) (to_open source new)
     pub stop : IfErr answer (MayStopHere old new)
     pub anyway : IfErr answer (MayStopOverAny old new)
+
+  -- a step from here may stop so, whatever it leaves
+  abbrev pub MayStopNext : Steps T S → Stop → Type 0
+  MayStopNext old stop = MayStopStep (to_open source old) (state old) (IsOfHonest old) stop
 
   -- the fault at which the walk stands after a step is lent
   abbrev pub LendsNext : Steps T S → Steps T S → Result (Option (Bor Fault)) Stop → Type 0

@@ -1,9 +1,15 @@
 -- Files whose digests are to be compared.
-use Rattle.std.specs.Prelude.{ℕ, List, [], map, flat_map, Option, None, Some}
+use Rattle.std.specs.Prelude.{ℕ, ◌≡◌, ◌⊎◌, List, [], ◌∷◌, ◌++◌, map, flat_map}
+use Rattle.std.specs.Prelude.{Option, None, Some, IsTrue}
 use Rattle.bag_tree.specs.Bag.{Bag, file}
+use Rattle.bag_tree.specs.Tree.{TreeState, IsEntryOf}
+use Rattle.bag_tree.specs.Whole.{IsRefusedAt}
+use Rattle.bag_tree.specs.declared.tree_fault.Stop.{Stop}
+use Rattle.bag_facts.specs.Stops.{IsOutOfMemory}
 use Rattle.bag_facts.specs.declared.fault.Fault.{Fault}
 use Rattle.bag_stages.specs.SumFaults.{faults_of_bytes}
 use Rattle.bag_report.specs.Report.{above}
+use Rattle.bag_walk.specs.Source.{MayStopAnyway, MayStopFilling}
 use Rattle.bag_walk.specs.declared.to_sum.ToSum.{ToSum}
 
 -- the faults of a file with these bytes, and none of one that isn't there
@@ -22,3 +28,25 @@ faults_of_files bag after files = flat_map (λ to_sum. above after (faults_in ba
 -- where they stand
 abbrev pub paths_to_sum : List ToSum → List (List ℕ)
 paths_to_sum files = map (λ to_sum. to_sum.file.path) files
+
+-- a file whose digests are compared, between two states of a tree
+module _ (to_sum : ToSum) (old new : TreeState) where
+  -- it was opened, and no other
+  abbrev pub OpensIt : Type 0
+  OpensIt = new.openings ≡ old.openings ++ to_sum.file.path ∷ []
+
+  -- memory ran out, or it was refused before any other file was opened
+  abbrev pub StopsAtIt : Stop → Type 0
+  StopsAtIt stop = IsOutOfMemory stop
+      ⊎ ((stop.path ≡ to_sum.file.path) × IsRefusedAt old.openings to_sum.file.path new)
+
+  -- whatever files come after it, finding a fault may stop so if it is an entry of an honest tree
+  abbrev pub MayStopAtIt : Stop → Type 0
+  MayStopAtIt stop =
+      (rest : List (List ℕ)) → (IsTrue old.honest → IsEntryOf old.bag to_sum.file)
+      → MayStopFilling (to_sum.file.path ∷ rest) old new stop
+
+  -- and over any tree so
+  abbrev pub MayStopAtItAnyway : Stop → Type 0
+  MayStopAtItAnyway stop =
+      (rest : List (List ℕ)) → MayStopAnyway (to_sum.file.path ∷ rest) old new stop

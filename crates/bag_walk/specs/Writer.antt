@@ -15,10 +15,12 @@ use Rattle.bag_walk.specs.declared.outcome.Request.{Request}
 abbrev pub Closes : Request → Outcome → OutState → OutState → Outcome → Type 0
 Closes request ending before after result =
     ((result ≡ ending) × Appends before.taken after.taken (closing request ending))
-    ⊎ ((result ≡ Unwritten (count_of ending)) × (after.has_refused ≡ true) × IsCut before.taken after.taken (closing request ending))
+    ⊎ ((result ≡ Unwritten (count_of ending)) × (after.has_refused ≡ true)
+    × IsCut before.taken after.taken (closing request ending))
 
 -- the lines of the first of these faults, and the closing line of how it ended
-pub record WritesReport (request : Request) (faults : List Fault) (Stops : Stop → Type 0) (before after : OutState) (outcome : Outcome) : Type 0 where
+pub record WritesReport (request : Request) (faults : List Fault) (Stops : Stop → Type 0)
+    (before after : OutState) (outcome : Outcome) : Type 0 where
   pub count : ℕ
   pub ending : Outcome
   pub within : count ≤ length faults

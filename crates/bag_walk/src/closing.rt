@@ -17,7 +17,8 @@ pub(crate) fn put_closing<W: Out>(
     outcome: &Outcome,
     out: &mut W,
 ) -> Result<(), Refused>
-    ensures { Writes (W.state out.old) (W.state out.new) (spec.closing request.now outcome.now) result }
+    ensures { Writes (W.state out.old) (W.state out.new)
+        (spec.closing request.now outcome.now) result }
 {
     let name = request.name.as_str();
     match outcome {
@@ -55,14 +56,16 @@ fn put_verdict<W: Out>(name: &str, verdict: &str, out: &mut W) -> Result<(), Ref
 }
 
 fn put_count<W: Out>(name: &str, text: &str, count: u64, out: &mut W) -> Result<(), Refused>
-    ensures { Writes (W.state out.old) (W.state out.new) (spec.about_count name.now text.now count) result }
+    ensures { Writes (W.state out.old) (W.state out.new)
+        (spec.about_count name.now text.now count) result }
 {
     let mut digits = Buffer::new();
     put_line(name, &[text, digits.format(count), "\n"], out)
 }
 
 fn put_unread<W: Out>(name: &str, stop: &Stop, count: u64, out: &mut W) -> Result<(), Refused>
-    ensures { Writes (W.state out.old) (W.state out.new) (spec.unread_line name.now stop.now count) result }
+    ensures { Writes (W.state out.old) (W.state out.new)
+        (spec.unread_line name.now stop.now count) result }
 {
     put_line(name, &[said::UNREAD], out)?;
     put_cause(stop, count, out)
@@ -87,7 +90,8 @@ fn put_cause<W: Out>(stop: &Stop, count: u64, out: &mut W) -> Result<(), Refused
 
 /// Hands a text to the output as a field of a line, and then the pieces. It takes no memory.
 pub fn put_line<W: Out>(text: &str, pieces: &[&str], out: &mut W) -> Result<(), Refused>
-    ensures { Writes (W.state out.old) (W.state out.new) (field text.now ++ text_of pieces.now) result }
+    ensures { Writes (W.state out.old) (W.state out.new)
+        (field text.now ++ text_of pieces.now) result }
 {
     put_field(text, out)?;
     put_pieces(out, pieces)

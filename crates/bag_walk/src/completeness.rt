@@ -1,15 +1,16 @@
 //! Faults of completeness, and clashes of names.
-ghost use Rattle.std.specs.Prelude.{◌≡◌, ⊤, [], true, false, Option, IfOk};
+ghost use Rattle.std.specs.Prelude.{◌≡◌, ⊤, [], false, Option, IfOk};
 ghost use Rattle.std.specs.List.Sorted.{IsStrictlySortedBy};
 ghost use Rattle.std.specs.Option.{option_copied};
-ghost use Rattle.bag_text.specs.Order.{IsListOf};
-ghost use Rattle.bag_tree.specs.Bag.{Bag};
 ghost use Rattle.bag_facts.specs.FaultOrder.{fault_cmp};
-ghost use Rattle.bag_facts.specs.Facts.{IsFactsOf, OfBag};
+ghost use Rattle.bag_facts.specs.Facts.{OfBag};
 ghost use Rattle.bag_facts.specs.Options.{reaches};
-ghost use Rattle.bag_stages.specs.CompletenessFaults.{IsIncomplete, IsWrong};
 ghost use Rattle.bag_profile.specs.Profile.{Profile};
-ghost use Rattle.bag_walk.specs.Completeness.{IsAbove, IsOfAlg, IsOfSomeAlg, IsSoughtAbove, IsStageAbove};
+ghost use Rattle.bag_stages.specs.CompletenessFaults.{IsIncomplete, IsWrong};
+ghost use Rattle.bag_stages.specs.CompletenessStage.{IsSoughtInStageSix};
+ghost use Rattle.bag_walk.specs.Completeness.{AreAbove, AreSought};
+ghost use Rattle.bag_walk.specs.Completeness.{IsOfAlg, IsOfSomeAlg, IsStageAbove};
+ghost use Rattle.bag_walk.specs.FactsOf.{ForCheckOf};
 ghost use Rattle.bag_walk.specs.Source.{first_of};
 
 use crate::fixed::{above, merged};
@@ -36,11 +37,13 @@ impl Completeness {
         facts: &Facts,
         after: Option<&Fault>,
     ) -> Result<Completeness, AllocError>
-        ensures sought { IfOk result (λ source. (bag : Bag) → IsFactsOf bag facts.now → reaches facts.now.options.depth 6 ≡ true
-            → IsListOf fault_cmp (IsSoughtAbove facts.now.options.clashes bag (option_copied after.entry)) source.list.faults) }
-        ensures none { IfOk result (λ source. reaches facts.now.options.depth 6 ≡ false → source.list.faults ≡ []) }
-        ensures reported { IfOk result (λ source. (bag : Bag) (profile : Option Profile) → IsFactsOf bag facts.now
-            → IsStageAbove (record { bag = bag; profile = profile; options = facts.now.options }) 6 (option_copied after.entry) source.list.faults) }
+        ensures sought { IfOk result (λ source.
+            AreSought facts.now (option_copied after.entry) source.list.faults) }
+        ensures none { IfOk result (λ source.
+            reaches facts.now.options.depth 6 ≡ false → source.list.faults ≡ []) }
+        ensures reported { IfOk result (λ source.
+            (profile : Option Profile) → ForCheckOf facts.now profile (λ check.
+            IsStageAbove check 6 (option_copied after.entry) source.list.faults)) }
     {
         let faults = asked(alloc, facts, after)?;
         Ok(Completeness {
@@ -51,9 +54,10 @@ impl Completeness {
 
 /// The faults of completeness and of names above a cursor that are asked for.
 fn asked(alloc: Global, facts: &Facts, after: Option<&Fault>) -> Result<Vec<Fault>, AllocError>
-    ensures sought { IfOk result (λ faults. (bag : Bag) → IsFactsOf bag facts.now → reaches facts.now.options.depth 6 ≡ true
-        → IsListOf fault_cmp (IsSoughtAbove facts.now.options.clashes bag (option_copied after.entry)) faults.items) }
-    ensures none { IfOk result (λ faults. reaches facts.now.options.depth 6 ≡ false → faults.items ≡ []) }
+    ensures sought { IfOk result (λ faults.
+        AreSought facts.now (option_copied after.entry) faults.items) }
+    ensures none { IfOk result (λ faults.
+        reaches facts.now.options.depth 6 ≡ false → faults.items ≡ []) }
 {
     if facts.options.depth.has_stage(6) {
         sought(alloc, facts, after)
@@ -66,7 +70,8 @@ fn asked(alloc: Global, facts: &Facts, after: Option<&Fault>) -> Result<Vec<Faul
 /// the clashes of names.
 fn sought(alloc: Global, facts: &Facts, after: Option<&Fault>) -> Result<Vec<Fault>, AllocError>
     ensures { IfOk result (λ faults. OfBag facts.now (λ bag.
-        IsListOf fault_cmp (IsSoughtAbove facts.now.options.clashes bag (option_copied after.entry)) faults.items)) }
+        AreAbove (option_copied after.entry)
+        (IsSoughtInStageSix facts.now.options.clashes bag) faults.items)) }
 {
     let of_files = of_files(alloc, facts, after)?;
     let of_names = above(clashes_asked(alloc, facts)?, after);
@@ -76,7 +81,8 @@ fn sought(alloc: Global, facts: &Facts, after: Option<&Fault>) -> Result<Vec<Fau
 /// The faults above a cursor that files are missing or aren't listed: those of each manifest, and those of all payload
 /// manifests at once, which a bag has by the rules of 0.97.
 fn of_files(alloc: Global, facts: &Facts, after: Option<&Fault>) -> Result<Vec<Fault>, AllocError>
-    ensures { IfOk result (λ faults. OfBag facts.now (λ bag. IsListOf fault_cmp (IsAbove (option_copied after.entry) (IsIncomplete bag)) faults.items)) }
+    ensures { IfOk result (λ faults. OfBag facts.now (λ bag.
+        AreAbove (option_copied after.entry) (IsIncomplete bag) faults.items)) }
 {
     let of_algs = of_algs(alloc, facts, after)?;
     let of_all = above(unlisted_in_all(alloc, facts)?, after);
@@ -85,7 +91,8 @@ fn of_files(alloc: Global, facts: &Facts, after: Option<&Fault>) -> Result<Vec<F
 
 /// Those of the manifests of each algorithm.
 fn of_algs(alloc: Global, facts: &Facts, after: Option<&Fault>) -> Result<Vec<Fault>, AllocError>
-    ensures { IfOk result (λ faults. OfBag facts.now (λ bag. IsListOf fault_cmp (IsAbove (option_copied after.entry) (IsOfSomeAlg bag)) faults.items)) }
+    ensures { IfOk result (λ faults. OfBag facts.now (λ bag.
+        AreAbove (option_copied after.entry) (IsOfSomeAlg bag) faults.items)) }
 {
     let mut faults = Vec::new(alloc);
     for alg in Alg::ALL {
@@ -102,7 +109,8 @@ fn of_alg(
     alg: Alg,
     after: Option<&Fault>,
 ) -> Result<Vec<Fault>, AllocError>
-    ensures { IfOk result (λ faults. OfBag facts.now (λ bag. IsListOf fault_cmp (IsAbove (option_copied after.entry) (IsOfAlg bag alg)) faults.items)) }
+    ensures { IfOk result (λ faults. OfBag facts.now (λ bag.
+        AreAbove (option_copied after.entry) (IsOfAlg bag alg) faults.items)) }
 {
     let of_payload = of_payload(alloc, facts, alg, after)?;
     let of_tags = above(missing_of(alloc, facts, Kind::Tag, alg)?, after);
@@ -116,7 +124,8 @@ fn of_payload(
     alg: Alg,
     after: Option<&Fault>,
 ) -> Result<Vec<Fault>, AllocError>
-    ensures { IfOk result (λ faults. OfBag facts.now (λ bag. IsListOf fault_cmp (IsAbove (option_copied after.entry) (IsWrong bag alg)) faults.items)) }
+    ensures { IfOk result (λ faults. OfBag facts.now (λ bag.
+        AreAbove (option_copied after.entry) (IsWrong bag alg) faults.items)) }
 {
     if is_exact(facts, alg) {
         return Ok(Vec::new(alloc));

@@ -1,9 +1,8 @@
 //! The files whose digests are to be compared.
 ghost use Rattle.std.specs.Prelude.{◌≡◌, ◌≢◌, [], IfOk};
 ghost use Rattle.std.specs.Option.{option_copied};
-ghost use Rattle.bag_tree.specs.Bag.{Bag};
-ghost use Rattle.bag_facts.specs.Facts.{IsFactsOf};
 ghost use Rattle.bag_facts.specs.declared.options.Depth.TheVariants as depth_of;
+ghost use Rattle.bag_walk.specs.FactsOf.{ForBagAtFull};
 ghost use Rattle.bag_walk.specs.Files.{AreToSum, IsToSum};
 ghost use Rattle.bag_walk.specs.Validity.{is_passed};
 
@@ -24,9 +23,10 @@ pub(crate) fn files_to_sum(
     facts: &Facts,
     after: Option<&Fault>,
 ) -> Result<Vec<ToSum>, AllocError>
-    ensures files { IfOk result (λ files. (bag : Bag) → IsFactsOf bag facts.now → facts.now.options.depth ≡ depth_of.Full
-        → AreToSum bag (option_copied after.entry) facts.now.listing.files files.items) }
-    ensures none { IfOk result (λ files. facts.now.options.depth ≢ depth_of.Full → files.items ≡ []) }
+    ensures files { IfOk result (λ files. ForBagAtFull facts.now (λ bag.
+        AreToSum bag (option_copied after.entry) facts.now.listing.files files.items)) }
+    ensures none { IfOk result (λ files.
+        facts.now.options.depth ≢ depth_of.Full → files.items ≡ []) }
 {
     let mut files = Vec::new(alloc);
     if facts.options().depth != Depth::Full {
@@ -50,8 +50,8 @@ fn to_sum_of(
     after: Option<&Fault>,
     places: &mut Places,
 ) -> Result<Option<ToSum>, AllocError>
-    ensures { IfOk result (λ to_sum. (bag : Bag) → IsFactsOf bag facts.now → facts.now.options.depth ≡ depth_of.Full
-        → IsToSum bag (option_copied after.entry) file.now to_sum) }
+    ensures { IfOk result (λ to_sum. ForBagAtFull facts.now (λ bag.
+        IsToSum bag (option_copied after.entry) file.now to_sum)) }
 {
     if is_passed(after, &file.path) {
         return Ok(None);

@@ -1,12 +1,13 @@
 //! Faults that are at hand, lists of faults in their order, and one source behind another.
-ghost use Rattle.std.specs.Prelude.{◌≡◌, ⊤, [], ◌↔◌, IsTrue, IsSome, ◌+◌, ◌<◌, IfOk, OnSome, length, ◌++◌, true, Bool, if◌then◌else◌};
+ghost use Rattle.std.specs.Prelude.{◌≡◌, ⊤, ◌↔◌, ◌+◌, ◌<◌, [], ◌++◌, length, true, Bool};
+ghost use Rattle.std.specs.Prelude.{IsTrue, IsSome, IfOk, OnSome, if◌then◌else◌};
 ghost use Rattle.std.specs.List.Sorted.{IsStrictlySortedBy};
 ghost use Rattle.std.specs.Option.{option_copied};
 ghost use Rattle.bag_facts.specs.FaultOrder.{fault_cmp};
 ghost use Rattle.bag_walk.specs.Source.{first_of, rest_of, AllBelow, Where};
 ghost use Rattle.bag_report.specs.Report.{above};
 ghost use Rattle.bag_walk.specs.Completeness.{TakesLeast};
-ghost use Rattle.bag_walk.specs.Merge.{union};
+ghost use Rattle.bag_walk.specs.Merge.{union, IfBothAscend};
 ghost use Rattle.bag_walk.specs.Openings.{NoneBehind};
 ghost use Rattle.bag_walk.specs.Lists.{front_ascends, first_of_both};
 
@@ -144,8 +145,8 @@ pub(crate) fn merged(
     faults: Vec<Fault>,
     others: Vec<Fault>,
 ) -> Result<Vec<Fault>, AllocError>
-    ensures { IfOk result (λ merged. IsStrictlySortedBy fault_cmp faults.items → IsStrictlySortedBy fault_cmp others.items
-        → merged.items ≡ union faults.items others.items) }
+    ensures { IfOk result (λ merged. IfBothAscend faults.items others.items
+        (merged.items ≡ union faults.items others.items)) }
 {
     if others.is_empty() {
         return Ok(faults);
@@ -166,8 +167,8 @@ fn both(
     mut faults: VecDeque<Fault>,
     mut others: VecDeque<Fault>,
 ) -> Result<Vec<Fault>, AllocError>
-    ensures { IfOk result (λ merged. IsStrictlySortedBy fault_cmp faults.items → IsStrictlySortedBy fault_cmp others.items
-        → merged.items ≡ union faults.items others.items) }
+    ensures { IfOk result (λ merged. IfBothAscend faults.items others.items
+        (merged.items ≡ union faults.items others.items)) }
 {
     let room = faults.len().saturating_add(others.len());
     let mut merged = Vec::with_capacity(alloc, room)?;
@@ -179,9 +180,10 @@ fn both(
 
 /// Takes the least fault of two ascending lists, from each that has it.
 fn take_least(faults: &mut VecDeque<Fault>, others: &mut VecDeque<Fault>) -> Option<Fault>
-    ensures least { IsStrictlySortedBy fault_cmp faults.old.items → IsStrictlySortedBy fault_cmp others.old.items
-        → TakesLeast faults.old.items others.old.items result faults.new.items others.new.items }
-    ensures shorter { OnSome result (length faults.new.items + length others.new.items < length faults.old.items + length others.old.items) }
+    ensures least { IfBothAscend faults.old.items others.old.items (TakesLeast
+        faults.old.items others.old.items result faults.new.items others.new.items) }
+    ensures shorter { OnSome result (length faults.new.items + length others.new.items
+        < length faults.old.items + length others.old.items) }
 {
     match order(faults.front(), others.front()) {
         Ordering::Less => faults.pop_front(),
@@ -216,10 +218,13 @@ impl<A, B> Then<A, B> {
 }
 
 impl<T: Tree, A: Source<T>, B: Source<T>> Source<T> for Then<A, B> {
-    ghost is_of = { λ bag s. Where s.in_first (A.is_of bag s.first × AllBelow (A.remaining bag s.first) (B.remaining bag s.second)
-        × (A.in_order → NoneBehind (B.remaining bag s.second) (A.todo s.first))) × B.is_of bag s.second };
+    ghost is_of = { λ bag s. Where s.in_first (A.is_of bag s.first
+        × AllBelow (A.remaining bag s.first) (B.remaining bag s.second)
+        × (A.in_order → NoneBehind (B.remaining bag s.second) (A.todo s.first)))
+        × B.is_of bag s.second };
 
-    ghost remaining = { λ bag s. (if s.in_first then A.remaining bag s.first else []) ++ B.remaining bag s.second };
+    ghost remaining = { λ bag s.
+        (if s.in_first then A.remaining bag s.first else []) ++ B.remaining bag s.second };
 
     ghost todo = { λ s. (if s.in_first then A.todo s.first else []) ++ B.todo s.second };
 
@@ -227,10 +232,13 @@ impl<T: Tree, A: Source<T>, B: Source<T>> Source<T> for Then<A, B> {
 
     ghost in_order = { A.in_order × B.in_order };
 
-    ghost is_first = { λ bag s f h e. first_of_both s.in_first (A.found s.first) (B.found s.second) (A.remaining bag s.first) (B.remaining bag s.second) f
-        (A.is_of bag s.first) _ (λ k. A.is_first bag s.first f k) (λ k. B.is_first bag s.second f h.1 k) h.0 e };
+    ghost is_first = { λ bag s f h e. first_of_both s.in_first
+        (A.found s.first) (B.found s.second) (A.remaining bag s.first) (B.remaining bag s.second) f
+        (A.is_of bag s.first) _
+        (λ k. A.is_first bag s.first f k) (λ k. B.is_first bag s.second f h.1 k) h.0 e };
 
-    ghost ascends = { λ bag s h. front_ascends s.in_first (A.remaining bag s.first) (B.remaining bag s.second)
+    ghost ascends = { λ bag s h. front_ascends s.in_first
+        (A.remaining bag s.first) (B.remaining bag s.second)
         (A.is_of bag s.first) _ (λ k. A.ascends bag s.first k) (B.ascends bag s.second h.1) h.0 };
 
     fn fill(&mut self, tree: &mut T) -> Result<(), Stop> {

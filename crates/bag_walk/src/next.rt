@@ -3,7 +3,7 @@ ghost use Rattle.std.specs.Prelude.{◌≡◌, ⊤, IfErr, IfOk};
 ghost use Rattle.std.specs.Borrow.{sem, follows_so};
 ghost use Rattle.std.specs.Option.{option_copied};
 ghost use mathlib.Core.Option.{none};
-ghost use Rattle.bag_walk.specs.Steps.{shown, went, IsOfHonest, LendsLeast, LendsNext, MayStopStep};
+ghost use Rattle.bag_walk.specs.Steps.{shown, went, LendsLeast, LendsNext, MayStopNext};
 ghost use Rattle.bag_walk.specs.contracts.steps.Steps.{the_row};
 
 use crate::{InOrder, Steps};
@@ -18,10 +18,10 @@ impl<T: Tree, S: InOrder<T>> Steps<T, S> {
     /// whose proof goes by the walk after the call makes the two calls that this one makes, `go_on` and `shown`.
     pub fn next(&mut self) -> Result<Option<&Fault>, Stop>
         ensures* behind { sem 𝓛 (follows_so (the_row T.row S.row) (the_row T.row S.row)
-            self.entry.ghost_name none (λ _ _. ⊤) (λ new. LendsNext T.Tree S.Source self.old new result)) }
+            self.entry.ghost_name none (λ _ _. ⊤)
+            (λ new. LendsNext T.Tree S.Source self.old new result)) }
         ensures given { LendsLeast T.Tree S.Source self.old result }
-        ensures stop { IfErr result (MayStopStep (S.todo self.old.source) (T.state self.old.tree)
-            (IsOfHonest T.Tree S.Source self.old)) }
+        ensures stop { IfErr result (MayStopNext T.Tree S.Source self.old) }
     {
         let gone = self.go_on();
         self.answer(gone)

@@ -7,11 +7,10 @@ ghost use Rattle.bag_walk.specs.Closing.{count_of};
 ghost use Rattle.bag_walk.specs.Ending.{limit_of};
 ghost use Rattle.bag_walk.specs.Openings.{NoneWaits, OpensAgain, OpensNoneBehind};
 ghost use Rattle.bag_walk.specs.Steps.{left, to_open, ForEachBag, IsOfHonest};
-ghost use Rattle.bag_walk.specs.RunOpenings.{LooksNoFurther, OpensInRun, OpensInTurn, OpensListed};
-ghost use Rattle.bag_walk.specs.RunOpenings.{OpensNonePassed, StopsInTurn, written_before};
-ghost use Rattle.bag_walk.specs.Run.{IsRun, IsRunByReport};
+ghost use Rattle.bag_walk.specs.RunOpenings.{written_before};
 ghost use Rattle.bag_walk.specs.Segment.{MayStopRun, WritesCalmly};
 ghost use Rattle.bag_walk.specs.Stops.{IfStopped};
+ghost use Rattle.bag_walk.specs.WholeRun.{IsRunOver};
 
 use crate::cursor::copy_of_cursor;
 use crate::segment::{Lines, close, close_segment, out_of_memory, write_faults};
@@ -34,54 +33,17 @@ pub fn run<T: Tree, W: Out>(
     request: Request,
     out: &mut W,
 ) -> (T, Outcome)
-    ensures keeps { Keeps (T.state tree) (T.state result.0) }
-    ensures opens { OpensInRun request.options (T.state tree) (T.state result.0) }
-    ensures payload { OpensListed request.options (T.state tree) (T.state result.0) }
-    ensures none_passed { OpensNonePassed request.after (T.state tree) (T.state result.0) }
-    ensures in_turn { OpensInTurn (T.state tree) (T.state result.0)
-        (option_copied profile.entry) request result.1 }
-    ensures stopped { StopsInTurn (T.state tree) (T.state result.0)
-        (option_copied profile.entry) request result.1 }
-    ensures unlooked { LooksNoFurther (T.state tree) (T.state result.0)
-        (option_copied profile.entry) request }
     ensures untouched { request.limit ≡ Some 0 → result.0 ≡ tree }
-    ensures run { IsRun (T.state tree) (T.state result.0)
-        (option_copied profile.entry) request (W.state out.old) (W.state out.new) result.1 }
-    ensures by_report { IsRunByReport (T.state tree) (T.state result.0)
+    ensures run { IsRunOver (T.state tree) (T.state result.0)
         (option_copied profile.entry) request (W.state out.old) (W.state out.new) result.1 }
 {
-    run_over(alloc, tree, profile, &request, out)
-}
-
-/// The run, for a request that is lent.
-fn run_over<T: Tree, W: Out>(
-    alloc: Global,
-    tree: T,
-    profile: Option<&Profile>,
-    request: &Request,
-    out: &mut W,
-) -> (T, Outcome)
-    ensures keeps { Keeps (T.state tree) (T.state result.0) }
-    ensures opens { OpensInRun request.now.options (T.state tree) (T.state result.0) }
-    ensures none_passed { OpensNonePassed request.now.after (T.state tree) (T.state result.0) }
-    ensures in_turn { OpensInTurn (T.state tree) (T.state result.0)
-        (option_copied profile.entry) request.now result.1 }
-    ensures stopped { StopsInTurn (T.state tree) (T.state result.0)
-        (option_copied profile.entry) request.now result.1 }
-    ensures unlooked { LooksNoFurther (T.state tree) (T.state result.0)
-        (option_copied profile.entry) request.now }
-    ensures untouched { request.now.limit ≡ Some 0 → result.0 ≡ tree }
-    ensures run { IsRun (T.state tree) (T.state result.0)
-        (option_copied profile.entry) request.now (W.state out.old) (W.state out.new) result.1 }
-{
+    let request = &request;
     if limit_of(request) == 0 {
         return (tree, close(request, Outcome::Stopped(0), out));
     }
     let Ok(after) = copy_of_cursor(alloc, request.after.as_ref()) else {
-        return (
-            tree,
-            close(request, Outcome::Unread(0, out_of_memory(alloc)), out),
-        );
+        let outcome = Outcome::Unread(0, out_of_memory(alloc));
+        return (tree, close(request, outcome, out));
     };
     match Walk::start(alloc, tree, profile, request.options, after) {
         Ok(walk) => run_of_walk(alloc, walk, request, out),

@@ -1,5 +1,6 @@
 //! The lines of a report's faults, each written when its fault is found.
-ghost use Rattle.std.specs.Prelude.{◌≡◌, List, IsTrue, drop, string_bytes, [], IfOk, OnOk, Option, ℕ};
+ghost use Rattle.std.specs.Prelude.{ℕ, ◌≡◌, List, [], drop, string_bytes};
+ghost use Rattle.std.specs.Prelude.{IfOk, IsTrue, OnOk, Option};
 ghost use Rattle.std.specs.Option.{option_copied};
 ghost use Rattle.bag_tree.specs.Calm.{RefusesNothing};
 ghost use Rattle.bag_tree.specs.Out.{OutState};

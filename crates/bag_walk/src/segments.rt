@@ -104,7 +104,7 @@ fn write_segment<T: Tree, W: Out>(
     ensures unseen { (faults : List Spoken) ×
         IsSegment faults limit (W.state out.old) (W.state out.new) result.1 }
     ensures segment { ForReportFrom (T.state tree) (option_copied profile.entry) options
-        (string_bytes lines.old.last) (λ report n. spec.GoesOn report n limit
+        (string_bytes lines.old.last) (λ report n. spec.ContinuesReport report n limit
         (W.state out.old) (W.state out.new) (string_bytes lines.new.last) result.1) }
     ensures opens { ForReportFrom (T.state tree) (option_copied profile.entry) options
         (string_bytes lines.old.last) (λ report n.

@@ -1,5 +1,6 @@
 //! What a source of faults is.
-ghost use Rattle.std.specs.Prelude.{ℕ, ◌≡◌, [], List, Option, Some, None, IsSome, IfErr, OnOk, OnErr};
+ghost use Rattle.std.specs.Prelude.{ℕ, ◌≡◌, [], List, Option, Some, None};
+ghost use Rattle.std.specs.Prelude.{IsSome, IfErr, OnOk, OnErr};
 ghost use Rattle.std.specs.List.Sorted.{IsStrictlySortedBy};
 ghost use Rattle.std.specs.Option.{option_copied};
 ghost use Rattle.bag_tree.specs.Bag.{Bag};
@@ -7,7 +8,8 @@ ghost use Rattle.bag_tree.specs.Calm.{RefusesNothing};
 ghost use Rattle.bag_tree.specs.Tree.{Keeps};
 ghost use Rattle.bag_facts.specs.FaultOrder.{fault_cmp};
 ghost use Rattle.bag_facts.specs.declared.fault.Fault.{Fault};
-ghost use Rattle.bag_walk.specs.Openings.{NoneWaits, Opens, OpensAgain, OpensNoneBehind, StopsAtNext};
+ghost use Rattle.bag_walk.specs.Openings.{NoneWaits, Opens, OpensAgain};
+ghost use Rattle.bag_walk.specs.Openings.{OpensNoneBehind, StopsAtNext};
 ghost use Rattle.bag_walk.specs.Source.{first_of, rest_of, ForEachSeen, IsOfHonest};
 ghost use Rattle.bag_walk.specs.Source.{MayStopAnyway, MayStopFilling};
 

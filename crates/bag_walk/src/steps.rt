@@ -1,17 +1,16 @@
 //! A walk over the faults of a source, one at a time, and how one over a tree's bag begins.
-ghost use Rattle.std.specs.Prelude.{◌≡◌, ◌≢◌, false, IsTrue, IfErr, IfOk, OnErr, OnOk};
+ghost use Rattle.std.specs.Prelude.{◌≡◌, ◌≢◌, false, IfErr, IfOk, OnErr, OnOk};
 ghost use Rattle.std.specs.Option.{option_copied};
 ghost use Rattle.bag_tree.specs.Bag.{Bag};
 ghost use Rattle.bag_tree.specs.Calm.{RefusesNothing};
 ghost use Rattle.bag_tree.specs.Tree.{Keeps};
 ghost use Rattle.bag_facts.specs.Facts.{IsFactsOf};
-ghost use Rattle.bag_facts.specs.Stops.{MayStopReading};
 ghost use Rattle.bag_facts.specs.Wanted.{OpensWanted};
 ghost use Rattle.bag_walk.specs.Completeness.{IsStageAbove};
-ghost use Rattle.bag_walk.specs.Start.{check_of, AreAheadBefore, AreToOpen, ForBagOf};
-ghost use Rattle.bag_walk.specs.Start.{OpensAllListed, OpensNoneOrFirst, OpensUpToRefused};
-ghost use Rattle.bag_walk.specs.Start.{state_after, SourcesStartAt, StartsAt};
-ghost use Rattle.bag_walk.specs.Steps.{left, shown, to_open, GivesFirst, GoesOn, IsDone, StandsAt};
+ghost use Rattle.bag_walk.specs.FactsOf.{ForCheckOf};
+ghost use Rattle.bag_walk.specs.Start.{state_after, AreAheadBefore, AreSources};
+ghost use Rattle.bag_walk.specs.Start.{IsNotStarted, Starts};
+ghost use Rattle.bag_walk.specs.Steps.{left, shown, to_open, GivesFirst, GoesOn, IsDone};
 ghost use Rattle.bag_walk.specs.Steps.{IsStoppedInTurn, MayReopenLast, MayStopHere, MayStopOverAny};
 ghost use Rattle.bag_walk.specs.Steps.{OpensBehindNone, OpensNext, StopsBehindNone};
 
@@ -117,10 +116,7 @@ impl<T: Tree, S: InOrder<T>> Steps<T, S> {
     pub fn go_on(&mut self) -> Result<(), Stop>
         ensures { GoesOn T.Tree S.Source self.old self.new result }
     {
-        match self.step() {
-            Ok(()) => Ok(()),
-            Err(stop) => Err(stop),
-        }
+        self.step()
     }
 }
 
@@ -145,55 +141,19 @@ impl<T: Tree> Walk<T> {
         after: Option<Fault>,
     ) -> Result<Walk<T>, (T, Stop)>
         ensures keeps { Keeps (T.state tree) (state_after T.Tree result) }
-        ensures calm { IfOk result (λ walk. RefusesNothing (T.state tree) (T.state walk.tree)) }
-        ensures plain { OnOk result (IsTrue (T.state tree).honest → IsTrue (T.state tree).plain) }
         ensures opens { OpensWanted options (T.state tree) (state_after T.Tree result) }
-        ensures opened { IfOk result (λ walk.
-            OpensAllListed options (T.state tree) (T.state walk.tree)) }
-        ensures opened_first { IfErr result (λ refused.
-            OpensNoneOrFirst options (T.state tree) (T.state refused.0)) }
-        ensures refused { IfErr result (λ refused.
-            OpensUpToRefused options refused.1 (T.state tree) (T.state refused.0)) }
-        ensures shown { IfOk result (λ walk. walk.is_shown ≡ false) }
-        ensures started { IfOk result (StartsAt ⟦<Sources as Source<T>>⟧
+        ensures started { IfOk result (Starts T.Tree ⟦<Sources as Source<T>>⟧
             (T.state tree) (option_copied profile.entry) options after) }
-        ensures stop { IfErr result (λ refused.
-            MayStopReading options (T.state tree) (T.state refused.0) refused.1) }
+        ensures refused { IfErr result (IsNotStarted T.Tree options (T.state tree)) }
     {
         let mut tree = tree;
-        match Self::sources_over(alloc, &mut tree, profile, options, after.as_ref()) {
+        let facts = match Facts::read(alloc, &mut tree, options) {
+            Ok(facts) => facts,
+            Err(stop) => return Err((tree, stop)),
+        };
+        match Self::sources_of(alloc, &facts, profile, after.as_ref()) {
             Ok(sources) => Ok(Steps::new(tree, sources)),
-            Err(stop) => Err((tree, stop)),
-        }
-    }
-
-    /// The sources of the faults of a tree's bag above a cursor.
-    fn sources_over(
-        alloc: Global,
-        tree: &mut T,
-        profile: Option<&Profile>,
-        options: Options,
-        after: Option<&Fault>,
-    ) -> Result<Sources, Stop>
-        ensures keeps { Keeps (T.state tree.old) (T.state tree.new) }
-        ensures calm { OnOk result (RefusesNothing (T.state tree.old) (T.state tree.new)) }
-        ensures plain { OnOk result (
-            IsTrue (T.state tree.old).honest → IsTrue (T.state tree.old).plain) }
-        ensures opens { OpensWanted options (T.state tree.old) (T.state tree.new) }
-        ensures opened { OnOk result (
-            OpensAllListed options (T.state tree.old) (T.state tree.new)) }
-        ensures opened_first { OnErr result (
-            OpensNoneOrFirst options (T.state tree.old) (T.state tree.new)) }
-        ensures refused { IfErr result (λ stop.
-            OpensUpToRefused options stop (T.state tree.old) (T.state tree.new)) }
-        ensures started { IfOk result (SourcesStartAt ⟦<Sources as Source<T>>⟧
-            (T.state tree.old) (option_copied profile.entry) options (option_copied after.entry)) }
-        ensures stop { IfErr result (MayStopReading options (T.state tree.old) (T.state tree.new)) }
-    {
-        let facts = Facts::read(alloc, tree, options)?;
-        match Self::sources_of(alloc, &facts, profile, after) {
-            Ok(sources) => Ok(sources),
-            Err(AllocError) => Err(Stop::without_path(alloc, TreeFault::Memory)),
+            Err(AllocError) => Err((tree, Stop::without_path(alloc, TreeFault::Memory))),
         }
     }
 
@@ -205,15 +165,8 @@ impl<T: Tree> Walk<T> {
         after: Option<&Fault>,
     ) -> Result<Sources, AllocError>
         requires { (bag : Bag) × IsFactsOf bag facts.now }
-        ensures of { IfOk result (λ sources. ForBagOf facts.now (λ bag.
-            ⟦<Sources as Source<T>>⟧.is_of bag sources)) }
-        ensures stands { IfOk result (λ sources. ForBagOf facts.now (λ bag.
-            let check = check_of bag (option_copied profile.entry) facts.now in
-            StandsAt check (option_copied after.entry)
-            (⟦<Sources as Source<T>>⟧.remaining bag sources))) }
-        ensures files { IfOk result (λ sources. ForBagOf facts.now (λ bag.
-            let check = check_of bag (option_copied profile.entry) facts.now in
-            AreToOpen check (option_copied after.entry) (⟦<Sources as Source<T>>⟧.todo sources))) }
+        ensures { IfOk result (AreSources ⟦<Sources as Source<T>>⟧
+            facts.now (option_copied profile.entry) (option_copied after.entry)) }
     {
         let early = early_above(alloc, facts, profile, after)?;
         let completeness = Completeness::new(alloc, facts, after)?;
@@ -233,8 +186,7 @@ fn early_above(
     profile: Option<&Profile>,
     after: Option<&Fault>,
 ) -> Result<Vec<Fault>, AllocError>
-    ensures { IfOk result (λ faults. ForBagOf facts.now (λ bag.
-        let check = check_of bag (option_copied profile.entry) facts.now in
+    ensures { IfOk result (λ faults. ForCheckOf facts.now (option_copied profile.entry) (λ check.
         AreAheadBefore check 6 (option_copied after.entry) faults.items)) }
 {
     let mut faults = Vec::new(alloc);
@@ -254,8 +206,7 @@ fn stage_above(
     after: Option<&Fault>,
 ) -> Result<Vec<Fault>, AllocError>
     requires { stage ≢ 7 }
-    ensures { IfOk result (λ faults. ForBagOf facts.now (λ bag.
-        let check = check_of bag (option_copied profile.entry) facts.now in
+    ensures { IfOk result (λ faults. ForCheckOf facts.now (option_copied profile.entry) (λ check.
         IsStageAbove check stage (option_copied after.entry) faults.items)) }
 {
     Ok(above(stage_faults(alloc, facts, profile, stage)?, after))

@@ -1,15 +1,14 @@
 //! A file whose digests are to be compared.
-ghost use Rattle.std.specs.Prelude.{◌≡◌, ◌⊎◌, ◌<◌, ◌∷◌, ◌++◌, ℕ, List, [], Contains, IsTrue, IfOk, IfErr, OnOk, OnErr, length};
+ghost use Rattle.std.specs.Prelude.{ℕ, ◌≡◌, List, Contains, length, Some, IsTrue};
+ghost use Rattle.std.specs.Prelude.{IfOk, IfErr, OnOk, OnErr};
 ghost use Rattle.std.specs.Option.{option_copied};
 ghost use Rattle.bag_tree.specs.Calm.{RefusesNothing};
-ghost use Rattle.bag_tree.specs.Tree.{Keeps, IsEntryOf, OpensAtMost};
-ghost use Rattle.bag_tree.specs.Whole.{IsRefusedAt};
-ghost use Rattle.bag_facts.specs.Stops.{IsOutOfMemory};
-ghost use Rattle.bag_stages.specs.SumFaults.{faults_of_bytes, AreSumsBy};
+ghost use Rattle.bag_tree.specs.Tree.{Keeps, OpensAtMost};
+ghost use Rattle.bag_stages.specs.SumFaults.{AreSumsBy};
 ghost use Rattle.bag_stages.specs.declared.expected.Expected.{Expected as Given};
 ghost use Rattle.bag_report.specs.Report.{above};
-ghost use Rattle.bag_walk.specs.Source.{MayStopAnyway, MayStopFilling};
-ghost use Rattle.bag_walk.specs.ToSum.{faults_in};
+ghost use Rattle.bag_walk.specs.ToSum.{faults_at, faults_in, MayStopAtIt, MayStopAtItAnyway};
+ghost use Rattle.bag_walk.specs.ToSum.{OpensIt, StopsAtIt};
 
 use crate::fixed::above;
 use bag_facts::{Fault, refusal_of};
@@ -36,15 +35,15 @@ pub(crate) fn faults_of_file<T: Tree>(
     requires { length buffer.old ≡ 65536 }
     ensures keeps { Keeps (T.state tree.old) (T.state tree.new) }
     ensures calm { OnOk result (RefusesNothing (T.state tree.old) (T.state tree.new)) }
-    ensures opened { OnOk result ((T.state tree.new).openings ≡ (T.state tree.old).openings ++ to_sum.now.file.path ∷ []) }
-    ensures opens { OnErr result (OpensAtMost (T.state tree.old) (T.state tree.new) to_sum.now.file.path) }
-    ensures refused { IfErr result (λ stop. IsOutOfMemory stop ⊎ ((stop.path ≡ to_sum.now.file.path)
-        × IsRefusedAt (T.state tree.old).openings to_sum.now.file.path (T.state tree.new))) }
-    ensures faults { IfOk result (λ faults. IsTrue (T.state tree.old).honest
-        → faults.items ≡ above (option_copied after.entry) (faults_in (T.state tree.old).bag to_sum.now)) }
-    ensures stop { IfErr result (λ stop. (rest : List (List ℕ)) → (IsTrue (T.state tree.old).honest → IsEntryOf (T.state tree.old).bag to_sum.now.file)
-        → MayStopFilling (to_sum.now.file.path ∷ rest) (T.state tree.old) (T.state tree.new) stop) }
-    ensures anyway { IfErr result (λ stop. (rest : List (List ℕ)) → MayStopAnyway (to_sum.now.file.path ∷ rest) (T.state tree.old) (T.state tree.new) stop) }
+    ensures opened { OnOk result (OpensIt to_sum.now (T.state tree.old) (T.state tree.new)) }
+    ensures opens { OnErr result (
+        OpensAtMost (T.state tree.old) (T.state tree.new) to_sum.now.file.path) }
+    ensures refused { IfErr result (StopsAtIt to_sum.now (T.state tree.old) (T.state tree.new)) }
+    ensures faults { IfOk result (λ faults. IsTrue (T.state tree.old).honest → faults.items
+        ≡ above (option_copied after.entry) (faults_in (T.state tree.old).bag to_sum.now)) }
+    ensures stop { IfErr result (MayStopAtIt to_sum.now (T.state tree.old) (T.state tree.new)) }
+    ensures anyway { IfErr result (
+        MayStopAtItAnyway to_sum.now (T.state tree.old) (T.state tree.new)) }
 {
     // Copied before the file is read, so that its refusal isn't told as want of memory.
     let Ok(path) = to_sum.file.path.copy(alloc) else {
@@ -79,8 +78,9 @@ fn faults_above(
     sums: &Sums,
     after: Option<&Fault>,
 ) -> Result<Vec<Fault>, AllocError>
-    ensures { IfOk result (λ faults. (content : List ℕ) → AreSumsBy to_sum.now.expected content sums.now
-        → faults.items ≡ above (option_copied after.entry) (faults_of_bytes to_sum.now.file.path content to_sum.now.expected)) }
+    ensures { IfOk result (λ faults. (content : List ℕ)
+        → AreSumsBy to_sum.now.expected content sums.now → faults.items
+        ≡ above (option_copied after.entry) (faults_at to_sum.now (Some content))) }
 {
     let expected = to_sum.expected.as_slice();
     let faults = faults_by(alloc, &to_sum.file.path, expected, sums)?;

@@ -1,9 +1,13 @@
 //! A check, one fault at a time, that passes over files that can't be read.
+ghost use Rattle.std.specs.Prelude.{◌≤◌, IfOk};
+ghost use Rattle.bag_tree.specs.Tree.{Keeps};
+ghost use Rattle.bag_walk.specs.Steps.{state};
+
 use crate::NotDone;
 use bag_report::{Fault, Options};
 use bag_store::{Out, Stop, Tree};
 use bag_text::{Code, Text};
-use bag_walk::{Walk, put_pieces};
+use bag_walk::{InOrder, Source, Sources, Steps, Walk, put_pieces};
 use std::alloc::Global;
 
 /// Writes the line of each fault of a bag, and passes over at most ten files that can't be read. Gives the tree back, and how
@@ -13,7 +17,10 @@ pub fn check_what_can_be_read<T: Tree + Drop, W: Out>(
     tree: T,
     options: Options,
     out: &mut W,
-) -> Result<(T, u64), NotDone> {
+) -> Result<(T, u64), NotDone>
+    ensures keeps { IfOk result (λ checked. Keeps (T.state tree) (T.state checked.0)) }
+    ensures passed { IfOk result (λ checked. checked.1 ≤ 10) }
+{
     let mut walk = start(alloc, tree, options, None)?;
     for passed in 0..10 {
         let Some(stop) = write_faults(alloc, &mut walk, out)? else {
@@ -34,7 +41,10 @@ fn start<T: Tree + Drop>(
     tree: T,
     options: Options,
     after: Option<Fault>,
-) -> Result<Walk<T>, NotDone> {
+) -> Result<Walk<T>, NotDone>
+    ensures { IfOk result (λ walk.
+        Keeps (T.state tree) (state T.Tree ⟦<Sources as Source<T>>⟧ walk)) }
+{
     match Walk::start(alloc, tree, None, options, after) {
         Ok(walk) => Ok(walk),
         Err((_tree, stop)) => Err(NotDone::Unread(stop)),
@@ -42,20 +52,22 @@ fn start<T: Tree + Drop>(
 }
 
 /// Writes the faults that a walk has still to give, up to a file that can't be read.
-fn write_faults<T: Tree, W: Out>(
+fn write_faults<T: Tree, S: InOrder<T>, W: Out>(
     alloc: Global,
-    walk: &mut Walk<T>,
+    walk: &mut Steps<T, S>,
     out: &mut W,
-) -> Result<Option<Stop>, NotDone> {
+) -> Result<Option<Stop>, NotDone>
+    ensures { Keeps (state T.Tree S.Source walk.old) (state T.Tree S.Source walk.new) }
+{
     for _ in 0..u64::MAX {
-        match walk.next() {
-            Ok(Some(fault)) => {
-                let line = fault.to_line(alloc)?;
-                put_pieces(out, &[line.as_str(), "\n"])?;
-            }
-            Ok(None) => return Ok(None),
-            Err(stop) => return Ok(Some(stop)),
+        if let Err(stop) = walk.go_on() {
+            return Ok(Some(stop));
         }
+        let Some(fault) = walk.shown() else {
+            return Ok(None);
+        };
+        let line = fault.to_line(alloc)?;
+        put_pieces(out, &[line.as_str(), "\n"])?;
     }
     Ok(None)
 }

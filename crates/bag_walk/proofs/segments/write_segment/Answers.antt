@@ -9,24 +9,24 @@ pub returns-in-Ok-start-clause-stop : goal.returns-in-Ok-start-clause-stop
 returns-in-Ok-start-clause-stop g c =
     let begun = c.in-Ok-start.ensures in
     let then = c.segment_of_walk in
-    stop_of_started (g.T.Tree.state then.result.0) begun.started begun.keeps begun.calm then.result.1.end then.ensures.stop
+    stop_of_started (g.T.Tree.state then.result.0) begun.started.started begun.keeps begun.started.calm then.result.1.end then.ensures.stop
 
 pub returns-in-Ok-start-clause-segment : goal.returns-in-Ok-start-clause-segment
 returns-in-Ok-start-clause-segment g c = λ honest report is n within was.
     let begun = c.in-Ok-start.ensures in
     let then = c.segment_of_walk in
-    goes_on (g.T.Tree.state then.result.0) begun.started begun.keeps honest report is n within (c.in-Ok.ensures _ was) c.args.limit _ _ _ _ then.result.1 was
+    goes_on (g.T.Tree.state then.result.0) begun.started.started begun.keeps honest report is n within (c.in-Ok.ensures _ was) c.args.limit _ _ _ _ then.result.1 was
     then.ensures.seen then.ensures.last
 
 pub returns-in-Ok-start-clause-opens : goal.returns-in-Ok-start-clause-opens
 returns-in-Ok-start-clause-opens g c = λ honest report is n within was listed are.
     let begun = c.in-Ok-start.ensures in
     let then = c.segment_of_walk in
-    opens_behind (g.T.Tree.state then.result.0) begun.started begun.keeps honest report is n within (c.in-Ok.ensures _ was) begun.opens _
+    opens_behind (g.T.Tree.state then.result.0) begun.started.started begun.keeps honest report is n within (c.in-Ok.ensures _ was) begun.opens _
     then.ensures.opens.1 then.result.1 then.ensures.behind listed are
 
 pub returns-in-Err-clause-stop : goal.returns-in-Err-clause-stop
-returns-in-Err-clause-stop g c = let state = g.T.Tree.state in stop_of_reading c.args.options (state c.args.tree) (state c.in-Err.tree) c.in-Err.stop c.in-Err.ensures.stop
+returns-in-Err-clause-stop g c = let state = g.T.Tree.state in stop_of_reading c.args.options (state c.args.tree) (state c.in-Err.tree) c.in-Err.stop c.in-Err.ensures.refused.stop
 
 pub returns-in-Err-clause-opens : goal.returns-in-Err-clause-opens
 returns-in-Err-clause-opens g c = λ honest report is n within was listed are. opens_no_payload c.args.options c.in-Err.ensures.opens
@@ -58,7 +58,7 @@ pub returns-in-Ok-start-clause-calm : goal.returns-in-Ok-start-clause-calm
 returns-in-Ok-start-clause-calm g c = λ read.
     let state = g.T.Tree.state in
     let then = c.segment_of_walk in
-    nothing_then (state c.args.tree) (state c.in-Ok-start.walk.tree) (state then.result.0) c.in-Ok-start.ensures.calm (then.ensures.calm read)
+    nothing_then (state c.args.tree) (state c.in-Ok-start.walk.tree) (state then.result.0) c.in-Ok-start.ensures.started.calm (then.ensures.calm read)
 
 pub returns-then-limit-eq0-clause-unseen : goal.returns-then-limit-eq0-clause-unseen
 returns-then-limit-eq0-clause-unseen g c =

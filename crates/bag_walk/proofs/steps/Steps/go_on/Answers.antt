@@ -1,32 +1,34 @@
-use Rattle.bag_walk.proofs.Positions.{gives, still_wait, wait_again}
+use Rattle.bag_walk.proofs.Common.{List, Bag, Fault, shown_by, to_give}
+use Rattle.bag_walk.proofs.Positions.{gives_on, wait_on}
 use Rattle.bag_walk.proofs.steps.Steps.go_on.Goals as goal
 
-pub returns-in-Ok : goal.returns-in-Ok
-returns-in-Ok g c = record {
-  keeps = c.step.ensures.keeps;
-  calm = c.in-Ok.ensures.calm;
-  over = λ bag h. (c.step.ensures.next bag h.0 h.1).0;
-  position = λ check position h stands.
-      let next = c.in-Ok.ensures.next check.bag h.0 h.1 in
-      gives check position _ _ _ next.1.0 next.1.1 stands;
-  opens = c.in-Ok.ensures.opens;
-  again = tt;
-  ended = c.in-Ok.ensures.ended;
-  waits = λ bag files h. still_wait files _ (c.step.ensures.behind bag h.0 h.1) c.in-Ok.ensures.opens;
-  stop = tt;
-  anyway = tt;
-}
-
-pub returns-in-Err : goal.returns-in-Err
-returns-in-Err g c = record {
-  keeps = c.step.ensures.keeps;
-  calm = tt;
-  over = λ bag h. (c.step.ensures.next bag h.0 h.1).0;
-  position = λ check position h stands. rw (c.in-Err.ensures.next check.bag h.0 h.1).1.1 stands;
-  opens = tt;
-  again = c.in-Err.ensures.again;
-  ended = tt;
-  waits = λ bag files h. wait_again files _ (c.step.ensures.behind bag h.0 h.1) c.in-Err.ensures.again;
-  stop = c.in-Err.ensures.stop;
-  anyway = c.in-Err.ensures.anyway;
-}
+pub returns : goal.returns
+returns g c =
+    let step = c.step.ensures in
+    let todo = g.S.Source.todo in
+    let state = g.T.Tree.state in
+    let old = c.args.self.now in
+    let new = c.step.new.self in
+    let result = c.step.result in
+    let before : Bag → List Fault = λ bag.
+    to_give (shown_by old.is_shown (g.S.Source.found old.source)) (g.S.Source.remaining bag old.source) in
+    let after : Bag → List Fault = λ bag.
+    to_give (shown_by new.is_shown (g.S.Source.found new.source)) (g.S.Source.remaining bag new.source) in
+    record {
+      keeps = step.keeps;
+      calm = step.calm;
+      over = λ bag h. (step.next bag h.0 h.1).0;
+      position = λ check position h stands.
+          gives_on check position result (before check.bag) (after check.bag)
+          (shown_by new.is_shown (g.S.Source.found new.source))
+          (step.next check.bag h.0 h.1).1 stands;
+      opens = step.opens;
+      again = step.again;
+      ended = step.ended;
+      waits = λ bag files h.
+          wait_on files (todo old.source) (todo new.source) (before bag)
+          (state old.tree) (state new.tree) result
+          (step.behind bag h.0 h.1) step.opens step.again;
+      stop = step.stop;
+      anyway = step.anyway;
+    }

@@ -13,7 +13,7 @@ returns g c =
     let sums : Bag → List Fault = λ bag. validity.found ++ faults_of_files bag validity.after validity.pending in
     let hold : (bag : Bag) → IsFactsOf bag c.args.facts.now → Hold (check bag) after c.in_ok-early.early.items complete (sums bag) late = λ bag h. record {
       first = c.in_ok-early.ensures bag h;
-      sixth = c.in_ok-completeness.ensures.reported bag (option_copied c.args.profile) h;
+      sixth = c.in_ok-completeness.ensures.reported (option_copied c.args.profile) bag h;
       seventh = seventh (check bag) after (sums bag) (λ full. has.faults bag h full) (λ below. rw ((has.none below).0, (has.none below).1) refl);
       eighth = c.in_ok-late.ensures bag h;
     } in

@@ -1,4 +1,27 @@
+use Rattle.bag_walk.proofs.Common.{arith, option_copied, refl, opens_all_first}
+use Rattle.bag_facts.proofs.Refusing.{facts_stop_of_memory}
+use Rattle.bag_walk.proofs.Stages.{sources_started}
 use Rattle.bag_walk.proofs.steps.Walk+T.start.Goals as goal
 
-pub returns-in-Ok-clause-started : goal.returns-in-Ok-clause-started
-returns-in-Ok-clause-started g c = rw (c.new.ensures, ← c.as_ref.ensures.value) c.in-Ok.ensures.started
+pub returns-in-Ok-sources_of-clause-started : goal.returns-in-Ok-sources_of-clause-started
+returns-in-Ok-sources_of-clause-started g c =
+    let facts = c.in-Ok.facts in
+    let read = c.in-Ok.ensures in
+    rw (c.new.ensures, ← c.as_ref.ensures.value) (record {
+      calm = read.calm;
+      plain = read.plain;
+      opened = (facts.listing, read.seen.2.ordered, (λ honest. (read.facts honest).listing), read.opened);
+      shown = refl;
+      started =
+          sources_started _ (g.T.Tree.state c.args.tree) (option_copied c.args.profile) c.args.options _ facts _
+          (g.met.T.Tree.is_bag c.args.tree) read.facts read.seen read.options c.in-Ok-sources_of.ensures;
+    })
+
+pub returns-clause-refused : goal.returns-clause-refused
+returns-clause-refused g c =
+    let memory = c.without_path.ensures in
+    record {
+      opened_first = grind (arith, opens_all_first);
+      refused_at = λ some. absurd (some memory.path);
+      stop = facts_stop_of_memory c.args.options _ _ c.without_path.result (memory.cause, memory.path) c.in-Ok.ensures.calm;
+    }
