@@ -52,7 +52,7 @@ pub use Rattle.bag_stages.proofs.InFile.{less_by_path}
 pub use Rattle.bag_stages.proofs.NamesByKind.{names_by_kind}
 pub use Rattle.bag_stages.proofs.ValidityFaults.{validity_of_stage_seven}
 pub use Rattle.bag_stages.specs.ClashStage.{IsSoughtClash}
-pub use Rattle.bag_stages.specs.CompletenessFaults.{IsIncomplete, IsMissing, IsUnlistedFile, IsUnlistedInAll, IsWrong}
+pub use Rattle.bag_stages.specs.CompletenessFaults.{IsIncomplete, IsMissing, IsV10LeftOutByOne, IsV097LeftOutByAll, IsWrong}
 pub use Rattle.bag_stages.specs.SumFaults.{AreSumsBy, differing, differing_code, faults_of_bytes, sum_differs}
 pub use Rattle.bag_stages.specs.SummedFiles.{IsNamed, IsSummed}
 pub use Rattle.bag_stages.specs.TagFiles.{Names, named_in}

@@ -1,5 +1,5 @@
 -- The faults of completeness and of names above a cursor.
-use Rattle.bag_walk.proofs.Common.{◌≡◌, ◌⊎◌, inl, inr, ◌<◌, ◌≤◌, ◌+◌, ◌++◌, ◌∷◌, ℕ, List, [], length, take, get_or, Bool, true, false, Option, arith, refl, sym, subst, get_or_default, algs, stage, IsListOf, Code, NameClash, contains_nothing, nothing_listed, same_members, Bag, fault_cmp, Fault, take_one_more, reaches, Options, OfSome, of_last_or_before, of_one_more, IsSoughtClash, IsIncomplete, IsUnlistedInAll, IsWrong, Check, is_above, IsReported, asked_clash, not_reached, filtered_list, is_of_completeness, of_completeness, IsAbove, IsOfAlg, IsOfSomeAlg, AreAbove, IsStageAbove, union, cases_Bool}
+use Rattle.bag_walk.proofs.Common.{◌≡◌, ◌⊎◌, inl, inr, ◌<◌, ◌≤◌, ◌+◌, ◌++◌, ◌∷◌, ℕ, List, [], length, take, get_or, Bool, true, false, Option, arith, refl, sym, subst, get_or_default, algs, stage, IsListOf, Code, NameClash, contains_nothing, nothing_listed, same_members, Bag, fault_cmp, Fault, take_one_more, reaches, Options, OfSome, of_last_or_before, of_one_more, IsSoughtClash, IsIncomplete, IsV097LeftOutByAll, IsWrong, Check, is_above, IsReported, asked_clash, not_reached, filtered_list, is_of_completeness, of_completeness, IsAbove, IsOfAlg, IsOfSomeAlg, AreAbove, IsStageAbove, union, cases_Bool}
 use Rattle.bag_text.specs.declared.alg.Alg.{Alg}
 use Rattle.bag_text.proofs.AlgSets.{each_is_listed}
 use Rattle.bag_stages.proofs.ByPath.{take_whole}
@@ -43,18 +43,18 @@ module _ (after : Option Fault) (bag : Bag) where
       same_above after (OfAlgs algs) (IsOfSomeAlg bag) faults (λ f h. (h.0, h.2)) (λ f h. (h.0, each_is_listed h.0, h.1))
       (subst (λ some. IsListOf fault_cmp (IsAbove after (OfAlgs some)) faults) (take_whole algs i le) list)
 
-  to_incomplete : (f : Fault) → IsOfSomeAlg bag f ⊎ IsUnlistedInAll bag f → IsIncomplete bag f
+  to_incomplete : (f : Fault) → IsOfSomeAlg bag f ⊎ IsV097LeftOutByAll bag f → IsIncomplete bag f
   to_incomplete f h = grind arith
 
-  from_incomplete : (f : Fault) → IsIncomplete bag f → IsOfSomeAlg bag f ⊎ IsUnlistedInAll bag f
+  from_incomplete : (f : Fault) → IsIncomplete bag f → IsOfSomeAlg bag f ⊎ IsV097LeftOutByAll bag f
   from_incomplete f h = grind arith
 
   -- and those of all payload manifests at once
-  pub algs_and_all : (of_algs of_all : List Fault) → IsListOf fault_cmp (IsAbove after (IsOfSomeAlg bag)) of_algs → IsListOf fault_cmp (IsAbove after (IsUnlistedInAll bag)) of_all
+  pub algs_and_all : (of_algs of_all : List Fault) → IsListOf fault_cmp (IsAbove after (IsOfSomeAlg bag)) of_algs → IsListOf fault_cmp (IsAbove after (IsV097LeftOutByAll bag)) of_all
       → IsListOf fault_cmp (IsAbove after (IsIncomplete bag)) (union of_algs of_all)
   algs_and_all of_algs of_all p q =
-      same_above after (λ f. IsOfSomeAlg bag f ⊎ IsUnlistedInAll bag f) (IsIncomplete bag) (union of_algs of_all) to_incomplete from_incomplete
-      (united after (IsOfSomeAlg bag) (IsUnlistedInAll bag) p q)
+      same_above after (λ f. IsOfSomeAlg bag f ⊎ IsV097LeftOutByAll bag f) (IsIncomplete bag) (union of_algs of_all) to_incomplete from_incomplete
+      (united after (IsOfSomeAlg bag) (IsV097LeftOutByAll bag) p q)
 
   -- and the clashes of names
   pub all_sought : (clashes : Bool) (files names : List Fault) → IsListOf fault_cmp (IsAbove after (IsIncomplete bag)) files

@@ -17,7 +17,7 @@ use crate::fixed::{above, merged};
 use crate::{Fixed, InOrder, Quiet, Source};
 use bag_facts::{Facts, Fault};
 use bag_read::Kind;
-use bag_stages::{clashes_asked, is_exact, missing_of, unlisted_in_all, unlisted_of};
+use bag_stages::{clashes_asked, is_exact, missing_of, left_out_by_all, left_out_by_one};
 use bag_text::Alg;
 use bag_tree::{Stop, Tree};
 use std::alloc::{AllocError, Global};
@@ -85,7 +85,7 @@ fn of_files(alloc: Global, facts: &Facts, after: Option<&Fault>) -> Result<Vec<F
         AreAbove (option_copied after.entry) (IsIncomplete bag) faults.items)) }
 {
     let of_algs = of_algs(alloc, facts, after)?;
-    let of_all = above(unlisted_in_all(alloc, facts)?, after);
+    let of_all = above(left_out_by_all(alloc, facts)?, after);
     merged(alloc, of_algs, of_all)
 }
 
@@ -131,7 +131,7 @@ fn of_payload(
         return Ok(Vec::new(alloc));
     }
     let missing = above(missing_of(alloc, facts, Kind::Payload, alg)?, after);
-    let unlisted = above(unlisted_of(alloc, facts, alg)?, after);
+    let unlisted = above(left_out_by_one(alloc, facts, alg)?, after);
     merged(alloc, missing, unlisted)
 }
 

@@ -1,4 +1,4 @@
-use Rattle.bag_walk.proofs.Common.{option_copied, IfOk-weaker, Payload, IsMissing, IsUnlistedFile}
+use Rattle.bag_walk.proofs.Common.{option_copied, IfOk-weaker, Payload, IsMissing, IsV10LeftOutByOne}
 use Rattle.bag_walk.proofs.StageSix.{none_wrong}
 use Rattle.bag_walk.proofs.UnitedLists.{cut_above, united}
 use Rattle.bag_walk.proofs.completeness.of_payload.Goals as goal
@@ -12,7 +12,7 @@ returns c = IfOk-weaker c.merged.result _ _
     (λ faults is bag facts deep.
     let after = option_copied c.args.after in
     let missing = cut_above after (IsMissing bag Payload c.args.alg) _ (c.in_ok-missing_of.ensures bag facts deep) in
-    let unlisted = cut_above after (IsUnlistedFile bag c.args.alg) _ (c.in_ok-unlisted_of.ensures bag facts deep) in
+    let unlisted = cut_above after (IsV10LeftOutByOne bag c.args.alg) _ (c.in_ok-left_out_by_one.ensures bag facts deep) in
     rw (is (rw c.above-missing.ensures missing.ascending) (rw c.above-unlisted.ensures unlisted.ascending), c.above-missing.ensures, c.above-unlisted.ensures)
-    (united after (IsMissing bag Payload c.args.alg) (IsUnlistedFile bag c.args.alg) missing unlisted))
+    (united after (IsMissing bag Payload c.args.alg) (IsV10LeftOutByOne bag c.args.alg) missing unlisted))
     c.merged.ensures
